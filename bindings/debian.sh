@@ -6,10 +6,10 @@
 apt=$out/apt
 root=$out/root
 
-# Makes apt work in $out, and reads the lists of packages, once.
+# Makes apt work in $out, and reads the lists of packages, once for these $sources.
 set_up_apt() {
     export APT_CONFIG="$apt/apt.conf"
-    [ ! -f "$apt/is-set-up" ] || return 0
+    [ "$(cat "$apt/is-set-up" 2>/dev/null)" != "$sources" ] || return 0
     mkdir -p "$apt/lists/partial" "$apt/archives/partial" "$root" || return
     keys=/usr/share/keyrings/debian-archive-keyring.gpg
     [ -f "$keys" ] || { echo "there is no $keys: it is in the package debian-archive-keyring"; return 1; }
@@ -24,7 +24,7 @@ Dir::Cache "$apt";
 APT::Sandbox::User "root";
 Debug::NoLocking "true";
 END
-    apt-get update && : >"$apt/is-set-up"
+    apt-get update && printf '%s\n' "$sources" >"$apt/is-set-up"
 }
 
 # unpack_archives: unpacks what was downloaded into $root, and removes the archives.

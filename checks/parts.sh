@@ -46,6 +46,30 @@ lack() {
 # need TOOL..: each of these must be there.
 need() {
     for tool in "$@"; do
-        command -v "$tool" >/dev/null 2>&1 || lack "$tool"
+        has "$tool" || lack "$tool"
     done
+}
+
+# Whether a tool is here; gcc-m32 is a gcc that links programs of i686.
+has() {
+    case $1 in
+    gcc-m32) echo 'int main(void) { return 0; }' | gcc -m32 -x c -o "$scratch/program" - 2>/dev/null ;;
+    *) command -v "$1" >/dev/null 2>&1 ;;
+    esac
+}
+
+# part_with TOOLS NAME COMMAND..: a part that needs these tools. Where one isn't here, this part alone is
+# left out, by its name; it then counts as failed, but for ./check --own.
+part_with() {
+    for tool in $1; do
+        has "$tool" && continue
+        if [ "${OWN_CHECKS-}" = yes ]; then
+            echo "skipped: $2, for want of $tool"
+        else
+            lack "$tool, which this part needs: $2"
+        fi
+        return
+    done
+    shift
+    part "$@"
 }

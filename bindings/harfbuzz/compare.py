@@ -97,13 +97,25 @@ def told(reasons):
 # ---- HarfBuzz's own cases ----
 
 
+def takes_ours(line):
+    """Whether a line '@NAME=VALUE,..', which says what shapes the cases below it, leaves them to what is built here."""
+    name, values = line[1:].split("#")[0].split("=")
+    return name.endswith("-") or "ot" in values.strip().split(",")
+
+
 def cases(source):
     """HarfBuzz's own shaping cases: the arguments of hb-shape, and what is expected."""
     for path in sorted(glob.glob(f"{source}/test/shape/data/*/tests/*.tests")):
+        is_ours = True
         with open(path, encoding="utf-8") as file:
             for line in file:
                 line = line.strip()
                 if not line or line.startswith("#"):
+                    continue
+                if line.startswith("@"):
+                    is_ours = is_ours and takes_ours(line)
+                    continue
+                if not is_ours:
                     continue
                 font, options, unicodes, expected = line.split(";")
                 if font.startswith(("/", '"')):

@@ -47,7 +47,7 @@ struct slot_t
     p->~T ();
     hb_free (p);
   }
-  hb_atomic_ptr_t<T *> kept;
+  mutable atomic_pointer_t<T> kept;
 };
 
 /* The lookups of a stage. */
@@ -322,6 +322,7 @@ create_proved_plan (unsigned shaper, const hb_ot_shape_plan_t *plan)
   input.found_script = plan->map.found_script[0];
   input.has_gpos_mark = plan->has_gpos_mark;
   input.global_mask = plan->map.get_global_mask ();
+  input.searches_medials = true;
   input.features = features.arrayZ;
   input.features_length = features.length;
   input.stages = stages.arrayZ;

@@ -16,6 +16,7 @@
 
 #define SENGADLIT_NONE 0xFFFFFFFFu
 
+#include "version.hh"
 #include "stock.hh"
 
 /* After the joining forms HarfBuzz frees their byte. */
@@ -49,7 +50,7 @@ run_on_characters (call_t &call, unsigned start, unsigned end, Make make)
   hb_mask_t masks = 0;
   for (unsigned i = 0; i < length; i++)
   {
-    write_character (made[i], &buffer->info[start + i]);
+    write_character (made[i], &buffer->info[start + i], buffer);
     masks |= made[i].mask;
   }
   note_flags (buffer, masks);
@@ -268,7 +269,7 @@ proved_shaper (const stock_shaper_t &stock)
     constants.gpos_tag,
     (hb_ot_shape_normalization_mode_t) constants.normalization_preference,
     (hb_ot_shape_zero_width_marks_type_t) constants.zero_width_marks,
-    !!constants.fallback_position,
+    constants.fallback_position || stock.fallback_position, /* HarfBuzz 12 says yes of Hangul. */
   };
 }
 

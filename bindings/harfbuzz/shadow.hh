@@ -13,21 +13,21 @@
 enum reason_t
 {
   SAME,
-  ANOTHER_LIST,    /* Arabic: 6.0.0 requests rclt too, and has a pause that frees a byte */
-  LEVEL,           /* level Characters: 6.0.0's merges flag what they would merge */
+  ANOTHER_LIST,    /* Arabic: HarfBuzz has a pause that frees a byte, and 6.0.0 requests rclt too */
+  LEVEL,           /* level Characters: HarfBuzz's merges flag what they would merge */
   JOINING_FLAGS,   /* 6.0.0 flags fewer places as unsafe to concatenate */
   STRETCH,         /* 6.0.0 begins a stretch at 0, and leaves tiles their advance */
-  SYMBOL_CLUSTERS, /* 6.0.0 reorders the universal shaper's kind 5 */
-  CIRCLES,         /* 6.0.0 opens no circle for a broken syllable behind another one of the same byte */
-  SERIAL,          /* universal: 6.0.0 counts no serial for ignorables that lead the text */
-  MEDIAL,          /* Indic: 6.0.0 looks for the base among medial consonants too */
+  LONG_STRETCH,    /* 12 sets no flags on a longer stretch */
+  SYMBOL_CLUSTERS, /* HarfBuzz reorders the universal shaper's kind 5 */
+  CIRCLES,         /* HarfBuzz opens no circle for a broken syllable behind another one of the same byte */
+  SERIAL,          /* universal: HarfBuzz counts no serial for ignorables that lead the text */
   UNKNOWN,
   REASONS
 };
 
 static const char *const reason_names[REASONS] =
 {
-  "same", "another-list", "level-characters", "joining-flags", "stretch", "symbol-clusters", "dotted-circles", "serial", "medial",
+  "same", "another-list", "level-characters", "joining-flags", "stretch", "long-stretch", "symbol-clusters", "dotted-circles", "serial",
   "UNKNOWN",
 };
 
@@ -175,11 +175,11 @@ static unsigned
 compare_states (const snapshot_t &a, const snapshot_t &b)
 {
   unsigned flags = a.state.scratch_flags ^ b.state.scratch_flags;
-  unsigned differ = flags & ~HB_BUFFER_SCRATCH_FLAG_HAS_GLYPH_FLAGS || a.state.successful != b.state.successful ||
+  unsigned differ = flags & ~has_glyph_flags || a.state.successful != b.state.successful ||
 		    a.state.allocated_var_bits != b.state.allocated_var_bits ? STATE : 0;
   /* HarfBuzz notes that a glyph may have a flag, we that one has. */
   bool any_has = (masks_of (a) | masks_of (b)) & HB_GLYPH_FLAG_DEFINED;
-  return differ | (any_has && flags & HB_BUFFER_SCRATCH_FLAG_HAS_GLYPH_FLAGS ? FLAGGED : 0);
+  return differ | (any_has && flags & has_glyph_flags ? FLAGGED : 0);
 }
 
 /* The fields in which two results differ. `first` is the first place that does. */
@@ -228,14 +228,6 @@ is_symbol_cluster (const snapshot_t &text, unsigned start, unsigned end HB_UNUSE
   return (text.infos[start].syllable () & 0x0F) == use_symbol_cluster;
 }
 
-static bool
-has_medial (const snapshot_t &text, unsigned start, unsigned end)
-{
-  for (unsigned i = start; i < end; i++)
-    if (text.infos[i].ot_shaper_var_u8_category () == I_Cat (CM)) return true;
-  return false;
-}
-
 /* Marks the glyphs of the syllables that `excepts` names with 2, and with 1 those that a merge of theirs may reach:
    neighbours of the same cluster. */
 static void
@@ -274,7 +266,7 @@ differ_only_in (const snapshot_t &stock, const snapshot_t &proved, uint8_t var_b
   return true;
 }
 
-/* How many broken syllables 6.0.0 passes over: their byte is that of the last broken one, or 0 for the first. */
+/* How many broken syllables HarfBuzz passes over: their byte is that of the last broken one, or 0 for the first. */
 static unsigned
 circles_left_out (const snapshot_t &text, unsigned broken_kind)
 {
@@ -335,12 +327,13 @@ struct shadow_t
   reason_t reason_of (unsigned differ, const snapshot_t &proved, uint8_t var_bits) const
   {
     bool is_of_flags = !(differ & ~(FLAGS | CONCAT_FLAG | FLAGGED));
+    bool may_be_long = buffer->len > longest_flagged || shaper == SENGADLIT_SHAPER_HANGUL;
+    if (is_of_flags && longest_flagged < UINT_MAX && may_be_long) return LONG_STRETCH;
     if (buffer->cluster_level == HB_BUFFER_CLUSTER_LEVEL_CHARACTERS && is_of_flags) return LEVEL;
     if (hook == SETUP_MASKS && buffer->flags & HB_BUFFER_FLAG_PRODUCE_UNSAFE_TO_CONCAT && !(differ & ~(CONCAT_FLAG | FLAGGED)))
       return JOINING_FLAGS;
     if (hook == POSTPROCESS_GLYPHS && differ == X_POSITION) return STRETCH;
     if (hook == SENGADLIT_PAUSE_REORDER_USE && differ_only_in (stock, proved, var_bits, is_symbol_cluster)) return SYMBOL_CLUSTERS;
-    if (hook == SENGADLIT_PAUSE_INITIAL_REORDERING && differ_only_in (stock, proved, var_bits, has_medial)) return MEDIAL;
     if (differ & LENGTH && proved.infos.length == stock.infos.length + circles_left_out (before, broken_kind (hook))) return CIRCLES;
     if (hook == SENGADLIT_PAUSE_SETUP_SYLLABLES_USE && differ == SYLLABLE && !stock.infos[0].syllable () && same_syllables (stock, proved))
       return SERIAL;

@@ -25,13 +25,14 @@ struct call_t
     sengadlit_buffer_properties_t &told = work->properties;
     unsigned max_length = hb_max (buffer->max_len, buffer->len);
     sengadlit_direction_t direction = (sengadlit_direction_t) buffer->props.direction;
+    sengadlit_buffer_cluster_level_t cluster_level = cluster_level_of (buffer, proved->shaper);
     if (unlikely (told.script != buffer->props.script || told.max_length != max_length || told.direction != direction ||
-		  told.cluster_level != (sengadlit_buffer_cluster_level_t) buffer->cluster_level || told.flags != (uint32_t) buffer->flags))
+		  told.cluster_level != cluster_level || told.flags != (uint32_t) buffer->flags))
     {
       told.script = buffer->props.script;
       told.max_length = max_length;
       told.direction = direction;
-      told.cluster_level = (sengadlit_buffer_cluster_level_t) buffer->cluster_level;
+      told.cluster_level = cluster_level;
       told.flags = buffer->flags;
       (void) sengadlit_buffer_set_length (work->buffer, 0);
       if (unlikely (sengadlit_buffer_set_properties (work->buffer, &told) != SENGADLIT_DONE)) return fail ();
@@ -81,7 +82,7 @@ static inline void
 note_flags (hb_buffer_t *buffer, hb_mask_t masks)
 {
   if (masks & HB_GLYPH_FLAG_DEFINED)
-    buffer->scratch_flags |= HB_BUFFER_SCRATCH_FLAG_HAS_GLYPH_FLAGS;
+    buffer->scratch_flags |= has_glyph_flags;
 }
 
 /* ---- Characters, before they are glyphs ---- */
@@ -105,7 +106,7 @@ read_character (const hb_glyph_info_t &info, sengadlit_glyph_info_t *glyph)
 }
 
 static inline void
-write_character (const sengadlit_glyph_info_t &glyph, hb_glyph_info_t *info)
+write_character (const sengadlit_glyph_info_t &glyph, hb_glyph_info_t *info, hb_buffer_t *buffer)
 {
   info->codepoint = glyph.codepoint;
   info->cluster = glyph.cluster;
@@ -119,7 +120,7 @@ write_character (const sengadlit_glyph_info_t &glyph, hb_glyph_info_t *info)
   if (unlikely (glyph.modified_combining_class != _hb_glyph_info_get_modified_combining_class (info)))
     _hb_glyph_info_set_modified_combining_class (info, glyph.modified_combining_class);
   if (glyph.marks & SENGADLIT_GLYPH_MARK_CONTINUATION)
-    _hb_glyph_info_set_continuation (info);
+    set_continuation (info, buffer);
 }
 
 /* ---- Glyphs ---- */

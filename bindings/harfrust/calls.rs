@@ -9,7 +9,6 @@ pub const REASONS: &[&str] = &[
     "least-cluster",
     "long-stretch",
     "category-range",
-    "medial",
     "copied-marks",
     "graphemes",
     "continuation",

@@ -155,7 +155,7 @@ fn the_least_cluster_is_flagged() {
 }
 
 /// No flag is set on a stretch of more than 255 glyphs, so that places within one syllable are
-/// called safe to break.
+/// called safe to break. HarfBuzz 12.3.2 does as harfrust does.
 #[test]
 fn a_long_stretch_is_called_safe_to_break() {
     let [stock, proved] = both_glyphs(&noto("NotoSansDevanagari"), "0915 094D 0915 093F 0951*300", level(CHARACTERS));
@@ -163,15 +163,19 @@ fn a_long_stretch_is_called_safe_to_break() {
     assert_eq!((flagged(&stock), flagged(&proved)), (257, 302));
 }
 
-// ---- What HarfBuzz has changed since rustybuzz 0.20.1, which the hooks follow ----
+// ---- What rustybuzz 0.20.1, which the hooks follow, has otherwise than HarfBuzz ----
 
-/// Indic looks for its base among consonants with the medial ones, as 0.20.1 does; harfrust and
-/// HarfBuzz without them.
+/// Indic looks for its base among all consonants, medial ones (CM) too, as HarfBuzz (6.0.0 and
+/// 12.3.2) does. 0.20.1 doesn't; the hooks' plans choose it.
 #[test]
 fn the_base_is_looked_for_among_medials() {
+    let serif = font("truetype/freefont/FreeSerif.ttf");
+    let [stock, proved] = both(&serif, "0A30 0A4D 0A30 0A75", Setting::default());
+    assert_eq!(proved, "[gur_ra.blwf=0+0|ra_gur=6+490#1|yakashsign_gur=6@-12,0+0#1]");
+    assert_eq!(stock, proved);
     let [stock, proved] = both(&noto("NotoSansGurmukhi"), "0A15 0A75 0A48 0A3F", level(1));
-    assert_eq!(stock, "[imatraguru=0+259|kaguru=0+622|yakashguru=0@36,0+0|aimatraguru=6@-20,0+0#1]");
-    assert_eq!(proved, "[imatraguru=0+259|kaguru=0+622|yakashguru=0@36,0+0|aimatraguru=0@-20,0+0]");
+    assert_eq!(proved, "[imatraguru=0+259|kaguru=0+622|yakashguru=0@36,0+0|aimatraguru=6@-20,0+0#1]");
+    assert_eq!(stock, proved);
 }
 
 /// The hooks have three cluster levels, and for Thai, Lao and Hangul level Graphemes is MonotoneGraphemes: marks that Thai

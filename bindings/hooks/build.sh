@@ -1,13 +1,18 @@
 # shellcheck shell=sh disable=SC2154
 # What bindings/harfrust/build and bindings/rustybuzz/build do; they source this file. They set $here, their folder; $crate
-# and $version; $package, Debian's package of it; $needs, the packages of what it builds with. Everything goes to $out/$crate:
+# and $version, which the edits are made for; $package, Debian's package of it; $needs, the packages of what it builds with.
+# Everything goes to $out/$crate:
 #
-#   stock       the crate as it is
-#   proved      the same with the hooks; with the feature `shadow` its own hooks are compiled too, and compared with
+#   proved      the crate with the hooks, of the same version; with the feature `shadow` its own hooks are compiled too, and
+#               compared with
+#   stock       the crate as it is, but for its version, VERSION+stock, so that one program can have both
 #   sengadlit   rust/sengadlit of this repository (a link)
 #   both        an empty crate that depends on both
+#   show        a program that shapes a text by both
 #
-# With --copy nothing is built. The last line is 'N passed, M failed', or 'skipped: WHY' with status 77 where Debian can't be reached or has moved on.
+# With --copy nothing is built. With --from FOLDER the crate is the one unpacked there, of whatever version. The last line
+# is 'N passed, M failed', or 'skipped: WHY' with status 77 where Debian can't be reached, or has a version that the edits
+# don't fit.
 
 top=$(dirname "$(dirname "$here")")
 hooks=$top/bindings/hooks
@@ -50,20 +55,34 @@ need() {
     exit 1
 }
 
-# Whether Debian still has the version; if not, the line that tells so.
+# Chooses unstable's package where Debian no longer has the one that the edits are made for.
 look_for_package() {
     set_up_apt >"$made/step.log" 2>&1 || skip "Debian's lists of packages can't be read: $(tail -n 1 "$made/step.log")"
     name=${package%=*}
     versions=$(apt-cache madison "$name" | awk -F ' *[|] *' '{ print $2 }' | sort -u | tr '\n' ' ')
     case " $versions" in
     *" ${package#*=} "*) ;;
-    *) skip "Debian has $name ${versions:-no more }, and the edits know ${package#*=}" ;;
+    ' ') skip "Debian has no $name any more" ;;
+    *)
+        echo "Debian has $name ${versions% }: the edits, made for ${package#*=}, are tried on unstable's"
+        package=$name/sid
+        ;;
     esac
 }
 
+# The folder of the newest version that is unpacked.
+newest() {
+    find "$registry" -maxdepth 1 -name "$crate-[0-9]*" 2>/dev/null | sort -V | tail -n 1
+}
+
+# fetch PACKAGE..: unpacks packages of Debian's.
 fetch() {
-    # shellcheck disable=SC2086
-    unpack_alone "$package" $needs && [ -f "$registry/$crate-$version/Cargo.toml" ]
+    unpack_alone "$@" && [ -f "$(newest)/Cargo.toml" ]
+}
+
+# The version of a crate's folder.
+version_of() {
+    sed -n '/^\[package\]/,/^\[/ s/^version = "\(.*\)"/\1/p' "$1/Cargo.toml"
 }
 
 # Puts a folder in place of another, unless both have the same files, so that cargo builds again what has changed alone.
@@ -75,21 +94,26 @@ put() {
     fi
 }
 
+# Makes a copy of the crate, with its parts that are of a registry alone left out.
+copy_crate() {
+    rm -rf "$made/new" && cp -r "$from" "$made/new" && rm -f "$made/new/.cargo-checksum.json" "$made/new/.cargo-ok"
+}
+
 copy_stock() {
-    rm -rf "$made/new" && cp -r "$registry/$crate-$version" "$made/new" && rm -f "$made/new/.cargo-checksum.json" &&
+    copy_crate && sed "/^\[package\]/,/^\[/ s/^version = \"\(.*\)\"/version = \"\1+stock\"/" "$from/Cargo.toml" >"$made/new/Cargo.toml" &&
         put "$made/new" "$made/stock"
 }
 
 copy_proved() {
     glue=$made/new/src/hb/ot_shaper_proved
-    rm -rf "$made/new" && cp -r "$made/stock" "$made/new" && python3 "$hooks/edit.py" "$here/edits" "$made/new" &&
+    copy_crate && python3 "$hooks/edit.py" "$here/edits" "$made/new" &&
         mkdir "$glue" && cp "$hooks/shaper.rs" "$glue.rs" && cp "$here/parts.rs" "$hooks/shadow.rs" "$glue" &&
         put "$made/new" "$made/proved"
 }
 
 # What cargo builds offline: the registry of Debian's packages, and a crate that depends on both.
 write_manifests() {
-    mkdir -p "$made/.cargo" "$made/both/src" && ln -sfn "$top/rust/sengadlit" "$made/sengadlit" && : >"$made/both/src/lib.rs" &&
+    mkdir -p "$made/.cargo" "$made/both/src" && : >"$made/both/src/lib.rs" &&
         cat >"$made/.cargo/config.toml" <<END && cat >"$made/both/Cargo.toml" <<END
 [source.crates-io]
 replace-with = "debian"
@@ -114,42 +138,110 @@ shadow = ["proved/shadow"]
 END
 }
 
-# The greatest rustc that a package here says it needs.
+# What `both` builds with: each package of its lock that is in the registry.
+locked() {
+    sed -n '/^name = /{N;s/name = "\(.*\)"\nversion = "\(.*\)"/\1-\2/p}' "$made/both/Cargo.lock"
+}
+
+# The greatest rustc that a package of these needs.
 wanted_rustc() {
-    sed -n 's/^rust-version = "\(.*\)"/\1/p' "$registry"/*/Cargo.toml "$top/rust/sengadlit/Cargo.toml" | sort -V | tail -n 1
+    {
+        locked | while read -r name; do
+            [ ! -f "$registry/$name/Cargo.toml" ] || sed -n 's/^rust-version = "\(.*\)"/\1/p' "$registry/$name/Cargo.toml"
+        done
+        sed -n 's/^rust-version = "\(.*\)"/\1/p' "$made/proved/Cargo.toml" "$top/rust/sengadlit/Cargo.toml"
+    } | sort -V | tail -n 1
+}
+
+# Stops where rustc is too old.
+look_at_rustc() {
+    [ -f "$made/both/Cargo.lock" ] || (cd "$made/both" && cargo generate-lockfile >"$made/step.log" 2>&1) ||
+        skip "Debian has no more what $crate $version builds with: $(sed -n 's/^error: *//p' "$made/step.log" | head -n 1)"
+    wanted=$(wanted_rustc)
+    rustc=$(rustc --version | awk '{ print $2 }')
+    [ "$(printf '%s\n' "$wanted" "$rustc" | sort -V | head -n 1)" = "$wanted" ] || stop "it needs rustc $wanted, and this is $rustc"
+    echo "with rustc $rustc; it needs $wanted"
 }
 
 build() {
     cd "$made/both" && cargo build --release "$@"
 }
 
+# Says what was made, and ends.
+finish() {
+    cat <<END
+
+$made/proved
+is $crate $version with the hooks. A project takes it with these two lines in its Cargo.toml:
+
+    [patch.crates-io]
+    $crate = { path = "$made/proved" }
+
+It is in force where \`cargo tree -i sengadlit\` lists the project. Next: $1
+END
+    echo "$passed passed, $failed failed"
+    [ "$failed" -eq 0 ] && [ "$passed" -gt 0 ]
+    exit
+}
+
 # ---- All of it ----
 
+copies=
+from=
+lto=
+while [ $# -gt 0 ]; do
+    case $1 in
+    --copy) copies=1 ;;
+    --lto) lto=1 ;;
+    --from)
+        grep -qx "name = \"$crate\"" "${2-}/Cargo.toml" 2>/dev/null || stop "--from: ${2-FOLDER} isn't a folder of $crate's source"
+        from=$(CDPATH='' cd "$2" && pwd)
+        shift
+        ;;
+    *) stop 'build [--copy | --lto] [--from FOLDER]' ;;
+    esac
+    shift
+done
 mkdir -p "$made" || stop "there is no room for $made"
 for tool in cargo rustc python3; do
     command -v "$tool" >/dev/null 2>&1 || stop "there is no $tool"
 done
-[ -d "$registry/$crate-$version" ] || look_for_package
-need "$crate $version is fetched" fetch
-need 'it is copied' copy_stock
-need 'the copy with the hooks is edited' copy_proved
-need 'manifests are written' write_manifests
-[ -f "$made/both/Cargo.lock" ] || (cd "$made/both" && cargo generate-lockfile >"$made/step.log" 2>&1) ||
-    skip "Debian has no more what $crate $version builds with: $(sed -n 's/^error: *//p' "$made/step.log" | head -n 1)"
-
-wanted=$(wanted_rustc)
-rustc=$(rustc --version | awk '{ print $2 }')
-[ "$(printf '%s\n' "$wanted" "$rustc" | sort -V | head -n 1)" = "$wanted" ] || stop "it needs rustc $wanted, and this is $rustc"
-echo "with rustc $rustc; it needs $wanted"
-if [ "${1-}" = --copy ]; then
-    echo "$passed passed, $failed failed"
-    exit
+if [ -n "$copies" ]; then
+    echo "$crate is copied, with the hooks, to $made: some seconds, 10 MB"
+else
+    echo "$crate is copied and built, as it is and with the hooks, in $made: four minutes of processor time, 300 MB"
 fi
+known=$version
+given=$from
+if [ -z "$given" ]; then
+    [ -d "$registry/$crate-$version" ] || look_for_package
+    # shellcheck disable=SC2086
+    need "Debian's $crate is fetched" fetch "$package" $needs
+    from=$registry/$crate-$version
+    [ -d "$from" ] || from=$(newest)
+elif [ -z "$copies" ]; then
+    # shellcheck disable=SC2086
+    need "what $crate builds with is fetched" unpack_alone $needs
+fi
+version=$(version_of "$from")
+[ "$version" = "$known" ] || echo "$from is $crate ${version:-of no version}: the edits, made for $known, are tried"
+if ! step 'the copy with the hooks is edited' copy_proved; then
+    [ -n "$given" ] || [ "$version" = "$known" ] || skip "Debian has $crate $version, and the edits are made for $known"
+    echo "$passed passed, $failed failed"
+    exit 1
+fi
+need 'the crate as it is is copied' copy_stock
+ln -sfn "$top/rust/sengadlit" "$made/sengadlit" || stop "there is no room for $made/sengadlit"
+need 'manifests are written' write_manifests
+[ -n "$copies" ] && [ -n "$given" ] || look_at_rustc
+[ -z "$copies" ] || finish "bindings/$crate/test"
+
 need 'both are built, with the release profile' build
 need 'both are built, with both hooks on each call' build --features shadow --target-dir "$made/both/target/shadow"
-if [ "${1-}" = --lto ]; then
+if [ -n "$lto" ]; then
     export CARGO_PROFILE_RELEASE_LTO=fat CARGO_PROFILE_RELEASE_CODEGEN_UNITS=1
     need 'both are built, with fat lto and one unit' build --target-dir "$made/both/target/lto"
+    unset CARGO_PROFILE_RELEASE_LTO CARGO_PROFILE_RELEASE_CODEGEN_UNITS
 fi
-echo "$passed passed, $failed failed"
-[ "$failed" -eq 0 ] && [ "$passed" -gt 0 ]
+need 'show is built' "$here/test" --show
+finish "$made/show FONT TEXT, or bindings/$crate/test"

@@ -5,6 +5,7 @@
 #
 #   reasons     the crate as it is, with the known differences edited away, each by its name
 #   programs    compare, show, shape_stock, shape_proved and the tests of the faults
+#   show        the program, as it was built last
 
 hooks=$(dirname "$here")/hooks
 passed=0
@@ -75,6 +76,7 @@ copy() {
 
 copy_reasons() {
     rm -rf "$made/new" && cp -r "$made/stock" "$made/new" && cp "$hooks/reasons.rs" "$made/new/src" &&
+        sed 's/^\(version = ".*\)+stock"/\1+reasons"/' "$made/stock/Cargo.toml" >"$made/new/Cargo.toml" &&
         python3 "$hooks/edit.py" "$here/reasons" "$made/new" || return
     if diff -qr "$made/new" "$made/reasons" >/dev/null 2>&1; then
         rm -rf "$made/new"
@@ -108,6 +110,11 @@ build() {
     folder=$1
     shift
     (cd "$made/programs" && cargo build --offline --release --target-dir "$made/both/$folder" "$@")
+}
+
+# keep_show FOLDER: puts `show` where it is found after every build.
+keep_show() {
+    cp "$made/both/$1/release/show" "$made/show.new" && mv "$made/show.new" "$made/show"
 }
 
 [ -f "$made/stock/Cargo.toml" ] && [ -f "$made/proved/Cargo.toml" ] || stop "there is no $made: run bindings/$crate/build first"

@@ -20,7 +20,7 @@ use sengadlit::ot_shaper_syllabic::{
     clear_syllables_in, indic_syllable, khmer_syllable, myanmar_syllable, set_categories_and_positions_in,
     set_categories_in, set_up_by_bytes, use_syllable,
 };
-use sengadlit::plan::{NormalizationMode, ZeroWidthMarks};
+use sengadlit::plan::{BaseSearch, NormalizationMode, ZeroWidthMarks};
 use sengadlit::shaper::{pause_may_change, Hook};
 use sengadlit::{
     ot_shaper_hangul, ot_shaper_indic, ot_shaper_khmer, ot_shaper_use, run_pause, Buffer, BufferFlags, Direction,
@@ -100,6 +100,7 @@ fn create_data<const S: usize>(plan: &hb_ot_shape_plan_t) -> Box<dyn Any + Send 
         .chosen_script(map.chosen_script(GSUB).map(parts::tag_of))
         .found_script(map.found_script(GSUB))
         .has_gpos_mark(plan.has_gpos_mark)
+        .base_search(BaseSearch::AllConsonants)
         .build_for(Shaper::ALL[S]);
     Box::new(made.expect("stages are ranges, and masks touch no glyph flag"))
 }

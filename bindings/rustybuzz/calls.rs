@@ -9,6 +9,7 @@ pub const REASONS: &[&str] = &[
     "least-cluster",
     "front-of-a-merge",
     "category-range",
+    "medial",
     "long-syllable",
     "copied-marks",
     "yiddish-yod-yod",

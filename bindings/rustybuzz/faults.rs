@@ -97,6 +97,17 @@ fn the_glyph_behind_the_syllable_is_read() {
     assert_eq!(numbers(&proved), [ka, e, virama]);
 }
 
+/// Indic looks for its base among consonants that aren't medial (CM), as 0.20.1 does, so that a
+/// medial one is drawn below another. HarfBuzz (6.0.0 and 12.3.2) and HarfRust take all consonants;
+/// the hooks do so by a choice of the plan.
+#[test]
+fn the_base_is_not_looked_for_among_medials() {
+    let serif = font("truetype/freefont/FreeSerif.ttf");
+    let [stock, proved] = both(&serif, "0A30 0A4D 0A30 0A75", Setting::default());
+    assert_eq!(stock, "[ra_gur=0+490|gur_ra.blwf=0@-122,0+0|yakashsign_gur=0@-12,0+0]");
+    assert_eq!(proved, "[gur_ra.blwf=0+0|ra_gur=6+490#1|yakashsign_gur=6@-12,0+0#1]");
+}
+
 // ---- Faults of other files ----
 
 /// The range of general categories has one bit more, of Control, which a dotted circle has for want

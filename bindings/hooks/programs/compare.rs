@@ -1,8 +1,9 @@
-//! compare TEXTS ROOT [--script NAME] [--every N] [--show N]: shapes the texts of the folder TEXTS
+//! compare TEXTS ROOT [--script NAME] [--every N] [--show N] [--list FILE]: shapes the texts of TEXTS
 //! (bindings/hooks/texts) with the fonts in ROOT, by the crate as it is and by the proved one: at
 //! each cluster level, with several flags, with contexts and with features of the user's.
 //! `--script` takes one script, `--every` each Nth text, `--show` prints N differences of each
-//! script.
+//! script, and `--list` writes all, a line each: font, level, flags, whether with contexts and with
+//! features, code points, reasons, both outputs, separated by tabs.
 //!
 //! A difference is explained where the crate as it is, with the known differences edited away,
 //! gives what the proved one gives; its reasons are the edits that this takes. A table goes to
@@ -37,6 +38,7 @@ struct Options {
     script: Option<String>,
     every: usize,
     show: usize,
+    list: Option<PathBuf>,
 }
 
 /// The texts of a script, the real words first, and its fonts.
@@ -91,6 +93,7 @@ struct Tally {
     reasons: BTreeMap<&'static str, Reason>,
     unexplained: Vec<String>,
     shown: Vec<String>,
+    listed: Vec<String>,
 }
 
 impl Tally {
@@ -210,6 +213,18 @@ fn compare(script: &Script, path: &Path, font: &[u8], setting: &Setting, show: u
         tally.kinds[kind].add(real);
         tally.add(&explained[number], kind, setting.level, real, &told);
         let whole = format!("{told}\n    stock  {}\n    proved {}", one[number], other[number]);
+        tally.listed.push(format!(
+            "{}\t{}\t{:X}\t{}\t{}\t{}\t{}\t{}\t{}",
+            path.display(),
+            setting.level,
+            setting.flags,
+            setting.contexts,
+            setting.features,
+            code_points(texts[place]),
+            explained[number].join(","),
+            one[number],
+            other[number]
+        ));
         if explained[number].is_empty() {
             tally.unexplained.push(whole);
         } else if tally.shown.len() < show {
@@ -332,13 +347,14 @@ fn print_shadow() {}
 fn options() -> Option<Options> {
     let mut arguments = std::env::args().skip(1);
     let (texts, root) = (arguments.next()?.into(), arguments.next()?.into());
-    let mut options = Options { texts, root, script: None, every: 1, show: 0 };
+    let mut options = Options { texts, root, script: None, every: 1, show: 0, list: None };
     while let Some(name) = arguments.next() {
         let value = arguments.next()?;
         match name.as_str() {
             "--script" => options.script = Some(value),
             "--every" => options.every = value.parse().ok()?,
             "--show" => options.show = value.parse().ok()?,
+            "--list" => options.list = Some(value.into()),
             _ => return None,
         }
     }
@@ -347,7 +363,7 @@ fn options() -> Option<Options> {
 
 fn main() {
     let Some(options) = options() else {
-        eprintln!("compare TEXTS ROOT [--script NAME] [--every N] [--show N]");
+        eprintln!("compare TEXTS ROOT [--script NAME] [--every N] [--show N] [--list FILE]");
         std::process::exit(2);
     };
     std::panic::set_hook(Box::new(|_| {}));
@@ -360,6 +376,10 @@ fn main() {
     }
     print_reasons(&total);
     print_shadow();
+    if let Some(path) = &options.list {
+        let lines: String = tallies.iter().flat_map(|tally| &tally.listed).flat_map(|line| [line, "\n"]).collect();
+        fs::write(path, lines).unwrap_or_else(|error| panic!("{}: {error}", path.display()));
+    }
     for (script, tally) in scripts.iter().zip(&tallies) {
         tally.shown.iter().for_each(|told| println!("{}: {told}", script.name));
         tally.unexplained.iter().take(5).for_each(|told| println!("FAILED: {}: no reason: {told}", script.name));

@@ -40,7 +40,7 @@ const SYLLABLE: usize = 44;
 const COLOURS: u32 = 6;
 
 // The glyph flags with their names.
-const FLAGS: [(u32, &str); 3] = [(1, "no break"), (2, "no concat"), (4, "tatweel")];
+pub(crate) const FLAGS: [(u32, &str); 3] = [(1, "no break"), (2, "no concat"), (4, "tatweel")];
 
 // How high the drawings of a row are, how far down their parts begin, the flags in a box counted
 // from its top, and which glyph flags the row has.
@@ -228,20 +228,11 @@ fn draw_shown(
     glyph: &hb_glyph_info_t,
     place: Place,
 ) -> Result<(), AllocError> {
-    let mut text = String::new(row.alloc);
-    let style = match Shown::of(glyph, row.numbers) {
-        Shown::Character(character) => {
-            text.push(character)?;
-            place.style
-        }
-        Shown::Mark(character) => {
-            write!(text, "\u{25CC}{character}")?;
-            place.style
-        }
-        Shown::Unseen | Shown::Private | Shown::Glyph => {
-            write!(text, "{:04X}", glyph.glyph_id)?;
-            Style::Id
-        }
+    let shown = Shown::of(glyph, row.numbers);
+    let text = shown.text(row.alloc, glyph.glyph_id)?;
+    let style = match shown {
+        Shown::Character(_) | Shown::Mark(_) => place.style,
+        Shown::Unseen | Shown::Private | Shown::Glyph => Style::Id,
     };
     Place { style, ..place }.draw(page, text.as_str())
 }

@@ -5,7 +5,9 @@
 mod boxes;
 mod escaped;
 mod fault;
+mod glyphs;
 mod label;
+mod legend;
 mod marks;
 mod names;
 mod numbers;
@@ -17,6 +19,8 @@ mod shown;
 
 pub use boxes::draw_boxes;
 pub use fault::{DrawFault, Ended, MOST_GLYPHS};
+pub use glyphs::write_glyphs;
+pub use legend::Legend;
 pub use numbers::Numbers;
 pub use page::{
     Context, FOOT, HEAD, Line, shortened, write_answers, write_fault, write_lines, write_note,

@@ -24,6 +24,11 @@ p{margin:2px 0;overflow-wrap:anywhere}
 .text{font-size:30px;line-height:1.8;overflow:clip}
 .context{color:var(--soft);opacity:.6}
 .note{color:var(--soft)}
+.glyphs{font-size:20px}
+.legend{margin-top:28px;font-size:14px;color:var(--soft)}
+dl{display:grid;grid-template-columns:max-content auto;gap:1px 12px;margin:4px 0}
+dt{font-weight:bold}
+dd{margin:0}
 .fault{border:3px double;padding:6px 10px;margin-top:28px;font-weight:bold}
 .row{display:flex;flex-wrap:wrap;align-items:flex-end;margin-top:6px}
 .rtl{flex-direction:row-reverse}

@@ -2,6 +2,7 @@
 use crate::marks::is_mark;
 use crate::numbers::Numbers;
 use shapers_base::buffer::hb_glyph_info_t;
+use std::alloc::{AllocError, Global};
 
 /// What stands in a glyph's box.
 #[derive(Clone, Copy)]
@@ -31,6 +32,18 @@ impl Shown {
             Some(character) => Shown::of_character(character),
             None => Shown::Glyph,
         }
+    }
+
+    /// The text that shows a glyph of this number: the character, one that combines on a dotted
+    /// circle, or the number.
+    pub(crate) fn text(self, alloc: Global, number: u32) -> Result<String, AllocError> {
+        let mut text = String::new(alloc);
+        match self {
+            Shown::Character(character) => text.push(character)?,
+            Shown::Mark(character) => write!(text, "\u{25CC}{character}")?,
+            Shown::Unseen | Shown::Private | Shown::Glyph => write!(text, "{number:04X}")?,
+        }
+        Ok(text)
     }
 
     // What is shown of a character.

@@ -20,7 +20,11 @@ use std::alloc::{AllocError, Global};
 use std::ops::Range;
 
 // The first words of lines.
-const COMMANDS: &str = "font, applies, table, pair, mask, stage, set, text, context, at, span, run";
+const COMMANDS: &str =
+    "font, applies, table, pair, mask, stage, set, text, context, at, span, spans, run";
+
+// A line of a context.
+const CONTEXT: Expected = Expected::Fields("context 0 U .. or context 1 U .., with five U at most");
 
 // How many lookups there may be.
 const LOOKUPS: usize = 65536;
@@ -48,6 +52,8 @@ pub enum LineKind {
 /// One line of input.
 #[derive(Drop)]
 pub enum Command {
+    /// An empty line, or a comment, which begins with `#`.
+    Comment,
     /// `font U G W`: a character's glyph, and the glyph's advance.
     Font(char, GlyphId, i32),
     /// `applies I G G` or with three G: glyphs to which a lookup would apply.
@@ -62,7 +68,7 @@ pub enum Command {
     Stage(hb_tag_t, Range<usize>),
     /// `set K V`
     Set(Setting),
-    /// `text U ..`: the characters of the buffer.
+    /// `text U ..`: the characters of the buffer, by numbers or themselves.
     Text(Vec<char>),
     /// `context 0 U ..` or `context 1 U ..`: the nearest characters on one side.
     Context(Side, Vec<char>),
@@ -70,13 +76,18 @@ pub enum Command {
     At(usize, GlyphField),
     /// `span L K`: one more span.
     Span(Span),
+    /// `spans found`: the spans that the shaper's grammar finds in the buffer.
+    FindSpans,
     /// `run NAME ..`
     Run(HookCall),
 }
 
 impl Command {
-    /// The command of a line, whose fields one space separates.
+    /// The command of a line, whose fields one space separates, unless it is empty or a comment.
     pub fn parse(alloc: Global, line: &str) -> Result<Command, LineFault> {
+        if line.is_empty() || line.starts_with('#') {
+            return Ok(Command::Comment);
+        }
         let fields: Vec<&str> = line.split(' ').collect(alloc)?;
         match *fields.as_slice() {
             [word, ref fields @ ..] => read_command(alloc, word, fields),
@@ -120,18 +131,31 @@ fn read_command(alloc: Global, word: &str, fields: &[&str]) -> Result<Command, L
         "context" => context(alloc, fields),
         "at" => field_at_place(fields),
         "span" => span(fields),
+        "spans" => found_spans(fields),
         "run" => Ok(Command::Run(HookCall::parse(fields)?)),
         _ => Err(LineFault::Unreadable(Expected::Word(COMMANDS))),
     }
 }
 
-// Each of these fields as a character.
+// The characters of these fields: each is the number of one, or characters themselves.
 fn characters(alloc: Global, fields: &[&str]) -> Result<Vec<char>, LineFault> {
     let mut characters = Vec::with_capacity(alloc, fields.len())?;
     for field in fields {
-        characters.push(character(field)?).map_err(|_| AllocError)?;
+        push_characters(&mut characters, field)?;
     }
     Ok(characters)
+}
+
+// Adds the characters of a field: of ASCII alone it is the number of one, else it is they.
+fn push_characters(characters: &mut Vec<char>, field: &str) -> Result<(), LineFault> {
+    if field.is_ascii() {
+        characters.push(character(field)?).map_err(|_| AllocError)?;
+        return Ok(());
+    }
+    for character in field.chars() {
+        characters.push(character).map_err(|_| AllocError)?;
+    }
+    Ok(())
 }
 
 // A character, its glyph and the glyph's advance.
@@ -267,11 +291,13 @@ fn named_setting(fields: &[&str]) -> Result<Command, LineFault> {
 fn context(alloc: Global, fields: &[&str]) -> Result<Command, LineFault> {
     match *fields {
         [side, ref us @ ..] if us.len() <= CONTEXT_LENGTH => {
-            Ok(Command::Context(side_of_text(side)?, characters(alloc, us)?))
+            let (side, characters) = (side_of_text(side)?, characters(alloc, us)?);
+            if characters.len() > CONTEXT_LENGTH {
+                return Err(LineFault::Unreadable(CONTEXT));
+            }
+            Ok(Command::Context(side, characters))
         }
-        _ => Err(LineFault::Unreadable(Expected::Fields(
-            "context 0 U .. or context 1 U .., with five U at most",
-        ))),
+        _ => Err(LineFault::Unreadable(CONTEXT)),
     }
 }
 
@@ -292,6 +318,14 @@ fn field_at_place(fields: &[&str]) -> Result<Command, LineFault> {
             GlyphField::parse(name, value)?,
         )),
         _ => Err(LineFault::Unreadable(Expected::Fields("at I FIELD V"))),
+    }
+}
+
+// The word `found`.
+fn found_spans(fields: &[&str]) -> Result<Command, LineFault> {
+    match *fields {
+        ["found"] => Ok(Command::FindSpans),
+        _ => Err(LineFault::Unreadable(Expected::Fields("spans found"))),
     }
 }
 

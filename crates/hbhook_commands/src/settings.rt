@@ -8,7 +8,7 @@ use crate::font::LineFont;
 use crate::tables::LineTables;
 use shapers_base::buffer::{Script, Span, hb_tag_t};
 use shapers_base::map::{feature_map_t, hb_ot_map_t};
-use shapers_base::plan::{BreakFlags, StretchStart, hb_ot_shape_plan_t};
+use shapers_base::plan::{BaseSearch, BreakFlags, StretchStart, hb_ot_shape_plan_t};
 use std::alloc::{AllocError, Global};
 use std::ops::Range;
 
@@ -32,6 +32,7 @@ pub struct Settings {
     pub gpos_mark: bool,
     pub stretch_start: StretchStart,
     pub break_flags: BreakFlags,
+    pub base_search: BaseSearch,
     pub global_mask: u32,
     pub font: LineFont,
     pub tables: LineTables,
@@ -50,6 +51,7 @@ impl Settings {
             gpos_mark: false,
             stretch_start: StretchStart::AsCode,
             break_flags: BreakFlags::AsCode,
+            base_search: BaseSearch::WithoutMedials,
             global_mask: 0,
             font: LineFont::new(alloc),
             tables: LineTables::new(alloc),
@@ -67,11 +69,13 @@ impl Settings {
         ensures gpos_mark { IfOk result (λ plan. plan.has_gpos_mark ≡ self.now.gpos_mark) }
         ensures stretch { IfOk result (λ plan. plan.stretch_start ≡ self.now.stretch_start) }
         ensures breaks { IfOk result (λ plan. plan.break_flags ≡ self.now.break_flags) }
+        ensures base { IfOk result (λ plan. plan.base_search ≡ self.now.base_search) }
     {
         let mut plan = hb_ot_shape_plan_t::new(self.script, self.map()?);
         plan.has_gpos_mark = self.gpos_mark;
         plan.stretch_start = self.stretch_start;
         plan.break_flags = self.break_flags;
+        plan.base_search = self.base_search;
         Ok(plan)
     }
 

@@ -1,10 +1,11 @@
-//! The tables that the lines `table` and `pair` describe.
+//! The tables that the lines `table` and `pair` describe, over Unicode's or none.
 ghost use Rattle.std.specs.Prelude.{◌≡◌, ◌==◌, ◌&&◌, find};
 ghost use Rattle.hbhook_commands.specs.Tables.{entry_of};
 
 use shapers_base::buffer::hb_unicode_general_category_t;
 use shapers_base::font::Tables;
 use shapers_base::plan::{Category, Position, hb_arabic_joining_type_t};
+use shapers_unicode::UnicodeTables;
 use std::alloc::{AllocError, Global};
 use std::collections::BTreeMap;
 
@@ -37,11 +38,22 @@ pub struct CanonicalPair {
     pub whole: char,
 }
 
+/// What holds of the characters that no line names.
+#[derive(Clone, Copy, Debug, PartialEq, Eq)]
+pub enum OtherCharacters {
+    /// [`CharacterEntry::DEFAULT`], and no pair.
+    Unknown,
+    /// What Unicode has.
+    Unicode,
+}
+
 /// The tables of the lines so far.
 #[derive(Drop)]
 pub struct LineTables {
     entries: BTreeMap<u32, CharacterEntry>,
     pairs: Vec<CanonicalPair>,
+    /// The other characters.
+    pub others: OtherCharacters,
 }
 
 impl LineTables {
@@ -50,6 +62,7 @@ impl LineTables {
         LineTables {
             entries: BTreeMap::new(alloc),
             pairs: Vec::new(alloc),
+            others: OtherCharacters::Unknown,
         }
     }
 
@@ -66,51 +79,67 @@ impl LineTables {
     }
 }
 
-// What the tables say of the character of this number.
-fn entry(tables: &LineTables, c: u32) -> CharacterEntry
+// What a line says of the character of this number.
+fn entry(tables: &LineTables, c: u32) -> Option<CharacterEntry>
     ensures { result ≡ entry_of tables.now.entries c }
 {
-    let entry = tables.entries.get(&c).copied();
-    entry.unwrap_or(CharacterEntry::DEFAULT)
+    tables.entries.get(&c).copied()
 }
 
 impl Tables for LineTables {
-    ghost use Rattle.hbhook_commands.specs.Tables.{entry_of, whole_of, parts_of};
+    ghost use Rattle.hbhook_commands.specs.Tables.{line_tables};
 
-    ghost tables = { λ tables. record {
-      joining = λ c. (entry_of tables.entries c).joining_type;
-      general = λ c. (entry_of tables.entries c).general_category;
-      indic = λ c. let entry = entry_of tables.entries c in
-          (entry.indic_category, entry.indic_position);
-      universal = λ c. (entry_of tables.entries c).universal_category;
-      composed = λ a b. whole_of tables.pairs.items a b;
-      decomposed = λ whole. parts_of tables.pairs.items whole;
-    } };
+    ghost tables = { λ tables. line_tables tables.others tables.entries tables.pairs.items };
 
     fn joining_type(&self, c: char) -> hb_arabic_joining_type_t {
-        entry(self, u32::from(c)).joining_type
+        match (entry(self, u32::from(c)), self.others) {
+            (Some(entry), _) => entry.joining_type,
+            (None, OtherCharacters::Unknown) => CharacterEntry::DEFAULT.joining_type,
+            (None, OtherCharacters::Unicode) => UnicodeTables.joining_type(c),
+        }
     }
 
     fn general_category(&self, c: char) -> hb_unicode_general_category_t {
-        entry(self, u32::from(c)).general_category
+        match (entry(self, u32::from(c)), self.others) {
+            (Some(entry), _) => entry.general_category,
+            (None, OtherCharacters::Unknown) => CharacterEntry::DEFAULT.general_category,
+            (None, OtherCharacters::Unicode) => UnicodeTables.general_category(c),
+        }
     }
 
     fn indic_categories(&self, c: u32) -> (Category, Position) {
-        let entry = entry(self, c);
-        (entry.indic_category, entry.indic_position)
+        match (entry(self, c), self.others) {
+            (Some(entry), _) => (entry.indic_category, entry.indic_position),
+            (None, OtherCharacters::Unknown) => {
+                let entry = CharacterEntry::DEFAULT;
+                (entry.indic_category, entry.indic_position)
+            }
+            (None, OtherCharacters::Unicode) => UnicodeTables.indic_categories(c),
+        }
     }
 
     fn use_category(&self, c: u32) -> Category {
-        entry(self, c).universal_category
+        match (entry(self, c), self.others) {
+            (Some(entry), _) => entry.universal_category,
+            (None, OtherCharacters::Unknown) => CharacterEntry::DEFAULT.universal_category,
+            (None, OtherCharacters::Unicode) => UnicodeTables.use_category(c),
+        }
     }
 
     fn compose(&self, a: char, b: char) -> Option<char> {
-        Some(composing(self.pairs.as_slice(), a, b)?.whole)
+        match (composing(self.pairs.as_slice(), a, b), self.others) {
+            (Some(pair), _) => Some(pair.whole),
+            (None, OtherCharacters::Unknown) => None,
+            (None, OtherCharacters::Unicode) => UnicodeTables.compose(a, b),
+        }
     }
 
     fn decompose(&self, ab: char) -> Option<(char, char)> {
-        let pair = composing_to(self.pairs.as_slice(), ab)?;
-        Some((pair.first, pair.second))
+        match (composing_to(self.pairs.as_slice(), ab), self.others) {
+            (Some(pair), _) => Some((pair.first, pair.second)),
+            (None, OtherCharacters::Unknown) => None,
+            (None, OtherCharacters::Unicode) => UnicodeTables.decompose(ab),
+        }
     }
 }
 

@@ -37,7 +37,7 @@ plan_changes plan kept = refl
 data_of_khmer : (plan : hb_ot_shape_plan_t) → data_created Khmer plan ≡ Some (data_of.Khmer (record { mask_array = khmer_masks plan.ot_map }))
 data_of_khmer plan = refl
 
-data_of_indic : (plan : hb_ot_shape_plan_t) → data_created Indic plan ≡ Some (data_of.Indic (indic_plan plan.script plan.ot_map))
+data_of_indic : (plan : hb_ot_shape_plan_t) → data_created Indic plan ≡ Some (data_of.Indic (indic_plan plan.base_search plan.script plan.ot_map))
 data_of_indic plan = refl
 
 -- the text stays before normalization, also where it is left to the caller

@@ -26,3 +26,4 @@ pub use Rattle.shapers_universal.proofs as universal
 pub use Rattle.shapers_indic.proofs as indic
 pub use Rattle.shapers_indic_initial.proofs as indic_initial
 pub use Rattle.shapers_indic_final.proofs as indic_final
+pub mod Monotone

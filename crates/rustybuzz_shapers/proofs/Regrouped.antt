@@ -19,9 +19,9 @@ use Rattle.shapers_indic_final.proofs.FinalLaws.{final_laws}
 use Rattle.shapers_indic_final.specs.FinalRules.{final_rules}
 use Rattle.shapers_indic_initial.proofs.FontPositions.{order_by_font_laws}
 use Rattle.shapers_khmer.specs.Khmer.{order_in}
-use Rattle.shapers_khmer.proofs.KhmerLaws.{khmer_laws}
-use Rattle.shapers_myanmar.proofs.MyanmarLaws.{myanmar_laws}
-use Rattle.shapers_universal.proofs.UniversalView.{universal_laws}
+use Rattle.shapers_khmer.specs.Proved.KhmerLaws.{khmer_laws}
+use Rattle.shapers_myanmar.specs.Proved.MyanmarLaws.{myanmar_laws}
+use Rattle.shapers_universal.specs.Proved.UniversalView.{universal_laws}
 use Rattle.rustybuzz_shapers.specs.Regrouped.{SyllablesRegrouped}
 
 numbers_kept : (gs hs : List hb_glyph_info_t) → IsPermutation (seen carried gs) (seen carried hs) → IsPermutation (map (λ g. g.glyph_id) gs) (map (λ g. g.glyph_id) hs)

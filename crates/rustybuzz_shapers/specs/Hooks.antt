@@ -47,7 +47,8 @@ abbrev pub data_created : hb_ot_shaper_t → hb_ot_shape_plan_t → Option PlanD
 data_created Arabic plan =
     Some (data_of.Arabic (arabic_plan plan.stretch_start plan.break_flags plan.ot_map))
 data_created Hangul plan = Some (data_of.Hangul (record { mask_array = jamo_masks plan.ot_map }))
-data_created Indic plan = Some (data_of.Indic (indic_plan plan.script plan.ot_map))
+data_created Indic plan =
+    Some (data_of.Indic (indic_plan plan.base_search plan.script plan.ot_map))
 data_created Khmer plan = Some (data_of.Khmer (record { mask_array = khmer_masks plan.ot_map }))
 data_created Universal plan =
     let kept = universal_plan plan.stretch_start plan.break_flags plan.script plan.ot_map in

@@ -8,6 +8,7 @@ pub mod Pauses
 pub mod Records
 pub mod Standing
 pub mod Regrouped
+pub mod Monotone
 pub mod Stretched
 pub mod Together
 -- the words of each crate below, under its name

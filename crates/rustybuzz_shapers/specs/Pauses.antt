@@ -9,11 +9,11 @@ use Rattle.shapers_clusters.specs.Laws.{ReorderedHold}
 use Rattle.shapers_clusters.specs.Steps.{Step}
 use Rattle.shapers_indic.specs.Plan.{indic_in, is_indic_data}
 use Rattle.shapers_indic_final.specs.FinalLaws.{FinallyKept}
-use Rattle.shapers_indic_final.specs.FinalWordStart.{FinallyReordered}
+use Rattle.shapers_indic_final.specs.FinalWordStart.{FinallyLinked, FinallyReordered}
 use Rattle.shapers_indic_final.specs.FinalReordering.{final_order, final_steps}
 use Rattle.shapers_indic_final.specs.FinalRules as final
 use Rattle.shapers_indic_initial.specs.InitialLaws.{InitiallyMerged}
-use Rattle.shapers_indic_initial.specs.InitialPause.{InitiallyReordered, initial_circles, initial_refusal, order_by_font, steps_by_font}
+use Rattle.shapers_indic_initial.specs.InitialPause.{InitiallyLinked, InitiallyReordered, initial_circles, initial_refusal, order_by_font, steps_by_font}
 use Rattle.shapers_khmer.specs.Khmer.{khmer_circles, khmer_order, khmer_steps, order_in}
 use Rattle.shapers_khmer.specs.KhmerMovers.{ordered_by_movers, steps_by_movers}
 use Rattle.shapers_khmer.specs.Plan.{is_khmer_data}
@@ -22,7 +22,7 @@ use Rattle.shapers_stretch.specs.Recorded.{has_stch, tiles_recorded}
 use Rattle.shapers_syllabic.specs.Borders.{SetUpCutsAtSpans, spans_set_up, unnumbered}
 use Rattle.shapers_syllabic.specs.CircleLaws.{NoNewCluster}
 use Rattle.shapers_syllabic.specs.Circles.{circled}
-use Rattle.shapers_syllabic.specs.Reordering.{PauseReordered, carried, script_circles, text_steps}
+use Rattle.shapers_syllabic.specs.Reordering.{PauseLinked, PauseReordered, SyllableReordered, carried, script_circles, text_steps}
 use Rattle.shapers_syllabic.specs.ReorderingLaws.{PauseCutsAtBorders, TextReordered, paused_clusters, paused_order}
 use Rattle.shapers_syllabic.specs.SpanCuts.{CutsAtBorders}
 use Rattle.shapers_syllabic.specs.declared.ot_shaper_syllabic.circles.DottedCircles.{DottedCircles}
@@ -217,14 +217,19 @@ MergedFirst r old new =
     let opened = circled r.circles old.glyphs in
     ReorderedHold carried old.level (text_steps r.steps (order_view opened)) opened new.glyphs
 
+-- a chain leads there, one link a syllable: each is reordered for itself
+abbrev pub OneByOne : Reordering → Buffer → Buffer → Type 0
+OneByOne r old new = PauseLinked r.circles (SyllableReordered r.order r.steps) old new
+
 -- no cluster changes
 abbrev pub ClustersStay : Buffer → Buffer → Type 0
 ClustersStay old new = clusters new.glyphs ≡ clusters old.glyphs
 
 -- The laws of a pause: spans may be cut between any two, and texts at any border of syllables;
 -- what becomes of clusters and glyph flags. What doesn't reorder leaves clusters, and only adds
--- flags. In the initial reordering of Indic clusters merge by the cycles of its order, in the final
--- one by its moves. In Khmer what comes to the front of a regular syllable are its movers.
+-- flags. What reorders does so syllable by syllable. In the initial reordering of Indic clusters
+-- merge by the cycles of its order, in the final one by its moves. In Khmer what comes to the front
+-- of a regular syllable are its movers.
 abbrev pub PauseKeeps : Pause → hb_ot_shape_plan_t → Font → List Span → Buffer → Buffer → Type 0
 PauseKeeps SetupSyllablesIndic plan font spans old new =
     SetUpCutsAtSpans spans indic_syllable.BROKEN_CLUSTER old new × ClustersStay old new
@@ -240,18 +245,23 @@ PauseKeeps SetupSyllablesUse plan font spans old new =
     × OnlyFlagsAdded old.glyphs new.glyphs
 PauseKeeps InitialReordering plan font spans old new =
     ReorderingKeeps (by_initial plan font old) old new
-    × InitiallyMerged font plan.ot_map (indic_in plan) old new
+    × (InitiallyLinked font plan.ot_map (indic_in plan) old new
+    × InitiallyMerged font plan.ot_map (indic_in plan) old new)
 PauseKeeps ReorderKhmer plan font spans old new =
     ReorderingKeeps (by_khmer plan font old) old new
+    × (OneByOne (by_khmer plan font old) old new
     × (MergedFirst (by_khmer plan font old) old new
-    × Reordered (by_khmer_movers plan font old) old new)
+    × Reordered (by_khmer_movers plan font old) old new))
 PauseKeeps ReorderMyanmar plan font spans old new =
-    ReorderingKeeps (by_myanmar font old) old new × MergedFirst (by_myanmar font old) old new
+    ReorderingKeeps (by_myanmar font old) old new
+    × (OneByOne (by_myanmar font old) old new × MergedFirst (by_myanmar font old) old new)
 PauseKeeps ReorderUse plan font spans old new =
-    ReorderingKeeps (by_universal font old) old new × MergedFirst (by_universal font old) old new
+    ReorderingKeeps (by_universal font old) old new
+    × (OneByOne (by_universal font old) old new × MergedFirst (by_universal font old) old new)
 PauseKeeps FinalReordering plan font spans old new =
     FinallyKept (final.final_rules font (indic_in plan)) old new
-    × NoNewCluster old.glyphs new.glyphs
+    × (FinallyLinked (final.final_rules font (indic_in plan)) old new
+    × NoNewCluster old.glyphs new.glyphs)
 PauseKeeps RecordStch plan font spans old new = OnlyFlagsAdded old.glyphs new.glyphs
 PauseKeeps RecordRphf plan font spans old new = OnlyFlagsAdded old.glyphs new.glyphs
 PauseKeeps RecordPref plan font spans old new = OnlyFlagsAdded old.glyphs new.glyphs

@@ -21,7 +21,8 @@ mod pauses;
 
 pub use conditions::{has_positions, kinds_fit, lacks_positions, pause_fits};
 pub use laws::{
-    breaks_law, cuts_at_borders_law, headline, stretches_cover_law, syllables_regrouped_law,
+    breaks_law, cuts_at_borders_law, headline, monotone_law, stretches_cover_law,
+    syllables_regrouped_law,
 };
 pub use pauses::{pause_may_change, run_pause};
 use shapers_arabic::ot_shaper_arabic;
@@ -33,8 +34,22 @@ use shapers_myanmar::ot_shaper_myanmar;
 use shapers_stretch::ot_shaper_arabic_stretch;
 use shapers_text::{ot_shaper_hebrew, ot_shaper_thai};
 use shapers_universal::ot_shaper_use;
+use std::mem;
 
-/// A script shaper.
+/// A script shaper. Where it lacks a hook, a dash here, the method returns `None` and changes nothing;
+/// `has_hook` is this table. What runs between two stages of lookups is a [`Pause`].
+///
+/// | hook | Arabic | Hangul | Hebrew | Indic | Khmer | Myanmar | Zawgyi | Thai | universal |
+/// |---|---|---|---|---|---|---|---|---|---|
+/// | [`collect_features`](Self::collect_features) | yes | yes | - | yes | yes | yes | - | - | yes |
+/// | [`override_features`](Self::override_features) | - | yes | - | yes | yes | - | - | - | - |
+/// | [`create_data`](Self::create_data) | yes | yes | - | yes | yes | - | - | - | yes |
+/// | [`preprocess_text`](Self::preprocess_text) | - | yes | - | yes | - | - | - | yes | yes |
+/// | [`decompose`](Self::decompose) | - | - | - | yes | yes | - | - | - | - |
+/// | [`compose`](Self::compose) | - | - | yes | yes | yes | - | - | - | yes |
+/// | [`reorder_marks`](Self::reorder_marks) | yes | - | yes | - | - | - | - | - | - |
+/// | [`setup_masks`](Self::setup_masks) | yes | yes | - | yes | yes | yes | - | - | yes |
+/// | [`postprocess_glyphs`](Self::postprocess_glyphs) | yes | - | - | - | - | - | - | - | - |
 #[derive(Clone, Copy, Debug, PartialEq, Eq)]
 pub enum hb_ot_shaper_t {
     /// Arabic, Syriac and the scripts that join like them.
@@ -189,6 +204,10 @@ impl hb_ot_shaper_t {
 
     /// Requests the features of the shaper's scripts: all of the list, or nothing where memory is
     /// refused. Arabic's list depends on the planner's script and on the font.
+    ///
+    /// # Errors
+    ///
+    /// `Memory`; the planner is as it was then.
     pub fn collect_features<F: hb_font_t>(
         self,
         face: &F,
@@ -216,6 +235,10 @@ impl hb_ot_shaper_t {
 
     /// Requests what comes after the features of all shapers: all of it, or nothing where memory is
     /// refused.
+    ///
+    /// # Errors
+    ///
+    /// `Memory`; the planner is as it was then.
     pub fn override_features(
         self,
         planner: &mut hb_ot_shape_planner_t,
@@ -256,6 +279,11 @@ impl hb_ot_shaper_t {
     /// forms. Hangul composes jamo, or takes syllables apart, as the font has them, and puts tones
     /// before their syllables. Both refuse as a growth does. For Indic and the universal shaper the
     /// caller runs the vowel constraints.
+    ///
+    /// # Errors
+    ///
+    /// `TooLong` where the buffer would be longer than `max_len`, `Memory` where memory is
+    /// refused; nothing has changed then.
     #[inline]
     pub fn preprocess_text<F: hb_font_t>(
         self,
@@ -291,6 +319,11 @@ impl hb_ot_shaper_t {
 
     /// Rewrites the glyphs after positioning: for Arabic, marks stretch over the words before them,
     /// as wide as these or wider by less than one unit per added copy, where their tiles fit.
+    ///
+    /// # Errors
+    ///
+    /// `StretchOverflow` where a number or an offset doesn't fit 32 bits; `TooLong` and
+    /// `Memory`. Nothing has changed then.
     #[inline]
     pub fn postprocess_glyphs<F: hb_font_t>(
         self,
@@ -395,15 +428,36 @@ impl hb_ot_shaper_t {
         ensures flags { OnlyFlagsAdded buffer.old.glyphs buffer.new.glyphs }
     {
         match self {
+            Self::Hebrew | Self::MyanmarZawgyi | Self::Thai => return None,
+            Self::Arabic | Self::Hangul => self.set_masks(plan, tables, buffer),
+            Self::Indic | Self::Khmer | Self::Myanmar | Self::Universal => {
+                // (tables that panic leave the empty buffer, and no text with some categories)
+                let empty = hb_buffer_t::new(buffer.alloc(), buffer.max_len());
+                let mut text = mem::replace(buffer, empty);
+                self.set_masks(plan, tables, &mut text);
+                *buffer = text;
+            }
+        }
+        Some(())
+    }
+
+    // The masks of a shaper, where it sets any.
+    #[inline]
+    fn set_masks<T: Tables>(self, plan: &hb_ot_shape_plan_t, tables: &T, buffer: &mut hb_buffer_t)
+        requires data { PlanFits self plan.now }
+        requires glyphs { GlyphsFit self plan.now buffer.old.glyphs }
+        ensures masks { MasksSet self plan.now (T.tables tables.now) buffer.old buffer.new }
+        ensures flags { OnlyFlagsAdded buffer.old.glyphs buffer.new.glyphs }
+    {
+        match self {
             Self::Arabic => ot_shaper_arabic::setup_masks(plan, tables, buffer),
             Self::Hangul => ot_shaper_hangul::setup_masks(plan, buffer),
             Self::Indic => ot_shaper_indic::setup_masks(tables, buffer),
             Self::Khmer => ot_shaper_khmer::setup_masks(tables, buffer),
             Self::Myanmar => ot_shaper_myanmar::setup_masks(tables, buffer),
             Self::Universal => ot_shaper_use::setup_masks(plan, tables, buffer),
-            Self::Hebrew | Self::MyanmarZawgyi | Self::Thai => return None,
+            Self::Hebrew | Self::MyanmarZawgyi | Self::Thai => {}
         }
-        Some(())
     }
 
     /// Reorders the marks from `start` to `end`: for Hebrew, at the first three neighbours of its

@@ -11,6 +11,7 @@ use Rattle.shapers_base.specs.declared.plan.joining.hb_arabic_joining_type_t.The
 use Rattle.shapers_arabic.specs.JoiningFlags.{Letter, nearest_letter, changes_form, can_change, letter_flags, end_flags, joining_flags}
 use Rattle.shapers_arabic.specs.JoinedText.{buffer_joined, with_form}
 use Rattle.shapers_arabic.specs.JoiningWalk.{waits}
+use Rattle.shapers_arabic.specs.declared.ot_shaper_arabic.joining.State.TheVariants.{Start, Closed, Initial, Medial, JoinedAlaph, LaterAlaph, DalathRish}
 
 -- the types of letters, and what can stand before one: nothing, or each of them
 letters : List hb_arabic_joining_type_t
@@ -64,7 +65,7 @@ unfolding befores letters
 can_changes = refl
 
 -- of the table's states 2 to 5 wait
-waiting : map waits (0 ∷ 1 ∷ 2 ∷ 3 ∷ 4 ∷ 5 ∷ 6 ∷ []) ≡ false ∷ false ∷ true ∷ true ∷ true ∷ true ∷ false ∷ []
+waiting : map waits (Start ∷ Closed ∷ Initial ∷ Medial ∷ JoinedAlaph ∷ LaterAlaph ∷ DalathRish ∷ []) ≡ false ∷ false ∷ true ∷ true ∷ true ∷ true ∷ false ∷ []
 waiting = refl
 
 -- what stands before a letter: the text's own nearest letter, else the context's

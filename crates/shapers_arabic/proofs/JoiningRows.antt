@@ -10,6 +10,7 @@ use Rattle.shapers_base.specs.declared.plan.joining.hb_arabic_joining_type_t.{hb
 use Rattle.shapers_base.specs.declared.plan.joining.hb_arabic_joining_type_t.TheVariants.{U, L, R, D, GroupAlaph, GroupDalathRish, T, X}
 use Rattle.shapers_arabic.specs.declared.ot_shaper_arabic.arabic_action_t.TheConstants.{ISOL, FINA, FIN2, FIN3, MEDI, MED2, INIT, NONE, STRETCHING_FIXED, STRETCHING_REPEATING}
 use Rattle.shapers_arabic.specs.declared.ot_shaper_arabic.joining.TheConstants.{STATE_TABLE}
+use Rattle.shapers_arabic.specs.JoiningWalk.{row_of}
 use Rattle.shapers_arabic.specs.Joining.{resolved, act, forms, is_selector}
 use Rattle.shapers_arabic.specs.JoinedText.{Text, is_mongolian, forms_of, context_look_ups, look_ups, opening, text_of, first_of, second_of}
 
@@ -222,7 +223,7 @@ copied_after = refl
 
 -- the table, row by row: what each letter gives the one before, its own form, and the state behind it
 row : ℕ → List (List ℕ)
-row s = map (λ t. t.0 ∷ t.1 ∷ t.2 ∷ []) (slice_index_or STATE_TABLE s [])
+row s = map (λ t. t.0 ∷ t.1 ∷ row_of t.2 ∷ []) (slice_index_or STATE_TABLE s [])
 
 after_u : row 0 ≡ (7 ∷ 7 ∷ 0 ∷ []) ∷ (7 ∷ 0 ∷ 2 ∷ []) ∷ (7 ∷ 0 ∷ 1 ∷ []) ∷ (7 ∷ 0 ∷ 2 ∷ []) ∷ (7 ∷ 0 ∷ 1 ∷ []) ∷ (7 ∷ 0 ∷ 6 ∷ []) ∷ []
 unfolding row

@@ -5,6 +5,7 @@ use Rattle.shapers_base.specs.declared.plan.joining.hb_arabic_joining_type_t.{hb
 use Rattle.shapers_base.specs.declared.plan.joining.hb_arabic_joining_type_t.TheVariants.{U, L, R, D, GroupAlaph, GroupDalathRish}
 use Rattle.shapers_arabic.specs.Joining.{act}
 use Rattle.shapers_arabic.specs.JoiningWalk.{cell, state_of, kept_or, waits}
+use Rattle.shapers_arabic.specs.declared.ot_shaper_arabic.joining.State.TheVariants.{Start}
 use Rattle.shapers_arabic.specs.declared.ot_shaper_arabic.arabic_action_t.TheConstants.{NONE}
 
 -- the form that the next letter gives
@@ -53,7 +54,7 @@ gives_own (Some _) GroupAlaph _ = refl
 gives_own before _ U = refl
 gives_own before _ _ = refl
 
-pub gives_first : (t : hb_arabic_joining_type_t) → (cell 0 t).1 ≡ act None t None
+pub gives_first : (t : hb_arabic_joining_type_t) → (cell Start t).1 ≡ act None t None
 gives_first U = refl
 gives_first _ = refl
 
@@ -80,7 +81,7 @@ gives_state (Some _) GroupAlaph _ = refl
 gives_state before _ U = refl
 gives_state before _ _ = refl
 
-pub gives_first_state : (t : hb_arabic_joining_type_t) → (cell 0 t).2 ≡ state_of None t
+pub gives_first_state : (t : hb_arabic_joining_type_t) → (cell Start t).2 ≡ state_of None t
 gives_first_state U = refl
 gives_first_state _ = refl
 

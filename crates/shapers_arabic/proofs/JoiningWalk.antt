@@ -5,6 +5,7 @@ use Rattle.std.proofs.Math.Seq.{set-append_seam, take-set-lt}
 use Rattle.std.proofs.lemmas.List.{length-take-le, length-set, take_more, take_more_set, take_all, reverse-append}
 use Rattle.shapers_base.specs.declared.plan.joining.hb_arabic_joining_type_t.{hb_arabic_joining_type_t}
 use Rattle.shapers_base.specs.declared.plan.joining.hb_arabic_joining_type_t.TheVariants.{U, T}
+use Rattle.shapers_arabic.specs.declared.ot_shaper_arabic.joining.State.{State}
 use Rattle.shapers_arabic.specs.declared.ot_shaper_arabic.arabic_action_t.TheConstants.{NONE}
 use Rattle.shapers_arabic.specs.Joining.{is_transparent, nearest, act, forms}
 use Rattle.shapers_arabic.specs.JoiningWalk.{cell, state_of, kept_or, state_at_start, LastLetter, LastIs, WalkedInJoining, IsWithin, given_last, given_by}
@@ -19,7 +20,7 @@ given_middle fs own given tail k long =
       | false ↦ ap (λ n. set (fs ++ own ∷ tail) n given) (sym long) ∙ set-append_seam fs own tail given
     ]
 
-pub given-forms : (before ts : List hb_arabic_joining_type_t) (state : ℕ) (last : Option ℕ) (t : hb_arabic_joining_type_t) (after : List hb_arabic_joining_type_t) → LastIs before ts state last → nearest after ≡ Some t → given_last last (cell state t).0 (forms before ts []) ≡ forms before ts after
+pub given-forms : (before ts : List hb_arabic_joining_type_t) (state : State) (last : Option ℕ) (t : hb_arabic_joining_type_t) (after : List hb_arabic_joining_type_t) → LastIs before ts state last → nearest after ≡ Some t → given_last last (cell state t).0 (forms before ts []) ≡ forms before ts after
 given-forms before ts state None t after l e = forms-transparent before ts [] l.rest ∙ sym (forms-transparent before ts after l.rest)
 given-forms before ts state (Some k) t after l e =
     let seen = nearest (reverse l.front ++ before) in
@@ -43,7 +44,7 @@ nearest-reverse (t ∷ ts) e =
 nearest-none : (before ts : List hb_arabic_joining_type_t) → nearest ts ≡ None → nearest (reverse ts ++ before) ≡ nearest before
 nearest-none before ts e = nearest-transparent (reverse ts) before (nearest-reverse ts e)
 
-nearest-last : (before ts : List hb_arabic_joining_type_t) (state k : ℕ) (l : LastLetter before ts state k) → nearest (reverse ts ++ before) ≡ Some l.own
+nearest-last : (before ts : List hb_arabic_joining_type_t) (state : State) (k : ℕ) (l : LastLetter before ts state k) → nearest (reverse ts ++ before) ≡ Some l.own
 nearest-last before ts state k l =
     let seen = reverse l.front ++ before in
     let turned : reverse (l.own ∷ l.tail) ≡ reverse l.tail ++ l.own ∷ [] = reverse-append (l.own ∷ []) l.tail in
@@ -55,7 +56,7 @@ nearest-last before ts state k l =
     ap nearest order ∙ nearest-transparent (reverse l.tail) (l.own ∷ seen) (nearest-reverse l.tail l.rest) ∙ nearest-letter l.own seen l.letter
 
 -- the next letter's own form, and the state behind it
-pub record Next (state : ℕ) (t : hb_arabic_joining_type_t) (before : Option hb_arabic_joining_type_t) : Type 0 where
+pub record Next (state : State) (t : hb_arabic_joining_type_t) (before : Option hb_arabic_joining_type_t) : Type 0 where
   pub own_is : (cell state t).1 ≡ act before t None
   pub state_is : (cell state t).2 ≡ state_of before t
 
@@ -63,7 +64,7 @@ next-start : (t : hb_arabic_joining_type_t) (o : Option hb_arabic_joining_type_t
 next-start t None = record { own_is = gives_first t; state_is = gives_first_state t }
 next-start t (Some own) = record { own_is = gives_own None own t; state_is = gives_state None own t }
 
-next-after : (before ts : List hb_arabic_joining_type_t) (state : ℕ) (last : Option ℕ) (t : hb_arabic_joining_type_t) → LastIs before ts state last → Next state t (nearest (reverse ts ++ before))
+next-after : (before ts : List hb_arabic_joining_type_t) (state : State) (last : Option ℕ) (t : hb_arabic_joining_type_t) → LastIs before ts state last → Next state t (nearest (reverse ts ++ before))
 next-after before ts state None t l =
     let start : Next (state_at_start (nearest before)) t (nearest before) = next-start t (nearest before) in
     let same : nearest (reverse ts ++ before) ≡ nearest before = nearest-none before ts l.rest in
@@ -83,7 +84,7 @@ next-after before ts state (Some k) t l =
 forms-push : (before ts : List hb_arabic_joining_type_t) (t : hb_arabic_joining_type_t) → forms before (ts ++ t ∷ []) [] ≡ forms before ts (t ∷ []) ++ act (nearest (reverse ts ++ before)) t None ∷ []
 forms-push before ts t = forms-append before ts (t ∷ []) []
 
-last-transparent : (before ts : List hb_arabic_joining_type_t) (state : ℕ) (last : Option ℕ) → LastIs before ts state last → LastIs before (ts ++ T ∷ []) state last
+last-transparent : (before ts : List hb_arabic_joining_type_t) (state : State) (last : Option ℕ) → LastIs before ts state last → LastIs before (ts ++ T ∷ []) state last
 last-transparent before ts state None l = record { rest = nearest-transparent ts (T ∷ []) l.rest; state_is = l.state_is }
 last-transparent before ts state (Some k) l = record {
   front = l.front;
@@ -106,7 +107,7 @@ length-given None given fs = refl
 length-given (Some k) given fs = elim (eqb given NONE) as (λ b. length (cond b fs (set fs k given)) ≡ length fs) [ true ↦ refl | false ↦ length-set fs k given ]
 
 -- the last letter of a text stands inside it
-pub last-within : (before types : List hb_arabic_joining_type_t) (i state : ℕ) (last : Option ℕ) → i ≤ length types → LastIs before (take i types) state last → IsWithin last i
+pub last-within : (before types : List hb_arabic_joining_type_t) (i : ℕ) (state : State) (last : Option ℕ) → i ≤ length types → LastIs before (take i types) state last → IsWithin last i
 last-within before types i state None h l = tt
 last-within before types i state (Some k) h l = omega (arith, l.place, ap length l.split, length-append l.front (l.own ∷ l.tail), length-take-le i types h)
 
@@ -115,16 +116,16 @@ transparent-is T e = refl
 transparent-is U e = cc
 transparent-is _ e = cc
 
-end-at : (before types after : List hb_arabic_joining_type_t) (state : ℕ) (last : Option ℕ) → LastIs before types state last → (o : Option hb_arabic_joining_type_t) → nearest after ≡ o → given_last last (given_by state o) (forms before types []) ≡ forms before types after
+end-at : (before types after : List hb_arabic_joining_type_t) (state : State) (last : Option ℕ) → LastIs before types state last → (o : Option hb_arabic_joining_type_t) → nearest after ≡ o → given_last last (given_by state o) (forms before types []) ≡ forms before types after
 end-at before types after state None l None e = forms-contexts before before types [] after refl (sym e)
 end-at before types after state (Some k) l None e = forms-contexts before before types [] after refl (sym e)
 end-at before types after state last l (Some t) e = given-forms before types state last t after l e
 
 -- the walk begins, goes on over a transparent place, goes on over a letter, and ends
-pub walk-start : (before types : List hb_arabic_joining_type_t) (state : ℕ) (fs : List ℕ) → state ≡ state_at_start (nearest before) → length fs ≡ length types → WalkedInJoining before types 0 state None fs
+pub walk-start : (before types : List hb_arabic_joining_type_t) (state : State) (fs : List ℕ) → state ≡ state_at_start (nearest before) → length fs ≡ length types → WalkedInJoining before types 0 state None fs
 walk-start before types state fs s long = record { last_is = record { rest = refl; state_is = s }; forms_are = refl; long = long }
 
-pub walk-transparent : (before types : List hb_arabic_joining_type_t) (i state : ℕ) (last : Option ℕ) (fs : List ℕ) (t : hb_arabic_joining_type_t) → i < length types → get_or types i U ≡ t → is_transparent t ≡ true → WalkedInJoining before types i state last fs → WalkedInJoining before types (i + 1) state last (set fs i NONE)
+pub walk-transparent : (before types : List hb_arabic_joining_type_t) (i : ℕ) (state : State) (last : Option ℕ) (fs : List ℕ) (t : hb_arabic_joining_type_t) → i < length types → get_or types i U ≡ t → is_transparent t ≡ true → WalkedInJoining before types i state last fs → WalkedInJoining before types (i + 1) state last (set fs i NONE)
 walk-transparent before types i state last fs t h at e w =
     let ts = take i types in
     let own : get_or types i U ≡ T = at ∙ transparent-is t e in
@@ -137,7 +138,7 @@ walk-transparent before types i state last fs t h at e w =
       long = length-set fs i NONE ∙ w.long;
     }
 
-pub walk-letter : (before types : List hb_arabic_joining_type_t) (i state : ℕ) (last : Option ℕ) (fs : List ℕ) (t : hb_arabic_joining_type_t) → i < length types → get_or types i U ≡ t → is_transparent t ≡ false → WalkedInJoining before types i state last fs → WalkedInJoining before types (i + 1) (cell state t).2 (Some i) (set (given_last last (cell state t).0 fs) i (cell state t).1)
+pub walk-letter : (before types : List hb_arabic_joining_type_t) (i : ℕ) (state : State) (last : Option ℕ) (fs : List ℕ) (t : hb_arabic_joining_type_t) → i < length types → get_or types i U ≡ t → is_transparent t ≡ false → WalkedInJoining before types i state last fs → WalkedInJoining before types (i + 1) (cell state t).2 (Some i) (set (given_last last (cell state t).0 fs) i (cell state t).1)
 walk-letter before types i state last fs t h at e w =
     let ts = take i types in
     let given = (cell state t).0 in
@@ -161,7 +162,7 @@ walk-letter before types i state last fs t h at e w =
       long = length-set (given_last last given fs) i (cell state t).1 ∙ length-given last given fs ∙ w.long;
     }
 
-pub walk-end : (before types after : List hb_arabic_joining_type_t) (i state : ℕ) (last : Option ℕ) (fs : List ℕ) → i ≡ length types → WalkedInJoining before types i state last fs → given_last last (given_by state (nearest after)) fs ≡ forms before types after
+pub walk-end : (before types after : List hb_arabic_joining_type_t) (i : ℕ) (state : State) (last : Option ℕ) (fs : List ℕ) → i ≡ length types → WalkedInJoining before types i state last fs → given_last last (given_by state (nearest after)) fs ≡ forms before types after
 walk-end before types after i state last fs at w =
     let all : take i types ≡ types = take_all i types (omega arith) in
     let done : fs ≡ forms before types [] = sym (take_all i fs (omega (arith, w.long))) ∙ w.forms_are ∙ ap (λ us. forms before us []) all in
@@ -177,6 +178,6 @@ not-transparent T n = absurd (n refl)
 not-transparent U n = refl
 not-transparent _ n = refl
 
-pub walked-at : (before types : List hb_arabic_joining_type_t) (i state other : ℕ) (last behind : Option ℕ) (fs gs : List ℕ) → WalkedInJoining before types i state last fs → other ≡ state → behind ≡ last → gs ≡ fs → WalkedInJoining before types i other behind gs
+pub walked-at : (before types : List hb_arabic_joining_type_t) (i : ℕ) (state other : State) (last behind : Option ℕ) (fs gs : List ℕ) → WalkedInJoining before types i state last fs → other ≡ state → behind ≡ last → gs ≡ fs → WalkedInJoining before types i other behind gs
 walked-at before types i state other last behind fs gs w s l f =
     subst (λ hs. WalkedInJoining before types i other behind hs) (sym f) (subst (λ k. WalkedInJoining before types i other k fs) (sym l) (subst (λ n. WalkedInJoining before types i n last fs) (sym s) w))

@@ -27,6 +27,7 @@ pub mod MarkLaws
 pub mod MarkLists
 pub mod MarkMoves
 mod MarkRows
+mod Neighbours
 pub mod OwnForms
 mod PlanRows
 mod RequestRows

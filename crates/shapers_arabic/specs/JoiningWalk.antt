@@ -1,6 +1,6 @@
 -- Words for the walk along the letters of a text, which the contracts of its steps cite: the
 -- table's cells and states, and what holds after some places.
-use Rattle.std.specs.Prelude.{◌≡◌, ℕ, suc, ◌+◌, ◌-◌, ◌<◌, ◌==◌, nat_le, map, Bool, false, ◌&&◌, ◌||◌, List, [], ◌∷◌, ◌++◌, length, take, reverse, slice_set, slice_index_or, Option, None, Some, if◌then◌else◌}
+use Rattle.std.specs.Prelude.{◌≡◌, ℕ, suc, ◌+◌, ◌-◌, ◌<◌, ◌==◌, map, Bool, true, false, ◌||◌, List, [], ◌∷◌, ◌++◌, length, take, reverse, slice_set, slice_index_or, Option, None, Some, if◌then◌else◌}
 use Rattle.std.specs.List.{AllByRecursion}
 use Rattle.shapers_buffer.specs.Buffer.{flags_concat, flags_tatweel, has_flag}
 use Rattle.shapers_buffer.specs.GlyphFlags.{FlagCall, UnsafeToBreak, UnsafeToConcat, SafeToInsertTatweel, flags_called}
@@ -14,6 +14,8 @@ use Rattle.shapers_buffer.specs.declared.buffer.tag.Script.{Script}
 use Rattle.shapers_arabic.specs.declared.ot_shaper_arabic.arabic_action_t.TheConstants.{NONE}
 use Rattle.shapers_arabic.specs.declared.ot_shaper_arabic.joining.TheConstants.{STATE_TABLE}
 use Rattle.shapers_arabic.specs.declared.ot_shaper_arabic.joining.Letters.{Letters}
+use Rattle.shapers_arabic.specs.declared.ot_shaper_arabic.joining.State.{State}
+use Rattle.shapers_arabic.specs.declared.ot_shaper_arabic.joining.State.TheVariants.{Start, Closed, Initial, Medial, JoinedAlaph, LaterAlaph, DalathRish}
 use Rattle.shapers_arabic.specs.declared.ot_shaper_arabic.joining.Transition.{Transition}
 use Rattle.shapers_arabic.specs.JoinedText.{is_mongolian, joined_glyphs, stored_types}
 use Rattle.shapers_arabic.specs.JoiningFlags.{flags_along, joining_flags}
@@ -29,40 +31,51 @@ column_of GroupAlaph = 4
 column_of GroupDalathRish = 5
 column_of _ = 0
 
+-- the row of a state
+abbrev pub row_of : State → ℕ
+row_of Start = 0
+row_of Closed = 1
+row_of Initial = 2
+row_of Medial = 3
+row_of JoinedAlaph = 4
+row_of LaterAlaph = 5
+row_of DalathRish = 6
+
 -- the cell of a state and a letter
-abbrev pub cell : ℕ → hb_arabic_joining_type_t → Transition
-cell state t = slice_index_or (slice_index_or STATE_TABLE state []) (column_of t)
-    (record { 0 = NONE; 1 = NONE; 2 = 0 })
+abbrev pub cell : State → hb_arabic_joining_type_t → Transition
+cell state t = slice_index_or (slice_index_or STATE_TABLE (row_of state) []) (column_of t)
+    (record { 0 = NONE; 1 = NONE; 2 = Start })
 
 -- the state behind an Alaph, by the letter before it
-abbrev pub alaph_state : Option hb_arabic_joining_type_t → ℕ
-alaph_state (Some L) = 4
-alaph_state (Some D) = 4
-alaph_state (Some R) = 5
-alaph_state (Some GroupAlaph) = 5
-alaph_state (Some GroupDalathRish) = 5
-alaph_state _ = 1
+abbrev pub alaph_state : Option hb_arabic_joining_type_t → State
+alaph_state (Some L) = JoinedAlaph
+alaph_state (Some D) = JoinedAlaph
+alaph_state (Some R) = LaterAlaph
+alaph_state (Some GroupAlaph) = LaterAlaph
+alaph_state (Some GroupDalathRish) = LaterAlaph
+alaph_state _ = Closed
 
 -- the state behind a letter, by the letter before it
-abbrev pub state_of : Option hb_arabic_joining_type_t → hb_arabic_joining_type_t → ℕ
-state_of before L = 2
-state_of before R = 1
-state_of before D = if joins_on before then 3 else 2
+abbrev pub state_of : Option hb_arabic_joining_type_t → hb_arabic_joining_type_t → State
+state_of before L = Initial
+state_of before R = Closed
+state_of before D = if joins_on before then Medial else Initial
 state_of before GroupAlaph = alaph_state before
-state_of before GroupDalathRish = 6
-state_of before _ = 0
+state_of before GroupDalathRish = DalathRish
+state_of before _ = Start
 
 -- the form of a letter once the next one gave it another, or NONE to keep it
 abbrev pub kept_or : ℕ → ℕ → ℕ
 kept_or given own = if given == NONE then own else given
 
 -- the state before a text, by the nearest type before it
-abbrev pub state_at_start : Option hb_arabic_joining_type_t → ℕ
-state_at_start None = 0
+abbrev pub state_at_start : Option hb_arabic_joining_type_t → State
+state_at_start None = Start
 state_at_start (Some t) = state_of None t
 
 -- the last letter of a text stands at place k, and left this state
-pub record LastLetter (before ts : List hb_arabic_joining_type_t) (state k : ℕ) : Type 0 where
+pub record LastLetter (before ts : List hb_arabic_joining_type_t) (state : State) (k : ℕ) :
+    Type 0 where
   pub front : List hb_arabic_joining_type_t
   pub own : hb_arabic_joining_type_t
   pub tail : List hb_arabic_joining_type_t
@@ -73,12 +86,12 @@ pub record LastLetter (before ts : List hb_arabic_joining_type_t) (state k : ℕ
   pub state_is : state ≡ state_of (nearest (reverse front ++ before)) own
 
 -- a text without a letter left the state before it
-pub record NoLetter (before ts : List hb_arabic_joining_type_t) (state : ℕ) : Type 0 where
+pub record NoLetter (before ts : List hb_arabic_joining_type_t) (state : State) : Type 0 where
   pub rest : nearest ts ≡ None
   pub state_is : state ≡ state_at_start (nearest before)
 
-abbrev pub LastIs : List hb_arabic_joining_type_t → List hb_arabic_joining_type_t → ℕ → Option ℕ →
-    Type 0
+abbrev pub LastIs : List hb_arabic_joining_type_t → List hb_arabic_joining_type_t → State →
+    Option ℕ → Type 0
 LastIs before ts state None = NoLetter before ts state
 LastIs before ts state (Some k) = LastLetter before ts state k
 
@@ -97,15 +110,19 @@ abbrev pub written : List hb_glyph_info_t → List ℕ
 written gs = map (λ g. g.auxiliary) gs
 
 -- what holds after i places
-pub record WalkedInJoining (before types : List hb_arabic_joining_type_t) (i state : ℕ)
+pub record WalkedInJoining (before types : List hb_arabic_joining_type_t) (i : ℕ) (state : State)
     (last : Option ℕ) (fs : List ℕ) : Type 0 where
   pub last_is : LastIs before (take i types) state last
   pub forms_are : take i fs ≡ forms before (take i types) []
   pub long : length fs ≡ length types
 
 -- whether the form of the last letter may still change, by the state that it left
-abbrev pub waits : ℕ → Bool
-waits state = nat_le 2 state && nat_le state 5
+abbrev pub waits : State → Bool
+waits Initial = true
+waits Medial = true
+waits JoinedAlaph = true
+waits LaterAlaph = true
+waits _ = false
 
 -- the flag calls where a letter that ends at the place end gives the last one, at k, this form, or
 -- NONE, where that one's form may depend on such a letter
@@ -115,7 +132,7 @@ given_flags k end given depends =
     else SafeToInsertTatweel k end ∷ []
 
 -- the same, where there may be no last letter, and by whether the letter joins back
-abbrev pub step_flags : Option ℕ → ℕ → ℕ → ℕ → Bool → List FlagCall
+abbrev pub step_flags : Option ℕ → State → ℕ → ℕ → Bool → List FlagCall
 step_flags None state end given joins = if joins then UnsafeToConcat 0 end ∷ [] else []
 step_flags (Some k) state end given joins = given_flags k end given (joins || waits state)
 
@@ -141,7 +158,7 @@ SameText gs hs = map unjoined hs ≡ map unjoined gs
 -- what holds after i places of the first glyphs, which are gs by now: forms and flags of the text
 -- so far
 pub record WalkedTo (flags : BufferFlags) (before types : List hb_arabic_joining_type_t)
-    (first : List hb_glyph_info_t) (i state : ℕ) (last : Option ℕ)
+    (first : List hb_glyph_info_t) (i : ℕ) (state : State) (last : Option ℕ)
     (gs : List hb_glyph_info_t) : Type 0 where
   pub walked : WalkedInJoining before types i state last (written gs)
   pub flagged : FlaggedBy flags (flags_along before [] (take i types)) first gs
@@ -157,8 +174,8 @@ WalksOn flags i t letters gs next hs =
     WalkedTo flags before types first (i + 1) next.state next.last hs
 
 -- the walk over all glyphs from this state on, behind all contexts that leave it
-abbrev pub WalksAll : BufferFlags → (ℕ → hb_arabic_joining_type_t) → ℕ → List hb_glyph_info_t →
-    Letters → List hb_glyph_info_t → Type 0
+abbrev pub WalksAll : BufferFlags → (ℕ → hb_arabic_joining_type_t) → State →
+    List hb_glyph_info_t → Letters → List hb_glyph_info_t → Type 0
 WalksAll flags joining state gs letters hs =
     (before : List hb_arabic_joining_type_t) → state ≡ state_at_start (nearest before) →
     WalkedTo flags before (stored_types joining gs) gs (length gs) letters.state letters.last hs
@@ -184,7 +201,7 @@ IsWithin None i = Unit {0}
 IsWithin (Some k) i = k < i
 
 -- the form that the nearest letter after the text gives
-abbrev pub given_by : ℕ → Option hb_arabic_joining_type_t → ℕ
+abbrev pub given_by : State → Option hb_arabic_joining_type_t → ℕ
 given_by state None = NONE
 given_by state (Some t) = (cell state t).0
 

@@ -8,12 +8,13 @@ use Rattle.shapers_base.specs.declared.plan.arabic.StretchStart.TheVariants as s
 use Rattle.shapers_base.specs.declared.plan.arabic.arabic_shape_plan_t.{arabic_shape_plan_t}
 use Rattle.shapers_base.specs.declared.plan.breaks.BreakFlags.TheVariants as breaks
 use Rattle.shapers_base.specs.declared.plan.hangul.hangul_shape_plan_t.{hangul_shape_plan_t}
+use Rattle.shapers_base.specs.declared.plan.indic.BaseSearch.TheVariants.{WithoutMedials}
 use Rattle.shapers_base.specs.declared.plan.indic.indic_shape_plan_t.{indic_shape_plan_t}
 use Rattle.shapers_base.specs.declared.plan.khmer.khmer_shape_plan_t.{khmer_shape_plan_t}
 use Rattle.shapers_base.specs.declared.plan.universal.use_shape_plan_t.{use_shape_plan_t}
 
 -- a new plan keeps no data, and GPOS places no marks
-fields : (s : Option Script) (m : Map) → new_plan s m ≡ record { script = s; ot_map = m; has_gpos_mark = false; stretch_start = starts.AsCode; break_flags = breaks.AsCode; plan_data = data_of.None }
+fields : (s : Option Script) (m : Map) → new_plan s m ≡ record { script = s; ot_map = m; has_gpos_mark = false; stretch_start = starts.AsCode; break_flags = breaks.AsCode; base_search = WithoutMedials; plan_data = data_of.None }
 fields s m = refl
 
 -- each shaper's data, and those of all the others: first of a plan without any

@@ -7,6 +7,7 @@ use Rattle.shapers_base.specs.declared.plan.arabic.arabic_shape_plan_t.{arabic_s
 use Rattle.shapers_base.specs.declared.plan.breaks.BreakFlags.TheVariants as breaks
 use Rattle.shapers_base.specs.declared.plan.hangul.hangul_shape_plan_t.{hangul_shape_plan_t}
 use Rattle.shapers_base.specs.declared.plan.hb_ot_shape_plan_t.{hb_ot_shape_plan_t}
+use Rattle.shapers_base.specs.declared.plan.indic.BaseSearch.TheVariants.{WithoutMedials}
 use Rattle.shapers_base.specs.declared.plan.indic.indic_shape_plan_t.{indic_shape_plan_t}
 use Rattle.shapers_base.specs.declared.plan.khmer.khmer_shape_plan_t.{khmer_shape_plan_t}
 use Rattle.shapers_base.specs.declared.plan.universal.use_shape_plan_t.{use_shape_plan_t}
@@ -21,6 +22,7 @@ new_plan s m = record {
   has_gpos_mark = false;
   stretch_start = starts.AsCode;
   break_flags = breaks.AsCode;
+  base_search = WithoutMedials;
   plan_data = data_of.None;
 }
 

@@ -1,5 +1,5 @@
 //! The map from features to masks and lookups, as far as the shapers read it. It knows GSUB alone.
-ghost use Rattle.std.specs.Prelude.{◌≡◌, ◌≤◌, ◌%◌, ◌==◌, length, IfOk, IsOkUnless, None, Some, false, slice_get, find, if◌then◌else◌};
+ghost use Rattle.std.specs.Prelude.{◌≡◌, ◌≤◌, ◌%◌, ◌==◌, length, IfOk, IsOk, IsOkUnless, None, Some, false, slice_get, find, if◌then◌else◌};
 ghost use Rattle.shapers_buffer.specs.declared.buffer.refusal.ShaperError.TheVariants.{Memory};
 ghost use Rattle.shapers_base.specs.Map.{Map, of_gsub, can_be_map, can_be_stage, is_off_flags, mask_of, stage_of, range_of, no_range, same_tag, lookups_in};
 ghost use Rattle.std.specs.List.{list_all};
@@ -116,6 +116,10 @@ impl hb_ot_map_t {
 
     /// A map of copies of these, by the same rule as `new`. The only refusal is `Memory`, and none
     /// comes where they can't be a map's.
+    ///
+    /// # Errors
+    ///
+    /// `Memory`.
     pub fn from_slices(
         alloc: Global,
         features: &[feature_map_t],
@@ -135,6 +139,15 @@ impl hb_ot_map_t {
         } in
             IfOk result (λ answer. answer ≡ (if can_be_map map then Some map else None)) }
         ensures refusal { IsOkUnless result Memory }
+        ensures none { let map : Map = record {
+          features = features.now;
+          stages = stages.now;
+          lookups = lookups.now;
+          global = global_mask;
+          chosen = chosen_script;
+          found = found_script;
+        } in
+            can_be_map map ≡ false → IsOk result }
     {
         if !are_ranges(stages, lookups.len()) || !are_off_flags(features) {
             return Ok(None);

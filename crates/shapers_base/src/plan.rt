@@ -25,7 +25,8 @@ pub use arabic::{StretchStart, arabic_shape_plan_t};
 pub use breaks::BreakFlags;
 pub use hangul::hangul_shape_plan_t;
 pub use indic::{
-    BlwfMode, IndicConfig, IndicWouldSubstituteFeature, RephMode, RephPosition, indic_shape_plan_t,
+    BaseSearch, BlwfMode, IndicConfig, IndicWouldSubstituteFeature, RephMode, RephPosition,
+    indic_shape_plan_t,
 };
 pub use joining::hb_arabic_joining_type_t;
 pub use khmer::khmer_shape_plan_t;
@@ -54,13 +55,16 @@ pub struct hb_ot_shape_plan_t {
     pub stretch_start: StretchStart,
     /// Which places are flagged unsafe to break.
     pub break_flags: BreakFlags,
+    /// Among which consonants Indic looks for the base of a syllable.
+    pub base_search: BaseSearch,
     /// What the shaper itself keeps.
     pub plan_data: PlanData,
 }
 
 impl hb_ot_shape_plan_t {
     /// A plan whose shaper keeps nothing yet, for a font whose GPOS places no marks; tiles begin
-    /// and breaks are flagged as the code of HarfBuzz has it.
+    /// and breaks are flagged as the code of HarfBuzz has it, and Indic's base is looked for as in
+    /// rustybuzz 0.20.1.
     #[inline]
     pub fn new(script: Option<Script>, ot_map: hb_ot_map_t) -> Self
         ensures { result ≡ new_plan script ot_map }
@@ -71,6 +75,7 @@ impl hb_ot_shape_plan_t {
             has_gpos_mark: false,
             stretch_start: StretchStart::AsCode,
             break_flags: BreakFlags::AsCode,
+            base_search: BaseSearch::WithoutMedials,
             plan_data: PlanData::None,
         }
     }

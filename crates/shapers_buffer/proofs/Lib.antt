@@ -20,3 +20,7 @@ mod SettingsRows
 pub mod SyllableLaws
 pub mod SyllableLemmas
 mod SyllableRows
+pub mod Picks
+pub mod Placements
+pub mod Ranges
+mod Turning

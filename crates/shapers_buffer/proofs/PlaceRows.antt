@@ -1,6 +1,7 @@
 -- The placement list, computed on small ones.
 use Rattle.std.specs.Prelude.{◌≡◌, ℕ, [], ◌∷◌, map, refl}
-use Rattle.shapers_buffer.specs.Places.{listed, pick, place_at, placed, with_place, without_last_zeros}
+use Rattle.shapers_buffer.specs.Places.{brought_forward, listed, pick, place_at, placed, placed_by, places_of, with_place, without_last_zeros}
+use Rattle.shapers_buffer.specs.declared.buffer.placement.Placement.TheVariants.{Forward, Listed, Stays}
 
 -- a place is written at its number alone; places before it that were never written read 0
 written_first : with_place 0 3 [] ≡ 3 ∷ []
@@ -51,3 +52,46 @@ no_stretch = refl
 -- places are picked in their order, as often as they are named
 picked : pick {X = ℕ} (2 ∷ 0 ∷ 2 ∷ []) (10 ∷ 11 ∷ 12 ∷ []) ≡ 12 ∷ 10 ∷ 12 ∷ []
 picked = refl
+
+-- A PLACEMENT's places: each its own
+own_places : places_of Stays 2 5 (9 ∷ 9 ∷ 9 ∷ 9 ∷ []) ≡ 2 ∷ 3 ∷ 4 ∷ []
+own_places = refl
+
+-- one glyph comes past three, and two past two, behind what stands before them and before what
+-- stands behind; the list isn't read
+one_comes : places_of (Forward 3 6 1) 2 9 (9 ∷ 9 ∷ 9 ∷ 9 ∷ []) ≡ 2 ∷ 6 ∷ 3 ∷ 4 ∷ 5 ∷ 7 ∷ 8 ∷ []
+one_comes = refl
+
+pair_comes : places_of (Forward 2 4 2) 2 7 [] ≡ 4 ∷ 5 ∷ 2 ∷ 3 ∷ 6 ∷ []
+pair_comes = refl
+
+-- one goes back past three: those three come
+one_goes : places_of (Forward 2 3 3) 2 7 [] ≡ 3 ∷ 4 ∷ 5 ∷ 2 ∷ 6 ∷ []
+one_goes = refl
+
+-- from the first place to the last
+whole_syllable : places_of (Forward 0 3 1) 0 4 [] ≡ 3 ∷ 0 ∷ 1 ∷ 2 ∷ []
+whole_syllable = refl
+
+-- none comes, or past none
+none_comes : places_of (Forward 3 5 0) 2 7 [] ≡ 2 ∷ 3 ∷ 4 ∷ 5 ∷ 6 ∷ []
+none_comes = refl
+
+past_none : places_of (Forward 3 3 2) 2 7 [] ≡ 2 ∷ 3 ∷ 4 ∷ 5 ∷ 6 ∷ []
+past_none = refl
+
+listed_places : places_of Listed 1 4 (0 ∷ 2 ∷ 3 ∷ 1 ∷ []) ≡ 2 ∷ 3 ∷ 1 ∷ []
+listed_places = refl
+
+-- what a placement makes of a list: what stands outside stays
+placed_coming : placed_by {X = ℕ} (Forward 2 3 2) 1 6 [] (10 ∷ 11 ∷ 12 ∷ 13 ∷ 14 ∷ 15 ∷ 16 ∷ []) ≡ 10 ∷ 11 ∷ 13 ∷ 14 ∷ 12 ∷ 15 ∷ 16 ∷ []
+placed_coming = refl
+
+placed_staying : placed_by {X = ℕ} Stays 1 3 (2 ∷ 1 ∷ 0 ∷ []) (10 ∷ 11 ∷ 12 ∷ 13 ∷ []) ≡ 10 ∷ 11 ∷ 12 ∷ 13 ∷ []
+placed_staying = refl
+
+placed_listed : placed_by {X = ℕ} Listed 1 4 (0 ∷ 2 ∷ 3 ∷ 1 ∷ []) (10 ∷ 11 ∷ 12 ∷ 13 ∷ 14 ∷ []) ≡ 10 ∷ 12 ∷ 13 ∷ 11 ∷ 14 ∷ []
+placed_listed = refl
+
+brought : brought_forward {X = ℕ} 1 3 2 (10 ∷ 11 ∷ 12 ∷ 13 ∷ 14 ∷ 15 ∷ []) ≡ 10 ∷ 13 ∷ 14 ∷ 11 ∷ 12 ∷ 15 ∷ []
+brought = refl

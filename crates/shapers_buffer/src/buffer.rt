@@ -38,9 +38,10 @@ pub use glyph_flags::{
     glyph_flag, safe_to_insert_tatweel_in, unsafe_to_break_in, unsafe_to_concat_in,
 };
 pub use glyph_marks::GlyphMarks;
-pub use laws::{marks_are_set_alone, places_are_written, syllables_are_runs};
+pub use laws::{marks_are_set_alone, parts_change_places, places_are_written, syllables_are_runs};
 pub use level::{BufferClusterLevel, Direction};
 pub use merging::{least_cluster, merge_clusters_in};
+pub use placement::Placement;
 pub use refusal::ShaperError;
 pub use replacing::GlyphRewriting;
 pub use settings::{BufferSettings, context_characters};
@@ -165,6 +166,10 @@ impl hb_buffer_t {
     }
 
     /// The glyph at place `i`.
+    ///
+    /// # Panics
+    ///
+    /// Where `i` is no place of the buffer.
     #[inline]
     pub fn get(&self, i: usize) -> hb_glyph_info_t
         requires { i < length self.now.glyphs }
@@ -174,6 +179,10 @@ impl hb_buffer_t {
     }
 
     /// Puts a glyph at place `i`.
+    ///
+    /// # Panics
+    ///
+    /// Where `i` is no place of the buffer.
     #[inline]
     pub fn set(&mut self, i: usize, glyph: hb_glyph_info_t)
         requires { i < length self.old.glyphs }
@@ -183,6 +192,11 @@ impl hb_buffer_t {
     }
 
     /// Adds a glyph at the end of a buffer without positions.
+    ///
+    /// # Errors
+    ///
+    /// `TooLong` where the buffer would be longer than `max_len`, `Memory` where memory is
+    /// refused; nothing has changed then.
     #[inline]
     pub fn push(&mut self, glyph: hb_glyph_info_t) -> Result<(), ShaperError>
         requires { self.old.positions ≡ [] }
@@ -200,6 +214,11 @@ impl hb_buffer_t {
     }
 
     /// Adds `n` default glyphs at the end and, unless there are no positions, `n` zero positions.
+    ///
+    /// # Errors
+    ///
+    /// `TooLong` where the buffer would be longer than `max_len`, `Memory` where memory is
+    /// refused; nothing has changed then.
     #[inline]
     pub fn grow(&mut self, n: usize) -> Result<(), ShaperError>
         ensures ok { OnOk result (self.new ≡ grown n self.old) }
@@ -215,7 +234,7 @@ impl hb_buffer_t {
         if !self.pos.is_empty() {
             self.pos.resize(len, GlyphPosition::ZERO)?;
         }
-        self.info.resize(len, hb_glyph_info_t::DEFAULT).unwrap();
+        self.info.resize(len, hb_glyph_info_t::DEFAULT)?;
         Ok(())
     }
 
@@ -233,6 +252,10 @@ impl hb_buffer_t {
     }
 
     /// An equal buffer.
+    ///
+    /// # Errors
+    ///
+    /// `Memory`.
     #[inline]
     pub fn copy(&self) -> Result<Self, ShaperError>
         ensures ok { IfOk result (λ copy. copy ≡ self.now) }

@@ -14,6 +14,7 @@ use Rattle.shapers_clusters.specs.Cuts.{EndWithin, held}
 use Rattle.shapers_buffer.specs.Places.{pick}
 use Rattle.shapers_clusters.specs.Steps.{Step, run_step, run_steps, moved_on, old_places, FitsStep, FitSteps, MovesInside, MovesMerged, shifted, widened, steps_along, reordered_along}
 use Rattle.shapers_buffer.proofs.MappedLists.{all-append, all-mapped, all-range}
+pub use Rattle.shapers_buffer.proofs.Ranges.{range-append}
 use Rattle.shapers_clusters.proofs.Picks.{length-pick, pick-map, pick-append, pick-range, pick-within, some_element}
 use Rattle.shapers_clusters.proofs.Moves.{order_view-run_steps, falls-run_steps, length-old_places, within-old_places}
 
@@ -141,13 +142,6 @@ moved-widened s e n (step ∷ steps) front olds rest h a b c f =
     let k : length (pick step.places olds) ≡ e - s = length-pick step.places olds (subst P (sym b) f.0.within) ∙ f.0.as_many in
     ap (moved_on (map (widened s e n) steps)) (pick-parts s e n step front (map (λ p. s + p) olds) rest h a m c f.0 ∙ ap (λ ys. front ++ (ys ++ rest)) (pick-map (λ p. s + p) step.places olds))
     ∙ moved-widened s e n steps front (pick step.places olds) rest h a k c f.1
-
-pub range-append : (a j k : ℕ) → range_with_len a (j + k) ≡ range_with_len a j ++ range_with_len (a + j) k
-range-append a zero k = let i : 0 + k ≡ k = omega arith in let j : a ≡ a + 0 = omega arith in ap (range_with_len a) i ∙ ap (λ x. range_with_len x k) j
-range-append a (suc j) k =
-    let i : suc j + k ≡ suc (j + k) = omega arith in
-    let l : a + 1 + j ≡ a + suc j = omega arith in
-    ap (range_with_len a) i ∙ ap (λ ys. a ∷ ys) (range-append (a + 1) j k ∙ ap (λ x. range_with_len (a + 1) j ++ range_with_len x k) l)
 
 pub map-range : (s a k : ℕ) → map (λ p. s + p) (range_with_len a k) ≡ range_with_len (s + a) k
 map-range s a zero = refl

@@ -85,6 +85,11 @@ pub fn preprocess_text<F: hb_font_t>(
 
 /// `preprocess_text`, which returns whether it rewrote the text: just where every character stays as
 /// it is, it returns false, and has changed nothing.
+///
+/// # Errors
+///
+/// `TooLong` where the buffer would be longer than `max_len`, `Memory` where memory is refused;
+/// nothing has changed then.
 #[inline]
 pub fn preprocess_text_changes<F: hb_font_t>(
     _plan: &hb_ot_shape_plan_t,
@@ -169,6 +174,6 @@ pub fn setup_masks(plan: &hb_ot_shape_plan_t, buffer: &mut hb_buffer_t)
             };
             buffer.change_each(0, buffer.len(), &masks);
         }
-        _ => unreachable!(),
+        _ => unreachable!("the plan has no data of the Hangul shaper"),
     }
 }

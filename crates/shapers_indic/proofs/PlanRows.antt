@@ -5,6 +5,7 @@ use Rattle.shapers_buffer.specs.declared.buffer.tag.Script.{Script}
 use Rattle.shapers_buffer.specs.declared.buffer.tag.hb_tag_t.{hb_tag_t}
 use Rattle.shapers_base.specs.Map.{Map}
 use Rattle.shapers_base.specs.declared.map.feature_map_t.{feature_map_t}
+use Rattle.shapers_base.specs.declared.plan.indic.BaseSearch.TheVariants.{WithoutMedials, AllConsonants}
 use Rattle.shapers_base.specs.declared.plan.indic.BlwfMode.TheVariants.{PreAndPost, PostOnly}
 use Rattle.shapers_base.specs.declared.plan.indic.IndicConfig.{IndicConfig}
 use Rattle.shapers_base.specs.declared.plan.indic.RephMode.TheVariants.{Implicit, Explicit, LogRepha}
@@ -82,9 +83,10 @@ no_masks : feature_masks (map_with [] None) ≡ 0 ∷ 0 ∷ 0 ∷ 0 ∷ 0 ∷ 0 
 no_masks = refl
 
 -- the whole plan: each question about the lookups of its own stage, with the plan's context
-whole_plan : indic_plan (script "Beng") (map_with (feature "rphf" 8 0 ∷ feature "blwf" 16 1 ∷ feature "vatu" 32 0 ∷ feature "half" 64 1 ∷ []) (Some (record { 0 = codes "beng" }))) ≡ record {
+whole_plan : indic_plan AllConsonants (script "Beng") (map_with (feature "rphf" 8 0 ∷ feature "blwf" 16 1 ∷ feature "vatu" 32 0 ∷ feature "half" 64 1 ∷ []) (Some (record { 0 = codes "beng" }))) ≡ record {
   config = record { script = script "Beng"; has_old_spec = true; virama = 0x09CD; reph_pos = AfterSub; reph_mode = Implicit; blwf_mode = PreAndPost };
   is_old_spec = true;
+  base_search = AllConsonants;
   rphf = record { lookups = record { start = 0; end = 2 }; zero_context = true };
   pref = record { lookups = record { start = 0; end = 0 }; zero_context = true };
   blwf = record { lookups = record { start = 2; end = 3 }; zero_context = true };
@@ -93,3 +95,10 @@ whole_plan : indic_plan (script "Beng") (map_with (feature "rphf" 8 0 ∷ featur
   mask_array = 0 ∷ 0 ∷ 8 ∷ 0 ∷ 0 ∷ 16 ∷ 0 ∷ 64 ∷ 0 ∷ 0 ∷ 0 ∷ 0 ∷ 0 ∷ 0 ∷ 0 ∷ 0 ∷ 0 ∷ [];
 }
 whole_plan = refl
+
+-- the caller's choice is kept, and nothing else depends on it
+each_search : (t : String) (m : Map) → record (indic_plan WithoutMedials (script t) m) { base_search = AllConsonants } ≡ indic_plan AllConsonants (script t) m
+each_search t m = refl
+
+other_search : (t : String) (m : Map) → (indic_plan WithoutMedials (script t) m).base_search ≡ WithoutMedials
+other_search t m = refl

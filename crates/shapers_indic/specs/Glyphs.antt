@@ -1,5 +1,5 @@
 -- The words on glyphs and places that both reorderings use.
-use Rattle.std.specs.Prelude.{ℕ, ◌-◌, ◌%◌, ◌==◌, Bool, ◌&&◌, false, not, List, [], ◌∷◌, map, find, reverse, Option}
+use Rattle.std.specs.Prelude.{ℕ, ◌-◌, ◌==◌, Bool, ◌&&◌, false, not, List, [], ◌∷◌, map, find, min, reverse, Option}
 use Rattle.std.specs.List.{list_any, range_with_len, slice_get}
 use Rattle.std.specs.Option.{option_map_or}
 use Rattle.shapers_buffer.specs.declared.buffer.glyph.hb_glyph_info_t.{hb_glyph_info_t}
@@ -8,9 +8,10 @@ use Rattle.shapers_base.specs.declared.font.GlyphId.{GlyphId}
 use Rattle.shapers_base.specs.declared.plan.ot_category_t.TheConstants.{OT_C, OT_M, OT_MPst, OT_ZWJ, OT_ZWNJ}
 use Rattle.shapers_base.specs.declared.plan.ot_position_t.TheConstants.{POS_BASE_C}
 
--- glyphs by their numbers, as fonts take them: those of fonts have 16 bits
+-- Glyphs by their numbers, as fonts take them. A font has at most 65,535 glyphs, so none has the
+-- number 65535: every greater number is queried as that one.
 abbrev pub number : hb_glyph_info_t → GlyphId
-number g = record { 0 = g.glyph_id % 65536 }
+number g = record { 0 = min g.glyph_id 65535 }
 
 abbrev pub numbers : List hb_glyph_info_t → List GlyphId
 numbers gs = map number gs

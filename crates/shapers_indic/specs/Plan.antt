@@ -11,6 +11,7 @@ use Rattle.shapers_base.specs.declared.map.TheConstants.{F_GLOBAL}
 use Rattle.shapers_base.specs.declared.plan.PlanData.{PlanData}
 use Rattle.shapers_base.specs.declared.plan.hb_ot_shape_plan_t.{hb_ot_shape_plan_t}
 use Rattle.shapers_base.specs.declared.plan.PlanData.TheVariants.{Indic}
+use Rattle.shapers_base.specs.declared.plan.indic.BaseSearch.{BaseSearch}
 use Rattle.shapers_base.specs.declared.plan.indic.BlwfMode.{BlwfMode}
 use Rattle.shapers_base.specs.declared.plan.indic.BlwfMode.TheVariants.{PreAndPost, PostOnly}
 use Rattle.shapers_base.specs.declared.plan.indic.IndicConfig.{IndicConfig}
@@ -102,11 +103,12 @@ feature_masks m = map (mask_for m) (indic_basic_features ++ other_features)
 abbrev pub question : Option Script → Map → String → IndicWouldSubstituteFeature
 question script m tag = question_for (record { 0 = codes tag }) (zero_context script m) m
 
--- the plan
-abbrev pub indic_plan : Option Script → Map → indic_shape_plan_t
-indic_plan script m = record {
+-- the plan; the caller says among which consonants the base is looked for
+abbrev pub indic_plan : BaseSearch → Option Script → Map → indic_shape_plan_t
+indic_plan search script m = record {
   config = config_of script;
   is_old_spec = has_old_spec script m;
+  base_search = search;
   rphf = question script m "rphf";
   pref = question script m "pref";
   blwf = question script m "blwf";
@@ -126,7 +128,7 @@ indic_data otherwise (Indic kept) = kept
 indic_data otherwise _ = otherwise
 
 abbrev pub indic_in : hb_ot_shape_plan_t → indic_shape_plan_t
-indic_in plan = indic_data (indic_plan plan.script plan.ot_map) plan.plan_data
+indic_in plan = indic_data (indic_plan plan.base_search plan.script plan.ot_map) plan.plan_data
 
 -- the bits that a feature gives: its mask, but for the glyph flags
 abbrev pub bits_at : List ℕ → ℕ → ℕ

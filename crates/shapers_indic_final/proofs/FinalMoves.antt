@@ -1,16 +1,17 @@
 -- One glyph moved to the other end of a stretch.
 use Rattle.std.proofs.Common.{◌≡◌, ℕ, suc, ◌+◌, ◌-◌, ◌<◌, ◌≤◌, List, [], ◌∷◌, ◌++◌, length, take, drop, get_or, reverse, sym, ap, ◌∙◌, arith, length-drop, take-append-drop}
-use borrow.Rule.Slice.PartMut.{put_mid}
 use Rattle.std.specs.List.{range_with_len, slice_rotate_right}
 use Rattle.std.specs.List.Sorted.{IsPermutation}
-use Rattle.std.proofs.lemmas.List.{drop-drop, length-take-le, reverse-append, reverse-reverse}
+use Rattle.std.proofs.lemmas.List.{length-take-le, reverse-append, reverse-reverse}
 use Rattle.std.proofs.lemmas.List.Sorted.{IsPermutation-append_comm, IsPermutation-refl, IsPermutation-reverse, IsPermutation-trans}
 use Rattle.shapers_buffer.specs.declared.buffer.glyph.hb_glyph_info_t.{hb_glyph_info_t}
 use Rattle.shapers_buffer.specs.Lists.{first_last}
 use Rattle.shapers_buffer.specs.Buffer.{Buffer}
 use Rattle.shapers_buffer.specs.Clusters.{stretch_of, with_stretch}
 use Rattle.shapers_buffer.specs.Glyph.{default_glyph}
-use Rattle.shapers_buffer.specs.Places.{pick}
+use Rattle.shapers_buffer.specs.Places.{pick, placed_by}
+use Rattle.shapers_buffer.specs.declared.buffer.placement.Placement.TheVariants.{Forward}
+use Rattle.shapers_buffer.proofs.Placements.{gone_back, placed_forward, rotated_stretch}
 use Rattle.shapers_clusters.proofs.Picks.{pick-append, pick-range, pick-within}
 use Rattle.shapers_clusters.proofs.Widened.{range-append}
 use Rattle.shapers_indic_final.specs.FinalGlyphs.{last_goes_first}
@@ -32,12 +33,29 @@ turned_right gs some =
     let k = length gs - 1 in
     turned_last (take k gs) (drop k gs) (omega (arith, length-drop k gs)) ∙ ap last_goes_first (take-append-drop k gs)
 
-pub turned_right_within : {X : Type 0} (s e : ℕ) (gs ys : List X) → s < e → e ≤ length gs → ys ≡ slice_rotate_right (stretch_of s e gs) 1 → put_mid s (e - s) gs ys ≡ with_stretch s e last_goes_first gs
-turned_right_within s e gs ys some within turned =
-    let behind : s + (e - s) ≡ e = omega arith in
-    let long = length-take-le (e - s) (drop s gs) (omega (arith, length-drop s gs)) in
-    ap (λ zs. take s gs ++ (zs ++ drop (e - s) (drop s gs))) (turned ∙ turned_right (stretch_of s e gs) (omega (arith, long)))
-    ∙ ap (λ zs. take s gs ++ (last_goes_first (stretch_of s e gs) ++ zs)) (drop-drop (e - s) s gs ∙ ap (λ n. drop n gs) behind)
+-- moved by a placement: the first behind the others, or the last before them
+written_so : (b b2 : Buffer) (xs : List hb_glyph_info_t) → b2 ≡ record b { glyphs = xs } → b2 ≡ record b { glyphs = xs; places = b2.places }
+written_so b b2 xs is = is ∙ ap (λ qs. let y : Buffer = record b { glyphs = xs; places = qs } in y) (sym (ap (λ (x : Buffer). x.places) is))
+
+pub placed_first_last : (s e : ℕ) (b b2 : Buffer) → s < e → e ≤ length b.glyphs → b2 ≡ record b { glyphs = placed_by (Forward s (s + 1) (e - s - 1)) s e b.places b.glyphs } → b2 ≡ record b { glyphs = with_stretch s e first_last b.glyphs; places = b2.places }
+placed_first_last s e b b2 some within applied =
+    let behind : s + 1 + (e - s - 1) ≡ e = omega arith in
+    let placed : placed_by (Forward s (s + 1) (e - s - 1)) s e b.places b.glyphs ≡ with_stretch s e first_last b.glyphs =
+    placed_forward s (s + 1) (e - s - 1) s e b.places b.glyphs (omega arith) (omega arith) (omega arith) within
+    ∙ gone_back s (e - s - 1) b.glyphs (omega arith)
+    ∙ ap (λ k. with_stretch s k first_last b.glyphs) behind in
+    written_so b b2 (with_stretch s e first_last b.glyphs) (applied ∙ ap (λ xs. let y : Buffer = record b { glyphs = xs } in y) placed)
+
+pub placed_last_first : (s e : ℕ) (b b2 : Buffer) → s < e → e ≤ length b.glyphs → b2 ≡ record b { glyphs = placed_by (Forward s (e - 1) 1) s e b.places b.glyphs } → b2 ≡ record b { glyphs = with_stretch s e last_goes_first b.glyphs; places = b2.places }
+placed_last_first s e b b2 some within applied =
+    let behind : e - 1 + 1 ≡ e = omega arith in
+    let long = length-take-le (e - s) (drop s b.glyphs) (omega (arith, length-drop s b.glyphs)) in
+    let placed : placed_by (Forward s (e - 1) 1) s e b.places b.glyphs ≡ with_stretch s e last_goes_first b.glyphs =
+    placed_forward s (e - 1) 1 s e b.places b.glyphs (omega arith) (omega arith) (omega arith) within
+    ∙ sym (rotated_stretch s (e - 1) 1 b.glyphs (omega arith) (omega arith))
+    ∙ ap (λ k. with_stretch s k (λ ys. slice_rotate_right ys 1) b.glyphs) behind
+    ∙ ap (λ zs. take s b.glyphs ++ (zs ++ drop e b.glyphs)) (turned_right (stretch_of s e b.glyphs) (omega (arith, long))) in
+    written_so b b2 (with_stretch s e last_goes_first b.glyphs) (applied ∙ ap (λ xs. let y : Buffer = record b { glyphs = xs } in y) placed)
 
 -- what places so moved pick
 pub picks_first_last : (s e : ℕ) (gs : List hb_glyph_info_t) → s < e → e ≤ length gs → pick (first_last (range_with_len s (e - s))) gs ≡ first_last (stretch_of s e gs)

@@ -13,13 +13,14 @@ use Rattle.shapers_indic.specs.Glyphs.{has_position}
 use Rattle.shapers_indic_final.specs.FinalMatras.{is_left}
 use Rattle.shapers_indic_final.specs.FinalReordering.{final_order, final_steps}
 use Rattle.shapers_indic_final.specs.FinalWalk.{changes_syllable}
-use Rattle.shapers_indic_final.specs.FinalWordStart.{FinallyReordered, before_place, opened, text_run, with_inits}
+use Rattle.shapers_indic_final.specs.FinalWordStart.{FinalLink, FinallyLinked, FinallyReordered, before_place, opened, text_run, with_inits}
 use Rattle.shapers_indic_final.specs.declared.ot_shaper_indic_final.rules.Rules.{Rules}
 use Rattle.shapers_indic_final.proofs.FinalStill.{final_stays}
 use Rattle.shapers_indic_final.proofs.FinalTextWalk.{FinishedNext, ToFinish, finished_next}
 use Rattle.shapers_indic_final.proofs.FinalWordStartCases.{opened_other}
-use Rattle.shapers_syllabic.specs.Reordering.{SyllableReordered, carried}
+use Rattle.shapers_syllabic.specs.Reordering.{Chain, SyllableReordered, carried, syllable_lens}
 use Rattle.shapers_syllabic.specs.ReorderingLaws.{IsNextChanging}
+use Rattle.shapers_syllabic.proofs.LinkedSyllables.{lens-view}
 use Rattle.shapers_syllabic.proofs.Skipping.{PassesOver, to_next}
 
 -- no left matra opens such a syllable
@@ -66,3 +67,11 @@ all_finished r old now new to is =
       moved = ap (map carried) glyphs
           ∙ ap (λ ys. map carried (text_run r old.script old.level n (before_place n gs) (syllables ys) gs)) (sym none) ∙ to.moved;
     }
+
+pub finally_linked : (r : Rules) (old now new : Buffer) → ToFinish r old now (length now.glyphs) → new ≡ but_places now → FinallyLinked r old new
+finally_linked r old now new to is =
+    let xs = order_view now.glyphs in
+    let link = FinalLink r old.script in
+    let none : drop (length now.glyphs) xs ≡ [] = drop_all (length now.glyphs) xs (omega (arith, length-map now.glyphs plain)) in
+    subst (λ lens. Chain link 0 lens old new) (lens-view old.glyphs)
+    (to.completes new (subst (λ ys. Chain link (length now.glyphs) (syllable_lens ys) now new) (sym none) is))

@@ -1,5 +1,5 @@
 -- The walk that reorders and opens syllable by syllable: what it still has to do.
-use Rattle.std.proofs.Common.{ℕ, ◌+◌, ◌-◌, ◌%◌, ◌<◌, ◌≤◌, ◌≡◌, ◌==◌, ◌&&◌, not, Bool, true, false, if◌then◌else◌, List, [], ◌∷◌, ◌++◌, map, length, take, drop, refl, sym, ◌∙◌, ap, arith, append_assoc, length-append, length-take-le, length-drop, Option, None, Some, take-append-drop}
+use Rattle.std.proofs.Common.{subst, ℕ, ◌+◌, ◌-◌, ◌%◌, ◌<◌, ◌≤◌, ◌≡◌, ◌==◌, ◌&&◌, not, Bool, true, false, if◌then◌else◌, List, [], ◌∷◌, ◌++◌, map, length, take, drop, refl, sym, ◌∙◌, ap, arith, append_assoc, length-append, length-take-le, length-drop, Option, None, Some, take-append-drop}
 use Rattle.std.specs.Prelude.{bit_or}
 use Rattle.std.proofs.lemmas.Nat.{or_mod}
 use Rattle.std.proofs.lemmas.List.{drop-map, length-map, map-append, take-map, take_at, drop_at, drop-drop}
@@ -16,12 +16,12 @@ use Rattle.shapers_clusters.specs.Steps.{Step, run_steps, widened}
 use Rattle.shapers_clusters.proofs.FlagCalls.{flags-or, map-unsafe_inside, plain-or, plain-with_bits}
 use Rattle.shapers_clusters.proofs.ViewedSteps.{length-same}
 use Rattle.shapers_indic_final.specs.FinalMatras.{is_left}
-use Rattle.shapers_indic_final.specs.FinalWordStart.{before_place, bound_at, final_text, word_goes_on, is_bound, last_or, opened, syllable_run, text_run, with_init, with_inits}
+use Rattle.shapers_indic_final.specs.FinalWordStart.{FinalLink, before_place, bound_at, final_text, word_goes_on, is_bound, last_or, opened, syllable_run, text_run, with_init, with_inits}
 use Rattle.shapers_indic_final.specs.FinalReordering.{final_order, final_steps}
 use Rattle.shapers_indic_final.specs.declared.ot_shaper_indic_final.rules.Rules.{Rules}
 use Rattle.shapers_indic_final.proofs.FinalLaws.{final_laws}
 use Rattle.shapers_indic_final.proofs.FinalText.{last_or-append}
-use Rattle.shapers_syllabic.specs.Reordering.{SyllableReordered, carried}
+use Rattle.shapers_syllabic.specs.Reordering.{Chain, SyllableReordered, carried, syllable_lens}
 use Rattle.shapers_syllabic.proofs.ReorderingLemmas.{run_steps-carried}
 use Rattle.shapers_syllabic.proofs.ReorderingWalk.{first_len-view, first_len-within, length-meaning, opens}
 
@@ -157,6 +157,9 @@ pub record ToFinish (r : Rules) (old now : Buffer) (start : ℕ) : Type 0 where
   pub others : but_places now ≡ record (but_places old) { glyphs = now.glyphs }
   pub inside : start ≤ length now.glyphs
   pub order : take start (order_view now.glyphs) ++ with_inits r.init (before_place start now.glyphs) (map (final_order r old.script) (syllables (drop start (order_view now.glyphs)))) ≡ final_text r old.script (order_view old.glyphs)
+  pub completes : (new : Buffer) →
+      Chain (FinalLink r old.script) start (syllable_lens (drop start (order_view now.glyphs))) now new →
+      Chain (FinalLink r old.script) 0 (syllable_lens (order_view old.glyphs)) old new
   pub moved : map carried (text_run r old.script old.level start (before_place start now.glyphs) (syllables (drop start (order_view now.glyphs))) now.glyphs) ≡ map carried (text_run r old.script old.level 0 None (syllables (order_view old.glyphs)) old.glyphs)
 
 -- one syllable more
@@ -260,6 +263,14 @@ finished_next r old now mid new start end off to some end_is done opens_it =
             ∙ append_assoc front (with_init bits bn made) (with_inits bits next (map f syls))
             ∙ sym (ap (λ ps. front ++ with_inits bits bn (map f ps)) cut)
             ∙ to.order;
+        completes = λ b chain.
+            let link = FinalLink r script in
+            let rest_chain : Chain link end (map length syls) new b =
+            subst (λ ys. Chain link end (syllable_lens ys) new b) after chain in
+            let both_links : Chain link start (length syl ∷ map length syls) now b =
+            subst (λ j. (next : Buffer) × link start j now next × Chain link j (map length syls) next b) (sym later)
+            (new, (mid, done, opens_it), rest_chain) in
+            to.completes b (subst (λ ps. Chain link start (map length ps) now b) (sym cut) both_links);
         moved =
             ap (λ ys. map carried (text_run r script old.level end be (syllables ys) new.glyphs)) after
             ∙ ap (map carried) (run-word r script old.level end be next syls new.glyphs next_word)
@@ -269,3 +280,13 @@ finished_next r old now mid new start end off to some end_is done opens_it =
             ∙ to.moved;
       };
     }
+
+-- before the first syllable
+pub to_finish_all : (r : Rules) (old : Buffer) → ToFinish r old old 0
+to_finish_all r old = record {
+  others = refl;
+  inside = omega arith;
+  order = refl;
+  completes = λ new chain. chain;
+  moved = refl;
+}

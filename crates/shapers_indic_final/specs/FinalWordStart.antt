@@ -14,7 +14,7 @@ use Rattle.shapers_clusters.specs.Steps.{run_steps, widened}
 use Rattle.shapers_indic_final.specs.FinalMatras.{is_left}
 use Rattle.shapers_indic_final.specs.FinalReordering.{final_order, final_steps}
 use Rattle.shapers_indic_final.specs.declared.ot_shaper_indic_final.rules.Rules.{Rules}
-use Rattle.shapers_syllabic.specs.Reordering.{carried}
+use Rattle.shapers_syllabic.specs.Reordering.{SyllableReordered, SyllablesLinked, carried}
 
 -- the categories that a word goes on behind: formats, letters, marks, and what has none
 abbrev pub continues_word : hb_unicode_general_category_t → Bool
@@ -104,3 +104,13 @@ pub record FinallyReordered (r : Rules) (old new : Buffer) : Type 0 where
   pub moved : map carried new.glyphs
       ≡ map carried (text_run r old.script old.level 0 None (syllables (order_view old.glyphs))
       old.glyphs)
+
+-- The buffer before and after one syllable, from s to e, is reordered in a text of a script, and
+-- then opened; and the pause as a chain of these, one link a syllable.
+abbrev pub FinalLink : Rules → Option Script → ℕ → ℕ → Buffer → Buffer → Type 0
+FinalLink r script s e old new =
+    (mid : Buffer) × SyllableReordered (final_order r script) (final_steps r script) s e old mid
+    × new ≡ record mid { glyphs = opened r.init s mid.glyphs }
+
+abbrev pub FinallyLinked : Rules → Buffer → Buffer → Type 0
+FinallyLinked r old new = SyllablesLinked (FinalLink r old.script) old new

@@ -16,15 +16,18 @@ use Rattle.shapers_clusters.specs.Steps.{Step, run_steps, steps_along}
 use Rattle.shapers_indic.specs.Glyphs.{has_position, number}
 use Rattle.shapers_indic.specs.Plan.{virama_glyph}
 use Rattle.shapers_indic_initial.specs.InitialFont.{all_by_virama, by_virama, consonant_position, positions_by_font}
-use Rattle.shapers_indic_initial.specs.InitialPause.{InitiallyReordered, initial_circles, order_by_font, steps_by_font, with_positions_and_circles}
+use Rattle.shapers_indic_initial.specs.InitialPause.{InitiallyLinked, InitiallyReordered, initial_circles, order_by_font, steps_by_font, with_positions_and_circles}
 use Rattle.shapers_indic_initial.specs.InitialLaws.{InitialCutsBetweenSpans, InitiallyAsPause}
-use Rattle.shapers_indic_initial.specs.InitialReordering.{initial_order, initial_steps}
+use Rattle.shapers_indic_initial.specs.InitialReordering.{InitialRelation, initial_order, initial_steps}
 use Rattle.shapers_indic_initial.specs.InitialRules.{initial_rules}
 use Rattle.shapers_indic_initial.proofs.FontPositions.{by_virama-syllable, font_positions-carried, font_positions-viewed, laws_by_font, length-font_positions}
 use Rattle.shapers_indic_initial.proofs.InitialSerialsStay.{order_by_font_reads_no_serials}
 use Rattle.shapers_syllabic.specs.declared.ot_shaper_syllabic.circles.DottedCircles.{DottedCircles}
 use Rattle.shapers_syllabic.specs.Circles.{circle_in, circled, circled_syllable, circles_for, is_of_kind, rephas_len, wants_circles, with_circle}
-use Rattle.shapers_syllabic.specs.Reordering.{PauseReordered, SyllablesReordered, carried, text_order, text_steps}
+use Rattle.shapers_indic_initial.specs.Proved.InitialLaws.{initial_laws}
+use Rattle.shapers_syllabic.proofs.LinkedSyllables.{text_moved}
+use Rattle.shapers_syllabic.proofs.ReorderingLaws.{numbers_kept}
+use Rattle.shapers_syllabic.specs.Reordering.{PauseReordered, SyllablesLinked, carried, text_order, text_steps}
 use Rattle.shapers_syllabic.proofs.Borders.{syllables-viewed}
 use Rattle.shapers_syllabic.proofs.HiddenCuts.{pauses_cut_between_spans}
 use Rattle.shapers_syllabic.specs.Borders.{spans_set_up}
@@ -151,14 +154,24 @@ pub paused_by_font : (font : Font) (m : Map) (p : indic_shape_plan_t) (old new :
 paused_by_font font m p old new done = let same = same_pause font m p old in record { others = done.others; order = done.order ∙ same.order; moved = done.moved ∙ same.moved }
 
 -- the text gets its circles, positions by the font, and then its order
-pub reordered_behind_circles : (font : Font) (m : Map) (p q : indic_shape_plan_t) (b0 b1 b2 new : Buffer) → q ≡ p → b1 ≡ (let b : Buffer = record b0 { glyphs = circled (initial_circles font b0) b0.glyphs } in b) → b2 ≡ (let b : Buffer = record b1 { glyphs = positions_by_font font m p b1.glyphs } in b) → SyllablesReordered (initial_order (initial_rules font m q) b2.script) (initial_steps (initial_rules font m q) b2.script) b2 new → InitiallyReordered font m p b0 new
-reordered_behind_circles font m p q b0 b1 b2 new same opened placed done =
-    let Done : indic_shape_plan_t → Buffer → Type 0 = λ d b. SyllablesReordered (initial_order (initial_rules font m d) b.script) (initial_steps (initial_rules font m d) b.script) b new in
-    let behind : b2 ≡ with_positions_and_circles font m p b0 =
+pub opened_by_font : (font : Font) (m : Map) (p q : indic_shape_plan_t) (b0 b1 b2 : Buffer) → q ≡ p → b1 ≡ (let b : Buffer = record b0 { glyphs = circled (initial_circles font b0) b0.glyphs } in b) → b2 ≡ (let b : Buffer = record b1 { glyphs = positions_by_font font m q b1.glyphs } in b) → b2 ≡ with_positions_and_circles font m p b0
+opened_by_font font m p q b0 b1 b2 same opened placed =
     placed
+    ∙ ap (λ (k : indic_shape_plan_t). (let b : Buffer = record b1 { glyphs = positions_by_font font m k b1.glyphs } in b)) same
     ∙ ap (λ (x : Buffer). (let b : Buffer = record x { glyphs = positions_by_font font m p x.glyphs } in b)) opened
-    ∙ sym (ap (λ (xs : List hb_glyph_info_t). (let b : Buffer = record b0 { glyphs = xs } in b)) (circled_by_font font m p (virama_glyph font p) (initial_circles font b0) (circles_not_at_base (font.nominal 0x25CC) b0) b0.glyphs)) in
-    subst (Done p) behind (subst (λ d. Done d b2) same done)
+    ∙ sym (ap (λ (xs : List hb_glyph_info_t). (let b : Buffer = record b0 { glyphs = xs } in b)) (circled_by_font font m p (virama_glyph font p) (initial_circles font b0) (circles_not_at_base (font.nominal 0x25CC) b0) b0.glyphs))
+
+pub linked_behind_circles : (font : Font) (m : Map) (p q : indic_shape_plan_t) (b0 b1 b2 new : Buffer) → q ≡ p → b1 ≡ (let b : Buffer = record b0 { glyphs = circled (initial_circles font b0) b0.glyphs } in b) → b2 ≡ (let b : Buffer = record b1 { glyphs = positions_by_font font m q b1.glyphs } in b) → SyllablesLinked (InitialRelation (initial_rules font m q)) b2 new → InitiallyLinked font m p b0 new
+linked_behind_circles font m p q b0 b1 b2 new same opened placed chain =
+    subst (λ (b : Buffer). SyllablesLinked (InitialRelation (initial_rules font m p)) b new) (opened_by_font font m p q b0 b1 b2 same opened placed)
+    (subst (λ k. SyllablesLinked (InitialRelation (initial_rules font m k)) b2 new) same chain)
+
+-- the chain as a whole text
+pub initially_linked : (font : Font) (m : Map) (p : indic_shape_plan_t) (old new : Buffer) → InitiallyLinked font m p old new → InitiallyReordered font m p old new
+initially_linked font m p old new chain =
+    let r = initial_rules font m p in
+    text_moved (initial_order r) (initial_steps r) (InitialRelation r) (with_positions_and_circles font m p old) new
+    (λ script. numbers_kept (initial_order r script) (initial_steps r script) (initial_laws r script)) (λ s e b c done. done) chain
 
 pub initially_as_pause : InitiallyAsPause
 initially_as_pause font m p old new = (paused_by_font font m p old new, initially_reordered font m p old new)

@@ -20,7 +20,7 @@ use Rattle.shapers_clusters.proofs.Picks.{pick-all}
 use Rattle.shapers_indic_initial.specs.InitialLaws.{OrderByFontLaws}
 use Rattle.shapers_indic_initial.specs.InitialReordering.{initial_order, initial_steps}
 use Rattle.shapers_indic_initial.specs.InitialRules.{initial_rules}
-use Rattle.shapers_indic_initial.proofs.InitialLaws.{initial_laws}
+use Rattle.shapers_indic_initial.specs.Proved.InitialLaws.{initial_laws}
 use Rattle.shapers_syllabic.specs.Reordering.{carried}
 use Rattle.shapers_syllabic.specs.ReorderingLaws.{ReorderLaws}
 use Rattle.shapers_syllabic.proofs.LawsThen.{laws_then}

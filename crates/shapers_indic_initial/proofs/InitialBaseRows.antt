@@ -1,10 +1,12 @@
 -- The reph, the limit, where the search ends, and the base, computed case by case.
 use Rattle.std.specs.Prelude.{◌≡◌, ℕ, true, false, List, [], ◌∷◌, map, None, refl}
 use Rattle.shapers_buffer.specs.declared.buffer.glyph.hb_glyph_info_t.{hb_glyph_info_t}
-use Rattle.shapers_indic.proofs.RowWords.{C, H, ZWNJ, ZWJ, M, Repha, Ra, of, plainly, script}
+use Rattle.shapers_base.specs.declared.plan.indic.BaseSearch.TheVariants.{AllConsonants}
+use Rattle.shapers_indic.proofs.RowWords.{C, CM, H, ZWNJ, ZWJ, M, Repha, Ra, of, plainly, script, with_row_marks}
 use Rattle.shapers_indic_initial.proofs.InitialWords.{rules, no_masks, each_mask, ligated_at, with_reph_of}
-use Rattle.shapers_indic_initial.specs.InitialBase.{base_place, has_indic_reph, joiner_comes_first, limit, indic_reph_len, search_from, search_start}
+use Rattle.shapers_indic_initial.specs.InitialBase.{base_place, has_indic_reph, is_base_candidate, joiner_comes_first, limit, indic_reph_len, search_from, search_start}
 use Rattle.shapers_indic_initial.specs.InitialRules.{Rules}
+use Rattle.shapers_syllabic.specs.Consonants.{is_consonant}
 
 -- the joiner of Kannada: Ra, H, ZWJ in front, none of them a ligature
 abbrev ra_h_zwj : List hb_glyph_info_t
@@ -74,12 +76,46 @@ by_positions = refl
 below_alone : map (base_place (rules "Deva" false no_masks)) (of ((C, 4) ∷ (C, 11) ∷ (M, 8) ∷ []) ∷ ligated_at 2 (of ((C, 4) ∷ (C, 11) ∷ (C, 8) ∷ [])) ∷ of ((C, 4) ∷ (C, 11) ∷ (M, 8) ∷ (C, 8) ∷ []) ∷ []) ≡ 0 ∷ 0 ∷ 1 ∷ []
 below_alone = refl
 
+abbrev categories : List ℕ
+categories = 0 ∷ 1 ∷ 2 ∷ 3 ∷ 4 ∷ 5 ∷ 6 ∷ 7 ∷ 8 ∷ 9 ∷ 10 ∷ 11 ∷ 12 ∷ 13 ∷ 14 ∷ 15 ∷ 16 ∷ 17 ∷ 18 ∷ 31 ∷ 32 ∷ 48 ∷ 64 ∷ 255 ∷ []
+
 -- which categories may be the base, of a C and one more: those behind it at place 1, C V PLACEHOLDER DOTTEDCIRCLE Ra CS
 by_categories : map (λ c. base_place (rules "Deva" false no_masks) (plainly (C ∷ c ∷ []))) (0 ∷ 1 ∷ 2 ∷ 3 ∷ 4 ∷ 5 ∷ 6 ∷ 7 ∷ 8 ∷ 9 ∷ 10 ∷ 11 ∷ 12 ∷ 13 ∷ 14 ∷ 15 ∷ 16 ∷ 17 ∷ 18 ∷ []) ≡ 0 ∷ 1 ∷ 1 ∷ 0 ∷ 0 ∷ 0 ∷ 0 ∷ 0 ∷ 0 ∷ 0 ∷ 1 ∷ 1 ∷ 0 ∷ 0 ∷ 0 ∷ 1 ∷ 0 ∷ 0 ∷ 1 ∷ []
 by_categories = refl
 
 a_ligature : base_place (rules "Deva" false no_masks) (ligated_at 1 (plainly (C ∷ C ∷ []))) ≡ 0
 a_ligature = refl
+
+-- where all consonants are searched, a medial one (16) too, unless a lookup put it in for several
+abbrev among_all : Rules
+among_all = record (rules "Deva" false no_masks) { search = AllConsonants }
+
+by_all_categories : map (λ c. base_place among_all (plainly (C ∷ c ∷ []))) (0 ∷ 1 ∷ 2 ∷ 3 ∷ 4 ∷ 5 ∷ 6 ∷ 7 ∷ 8 ∷ 9 ∷ 10 ∷ 11 ∷ 12 ∷ 13 ∷ 14 ∷ 15 ∷ 16 ∷ 17 ∷ 18 ∷ 31 ∷ 32 ∷ 48 ∷ []) ≡ 0 ∷ 1 ∷ 1 ∷ 0 ∷ 0 ∷ 0 ∷ 0 ∷ 0 ∷ 0 ∷ 0 ∷ 1 ∷ 1 ∷ 0 ∷ 0 ∷ 0 ∷ 1 ∷ 1 ∷ 0 ∷ 1 ∷ 0 ∷ 0 ∷ 0 ∷ []
+by_all_categories = refl
+
+-- these are the consonants
+are_consonants : map (λ gs. map (is_base_candidate AllConsonants) gs) (plainly categories ∷ map (with_row_marks 2) (plainly categories) ∷ []) ≡ map (λ gs. map is_consonant gs) (plainly categories ∷ map (with_row_marks 2) (plainly categories) ∷ [])
+are_consonants = refl
+
+-- a medial one by its position, as any other; alone; behind a reph; of two the last; the first where none is the last
+abbrev medials : List (List hb_glyph_info_t)
+medials = of ((C, 4) ∷ (CM, 4) ∷ []) ∷ ligated_at 1 (of ((C, 4) ∷ (CM, 4) ∷ [])) ∷ of ((C, 4) ∷ (CM, 8) ∷ []) ∷ of ((C, 4) ∷ (CM, 11) ∷ []) ∷ of ((C, 4) ∷ (C, 11) ∷ (CM, 8) ∷ []) ∷ of ((C, 4) ∷ (CM, 11) ∷ (C, 8) ∷ []) ∷ of ((CM, 8) ∷ []) ∷ of ((M, 4) ∷ (CM, 11) ∷ (C, 11) ∷ []) ∷ of ((C, 4) ∷ (H, 4) ∷ (ZWJ, 4) ∷ (CM, 8) ∷ []) ∷ of ((Ra, 4) ∷ (H, 4) ∷ (Ra, 8) ∷ (CM, 4) ∷ []) ∷ []
+
+medials_searched : map (base_place among_all) medials ≡ 1 ∷ 0 ∷ 0 ∷ 0 ∷ 1 ∷ 1 ∷ 0 ∷ 1 ∷ 3 ∷ 3 ∷ []
+medials_searched = refl
+
+medials_left_out : map (base_place (rules "Deva" false no_masks)) medials ≡ 0 ∷ 0 ∷ 0 ∷ 0 ∷ 0 ∷ 0 ∷ 1 ∷ 2 ∷ 4 ∷ 0 ∷ []
+medials_left_out = refl
+
+medial_behind_reph : map (λ r. base_place r (plainly (Ra ∷ H ∷ CM ∷ []))) (implicit ∷ record implicit { search = AllConsonants } ∷ []) ≡ 0 ∷ 2 ∷ []
+medial_behind_reph = refl
+
+reph_before_medial : map (λ r. has_indic_reph r (plainly (Ra ∷ H ∷ CM ∷ []))) (implicit ∷ record implicit { search = AllConsonants } ∷ []) ≡ false ∷ true ∷ []
+reph_before_medial = refl
+
+-- nothing else is read: where no medial stands, both find the same
+no_medials : map (base_place among_all) (map (λ c. plainly (C ∷ c ∷ C ∷ [])) (0 ∷ 3 ∷ 4 ∷ 6 ∷ 7 ∷ [])) ≡ map (base_place (rules "Deva" false no_masks)) (map (λ c. plainly (C ∷ c ∷ C ∷ [])) (0 ∷ 3 ∷ 4 ∷ 6 ∷ 7 ∷ []))
+no_medials = refl
 
 -- behind a ZWJ that ends the search: the first consonant there, none if there is none
 behind_zwj : map (base_place (rules "Deva" false no_masks)) (of ((C, 4) ∷ (H, 4) ∷ (ZWJ, 4) ∷ (C, 8) ∷ (C, 8) ∷ []) ∷ plainly (C ∷ H ∷ ZWJ ∷ M ∷ []) ∷ plainly (C ∷ H ∷ ZWJ ∷ []) ∷ plainly (M ∷ []) ∷ []) ≡ 3 ∷ 4 ∷ 3 ∷ 1 ∷ []

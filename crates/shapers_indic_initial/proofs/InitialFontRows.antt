@@ -13,6 +13,7 @@ use Rattle.shapers_indic.proofs.RowWords.{row_positions, script}
 use Rattle.shapers_buffer.specs.Glyph.{default_glyph}
 use Rattle.shapers_indic_initial.specs.InitialFont.{positions_by_font}
 use Rattle.shapers_indic.specs.Glyphs.{number}
+use Rattle.shapers_base.specs.declared.plan.indic.BaseSearch.TheVariants.{WithoutMedials}
 use Rattle.shapers_indic.specs.Plan.{indic_plan}
 
 abbrev feature : String → ℕ → feature_map_t
@@ -43,30 +44,30 @@ abbrev glyphs : ℕ → List hb_glyph_info_t
 glyphs p = map (λ i. let g : hb_glyph_info_t = record default_glyph { glyph_id = i; auxiliary = p } in g) (range_with_len 1 11)
 
 -- below by blwf or vatu, in either order of virama and consonant; else post-base by pstf or pref; else as it was
-by_font : row_positions (positions_by_font (font_with virama_alone applies) (small None) (indic_plan (script "Deva") (small None)) (glyphs 4)) ≡ 8 ∷ 8 ∷ 8 ∷ 8 ∷ 11 ∷ 11 ∷ 11 ∷ 11 ∷ 8 ∷ 4 ∷ 4 ∷ []
+by_font : row_positions (positions_by_font (font_with virama_alone applies) (small None) (indic_plan WithoutMedials (script "Deva") (small None)) (glyphs 4)) ≡ 8 ∷ 8 ∷ 8 ∷ 8 ∷ 11 ∷ 11 ∷ 11 ∷ 11 ∷ 8 ∷ 4 ∷ 4 ∷ []
 by_font = refl
 
 -- other positions than BASE_C stay
-other_positions : positions_by_font (font_with virama_alone applies) (small None) (indic_plan (script "Deva") (small None)) (glyphs 3) ≡ glyphs 3
+other_positions : positions_by_font (font_with virama_alone applies) (small None) (indic_plan WithoutMedials (script "Deva") (small None)) (glyphs 3) ≡ glyphs 3
 other_positions = refl
 
 -- a font without the virama, and a script without one
-no_glyph : positions_by_font (font_with virama_alone applies) (small None) (indic_plan (script "Beng") (small None)) (glyphs 4) ≡ glyphs 4
+no_glyph : positions_by_font (font_with virama_alone applies) (small None) (indic_plan WithoutMedials (script "Beng") (small None)) (glyphs 4) ≡ glyphs 4
 no_glyph = refl
 
-no_virama : positions_by_font (font_with all_characters applies) (small None) (indic_plan (script "Thai") (small None)) (glyphs 4) ≡ glyphs 4
+no_virama : positions_by_font (font_with all_characters applies) (small None) (indic_plan WithoutMedials (script "Thai") (small None)) (glyphs 4) ≡ glyphs 4
 no_virama = refl
 
 -- in the older specification contexts are left out: a lookup that asks for one doesn't count; in the newer it does
 abbrev with_context : ℕ → List GlyphId → Bool → Bool
 with_context lookup ids zero = if zero then false else applies lookup ids zero
 
-old_contexts : positions_by_font (font_with virama_alone with_context) (small None) (indic_plan (script "Deva") (small None)) (glyphs 4) ≡ glyphs 4
+old_contexts : positions_by_font (font_with virama_alone with_context) (small None) (indic_plan WithoutMedials (script "Deva") (small None)) (glyphs 4) ≡ glyphs 4
 old_contexts = refl
 
-new_contexts : row_positions (positions_by_font (font_with virama_alone with_context) (small (Some (record { 0 = codes "dev2" }))) (indic_plan (script "Deva") (small (Some (record { 0 = codes "dev2" })))) (glyphs 4)) ≡ 8 ∷ 8 ∷ 8 ∷ 8 ∷ 11 ∷ 11 ∷ 11 ∷ 11 ∷ 8 ∷ 4 ∷ 4 ∷ []
+new_contexts : row_positions (positions_by_font (font_with virama_alone with_context) (small (Some (record { 0 = codes "dev2" }))) (indic_plan WithoutMedials (script "Deva") (small (Some (record { 0 = codes "dev2" })))) (glyphs 4)) ≡ 8 ∷ 8 ∷ 8 ∷ 8 ∷ 11 ∷ 11 ∷ 11 ∷ 11 ∷ 8 ∷ 4 ∷ 4 ∷ []
 new_contexts = refl
 
--- a font is asked about the low 16 bits of a glyph's number
-asked_about : map number (map (λ i. let g : hb_glyph_info_t = record default_glyph { glyph_id = i } in g) (0 ∷ 1 ∷ 65535 ∷ 65536 ∷ 65537 ∷ [])) ≡ record { 0 = 0 } ∷ record { 0 = 1 } ∷ record { 0 = 65535 } ∷ record { 0 = 0 } ∷ record { 0 = 1 } ∷ []
+-- a font is queried about a glyph's number, and about 65535 for every greater one
+asked_about : map number (map (λ i. let g : hb_glyph_info_t = record default_glyph { glyph_id = i } in g) (0 ∷ 1 ∷ 65534 ∷ 65535 ∷ 65536 ∷ 65537 ∷ 72352 ∷ [])) ≡ map (λ i. let id : GlyphId = record { 0 = i } in id) (0 ∷ 1 ∷ 65534 ∷ 65535 ∷ 65535 ∷ 65535 ∷ 65535 ∷ [])
 asked_about = refl

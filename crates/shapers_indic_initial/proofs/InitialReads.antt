@@ -1,6 +1,6 @@
 -- What the initial reordering reads of glyphs, and what it writes: a view that keeps number, category, position and marks shows the same.
 use mathlib.Core.Path.{fun_ext}
-use Rattle.std.proofs.Common.{ℕ, zero, suc, ◌+◌, ◌-◌, ◌%◌, ◌≡◌, ◌==◌, ◌&&◌, ◌||◌, min, not, Bool, cond, if◌then◌else◌, List, [], ◌∷◌, map, length, take, drop, Option, Some, refl, ◌∙◌, ap}
+use Rattle.std.proofs.Common.{ℕ, zero, suc, ◌+◌, ◌-◌, ◌≡◌, ◌==◌, ◌&&◌, ◌||◌, min, not, Bool, cond, if◌then◌else◌, List, [], ◌∷◌, map, length, take, drop, Option, Some, refl, ◌∙◌, ap}
 use Rattle.std.specs.Prelude.{nat_le, nat_lt, unwrap_or}
 use Rattle.std.specs.List.{list_any, prefix_len}
 use Rattle.std.specs.Option.{option_map_or, option_or}
@@ -17,6 +17,7 @@ use Rattle.shapers_base.specs.declared.plan.ot_position_t.TheConstants.{POS_BELO
 use Rattle.shapers_indic.specs.declared.ot_shaper_indic.indic_feature.TheConstants.{RPHF}
 use Rattle.shapers_indic.specs.Glyphs.{greatest_place, has_category, has_position, is_joiner, is_one_of, least_place, numbers, passes, some_place}
 use Rattle.shapers_indic.specs.Plan.{is_script}
+use Rattle.shapers_base.specs.declared.plan.indic.BaseSearch.{BaseSearch}
 use Rattle.shapers_indic_initial.specs.InitialBase.{base_from, base_place, font_decides_reph, has_indic_reph, is_base, is_base_candidate, has_below_form, joiner_comes_first, limit, limit_behind, may_be_base, opens_with_repha, reph_is_formed, indic_reph_len, search_from, search_start, stops_search, third_lets_reph}
 use Rattle.shapers_indic_initial.specs.InitialPositions.{is_passed_by_halant}
 use Rattle.shapers_indic_initial.specs.InitialRules.{Rules, mask_at}
@@ -73,7 +74,7 @@ prefix_stays f test reads (g ∷ gs) = same_two (λ b n. cond b (1 + n) 0) (read
 
 pub numbers_stay : (f : hb_glyph_info_t → hb_glyph_info_t) → KeepsRead f → (gs : List hb_glyph_info_t) → numbers (map f gs) ≡ numbers gs
 numbers_stay f k [] = refl
-numbers_stay f k (g ∷ gs) = same_two (λ (i : ℕ) ns. (let n : GlyphId = record { 0 = i % 65536 } in n) ∷ ns) (k.glyph_id g) (numbers_stay f k gs)
+numbers_stay f k (g ∷ gs) = same_two (λ (i : ℕ) ns. (let n : GlyphId = record { 0 = min i 65535 } in n) ∷ ns) (k.glyph_id g) (numbers_stay f k gs)
 
 -- the step of Kannada
 pub joiner_first_stays : (f : hb_glyph_info_t → hb_glyph_info_t) → KeepsRead f → (script : Option Script) (gs : List hb_glyph_info_t) → joiner_comes_first script (map f gs) ≡ joiner_comes_first script gs
@@ -123,8 +124,8 @@ limit_stays : (f : hb_glyph_info_t → hb_glyph_info_t) → KeepsRead f → (r :
 limit_stays f k r gs = limit_behind_stays f k (indic_reph_len r (map f gs)) gs ∙ ap (λ n. limit_behind n gs) (reph_len_stays f k r gs)
 
 -- the base
-may_stays : (f : hb_glyph_info_t → hb_glyph_info_t) → KeepsRead f → (gs : List hb_glyph_info_t) → may_be_base (map f gs) ≡ may_be_base gs
-may_stays f k gs = passes_stays f is_base_candidate (λ g. same_two (λ c m. is_base_candidate (record g { category = c; marks = m })) (k.category g) (k.marks g)) gs
+may_stays : (f : hb_glyph_info_t → hb_glyph_info_t) → KeepsRead f → (search : BaseSearch) (gs : List hb_glyph_info_t) → may_be_base search (map f gs) ≡ may_be_base search gs
+may_stays f k search gs = passes_stays f (is_base_candidate search) (λ g. same_two (λ c m. is_base_candidate search (record g { category = c; marks = m })) (k.category g) (k.marks g)) gs
 
 stops_stays : (f : hb_glyph_info_t → hb_glyph_info_t) → KeepsRead f → (gs : List hb_glyph_info_t) → stops_search (map f gs) ≡ stops_search gs
 stops_stays f k gs = same_two (λ (a b : ℕ → Bool). λ i. nat_lt 0 i && a i && b (i - 1)) (passes_stays f (has_category OT_ZWJ) (category_stays f k OT_ZWJ) gs) (passes_stays f (has_category OT_H) (category_stays f k OT_H) gs)
@@ -136,22 +137,22 @@ search_start_stays : (f : hb_glyph_info_t → hb_glyph_info_t) → KeepsRead f �
 search_start_stays f k r gs =
     search_from_stays f k (min (limit r (map f gs)) (length (map f gs) - 1)) gs ∙ same_two (λ l n. search_from (min l (n - 1)) gs) (limit_stays f k r gs) (length-map gs f)
 
-below_stays : (f : hb_glyph_info_t → hb_glyph_info_t) → KeepsRead f → (gs : List hb_glyph_info_t) → has_below_form (map f gs) ≡ has_below_form gs
-below_stays f k gs = same_two (λ (a b : ℕ → Bool). λ i. a i && b i) (may_stays f k gs) (passes_stays f (has_position POS_BELOW_C) (position_stays f k POS_BELOW_C) gs)
+below_stays : (f : hb_glyph_info_t → hb_glyph_info_t) → KeepsRead f → (search : BaseSearch) (gs : List hb_glyph_info_t) → has_below_form search (map f gs) ≡ has_below_form search gs
+below_stays f k search gs = same_two (λ (a b : ℕ → Bool). λ i. a i && b i) (may_stays f k search gs) (passes_stays f (has_position POS_BELOW_C) (position_stays f k POS_BELOW_C) gs)
 
-is_base_stays : (f : hb_glyph_info_t → hb_glyph_info_t) → KeepsRead f → (gs : List hb_glyph_info_t) → is_base (map f gs) ≡ is_base gs
-is_base_stays f k gs =
-    same_four (λ (m b p : ℕ → Bool) (n : ℕ). λ i. m i && not (b i) && (not (p i) || some_place b (i + 1) n)) (may_stays f k gs) (below_stays f k gs) (passes_stays f (has_position POS_POST_C) (position_stays f k POS_POST_C) gs) (length-map gs f)
+is_base_stays : (f : hb_glyph_info_t → hb_glyph_info_t) → KeepsRead f → (search : BaseSearch) (gs : List hb_glyph_info_t) → is_base search (map f gs) ≡ is_base search gs
+is_base_stays f k search gs =
+    same_four (λ (m b p : ℕ → Bool) (n : ℕ). λ i. m i && not (b i) && (not (p i) || some_place b (i + 1) n)) (may_stays f k search gs) (below_stays f k search gs) (passes_stays f (has_position POS_POST_C) (position_stays f k POS_POST_C) gs) (length-map gs f)
 
-base_from_stays : (f : hb_glyph_info_t → hb_glyph_info_t) → KeepsRead f → (start otherwise : ℕ) (gs : List hb_glyph_info_t) → base_from start otherwise (map f gs) ≡ base_from start otherwise gs
-base_from_stays f k start otherwise gs =
-    same_three (λ (b m : ℕ → Bool) (n : ℕ). unwrap_or (option_or (greatest_place b start n) (least_place m start n)) otherwise) (is_base_stays f k gs) (may_stays f k gs) (length-map gs f)
+base_from_stays : (f : hb_glyph_info_t → hb_glyph_info_t) → KeepsRead f → (search : BaseSearch) (start otherwise : ℕ) (gs : List hb_glyph_info_t) → base_from search start otherwise (map f gs) ≡ base_from search start otherwise gs
+base_from_stays f k search start otherwise gs =
+    same_three (λ (b m : ℕ → Bool) (n : ℕ). unwrap_or (option_or (greatest_place b start n) (least_place m start n)) otherwise) (is_base_stays f k search gs) (may_stays f k search gs) (length-map gs f)
 
 pub base_stays : (f : hb_glyph_info_t → hb_glyph_info_t) → KeepsRead f → (r : Rules) (gs : List hb_glyph_info_t) → base_place r (map f gs) ≡ base_place r gs
 base_stays f k r gs =
     let us = map f gs in
-    base_from_stays f k (search_start r us) (if indic_reph_len r us == 0 then length us else 0) gs
-    ∙ same_three (λ s j n. base_from s (if j == 0 then n else 0) gs) (search_start_stays f k r gs) (reph_len_stays f k r gs) (length-map gs f)
+    base_from_stays f k r.search (search_start r us) (if indic_reph_len r us == 0 then length us else 0) gs
+    ∙ same_three (λ s j n. base_from r.search s (if j == 0 then n else 0) gs) (search_start_stays f k r gs) (reph_len_stays f k r gs) (length-map gs f)
 
 pub has_reph_stays : (f : hb_glyph_info_t → hb_glyph_info_t) → KeepsRead f → (r : Rules) (gs : List hb_glyph_info_t) → has_indic_reph r (map f gs) ≡ has_indic_reph r gs
 has_reph_stays f k r gs = same_three (λ (j b l : ℕ). not (j == 0) && not (b == 0 && nat_le l 2)) (reph_len_stays f k r gs) (base_stays f k r gs) (limit_stays f k r gs)

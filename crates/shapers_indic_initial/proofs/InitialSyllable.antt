@@ -11,8 +11,8 @@ use Rattle.shapers_clusters.specs.Steps.{Step}
 use Rattle.shapers_clusters.proofs.Picks.{length-pick}
 use Rattle.shapers_indic_initial.specs.InitialReordering.{in_indic_order, initial_order, initial_steps, is_reordered_in_indic, joiner_step, masked_in_order, opening_steps, indic_order_step, positioned, steps_of_reordered, with_joiner_first}
 use Rattle.shapers_indic_initial.specs.InitialRules.{Rules}
-use Rattle.shapers_indic_initial.proofs.InitialLaws.{halant_laws, halant_order, halant_step_of, joiner_laws}
-use Rattle.shapers_indic_initial.proofs.InitialSteps.{order_fits}
+use Rattle.shapers_indic_initial.specs.Proved.InitialLaws.{halant_laws, halant_order, halant_step_of, joiner_laws}
+use Rattle.shapers_indic_initial.specs.Proved.InitialSteps.{order_fits}
 use Rattle.shapers_indic_initial.proofs.Prepared.{seen_long}
 use Rattle.shapers_syllabic.specs.Reordering.{SyllableReordered}
 use Rattle.shapers_syllabic.specs.ReorderingLaws.{ReorderLaws}

@@ -7,6 +7,7 @@ use Rattle.shapers_buffer.specs.declared.buffer.tag.Script.{Script}
 use Rattle.shapers_buffer.specs.declared.buffer.level.BufferClusterLevel.TheVariants.{MonotoneGraphemes}
 use Rattle.shapers_buffer.specs.Glyph.{clusters}
 use Rattle.shapers_base.specs.declared.font.GlyphId.{GlyphId}
+use Rattle.shapers_base.specs.declared.plan.indic.BaseSearch.TheVariants.{WithoutMedials}
 use Rattle.shapers_clusters.specs.Steps.{run_steps}
 use Rattle.shapers_indic.specs.Plan.{config_of}
 use Rattle.shapers_indic.proofs.RowWords.{with_row_marks, row_masks, numbers_of, script}
@@ -22,7 +23,7 @@ nothing ids = false
 
 -- the rules of a script with these masks for rphf, pref, blwf, abvf, half and pstf, by a font that substitutes nothing
 abbrev pub rules : String → Bool → List ℕ → Rules
-rules tag old masks = record { config = config_of (script tag); old = old; masks = masks; forms_reph = nothing; forms_pref = nothing }
+rules tag old masks = record { config = config_of (script tag); old = old; search = WithoutMedials; masks = masks; forms_reph = nothing; forms_pref = nothing }
 
 abbrev pub no_masks : List ℕ
 no_masks = 0 ∷ 0 ∷ 0 ∷ 0 ∷ 0 ∷ 0 ∷ 0 ∷ 0 ∷ 0 ∷ 0 ∷ 0 ∷ 0 ∷ 0 ∷ 0 ∷ 0 ∷ 0 ∷ 0 ∷ []

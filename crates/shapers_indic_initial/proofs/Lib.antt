@@ -5,11 +5,9 @@ pub mod CycleWays
 pub mod Cycles
 mod FontCircles
 pub mod FontPositions
-pub mod Groups
 mod InitialBaseRows
 mod InitialClusterRows
 mod InitialFontRows
-pub mod InitialLaws
 mod InitialMaskRows
 mod InitialOrderRows
 mod InitialPauseRows
@@ -17,9 +15,7 @@ mod InitialPositionRows
 pub mod InitialReads
 mod InitialRows
 pub mod InitialSerialsStay
-pub mod InitialSteps
 mod InitialSyllable
-pub mod InitialViews
 mod InitialWords
 pub mod InitialWrites
 mod MaskViews
@@ -33,7 +29,6 @@ pub mod OrderListing
 pub mod OrderShifted
 mod PositionsPresent
 mod OrderedBase
-pub mod OrderedPlaces
 pub mod OrderedSyllable
 pub mod PlaceSearch
 mod PlainConsonant

@@ -22,7 +22,7 @@ use Rattle.shapers_indic_initial.specs.InitialMasks.{bits_of, has_eyelash, is_in
 use Rattle.shapers_indic_initial.specs.InitialOrder.{ordered_base}
 use Rattle.shapers_indic_initial.specs.InitialReordering.{masked_in_order}
 use Rattle.shapers_indic_initial.specs.InitialRules.{Rules, mask_at}
-use Rattle.shapers_indic_initial.proofs.InitialViews.{HidesMasks, after_off, before_off, bits_off, hidden-with_initial_masks}
+use Rattle.shapers_indic_initial.specs.Proved.InitialViews.{HidesMasks, after_off, before_off, bits_off, hidden-with_initial_masks}
 use Rattle.shapers_indic_initial.proofs.MaskWalks.{eyelash_same, half_step}
 use Rattle.shapers_indic_initial.proofs.OrderedBase.{base_by_position}
 use Rattle.shapers_syllabic.specs.Consonants.{is_consonant}

@@ -26,8 +26,8 @@ use Rattle.shapers_indic_initial.proofs.CycleSteps.{once_range}
 use Rattle.shapers_indic_initial.proofs.CycleWays.{held_by_ways}
 use Rattle.shapers_indic_initial.proofs.Cycles.{once-swap}
 use Rattle.shapers_clusters.proofs.GatheredCuts.{different_gathered, exact_gathered}
-use Rattle.shapers_indic_initial.proofs.InitialSteps.{length_permuted, stretches_end, within_permuted}
-use Rattle.shapers_indic_initial.proofs.OrderedPlaces.{ordered_permutes}
+use Rattle.shapers_indic_initial.specs.Proved.InitialSteps.{length_permuted, stretches_end, within_permuted}
+use Rattle.shapers_indic_initial.specs.Proved.OrderedPlaces.{ordered_permutes}
 
 -- places in some order are each there once
 pub once_permuted : (n : ℕ) (from : List ℕ) → IsPermutation (range_with_len 0 n) from → EachOnce from

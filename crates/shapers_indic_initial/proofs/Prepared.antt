@@ -19,12 +19,12 @@ use Rattle.shapers_indic_initial.specs.InitialPositions.{by_base, halant_after, 
 use Rattle.shapers_indic_initial.specs.InitialReordering.{halant_step, halant_steps, joiner_step, joiner_steps, opening_steps, positioned, with_base_positions, with_halant_moved, with_joiner_first, with_marks_and_owners}
 use Rattle.shapers_indic_initial.specs.InitialRules.{Rules}
 use Rattle.shapers_indic_initial.proofs.InitialReads.{KeepsRead, base_stays, joiner_first_stays, same_two}
-use Rattle.shapers_indic_initial.proofs.InitialSteps.{halant_fits, joiner_fits, joiner_long}
-use Rattle.shapers_indic_initial.proofs.InitialViews.{carried_hides_positions, hidden-by_base, hidden-with_marks_attached, hidden-with_owners_after}
+use Rattle.shapers_indic_initial.specs.Proved.InitialSteps.{halant_fits, joiner_fits, joiner_long}
+use Rattle.shapers_indic_initial.specs.Proved.InitialViews.{carried_hides_positions, hidden-by_base, hidden-with_marks_attached, hidden-with_owners_after}
 use Rattle.shapers_indic_initial.proofs.InitialWrites.{halant_places_stay, with_base_stays, with_marks_stays, with_owners_after_stays}
 use Rattle.shapers_indic_initial.proofs.Moves.{moved_within, pick-moved, stepped}
-use Rattle.shapers_indic_initial.proofs.OrderedPlaces.{places_all}
-use Rattle.shapers_indic_initial.proofs.InitialLaws.{length-with_base}
+use Rattle.shapers_indic_initial.specs.Proved.OrderedPlaces.{places_all}
+use Rattle.shapers_indic_initial.specs.Proved.InitialLaws.{length-with_base}
 use Rattle.shapers_syllabic.specs.Reordering.{SyllableReordered, carried}
 use Rattle.shapers_syllabic.proofs.SyllableThen.{changed_parts, syllable_as, syllable_changed, syllable_then}
 

@@ -26,15 +26,15 @@ use Rattle.shapers_indic_initial.specs.InitialPause.{with_positions_and_circles}
 use Rattle.shapers_indic_initial.specs.InitialOrder.{ordered_base, indic_ordered_places, ordered_stretches}
 use Rattle.shapers_indic_initial.specs.InitialReordering.{halant_step, in_indic_order, initial_steps, joiner_step, indic_order_step, positioned, steps_of_reordered, with_base_positions, with_joiner_first}
 use Rattle.shapers_indic_initial.specs.InitialRules.{Rules, initial_rules}
-use Rattle.shapers_indic_initial.proofs.InitialLaws.{halant_laws, halant_order, halant_step_of, initial_laws, initial_text_reordered, joiner_laws, three_laws}
-use Rattle.shapers_indic_initial.proofs.InitialSteps.{length_permuted, order_fits}
+use Rattle.shapers_indic_initial.specs.Proved.InitialLaws.{halant_laws, halant_order, halant_step_of, initial_laws, initial_text_reordered, joiner_laws, three_laws}
+use Rattle.shapers_indic_initial.specs.Proved.InitialSteps.{length_permuted, order_fits}
 use Rattle.shapers_clusters.proofs.Alone.{apart_own, same_stretch, stretch_own}
 use Rattle.shapers_clusters.proofs.StepsOutside.{Leaves, along_elsewhere, leaves_elsewhere}
 use Rattle.shapers_clusters.proofs.Spread.{length-stretch}
 use Rattle.shapers_clusters.proofs.Moves.{HeldIn, all_held}
 use Rattle.shapers_syllabic.proofs.SyllableAlone.{glyphs_cut, pieces_cut}
 use Rattle.shapers_indic_initial.proofs.OrderClusters.{Lies, all_by_two, held_together, once_permuted, one_cluster, order_merges, together_lies}
-use Rattle.shapers_indic_initial.proofs.OrderedPlaces.{ordered_permutes}
+use Rattle.shapers_indic_initial.specs.Proved.OrderedPlaces.{ordered_permutes}
 use Rattle.shapers_syllabic.specs.Reordering.{glyphs_before, text_steps}
 use Rattle.shapers_syllabic.proofs.ReorderingLaws.{each_piece, sum-pieces}
 use Rattle.shapers_syllabic.proofs.ReorderingWalk.{length-meaning, pieces_of}

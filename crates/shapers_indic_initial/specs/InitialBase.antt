@@ -6,9 +6,11 @@ use Rattle.std.specs.Option.{option_map_or, option_or}
 use Rattle.shapers_buffer.specs.declared.buffer.glyph.hb_glyph_info_t.{hb_glyph_info_t}
 use Rattle.shapers_buffer.specs.declared.buffer.tag.Script.{Script}
 use Rattle.shapers_base.specs.declared.font.GlyphId.{GlyphId}
+use Rattle.shapers_base.specs.declared.plan.indic.BaseSearch.{BaseSearch}
+use Rattle.shapers_base.specs.declared.plan.indic.BaseSearch.TheVariants.{WithoutMedials, AllConsonants}
 use Rattle.shapers_base.specs.declared.plan.indic.RephMode.{RephMode}
 use Rattle.shapers_base.specs.declared.plan.indic.RephMode.TheVariants.{Implicit, Explicit, LogRepha}
-use Rattle.shapers_base.specs.declared.plan.ot_category_t.TheConstants.{OT_C, OT_CS, OT_DOTTEDCIRCLE, OT_H, OT_PLACEHOLDER, OT_Ra, OT_Repha, OT_V, OT_ZWJ}
+use Rattle.shapers_base.specs.declared.plan.ot_category_t.TheConstants.{OT_C, OT_CM, OT_CS, OT_DOTTEDCIRCLE, OT_H, OT_PLACEHOLDER, OT_Ra, OT_Repha, OT_V, OT_ZWJ}
 use Rattle.shapers_base.specs.declared.plan.ot_position_t.TheConstants.{POS_BELOW_C, POS_POST_C}
 use Rattle.shapers_indic.specs.declared.ot_shaper_indic.indic_feature.TheConstants.{RPHF}
 use Rattle.shapers_indic.specs.Glyphs.{greatest_place, has_category, has_position, is_joiner, is_one_of, least_place, numbers, passes, some_place}
@@ -74,12 +76,19 @@ limit_behind n gs = if n == 0 then 0 else n + prefix_len is_joiner (drop n gs)
 abbrev pub limit : Rules → List hb_glyph_info_t → ℕ
 limit r gs = limit_behind (indic_reph_len r gs) gs
 
--- whether a glyph is a consonant that may be the base, and whether the one at place i is
-abbrev pub is_base_candidate : hb_glyph_info_t → Bool
-is_base_candidate = is_one_of (OT_C ∷ OT_CS ∷ OT_Ra ∷ OT_V ∷ OT_PLACEHOLDER ∷ OT_DOTTEDCIRCLE ∷ [])
+-- the category of the medial consonants, where they are searched too
+abbrev pub searched_medials : BaseSearch → List ℕ
+searched_medials WithoutMedials = []
+searched_medials AllConsonants = OT_CM ∷ []
 
-abbrev pub may_be_base : List hb_glyph_info_t → ℕ → Bool
-may_be_base gs i = passes is_base_candidate gs i
+-- whether a glyph is a consonant that may be the base, and whether the one at place i is
+abbrev pub is_base_candidate : BaseSearch → hb_glyph_info_t → Bool
+is_base_candidate search =
+    is_one_of (OT_C ∷ OT_CS ∷ OT_Ra ∷ OT_V ∷ OT_PLACEHOLDER ∷ OT_DOTTEDCIRCLE
+    ∷ searched_medials search)
+
+abbrev pub may_be_base : BaseSearch → List hb_glyph_info_t → ℕ → Bool
+may_be_base search gs i = passes (is_base_candidate search) gs i
 
 -- whether it stops the search: a ZWJ behind an H requests a half form of what stands before it
 abbrev pub stops_search : List hb_glyph_info_t → ℕ → Bool
@@ -95,30 +104,30 @@ abbrev pub search_start : Rules → List hb_glyph_info_t → ℕ
 search_start r gs = search_from (min (limit r gs) (length gs - 1)) gs
 
 -- whether the consonant at place i has a below-base form
-abbrev pub has_below_form : List hb_glyph_info_t → ℕ → Bool
-has_below_form gs i = may_be_base gs i && passes (has_position POS_BELOW_C) gs i
+abbrev pub has_below_form : BaseSearch → List hb_glyph_info_t → ℕ → Bool
+has_below_form search gs i = may_be_base search gs i && passes (has_position POS_BELOW_C) gs i
 
 -- whether the search may end with the consonant at place i: it has neither a below-base nor a
 -- post-base form; but a post-base form has to follow below-base ones, so it counts as none before
 -- one of those
-abbrev pub is_base : List hb_glyph_info_t → ℕ → Bool
-is_base gs i = may_be_base gs i && not (has_below_form gs i)
+abbrev pub is_base : BaseSearch → List hb_glyph_info_t → ℕ → Bool
+is_base search gs i = may_be_base search gs i && not (has_below_form search gs i)
     && (not (passes (has_position POS_POST_C) gs i)
-    || some_place (has_below_form gs) (i + 1) (length gs))
+    || some_place (has_below_form search gs) (i + 1) (length gs))
 
 -- the last such consonant, else the first one that may be the base
-abbrev pub last_or_first : ℕ → List hb_glyph_info_t → Option ℕ
-last_or_first start gs =
-    option_or (greatest_place (is_base gs) start (length gs))
-    (least_place (may_be_base gs) start (length gs))
+abbrev pub last_or_first : BaseSearch → ℕ → List hb_glyph_info_t → Option ℕ
+last_or_first search start gs =
+    option_or (greatest_place (is_base search gs) start (length gs))
+    (least_place (may_be_base search gs) start (length gs))
 
 -- the base: that one, else the reph, else none
-abbrev pub base_from : ℕ → ℕ → List hb_glyph_info_t → ℕ
-base_from start otherwise gs = unwrap_or (last_or_first start gs) otherwise
+abbrev pub base_from : BaseSearch → ℕ → ℕ → List hb_glyph_info_t → ℕ
+base_from search start otherwise gs = unwrap_or (last_or_first search start gs) otherwise
 
 abbrev pub base_place : Rules → List hb_glyph_info_t → ℕ
 base_place r gs =
-    base_from (search_start r gs) (if indic_reph_len r gs == 0 then length gs else 0) gs
+    base_from r.search (search_start r gs) (if indic_reph_len r gs == 0 then length gs else 0) gs
 
 -- whether the syllable has a reph: one opens it, and there is another base, or a joiner that forces
 -- the reph

@@ -13,12 +13,12 @@ use Rattle.shapers_base.specs.Font.{Font}
 use Rattle.shapers_base.specs.Map.{Map}
 use Rattle.shapers_clusters.specs.Steps.{Step}
 use Rattle.shapers_indic_initial.specs.InitialFont.{positions_by_font}
-use Rattle.shapers_indic_initial.specs.InitialReordering.{initial_order, initial_steps}
+use Rattle.shapers_indic_initial.specs.InitialReordering.{InitialRelation, initial_order, initial_steps}
 use Rattle.shapers_indic_initial.specs.InitialRules.{initial_rules}
 use Rattle.shapers_syllabic.specs.declared.ot_shaper_syllabic.kinds.indic_syllable.TheConstants.{BROKEN_CLUSTER, NON_INDIC_CLUSTER}
 use Rattle.shapers_syllabic.specs.Circles.{circled}
 use Rattle.shapers_syllabic.specs.declared.ot_shaper_syllabic.circles.DottedCircles.{DottedCircles}
-use Rattle.shapers_syllabic.specs.Reordering.{SyllablesReordered, script_circles}
+use Rattle.shapers_syllabic.specs.Reordering.{SyllablesLinked, SyllablesReordered, script_circles}
 use Rattle.shapers_syllabic.specs.declared.ot_shaper_syllabic.circles.ScriptCircles.{ScriptCircles}
 
 -- the dotted circles: behind a repha that opens a broken syllable, and of the last position, which
@@ -45,6 +45,12 @@ abbrev pub InitiallyReordered : Font → Map → indic_shape_plan_t → Buffer �
 InitiallyReordered font m p old new =
     SyllablesReordered (initial_order (initial_rules font m p) old.script)
     (initial_steps (initial_rules font m p) old.script)
+    (with_positions_and_circles font m p old) new
+
+-- the same as a chain, one link a syllable
+abbrev pub InitiallyLinked : Font → Map → indic_shape_plan_t → Buffer → Buffer → Type 0
+InitiallyLinked font m p old new =
+    SyllablesLinked (InitialRelation (initial_rules font m p))
     (with_positions_and_circles font m p old) new
 
 -- the refusal of a text with a syllable of unknown kind

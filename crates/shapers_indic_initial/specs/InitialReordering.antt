@@ -3,6 +3,7 @@
 use Rattle.std.specs.Prelude.{ℕ, Bool, List, [], ◌∷◌, ◌++◌, length, Option, if◌then◌else◌}
 use Rattle.shapers_buffer.specs.declared.buffer.glyph.hb_glyph_info_t.{hb_glyph_info_t}
 use Rattle.shapers_buffer.specs.declared.buffer.tag.Script.{Script}
+use Rattle.shapers_buffer.specs.Buffer.{Buffer}
 use Rattle.shapers_buffer.specs.Places.{pick}
 use Rattle.shapers_clusters.specs.Steps.{Step, still_step, swap_step}
 use Rattle.shapers_indic_initial.specs.InitialBase.{base_place, has_indic_reph, joiner_comes_first}
@@ -11,6 +12,7 @@ use Rattle.shapers_indic_initial.specs.InitialOrder.{ordered_base, indic_ordered
 use Rattle.shapers_indic_initial.specs.InitialPositions.{by_base, halant_places, with_marks_attached, with_owners_after}
 use Rattle.shapers_indic_initial.specs.InitialRules.{Rules}
 use Rattle.shapers_syllabic.specs.Circles.{is_of_kinds}
+use Rattle.shapers_syllabic.specs.Reordering.{SyllableReordered}
 use Rattle.shapers_syllabic.specs.declared.ot_shaper_syllabic.kinds.indic_syllable.TheConstants.{BROKEN_CLUSTER, CONSONANT_SYLLABLE, STANDALONE_CLUSTER, VOWEL_SYLLABLE}
 
 -- whether a syllable is reordered: one of a consonant or a vowel, a standalone one, or a broken one
@@ -98,3 +100,8 @@ steps_of_reordered r script gs =
 
 abbrev pub initial_steps : Rules → Option Script → List hb_glyph_info_t → List Step
 initial_steps r script gs = if is_reordered_in_indic gs then steps_of_reordered r script gs else []
+
+-- the buffer before and after the syllable from one place to another is reordered
+abbrev pub InitialRelation : Rules → ℕ → ℕ → Buffer → Buffer → Type 0
+InitialRelation r s e old new =
+    SyllableReordered (initial_order r old.script) (initial_steps r old.script) s e old new

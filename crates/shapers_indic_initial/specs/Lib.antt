@@ -12,3 +12,4 @@ pub mod InitialRules
 pub mod KnownWalk
 pub mod MarkWalk
 pub mod OrderWalk
+pub mod Proved

@@ -5,7 +5,7 @@ use Rattle.shapers_buffer.specs.Places.{pick}
 use Rattle.shapers_khmer.specs.Khmer.{is_reordered_in_khmer, khmer_masked, khmer_order, khmer_steps, categories_of}
 use Rattle.shapers_khmer.specs.KhmerLaws.{KhmerCutsBetweenSpans}
 use Rattle.shapers_khmer.specs.KhmerMovers.{KhmerByMoversLaw, order_by_movers}
-use Rattle.shapers_khmer.proofs.KhmerLaws.{khmer_laws}
+use Rattle.shapers_khmer.specs.Proved.KhmerLaws.{khmer_laws}
 use Rattle.shapers_khmer.proofs.KhmerMoverMasks.{khmer_masks_by_movers}
 use Rattle.shapers_khmer.proofs.KhmerMovers.{khmer_order_by_movers}
 use Rattle.shapers_khmer.proofs.KhmerSerials.{khmer_reads_no_serials}

@@ -10,7 +10,7 @@ use Rattle.shapers_khmer.specs.declared.ot_shaper_khmer.reordering.KhmerOrder.{K
 use Rattle.shapers_khmer.specs.Khmer.{masked, with_mask}
 use Rattle.shapers_khmer.specs.KhmerMovers.{with_mask_if}
 use Rattle.shapers_khmer.specs.KhmerWalk.{paired}
-use Rattle.shapers_khmer.proofs.KhmerMasks.{length-masked}
+use Rattle.shapers_khmer.specs.Proved.KhmerMasks.{length-masked}
 
 -- MASKS COMMUTE, and one added twice is added once
 pub swap_if : (a b : Bool) (m k : ℕ) (g : hb_glyph_info_t) → with_mask_if a m (with_mask_if b k g) ≡ with_mask_if b k (with_mask_if a m g)

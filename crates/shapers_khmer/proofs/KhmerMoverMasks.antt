@@ -13,11 +13,11 @@ use Rattle.std.proofs.lemmas.Bool.{and_parts}
 use Rattle.shapers_buffer.specs.Glyph.{default_glyph}
 use Rattle.shapers_buffer.specs.Lists.{each_after}
 use Rattle.shapers_khmer.specs.Khmer.{Pair, brought, is_coeng, is_left_vowel, is_ro, khmer_masked, khmer_moves, masked, masked_all, masked_for, merged_by_move, moves_by_cases, categories_of, with_mask}
-use Rattle.shapers_khmer.proofs.KhmerCases.{brought_parts}
+use Rattle.shapers_khmer.specs.Proved.KhmerCases.{brought_parts}
 use Rattle.shapers_khmer.proofs.KhmerMaskPlaces.{join_if, masked_before, masked_behind, masked_there, swap_if}
-use Rattle.shapers_khmer.proofs.KhmerMasks.{length-masked, length-categories}
+use Rattle.shapers_khmer.specs.Proved.KhmerMasks.{length-masked, length-categories}
 use Rattle.shapers_khmer.specs.KhmerWalk.{paired}
-use Rattle.shapers_khmer.proofs.KhmerLaws.{hidden-masked_all, khmer_ends}
+use Rattle.shapers_khmer.specs.Proved.KhmerLaws.{hidden-masked_all, khmer_ends}
 use Rattle.shapers_clusters.specs.Cuts.{EndWithin}
 use Rattle.shapers_khmer.specs.KhmerMovers.{Alone, Coeng, KhmerMoversMasksLaw, Part, behind_coengs, coeng_place, is_coeng_or_left_vowel, is_mover, masked_at, moving_coengs, parts_from, with_mask_if}
 use Rattle.shapers_khmer.proofs.KhmerMovers.{count_alone, count_coeng, counted, counted_on, first_looked, first_part, inner_behind, inner_tail, is_inner, longer, looked, looked_coeng, looked_other, looked_pair, looked_vowel, moves_by_count, neither, range_behind}

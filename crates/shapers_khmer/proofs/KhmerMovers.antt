@@ -9,8 +9,8 @@ use Rattle.std.proofs.lemmas.List.Concat.{flat_map-cons}
 use Rattle.shapers_buffer.specs.Lists.{each_after}
 use Rattle.shapers_buffer.specs.declared.buffer.glyph.hb_glyph_info_t.{hb_glyph_info_t}
 use Rattle.shapers_khmer.specs.Khmer.{Move, Pair, Vowel, brought, is_coeng, is_left_vowel, is_ro, khmer_moves, moved_all, moves_by_cases, categories_of}
-use Rattle.shapers_khmer.proofs.KhmerCases.{brought_parts}
-use Rattle.shapers_khmer.proofs.KhmerMasks.{length-categories}
+use Rattle.shapers_khmer.specs.Proved.KhmerCases.{brought_parts}
+use Rattle.shapers_khmer.specs.Proved.KhmerMasks.{length-categories}
 use Rattle.shapers_khmer.specs.KhmerMovers.{Alone, Coeng, KhmerMoversLaw, Part, behind_coengs, is_coeng_or_left_vowel, is_mover, moves_behind, order_by_movers, parts_from, part_places}
 
 -- THE COUNT. How many Coengs are counted, by what stands behind them: with more than two counted no Ro moves

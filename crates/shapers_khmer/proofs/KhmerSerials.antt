@@ -13,7 +13,7 @@ use Rattle.shapers_clusters.proofs.Picks.{pick-map}
 use Rattle.shapers_khmer.specs.declared.ot_shaper_khmer.reordering.KhmerOrder.{KhmerOrder}
 use Rattle.shapers_khmer.specs.Khmer.{Move, Pair, Vowel, is_reordered_in_khmer, khmer_masked, khmer_moves, khmer_order, khmer_places, khmer_step, masked, masked_all, masked_for, merged_by_move, moved, moved_all, categories_of, with_mask}
 use Rattle.shapers_khmer.specs.KhmerLaws.{KhmerReadsNoSerials}
-use Rattle.shapers_khmer.proofs.KhmerCases.{moves_by_categories, moves_of_categories}
+use Rattle.shapers_khmer.specs.Proved.KhmerCases.{moves_by_categories, moves_of_categories}
 use Rattle.shapers_syllabic.specs.Borders.{unnumbered}
 
 -- without serials, the kind, the categories and the length stay

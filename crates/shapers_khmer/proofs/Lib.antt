@@ -2,16 +2,12 @@ mod ConstantRows
 pub mod KhmerAlone
 pub mod KhmerByMovers
 pub mod KhmerInPlace
-pub mod KhmerCases
-pub mod KhmerLaws
 pub mod KhmerMaskPlaces
-pub mod KhmerMasks
 pub mod KhmerMerged
 pub mod KhmerMoverMasks
 pub mod KhmerMoverMerges
 pub mod KhmerMovers
 mod KhmerMoversRows
-pub mod KhmerMoves
 pub mod KhmerPauseMovers
 pub mod KhmerRing
 mod KhmerRows

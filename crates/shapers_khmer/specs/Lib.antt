@@ -4,3 +4,4 @@ pub mod KhmerMovers
 pub mod KhmerWalk
 pub mod Plan
 pub mod Requests
+pub mod Proved

@@ -3,9 +3,6 @@ mod Drawing
 mod Inside
 mod Listing
 mod Merging
-pub mod MyanmarLaws
-pub mod MyanmarPlaces
-pub mod MyanmarPlain
 mod MyanmarRows
 pub mod MyanmarSerials
 mod OneMoved

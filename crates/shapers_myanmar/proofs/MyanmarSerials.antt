@@ -10,8 +10,8 @@ use Rattle.shapers_syllabic.proofs.Views.{KeepsKinds, View, seen_by, shown, unnu
 use Rattle.shapers_syllabic.specs.declared.ot_shaper_syllabic.kinds.myanmar_syllable.TheConstants.{BROKEN_CLUSTER}
 use Rattle.shapers_myanmar.specs.Myanmar.{in_myanmar_order, is_reordered_in_myanmar, merged_stretches, myanmar_order, myanmar_steps, myanmar_order_step, myanmar_ordered_places, with_positions}
 use Rattle.shapers_myanmar.specs.MyanmarLaws.{MyanmarCutsBetweenSpans, MyanmarReadsNoSerials}
-use Rattle.shapers_myanmar.proofs.MyanmarLaws.{myanmar_laws}
-use Rattle.shapers_myanmar.proofs.MyanmarPlain.{is_reordered-seen, merges-seen, places-seen, positions-seen}
+use Rattle.shapers_myanmar.specs.Proved.MyanmarLaws.{myanmar_laws}
+use Rattle.shapers_myanmar.specs.Proved.MyanmarPlain.{is_reordered-seen, merges-seen, places-seen, positions-seen}
 
 order_stays : (v : View) → KeepsKinds v → (gs : List hb_glyph_info_t) → seen_by v (myanmar_order gs) ≡ myanmar_order (seen_by v gs)
 order_stays v kinds gs =

@@ -3,3 +3,4 @@ pub mod MyanmarLaws
 pub mod MyanmarUnits
 pub mod MyanmarWalk
 pub mod Requests
+pub mod Proved

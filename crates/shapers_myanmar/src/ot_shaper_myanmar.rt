@@ -11,7 +11,7 @@ ghost use Rattle.shapers_syllabic.specs.declared.ot_shaper_syllabic.kinds.myanma
 ghost use Rattle.shapers_syllabic.specs.Characters.{with_category};
 ghost use Rattle.shapers_syllabic.specs.CircleLaws.{NoNewCluster};
 ghost use Rattle.shapers_syllabic.specs.Circles.{circled};
-ghost use Rattle.shapers_syllabic.specs.Reordering.{PauseReordered, carried, script_circles, text_steps};
+ghost use Rattle.shapers_syllabic.specs.Reordering.{PauseLinked, PauseReordered, SyllableReordered, carried, script_circles, text_steps};
 ghost use Rattle.shapers_syllabic.specs.ReorderingLaws.{PauseCutsAtBorders};
 ghost use Rattle.shapers_myanmar.specs.Myanmar.{myanmar_circles, myanmar_order, myanmar_steps};
 ghost use Rattle.shapers_myanmar.specs.Requests.{myanmar_list};
@@ -100,6 +100,9 @@ pub fn reorder_myanmar<F: hb_font_t>(
         IfOk result (λ answer. answer ≡ is_some circles) }
     ensures order { let circles = script_circles myanmar_circles (F.font face.now) buffer.old in
         OnOk result (PauseReordered circles myanmar_order myanmar_steps buffer.old buffer.new) }
+    ensures linked { let circles = script_circles myanmar_circles (F.font face.now) buffer.old in
+        OnOk result (PauseLinked circles
+        (SyllableReordered myanmar_order myanmar_steps) buffer.old buffer.new) }
     ensures cut { let circles = script_circles myanmar_circles (F.font face.now) buffer.old in
         OnOk result (PauseCutsAtBorders circles myanmar_order myanmar_steps buffer.old buffer.new) }
     ensures laws { let circles = script_circles myanmar_circles (F.font face.now) buffer.old in

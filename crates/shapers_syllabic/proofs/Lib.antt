@@ -8,6 +8,7 @@ mod LastBroken
 pub mod MovedForward
 mod OpenedCircles
 pub mod LawsThen
+pub mod LinkedSyllables
 pub mod NonePass
 pub mod PauseCuts
 pub mod ReorderingCuts

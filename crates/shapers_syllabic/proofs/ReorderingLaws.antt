@@ -13,7 +13,7 @@ use Rattle.shapers_clusters.specs.Flags.{seen}
 use Rattle.shapers_clusters.specs.Steps.{run_steps, FitSteps, FitsStep, MovesMerged, Permutes, Step, steps_along}
 use Rattle.shapers_clusters.proofs.Proved.{along_holds, reordered_hold, seen_steps_hold}
 use Rattle.shapers_clusters.proofs.Views.{seen-permuted, seen-run_steps, seen-same}
-use Rattle.shapers_syllabic.specs.Reordering.{carried, text_order, text_steps}
+use Rattle.shapers_syllabic.specs.Reordering.{carried, glyph_numbers, text_order, text_steps}
 use Rattle.shapers_syllabic.specs.ReorderingLaws.{ReorderLaws, ReorderingLosesNothing, TextReorderedLaw}
 use Rattle.shapers_syllabic.proofs.CircleLaws.{joined-syllables}
 use Rattle.shapers_syllabic.proofs.ReorderingLemmas.{carried_hides}
@@ -38,6 +38,13 @@ kept_pieces meaning steps laws (piece ∷ pieces) =
 pub numbers-seen : (gs : List hb_glyph_info_t) → map (λ g. g.glyph_id) (seen carried gs) ≡ map (λ g. g.glyph_id) gs
 numbers-seen [] = refl
 numbers-seen (g ∷ gs) = ap (λ l. g.glyph_id ∷ l) (numbers-seen gs)
+
+-- what a syllable becomes has the numbers that it had
+pub numbers_kept : (meaning : List hb_glyph_info_t → List hb_glyph_info_t) (steps : List hb_glyph_info_t → List Step) → ReorderLaws meaning steps → (gs : List hb_glyph_info_t) → IsPermutation (glyph_numbers gs) (glyph_numbers (meaning gs))
+numbers_kept meaning steps laws gs =
+    let number : hb_glyph_info_t → ℕ = λ g. g.glyph_id in
+    subst (λ ns. IsPermutation ns (glyph_numbers (meaning gs))) (numbers-seen gs)
+    (subst (IsPermutation (map number (seen carried gs))) (numbers-seen (meaning gs)) (IsPermutation-map number (seen carried gs) (seen carried (meaning gs)) (kept_syllable meaning steps laws gs)))
 
 pub nothing_lost : ReorderingLosesNothing
 nothing_lost meaning steps laws gs =

@@ -10,11 +10,11 @@ use Rattle.shapers_buffer.specs.Clusters.{merge, merge_all, stretch_of, with_str
 use Rattle.shapers_buffer.specs.Glyph.{order_view, plain, without_flags}
 use Rattle.shapers_buffer.specs.Marks.{no_marks}
 use Rattle.shapers_buffer.specs.Places.{listed, pick, placed}
-use Rattle.shapers_buffer.proofs.ClusterLemmas.{three_parts, map-stretch, length-stretch}
+use Rattle.shapers_buffer.proofs.ClusterLemmas.{three_parts, map-stretch}
 use Rattle.shapers_clusters.specs.Flags.{HidesFields, seen}
 use Rattle.shapers_clusters.specs.Steps.{FitsStep, Step, run_steps, old_places, shifted, still_step, widened}
 use Rattle.shapers_clusters.proofs.Merging.{length-merge_all}
-use Rattle.shapers_clusters.proofs.Picks.{length-pick, pick-append, pick-map, pick-range, pick-all, pick-within}
+use Rattle.shapers_clusters.proofs.Picks.{pick-append, pick-map, pick-range, pick-all, pick-within}
 use Rattle.shapers_clusters.proofs.ViewedSteps.{PassesMerges, merge-same, merge_all-same, pick-same, run_steps-same, length-same}
 use Rattle.shapers_clusters.proofs.Widened.{fits-widened, pick-parts, range-three}
 use Rattle.shapers_clusters.proofs.Swaps.{still_moves_merged}
@@ -61,10 +61,13 @@ pick-in_parts s e ps xs h l =
     ∙ ap (λ ys. take s xs ++ ys) (pick-append ps rest xs
     ∙ ap (λ ys. pick ps xs ++ ys) (pick-range e (length xs - e) xs (omega arith) ∙ take_rest xs e))
 
--- The glyphs placed by a list that lists the step's places, from s to e: those that the widened step picks.
+-- Glyphs placed by the step's places, from s to e: those that the widened step picks; so by a list that lists these.
+pub picked-step : {X : Type 0} (s e : ℕ) (ps : List ℕ) (step : Step) (xs : List X) → s ≤ e → e ≤ length xs → ps ≡ map (λ p. s + p) step.places → with_stretch s e (λ _. pick ps xs) xs ≡ pick (widened s e (length xs) step).places xs
+picked-step s e ps step xs h l is =
+    ap (λ ps. take s xs ++ (pick ps xs ++ drop e xs)) is ∙ sym (pick-in_parts s e (map (λ p. s + p) step.places) xs h l)
+
 pub placed-step : {X : Type 0} (s e : ℕ) (places : List ℕ) (step : Step) (xs : List X) → s ≤ e → e ≤ length xs → listed s e places ≡ map (λ p. s + p) step.places → placed s e places xs ≡ pick (widened s e (length xs) step).places xs
-placed-step s e places step xs h l lists =
-    ap (λ ps. take s xs ++ (pick ps xs ++ drop e xs)) lists ∙ sym (pick-in_parts s e (map (λ p. s + p) step.places) xs h l)
+placed-step s e places step xs h l lists = picked-step s e (listed s e places) step xs h l lists
 
 -- places picked of all places
 picked_range : (n : ℕ) (ps : List ℕ) → AllByRecursion (λ p. p < n) ps → pick ps (range_with_len 0 n) ≡ ps
@@ -75,35 +78,29 @@ picked_range n (p ∷ ps) h =
     ∙ ap (λ k. k ∷ pick ps (range_with_len 0 n)) (get_or-range_with_len 0 n p 0 first ∙ zero-add p)
     ∙ ap (λ l. p ∷ l) (picked_range n ps h.1)
 
-pub map-placed : {X Y : Type 0} (f : X → Y) (s e : ℕ) (places : List ℕ) (xs : List X) → map f (placed s e places xs) ≡ placed s e places (map f xs)
-map-placed f s e places xs =
-    let ps = listed s e places in
+pub map-picked : {X Y : Type 0} (f : X → Y) (s e : ℕ) (ps : List ℕ) (xs : List X) → map f (with_stretch s e (λ _. pick ps xs) xs) ≡ with_stretch s e (λ _. pick ps (map f xs)) (map f xs)
+map-picked f s e ps xs =
     map-append f (take s xs) (pick ps xs ++ drop e xs)
     ∙ ap (λ ys. ys ++ map f (pick ps xs ++ drop e xs)) (sym (take-map f s xs))
     ∙ ap (λ ys. take s (map f xs) ++ ys) (map-append f (pick ps xs) (drop e xs)
     ∙ ap (λ ys. ys ++ map f (drop e xs)) (sym (pick-map f ps xs))
     ∙ ap (λ ys. pick ps (map f xs) ++ ys) (sym (drop-map f e xs)))
 
-pub length-placed : {X : Type 0} (s e : ℕ) (places : List ℕ) (step : Step) (xs : List X) → s ≤ e → e ≤ length xs → FitsStep (e - s) step → listed s e places ≡ map (λ p. s + p) step.places → length (placed s e places xs) ≡ length xs
-length-placed s e places step xs h l f lists =
-    let w = fits-widened s e (length xs) step h l f in
-    ap length (placed-step s e places step xs h l lists) ∙ length-pick (widened s e (length xs) step).places xs w.within ∙ w.as_many
-
 -- Glyphs gs merged as the step merges them first, with changes that don't show: ms. These placed are what the step leads to.
-pub moved_by_places : (level : BufferClusterLevel) (s e : ℕ) (step : Step) (places : List ℕ) (gs ms ns : List hb_glyph_info_t) → s ≤ e → e ≤ length gs → FitsStep (e - s) step → step.merged_then ≡ [] → listed s e places ≡ map (λ p. s + p) step.places → map carried ms ≡ map carried (merge_all level (shifted s step.merged_first) gs) → ns ≡ placed s e places ms → map carried ns ≡ map carried (run_steps level (map (widened s e (length gs)) (step ∷ [])) gs)
-moved_by_places level s e step places gs ms ns h l f nothing lists same is =
+pub moved_by_places : (level : BufferClusterLevel) (s e : ℕ) (step : Step) (ps : List ℕ) (gs ms ns : List hb_glyph_info_t) → s ≤ e → e ≤ length gs → FitsStep (e - s) step → step.merged_then ≡ [] → ps ≡ map (λ p. s + p) step.places → map carried ms ≡ map carried (merge_all level (shifted s step.merged_first) gs) → ns ≡ with_stretch s e (λ _. pick ps ms) ms → map carried ns ≡ map carried (run_steps level (map (widened s e (length gs)) (step ∷ [])) gs)
+moved_by_places level s e step ps gs ms ns h l f nothing are same is =
     let w = widened s e (length gs) step in
     let merged = merge_all level (shifted s step.merged_first) gs in
     let k : length merged ≡ length gs = length-merge_all level (shifted s step.merged_first) gs (fits-widened s e (length gs) step h l f).first_within in
     let m : length ms ≡ length gs = length-same carried ms merged same ∙ k in
-    ap (map carried) (is ∙ placed-step s e places step ms h (omega arith) lists)
+    ap (map carried) (is ∙ picked-step s e ps step ms h (omega arith) are)
     ∙ ap (λ n. map carried (pick (widened s e n step).places ms)) m
     ∙ pick-same carried w.places ms merged same
     ∙ sym (ap (λ sts. map carried (merge_all level (shifted s sts) (pick w.places merged))) nothing)
 
 -- Where the order view of ms is that of gs with a changed stretch, the placed glyphs have the changed stretch's places.
-pub order_by_places : (s e : ℕ) (step : Step) (change : List hb_glyph_info_t → List hb_glyph_info_t) (places : List ℕ) (gs ms ns : List hb_glyph_info_t) → s ≤ e → e ≤ length gs → FitsStep (e - s) step → listed s e places ≡ map (λ p. s + p) step.places → length (change (stretch_of s e (order_view gs))) ≡ e - s → order_view ms ≡ with_stretch s e change (order_view gs) → ns ≡ placed s e places ms → order_view ns ≡ with_stretch s e (λ xs. pick step.places (change xs)) (order_view gs)
-order_by_places s e step change places gs ms ns h l f lists as_many changed is =
+pub order_by_places : (s e : ℕ) (step : Step) (change : List hb_glyph_info_t → List hb_glyph_info_t) (ps : List ℕ) (gs ms ns : List hb_glyph_info_t) → s ≤ e → e ≤ length gs → FitsStep (e - s) step → ps ≡ map (λ p. s + p) step.places → length (change (stretch_of s e (order_view gs))) ≡ e - s → order_view ms ≡ with_stretch s e change (order_view gs) → ns ≡ with_stretch s e (λ _. pick ps ms) ms → order_view ns ≡ with_stretch s e (λ xs. pick step.places (change xs)) (order_view gs)
+order_by_places s e step change ps gs ms ns h l f are as_many changed is =
     let xs = order_view gs in
     let a = take s xs in
     let b = change (stretch_of s e xs) in
@@ -113,22 +110,16 @@ order_by_places s e step change places gs ms ns h l f lists as_many changed is =
     let cn : e + length c ≡ length xs = omega (arith, length-drop e xs) in
     let all : length (a ++ (b ++ c)) ≡ length xs = omega (arith, length-append a (b ++ c), length-append b c) in
     ap order_view is
-    ∙ map-placed plain s e places ms
-    ∙ ap (placed s e places) changed
-    ∙ placed-step s e places step (a ++ (b ++ c)) h (omega arith) lists
+    ∙ map-picked plain s e ps ms
+    ∙ ap (λ ys. with_stretch s e (λ _. pick ps ys) ys) changed
+    ∙ picked-step s e ps step (a ++ (b ++ c)) h (omega arith) are
     ∙ pick-parts s e (length (a ++ (b ++ c))) step a b c h an as_many (omega arith) f
-
--- the same where only merges come before
-pub order_by_places_alone : (s e : ℕ) (step : Step) (places : List ℕ) (gs ms ns : List hb_glyph_info_t) → s ≤ e → e ≤ length gs → FitsStep (e - s) step → listed s e places ≡ map (λ p. s + p) step.places → order_view ms ≡ order_view gs → ns ≡ placed s e places ms → order_view ns ≡ with_stretch s e (pick step.places) (order_view gs)
-order_by_places_alone s e step places gs ms ns h l f lists same is =
-    let n : length (order_view gs) ≡ length gs = length-map gs plain in
-    let long : length (stretch_of s e (order_view gs)) ≡ e - s = length-stretch s e (order_view gs) (omega arith) in
-    order_by_places s e step (λ xs. xs) places gs ms ns h l f lists long (same ∙ sym (three_parts s e (order_view gs) h)) is
 
 -- What a body shows that merges and changes its syllable, and then places it: ms are the glyphs before they are placed.
 pub record Placed (meaning : List hb_glyph_info_t → List hb_glyph_info_t) (steps : List hb_glyph_info_t → List Step) (s e : ℕ) (step : Step) (change : List hb_glyph_info_t → List hb_glyph_info_t) (old new : Buffer) (ms : List hb_glyph_info_t) : Type 0 where
   pub in_order : s ≤ e
   pub in_range : e ≤ length old.glyphs
+  pub places : List ℕ
   pub others : but_places new ≡ record (but_places old) { glyphs = new.glyphs }
   pub one_step : steps (stretch_of s e (order_view old.glyphs)) ≡ step ∷ []
   pub fits : FitsStep (e - s) step
@@ -136,8 +127,8 @@ pub record Placed (meaning : List hb_glyph_info_t → List hb_glyph_info_t) (ste
   pub merged : map carried ms ≡ map carried (merge_all old.level (shifted s step.merged_first) old.glyphs)
   pub changed : order_view ms ≡ with_stretch s e change (order_view old.glyphs)
   pub as_many : length (change (stretch_of s e (order_view old.glyphs))) ≡ e - s
-  pub lists : listed s e new.places ≡ map (λ p. s + p) step.places
-  pub placed_are : new.glyphs ≡ placed s e new.places ms
+  pub places_are : places ≡ map (λ p. s + p) step.places
+  pub placed_are : new.glyphs ≡ with_stretch s e (λ _. pick places ms) ms
   pub meant : meaning (stretch_of s e (order_view old.glyphs)) ≡ pick step.places (change (stretch_of s e (order_view old.glyphs)))
 
 pub reordered_by_places : (meaning : List hb_glyph_info_t → List hb_glyph_info_t) (steps : List hb_glyph_info_t → List Step) (s e : ℕ) (step : Step) (change : List hb_glyph_info_t → List hb_glyph_info_t) (old new : Buffer) (ms : List hb_glyph_info_t) → Placed meaning steps s e step change old new ms → SyllableReordered meaning steps s e old new
@@ -145,9 +136,9 @@ reordered_by_places meaning steps s e step change old new ms p =
     let xs = order_view old.glyphs in
     record {
       others = p.others;
-      order = order_by_places s e step change new.places old.glyphs ms new.glyphs p.in_order p.in_range p.fits p.lists p.as_many p.changed p.placed_are
+      order = order_by_places s e step change p.places old.glyphs ms new.glyphs p.in_order p.in_range p.fits p.places_are p.as_many p.changed p.placed_are
           ∙ ap (λ ys. take s xs ++ (ys ++ drop e xs)) (sym p.meant);
-      moved = moved_by_places old.level s e step new.places old.glyphs ms new.glyphs p.in_order p.in_range p.fits p.nothing_then p.lists p.merged p.placed_are
+      moved = moved_by_places old.level s e step p.places old.glyphs ms new.glyphs p.in_order p.in_range p.fits p.nothing_then p.places_are p.merged p.placed_are
           ∙ sym (ap (λ sts. map carried (run_steps old.level (map (widened s e (length old.glyphs)) sts) old.glyphs)) p.one_step);
     }
 

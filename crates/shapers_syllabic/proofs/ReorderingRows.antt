@@ -1,20 +1,20 @@
 -- Reordering syllable by syllable, computed on small texts.
-use Rattle.std.specs.Prelude.{◌≡◌, ℕ, List, [], ◌∷◌, length, map, reverse, Option, Some, None, pos, true, false, ◌==◌, if◌then◌else◌, refl}
-use Rattle.std.proofs.Common.{arith, ap, slice_index}
+use Rattle.std.specs.Prelude.{◌+◌, ◌*◌, ◌≤◌, ◌⊎◌, Err, ◌≡◌, ℕ, List, [], ◌∷◌, length, map, reverse, Option, Some, None, pos, true, false, ◌==◌, if◌then◌else◌, refl}
+use Rattle.std.proofs.Common.{inl, inr, arith, ap, slice_index}
 use Rattle.std.specs.List.{flat_map, range_with_len}
 use Rattle.shapers_buffer.specs.declared.buffer.category.hb_unicode_general_category_t.TheVariants.{Mn}
 use Rattle.shapers_buffer.specs.declared.buffer.glyph.hb_glyph_info_t.{hb_glyph_info_t}
 use Rattle.shapers_buffer.specs.declared.buffer.level.BufferClusterLevel.TheVariants.{Characters, MonotoneGraphemes}
 use Rattle.shapers_buffer.specs.declared.buffer.syllables.Span.{Span}
-use Rattle.shapers_buffer.specs.Buffer.{new_buffer}
+use Rattle.shapers_buffer.specs.Buffer.{Buffer, new_buffer}
 use Rattle.shapers_buffer.specs.Glyph.{clusters, default_glyph}
 use Rattle.shapers_clusters.specs.Steps.{Step, run_steps}
 use Rattle.shapers_syllabic.specs.declared.ot_shaper_syllabic.circles.DottedCircles.{DottedCircles}
-use Rattle.shapers_syllabic.specs.Reordering.{carried, script_circles, first_unknown, kind_refusal, text_order, text_steps}
+use Rattle.shapers_syllabic.specs.Reordering.{RefusesIf, SyllablesLinked, TakesText, carried, glyph_numbers, syllable_lens, script_circles, first_unknown, kind_refusal, text_order, text_steps}
 use Rattle.shapers_syllabic.specs.declared.ot_shaper_syllabic.circles.ScriptCircles.{ScriptCircles}
 use Rattle.shapers_base.specs.Font.{Font}
 use Rattle.shapers_base.specs.declared.font.GlyphId.{GlyphId}
-use Rattle.shapers_buffer.specs.declared.buffer.refusal.ShaperError.TheVariants.{UnknownSyllable}
+use Rattle.shapers_buffer.specs.declared.buffer.refusal.ShaperError.TheVariants.{Memory, TooLong, UnknownSyllable}
 use Rattle.shapers_syllabic.specs.Borders.{MeetAtBorder, SameButSerials, spans_set_up, unnumbered}
 use Rattle.shapers_syllabic.specs.ReorderingLaws.{paused_carried, paused_order}
 
@@ -38,22 +38,54 @@ glyph row = record default_glyph { glyph_id = row.0; cluster = row.1; syllable =
 abbrev text : List (ℕ × ℕ × ℕ) → List hb_glyph_info_t
 text rows = map glyph rows
 
-abbrev numbers : List hb_glyph_info_t → List ℕ
-numbers gs = map (λ g. g.glyph_id) gs
-
 -- syllables of two glyphs, of one and of three; the last has the byte of the first
 abbrev three : List hb_glyph_info_t
 three = text ((1, 0, 0x10) ∷ (2, 1, 0x10) ∷ (3, 2, 0x24) ∷ (4, 3, 0x10) ∷ (5, 4, 0x10) ∷ (6, 5, 0x10) ∷ [])
 
 -- each syllable for itself: backwards, by its length alone, as it stands
-order_backwards : numbers (text_order reverse three) ≡ 2 ∷ 1 ∷ 3 ∷ 6 ∷ 5 ∷ 4 ∷ []
+order_backwards : glyph_numbers (text_order reverse three) ≡ 2 ∷ 1 ∷ 3 ∷ 6 ∷ 5 ∷ 4 ∷ []
 order_backwards = refl
 
-order_one_each : numbers (text_order (λ syl. text ((7, length syl, 0) ∷ [])) three) ≡ 7 ∷ 7 ∷ 7 ∷ []
+order_one_each : glyph_numbers (text_order (λ syl. text ((7, length syl, 0) ∷ [])) three) ≡ 7 ∷ 7 ∷ 7 ∷ []
 order_one_each = refl
 
 order_kept : text_order (λ syl. syl) three ≡ three
 order_kept = refl
+
+-- the lengths of syllables, and what is required of the numbers of each
+lens_of_three : syllable_lens three ≡ 2 ∷ 1 ∷ 3 ∷ []
+lens_of_three = refl
+
+lens_of_nothing : syllable_lens [] ≡ []
+lens_of_nothing = refl
+
+takes_each : TakesText (λ ns. ns ≡ 1 ∷ 2 ∷ [] ⊎ (ns ≡ 3 ∷ [] ⊎ ns ≡ 4 ∷ 5 ∷ 6 ∷ [])) three
+takes_each = (inl refl, (inr (inl refl), (inr (inr refl), tt)))
+
+takes_not_the_last : TakesText (λ ns. length ns ≤ 2) three → ⊥
+takes_not_the_last all = omega (arith, all.1.1.0)
+
+-- a chain over them, each link of which notes its places; the placement list is emptied behind the last
+abbrev noted : ℕ → ℕ → Buffer → Buffer → Type 0
+noted s e old new = new ≡ record old { max_len = old.max_len * 100 + (s * 10 + e) }
+
+chain_of_three : SyllablesLinked noted (record (new_buffer 0) { glyphs = three; places = 7 ∷ [] }) (record (new_buffer 22336) { glyphs = three })
+chain_of_three =
+    let at : ℕ → Buffer = λ n. record (new_buffer n) { glyphs = three; places = 7 ∷ [] } in
+    (at 2, refl, (at 223, refl, (at 22336, refl, refl)))
+
+chain_of_nothing : SyllablesLinked noted (record (new_buffer 5) { places = 7 ∷ [] }) (new_buffer 5)
+chain_of_nothing = refl
+
+-- refusals of an order that may refuse, and of one that doesn't
+refuses_memory : RefusesIf true (Err Memory)
+refuses_memory = refl
+
+refuses_nothing_else : RefusesIf true (Err TooLong) → ⊥
+refuses_nothing_else is = absurd (cc)
+
+refuses_never : RefusesIf false (Err Memory) → ⊥
+refuses_never is = absurd (cc)
 
 order_of_nothing : text_order reverse [] ≡ []
 order_of_nothing = refl
@@ -92,10 +124,10 @@ circles = record { broken_kind = 4; circle = record default_glyph { glyph_id = 7
 abbrev broken : List hb_glyph_info_t
 broken = text ((1, 0, 0x14) ∷ (2, 1, 0x14) ∷ (3, 2, 0x20) ∷ [])
 
-pause_order : numbers (paused_order (Some circles) reverse broken) ≡ 2 ∷ 1 ∷ 7 ∷ 3 ∷ []
+pause_order : glyph_numbers (paused_order (Some circles) reverse broken) ≡ 2 ∷ 1 ∷ 7 ∷ 3 ∷ []
 pause_order = refl
 
-pause_order_without : numbers (paused_order None reverse broken) ≡ 2 ∷ 1 ∷ 3 ∷ []
+pause_order_without : glyph_numbers (paused_order None reverse broken) ≡ 2 ∷ 1 ∷ 3 ∷ []
 pause_order_without = refl
 
 pause_carried : map (λ g. let row : ℕ × ℕ × ℕ × ℕ = (g.glyph_id, g.cluster, g.mask, g.category) in row) (paused_carried (Some circles) turned MonotoneGraphemes broken) ≡ (2, 0, 0, 0) ∷ (1, 0, 1, 0) ∷ (7, 0, 1, 0) ∷ (3, 2, 1, 0) ∷ []

@@ -1,23 +1,21 @@
 -- The walk that reorders passes over syllables that stay.
-use Rattle.std.proofs.Common.{ℕ, zero, suc, ◌+◌, ◌-◌, ◌<◌, ◌≤◌, ◌≡◌, ◌≢◌, Bool, false, None, Option, Some, is_some, true, List, [], ◌∷◌, ◌++◌, get_or, length, map, take, drop, sym, ◌∙◌, ap, subst, arith, length-append, length-take-le, length-drop}
-use Rattle.std.specs.List.{list_any, position}
-use Rattle.std.proofs.lemmas.List.{append-nil, drop-append-le, drop-drop, drop_all, get_or-drop, get_or-map, get_or-take, length-map, take-append-drop, take-append-le, take_all, take_rest}
+use Rattle.std.proofs.Common.{◌⊎◌, inl, inr, ◌==◌, cond, ℕ, zero, suc, ◌+◌, ◌-◌, ◌<◌, ◌≤◌, ◌≡◌, ◌≢◌, Bool, false, None, Some, is_some, true, List, [], ◌∷◌, ◌++◌, get_or, length, take, drop, sym, ◌∙◌, ap, subst, arith, length-append, length-take-le, length-drop}
+use Rattle.std.specs.List.{list_any, position, prefix_len}
+use Rattle.std.proofs.Math.Nat.{eq-or-lt_of_le}
+use Rattle.std.proofs.lemmas.Bool.{eq-eqb}
+use Rattle.std.proofs.lemmas.List.Folds.{list_any_at}
+use Rattle.std.proofs.lemmas.List.{append-nil, drop-append-le, drop-drop, get_or-drop, get_or-map, get_or-take, get_or_at, take-append-drop, take-append-le, take_rest}
 use Rattle.shapers_buffer.specs.declared.buffer.glyph.hb_glyph_info_t.{hb_glyph_info_t}
-use Rattle.shapers_buffer.specs.declared.buffer.tag.Script.{Script}
-use Rattle.shapers_buffer.specs.Buffer.{Buffer, but_places}
 use Rattle.shapers_buffer.specs.Clusters.{stretch_of}
-use Rattle.shapers_buffer.specs.Glyph.{default_glyph, order_view, plain}
-use Rattle.shapers_buffer.specs.Syllables.{first_syllable_len, syllables}
-use Rattle.shapers_buffer.proofs.ClusterLemmas.{length-stretch}
+use Rattle.shapers_buffer.specs.Glyph.{default_glyph}
+use Rattle.shapers_buffer.specs.Syllables.{first_syllable_len, has_byte, syllables}
 use Rattle.shapers_buffer.proofs.ListLaws.{none_in_front}
-use Rattle.shapers_clusters.specs.Steps.{Step, run_steps, steps_along}
 use Rattle.shapers_syllabic.specs.Borders.{MeetAtBorder}
-use Rattle.shapers_syllabic.specs.Reordering.{SyllableReordered, SyllablesReordered, carried, text_order}
-use Rattle.shapers_syllabic.specs.ReorderingLaws.{IsNextChanging, ReorderLaws, StaysWithout}
+use Rattle.shapers_syllabic.specs.ReorderingLaws.{IsNextChanging}
 use Rattle.shapers_syllabic.proofs.Borders.{first_byte, last-behind, last_byte, syllables-append}
 use Rattle.shapers_syllabic.proofs.Found.{found_first, missed_all}
 use Rattle.shapers_syllabic.proofs.NonePass.{none_behind}
-use Rattle.shapers_syllabic.proofs.ReorderingWalk.{ReorderedNext, ToReorder, first_len-within, opens, pieces_of, reordered_next, reordered_next_in}
+use Rattle.shapers_syllabic.proofs.ReorderingWalk.{first_len-within, opens}
 
 -- the first syllable of a text that is cut at a border is that of its front
 first_len-front : (xs ys : List hb_glyph_info_t) → 0 < length xs → MeetAtBorder xs ys → first_syllable_len (xs ++ ys) ≡ first_syllable_len xs
@@ -96,60 +94,57 @@ border_between gs start i order within differ some more same =
     ∙ ap byte (get_or-drop (i + 1) gs 0 default_glyph ∙ ap (λ k. get_or gs k default_glyph) (omega arith)) in
     differ (sym last ∙ same ∙ first)
 
--- the walk of an order passes over what stays
-pub reordering_passes : (changes : hb_glyph_info_t → Bool) (meaning : List hb_glyph_info_t → List hb_glyph_info_t) (steps : List hb_glyph_info_t → List Step) (old now : Buffer) → ReorderLaws meaning steps → StaysWithout changes meaning steps → PassesOver changes now.glyphs (ToReorder meaning steps old now)
-reordering_passes changes meaning steps old now laws stays s e some within end_is none to =
-    let next = reordered_next meaning steps old now now s e laws to (omega arith) end_is (stays s e now some within none) in
-    next.to
-
--- at the end all is done
-pub all_done : (meaning : List hb_glyph_info_t → List hb_glyph_info_t) (steps : List hb_glyph_info_t → List Step) (old now new : Buffer) → ToReorder meaning steps old now (length now.glyphs) → new ≡ but_places now → SyllablesReordered meaning steps old new
-all_done meaning steps old now new to is =
-    let gs = now.glyphs in
-    let xs = order_view gs in
-    let n : length gs ≡ length xs = sym (length-map gs plain) in
-    let glyphs : new.glyphs ≡ gs = ap (λ (b : Buffer). b.glyphs) is in
-    let none : drop (length gs) xs ≡ [] = drop_all (length gs) xs (omega arith) in
-    let all : take (length gs) xs ≡ xs = take_all (length gs) xs (omega arith) in
-    record {
-      others = is ∙ to.others ∙ ap (λ ys. let b : Buffer = record old { glyphs = ys; places = [] } in b) (sym glyphs);
-      order = ap order_view glyphs ∙ sym (append-nil xs) ∙ ap (λ ys. ys ++ []) (sym all) ∙ ap (λ ys. take (length gs) xs ++ text_order meaning ys) (sym none) ∙ to.order;
-      moved = ap (map carried) glyphs ∙ ap (λ ys. map carried (run_steps old.level (steps_along (length gs) (length gs) (pieces_of steps (syllables ys))) gs)) (sym none) ∙ to.moved;
-    }
-
--- an order by which each glyph may change its syllable
-pub each_may : (meaning : List hb_glyph_info_t → List hb_glyph_info_t) (steps : List hb_glyph_info_t → List Step) → StaysWithout (λ _. true) meaning steps
-each_may meaning steps s e b some within none =
-    let long : length (stretch_of s e b.glyphs) ≡ e - s = length-stretch s e b.glyphs within in
-    absurd (some_any (stretch_of s e b.glyphs) (omega arith) none)
-  where
-    some_any : (gs : List hb_glyph_info_t) → 0 < length gs → list_any (λ _. true) gs ≢ false
-    some_any [] some none = absurd (omega arith)
-    some_any (g ∷ gs) some none = cc
-
 -- WHERE THE SEARCH ENDS
 pub none_found : (changes : hb_glyph_info_t → Bool) (start : ℕ) (gs : List hb_glyph_info_t) → None ≡ position changes (take (length gs - start) (drop start gs)) → list_any changes (drop start gs) ≡ false
 none_found changes start gs is = missed_all changes (drop start gs) (ap is_some (ap (position changes) (sym (take_rest gs start)) ∙ sym is))
 
-pub next_found : (changes : hb_glyph_info_t → Bool) (start count : ℕ) (gs : List hb_glyph_info_t) (first : ℕ) → Some count ≡ position changes (take (length gs - start) (drop start gs)) → start ≤ first → first ≤ start + count → MeetAtBorder (stretch_of start first gs) (drop first gs) → IsNextChanging changes start gs first
-next_found changes start count gs first is from to border =
+-- glyphs of one byte at the front are within the first syllable
+same_front : (byte m : ℕ) (gs : List hb_glyph_info_t) → m ≤ length gs → ((k : ℕ) → k < m → (get_or gs k default_glyph).syllable ≡ byte) → m ≤ prefix_len (has_byte byte) gs
+same_front byte zero gs few same = omega arith
+same_front byte (suc m) [] few same = absurd (omega arith)
+same_front byte (suc m) (g ∷ gs) few same =
+    let later = same_front byte m gs (omega arith) (λ k less. same (suc k) (omega arith)) in
+    let here : (g.syllable == byte) ≡ true = eq-eqb g.syllable byte (same 0 (omega arith)) in
+    let is : prefix_len (has_byte byte) (g ∷ gs) ≡ 1 + prefix_len (has_byte byte) gs = ap (λ b. cond b (1 + prefix_len (has_byte byte) gs) 0) here in
+    omega arith
+
+in_first : (byte m : ℕ) (gs : List hb_glyph_info_t) → suc m ≤ length gs → ((k : ℕ) → k < suc m → (get_or gs k default_glyph).syllable ≡ byte) → m < first_syllable_len gs
+in_first byte m [] few same = absurd (omega arith)
+in_first byte m (g ∷ gs) few same =
+    let later = same_front byte m gs (omega arith) (λ k less. same (suc k) (omega arith)) in
+    let is : prefix_len (has_byte byte) gs ≡ prefix_len (has_byte g.syllable) gs = ap (λ b. prefix_len (has_byte b) gs) (sym (same 0 (omega arith))) in
+    omega arith
+
+pub next_found : (changes : hb_glyph_info_t → Bool) (start count : ℕ) (gs : List hb_glyph_info_t) (first : ℕ) → Some count ≡ position changes (take (length gs - start) (drop start gs)) → start ≤ first → first ≤ start + count → ((k : ℕ) → first ≤ k → k < start + count → (get_or gs k default_glyph).syllable ≡ (get_or gs (start + count) default_glyph).syllable) → MeetAtBorder (stretch_of start first gs) (drop first gs) → IsNextChanging changes start gs first
+next_found changes start count gs first is from to together border =
     let f = found_first changes (drop start gs) count (ap (position changes) (sym (take_rest gs start)) ∙ sym is) in
     let behind = f.x ∷ f.rest in
     let long = length-append f.front behind in
     let whole : length (drop start gs) ≡ length (f.front ++ behind) = ap length f.parts in
     let left = length-drop start gs in
     let len = f.len in
-    let stretch : stretch_of start first gs ≡ take (first - start) f.front = ap (take (first - start)) f.parts ∙ take-append-le (first - start) f.front behind (omega arith) in
+    let m = first - start in
+    let stretch : stretch_of start first gs ≡ take m f.front = ap (take m) f.parts ∙ take-append-le m f.front behind (omega arith) in
+    let i = start + count - first in
+    let there : first + i ≡ start + count = omega arith in
+    let syl = drop first gs in
+    let n = first_syllable_len syl in
+    let at : get_or gs (start + count) default_glyph ≡ f.x =
+    sym (get_or-drop start gs count default_glyph) ∙ ap (λ xs. get_or xs count default_glyph) f.parts ∙ get_or_at f.front f.x f.rest default_glyph count (omega arith) in
+    let here : get_or syl i default_glyph ≡ f.x = get_or-drop first gs i default_glyph ∙ ap (λ k. get_or gs k default_glyph) there ∙ at in
+    let byte = (get_or gs (start + count) default_glyph).syllable in
+    let one_byte : (k : ℕ) → k ≤ i → (k ≡ i) ⊎ (k < i) → (get_or gs (first + k) default_glyph).syllable ≡ byte = λ k most. elim [
+      | inl is ↦ ap (λ j. (get_or gs j default_glyph).syllable) (omega arith)
+      | inr before ↦ together (first + k) (omega arith) (omega arith)
+    ] in
+    let same : (k : ℕ) → k < suc i → (get_or syl k default_glyph).syllable ≡ byte = λ k less.
+    ap (λ (g : hb_glyph_info_t). g.syllable) (get_or-drop first gs k default_glyph)
+    ∙ one_byte k (omega arith) (eq-or-lt_of_le {n = k} {m = i} (omega arith)) in
+    let inside : i < n = in_first byte i syl (omega (arith, length-drop first gs)) same in
     record {
       in_order = from;
       inside = omega arith;
-      stay = ap (list_any changes) stretch ∙ none_in_front changes (first - start) f.front f.none;
+      stay = ap (list_any changes) stretch ∙ none_in_front changes m f.front f.none;
       border = border;
+      changing = list_any_at changes (take n syl) i default_glyph (omega (arith, length-take-le n syl (first_len-within syl))) (ap changes (get_or-take n syl i default_glyph inside ∙ here) ∙ f.passes);
     }
-
--- one syllable that may change, behind those that stay
-pub next_in : (changes : hb_glyph_info_t → Bool) (meaning : Option Script → List hb_glyph_info_t → List hb_glyph_info_t) (steps : Option Script → List hb_glyph_info_t → List Step) (old now new : Buffer) (gs : List hb_glyph_info_t) (start first end : ℕ) → gs ≡ now.glyphs → ReorderLaws (meaning old.script) (steps old.script) → StaysWithout changes (meaning old.script) (steps old.script) → IsNextChanging changes start gs first → ToReorder (meaning old.script) (steps old.script) old now start → end ≡ first + first_syllable_len (drop first now.glyphs) → SyllableReordered (meaning now.script) (steps now.script) first end now new → ReorderedNext (meaning old.script) (steps old.script) old now new end
-next_in changes meaning steps old now new gs start first end is laws stays next to end_is done =
-    let here : IsNextChanging changes start now.glyphs first = subst (λ xs. IsNextChanging changes start xs first) is next in
-    reordered_next_in meaning steps old now new first end laws
-    (to_next changes now.glyphs (ToReorder (meaning old.script) (steps old.script) old now) (reordering_passes changes (meaning old.script) (steps old.script) old now laws stays) start first here to) here.inside end_is done

@@ -1,7 +1,7 @@
 -- Reordering syllable by syllable: what a syllable becomes, and the merges and moves that lead
 -- there.
-use Rattle.std.specs.Prelude.{ℕ, ◌%◌, ◌≡◌, List, [], Option, None, Some, option_map, length, map}
-use Rattle.std.specs.List.{flat_map}
+use Rattle.std.specs.Prelude.{ℕ, ◌%◌, ◌+◌, ◌≡◌, Bool, true, false, List, [], ◌∷◌, Option, None, Some, option_map, length, map, IsOk, IsOkUnless, Result}
+use Rattle.std.specs.List.{AllByRecursion, flat_map}
 use Rattle.shapers_buffer.specs.declared.buffer.glyph.hb_glyph_info_t.{hb_glyph_info_t}
 use Rattle.shapers_buffer.specs.Buffer.{Buffer, but_places}
 use Rattle.shapers_buffer.specs.Clusters.{stretch_of, with_stretch}
@@ -10,7 +10,7 @@ use Rattle.shapers_buffer.specs.Marks.{no_marks}
 use Rattle.shapers_buffer.specs.Syllables.{syllables, unknown_syllable}
 use Rattle.shapers_base.specs.Font.{Font, dotted_circle}
 use Rattle.shapers_buffer.specs.declared.buffer.refusal.ShaperError.{ShaperError}
-use Rattle.shapers_buffer.specs.declared.buffer.refusal.ShaperError.TheVariants.{UnknownSyllable}
+use Rattle.shapers_buffer.specs.declared.buffer.refusal.ShaperError.TheVariants.{Memory, UnknownSyllable}
 use Rattle.shapers_syllabic.specs.declared.ot_shaper_syllabic.circles.ScriptCircles.{ScriptCircles}
 use Rattle.shapers_syllabic.specs.declared.ot_shaper_syllabic.circles.DottedCircles.{DottedCircles}
 use Rattle.shapers_syllabic.specs.Circles.{circled, circles_for}
@@ -34,6 +34,46 @@ text_steps steps gs =
 -- how many glyphs stand in some syllables: where the next one stands
 abbrev pub glyphs_before : List (List hb_glyph_info_t) → ℕ
 glyphs_before before = length (flat_map (λ piece. piece) before)
+
+-- the glyph numbers of each syllable of a text, and what an order requires of each of them
+abbrev pub glyph_numbers : List hb_glyph_info_t → List ℕ
+glyph_numbers gs = map (λ g. g.glyph_id) gs
+
+abbrev pub TakesText : (List ℕ → Type 0) → List hb_glyph_info_t → Type 0
+TakesText takes gs = AllByRecursion takes (map glyph_numbers (syllables gs))
+
+-- an order that may refuse does so for want of memory alone, and another never does
+abbrev pub RefusesIf : Bool → Result Unit ShaperError → Type 0
+RefusesIf true result = IsOkUnless result Memory
+RefusesIf false result = IsOk result
+
+-- The buffer before and after the syllable from s to e is ordered: its order view becomes what the
+-- meaning says.
+pub record SyllableOrdered (meaning : List hb_glyph_info_t →
+    List hb_glyph_info_t) (s e : ℕ) (old new : Buffer) : Type 0 where
+  pub others : but_places new ≡ record (but_places old) { glyphs = new.glyphs }
+  pub order : order_view new.glyphs ≡ with_stretch s e meaning (order_view old.glyphs)
+
+-- the same of a whole text: the order view is the text order, and the placement list is empty
+pub record TextOrdered (meaning : List hb_glyph_info_t →
+    List hb_glyph_info_t) (old new : Buffer) : Type 0 where
+  pub others : new ≡ record old { glyphs = new.glyphs; places = [] }
+  pub order : order_view new.glyphs ≡ text_order meaning (order_view old.glyphs)
+
+-- A chain that leads from one buffer to another: a link for each stretch of these lengths, the
+-- first from this place on and each other one from where the one before it ends. Behind the last
+-- the placement list is emptied.
+abbrev pub Chain : (ℕ → ℕ → Buffer → Buffer → Type 0) → ℕ → List ℕ → Buffer → Buffer → Type 0
+Chain link start [] old new = new ≡ but_places old
+Chain link start (len ∷ lens) old new =
+    (mid : Buffer) × link start (start + len) old mid × Chain link (start + len) lens mid new
+
+-- how long the syllables of a text are; a chain over it, with one link a syllable
+abbrev pub syllable_lens : List hb_glyph_info_t → List ℕ
+syllable_lens gs = map length (syllables gs)
+
+abbrev pub SyllablesLinked : (ℕ → ℕ → Buffer → Buffer → Type 0) → Buffer → Buffer → Type 0
+SyllablesLinked link old new = Chain link 0 (syllable_lens old.glyphs) old new
 
 -- The buffer before and after the syllable from s to e is reordered: its order view becomes what
 -- the meaning says, and to the view of what is carried along, cluster and glyph flags among it, the
@@ -77,3 +117,9 @@ abbrev pub PauseReordered : Option DottedCircles → (List hb_glyph_info_t → L
     (List hb_glyph_info_t → List Step) → Buffer → Buffer → Type 0
 PauseReordered circles meaning steps old new =
     SyllablesReordered meaning steps (record old { glyphs = circled circles old.glyphs }) new
+
+-- the same as a chain: with its circles, each syllable of the text is reordered for itself
+abbrev pub PauseLinked : Option DottedCircles → (ℕ → ℕ → Buffer → Buffer → Type 0) → Buffer →
+    Buffer → Type 0
+PauseLinked circles link old new =
+    SyllablesLinked link (record old { glyphs = circled circles old.glyphs }) new

@@ -1,11 +1,11 @@
 -- The laws of reordering syllable by syllable, as statements.
-use Rattle.std.specs.Prelude.{ℕ, ◌≡◌, ◌<◌, Bool, List, Option, MatchOption, ◌++◌, drop, length, map, ◌≤◌, All, false, true}
+use Rattle.std.specs.Prelude.{ℕ, ◌≡◌, ◌<◌, Bool, List, Option, MatchOption, ◌++◌, drop, take, length, map, ◌≤◌, All, false, true}
 use Rattle.std.specs.List.{AllByRecursion, list_any}
 use Rattle.std.specs.List.Sorted.{IsPermutation}
 use Rattle.shapers_buffer.specs.declared.buffer.glyph.hb_glyph_info_t.{hb_glyph_info_t}
 use Rattle.shapers_buffer.specs.declared.buffer.level.BufferClusterLevel.{BufferClusterLevel}
 use Rattle.shapers_buffer.specs.declared.buffer.syllables.Span.{Span}
-use Rattle.shapers_buffer.specs.Syllables.{spans_cover}
+use Rattle.shapers_buffer.specs.Syllables.{first_syllable_len, spans_cover}
 use Rattle.shapers_buffer.specs.Buffer.{Buffer}
 use Rattle.shapers_buffer.specs.Clusters.{stretch_of}
 use Rattle.shapers_buffer.specs.Glyph.{clusters, order_view}
@@ -17,7 +17,7 @@ use Rattle.shapers_clusters.specs.Steps.{FitSteps, MovesMerged, Permutes, Step, 
 use Rattle.shapers_syllabic.specs.declared.ot_shaper_syllabic.circles.DottedCircles.{DottedCircles}
 use Rattle.shapers_syllabic.specs.Borders.{MeetAtBorder, SameButSerials, spans_set_up, unnumbered}
 use Rattle.shapers_syllabic.specs.Circles.{circled}
-use Rattle.shapers_syllabic.specs.Reordering.{PauseReordered, SyllableReordered, SyllablesReordered, carried, text_order, text_steps}
+use Rattle.shapers_syllabic.specs.Reordering.{PauseReordered, SyllablesReordered, carried, text_order, text_steps}
 
 -- What an instance of `Reorder` has to prove of its syllables and of the steps that lead there:
 -- the steps fit the syllable and take each of its places once, and to the view of what is carried
@@ -29,20 +29,15 @@ pub record ReorderLaws (meaning : List hb_glyph_info_t →
   pub agrees : (gs : List hb_glyph_info_t) →
       seen carried (meaning gs) ≡ pick (old_places (length gs) (steps gs)) (seen carried gs)
 
--- A syllable without a glyph that may change it stays as it is.
-abbrev pub StaysWithout : (hb_glyph_info_t → Bool) →
-    (List hb_glyph_info_t → List hb_glyph_info_t) → (List hb_glyph_info_t → List Step) → Type 0
-StaysWithout changes meaning steps = (s e : ℕ) (b : Buffer) → s < e → e ≤ length b.glyphs →
-    list_any changes (stretch_of s e b.glyphs) ≡ false → SyllableReordered meaning steps s e b b
-
 -- In the code: a syllable starts at place first, if one does at start, and no glyph between them
--- may change one.
+-- may change one; one of that syllable's own may.
 pub record IsNextChanging (changes : hb_glyph_info_t → Bool) (start : ℕ) (gs : List
     hb_glyph_info_t) (first : ℕ) : Type 0 where
   pub in_order : start ≤ first
   pub inside : first < length gs
   pub stay : list_any changes (stretch_of start first gs) ≡ false
   pub border : MeetAtBorder (stretch_of start first gs) (drop first gs)
+  pub changing : list_any changes (take (first_syllable_len (drop first gs)) (drop first gs)) ≡ true
 
 -- and where there is none, no glyph from start on may
 abbrev pub NextChanging : (hb_glyph_info_t → Bool) → ℕ → List hb_glyph_info_t → Option ℕ → Type 0

@@ -6,10 +6,10 @@ mod clearing;
 mod consonants;
 mod kinds;
 mod laws;
+mod moving;
 mod pause;
 mod reordering;
 mod set_up;
-mod turning;
 
 pub use characters::{
     compose, set_categories, set_categories_and_positions, set_categories_and_positions_in,
@@ -26,7 +26,7 @@ pub use laws::{
     reordering_cuts_at_borders, reordering_loses_nothing, serials_dont_count, spans_cut_law,
     text_reordered_law,
 };
+pub use moving::{move_before, place_among};
 pub use pause::reorder_pause;
-pub use reordering::{Reorder, reorder_syllables, syllable_start};
+pub use reordering::{MayChange, Reorder, ReorderBySteps, next_changing, reorder_syllables};
 pub use set_up::{flag_syllables_in, set_up_by_bytes, set_up_syllables};
-pub use turning::{move_before, place_among, turn_left, turn_right};

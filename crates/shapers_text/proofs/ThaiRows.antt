@@ -16,6 +16,7 @@ use Rattle.shapers_base.specs.declared.plan.hb_ot_shape_plan_t.{hb_ot_shape_plan
 use Rattle.shapers_base.specs.declared.plan.PlanData.TheVariants as data_of
 use Rattle.shapers_base.specs.declared.plan.arabic.StretchStart.TheVariants as starts
 use Rattle.shapers_base.specs.declared.plan.breaks.BreakFlags.TheVariants as breaks
+use Rattle.shapers_base.specs.declared.plan.indic.BaseSearch.TheVariants.{WithoutMedials}
 use Rattle.shapers_text.specs.ThaiForms.{preprocessed_in_thai, preprocessed_text}
 use Rattle.shapers_text.specs.ThaiLaws.{kept_view, new_place, without_name}
 
@@ -154,7 +155,7 @@ told_by_class same = let e : 9 ≡ 8 = ap (λ g. g.modified_combining_class) sam
 
 -- the forms hang on the script of the plan, not on that of the buffer
 abbrev plan_for : String → hb_ot_shape_plan_t
-plan_for tag = record { script = Some (record { 0 = codes tag }); ot_map = record { features = []; stages = []; lookups = []; global = 0; chosen = None; found = false }; has_gpos_mark = false; stretch_start = starts.AsCode; break_flags = breaks.AsCode; plan_data = data_of.None }
+plan_for tag = record { script = Some (record { 0 = codes tag }); ot_map = record { features = []; stages = []; lookups = []; global = 0; chosen = None; found = false }; has_gpos_mark = false; stretch_start = starts.AsCode; break_flags = breaks.AsCode; base_search = WithoutMedials; plan_data = data_of.None }
 
 abbrev every : Font
 every = record { nominal = λ c. Some (record { 0 = 1 }); advance = λ g. pos 0; applies = λ lookup glyphs zero. false; offers = λ tag. false }

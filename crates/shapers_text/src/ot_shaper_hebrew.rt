@@ -31,8 +31,8 @@ pub fn reorder_marks(_plan: &hb_ot_shape_plan_t, buffer: &mut hb_buffer_t, start
     buffer.walk(&mut MarkOrder { level, start, end });
 }
 
-/// The same in a slice whose clusters merge at this level. Returns whether marks changed places:
-/// where it returns false nothing changed.
+/// `reorder_marks` of glyphs in a slice, whose clusters merge at this level. Returns whether marks
+/// changed places: where it returns false nothing changed.
 pub fn reorder_marks_in(
     level: BufferClusterLevel,
     glyphs: &mut [hb_glyph_info_t],

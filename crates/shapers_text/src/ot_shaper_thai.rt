@@ -59,6 +59,11 @@ pub fn preprocess_text<F: hb_font_t>(
 
 /// `preprocess_text`, which returns whether it rewrote the text: where there is no SARA AM and the
 /// plan wants no private use forms, it returns false and has changed nothing.
+///
+/// # Errors
+///
+/// `TooLong` where the buffer would be longer than `max_len`, `Memory` where memory is refused;
+/// nothing has changed then.
 pub fn preprocess_text_changes<F: hb_font_t>(
     plan: &hb_ot_shape_plan_t,
     face: &F,

@@ -9,7 +9,7 @@ use Rattle.shapers_buffer.specs.Buffer.{Buffer}
 use Rattle.shapers_buffer.proofs.MappedLists.{all-mapped}
 use Rattle.shapers_arabic.specs.Joining.{resolved}
 use Rattle.shapers_arabic.specs.JoinedText.{AreCharacters, text_of}
-use Rattle.shapers_universal.proofs.UniversalLists.{mapped_twice}
+use Rattle.shapers_universal.specs.Proved.UniversalLists.{mapped_twice}
 use Rattle.shapers_universal.specs.UniversalMasks.{categorized, with_categories}
 
 -- the glyphs are still characters

@@ -9,7 +9,9 @@ use Rattle.shapers_buffer.specs.declared.buffer.glyph.hb_glyph_info_t.{hb_glyph_
 use Rattle.shapers_buffer.specs.Buffer.{Buffer, but_places}
 use Rattle.shapers_buffer.specs.Clusters.{merge, merge_all, stretch_of, with_stretch}
 use Rattle.shapers_buffer.specs.Lists.{cut_after}
-use Rattle.shapers_buffer.specs.Places.{pick}
+use Rattle.shapers_buffer.specs.Places.{brought_forward, pick, placed_by}
+use Rattle.shapers_buffer.specs.declared.buffer.placement.Placement.TheVariants.{Forward}
+use Rattle.shapers_buffer.proofs.Placements.{placed_forward, rotated_stretch}
 use Rattle.shapers_buffer.proofs.ClusterLemmas.{length-stretch}
 use Rattle.shapers_clusters.proofs.Merging.{length-merge}
 use Rattle.shapers_clusters.proofs.Picks.{pick-append, pick-range}
@@ -17,11 +19,11 @@ use Rattle.shapers_clusters.proofs.Widened.{range-append}
 use Rattle.shapers_syllabic.specs.Reordering.{SyllableReordered}
 use Rattle.shapers_universal.specs.Universal.{goes_front, goes_front_at, is_universal_halant, is_reordered_in_universal, reph_run, reversed_first, universal_order, universal_steps}
 use Rattle.shapers_universal.specs.UniversalWalk.{MergesFirst, fronts_from, has_universal_reph, is_halant_at, last_place_first, syllable_places_in_order, start_from}
-use Rattle.shapers_universal.proofs.Reordered.{merge_nothing, no_reph, still_pieces, syllable_ran, syllable_reordered}
-use Rattle.shapers_universal.proofs.UniversalFronts.{fronts_next}
+use Rattle.shapers_universal.specs.Proved.Reordered.{merge_nothing, no_reph, still_pieces, syllable_ran, syllable_reordered}
+use Rattle.shapers_universal.specs.Proved.UniversalFronts.{fronts_next}
 use Rattle.shapers_syllabic.proofs.NonePass.{filter-none, filter_not-none}
-use Rattle.shapers_universal.proofs.UniversalLists.{cut_after-concat, reversed_first-no, reversed_first-yes}
-use Rattle.shapers_universal.proofs.UniversalPlaces.{at, goes_front_is, halant_at, labels_any, nothing_behind, stretch_at}
+use Rattle.shapers_universal.specs.Proved.UniversalLists.{cut_after-concat, reversed_first-no, reversed_first-yes}
+use Rattle.shapers_universal.specs.Proved.UniversalPlaces.{at, goes_front_is, halant_at, labels_any, nothing_behind, stretch_at}
 
 -- a piece with no place to cut but its end
 cut_none : {X : Type 0} (cut : X → Bool) (xs : List X) (x : X) → list_any cut xs ≡ false → cut x ≡ false → cut_after cut (xs ++ x ∷ []) ≡ (xs ++ x ∷ []) ∷ []
@@ -285,12 +287,29 @@ turned_is s e xs h l =
     ∙ ap (λ zs. take 1 (drop (e - 1) xs) ++ zs) (pick-range s k xs (omega arith)) in
     ap (λ zs. take s xs ++ (zs ++ drop e xs)) (turned ∙ sym picked)
 
-pub front_moved : (s e : ℕ) (b0 b1 b2 : Buffer) → s < e → e ≤ length b0.glyphs → b1 ≡ record b0 { glyphs = merge b0.level s e b0.glyphs } → b2.glyphs ≡ with_stretch s e (λ ys. slice_rotate_right ys 1) b1.glyphs → b2 ≡ record b1 { glyphs = b2.glyphs } → b2 ≡ record b0 { glyphs = (let ms = merge b0.level s e b0.glyphs in with_stretch s e (λ _. pick (last_place_first s e) ms) ms); places = b2.places }
-front_moved s e b0 b1 b2 h l joined walked others =
-    let ms = merge b0.level s e b0.glyphs in
-    let moved = with_stretch s e (λ _. pick (last_place_first s e) ms) ms in
-    let glyphs : b2.glyphs ≡ moved = walked ∙ ap (λ (x : Buffer). with_stretch s e (λ ys. slice_rotate_right ys 1) x.glyphs) joined ∙ turned_is s e ms h (omega (arith, length-merge b0.level s e b0.glyphs l)) in
-    let whole : b2 ≡ record b0 { glyphs = moved } = others ∙ ap (λ (x : Buffer). let y : Buffer = record x { glyphs = b2.glyphs } in y) joined ∙ ap (λ xs. let y : Buffer = record b0 { glyphs = xs } in y) glyphs in
+-- a piece whose last glyph comes to its front: merged, and then placed
+pub front_moved : (s e a z : ℕ) (b0 b1 b2 : Buffer) → s ≤ a → a < z → z ≤ e → e ≤ length b0.glyphs
+    → b1 ≡ record b0 { glyphs = merge b0.level a z b0.glyphs }
+    → b2 ≡ record b1 { glyphs = placed_by (Forward a (z - 1) 1) s e b1.places b1.glyphs }
+    → b2 ≡ record b0 { glyphs = (let ms = merge b0.level a z b0.glyphs in with_stretch a z (λ _. pick (last_place_first a z) ms) ms); places = b2.places }
+front_moved s e a z b0 b1 b2 first some last inside joined applied =
+    let ms = merge b0.level a z b0.glyphs in
+    let moved = with_stretch a z (λ _. pick (last_place_first a z) ms) ms in
+    let long : length ms ≡ length b0.glyphs = length-merge b0.level a z b0.glyphs (omega arith) in
+    let up : z - 1 + 1 ≡ z = omega arith in
+    let turned : with_stretch a z (λ ys. slice_rotate_right ys 1) ms ≡ brought_forward a (z - 1) 1 ms =
+    ap (λ k. with_stretch a k (λ ys. slice_rotate_right ys 1) ms) (sym up)
+    ∙ rotated_stretch a (z - 1) 1 ms (omega arith) (omega (arith, long)) in
+    let glyphs : b2.glyphs ≡ moved =
+    ap (λ (x : Buffer). x.glyphs) applied
+    ∙ ap (λ (x : Buffer). placed_by (Forward a (z - 1) 1) s e b1.places x.glyphs) joined
+    ∙ placed_forward a (z - 1) 1 s e b1.places ms first (omega arith) (omega arith) (omega (arith, long))
+    ∙ sym turned ∙ turned_is a z ms some (omega (arith, long)) in
+    let others : b2 ≡ record b1 { glyphs = b2.glyphs } =
+    applied ∙ ap (λ xs. let y : Buffer = record b1 { glyphs = xs } in y) (sym (ap (λ (x : Buffer). x.glyphs) applied)) in
+    let whole : b2 ≡ record b0 { glyphs = moved } =
+    others ∙ ap (λ (x : Buffer). let y : Buffer = record x { glyphs = b2.glyphs } in y) joined
+    ∙ ap (λ xs. let y : Buffer = record b0 { glyphs = xs } in y) glyphs in
     whole ∙ ap (λ qs. let y : Buffer = record b0 { glyphs = moved; places = qs } in y) (sym (ap (λ (x : Buffer). x.places) whole))
 
 pub start_back : (s k : ℕ) (gs : List hb_glyph_info_t) → s + 1 < k → k ≤ length gs + 1 → start_from s s (stretch_of s (k - 1) gs) ≡ (if is_universal_halant (at gs (k - 1 - 1)) then k - 1 else start_from s s (stretch_of s (k - 1 - 1) gs))

@@ -19,7 +19,7 @@ use Rattle.shapers_universal.specs.UniversalCuts.{formless_for}
 use Rattle.shapers_universal.specs.UniversalLaws.{UniversalCutsBetweenSpans, UniversalReadsNoMasks, UniversalReadsNoSerials, set_up_by_spans}
 use Rattle.shapers_universal.specs.UniversalSyllables.{all_forms, form_masks, syllables_set_up}
 use Rattle.shapers_universal.proofs.UniversalCuts.{clusters-masks, universal_set_up_cuts}
-use Rattle.shapers_universal.proofs.UniversalView.{universal_laws, universal_order-seen, universal_steps-seen}
+use Rattle.shapers_universal.specs.Proved.UniversalView.{universal_laws, universal_order-seen, universal_steps-seen}
 
 pub universal_reads_no_serials : UniversalReadsNoSerials
 universal_reads_no_serials =

@@ -7,3 +7,4 @@ pub mod UniversalMasks
 pub mod UniversalSyllables
 pub mod UniversalText
 pub mod UniversalWalk
+pub mod Proved

@@ -23,7 +23,7 @@ pub fn documentation(file: &File, clauses: &[RangeInclusive<usize>]) -> String {
             places.entry(place).or_default().push(format!("`{name}`"));
         }
     }
-    let line = |(place, names): (&str, Vec<String>)| format!("- {}: {place}\n", names.join(", "));
+    let line = |(place, names): (&str, Vec<String>)| format!("- {}: `{place}`\n", names.join(", "));
     let places: String = places.into_iter().map(line).collect();
     let blank = if places.is_empty() { "" } else { "\n" };
     let head = "\n<details><summary>Contract</summary>\n\n# Contract\n\n```text\n";

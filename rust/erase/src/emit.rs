@@ -15,12 +15,11 @@ pub fn emit(file: &File) -> Result<String, String> {
     let is_inner = |line: &&str| line.starts_with("//!");
     let inner: String = body.trim().split_inclusive('\n').take_while(is_inner).collect();
     let rest = body.trim()[inner.len()..].trim_start();
-    let blank = if inner.is_empty() { "" } else { "//!\n" };
     let is_known = |i: usize| get("prelude", file.text(i)).is_some() && file.before(i) != "::";
     let needs_prelude = (0..file.tokens.len()).any(|i| is_known(i) || is_collected(file, i));
     let prelude = if needs_prelude { "use crate::support::prelude::*;\n\n" } else { "" };
-    let head = format!("//! Generated from {} by rust/erase; edit the source.\n", file.path);
-    Ok(format!("{head}{blank}{inner}\n{prelude}{rest}\n"))
+    let head = format!("// Generated from {} by rust/erase; edit the source.\n\n", file.path);
+    Ok(format!("{head}{inner}\n{prelude}{rest}\n"))
 }
 
 /// A comment with the table's names in it.

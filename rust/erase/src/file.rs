@@ -96,9 +96,13 @@ impl File {
         Ok(self.partner(j))
     }
 
-    /// Whether a token is part of an import.
+    /// Whether a token is part of an import. What no import has, as the numbers and the brackets of a
+    /// table, ends the search: tables are long.
     pub fn is_import(&self, i: usize) -> bool {
-        self.nearest(i + 1, &["use", ";"]).is_some_and(|start| self.text(start) == "use")
+        let is_name = |text: &str| text.starts_with(|c: char| is_part(c) && !c.is_ascii_digit());
+        let can_stand = |text| matches!(text, "::" | "{" | "}" | "," | "*") || is_name(text);
+        let mut back = (0..=i).rev().map(|j| self.text(j));
+        back.find(|text| *text == "use" || !can_stand(text)) == Some("use")
     }
 
     /// Cuts tokens out; the comments before them stay.

@@ -1,23 +1,36 @@
-//! Runs the program on a copy of the sources: what it makes is up to date, white space doesn't
-//! count, and each file that differs is printed.
+//! Runs the program: on the repository, whose trees are up to date, and on a copy of the sources, where
+//! white space doesn't count, and each file that differs is printed. And the table renames items alone.
 
 use erase::table::all;
-use std::fs;
+use erase::token::{Token, tokens};
+use std::collections::BTreeSet;
 use std::path::{Path, PathBuf};
 use std::process::{Command, Output};
+use std::{env, fs, process};
 
-// A copy of the sources, in a folder of its own.
-fn copied_sources() -> PathBuf {
-    let top = Path::new(env!("CARGO_TARGET_TMPDIR")).join("command");
-    let _ = fs::remove_dir_all(&top);
-    for (krate, _) in all("crate") {
-        copy(
-            &Path::new(env!("CARGO_MANIFEST_DIR")).join("../.."),
-            &top,
-            &format!("crates/{krate}/src"),
-        );
+// A folder of a test's own, gone when the test ends. It isn't below target/: `rt ci` stops at sources
+// in the repository that no crate has.
+struct Scratch(PathBuf);
+
+impl Scratch {
+    fn new(test: &str) -> Self {
+        let folder = env::temp_dir().join(format!("sengadlit-{test}-{}", process::id()));
+        fs::create_dir_all(&folder).unwrap();
+        Scratch(folder)
     }
-    top
+}
+
+impl Drop for Scratch {
+    fn drop(&mut self) {
+        let _ = fs::remove_dir_all(&self.0);
+    }
+}
+
+fn copy_sources(to: &Path) {
+    let top = Path::new(env!("CARGO_MANIFEST_DIR")).join("../..");
+    for (krate, _) in all("crate") {
+        copy(&top, to, &format!("crates/{krate}/src"));
+    }
 }
 
 fn copy(from: &Path, to: &Path, path: &str) {
@@ -45,39 +58,85 @@ fn different(top: &Path) -> Option<String> {
     (output.status.code() != Some(0)).then_some(text)
 }
 
+// Whether rustfmt is here; without it the program isn't tested.
+fn has_rustfmt() -> bool {
+    let found = Command::new("rustfmt").arg("--version").output().is_ok();
+    if !found {
+        eprintln!("no rustfmt here: the program isn't tested");
+    }
+    found
+}
+
+#[test]
+fn the_repositorys_trees_are_up_to_date() {
+    let top = Path::new(env!("CARGO_MANIFEST_DIR")).join("../..");
+    if has_rustfmt() {
+        assert_eq!(different(&top), None, "made anew by `cargo run -p erase`");
+    }
+}
+
+#[test]
+fn names_that_change_are_items_of_the_sources() {
+    let top = Path::new(env!("CARGO_MANIFEST_DIR")).join("../../crates");
+    let sources = all("crate").map(|(krate, _)| top.join(krate).join("src"));
+    let items: BTreeSet<String> = sources.flat_map(|folder| items_below(&folder)).collect();
+    for (name, _) in all("name") {
+        assert!(items.contains(name), "no item `{name}` in crates/");
+    }
+}
+
+// The names of the structs, enums, traits and functions that sources below a folder declare.
+fn items_below(folder: &Path) -> BTreeSet<String> {
+    let mut items = BTreeSet::new();
+    for entry in fs::read_dir(folder).unwrap() {
+        let path = entry.unwrap().path();
+        if path.is_dir() {
+            items.extend(items_below(&path));
+            continue;
+        }
+        let text = fs::read_to_string(path).unwrap();
+        let tokens = tokens(&text).unwrap();
+        let is_item = |pair: &&[Token]| ["struct", "enum", "trait", "fn"].contains(&&*pair[0].text);
+        items.extend(tokens.windows(2).filter(is_item).map(|pair| pair[1].text.clone()));
+    }
+    items
+}
+
 #[test]
 fn check_tells_what_differs() {
-    if Command::new("rustfmt").arg("--version").output().is_err() {
-        eprintln!("no rustfmt here: the program isn't tested");
+    if !has_rustfmt() {
         return;
     }
-    let top = copied_sources();
-    assert!(run(&top, &[]).status.success());
+    let scratch = Scratch::new("command");
+    let top = &scratch.0;
+    copy_sources(top);
+    assert!(run(top, &[]).status.success());
     let tag = "rust/sengadlit/src/generated/shapers_buffer/buffer/tag.rs";
     let text = fs::read_to_string(top.join(tag)).unwrap();
     fs::write(top.join(tag), text.replace("\n", "\n\n ").replace("[u8; 4]", "[u8;4,]")).unwrap();
-    assert_eq!(different(&top), None);
+    assert_eq!(different(top), None);
     fs::write(top.join(tag), text.replace("///", "/// More:")).unwrap();
     let stale = "rust/hbhook/src/generated/stale/old.rs";
     fs::create_dir_all(top.join(stale).parent().unwrap()).unwrap();
     fs::write(top.join(stale), "").unwrap();
-    assert_eq!(different(&top), Some(format!("{stale}\n{tag}\n")));
-    assert!(run(&top, &[]).status.success());
-    assert_eq!(different(&top), None);
+    assert_eq!(different(top), Some(format!("{stale}\n{tag}\n")));
+    assert!(run(top, &[]).status.success());
+    assert_eq!(different(top), None);
     assert!(!top.join(stale).exists());
     assert_eq!(fs::read_to_string(top.join(tag)).unwrap(), text);
 }
 
 #[test]
 fn what_is_wrong_has_file_and_line() {
-    let top = Path::new(env!("CARGO_TARGET_TMPDIR")).join("wrong");
+    let scratch = Scratch::new("wrong");
+    let top = &scratch.0;
     let first = all("crate").next().unwrap().0;
     fs::create_dir_all(top.join(format!("crates/{first}/src"))).unwrap();
     let path = format!("crates/{first}/src/lib.rt");
     fs::write(top.join(&path), "\n#[no_mangle]\nfn f() {}\n").unwrap();
-    let output = run(&top, &[]);
+    let output = run(top, &[]);
     assert_eq!(output.status.code(), Some(1));
     let message = String::from_utf8(output.stderr).unwrap();
     assert_eq!(message, format!("{path}:2: an unknown attribute\n"));
-    assert_eq!(run(&top, &["--all"]).status.code(), Some(1));
+    assert_eq!(run(top, &["--all"]).status.code(), Some(1));
 }

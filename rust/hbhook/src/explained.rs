@@ -54,20 +54,26 @@ pub fn explain_end(script: &[u8], status: u8, draws: bool) -> Option<String> {
 }
 
 /// The characters of a script's texts that no `table` line names, in their order; each has the
-/// values of a character without a line. Lines behind the one that ended the run count as well.
+/// values of a character without a line. None where the last setting of `tables` is `unicode`. Lines
+/// behind the one that ended the run count as well.
 pub fn without_table(script: &[u8]) -> Vec<char> {
     let script = String::from_utf8_lossy(script);
     let mut in_tables = BTreeSet::new();
     let mut in_texts = Vec::new();
+    let mut are_unicode = false;
     for line in script.split('\n') {
+        if let Some(tables) = line.strip_prefix("set tables ") {
+            are_unicode = tables == "unicode";
+        }
         let mut fields = line.split(' ');
-        let word = fields.next();
-        let mut characters = fields.filter_map(field::character);
-        match word {
-            Some("table") => in_tables.extend(characters.next()),
-            Some("text") => in_texts.extend(characters),
+        match fields.next() {
+            Some("table") => in_tables.extend(fields.next().and_then(field::character)),
+            Some("text") => in_texts.extend(fields.flat_map(field::characters)),
             _ => {}
         }
+    }
+    if are_unicode {
+        return Vec::new();
     }
     let mut seen = in_tables;
     in_texts.retain(|character| seen.insert(*character));

@@ -2,7 +2,7 @@
 
 #![forbid(unsafe_code)]
 
-use hbhook::{draw_lines, explain_end, run_lines, without_table};
+use hbhook::{draw_lines, explain_end, lines_of_word, run_lines, without_table};
 use sengadlit::alloc::Global;
 use std::env;
 use std::ffi::{OsStr, OsString};
@@ -18,6 +18,8 @@ usage: hbhook [FILE]            runs the lines of the file, and prints the glyph
        hbhook --why [FILE]      does that, and lists the characters without a `table` line
        hbhook --draw [FILE]     runs them, and writes a page of HTML that shows what each hook did;
                                 also with --explain or --why
+       hbhook --word TEXT       runs the hooks of the text's script over it; also with --draw
+       hbhook --lines TEXT      prints the lines that do that
        hbhook --help            prints this
 
 For FILE - or nothing: the lines of standard input. Status: 0; 1 after a refusal; 2 where a line or
@@ -33,6 +35,7 @@ struct Task {
     explains: bool,
     lists: bool,
     draws: bool,
+    prints_lines: bool,
 }
 
 impl Task {
@@ -131,25 +134,43 @@ fn main() -> ExitCode {
 fn run(arguments: &[OsString]) -> Result<u8, String> {
     if let [argument] = arguments {
         if argument == "--help" || argument == "-h" {
-            return Ok(print_usage());
+            return Ok(print(USAGE));
         }
     }
     let mut task = Task::default();
-    let mut files = Vec::new();
-    for argument in arguments {
+    let (mut files, mut lines) = (Vec::new(), None);
+    let mut arguments = arguments.iter();
+    while let Some(argument) = arguments.next() {
         let is_option = argument.as_encoded_bytes().starts_with(b"-") && argument != "-";
         if !is_option {
             files.push(argument);
+        } else if argument == "--word" || argument == "--lines" {
+            let text = arguments
+                .next()
+                .ok_or("a text is missing (hbhook --help)")?;
+            task.prints_lines |= argument == "--lines";
+            lines = Some(lines_of(text)?);
         } else if !task.add(argument) {
             return Err(no_option(argument));
         }
     }
-    match files[..] {
-        [] => Ok(task.carry_out(io::stdin())),
-        [file] if file == "-" => Ok(task.carry_out(io::stdin())),
-        [file] => Ok(task.carry_out(open(file.as_ref())?)),
+    match (&files[..], lines) {
+        ([], Some(lines)) if task.prints_lines => Ok(print(&lines)),
+        ([], Some(lines)) => Ok(task.carry_out(lines.as_bytes())),
+        ([], None) => Ok(task.carry_out(io::stdin())),
+        ([file], None) if *file == "-" => Ok(task.carry_out(io::stdin())),
+        ([file], None) => Ok(task.carry_out(open((*file).as_ref())?)),
+        (_, Some(_)) => Err("a file or a word, not both (hbhook --help)".into()),
         _ => Err("one file at most (hbhook --help)".into()),
     }
+}
+
+// The lines of a text that is an argument.
+fn lines_of(text: &OsStr) -> Result<String, String> {
+    let text = text.to_str().ok_or("the text isn't of UTF-8")?;
+    lines_of_word(text).ok_or_else(|| {
+        format!("no script with hooks is known of `{text}`; docs/HBHOOK.md shows its lines")
+    })
 }
 
 // Names an argument that is no option, and the options that ./hbhook has too.
@@ -158,11 +179,11 @@ fn no_option(argument: &OsStr) -> String {
     if argument == "--help" || argument == "-h" {
         return format!("{name} takes no other argument");
     }
-    format!("there is no option {name}; there are --draw and --why (hbhook --help)")
+    format!("there is no option {name}; there are --draw, --why and --word (hbhook --help)")
 }
 
-fn print_usage() -> u8 {
-    match io::stdout().write_all(USAGE.as_bytes()) {
+fn print(text: &str) -> u8 {
+    match io::stdout().write_all(text.as_bytes()) {
         Ok(()) => 0,
         Err(_) => UNREADABLE,
     }

@@ -22,7 +22,7 @@ fn rejects_bad_arguments() {
     for arguments in [&["--what"][..], &["--why", "--what"], &["a", "--what"]] {
         expect_rejected(
             arguments,
-            "there is no option --what; there are --draw and --why (hbhook --help)",
+            "there is no option --what; there are --draw, --why and --word (hbhook --help)",
         );
     }
     expect_rejected(&["no such file"], "there is no file no such file");
@@ -41,6 +41,65 @@ fn prints_its_usage() {
     assert!(run.printed.starts_with("usage: hbhook [FILE] "));
     assert_eq!((run.told.as_str(), run.status), ("", Some(0)));
     assert_eq!(Run::new(&["-h"], ""), run);
+}
+
+#[test]
+fn runs_a_word() {
+    let word = Run::new(&["--word", "\u{0D9A}\u{0DD9}"], "");
+    assert_eq!(
+        word.printed,
+        "0dd9 0 00000030 12 22 0 0\n0d9a 0 00000030 12 1 0 0\n"
+    );
+    assert_eq!((word.told.as_str(), word.status), ("", Some(0)));
+    let lines = Run::new(&["--explain", "--lines", "\u{0D9A}\u{0DD9}"], "");
+    assert_eq!(Run::new(&["--explain"], &lines.printed), word);
+    let drawn = Run::new(&["--draw", "--word", "\u{0D9A}\u{0DD9}"], "");
+    assert_eq!(drawn.printed, Run::new(&["--draw"], &lines.printed).printed);
+}
+
+// A word of each shaper: the glyphs' numbers, and the features of the masks.
+#[test]
+fn runs_a_word_of_each_shaper() {
+    let numbers = |word: &str| -> Vec<u32> {
+        let run = Run::new(&["--explain", "--word", word], "");
+        assert_eq!((run.told.as_str(), run.status), ("", Some(0)), "{word}");
+        let glyphs = run.printed.lines();
+        glyphs
+            .map(|glyph| u32::from_str_radix(glyph.split(' ').next().unwrap(), 16).unwrap())
+            .collect()
+    };
+    // a tone stands behind the NIKHAHIT of SARA AM
+    assert_eq!(
+        numbers("\u{0E19}\u{0E49}\u{0E33}"),
+        [0x0E19, 0x0E4D, 0x0E49, 0x0E32]
+    );
+    // vowel signs on the left
+    assert_eq!(numbers("\u{1780}\u{17C4}"), [0x17C1, 0x1780, 0x17C4]);
+    assert_eq!(numbers("\u{1000}\u{1031}"), [0x1031, 0x1000]);
+    assert_eq!(numbers("\u{0B95}\u{0BCA}"), [0x0BC6, 0x0B95, 0x0BBE]);
+    assert_eq!(numbers("\u{0995}\u{09C7}"), [0x09C7, 0x0995]);
+    assert_eq!(numbers("\u{0D9A}\u{0DD9}"), [0x0DD9, 0x0D9A]);
+    assert_eq!(numbers("\u{05D0}"), [0x05D0]);
+    assert_eq!(numbers("\u{AC00}"), [0xAC00]);
+    let arabic = Run::new(&["--word", "\u{0628}\u{0627}"], "").printed;
+    let masks: Vec<&str> = arabic
+        .lines()
+        .map(|glyph| glyph.split(' ').nth(2).unwrap())
+        .collect();
+    assert_ne!(masks[0], masks[1]);
+}
+
+#[test]
+fn rejects_other_words() {
+    expect_rejected(
+        &["--word", "word"],
+        "no script with hooks is known of `word`; docs/HBHOOK.md shows its lines",
+    );
+    expect_rejected(&["--word"], "a text is missing (hbhook --help)");
+    expect_rejected(
+        &["--word", "\u{0E19}", "file"],
+        "a file or a word, not both (hbhook --help)",
+    );
 }
 
 #[test]
@@ -69,7 +128,7 @@ fn ends_as_the_lines_say() {
     assert!(
         drawn
             .printed
-            .ends_with("<br>unreadable</p>\n</body>\n</html>\n")
+            .contains("<br>unreadable</p>\n<details class=\"legend\"")
     );
 }
 

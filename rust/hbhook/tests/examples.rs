@@ -34,6 +34,32 @@ fn examples_print_what_is_written() {
     assert_eq!(count, fs::read_dir(printed).unwrap().count());
 }
 
+// The indented lines of a page behind a heading, by the blocks that they stand in.
+fn blocks(page: &str, heading: &str) -> Vec<String> {
+    let (_, section) = page.split_once(&format!("\n## {heading}\n")).unwrap();
+    let section = section.split("\n## ").next().unwrap();
+    let paragraphs = section.split("\n\n").map(|lines| lines.trim_matches('\n'));
+    let blocks = paragraphs.filter(|lines| lines.starts_with("    "));
+    let lines_of = |block: &str| {
+        block
+            .lines()
+            .map(|line| format!("{}\n", &line[4..]))
+            .collect()
+    };
+    blocks.map(lines_of).collect()
+}
+
+#[test]
+fn pages_say_what_is_printed() {
+    let page = fs::read_to_string(from_top("docs/HBHOOK.md")).unwrap();
+    for heading in ["A first script", "Your own word"] {
+        let [script, printed] = &blocks(&page, heading)[..] else {
+            panic!("{heading}")
+        };
+        assert_eq!(&Run::new(&[], script).printed, printed, "{heading}");
+    }
+}
+
 // The programs that the repository proves have an input of their own, and what they print of it.
 #[test]
 fn proved_programs_print_the_same() {

@@ -134,8 +134,8 @@ fn lines_have_their_fields() {
         "expected one space between two fields, and none at either end",
     );
     expect(
-        "# U+41",
-        "expected a line that does something: there are no comments and no empty lines",
+        "// U+41",
+        "expected a line that does something; a comment begins with #",
     );
     expect(
         "stage half 2 1",
@@ -199,7 +199,12 @@ fn other_ends_are_not_explained() {
 
 #[test]
 fn characters_without_a_table_line_are_listed_once() {
-    let script = b"text 43 41 43 44\ntable 41 0 7 1 1 1\ntext 42 \xFF\ntable 44 0 7 1 1 1";
+    let script = b"text 43 41 43 44\ntable 41 0 7 1 1 1\ntext 42 zz\ntable 44 0 7 1 1 1";
     assert_eq!(without_table(script), ['C', 'B']);
     assert_eq!(without_table(b"context 0 41\nfont 42 1 1"), []);
+    assert_eq!(without_table(b"set tables unicode\ntext 41"), []);
+    assert_eq!(
+        without_table(b"set tables unicode\ntext 41\nset tables lines"),
+        ['A']
+    );
 }

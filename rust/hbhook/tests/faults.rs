@@ -114,8 +114,8 @@ fn explains_lines_that_do_not_read() {
             "a line feed alone at the end, without a carriage return",
         ),
         (
-            "# text",
-            "a line that does something: there are no comments and no empty lines",
+            "// text",
+            "a line that does something; a comment begins with #",
         ),
         (
             "text  41",

@@ -18,30 +18,21 @@ static sengadlit_bool_t nominal_glyph(void *user_data, uint32_t unicode, uint32_
 
 int main(void)
 {
-    static const uint32_t text[] = {0x0E01, 0x0E48, 0x0E33, 0x0E1B, 0x0E48};
     static const sengadlit_font_funcs_t funcs = {.nominal_glyph = nominal_glyph};
     const sengadlit_font_t font = {.funcs = &funcs};
     const sengadlit_plan_input_t input = {.script = SENGADLIT_TAG('T', 'h', 'a', 'i')};
-    unsigned int length = sizeof text / sizeof *text;
+    unsigned int length;
     sengadlit_plan_t *plan = sengadlit_plan_create(SENGADLIT_SHAPER_THAI, &input, NULL);
     sengadlit_buffer_t *buffer = sengadlit_buffer_create();
-    sengadlit_glyph_info_t *glyphs = sengadlit_buffer_set_length(buffer, length);
 
-    if (plan == NULL || glyphs == NULL)
+    if (plan == NULL || sengadlit_buffer_add_utf8(buffer, "ก่ำป่", -1, 0, -1) != SENGADLIT_DONE)
         return EXIT_FAILURE;
-    for (unsigned int i = 0; i < length; i++) {
-        glyphs[i].codepoint = text[i];
-        glyphs[i].cluster = i;
-        glyphs[i].general_category = text[i] == 0x0E48 ? SENGADLIT_UNICODE_GENERAL_CATEGORY_NON_SPACING_MARK
-                                                       : SENGADLIT_UNICODE_GENERAL_CATEGORY_OTHER_LETTER;
-    }
-
     sengadlit_status_t status = sengadlit_preprocess_text(plan, &font, buffer, NULL);
     if (status != SENGADLIT_DONE) {
         fprintf(stderr, "preprocess_text: %s\n", sengadlit_status_name(status));
         return EXIT_FAILURE;
     }
-    glyphs = sengadlit_buffer_get_glyph_infos(buffer, &length);
+    const sengadlit_glyph_info_t *glyphs = sengadlit_buffer_get_glyph_infos(buffer, &length);
     for (unsigned int i = 0; i < length; i++) {
         uint32_t glyph = 0;
         (void)nominal_glyph(NULL, glyphs[i].codepoint, &glyph);

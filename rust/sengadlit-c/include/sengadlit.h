@@ -2,8 +2,9 @@
 
    For Arabic and the scripts that join like it, Hangul, Hebrew, the Indic scripts, Khmer, Myanmar, Thai and Lao, and the
    scripts of the Universal Shaping Engine. They are HarfBuzz's hooks under HarfBuzz's names, with its numbers for
-   scripts, directions, cluster levels, flags and categories. Lookups, the machines that find syllables, normalization
-   and positioning are the caller's, and so are the font and the Unicode tables, which the library calls back.
+   scripts, directions, cluster levels, flags and categories. Lookups, normalization and positioning are the caller's, and
+   so is the font, which the library calls back. Unicode's tables and the syllables of a text may be the library's or the
+   caller's.
 
    Objects. A plan is made once for a shaper, a script and a font, and doesn't change afterwards: threads may share it. A
    buffer is used by one thread at a time, again and again; its glyphs are read and written in place.
@@ -56,6 +57,16 @@ typedef uint32_t sengadlit_tag_t; /* As hb_tag_t and hb_script_t: four bytes, th
     ((sengadlit_tag_t)(uint8_t)(a) << 24 | (sengadlit_tag_t)(uint8_t)(b) << 16 | (sengadlit_tag_t)(uint8_t)(c) << 8 | \
      (sengadlit_tag_t)(uint8_t)(d))
 
+/* As hb_direction_t. */
+typedef enum sengadlit_direction_t {
+    SENGADLIT_DIRECTION_INVALID = 0,
+    SENGADLIT_DIRECTION_LTR = 4,
+    SENGADLIT_DIRECTION_RTL = 5,
+    SENGADLIT_DIRECTION_TTB = 6,
+    SENGADLIT_DIRECTION_BTT = 7,
+    SENGADLIT_DIRECTION_MAX_VALUE = 0x7FFFFFFF
+} sengadlit_direction_t;
+
 /* Frees what user data points to. */
 typedef void (*sengadlit_destroy_func_t)(void *user_data);
 
@@ -74,7 +85,7 @@ typedef enum sengadlit_status_t {
     SENGADLIT_NOT_FOUND = 8,         /* The characters don't compose, or the character doesn't decompose. */
     SENGADLIT_INTERNAL = 9,          /* A fault of the library, or of a callback whose result changed: the buffer of
                                         the call is empty, with its properties, and may be used again. A message went to
-                                        stderr. */
+                                        stderr, or where sengadlit_set_message_func says. */
     SENGADLIT_STATUS_MAX_VALUE = 0x7FFFFFFF
 } sengadlit_status_t;
 
@@ -84,7 +95,7 @@ typedef enum sengadlit_argument_t {
     SENGADLIT_ARGUMENT_SHAPER = 1,   /* No shaper by this number. */
     SENGADLIT_ARGUMENT_PLAN = 2,     /* Null. A null buffer has no place for an error: the status says all. */
     SENGADLIT_ARGUMENT_FONT = 3,     /* Null, or a function that the call uses is. */
-    SENGADLIT_ARGUMENT_TABLES = 4,   /* Null, or a function that the call uses is. */
+    SENGADLIT_ARGUMENT_TABLES = 4,   /* A function that the call uses is null. */
     SENGADLIT_ARGUMENT_MAP = 5,      /* Null, or one of its functions is. */
     SENGADLIT_ARGUMENT_RESULT = 6,   /* A pointer to write a result to is null. */
     SENGADLIT_ARGUMENT_PAUSE = 7,    /* No pause by this number, or one that the plan's shaper doesn't have. */
@@ -101,6 +112,7 @@ typedef enum sengadlit_argument_t {
     SENGADLIT_ARGUMENT_FEATURES = 18, /* Null, or the mask of feature `index` has one of the low three bits. */
     SENGADLIT_ARGUMENT_STAGES = 19,  /* Null, or stage `index` isn't a range of the lookups. */
     SENGADLIT_ARGUMENT_LOOKUPS = 20, /* Null. */
+    SENGADLIT_ARGUMENT_TEXT = 21,    /* Null. */
     SENGADLIT_ARGUMENT_MAX_VALUE = 0x7FFFFFFF
 } sengadlit_argument_t;
 
@@ -114,6 +126,16 @@ typedef struct sengadlit_error_t {
    library's and stays. */
 const char *sengadlit_status_name(sengadlit_status_t status);
 const char *sengadlit_argument_name(sengadlit_argument_t argument);
+
+/* Takes the message of an internal error, which says for a report on it where in the library it was found. The text ends
+   with a zero byte, and is the library's, to be read during the call alone. The function is called on the thread of the call
+   that ends with SENGADLIT_INTERNAL, and so on several at once if several use the library; it has to return, and must not
+   call this library. */
+typedef void (*sengadlit_message_func_t)(const char *message, void *user_data);
+
+/* Where messages go, for the whole program: to this function, and nothing is written to stderr; if it is null, to stderr,
+   as at first. A call on another thread may still hand one to the function that was set before. */
+void sengadlit_set_message_func(sengadlit_message_func_t func, void *user_data);
 
 /* ---- Shapers ---- */
 
@@ -171,6 +193,12 @@ typedef struct sengadlit_shaper_constants_t {
 /* ARGUMENT (and `constants` is as it was): no such shaper, or a null pointer. */
 sengadlit_status_t sengadlit_shaper_get_constants(sengadlit_shaper_t shaper, sengadlit_shaper_constants_t *constants);
 
+/* The shaper for a text, as HarfBuzz chooses it: by its script (0 if it isn't known), its direction, and the script tag that
+   the font's GSUB was found to offer, or 0. `chosen_script` as in sengadlit_plan_input_t. ABSENT (and `shaper` is as it was):
+   no shaper has hooks for such a text. ARGUMENT: no such direction, or a null pointer. */
+sengadlit_status_t sengadlit_shaper_for_script(sengadlit_tag_t script, sengadlit_direction_t direction,
+                                               sengadlit_tag_t chosen_script, sengadlit_shaper_t *shaper);
+
 /* ---- Callbacks ---- */
 
 /* The font. A function that no call uses may be null: each call below says which ones it calls. */
@@ -201,7 +229,8 @@ enum {
     SENGADLIT_JOINING_TYPE_X = 8             /* T for categories Mn, Me and Cf, else U. */
 };
 
-/* The Unicode Character Database and the shapers' tables. A function that no call uses may be null. */
+/* The Unicode Character Database and the shapers' tables. A function that no call uses may be null. Where a call takes null
+   tables, they are the library's own, of Unicode 17.0. */
 typedef struct sengadlit_tables_funcs_t {
     /* SENGADLIT_JOINING_..; any other number counts as U. */
     uint8_t (*joining_type)(void *user_data, uint32_t unicode);
@@ -303,6 +332,7 @@ typedef struct sengadlit_plan_input_t {
     sengadlit_bool_t centres_stretch; /* Whether the tiles of stretched marks are centred; else as rustybuzz lays them. */
     sengadlit_bool_t sound_breaks;   /* Whether joining flags each place where a broken text would be shaped otherwise. */
     uint32_t global_mask;            /* As hb_ot_map_t::global_mask. */
+    sengadlit_bool_t searches_medials; /* Whether Indic looks for a base among medial consonants too, as HarfBuzz does. */
     const sengadlit_feature_t *features; /* Of two with one tag the first counts. Each list may be null if its length is 0. */
     unsigned int features_length;
     const sengadlit_stage_t *stages; /* Only Indic uses lookups: others need no stages. */
@@ -422,16 +452,6 @@ typedef struct sengadlit_glyph_position_t {
     int32_t y_offset;
 } sengadlit_glyph_position_t;
 
-/* As hb_direction_t. */
-typedef enum sengadlit_direction_t {
-    SENGADLIT_DIRECTION_INVALID = 0,
-    SENGADLIT_DIRECTION_LTR = 4,
-    SENGADLIT_DIRECTION_RTL = 5,
-    SENGADLIT_DIRECTION_TTB = 6,
-    SENGADLIT_DIRECTION_BTT = 7,
-    SENGADLIT_DIRECTION_MAX_VALUE = 0x7FFFFFFF
-} sengadlit_direction_t;
-
 /* As hb_buffer_cluster_level_t. */
 typedef enum sengadlit_buffer_cluster_level_t {
     SENGADLIT_BUFFER_CLUSTER_LEVEL_MONOTONE_GRAPHEMES = 0,
@@ -476,6 +496,27 @@ sengadlit_glyph_info_t *sengadlit_buffer_get_glyph_infos(sengadlit_buffer_t *buf
    they are there, sengadlit_postprocess_glyphs alone takes the buffer. */
 sengadlit_glyph_position_t *sengadlit_buffer_get_glyph_positions(sengadlit_buffer_t *buffer, unsigned int *length);
 
+/* Adds characters to the text: those of the item of `item_length` units (bytes, 16 or 32 bits) that begins at `item_offset`
+   in `text`, which has `text_length` units. With -1 as `text_length` the text ends before its first zero, and with -1 as
+   `item_length` the item ends where the text does. As hb_buffer_add_utf8, _utf16 and _utf32:
+   - The cluster of a character is the place of its first unit in `text`.
+   - Each unit that doesn't begin a well-formed sequence within the item is U+FFFD, in a cluster of its own: a surrogate
+     alone, a number beyond Unicode, each byte of a sequence that is cut short, too long or a surrogate's.
+   - The characters after the item, at most five, become the context after the text. Those before it become the context
+     before the text if the buffer was empty, and if there are any.
+   general_category, modified_combining_class, SENGADLIT_GLYPH_MARK_IGNORABLE and, for marks (Mn, Mc, Me),
+   SENGADLIT_GLYPH_MARK_CONTINUATION are as in Unicode 17.0; what else continues a grapheme, as in emoji and flags, is the
+   caller's. All else is zero, and there are no positions. `text` may be null if its length is 0. max_length doesn't limit
+   this call, as it doesn't limit sengadlit_buffer_set_length.
+   ARGUMENT: TEXT; RANGE: a length below -1, or an item that doesn't lie in the text; and for a null buffer. MEMORY. TOO_LONG:
+   the buffer would have, or the text has, more than UINT32_MAX units. */
+sengadlit_status_t sengadlit_buffer_add_utf8(sengadlit_buffer_t *buffer, const char *text, int text_length,
+                                             unsigned int item_offset, int item_length);
+sengadlit_status_t sengadlit_buffer_add_utf16(sengadlit_buffer_t *buffer, const uint16_t *text, int text_length,
+                                              unsigned int item_offset, int item_length);
+sengadlit_status_t sengadlit_buffer_add_utf32(sengadlit_buffer_t *buffer, const uint32_t *text, int text_length,
+                                              unsigned int item_offset, int item_length);
+
 /* ARGUMENT: PROPERTIES, DIRECTION, CLUSTER_LEVEL, and for a null buffer. */
 sengadlit_status_t sengadlit_buffer_set_properties(sengadlit_buffer_t *buffer, const sengadlit_buffer_properties_t *properties);
 /* The characters before the text and after it, the nearest first, of which five count on each side. Null if the length is
@@ -516,6 +557,7 @@ sengadlit_status_t sengadlit_preprocess_text(const sengadlit_plan_t *plan, const
 
 /* Whether the shaper composes two characters, or decomposes one: DONE, and what they make is written; NOT_FOUND; or ABSENT,
    where Unicode's own composition holds. Calls compose (and for Indic, Khmer and universal general_category), or decompose.
+   `tables` may be null.
    `error` may be null; it is written where anything else is returned. ARGUMENT: PLAN, TABLES, RESULT, or CODEPOINT, which
    isn't a scalar value. */
 sengadlit_status_t sengadlit_decompose(const sengadlit_plan_t *plan, const sengadlit_tables_t *tables, uint32_t ab,
@@ -532,7 +574,7 @@ sengadlit_status_t sengadlit_reorder_marks(const sengadlit_plan_t *plan, sengadl
 /* Indic, Khmer, Myanmar: reads codepoint; writes category, and Indic and Myanmar auxiliary; calls indic_categories.
    Universal: reads codepoint; writes category; calls use_category. Arabic, and universal where letters join: reads codepoint,
    general_category, the properties and the context; writes auxiliary and mask; calls joining_type and general_category, the
-   latter for the context. Hangul: reads auxiliary; writes mask. `tables` may be null where they aren't called.
+   latter for the context. Hangul: reads auxiliary; writes mask. `tables` may be null.
    ARGUMENT: TABLES; CODEPOINT: where letters join, not a scalar value. */
 sengadlit_status_t sengadlit_setup_masks(const sengadlit_plan_t *plan, const sengadlit_tables_t *tables,
                                          sengadlit_buffer_t *buffer);
@@ -571,11 +613,18 @@ enum {
     SENGADLIT_USE_SYLLABLE_NON_CLUSTER = 8
 };
 
-/* A syllable, as the caller's machine found it. */
+/* A syllable, as sengadlit_spans or the caller's own machine found it. */
 typedef struct sengadlit_span_t {
     size_t length;                   /* In glyphs; not 0. */
     uint8_t kind;                    /* One of the kinds above; up to 15 are taken by the set-ups. */
 } sengadlit_span_t;
+
+/* The syllables of the text by the grammar of Indic, Khmer, Myanmar or universal, for the pause that sets them up: in order,
+   they cover the text; there are none for other shapers. Through `length`, which may be null, how many. Reads category, as
+   sengadlit_setup_masks writes it, and universal general_category. The pointer isn't null where there are none, and holds
+   until this function is called again with the buffer, or the buffer is destroyed. Null is returned for ARGUMENT: SHAPER,
+   GENERAL_CATEGORY, and for a null buffer; TOO_LONG; and MEMORY, where the buffer never had so many syllables. */
+const sengadlit_span_t *sengadlit_spans(sengadlit_shaper_t shaper, sengadlit_buffer_t *buffer, unsigned int *length);
 
 /* Does what a shaper does between two stages of GSUB.
    SETUP_SYLLABLES_..: reads the spans, which cover the text in its order; writes syllable and, if one is of the kind of
@@ -595,6 +644,11 @@ typedef struct sengadlit_span_t {
 sengadlit_status_t sengadlit_run_pause(const sengadlit_plan_t *plan, sengadlit_pause_t pause, const sengadlit_font_t *font,
                                        const sengadlit_span_t *spans, unsigned int spans_length, sengadlit_buffer_t *buffer,
                                        sengadlit_bool_t *circles);
+
+/* Runs a pause SETUP_SYLLABLES_.. on the syllables of sengadlit_spans, which it finds in the same pass and without memory.
+   ABSENT (and nothing changes): another pause, which sengadlit_run_pause runs. ARGUMENT: PAUSE. */
+sengadlit_status_t sengadlit_setup_syllables_found(const sengadlit_plan_t *plan, sengadlit_pause_t pause,
+                                                   sengadlit_buffer_t *buffer);
 
 /* After positioning: where the state has HAS_STCH, stretches marks over the words beside them (Arabic). Reads auxiliary,
    codepoint, general_category, marks, all of the positions; adds glyphs with their positions, writes x_advance, x_offset,

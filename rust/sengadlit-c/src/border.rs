@@ -9,10 +9,13 @@ mod buffers;
 pub mod callbacks;
 pub mod glyphs;
 mod hook_calls;
+mod messages;
 mod names;
 pub mod plans;
 
-use crate::status::Error;
+use crate::encodings::Unit;
+use crate::status::{Argument, Error};
+use core::ffi::c_int;
 use core::mem::MaybeUninit;
 use core::slice;
 use std::alloc::{Layout, alloc};
@@ -46,6 +49,29 @@ unsafe fn array<'a, T>(first: *const T, length: u32) -> Option<&'a [T]> {
     Some(unsafe { slice::from_raw_parts(first, length as usize) })
 }
 
+/// A text of C's in a buffer of so many units; with the length -1 it ends before the first zero.
+///
+/// # Safety
+///
+/// If `first` isn't null, so many units stand there, or some and a zero, and nobody writes them as long as the slice is used.
+unsafe fn text<'a, U: Unit>(first: *const U, length: c_int) -> Result<&'a [U], Error> {
+    let length = match u32::try_from(length) {
+        Ok(length) => length as usize,
+        Err(_) if length != -1 => return Err(Error::argument(Argument::Range)),
+        Err(_) if first.is_null() => return Err(Error::argument(Argument::Text)),
+        // SAFETY: a zero stands there, and each unit before it.
+        Err(_) => unsafe { (0..).take_while(|place| *first.add(*place) != U::default()) }.count(),
+    };
+    if length == 0 {
+        return Ok(&[]);
+    }
+    if first.is_null() {
+        return Err(Error::argument(Argument::Text));
+    }
+    // SAFETY: the caller's promise, of a pointer that isn't null.
+    Ok(unsafe { slice::from_raw_parts(first, length) })
+}
+
 /// A thing on the heap; none where memory is refused.
 fn boxed<T>(thing: T) -> Option<Box<T>> {
     const { assert!(size_of::<T>() != 0) };
@@ -70,8 +96,8 @@ fn guarded<A>(call: impl FnOnce() -> Result<A, Error>) -> Result<A, Error> {
 
 #[cfg(test)]
 mod tests {
-    use super::{array, boxed, guarded};
-    use crate::status::{Error, Status};
+    use super::{array, boxed, guarded, text};
+    use crate::status::{Argument, Error, Status};
 
     #[test]
     fn a_panic_is_an_internal_error() {
@@ -87,6 +113,25 @@ mod tests {
             assert_eq!(array::<u32>(core::ptr::null(), 0), Some(&[][..]));
             assert_eq!(array::<u32>(core::ptr::null(), 1), None);
             assert_eq!(array([7, 8].as_ptr(), 2), Some(&[7, 8][..]));
+        }
+    }
+
+    #[test]
+    fn a_text_ends_at_its_length_or_before_a_zero() {
+        let units = [7u16, 8, 0, 9];
+        let none = core::ptr::null::<u16>();
+        // SAFETY: the pointers are null, or of an array that lives as long and has a zero.
+        unsafe {
+            assert_eq!(text(units.as_ptr(), -1), Ok(&units[..2]));
+            assert_eq!(text(units.as_ptr(), 4), Ok(&units[..]));
+            assert_eq!(text(units[2..].as_ptr(), -1), Ok(&[][..]));
+            assert_eq!(text(none, 0), Ok(&[][..]));
+            assert_eq!(text(none, 1), Err(Error::argument(Argument::Text)));
+            assert_eq!(text(none, -1), Err(Error::argument(Argument::Text)));
+            assert_eq!(
+                text(units.as_ptr(), -2),
+                Err(Error::argument(Argument::Range))
+            );
         }
     }
 

@@ -1,19 +1,25 @@
 //! The buffer of C: a text, its positions, and why the last call failed.
 use crate::border::glyphs::{Takes, Text};
-use crate::layout::Properties;
+use crate::encodings::{Unit, characters, first, last};
+use crate::layout::{Glyph, Properties};
 use crate::numbers;
 use crate::status::{Argument, Error};
+use core::ops::Range;
+use sengadlit::Shaper;
 use sengadlit::alloc::{AllocError, Global, Vec as List};
 use sengadlit::buffer::{
-    Buffer as Inner, BufferClusterLevel, BufferFlags, BufferSettings, CONTEXT_LENGTH, Direction,
-    GlyphPosition,
+    Buffer as Inner, BufferClusterLevel, BufferFlags, BufferSettings, CONTEXT_LENGTH, GlyphInfo,
+    GlyphPosition, ShaperError, Span,
 };
+use sengadlit::unicode::UnicodeTables;
 
 /// `sengadlit_buffer_t`.
 pub struct Buffer {
     pub text: Text,
     // One per glyph, or none.
     positions: List<GlyphPosition>,
+    // What was found last; it is kept for its room.
+    spans: List<Span>,
     /// Why the last call that failed did.
     pub error: Error,
 }
@@ -24,6 +30,7 @@ impl Buffer {
         Buffer {
             text: Text::new(),
             positions: List::new(Global),
+            spans: List::new(Global),
             error: Error::NONE,
         }
     }
@@ -43,6 +50,41 @@ impl Buffer {
         Ok(())
     }
 
+    /// Adds the characters of an item of a text, with what Unicode says of each. What stands before the item in the text becomes
+    /// the context of a text that was empty, and what stands after it the one behind; no position stays.
+    pub fn add<U: Unit>(&mut self, text: &[U], item: Range<usize>) -> Result<(), Error> {
+        let (before, start) = (&text[..item.start], self.text.len());
+        let after = &text[item.end..];
+        let length = start + characters(&text[item.clone()]).count();
+        if u32::try_from(length.max(text.len())).is_err() {
+            return Err(ShaperError::TooLong.into());
+        }
+        self.set_length(length)?;
+        let glyphs = self.text.glyphs_mut()[start..].iter_mut();
+        for (glyph, (place, character)) in glyphs.zip(characters(&text[item.clone()])) {
+            let cluster = (item.start + place) as u32;
+            *glyph = Glyph::from(GlyphInfo::from_character(
+                character,
+                cluster,
+                &UnicodeTables,
+            ));
+        }
+        let mut room = ['\0'; CONTEXT_LENGTH];
+        if start == 0 && !before.is_empty() {
+            self.text.set_pre_context(last(before, &mut room));
+        }
+        self.text.set_post_context(first(after, &mut room));
+        Ok(())
+    }
+
+    /// The syllables of the text by the shaper's grammar, none for a shaper that has no grammar.
+    pub fn find_spans(&mut self, shaper: Shaper) -> Result<&[Span], Error> {
+        let spans = &mut self.spans;
+        self.text
+            .run(Takes::Numbers, |inner| Ok(shaper.spans_into(inner, spans)?))?;
+        Ok(spans.as_slice())
+    }
+
     /// The positions, one per glyph, all zero if there were none.
     pub fn positions(&mut self) -> Result<&mut [GlyphPosition], AllocError> {
         if self.positions.is_empty() {
@@ -55,7 +97,7 @@ impl Buffer {
     /// Takes all properties, or none.
     pub fn set_properties(&mut self, properties: &Properties) -> Result<(), Error> {
         let number = |wide: u32| u8::try_from(wide).ok();
-        let direction = number(properties.direction).and_then(Direction::from_number);
+        let direction = numbers::direction(properties.direction);
         let level = number(properties.cluster_level).and_then(BufferClusterLevel::from_number);
         self.text.set_properties(&BufferSettings {
             direction: direction.ok_or_else(|| Error::argument(Argument::Direction))?,
@@ -72,7 +114,8 @@ impl Buffer {
         let (mut pre, mut post) = (['\0'; CONTEXT_LENGTH], ['\0'; CONTEXT_LENGTH]);
         let pre = nearest(before, 0, &mut pre)?;
         let post = nearest(after, before.len(), &mut post)?;
-        self.text.set_context(pre, post);
+        self.text.set_pre_context(pre);
+        self.text.set_post_context(post);
         Ok(())
     }
 

@@ -1,7 +1,7 @@
 //! The hooks: what each requires of its arguments, tested before the first write, and the call.
 use crate::border::callbacks::{
-    Asked, FONT_ADVANCE, FONT_NOMINAL, FONT_WOULD, Font, TABLES_COMPOSE, TABLES_DECOMPOSE,
-    TABLES_GENERAL, TABLES_INDIC, TABLES_JOINING, TABLES_USE, Tables,
+    Asked, AskedTables, FONT_ADVANCE, FONT_NOMINAL, FONT_WOULD, Font, TABLES_COMPOSE,
+    TABLES_DECOMPOSE, TABLES_GENERAL, TABLES_INDIC, TABLES_JOINING, TABLES_USE, Tables,
 };
 use crate::border::glyphs::Takes;
 use crate::buffer::Buffer;
@@ -11,6 +11,7 @@ use crate::status::{Argument, Error, Status};
 use sengadlit::buffer::Span;
 use sengadlit::plan::{Pause, Preprocess};
 use sengadlit::shaper::{Shaper, pause_fits, run_pause as run};
+use sengadlit::spans::setup_syllables_found as set_up_found;
 
 /// The greatest kind of a syllable.
 const GREATEST_KIND: u8 = 15;
@@ -56,7 +57,7 @@ pub fn compose(
         Shaper::Indic | Shaper::Khmer | Shaper::Universal => TABLES_COMPOSE | TABLES_GENERAL,
         _ => 0,
     };
-    let tables = Asked::tables(tables, asks)?;
+    let tables = AskedTables::of(tables, asks)?;
     let composed = plan
         .shaper
         .compose(&plan.inner, &tables, character(a)?, character(b)?);
@@ -73,7 +74,7 @@ pub fn decompose(
         Shaper::Indic | Shaper::Khmer => TABLES_DECOMPOSE,
         _ => 0,
     };
-    let tables = Asked::tables(tables, asks)?;
+    let tables = AskedTables::of(tables, asks)?;
     let parts = plan.shaper.decompose(&plan.inner, &tables, character(ab)?);
     Ok(parts.map(|parts| parts.map(|(a, b)| (u32::from(a), u32::from(b)))))
 }
@@ -116,7 +117,7 @@ pub fn setup_masks(
         Shaper::Indic | Shaper::Khmer | Shaper::Myanmar => TABLES_INDIC,
         _ => 0,
     };
-    let tables = Asked::tables(tables, asks)?;
+    let tables = AskedTables::of(tables, asks)?;
     if joins {
         buffer.are_characters()?;
     }
@@ -136,8 +137,7 @@ pub fn run_pause(
     spans: &[Span],
     buffer: &mut Buffer,
 ) -> Result<bool, Error> {
-    let known = numbers::pause(pause).filter(|pause| pause_fits(*pause, &plan.inner));
-    let pause = known.ok_or_else(|| Error::argument(Argument::Pause))?;
+    let pause = pause_of(plan, pause)?;
     let font = Asked::font(font, asks_of(pause))?;
     if let Some(index) = spans.iter().position(|span| span.kind > GREATEST_KIND) {
         return Err(Error::argument_at(Argument::Spans, index));
@@ -150,6 +150,27 @@ pub fn run_pause(
     buffer.run(takes, |inner| {
         Ok(run(pause, &plan.inner, &font, spans, inner)?)
     })
+}
+
+/// `sengadlit_setup_syllables_found`.
+#[inline]
+pub fn setup_syllables_found(
+    plan: &Plan,
+    pause: u32,
+    buffer: &mut Buffer,
+) -> Result<Status, Error> {
+    let pause = pause_of(plan, pause)?;
+    let done = buffer.run(Takes::Numbers, |inner| {
+        Ok(set_up_found(pause, &plan.inner, inner))
+    })?;
+    Ok(done_if(done))
+}
+
+// The pause of this number, if the plan's shaper has it.
+#[inline]
+fn pause_of(plan: &Plan, number: u32) -> Result<Pause, Error> {
+    let known = numbers::pause(number).filter(|pause| pause_fits(*pause, &plan.inner));
+    known.ok_or_else(|| Error::argument(Argument::Pause))
 }
 
 // Which functions of the font a pause uses.

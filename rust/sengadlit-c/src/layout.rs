@@ -23,6 +23,25 @@ pub struct Glyph {
     pub marks: u8,
 }
 
+impl From<GlyphInfo> for Glyph {
+    #[inline]
+    fn from(glyph: GlyphInfo) -> Self {
+        Glyph {
+            codepoint: glyph.glyph_id,
+            cluster: glyph.cluster,
+            mask: glyph.mask,
+            var: glyph.var,
+            syllable: glyph.syllable,
+            category: glyph.category,
+            auxiliary: glyph.auxiliary,
+            general_category: glyph.general_category.number(),
+            modified_combining_class: glyph.modified_combining_class,
+            lig_comp: glyph.lig_comp,
+            marks: glyph.marks.bits(),
+        }
+    }
+}
+
 macro_rules! same_layout {
     ($c:ty, $rust:ty: $($field:ident = $other:ident),*) => {
         const _: () = {
@@ -117,7 +136,7 @@ mod tests {
         layout!("feature", Feature: tag, mask, stage);
         layout!("stage", Stage: start, end);
         layout!("plan_input", PlanInput: script, chosen_script, found_script, has_gpos_mark, centres_stretch, sound_breaks,
-        global_mask, features, features_length, stages, stages_length, lookups, lookups_length, kept.user_data = "user_data", kept.destroy = "destroy");
+        global_mask, searches_medials, features, features_length, stages, stages_length, lookups, lookups_length, kept.user_data = "user_data", kept.destroy = "destroy");
         layout!("plan_data", Data: shaper, joins, has_stch, rphf_mask, masks);
         layout!("glyph_info", Glyph: codepoint, cluster, mask, var, syllable, category, auxiliary, general_category,
         modified_combining_class, lig_comp, marks);

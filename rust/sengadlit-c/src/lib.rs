@@ -8,6 +8,7 @@
 
 mod border;
 mod buffer;
+mod encodings;
 mod features;
 mod hooks;
 mod layout;

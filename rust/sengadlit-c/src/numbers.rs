@@ -1,5 +1,5 @@
 //! The header's numbers, as the types of `sengadlit` and back.
-use sengadlit::buffer::{GeneralCategory, Script, Tag};
+use sengadlit::buffer::{Direction, GeneralCategory, Script, Tag};
 use sengadlit::plan::{JoiningType, Pause};
 use sengadlit::shaper::{Hook, NormalizationMode, Shaper, ZeroWidthMarks};
 
@@ -28,6 +28,11 @@ pub fn pause(number: u32) -> Option<Pause> {
 /// Its number; `NO_PAUSE` for none.
 pub fn pause_number(pause: Option<Pause>) -> u32 {
     pause.map_or(NO_PAUSE, |pause| u32::from(pause.number()))
+}
+
+/// The direction of `sengadlit_direction_t`.
+pub fn direction(number: u32) -> Option<Direction> {
+    Direction::from_number(u8::try_from(number).ok()?)
 }
 
 /// The joining type of `SENGADLIT_JOINING_..`; U for any other number.

@@ -8,7 +8,7 @@ use core::sync::atomic::AtomicUsize;
 use sengadlit::alloc::{AllocError, Global, Vec as List};
 use sengadlit::buffer::ShaperError;
 use sengadlit::map::{FeatureMap, Map};
-use sengadlit::plan::{ArabicPlan, BreakFlags, Plan as Inner, StretchStart};
+use sengadlit::plan::{ArabicPlan, BaseSearch, BreakFlags, Plan as Inner, StretchStart};
 use sengadlit::shaper::Shaper;
 
 /// The bits of a mask that are glyph flags.
@@ -47,6 +47,9 @@ pub fn make(
     }
     if input.sound_breaks != 0 {
         plan.break_flags = BreakFlags::Sound;
+    }
+    if input.searches_medials != 0 {
+        plan.base_search = BaseSearch::AllConsonants;
     }
     Ok(Plan {
         references: AtomicUsize::new(1),
@@ -143,5 +146,70 @@ impl Plan {
                 .is_some_and(|kept| kept.arabic_plan.is_some()),
             _ => false,
         }
+    }
+}
+
+#[cfg(test)]
+mod tests {
+    use super::*;
+    use core::ptr::{null, null_mut};
+
+    fn input() -> PlanInput {
+        PlanInput {
+            script: u32::from_be_bytes(*b"Deva"),
+            chosen_script: 0,
+            found_script: 0,
+            has_gpos_mark: 0,
+            centres_stretch: 0,
+            sound_breaks: 0,
+            global_mask: 0,
+            searches_medials: 0,
+            features: null(),
+            features_length: 0,
+            stages: null(),
+            stages_length: 0,
+            lookups: null(),
+            lookups_length: 0,
+            kept: Kept {
+                user_data: null_mut(),
+                destroy: None,
+            },
+        }
+    }
+
+    fn choices(input: &PlanInput) -> (StretchStart, BreakFlags, BaseSearch) {
+        let plan = make(Shaper::Indic, input, &[], &[], &[]).ok().unwrap();
+        let kept = plan.inner.plan_data.indic().unwrap();
+        assert_eq!(kept.base_search, plan.inner.base_search);
+        (
+            plan.inner.stretch_start,
+            plan.inner.break_flags,
+            plan.inner.base_search,
+        )
+    }
+
+    #[test]
+    fn each_choice_of_the_input_is_the_plans() {
+        const CODE: (StretchStart, BreakFlags) = (StretchStart::AsCode, BreakFlags::AsCode);
+        let medials = PlanInput {
+            searches_medials: 1,
+            ..input()
+        };
+        let sound = PlanInput {
+            sound_breaks: 1,
+            ..input()
+        };
+        let centred = PlanInput {
+            centres_stretch: 1,
+            ..input()
+        };
+        let without = BaseSearch::WithoutMedials;
+        assert_eq!(choices(&input()), (CODE.0, CODE.1, without));
+        assert_eq!(
+            choices(&medials),
+            (CODE.0, CODE.1, BaseSearch::AllConsonants)
+        );
+        assert_eq!(choices(&sound), (CODE.0, BreakFlags::Sound, without));
+        assert_eq!(choices(&centred), (StretchStart::Centred, CODE.1, without));
     }
 }

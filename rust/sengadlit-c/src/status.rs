@@ -53,6 +53,7 @@ named_numbers! {
     Features = c"SENGADLIT_ARGUMENT_FEATURES",
     Stages = c"SENGADLIT_ARGUMENT_STAGES",
     Lookups = c"SENGADLIT_ARGUMENT_LOOKUPS",
+    Text = c"SENGADLIT_ARGUMENT_TEXT",
 }
 
 /// `sengadlit_error_t`: why a call failed.

@@ -175,6 +175,7 @@ static sengadlit_plan_t *make_plan(unsigned int *destroyed)
     input.has_gpos_mark = settings & 8;
     input.centres_stretch = settings & 16;
     input.sound_breaks = settings & 64;
+    input.searches_medials = settings & 128;
     input.global_mask = next();
     input.features = features;
     input.features_length = 8;
@@ -209,6 +210,36 @@ static void write_glyph(sengadlit_glyph_info_t *glyph, uint32_t cluster)
     glyph->marks = next();
 }
 
+/* Part of a text whose units are anything. */
+static void add_text(sengadlit_buffer_t *buffer)
+{
+    uint32_t wide[MOST];
+    uint16_t units[MOST];
+    char text[MOST];
+    unsigned int start = next() % 8, before, length;
+    int item = next() % (MOST - 7);
+    sengadlit_status_t status;
+
+    for (unsigned int i = 0; i < MOST; i++) {
+        uint8_t byte = next();
+        text[i] = (char)byte;
+        units[i] = (uint16_t)(byte < 128 ? firsts[place] + byte : 0xD700u + 9u * byte);
+        wide[i] = byte < 200 ? firsts[place] + byte : next_word();
+    }
+    (void)sengadlit_buffer_get_glyph_infos(buffer, &before);
+    switch (next() % 3) {
+    case 0: status = sengadlit_buffer_add_utf8(buffer, text, MOST, start, item); break;
+    case 1: status = sengadlit_buffer_add_utf16(buffer, units, MOST, start, item); break;
+    default: status = sengadlit_buffer_add_utf32(buffer, wide, MOST, start, item);
+    }
+    const sengadlit_glyph_info_t *glyphs = sengadlit_buffer_get_glyph_infos(buffer, &length);
+    if (status != SENGADLIT_DONE || length < before || length - before > (unsigned int)item) abort();
+    for (unsigned int i = before; i < length; i++)
+        if (glyphs[i].cluster < start || glyphs[i].cluster >= start + (unsigned int)item || glyphs[i].codepoint > 0x10FFFF ||
+            glyphs[i].general_category > 29)
+            abort();
+}
+
 static void write_text(sengadlit_buffer_t *buffer)
 {
     unsigned int length = next() % (MOST + 1);
@@ -216,6 +247,7 @@ static void write_text(sengadlit_buffer_t *buffer)
 
     if (!glyphs) abort();
     for (unsigned int i = 0; i < length; i++) write_glyph(&glyphs[i], i);
+    if (next() % 4 == 1) add_text(buffer);
 }
 
 static void write_settings(sengadlit_buffer_t *buffer)
@@ -259,14 +291,27 @@ static sengadlit_status_t run_pause(const sengadlit_plan_t *plan, sengadlit_buff
     return sengadlit_run_pause(plan, (sengadlit_pause_t)pause, next() == 1 ? NULL : &font, spans, count, buffer, &circles);
 }
 
+/* A pause on the syllables that the library finds, by either way. */
+static sengadlit_status_t run_found(const sengadlit_plan_t *plan, sengadlit_buffer_t *buffer)
+{
+    sengadlit_pause_t pause = (sengadlit_pause_t)(next() % 5);
+    unsigned int length;
+
+    if (next() & 1) return sengadlit_setup_syllables_found(plan, pause, buffer);
+    const sengadlit_span_t *spans = sengadlit_spans((sengadlit_shaper_t)shaper_number, buffer, &length);
+    if (!spans) return sengadlit_setup_syllables_found(plan, pause, buffer);
+    return sengadlit_run_pause(plan, pause, &font, spans, length, buffer, NULL);
+}
+
 static sengadlit_status_t run_hook(const sengadlit_plan_t *plan, sengadlit_buffer_t *buffer)
 {
     sengadlit_bool_t constraints;
     unsigned int start = next() % 33;
 
-    switch (next() % 8) {
+    switch (next() % 9) {
     case 0: return sengadlit_preprocess_text(plan, &font, buffer, &constraints);
-    case 1: return sengadlit_setup_masks(plan, &tables, buffer);
+    case 1: return sengadlit_setup_masks(plan, start == 1 ? NULL : &tables, buffer);
+    case 5: return run_found(plan, buffer);
     case 2: return sengadlit_reorder_marks(plan, buffer, start, start + next() % 40);
     case 3: (void)sengadlit_buffer_get_glyph_positions(buffer, NULL); /* fall through */
     case 4: return sengadlit_postprocess_glyphs(plan, &font, buffer);
@@ -328,14 +373,16 @@ static void call_others(sengadlit_plan_t *plan)
     const sengadlit_map_t map = {&funcs, &sum};
     sengadlit_shaper_constants_t constants;
     sengadlit_plan_data_t data;
+    sengadlit_shaper_t found;
     uint32_t a = next_word() % 0x120000, b = firsts[place] + next() % 128, c, d;
 
     (void)sengadlit_shaper_get_constants((sengadlit_shaper_t)shaper_number, &constants);
     (void)sengadlit_collect_features((sengadlit_shaper_t)shaper_number, scripts[place], &font, &map, NULL);
     (void)sengadlit_override_features((sengadlit_shaper_t)shaper_number, scripts[place], &map, NULL);
     (void)sengadlit_plan_get_data(plan, &data);
-    (void)sengadlit_compose(plan, &tables, b, a, &c, NULL);
-    (void)sengadlit_decompose(plan, &tables, next() & 1 ? a : b, &c, &d, NULL);
+    (void)sengadlit_compose(plan, next() == 1 ? NULL : &tables, b, a, &c, NULL);
+    (void)sengadlit_decompose(plan, next() == 1 ? NULL : &tables, next() & 1 ? a : b, &c, &d, NULL);
+    (void)sengadlit_shaper_for_script(scripts[place], (sengadlit_direction_t)(next() % 9), next() == 1 ? a : 0, &found);
     (void)sengadlit_status_name((sengadlit_status_t)a);
     (void)sengadlit_argument_name((sengadlit_argument_t)(a % 32));
     sengadlit_plan_destroy(sengadlit_plan_reference(plan));

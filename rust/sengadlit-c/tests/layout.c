@@ -66,6 +66,7 @@ static void print_plans(void)
     FIELD(plan_input, centres_stretch);
     FIELD(plan_input, sound_breaks);
     FIELD(plan_input, global_mask);
+    FIELD(plan_input, searches_medials);
     FIELD(plan_input, features);
     FIELD(plan_input, features_length);
     FIELD(plan_input, stages);

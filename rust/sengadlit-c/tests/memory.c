@@ -61,6 +61,28 @@ static sengadlit_status_t position(void)
     return sengadlit_buffer_get_glyph_positions(world.buffer, NULL) ? SENGADLIT_DONE : SENGADLIT_MEMORY;
 }
 
+/* More characters than any text before. */
+static sengadlit_status_t add(void)
+{
+    char text[3 * 60 + 1] = "";
+
+    for (unsigned int i = 0; i < 60; i++)
+        strcat(text, "\u1780");
+    return sengadlit_buffer_add_utf8(world.buffer, text, -1, 0, -1);
+}
+
+static sengadlit_status_t find(void)
+{
+    unsigned int length;
+
+    return sengadlit_spans(SENGADLIT_SHAPER_KHMER, world.buffer, &length) ? SENGADLIT_DONE : SENGADLIT_MEMORY;
+}
+
+static sengadlit_status_t set_up_found(void)
+{
+    return sengadlit_setup_syllables_found(world.plan, SENGADLIT_PAUSE_SETUP_SYLLABLES_KHMER, world.buffer);
+}
+
 static sengadlit_status_t preprocess(void)
 {
     return sengadlit_preprocess_text(world.plan, &world.font, world.buffer, NULL);
@@ -145,6 +167,8 @@ static void try_buffers(void)
     begin_world(SENGADLIT_SHAPER_THAI, SENGADLIT_TAG('T', 'h', 'a', 'i'), 0x0E01, 4);
     try_call("set_length", lengthen);
     try_call("get_glyph_positions", position);
+    begin_world(SENGADLIT_SHAPER_KHMER, SENGADLIT_TAG('K', 'h', 'm', 'r'), 0x1780, 4);
+    try_call("add", add);
 }
 
 static void try_characters(void)
@@ -167,6 +191,8 @@ static void try_khmer(void)
     begin_world(SENGADLIT_SHAPER_KHMER, SENGADLIT_TAG('K', 'h', 'm', 'r'), 0x1780, 4);
     world.answers.glyph_of_circle = 7;
     try_call("override", override);
+    try_call("spans", find);
+    try_call("set up found", set_up_found);
     try_call("set up", set_up);
     try_call("reorder", reorder);
 }

@@ -119,8 +119,8 @@ static void names_and_versions(void)
     check("a later version", SENGADLIT_VERSION_ATLEAST(0, 1, 0) && !SENGADLIT_VERSION_ATLEAST(99, 0, 0));
     check("a status", strcmp(sengadlit_status_name(SENGADLIT_INTERNAL), "SENGADLIT_INTERNAL") == 0);
     check("no status", strcmp(sengadlit_status_name((sengadlit_status_t)10), "unknown") == 0);
-    check("an argument", strcmp(sengadlit_argument_name(SENGADLIT_ARGUMENT_LOOKUPS), "SENGADLIT_ARGUMENT_LOOKUPS") == 0);
-    check("no argument", strcmp(sengadlit_argument_name((sengadlit_argument_t)21), "unknown") == 0);
+    check("an argument", strcmp(sengadlit_argument_name(SENGADLIT_ARGUMENT_TEXT), "SENGADLIT_ARGUMENT_TEXT") == 0);
+    check("no argument", strcmp(sengadlit_argument_name((sengadlit_argument_t)22), "unknown") == 0);
 }
 
 /* Numbers of HarfBuzz's that are others here. */
@@ -531,7 +531,9 @@ static void pairs_of_wrong_arguments(void)
 
     begin_khmer();
     expect_no_pair("no plan", NULL, &world.tables, 0x41, &to, SENGADLIT_ARGUMENT_PLAN);
-    expect_no_pair("no tables", world.plan, NULL, 0x41, &to, SENGADLIT_ARGUMENT_TABLES);
+    world.tables.funcs = NULL;
+    expect_no_pair("tables without functions", world.plan, &world.tables, 0x41, &to, SENGADLIT_ARGUMENT_TABLES);
+    begin_khmer();
     expect_no_pair("nowhere", world.plan, &world.tables, 0x41, NULL, SENGADLIT_ARGUMENT_RESULT);
     expect_no_pair("a surrogate", world.plan, &world.tables, 0xD800, &to, SENGADLIT_ARGUMENT_CODEPOINT);
     check("nothing is written", to == UNTOUCHED);
@@ -543,7 +545,6 @@ static void compositions(void)
 
     begin_hebrew();
     expect("a pair nowhere", sengadlit_compose(world.plan, &world.tables, 0x41, 0x300, NULL, NULL), SENGADLIT_ARGUMENT);
-    expect("no tables", sengadlit_compose(world.plan, NULL, 0x41, 0x300, &ab, NULL), SENGADLIT_ARGUMENT);
     expect("a surrogate first", sengadlit_compose(world.plan, &world.tables, 0xDFFF, 0x300, &ab, NULL), SENGADLIT_ARGUMENT);
     expect("a surrogate second", sengadlit_compose(world.plan, &world.tables, 0x41, 0xD800, &ab, NULL), SENGADLIT_ARGUMENT);
     expect("beyond Unicode", sengadlit_compose(world.plan, &world.tables, 0x41, 0x110000, &ab, NULL), SENGADLIT_ARGUMENT);
@@ -570,7 +571,6 @@ static void decompositions(void)
     begin_khmer();
     expect("parts nowhere", sengadlit_decompose(world.plan, &world.tables, 0xC0, NULL, &b, NULL), SENGADLIT_ARGUMENT);
     expect("a part nowhere", sengadlit_decompose(world.plan, &world.tables, 0xC0, &a, NULL, NULL), SENGADLIT_ARGUMENT);
-    expect("no tables", sengadlit_decompose(world.plan, NULL, 0xC0, &a, &b, NULL), SENGADLIT_ARGUMENT);
     expect("a surrogate", sengadlit_decompose(world.plan, &world.tables, 0xD800, &a, &b, NULL), SENGADLIT_ARGUMENT);
     expect("no parts", sengadlit_decompose(world.plan, &world.tables, 0xC1, &a, &b, NULL), SENGADLIT_NOT_FOUND);
     world.tables_funcs.decompose = NULL;
@@ -602,7 +602,7 @@ static void places_that_are_none(void)
 static void masks_refuse_tables(const char *what)
 {
     REFUSES(what, masks(), TABLES, 0);
-    REFUSES(what, sengadlit_setup_masks(world.plan, NULL, world.buffer), TABLES, 0);
+    expect("Unicode's tables lack nothing", sengadlit_setup_masks(world.plan, NULL, world.buffer), SENGADLIT_DONE);
 }
 
 static void tables_that_are_none(void)

@@ -3,14 +3,16 @@
 use crate::alloc::{AllocError, Global};
 use crate::buffer::{Script, Tag};
 use crate::map::{FeatureMap, Map};
-use crate::plan::{BreakFlags, Plan, StretchStart};
+use crate::plan::{BaseSearch, BreakFlags, Plan, StretchStart};
 use crate::shaper::Shaper;
 use core::error::Error;
 use core::fmt;
 use core::ops::Range;
 
 impl FeatureMap {
-    /// A feature with the bits of a glyph's mask that turn it on, and the stage of its lookups.
+    /// A feature with the bits of a glyph's mask that turn it on, and the place of its lookups among
+    /// the plan's stages; beyond them it has none. A stage here is a range of lookups: those of one
+    /// feature, or of several that are applied together between two pauses.
     #[inline]
     pub const fn new(tag: Tag, mask: u32, stage: usize) -> Self {
         FeatureMap { tag, mask, stage }
@@ -40,6 +42,7 @@ impl Plan {
 /// assert_eq!(plan.ot_map.get_1_mask(Tag(*b"pref")), 0x10);
 /// # Ok::<(), sengadlit::plan::PlanError>(())
 /// ```
+#[must_use = "a builder makes nothing until it is built"]
 #[derive(Clone, Copy, Debug, Default)]
 pub struct PlanBuilder<'a> {
     script: Option<Script>,
@@ -52,6 +55,7 @@ pub struct PlanBuilder<'a> {
     has_gpos_mark: bool,
     stretch_start: StretchStart,
     break_flags: BreakFlags,
+    base_search: BaseSearch,
 }
 
 impl<'a> PlanBuilder<'a> {
@@ -136,7 +140,20 @@ impl<'a> PlanBuilder<'a> {
         }
     }
 
+    /// Among which consonants Indic looks for the base of a syllable.
+    #[inline]
+    pub fn base_search(self, base_search: BaseSearch) -> Self {
+        PlanBuilder {
+            base_search,
+            ..self
+        }
+    }
+
     /// The map of the features, stages and lookups.
+    ///
+    /// # Errors
+    ///
+    /// `PlanError`, which says what can't be a map's, or that memory was refused.
     pub fn build_map(self) -> Result<Map, PlanError> {
         let map = Map::from_slices(
             Global,
@@ -153,15 +170,24 @@ impl<'a> PlanBuilder<'a> {
     }
 
     /// The plan, without what a shaper keeps in it.
+    ///
+    /// # Errors
+    ///
+    /// Those of [`PlanBuilder::build_map`].
     pub fn build(self) -> Result<Plan, PlanError> {
         let mut plan = Plan::new(self.script, self.build_map()?);
         plan.has_gpos_mark = self.has_gpos_mark;
         plan.stretch_start = self.stretch_start;
         plan.break_flags = self.break_flags;
+        plan.base_search = self.base_search;
         Ok(plan)
     }
 
     /// The plan, with what the shaper keeps in it; see [`Shaper::with_data`].
+    ///
+    /// # Errors
+    ///
+    /// Those of [`PlanBuilder::build_map`].
     pub fn build_for(self, shaper: Shaper) -> Result<Plan, PlanError> {
         Ok(shaper.with_data(self.build()?))
     }
@@ -238,6 +264,7 @@ mod tests {
             .has_gpos_mark(true)
             .stretch_start(StretchStart::Centred)
             .break_flags(BreakFlags::Sound)
+            .base_search(BaseSearch::AllConsonants)
             .build()
             .unwrap();
         let table = crate::map::TableIndex::GSUB;
@@ -245,6 +272,7 @@ mod tests {
         assert!(plan.has_gpos_mark);
         assert_eq!(plan.stretch_start, StretchStart::Centred);
         assert_eq!(plan.break_flags, BreakFlags::Sound);
+        assert_eq!(plan.base_search, BaseSearch::AllConsonants);
         assert_eq!(plan.plan_data, PlanData::None);
         assert_eq!(plan.ot_map.get_1_mask(PREF.tag), 0x10);
         assert_eq!(plan.ot_map.get_feature_stage(table, PREF.tag), Some(1));
@@ -261,6 +289,7 @@ mod tests {
         assert_eq!((plan.script, plan.has_gpos_mark), (None, false));
         assert_eq!(plan.stretch_start, StretchStart::AsCode);
         assert_eq!(plan.break_flags, BreakFlags::AsCode);
+        assert_eq!(plan.base_search, BaseSearch::WithoutMedials);
         assert_eq!(plan.ot_map.get_global_mask(), 0);
     }
 

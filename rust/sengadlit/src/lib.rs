@@ -2,12 +2,14 @@
 //! Lao, and the universal shaper.
 //!
 //! They are the hooks of rustybuzz's shapers, which rewrite a buffer of glyphs between Unicode text
-//! and a font's lookups. What is around them is the caller's: lookups, normalization, the
-//! machines that find syllables, and Unicode's tables. The crate has no dependencies and no `unsafe`,
+//! and a font's lookups. What is around them is the caller's: the font, lookups and positioning.
+//! Beside the hooks, [`spans`] finds the syllables that they take, `unicode` has Unicode's tables, and
+//! [`ot_shape_normalize`] the rounds of normalization. The crate has no dependencies and no `unsafe`,
 //! and needs `alloc` alone.
 //!
-//! It is generated from proved sources, by deleting their contracts, and tested against the proved
-//! program; the contract of each function is in its documentation.
+//! It is generated from proved sources, by deleting their contracts, and its functions are called
+//! beside those that were proved, with the same arguments; the contract of each is in its
+//! documentation. The repository's docs/TRUST.md says what that shows, and of which functions.
 //!
 //! # Quick start
 //!
@@ -38,14 +40,16 @@
 //! 1. *Plan time*, once for a script and a font: [`collect_features`] and [`override_features`] fill
 //!    a [`Planner`] with features and pauses. From those that the font has, the caller makes a
 //!    [`Plan`], with [`Plan::builder`] and [`Shaper::with_data`] (or [`create_data`]).
-//! 2. *Text*: [`Buffer`] takes the characters, their clusters and general categories.
+//! 2. *Text*: [`Shaper::for_script`] chooses the shaper. [`Buffer`] takes the characters, their
+//!    clusters and general categories, `Buffer::from_text` a text with all that Unicode says of it.
 //!    [`preprocess_text`] rewrites them.
 //! 3. *Normalization*: [`decompose`], [`compose`], and [`reorder_marks`] for each run of marks;
 //!    [`normalization_preference`] says how.
 //! 4. [`setup_masks`] sets each character's category and the features that it takes. Then
 //!    characters become glyphs.
 //! 5. *Lookups*, stage by stage. Between two stages [`run_pause`] runs the pauses that the planner
-//!    has there: syllables are set up from [`Span`]s, reordered, recorded.
+//!    has there: syllables are set up from [`Span`]s (or as they are found, by
+//!    [`spans::setup_syllables_found`]), reordered, recorded.
 //! 6. *Positioning*: [`zero_width_marks`], [`fallback_position`] and [`gpos_tag`] say how. Then
 //!    [`postprocess_glyphs`] stretches marks over their words.
 //!
@@ -88,8 +92,12 @@
 //!   [`Shaper::with_data`] and [`Plan::builder`] make plans that fit. A caller who can't know
 //!   uses the checked methods, which test the conditions before they change anything: see
 //!   [`shaper::checked`].
-//! - **Fonts and tables.** A [`Font`] and [`Tables`] return the same result for the same arguments.
+//! - **Fonts and tables.** A [`Font`] and [`Tables`] return the same result for the same arguments. A
+//!   font that overrides [`Font::has_glyph`] or [`Font::would_apply_any`] returns what the provided
+//!   method would.
 //! - **Refusals.** A call that returns a [`ShaperError`] has changed nothing.
+//! - **Panics.** A hook or pause whose font or tables panic leaves the buffer as it was, or empty:
+//!   see [`Font`](crate::font::Font#what-a-panic-leaves).
 //!
 //! # What is stable
 //!
@@ -101,8 +109,10 @@
 //!
 //! # Features
 //!
-//! `std` (on by default): a refused request for memory becomes a `std::io::Error`. Without it the
-//! crate is `no_std`.
+//! - `std` (on by default): a refused request for memory becomes a `std::io::Error`. Without it the
+//!   crate is `no_std`.
+//! - `tables` (on by default): Unicode's tables, in the module `unicode` (135 KB), with
+//!   `Buffer::from_text`.
 //!
 //! [`collect_features`]: Shaper::collect_features
 //! [`override_features`]: Shaper::override_features
@@ -120,6 +130,10 @@
 #![no_std]
 #![forbid(unsafe_code)]
 #![deny(missing_docs, missing_debug_implementations)]
+#![allow(
+    clippy::must_use_candidate,
+    reason = "the sources have no such attribute, and a result that isn't used does no harm"
+)]
 
 extern crate alloc as rust_alloc;
 #[cfg(any(test, feature = "std"))]
@@ -139,20 +153,42 @@ mod values;
     unused_imports,
     reason = "names as the sources and OpenType have them; the sources name again what other crates take"
 )]
+#[allow(
+    clippy::bool_to_int_with_if,
+    clippy::cast_possible_truncation,
+    clippy::cast_possible_wrap,
+    clippy::elidable_lifetime_names,
+    clippy::inline_always,
+    clippy::len_zero,
+    clippy::match_same_arms,
+    clippy::range_plus_one,
+    clippy::similar_names,
+    clippy::trivially_copy_pass_by_ref,
+    reason = "the sources' forms: each cast is proved to lose nothing, and tables have a line per case"
+)]
 mod generated {
     pub(crate) mod rustybuzz_shapers;
     pub(crate) mod shapers_arabic;
     pub(crate) mod shapers_base;
     pub(crate) mod shapers_buffer;
+    pub(crate) mod shapers_choice;
     pub(crate) mod shapers_hangul;
     pub(crate) mod shapers_indic;
     pub(crate) mod shapers_indic_final;
     pub(crate) mod shapers_indic_initial;
     pub(crate) mod shapers_khmer;
     pub(crate) mod shapers_myanmar;
+    pub(crate) mod shapers_normal;
+    #[cfg(feature = "tables")]
+    pub(crate) mod shapers_normalize;
+    #[cfg(feature = "tables")]
+    pub(crate) mod shapers_prepare;
+    pub(crate) mod shapers_spans;
     pub(crate) mod shapers_stretch;
     pub(crate) mod shapers_syllabic;
     pub(crate) mod shapers_text;
+    #[cfg(feature = "tables")]
+    pub(crate) mod shapers_unicode;
     pub(crate) mod shapers_universal;
 }
 
@@ -161,6 +197,9 @@ pub mod buffer;
 pub mod flags;
 pub mod font;
 pub mod map;
+pub mod ot_shape_normalize;
+#[cfg(feature = "tables")]
+pub mod ot_shape_prepare;
 pub mod ot_shaper_arabic;
 pub mod ot_shaper_hangul;
 pub mod ot_shaper_hebrew;
@@ -174,6 +213,9 @@ pub mod plan;
 pub mod rustybuzz;
 pub mod script;
 pub mod shaper;
+pub mod spans;
+#[cfg(feature = "tables")]
+pub mod unicode;
 
 pub use buffer::{
     Buffer, BufferClusterLevel, BufferFlags, Direction, GeneralCategory, GlyphInfo, GlyphPosition,
@@ -201,6 +243,6 @@ const _: () = {
 };
 
 /// The code of README.md, which is tested as this page's is.
-#[cfg(doctest)]
+#[cfg(all(doctest, feature = "tables"))]
 #[doc = include_str!("../README.md")]
 struct Readme;

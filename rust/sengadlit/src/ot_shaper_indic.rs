@@ -1,4 +1,11 @@
-//! The shaper of the Indic scripts.
+//! The shaper of the Indic scripts. Its hooks are methods of [`INDIC_SHAPER`]; between stages of
+//! lookups [`run_pause`] runs its pauses [`SetupSyllablesIndic`], [`InitialReordering`] and
+//! [`FinalReordering`].
+//!
+//! [`run_pause`]: crate::run_pause
+//! [`SetupSyllablesIndic`]: crate::Pause::SetupSyllablesIndic
+//! [`InitialReordering`]: crate::Pause::InitialReordering
+//! [`FinalReordering`]: crate::Pause::FinalReordering
 
 pub use crate::generated::shapers_indic::ot_shaper_indic::{
     Category, Position, compose, decompose, indic_feature, ot_category_t, ot_position_t,

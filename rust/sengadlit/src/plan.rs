@@ -3,8 +3,23 @@
 
 pub use crate::builder::{PlanBuilder, PlanError};
 pub use crate::generated::shapers_base::plan::{
-    ArabicPlan, BlwfMode, BreakFlags, Category, HangulPlan, IndicConfig, IndicPlan,
+    ArabicPlan, BaseSearch, BlwfMode, BreakFlags, Category, HangulPlan, IndicConfig, IndicPlan,
     IndicWouldSubstituteFeature, JoiningType, KhmerPlan, NormalizationMode, Pause, Plan, PlanData,
     Planner, Position, Preprocess, RephMode, RephPosition, Request, StretchStart, UniversalPlan,
     ZeroWidthMarks, ot_category_t, ot_position_t,
 };
+
+impl Pause {
+    /// Whether [`run_pause`](crate::run_pause) reads its spans for this pause: those that set up
+    /// syllables do.
+    #[inline]
+    pub const fn reads_spans(self) -> bool {
+        matches!(
+            self,
+            Pause::SetupSyllablesIndic
+                | Pause::SetupSyllablesKhmer
+                | Pause::SetupSyllablesMyanmar
+                | Pause::SetupSyllablesUse
+        )
+    }
+}

@@ -9,7 +9,37 @@ pub use crate::generated::rustybuzz_shapers::shaper::{
 
 pub mod checked;
 
+use crate::buffer::{Direction, Script, Tag};
+use crate::generated::shapers_choice::{ScriptShaper, shaper_for_script};
+
 impl Shaper {
+    /// The shaper for a text, as HarfBuzz chooses it: by its script, its direction, and the script by
+    /// which its features were found in the font's GSUB, if any was. `None` stands for a text that no
+    /// shaper has hooks for.
+    ///
+    /// | script | shaper, unless |
+    /// |---|---|
+    /// | Arabic | Arabic; none in vertical text |
+    /// | Syriac | Arabic; none in vertical text, or if DFLT was chosen |
+    /// | Thai, Lao; Hangul; Hebrew; Khmer; Zawgyi (Qaag) | its own |
+    /// | Myanmar | Myanmar; none if DFLT, latn or mymr was chosen |
+    /// | Bengali, Devanagari, Gujarati, Gurmukhi, Kannada, Malayalam, Oriya, Tamil, Telugu | Indic; none if DFLT or latn was chosen, Universal if the tag ends in 3 |
+    /// | the 88 of the universal shaping engine | Universal; none if DFLT or latn was chosen |
+    ///
+    /// ```
+    /// use sengadlit::{Direction, Shaper, Tag, script};
+    ///
+    /// let shaper = |tag: &[u8; 4]| {
+    ///     Shaper::for_script(script::DEVANAGARI, Direction::LeftToRight, Some(Tag(*tag)))
+    /// };
+    /// assert_eq!(shaper(b"dev2"), Some(Shaper::Indic));
+    /// assert_eq!(shaper(b"dev3"), Some(Shaper::Universal));
+    /// assert_eq!(shaper(b"DFLT"), None);
+    /// ```
+    pub fn for_script(script: Script, direction: Direction, chosen: Option<Tag>) -> Option<Shaper> {
+        shaper_for_script(script, direction, chosen).map(Shaper::from)
+    }
+
     /// All shapers, in the order of their declaration.
     pub const ALL: [Shaper; 9] = [
         Shaper::Arabic,
@@ -24,9 +54,63 @@ impl Shaper {
     ];
 }
 
+impl From<ScriptShaper> for Shaper {
+    fn from(shaper: ScriptShaper) -> Self {
+        match shaper {
+            ScriptShaper::Arabic => Shaper::Arabic,
+            ScriptShaper::Hangul => Shaper::Hangul,
+            ScriptShaper::Hebrew => Shaper::Hebrew,
+            ScriptShaper::Indic => Shaper::Indic,
+            ScriptShaper::Khmer => Shaper::Khmer,
+            ScriptShaper::Myanmar => Shaper::Myanmar,
+            ScriptShaper::MyanmarZawgyi => Shaper::MyanmarZawgyi,
+            ScriptShaper::Thai => Shaper::Thai,
+            ScriptShaper::Universal => Shaper::Universal,
+        }
+    }
+}
+
 #[cfg(test)]
 mod tests {
-    use super::Shaper;
+    use super::{Hook, Shaper};
+    use crate::buffer::{Direction, Script};
+
+    #[test]
+    fn each_shaper_is_chosen_for_its_script() {
+        let codes = [
+            b"Arab", b"Hang", b"Hebr", b"Beng", b"Khmr", b"Mymr", b"Qaag", b"Laoo", b"Java",
+        ];
+        let chosen =
+            codes.map(|code| Shaper::for_script(Script(*code), Direction::LeftToRight, None));
+        assert_eq!(chosen, Shaper::ALL.map(Some));
+    }
+
+    // The table of hooks in the documentation says what `has_hook` does.
+    #[test]
+    fn the_table_of_hooks_is_true() {
+        let source = include_str!("generated/rustybuzz_shapers/shaper.rs");
+        let rows: std::vec::Vec<_> = source
+            .lines()
+            .filter_map(|line| line.strip_prefix("/// | [`"))
+            .collect();
+        let hooks = [
+            Hook::CollectFeatures,
+            Hook::OverrideFeatures,
+            Hook::CreateData,
+            Hook::PreprocessText,
+            Hook::Decompose,
+            Hook::Compose,
+            Hook::ReorderMarks,
+            Hook::SetupMasks,
+            Hook::PostprocessGlyphs,
+        ];
+        assert_eq!(rows.len(), hooks.len());
+        for (row, hook) in rows.iter().zip(hooks) {
+            let cells: std::vec::Vec<_> = row.split(" | ").skip(1).collect();
+            let has = Shaper::ALL.map(|shaper| if shaper.has_hook(hook) { "yes" } else { "-" });
+            assert_eq!(cells.join(" "), has.join(" ") + " |", "{row}");
+        }
+    }
 
     #[test]
     fn all_shapers_are_listed_once_in_order() {

@@ -38,8 +38,12 @@ impl Buffer {
 
     /// Adds the characters of a text, each of general category Cc; see
     /// [`Buffer::set_general_categories`]. Their clusters are the places of their bytes in the
-    /// text. Returns [`ShaperError::Memory`] or [`ShaperError::TooLong`], the latter also where a place
-    /// doesn't fit 32 bits, and then adds nothing.
+    /// text.
+    ///
+    /// # Errors
+    ///
+    /// [`ShaperError::Memory`] and [`ShaperError::TooLong`], the latter also where a place doesn't fit
+    /// 32 bits. Nothing is added then.
     pub fn push_str(&mut self, text: &str) -> Result<(), ShaperError> {
         if u32::try_from(text.len()).is_err() {
             return Err(ShaperError::TooLong);
@@ -47,7 +51,10 @@ impl Buffer {
         let start = self.len();
         self.grow(text.chars().count())?;
         for (glyph, (place, character)) in (start..).zip(text.char_indices()) {
-            // it fits, as the length of the text does
+            #[expect(
+                clippy::cast_possible_truncation,
+                reason = "it fits, as the length of the text does"
+            )]
             let cluster = place as u32;
             self.set(glyph, GlyphInfo::of_character(character, cluster));
         }
@@ -101,6 +108,21 @@ impl FromIterator<GlyphInfo> for Buffer {
         let replaced = buffer.replace_glyphs(Vec::from(glyphs));
         replaced.expect("the glyphs fit the buffer and memory");
         buffer
+    }
+}
+
+impl Buffer {
+    /// The glyphs, one after the other.
+    #[inline]
+    pub fn iter(&self) -> slice::Iter<'_, GlyphInfo> {
+        self.glyphs().iter()
+    }
+}
+
+impl AsRef<[GlyphInfo]> for Buffer {
+    #[inline]
+    fn as_ref(&self) -> &[GlyphInfo] {
+        self.glyphs()
     }
 }
 

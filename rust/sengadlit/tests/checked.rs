@@ -14,6 +14,7 @@ use sengadlit::buffer::{Buffer, ShaperError, Span};
 use sengadlit::plan::{Pause, Plan};
 use sengadlit::shaper::Shaper;
 use sengadlit::shaper::checked::{CallError, Condition};
+use std::env;
 
 /// Makes a checked call with a plain font and these spans.
 fn make(
@@ -196,7 +197,7 @@ fn a_hook_refuses_behind_its_conditions() {
     assert_eq!(returned, Err(CallError::Refused(ShaperError::TooLong)));
 }
 
-/// How many calls are drawn by lot of each kind of buffer.
+/// How many calls are drawn by lot of each kind of buffer, unless SENGADLIT_CALLS tells another number.
 const CALLS: u64 = 60_000;
 
 /// Makes a call that may be a misuse, checked: it stops or refuses without a change, or does what
@@ -230,11 +231,17 @@ fn play(seed: u64, kind: Glyphs) -> bool {
 
 #[test]
 fn whatever_a_caller_does_checked_calls_return() {
-    in_time(|| {
+    let calls = env::var("SENGADLIT_CALLS").map_or(CALLS, |number| number.parse().unwrap());
+    let play_all = move || {
         for kind in [Glyphs::Letters, Glyphs::Any] {
-            let stopped = (0..CALLS).filter(|seed| play(*seed, kind)).count();
-            println!("{kind:?}: {stopped} of {CALLS} calls stopped at a condition");
-            assert!((CALLS as usize / 4..CALLS as usize / 2).contains(&stopped));
+            let stopped = (0..calls).filter(|seed| play(*seed, kind)).count() as u64;
+            println!("{kind:?}: {stopped} of {calls} calls stopped at a condition");
+            assert!((calls / 4..calls / 2).contains(&stopped));
         }
-    });
+    };
+    if calls > CALLS {
+        play_all()
+    } else {
+        in_time(play_all)
+    }
 }

@@ -73,6 +73,12 @@ fn a_reordering_leaves_no_place_listed() {
     }
 }
 
+#[test]
+#[should_panic(expected = "range end index")]
+fn a_place_beyond_the_buffer_is_none() {
+    text_of(&[0x1000; 3], 3).set_place(1 << 28, 0);
+}
+
 /// The hooks that a shaper has, in the order of `HOOKS`.
 fn hooks_of(shaper: Shaper) -> [bool; 6] {
     match shaper {

@@ -5,7 +5,7 @@ mod common;
 use common::buffers::{Contents, buffer_of};
 use common::fonts::PlainFont;
 use common::plans::{PAUSES, plan_of, plan_with};
-use sengadlit::buffer::{Buffer, GlyphInfo, Span};
+use sengadlit::buffer::{Buffer, GlyphInfo, ShaperError, Span};
 use sengadlit::ot_shaper_hangul::setup_masks_in;
 use sengadlit::ot_shaper_use::setup_syllables_use_by_bytes;
 use sengadlit::plan::{Pause, Plan, PlanData};
@@ -102,5 +102,21 @@ fn a_pause_that_may_not_change_changes_nothing() {
     ] {
         let plan = plan_with(shaper, b"Bali", &[(tag, 0x100)]);
         assert!(pause_may_change(pause, &plan) && changes(pause, &plan, &text));
+    }
+}
+
+#[test]
+fn spans_are_read_by_the_pauses_that_say_so() {
+    for pause in Pause::ALL {
+        let shapers = Shaper::ALL.map(|shaper| plan_of(shaper, b"Beng"));
+        let plan = shapers.iter().find(|plan| pause_fits(pause, plan)).unwrap();
+        let mut empty = buffer_of(&[], 0);
+        let spans = [Span { len: 1, kind: 0 }];
+        let result = run_pause(pause, plan, &PlainFont(100), &spans, &mut empty);
+        assert_eq!(
+            result == Err(ShaperError::SpansDontCover),
+            pause.reads_spans(),
+            "{pause:?}"
+        );
     }
 }

@@ -59,7 +59,7 @@ fn assert_needs_room<R>(
     text: &Buffer,
     call: impl Fn(&mut Buffer) -> Result<R, ShaperError>,
 ) {
-    for max_len in text.len()..needed {
+    for max_len in 0..needed {
         let mut buffer = copy_of(text);
         buffer.set_max_len(max_len);
         assert_refuses(ShaperError::TooLong, &buffer, &call);

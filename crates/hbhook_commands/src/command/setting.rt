@@ -2,13 +2,14 @@
 use super::fields::{decimal, four_characters, hexadecimal, yes_or_no};
 use crate::expected::{COUNT, Expected};
 use crate::fault::LineFault;
+use crate::tables::OtherCharacters;
 use bitflags::Flags;
 use shapers_base::buffer::{BufferClusterLevel, BufferFlags, Direction, Script, hb_tag_t};
-use shapers_base::plan::{BreakFlags, StretchStart};
+use shapers_base::plan::{BaseSearch, BreakFlags, StretchStart};
 
 // The names of the settings.
 const KEYS: &str = "shaper, script, chosen, found, gposmark, direction, level, flags, maxlen, \
-    global, positions, stretch, breaks";
+    global, positions, stretch, breaks, base, tables";
 
 // The names of the shapers.
 const SHAPERS: &str = "arabic, hangul, hebrew, indic, khmer, myanmar, zawgyi, thai, universal";
@@ -55,6 +56,10 @@ pub enum Setting {
     Stretch(StretchStart),
     /// Which places are flagged unsafe to break.
     Breaks(BreakFlags),
+    /// Among which consonants Indic looks for the base of a syllable.
+    Base(BaseSearch),
+    /// What holds of characters without a line.
+    Tables(OtherCharacters),
 }
 
 impl Setting {
@@ -74,6 +79,8 @@ impl Setting {
             "positions" => Ok(Setting::Positions(yes_or_no(value)?)),
             "stretch" => Ok(Setting::Stretch(stretch_start(value)?)),
             "breaks" => Ok(Setting::Breaks(break_flags(value)?)),
+            "base" => Ok(Setting::Base(base_search(value)?)),
+            "tables" => Ok(Setting::Tables(other_characters(value)?)),
             _ => Err(LineFault::Unreadable(Expected::Word(KEYS))),
         }
     }
@@ -130,5 +137,21 @@ fn break_flags(name: &str) -> Result<BreakFlags, LineFault> {
         "code" => Ok(BreakFlags::AsCode),
         "sound" => Ok(BreakFlags::Sound),
         _ => Err(LineFault::Unreadable(Expected::Word("code, sound"))),
+    }
+}
+
+fn base_search(name: &str) -> Result<BaseSearch, LineFault> {
+    match name {
+        "nonmedial" => Ok(BaseSearch::WithoutMedials),
+        "all" => Ok(BaseSearch::AllConsonants),
+        _ => Err(LineFault::Unreadable(Expected::Word("nonmedial, all"))),
+    }
+}
+
+fn other_characters(name: &str) -> Result<OtherCharacters, LineFault> {
+    match name {
+        "lines" => Ok(OtherCharacters::Unknown),
+        "unicode" => Ok(OtherCharacters::Unicode),
+        _ => Err(LineFault::Unreadable(Expected::Word("lines, unicode"))),
     }
 }

@@ -72,6 +72,11 @@ impl hb_ot_shaper_t {
     ghost use Rattle.rustybuzz_shapers.specs.Stretched.{glyphs_added};
 
     /// Tests the condition of `preprocess_text`, in constant time, and calls it.
+    ///
+    /// # Errors
+    ///
+    /// The first condition that isn't met, or the refusal of the call; nothing has changed
+    /// then.
     #[inline]
     pub fn checked_preprocess_text<F: hb_font_t>(
         self,
@@ -94,6 +99,10 @@ impl hb_ot_shaper_t {
 
     /// Tests the conditions of `setup_masks` and calls it. The test takes one pass over the glyphs
     /// for Arabic, and for the universal shaper where letters join; else constant time.
+    ///
+    /// # Errors
+    ///
+    /// The first condition that isn't met; nothing has changed then.
     #[inline]
     pub fn checked_setup_masks<F: hb_font_t, T: Tables>(
         self,
@@ -116,6 +125,10 @@ impl hb_ot_shaper_t {
     }
 
     /// Tests the conditions of `reorder_marks`, in constant time, and calls it.
+    ///
+    /// # Errors
+    ///
+    /// The first condition that isn't met; nothing has changed then.
     #[inline]
     pub fn checked_reorder_marks(
         self,
@@ -138,6 +151,11 @@ impl hb_ot_shaper_t {
 
     /// Tests the conditions of `postprocess_glyphs` and calls it. The test takes one pass over the
     /// glyphs for Arabic, else constant time.
+    ///
+    /// # Errors
+    ///
+    /// The first condition that isn't met, or the refusal of the call; nothing has changed
+    /// then.
     #[inline]
     pub fn checked_postprocess_glyphs<F: hb_font_t>(
         self,
@@ -210,6 +228,10 @@ impl hb_ot_shaper_t {
 }
 
 /// Tests the conditions of `run_pause`, in one pass over the spans, and calls it.
+///
+/// # Errors
+///
+/// The first condition that isn't met, or the refusal of the pause; nothing has changed then.
 #[inline]
 pub fn checked_run_pause<F: hb_font_t>(
     pause: Pause,

@@ -60,11 +60,10 @@ impl hb_ot_shaper_t {
     /// Whether `reorder_marks` takes this many marks: for Arabic at most 32.
     #[inline]
     pub fn marks_fit(self, start: usize, end: usize) -> bool
-        requires { start ≤ end }
         ensures { IsTrue result ↔ MarksFit self start end }
     {
         match self {
-            Self::Arabic => end - start <= 32,
+            Self::Arabic => end.saturating_sub(start) <= 32,
             Self::Hangul
             | Self::Hebrew
             | Self::Indic

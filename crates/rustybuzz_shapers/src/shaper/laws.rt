@@ -7,6 +7,7 @@ ghost use Rattle.shapers_arabic.specs.Concatenation.{ConcatenationLaw};
 ghost use Rattle.shapers_arabic.specs.Edits.{EditsStayNear};
 ghost use Rattle.rustybuzz_shapers.specs.Cuts.{IndicIsCutAfterBoth, IsCut, UniversalIsCut};
 ghost use Rattle.rustybuzz_shapers.specs.Headline.{ActionsByRule};
+ghost use Rattle.rustybuzz_shapers.specs.Monotone.{CirclesStayMonotone, ExactCutsStayMonotone, PausesStayMonotone};
 ghost use Rattle.rustybuzz_shapers.specs.Pauses.{by_initial, by_khmer, by_myanmar};
 ghost use Rattle.shapers_base.specs.declared.plan.pause.Pause.TheVariants.{SetupSyllablesIndic, SetupSyllablesKhmer, SetupSyllablesMyanmar, InitialReordering, ReorderKhmer, ReorderMyanmar};
 ghost use Rattle.rustybuzz_shapers.specs.Regrouped.{SyllablesRegrouped};
@@ -94,4 +95,13 @@ pub fn cuts_at_borders_law()
 /// also looks at the glyph before; and it loses no glyph.
 pub fn syllables_regrouped_law()
     ensures { SyllablesRegrouped }
+{}
+
+/// Clusters that rise along the text before rise after it, and those that fall fall: at the levels
+/// that merge, after every pause but the reorderings of Indic, of the text with the circles that the
+/// pause opens; and circles leave them so, where no syllable opens with two rephas.
+pub fn monotone_law()
+    ensures pauses { PausesStayMonotone }
+    ensures circles { CirclesStayMonotone }
+    ensures exact { ExactCutsStayMonotone }
 {}

@@ -17,6 +17,7 @@ use shapers_syllabic::ot_shaper_syllabic::{
     set_up_syllables,
 };
 use shapers_universal::ot_shaper_use;
+use std::mem;
 
 /// Does what a shaper does between two stages of substitution, and returns whether dotted circles
 /// were wanted. Spans are read by the pauses that set syllables alone: those refuse with
@@ -24,6 +25,11 @@ use shapers_universal::ot_shaper_use;
 /// syllables, but for the universal shaper's, and then as circles do. A refused pause leaves the
 /// buffer as it was. A reordering leaves the placement list empty, so that each place reads 0; the
 /// other pauses leave it as it was.
+///
+/// # Errors
+///
+/// `SpansDontCover` of a pause that sets syllables; `UnknownSyllable`, `TooLong` and `Memory`
+/// of one that reorders. Nothing has changed then.
 pub fn run_pause<F: hb_font_t>(
     pause: Pause,
     plan: &hb_ot_shape_plan_t,
@@ -55,7 +61,12 @@ pub fn run_pause<F: hb_font_t>(
         }
         Pause::SetupSyllablesUse => ot_shaper_use::setup_syllables_use(plan, spans, buffer)?,
         Pause::InitialReordering => {
-            return ot_shaper_indic_initial::initial_reordering(plan, face, buffer);
+            // (a font that panics leaves the empty buffer, and no text that is half reordered)
+            let empty = hb_buffer_t::new(buffer.alloc(), buffer.max_len());
+            let mut text = mem::replace(buffer, empty);
+            let circles = ot_shaper_indic_initial::initial_reordering(plan, face, &mut text);
+            *buffer = text;
+            return circles;
         }
         Pause::ReorderKhmer => return ot_shaper_khmer::reorder_khmer(plan, face, buffer),
         Pause::ReorderMyanmar => return ot_shaper_myanmar::reorder_myanmar(face, buffer),

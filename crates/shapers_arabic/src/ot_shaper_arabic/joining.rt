@@ -1,13 +1,17 @@
 //! Joining: each letter takes the form that its neighbours require. (The Unicode Standard, "Cursive
 //! Joining"; for Alaph, Dalath and Rish the OpenType specification for Syriac.)
-ghost use Rattle.std.specs.Prelude.{◌≡◌, ◌+◌, ◌<◌, ◌≤◌, length, map, Some, slice_set};
+ghost use Rattle.std.specs.Prelude.{◌≡◌, ◌+◌, ◌<◌, ◌≤◌, length, map, Some, slice_set, if◌then◌else◌};
 ghost use Rattle.std.specs.Char.{IsScalar};
+ghost use Rattle.shapers_buffer.specs.Buffer.{flags_concat, flags_tatweel, has_flag};
+ghost use Rattle.shapers_buffer.specs.GlyphFlags.{flagged, tatweel_inside, unsafe_to_concat_in};
 ghost use Rattle.shapers_arabic.specs.Joining.{is_passed_over, joins_back, nearest, resolved};
 ghost use Rattle.shapers_arabic.specs.JoinedText.{AreCharacters, context_types, context_look_ups};
-ghost use Rattle.shapers_arabic.specs.JoiningWalk.{FlaggedBy, IsWithin, JoinsTo, SameText, WalksAll, WalksOn, cell, column_of, given_flags, given_last, joined_at, state_at_start, step_flags, unformed, waits, written};
+ghost use Rattle.shapers_arabic.specs.JoiningWalk.{FlaggedBy, IsWithin, JoinsTo, SameText, WalksAll, WalksOn, cell, column_of, given_flags, given_last, joined_at, row_of, state_at_start, step_flags, unformed, waits, written};
 
 use super::arabic_action_t::{FIN2, FIN3, FINA, INIT, ISOL, MED2, MEDI, NONE};
 use super::look_ups::LookUps;
+use bitflags::Flags;
+use shapers_base::buffer::glyph_flag::{SAFE_TO_INSERT_TATWEEL, UNSAFE_TO_BREAK, UNSAFE_TO_CONCAT};
 use shapers_base::buffer::{
     BufferFlags, hb_glyph_info_t, hb_unicode_general_category_t, safe_to_insert_tatweel_in,
     unsafe_to_concat_in,
@@ -16,122 +20,148 @@ use shapers_base::font::Tables;
 use shapers_base::plan::hb_arabic_joining_type_t;
 use std::sync::ledger::Ledger;
 
-/// What a letter does: the form that it gives to the letter before it (NONE: that one keeps its
-/// own), its own form as long as no letter follows, and the state behind it.
+/// What the letter before left, as far as the next one depends on it.
 #[derive(Clone, Copy)]
-struct Transition(u8, u8, usize);
+enum State {
+    /// After U, which joins nothing, and before any letter.
+    Start,
+    /// After R, or an Alaph that stands alone; neither joins on.
+    Closed,
+    /// After L or D that isn't joined; it joins on, and is initial then.
+    Initial,
+    /// After D that is joined; it joins on, and is medial then.
+    Medial,
+    /// After an Alaph that is joined; it doesn't join on.
+    JoinedAlaph,
+    /// After an Alaph of the second or third final form; it doesn't join on.
+    LaterAlaph,
+    /// After Dalath or Rish, which don't join on.
+    DalathRish,
+}
+
+impl State {
+    // The state's row of the table.
+    #[inline]
+    fn row(self) -> usize
+        ensures row { result ≡ row_of self }
+        ensures within { result < 7 }
+    {
+        self as usize
+    }
+}
+
+use State::{Closed, DalathRish, Initial, JoinedAlaph, LaterAlaph, Medial, Start};
+
+/// What a letter does: the form that it gives to the letter before it (NONE: that one keeps its
+/// own), its own form as long as no letter follows, and the state behind it: three bytes.
+#[derive(Clone, Copy)]
+struct Transition(u8, u8, State);
 
 /// By the state that the letter before left, and by the letter's type: U, L, R, D, Alaph, Dalath or
 /// Rish.
 static STATE_TABLE: [[Transition; 6]; 7] = [
     // 0: after U, which joins nothing.
     [
-        Transition(NONE, NONE, 0),
-        Transition(NONE, ISOL, 2),
-        Transition(NONE, ISOL, 1),
-        Transition(NONE, ISOL, 2),
-        Transition(NONE, ISOL, 1),
-        Transition(NONE, ISOL, 6),
+        Transition(NONE, NONE, Start),
+        Transition(NONE, ISOL, Initial),
+        Transition(NONE, ISOL, Closed),
+        Transition(NONE, ISOL, Initial),
+        Transition(NONE, ISOL, Closed),
+        Transition(NONE, ISOL, DalathRish),
     ],
     // 1: after R, or an Alaph that stands alone; neither joins on.
     [
-        Transition(NONE, NONE, 0),
-        Transition(NONE, ISOL, 2),
-        Transition(NONE, ISOL, 1),
-        Transition(NONE, ISOL, 2),
-        Transition(NONE, FIN2, 5),
-        Transition(NONE, ISOL, 6),
+        Transition(NONE, NONE, Start),
+        Transition(NONE, ISOL, Initial),
+        Transition(NONE, ISOL, Closed),
+        Transition(NONE, ISOL, Initial),
+        Transition(NONE, FIN2, LaterAlaph),
+        Transition(NONE, ISOL, DalathRish),
     ],
     // 2: after L or D that isn't joined; it joins on.
     [
-        Transition(NONE, NONE, 0),
-        Transition(NONE, ISOL, 2),
-        Transition(INIT, FINA, 1),
-        Transition(INIT, FINA, 3),
-        Transition(INIT, FINA, 4),
-        Transition(INIT, FINA, 6),
+        Transition(NONE, NONE, Start),
+        Transition(NONE, ISOL, Initial),
+        Transition(INIT, FINA, Closed),
+        Transition(INIT, FINA, Medial),
+        Transition(INIT, FINA, JoinedAlaph),
+        Transition(INIT, FINA, DalathRish),
     ],
     // 3: after D that is joined; it joins on.
     [
-        Transition(NONE, NONE, 0),
-        Transition(NONE, ISOL, 2),
-        Transition(MEDI, FINA, 1),
-        Transition(MEDI, FINA, 3),
-        Transition(MEDI, FINA, 4),
-        Transition(MEDI, FINA, 6),
+        Transition(NONE, NONE, Start),
+        Transition(NONE, ISOL, Initial),
+        Transition(MEDI, FINA, Closed),
+        Transition(MEDI, FINA, Medial),
+        Transition(MEDI, FINA, JoinedAlaph),
+        Transition(MEDI, FINA, DalathRish),
     ],
     // 4: after an Alaph that is joined; it doesn't join on.
     [
-        Transition(NONE, NONE, 0),
-        Transition(NONE, ISOL, 2),
-        Transition(MED2, ISOL, 1),
-        Transition(MED2, ISOL, 2),
-        Transition(MED2, FIN2, 5),
-        Transition(MED2, ISOL, 6),
+        Transition(NONE, NONE, Start),
+        Transition(NONE, ISOL, Initial),
+        Transition(MED2, ISOL, Closed),
+        Transition(MED2, ISOL, Initial),
+        Transition(MED2, FIN2, LaterAlaph),
+        Transition(MED2, ISOL, DalathRish),
     ],
     // 5: after an Alaph of the second or third final form; it doesn't join on.
     [
-        Transition(NONE, NONE, 0),
-        Transition(NONE, ISOL, 2),
-        Transition(ISOL, ISOL, 1),
-        Transition(ISOL, ISOL, 2),
-        Transition(ISOL, FIN2, 5),
-        Transition(ISOL, ISOL, 6),
+        Transition(NONE, NONE, Start),
+        Transition(NONE, ISOL, Initial),
+        Transition(ISOL, ISOL, Closed),
+        Transition(ISOL, ISOL, Initial),
+        Transition(ISOL, FIN2, LaterAlaph),
+        Transition(ISOL, ISOL, DalathRish),
     ],
     // 6: after Dalath or Rish, which don't join on.
     [
-        Transition(NONE, NONE, 0),
-        Transition(NONE, ISOL, 2),
-        Transition(NONE, ISOL, 1),
-        Transition(NONE, ISOL, 2),
-        Transition(NONE, FIN3, 5),
-        Transition(NONE, ISOL, 6),
+        Transition(NONE, NONE, Start),
+        Transition(NONE, ISOL, Initial),
+        Transition(NONE, ISOL, Closed),
+        Transition(NONE, ISOL, Initial),
+        Transition(NONE, FIN3, LaterAlaph),
+        Transition(NONE, ISOL, DalathRish),
     ],
 ];
 
 // The column of a letter.
 #[inline]
 fn column(joining_type: hb_arabic_joining_type_t) -> usize
-    ensures { result ≡ column_of joining_type }
+    ensures column { result ≡ column_of joining_type }
+    ensures within { result < 6 }
 {
     match joining_type {
-        hb_arabic_joining_type_t::L => 1,
-        hb_arabic_joining_type_t::R => 2,
-        hb_arabic_joining_type_t::D => 3,
-        hb_arabic_joining_type_t::GroupAlaph => 4,
-        hb_arabic_joining_type_t::GroupDalathRish => 5,
-        _ => 0,
+        hb_arabic_joining_type_t::T | hb_arabic_joining_type_t::X => 0,
+        letter => letter as usize,
     }
 }
 
 // The cell of a state and a letter.
 #[inline]
-fn transition_of(state: usize, joining_type: hb_arabic_joining_type_t) -> Transition
-    requires { state < 7 }
-    ensures cell { result ≡ cell state joining_type }
-    ensures within { result.2 < 7 }
+fn transition_of(state: State, joining_type: hb_arabic_joining_type_t) -> &'static Transition
+    ensures { result.now ≡ cell state joining_type }
 {
-    STATE_TABLE[state][column(joining_type)]
+    &STATE_TABLE[state.row()][column(joining_type)]
 }
 
 // The state before a text, by the nearest letter before it.
 #[inline]
-fn state_at_start(before: Option<hb_arabic_joining_type_t>) -> usize
-    ensures state { result ≡ state_at_start before }
-    ensures within { result < 7 }
+fn state_at_start(before: Option<hb_arabic_joining_type_t>) -> State
+    ensures { result ≡ state_at_start before }
 {
     match before {
-        None => 0,
-        Some(letter) => transition_of(0, letter).2,
+        None => Start,
+        Some(letter) => transition_of(Start, letter).2,
     }
 }
 
 // Whether the next letter can change the form of the last one, by the state that it left.
 #[inline]
-fn can_change(state: usize) -> bool
+fn can_change(state: State) -> bool
     ensures { result ≡ waits state }
 {
-    (2..=5).contains(&state)
+    matches!(state, Initial | Medial | JoinedAlaph | LaterAlaph)
 }
 
 // Whether a letter joins the one before it, or could.
@@ -231,7 +261,7 @@ pub(super) fn nearest_in<T: Tables, L: Ledger>(
 #[derive(Clone, Copy)]
 struct Letters {
     last: Option<usize>,
-    state: usize,
+    state: State,
 }
 
 // Gives the glyph at place `i` a form.
@@ -244,11 +274,67 @@ fn set_form(glyphs: &mut [hb_glyph_info_t], i: usize, form: u8)
     glyphs[i].auxiliary = form;
 }
 
+// The mask bits of a join.
+#[inline]
+fn join_bits(flags: BufferFlags) -> u32
+    ensures { result ≡ if has_flag flags_tatweel flags then 4 else 3 }
+{
+    if flags.contains(BufferFlags::PRODUCE_SAFE_TO_INSERT_TATWEEL) {
+        SAFE_TO_INSERT_TATWEEL
+    } else {
+        UNSAFE_TO_BREAK | UNSAFE_TO_CONCAT
+    }
+}
+
+// Adds mask bits to the one of two neighbours whose cluster is above the other's.
+#[inline]
+fn flag_neighbours(pair: &mut [hb_glyph_info_t], bits: u32)
+    requires { length pair.old ≡ 2 }
+    ensures { pair.new ≡ flagged bits pair.old }
+{
+    let (first, second) = (pair[0].cluster, pair[1].cluster);
+    if first < second {
+        pair[1].mask |= bits;
+    } else if second < first {
+        pair[0].mask |= bits;
+    }
+}
+
+// Flags a join from the letter at `last` to the one right before `end`. Most letters join their
+// neighbours, which need no walk that looks for the least cluster.
+#[inline]
+fn flag_join(flags: BufferFlags, glyphs: &mut [hb_glyph_info_t], last: usize, end: usize)
+    requires within { last < end }
+    requires in_range { end ≤ length glyphs.old }
+    ensures { glyphs.new ≡ tatweel_inside (has_flag flags_tatweel flags) last end glyphs.old }
+{
+    if end - last == 2 {
+        flag_neighbours(&mut glyphs[last..end], join_bits(flags));
+    } else {
+        safe_to_insert_tatweel_in(flags, glyphs, last, end);
+    }
+}
+
+// Flags no concatenation from place `s` to place `e`, as `unsafe_to_concat_in`, where the flags want
+// it, which `concat` says.
+#[inline(always)]
+fn flag_concat(flags: BufferFlags, concat: bool, glyphs: &mut [hb_glyph_info_t], s: usize, e: usize)
+    requires in_order { s ≤ e }
+    requires in_range { e ≤ length glyphs.old }
+    requires wanted { concat ≡ has_flag flags_concat flags }
+    ensures { glyphs.new ≡ unsafe_to_concat_in (has_flag flags_concat flags) s e glyphs.old }
+{
+    if concat {
+        unsafe_to_concat_in(flags, glyphs, s, e);
+    }
+}
+
 // Gives the letter at `last` the form that the next one requires, which is right before `end`; both
 // and what is between are flagged, also where the form could have depended on the next letter.
-#[inline]
+#[inline(always)]
 fn give_form(
     flags: BufferFlags,
+    concat: bool,
     glyphs: &mut [hb_glyph_info_t],
     last: usize,
     end: usize,
@@ -257,22 +343,24 @@ fn give_form(
 )
     requires within { last < end }
     requires in_range { end ≤ length glyphs.old }
+    requires wanted { concat ≡ has_flag flags_concat flags }
     ensures flagged { FlaggedBy flags (given_flags last end given depends) glyphs.old glyphs.new }
     ensures forms { written glyphs.new ≡ given_last (Some last) given (written glyphs.old) }
 {
     if given != NONE {
         set_form(glyphs, last, given);
-        safe_to_insert_tatweel_in(flags, glyphs, last, end);
+        flag_join(flags, glyphs, last, end);
     } else if depends {
-        unsafe_to_concat_in(flags, glyphs, last, end);
+        flag_concat(flags, concat, glyphs, last, end);
     }
 }
 
 // Gives the last letter, if there was one, the form that the next one requires, which is right
 // before `end`. A first letter that could join is flagged with all before it.
-#[inline]
+#[inline(always)]
 fn give_last(
     flags: BufferFlags,
+    concat: bool,
     glyphs: &mut [hb_glyph_info_t],
     letters: Letters,
     end: usize,
@@ -281,6 +369,7 @@ fn give_last(
 )
     requires within { IsWithin letters.last end }
     requires in_range { end ≤ length glyphs.old }
+    requires wanted { concat ≡ has_flag flags_concat flags }
     ensures flagged { let calls = step_flags letters.last letters.state end given joins_back in
         FlaggedBy flags calls glyphs.old glyphs.new }
     ensures forms { written glyphs.new ≡ given_last letters.last given (written glyphs.old) }
@@ -288,25 +377,26 @@ fn give_last(
     match letters.last {
         Some(last) => {
             let depends = joins_back || can_change(letters.state);
-            give_form(flags, glyphs, last, end, given, depends);
+            give_form(flags, concat, glyphs, last, end, given, depends);
         }
-        None if joins_back => unsafe_to_concat_in(flags, glyphs, 0, end),
+        None if joins_back => flag_concat(flags, concat, glyphs, 0, end),
         None => {}
     }
 }
 
 // Joins the letter at place `i` to the one before it.
-#[inline]
+#[inline(always)]
 fn join_letter(
     flags: BufferFlags,
+    concat: bool,
     glyphs: &mut [hb_glyph_info_t],
     letters: &mut Letters,
     i: usize,
     letter: hb_arabic_joining_type_t,
 )
-    requires state { letters.old.state < 7 }
     requires within { IsWithin letters.old.last i }
     requires in_range { i < length glyphs.old }
+    requires wanted { concat ≡ has_flag flags_concat flags }
     ensures flagged { let last = letters.old in
         let given = (cell last.state letter).0 in
         let calls = step_flags last.last last.state (i + 1) given (joins_back (Some letter)) in
@@ -315,10 +405,17 @@ fn join_letter(
         written glyphs.new ≡ joined_at letters.old.last step i (written glyphs.old) }
     ensures last { letters.new.last ≡ Some i }
     ensures state { letters.new.state ≡ (cell letters.old.state letter).2 }
-    ensures next { letters.new.state < 7 }
 {
-    let Transition(given, own, next) = transition_of(letters.state, letter);
-    give_last(flags, glyphs, *letters, i + 1, given, joins_back(letter));
+    let &Transition(given, own, next) = transition_of(letters.state, letter);
+    give_last(
+        flags,
+        concat,
+        glyphs,
+        *letters,
+        i + 1,
+        given,
+        joins_back(letter),
+    );
     set_form(glyphs, i, own);
     *letters = Letters {
         last: Some(i),
@@ -327,51 +424,74 @@ fn join_letter(
 }
 
 // Gives the glyph at place `i`, which has this type, its form as long as nothing follows.
-#[inline]
+#[inline(always)]
 fn join_place(
     flags: BufferFlags,
+    concat: bool,
     glyphs: &mut [hb_glyph_info_t],
     letters: &mut Letters,
     i: usize,
     joining_type: hb_arabic_joining_type_t,
 )
-    requires state { letters.old.state < 7 }
     requires within { IsWithin letters.old.last i }
     requires in_range { i < length glyphs.old }
+    requires wanted { concat ≡ has_flag flags_concat flags }
     ensures text { SameText glyphs.old glyphs.new }
     ensures walked { WalksOn flags i joining_type letters.old glyphs.old letters.new glyphs.new }
-    ensures state { letters.new.state < 7 }
     ensures within { IsWithin letters.new.last (i + 1) }
 {
     match joining_type {
         hb_arabic_joining_type_t::T => set_form(glyphs, i, NONE),
-        letter => join_letter(flags, glyphs, letters, i, letter),
+        letter => join_letter(flags, concat, glyphs, letters, i, letter),
     }
 }
 
 // Gives each glyph its form as long as nothing follows the text.
-#[inline]
+#[inline(always)]
 fn join_letters<T: Tables, L: Ledger>(
     flags: BufferFlags,
+    concat: bool,
     glyphs: &mut [hb_glyph_info_t],
-    state: usize,
+    state: State,
     tables: &T,
     count: &mut LookUps<L>,
 ) -> Letters
     requires characters { AreCharacters glyphs.old }
-    requires state { state < 7 }
+    requires wanted { concat ≡ has_flag flags_concat flags }
     ensures walked { let joining = (T.tables tables.now).joining in
         WalksAll flags joining state glyphs.old result glyphs.new }
     ensures counted { count.new ≡ count.old + length glyphs.old }
-    ensures state { result.state < 7 }
     ensures within { IsWithin result.last (length glyphs.old) }
 {
     let mut letters = Letters { last: None, state };
     for i in 0..glyphs.len() {
         let joining_type = stored_type(&glyphs[i], tables, count);
-        join_place(flags, glyphs, &mut letters, i, joining_type);
+        join_place(flags, concat, glyphs, &mut letters, i, joining_type);
     }
     letters
+}
+
+// The same, as a copy of the loop for the flags of concatenation and one without them: few texts
+// want these, and the others take no test for them at each letter.
+#[inline]
+fn join_text<T: Tables, L: Ledger>(
+    flags: BufferFlags,
+    glyphs: &mut [hb_glyph_info_t],
+    state: State,
+    tables: &T,
+    count: &mut LookUps<L>,
+) -> Letters
+    requires { AreCharacters glyphs.old }
+    ensures walked { let joining = (T.tables tables.now).joining in
+        WalksAll flags joining state glyphs.old result glyphs.new }
+    ensures counted { count.new ≡ count.old + length glyphs.old }
+    ensures within { IsWithin result.last (length glyphs.old) }
+{
+    if flags.contains(BufferFlags::PRODUCE_UNSAFE_TO_CONCAT) {
+        join_letters(flags, true, glyphs, state, tables, count)
+    } else {
+        join_letters(flags, false, glyphs, state, tables, count)
+    }
 }
 
 // Gives each glyph its form, between the nearest letters before and after the text.
@@ -389,10 +509,11 @@ pub(super) fn join<T: Tables, L: Ledger>(
         JoinsTo flags joining before after glyphs.old glyphs.new }
     ensures counted { count.new ≡ count.old + length glyphs.old }
 {
-    let letters = join_letters(flags, glyphs, state_at_start(before), tables, count);
+    let letters = join_text(flags, glyphs, state_at_start(before), tables, count);
     if let Some(letter) = after {
         let given = transition_of(letters.state, letter).0;
+        let concat = flags.contains(BufferFlags::PRODUCE_UNSAFE_TO_CONCAT);
         let end = glyphs.len();
-        give_last(flags, glyphs, letters, end, given, false);
+        give_last(flags, concat, glyphs, letters, end, given, false);
     }
 }

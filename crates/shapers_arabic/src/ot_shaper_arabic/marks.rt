@@ -63,8 +63,8 @@ impl GlyphWalk for MarkOrder {
     }
 }
 
-/// The same in a slice whose clusters merge at this level. Returns whether one of the marks modifies
-/// a letter: where it returns false nothing changed.
+/// `reorder_marks` of glyphs in a slice, whose clusters merge at this level. Returns whether one of
+/// the marks modifies a letter: where it returns false nothing changed.
 pub fn reorder_marks_in(
     level: BufferClusterLevel,
     glyphs: &mut [hb_glyph_info_t],

@@ -47,13 +47,14 @@ pub(super) fn copy_to_selectors(glyphs: &mut [hb_glyph_info_t])
     }
 }
 
-// Gives each glyph the mask of its form.
+// Gives each glyph the mask of its form. The remainder is the form itself; it spares the test that
+// the index is below 8.
 #[inline]
 pub(super) fn add_masks(masks: &[u32; 8], glyphs: &mut [hb_glyph_info_t])
     requires { HaveMasks glyphs.old }
     ensures { glyphs.new ≡ map (with_numbered_mask masks.now) glyphs.old }
 {
     for glyph in glyphs.iter_mut() {
-        glyph.mask |= masks[usize::from(glyph.auxiliary)];
+        glyph.mask |= masks[usize::from(glyph.auxiliary % 8)];
     }
 }

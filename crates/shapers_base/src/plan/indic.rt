@@ -43,6 +43,16 @@ pub enum BlwfMode {
     PostOnly,
 }
 
+/// Among which consonants the base of a syllable is looked for.
+#[derive(Clone, Copy, Debug, PartialEq, Eq, Default)]
+pub enum BaseSearch {
+    /// Among those that aren't medial (`OT_CM`), as in rustybuzz 0.20.1.
+    #[default]
+    WithoutMedials,
+    /// Among all, as in HarfBuzz.
+    AllConsonants,
+}
+
 /// The properties of one script that the rules depend on.
 #[derive(Clone, Copy, Debug, PartialEq, Eq)]
 pub struct IndicConfig {
@@ -121,6 +131,8 @@ pub struct indic_shape_plan_t {
     pub config: IndicConfig,
     /// Whether the font follows the older specification.
     pub is_old_spec: bool,
+    /// Among which consonants the base is looked for.
+    pub base_search: BaseSearch,
     /// The question whether the font forms a reph, by `rphf`.
     pub rphf: IndicWouldSubstituteFeature,
     /// The question whether it forms a consonant that goes before the base, by `pref`.

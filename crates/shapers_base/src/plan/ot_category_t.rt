@@ -1,5 +1,5 @@
 //! The categories of the Indic, Khmer and Myanmar shapers; names and numbers are those of HarfBuzz's tables, made from
-//! Unicode's IndicSyllabicCategory.
+//! Unicode's `Indic_Syllabic_Category`.
 /// Another character.
 pub const OT_X: u8 = 0;
 
@@ -30,13 +30,13 @@ pub const OT_SM: u8 = 8;
 /// A Vedic accent; in Myanmar the anusvara.
 pub const OT_A: u8 = 9;
 
-/// A Vedic sign: the number of OT_A.
+/// A Vedic sign: the number of `OT_A`.
 pub const OT_VD: u8 = 9;
 
 /// A character that stands for a base, as a digit or 00A0.
 pub const OT_PLACEHOLDER: u8 = 10;
 
-/// Another name of OT_PLACEHOLDER, the universal shaping engine's: a generic base.
+/// Another name of `OT_PLACEHOLDER`, the universal shaping engine's: a generic base.
 pub const OT_GB: u8 = 10;
 
 /// The dotted circle, 25CC.
@@ -108,5 +108,5 @@ pub const OT_VS: u8 = 40;
 /// The medial La of Mon (Myanmar).
 pub const OT_ML: u8 = 41;
 
-/// An independent vowel (Myanmar): the number of OT_V.
+/// An independent vowel (Myanmar): the number of `OT_V`.
 pub const IV: u8 = 2;

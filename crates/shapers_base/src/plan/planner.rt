@@ -83,7 +83,11 @@ impl hb_ot_shape_planner_t {
         face.has_feature(tag)
     }
 
-    /// Requests a feature. The only refusal is `Memory`.
+    /// Requests a feature.
+    ///
+    /// # Errors
+    ///
+    /// `Memory`; the planner is as it was then.
     #[inline]
     pub fn add_feature(&mut self, tag: hb_tag_t, flags: u32, value: u32) -> Result<(), ShaperError>
         ensures ok { let list = Request.Feature tag flags value ∷ [] in
@@ -94,7 +98,11 @@ impl hb_ot_shape_planner_t {
         self.add_requests(&[Request::Feature(tag, flags, value)])
     }
 
-    /// Requests a feature that holds for the whole text. The only refusal is `Memory`.
+    /// Requests a feature that holds for the whole text.
+    ///
+    /// # Errors
+    ///
+    /// `Memory`; the planner is as it was then.
     #[inline]
     pub fn enable_feature(
         &mut self,
@@ -110,7 +118,11 @@ impl hb_ot_shape_planner_t {
         self.add_feature(tag, flags | F_GLOBAL, value)
     }
 
-    /// Requests that a feature be off. The only refusal is `Memory`.
+    /// Requests that a feature be off.
+    ///
+    /// # Errors
+    ///
+    /// `Memory`; the planner is as it was then.
     #[inline]
     pub fn disable_feature(&mut self, tag: hb_tag_t) -> Result<(), ShaperError>
         ensures ok { let list = Request.Feature tag F_GLOBAL 0 ∷ [] in
@@ -121,7 +133,11 @@ impl hb_ot_shape_planner_t {
         self.add_feature(tag, F_GLOBAL, 0)
     }
 
-    /// Requests a pause between two stages. The only refusal is `Memory`.
+    /// Requests a pause between two stages.
+    ///
+    /// # Errors
+    ///
+    /// `Memory`; the planner is as it was then.
     #[inline]
     pub fn add_gsub_pause(&mut self, pause: Option<Pause>) -> Result<(), ShaperError>
         ensures ok { OnOk result (self.new ≡ with_requests (Request.Pause pause ∷ []) self.old) }
@@ -132,6 +148,10 @@ impl hb_ot_shape_planner_t {
     }
 
     /// Requests a whole list: all of it, or nothing where memory is refused.
+    ///
+    /// # Errors
+    ///
+    /// `Memory`; the planner is as it was then.
     #[inline]
     pub fn add_requests(&mut self, requests: &[Request]) -> Result<(), ShaperError>
         ensures ok { OnOk result (self.new ≡ with_requests requests.now self.old) }

@@ -37,6 +37,10 @@ impl hb_buffer_t {
 
     /// Exchanges the buffer's glyphs for those of the list; the buffer has no positions afterwards.
     /// Refuses by their number, and then both are as they were.
+    ///
+    /// # Errors
+    ///
+    /// `TooLong` and `Memory`; buffer and list are as they were then.
     #[inline]
     pub fn exchange_glyphs(&mut self, glyphs: &mut Vec<hb_glyph_info_t>) -> Result<(), ShaperError>
         ensures ok { OnOk result (self.new ≡
@@ -74,6 +78,11 @@ impl hb_buffer_t {
 
     /// Exchanges the buffer's text for another: its glyphs, its positions (none, or one per glyph)
     /// and its settings. Refuses by the number of glyphs, and then all is as it was.
+    ///
+    /// # Errors
+    ///
+    /// `TooLong` where the glyphs are more than `max_len` of the settings, and `Memory`; both
+    /// texts are as they were then.
     #[inline]
     pub fn exchange_text(
         &mut self,

@@ -1,5 +1,5 @@
 //! Readers and setters of the buffer's fields.
-ghost use Rattle.std.specs.Prelude.{◌≡◌, ◌==◌, ◌||◌, ◌<◌, ◌≤◌, length, take, slice_index_or, slice_set, if◌then◌else◌};
+ghost use Rattle.std.specs.Prelude.{◌≡◌, ◌==◌, ◌||◌, ◌<◌, ◌≤◌, length, max, take, slice_index_or, slice_set, if◌then◌else◌};
 ghost use Rattle.shapers_buffer.specs.Buffer.{can_be_positions};
 
 use super::{
@@ -8,6 +8,10 @@ use super::{
 
 impl hb_buffer_t {
     /// Where the glyph at place `i` is drawn; `i` is below the number of positions.
+    ///
+    /// # Panics
+    ///
+    /// Where there is no position at place `i`.
     #[inline]
     pub fn position(&self, i: usize) -> GlyphPosition
         requires { i < length self.now.positions }
@@ -17,6 +21,10 @@ impl hb_buffer_t {
     }
 
     /// Sets where the glyph at place `i` is drawn; `i` is below the number of positions.
+    ///
+    /// # Panics
+    ///
+    /// Where there is no position at place `i`.
     #[inline]
     pub fn set_position(&mut self, i: usize, position: GlyphPosition)
         requires { i < length self.old.positions }
@@ -197,12 +205,13 @@ impl hb_buffer_t {
         self.max_len
     }
 
-    /// Sets the greatest length that the buffer may have, which is at least its length.
+    /// Sets the greatest length that the buffer may have; a limit below its length counts as its
+    /// length, so that the text doesn't grow.
     #[inline]
     pub fn set_max_len(&mut self, max_len: usize)
-        requires { length self.old.glyphs ≤ max_len }
-        ensures { self.new ≡ record self.old { max_len = max_len } }
+        ensures { self.new ≡
+            record self.old { max_len = max max_len (length self.old.glyphs) } }
     {
-        self.max_len = max_len;
+        self.max_len = max_len.max(self.info.len());
     }
 }

@@ -20,7 +20,7 @@ pub struct hb_glyph_info_t {
     pub category: u8,
     /// What else its shaper notes of it: an Arabic form, a Hangul jamo's feature, an Indic or Myanmar position.
     pub auxiliary: u8,
-    /// The character's General_Category in the Unicode Character Database.
+    /// The character's `General_Category` in the Unicode Character Database.
     pub general_category: hb_unicode_general_category_t,
     /// The character's canonical combining class, as HarfBuzz renumbers it (`modified_combining_class`).
     pub modified_combining_class: u8,

@@ -24,6 +24,10 @@ use glyph_flag::{SAFE_TO_INSERT_TATWEEL, UNSAFE_TO_BREAK, UNSAFE_TO_CONCAT};
 impl hb_buffer_t {
     /// Flags the places from `s` to `e` whose cluster isn't the least one there: unsafe to break,
     /// and unsafe to concatenate.
+    ///
+    /// # Panics
+    ///
+    /// Where `s` is above `e`, or `e` above the length.
     #[inline]
     pub fn unsafe_to_break(&mut self, s: usize, e: usize)
         requires in_order { s ≤ e }
@@ -35,6 +39,10 @@ impl hb_buffer_t {
 
     /// Flags every place from `s` to `e` as unsafe to concatenate, where the buffer wants that
     /// flag.
+    ///
+    /// # Panics
+    ///
+    /// Where `s` is above `e`, or `e` above the length.
     #[inline]
     pub fn unsafe_to_concat(&mut self, s: usize, e: usize)
         requires in_order { s ≤ e }
@@ -48,6 +56,10 @@ impl hb_buffer_t {
 
     /// Flags the places from `s` to `e` whose cluster isn't the least one there: safe to insert a
     /// tatweel, where the buffer wants that flag, else as `unsafe_to_break`.
+    ///
+    /// # Panics
+    ///
+    /// Where `s` is above `e`, or `e` above the length.
     #[inline]
     pub fn safe_to_insert_tatweel(&mut self, s: usize, e: usize)
         requires in_order { s ≤ e }
@@ -60,6 +72,10 @@ impl hb_buffer_t {
 }
 
 /// No break inside the stretch, over glyphs in a slice, as `hb_buffer_t::unsafe_to_break`.
+///
+/// # Panics
+///
+/// Where `s` is above `e`, or `e` above the length.
 #[inline]
 pub fn unsafe_to_break_in(glyphs: &mut [hb_glyph_info_t], s: usize, e: usize)
     requires in_order { s ≤ e }
@@ -71,6 +87,10 @@ pub fn unsafe_to_break_in(glyphs: &mut [hb_glyph_info_t], s: usize, e: usize)
 
 /// No concatenation in the stretch, where the flags want that, over glyphs in a slice, as
 /// `hb_buffer_t::unsafe_to_concat`.
+///
+/// # Panics
+///
+/// Where `s` is above `e`, or `e` above the length.
 #[inline]
 pub fn unsafe_to_concat_in(flags: BufferFlags, glyphs: &mut [hb_glyph_info_t], s: usize, e: usize)
     requires in_order { s ≤ e }
@@ -83,6 +103,10 @@ pub fn unsafe_to_concat_in(flags: BufferFlags, glyphs: &mut [hb_glyph_info_t], s
 }
 
 /// A join inside the stretch, over glyphs in a slice, as `hb_buffer_t::safe_to_insert_tatweel`.
+///
+/// # Panics
+///
+/// Where `s` is above `e`, or `e` above the length.
 #[inline]
 pub fn safe_to_insert_tatweel_in(
     flags: BufferFlags,

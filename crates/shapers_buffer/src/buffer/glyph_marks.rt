@@ -17,7 +17,7 @@ bitflag_items! {
         const LIGATED = 2;
         /// A lookup put the glyph in as one of several for one.
         const MULTIPLIED = 4;
-        /// The character may stay undrawn (Default_Ignorable_Code_Point).
+        /// The character may stay undrawn (`Default_Ignorable_Code_Point`).
         const IGNORABLE = 8;
         /// The character carries on the grapheme of the one before it.
         const CONTINUATION = 16;
@@ -80,7 +80,7 @@ impl GlyphMarks {
         self.contains(GlyphMarks::MULTIPLIED)
     }
 
-    /// Whether the character may stay undrawn (Default_Ignorable_Code_Point).
+    /// Whether the character may stay undrawn (`Default_Ignorable_Code_Point`).
     #[inline]
     pub fn is_ignorable(self) -> bool
         ensures { result ≡ is_ignorable self }
@@ -120,7 +120,7 @@ impl GlyphMarks {
         self.set(GlyphMarks::MULTIPLIED, on);
     }
 
-    /// Sets whether the character may stay undrawn (Default_Ignorable_Code_Point).
+    /// Sets whether the character may stay undrawn (`Default_Ignorable_Code_Point`).
     #[inline]
     pub fn set_ignorable(&mut self, on: bool)
         ensures { self.new ≡ set_mark IGNORABLE on self.old }

@@ -1,6 +1,6 @@
 //! Laws of marks, places and syllables.
 ghost use Rattle.shapers_buffer.specs.Marks.{MarksAreSetAlone};
-ghost use Rattle.shapers_buffer.specs.Places.{PlacesAreWritten};
+ghost use Rattle.shapers_buffer.specs.Places.{PartsChangePlaces, PlacesAreWritten};
 ghost use Rattle.shapers_buffer.specs.SyllableLaws.{SyllablesAreRuns};
 
 /// A setter changes its own mark and no other.
@@ -11,6 +11,11 @@ pub fn marks_are_set_alone()
 /// A place of the placement list reads what was written there last, or 0.
 pub fn places_are_written()
     ensures { PlacesAreWritten }
+{}
+
+/// A stretch that a placement brings forward changes places with what it passes, and the rest stays.
+pub fn parts_change_places()
+    ensures { PartsChangePlaces }
 {}
 
 /// The first syllable of a text is the longest run of its byte, and the others are the syllables of

@@ -1,15 +1,36 @@
-//! The placement list: a reordering lists for each place of a syllable the place whose glyph comes
-//! there, and then the syllable is written once. Its room grows with the buffer, so that a
-//! reordering takes no memory; what was never listed is never written.
-ghost use Rattle.std.specs.Prelude.{◌≡◌, ◌-◌, ◌<◌, ◌≤◌, [], All, IfErr, IfOk, IsOkUnless, OnOk, length, vec_capacity};
+//! Placements: a reordering says for each place of a syllable the place whose glyph comes there, and
+//! then the syllable is written once. Most syllables stay, or one stretch of theirs comes forward;
+//! any other order is listed. The room for the list grows with the buffer, so that a reordering
+//! takes no memory; what was never listed is never written.
+ghost use Rattle.std.specs.Prelude.{◌≡◌, ◌+◌, ◌-◌, ◌<◌, ◌≤◌, [], ◌++◌, All, IfErr, IfOk, IsOkUnless, OnOk, drop, length, take, vec_capacity};
+ghost use Rattle.std.specs.List.{slice_rotate_right};
 ghost use Rattle.shapers_buffer.specs.Clusters.{stretch_of, with_stretch};
-ghost use Rattle.shapers_buffer.specs.Places.{ListsEachOnce, pick, place_at, placed, with_place, without_last_zeros};
+ghost use Rattle.shapers_buffer.specs.Places.{ListsEachOnce, PlacesEachOnce, pick, place_at, placed, placed_by, with_place, without_last_zeros};
 ghost use Rattle.shapers_buffer.specs.declared.buffer.refusal.ShaperError.TheVariants.{Memory};
 
 use super::glyph::hb_glyph_info_t;
 use super::hb_buffer_t;
 use super::refusal::ShaperError;
 use std::alloc::Global;
+
+/// The old places of the glyphs of one syllable, in the forms that text has.
+#[derive(Clone, Copy, Debug, PartialEq, Eq)]
+pub enum Placement {
+    /// Each glyph stays in its place.
+    Stays,
+    /// A stretch comes forward, and what it passes goes back behind it. So a glyph goes back where
+    /// those behind it come forward.
+    Forward {
+        /// The place to which the stretch comes.
+        to: usize,
+        /// The place of its first glyph.
+        from: usize,
+        /// How many glyphs it has.
+        count: usize,
+    },
+    /// Each place gets the glyph of the place that [`hb_buffer_t::set_place`] listed for it.
+    Listed,
+}
 
 impl hb_buffer_t {
     /// The place whose glyph is listed to come to `i`.
@@ -21,13 +42,14 @@ impl hb_buffer_t {
         self.places.get(i).copied().unwrap_or(0)
     }
 
-    /// Lists that the glyph of place `place` is to come to `i`.
+    /// Lists that the glyph of place `place` is to come to `i`. Panics if `i` is beyond the buffer.
     #[inline]
     pub fn set_place(&mut self, i: usize, place: usize)
         requires { i < length self.old.glyphs }
         ensures { self.new ≡ record self.old { places = with_place i place self.old.places } }
     {
-        open_places(&mut self.places, i + 1);
+        // the slice panics before room is taken for a place beyond the buffer
+        open_places(&mut self.places, self.info[..i + 1].len());
         self.places[i] = place;
     }
 
@@ -39,19 +61,112 @@ impl hb_buffer_t {
         self.places.clear();
     }
 
-    /// Gives each place from `start` to `end` the glyph of the place listed for it; each place from
-    /// `start` to `end` is listed once. Positions stay. It takes no memory.
+    /// Gives each place from `start` to `end` the glyph of the place that the placement says for it;
+    /// it says each of these places once. Positions stay. It takes no memory.
     #[inline]
-    pub fn apply(&mut self, start: usize, end: usize)
+    pub fn apply(&mut self, start: usize, end: usize, placement: Placement)
+        requires in_order { start ≤ end }
+        requires in_range { end ≤ length self.old.glyphs }
+        requires permutes { PlacesEachOnce placement start end self.old.places }
+        ensures { let moved = placed_by placement start end self.old.places self.old.glyphs in
+            self.new ≡ record self.old { glyphs = moved } }
+    {
+        match placement {
+            Placement::Stays => {}
+            Placement::Forward { to, from, count } => self.bring_forward(to, from, count),
+            Placement::Listed => self.apply_list(start, end),
+        }
+    }
+
+    // Brings the `count` glyphs from place `from` on to the place `to`.
+    #[inline]
+    fn bring_forward(&mut self, to: usize, from: usize, count: usize)
+        requires in_order { to ≤ from }
+        requires in_range { from + count ≤ length self.old.glyphs }
+        ensures { self.new ≡ record self.old {
+          glyphs = with_stretch to (from + count) (λ gs. slice_rotate_right gs count)
+              self.old.glyphs;
+        } }
+    {
+        turn(&mut self.info[to..from + count], count);
+    }
+
+    // Gives each place from `start` to `end` the glyph of the place listed for it.
+    #[inline]
+    fn apply_list(&mut self, start: usize, end: usize)
         requires in_order { start ≤ end }
         requires in_range { end ≤ length self.old.glyphs }
         requires permutes { ListsEachOnce start end self.old.places }
         ensures { let moved = placed start end self.old.places self.old.glyphs in
             self.new ≡ record self.old { glyphs = moved } }
     {
-        open_places(&mut self.places, end);
+        open_places(&mut self.places, self.info[..end].len());
         open_spare(&mut self.spare, end - start);
         reorder(&mut self.info, &self.places, &mut self.spare, start, end);
+    }
+}
+
+// How many glyphs are moved one by one past others. Stretches are short, so neighbours are swapped:
+// a rotation calls functions that copy memory, even for one glyph.
+const FEW: usize = 2;
+
+// Brings the last `count` glyphs before the others.
+#[inline]
+fn turn(glyphs: &mut [hb_glyph_info_t], count: usize)
+    requires { count ≤ length glyphs.old }
+    ensures { glyphs.new ≡ slice_rotate_right glyphs.old count }
+{
+    let passed = glyphs.len() - count;
+    if passed == 1 {
+        turn_left(glyphs);
+    } else if count <= FEW {
+        turn_last(glyphs, count);
+    } else if passed <= FEW {
+        turn_first(glyphs, passed);
+    } else {
+        glyphs.rotate_right(count);
+    }
+}
+
+// Brings the last `count` glyphs before the others, one after another.
+#[inline]
+fn turn_last(glyphs: &mut [hb_glyph_info_t], count: usize)
+    requires { count ≤ length glyphs.old }
+    ensures { glyphs.new ≡ slice_rotate_right glyphs.old count }
+{
+    for _ in 0..count {
+        turn_right(glyphs);
+    }
+}
+
+// Brings the first `count` glyphs behind the others, one after another.
+#[inline]
+fn turn_first(glyphs: &mut [hb_glyph_info_t], count: usize)
+    requires { count ≤ length glyphs.old }
+    ensures { glyphs.new ≡ drop count glyphs.old ++ take count glyphs.old }
+{
+    for _ in 0..count {
+        turn_left(glyphs);
+    }
+}
+
+// Moves the first glyph behind the others.
+#[inline]
+fn turn_left(glyphs: &mut [hb_glyph_info_t])
+    ensures { glyphs.new ≡ drop 1 glyphs.old ++ take 1 glyphs.old }
+{
+    for i in 1..glyphs.len() {
+        glyphs.swap(i - 1, i);
+    }
+}
+
+// Moves the last glyph before the others.
+#[inline]
+fn turn_right(glyphs: &mut [hb_glyph_info_t])
+    ensures { glyphs.new ≡ slice_rotate_right glyphs.old 1 }
+{
+    for i in (1..glyphs.len()).rev() {
+        glyphs.swap(i - 1, i);
     }
 }
 

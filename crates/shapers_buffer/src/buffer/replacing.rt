@@ -29,6 +29,10 @@ pub trait GlyphRewriting {
 impl hb_buffer_t {
     /// Rewrites the text, which has no positions, to `len` glyphs. Refuses by their number, before
     /// anything changes.
+    ///
+    /// # Errors
+    ///
+    /// `TooLong` and `Memory`; nothing has changed then.
     #[inline]
     pub fn rewrite<R: GlyphRewriting>(
         &mut self,
@@ -50,12 +54,18 @@ impl hb_buffer_t {
         self.info.reserve(len.saturating_sub(self.info.len()))?;
         self.spare.clear();
         rewriting.rewrite(&mut self.info, &mut self.spare);
+        // (in plain Rust a caller's rewriting may write more than it should)
+        self.spare.truncate(len);
         mem::swap(&mut self.info, &mut self.spare);
         Ok(())
     }
 
     /// Puts these glyphs in the place of the buffer's, which has no positions. Refuses by their
     /// number, whatever the buffer held.
+    ///
+    /// # Errors
+    ///
+    /// `TooLong` and `Memory`; nothing has changed then.
     #[inline]
     pub fn replace_glyphs(&mut self, glyphs: Vec<hb_glyph_info_t>) -> Result<(), ShaperError>
         requires { self.old.positions ≡ [] }
@@ -72,6 +82,10 @@ impl hb_buffer_t {
     }
 
     /// Copies the glyph at `from`, with its position, to `to`.
+    ///
+    /// # Panics
+    ///
+    /// Where one of the places is none of the buffer.
     #[inline]
     pub fn copy_glyph(&mut self, from: usize, to: usize)
         requires from_in_range { from < length self.old.glyphs }

@@ -18,6 +18,10 @@ impl hb_buffer_t {
     }
 
     /// Turns the glyphs from `s` to `e` round, with their positions.
+    ///
+    /// # Panics
+    ///
+    /// Where `s` is above `e`, or `e` above the length.
     #[inline]
     pub fn reverse_range(&mut self, s: usize, e: usize)
         requires in_order { s ≤ e }

@@ -61,7 +61,7 @@ pub fn context_characters(numbers: &[u32]) -> ArrayVec<char, CONTEXT_LENGTH>
     let nearest = &numbers[..numbers.len().min(CONTEXT_LENGTH)];
     let mut characters = ArrayVec::new();
     for number in nearest {
-        characters.try_push(character(*number)).unwrap();
+        characters.push(character(*number));
     }
     characters
 }

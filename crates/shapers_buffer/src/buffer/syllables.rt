@@ -22,6 +22,10 @@ pub struct Span {
 impl hb_buffer_t {
     /// Where the syllable ends that place `s` stands in: behind the longest run of its byte from
     /// `s` on.
+    ///
+    /// # Panics
+    ///
+    /// Where `s` is no place of the buffer.
     #[inline]
     pub fn next_syllable(&self, s: usize) -> usize
         requires { s < length self.now.glyphs }
@@ -43,6 +47,10 @@ impl hb_buffer_t {
     /// Gives each place the syllable byte of the span that covers it, and sets the mark of a broken
     /// syllable where a span is of the broken kind. Refuses with `SpansDontCover` where a span is
     /// empty or the lengths don't add up to the buffer's. It takes no memory.
+    ///
+    /// # Errors
+    ///
+    /// `SpansDontCover`; nothing has changed then.
     #[inline]
     pub fn set_spans(&mut self, spans: &[Span], broken_kind: u8) -> Result<(), ShaperError>
         requires { All (λ span. span.kind ≤ 15) spans.now }

@@ -49,6 +49,10 @@ pub trait PositionedWalk {
 
 impl hb_buffer_t {
     /// Changes each glyph from `s` to `e`. It takes no memory.
+    ///
+    /// # Panics
+    ///
+    /// Where `s` is above `e`, or `e` above the length.
     #[inline]
     pub fn change_each<C: GlyphChange>(&mut self, s: usize, e: usize, change: &C)
         requires in_order { s ≤ e }

@@ -1,5 +1,5 @@
 //! The units of a Hangul text, and the tones that join them.
-ghost use Rattle.std.specs.Prelude.{◌≡◌, ◌+◌, ◌<◌, ◌≤◌, ◌++◌, ◌∷◌, [], take, drop, length, get_or, true, vec_capacity, ◌||◌, ◌&&◌, Bool};
+ghost use Rattle.std.specs.Prelude.{◌≡◌, ◌+◌, ◌<◌, ◌≤◌, ◌++◌, ◌∷◌, [], take, drop, length, get_or, true, vec_capacity, ◌||◌, ◌&&◌};
 ghost use Rattle.shapers_buffer.specs.Glyph.{characters};
 ghost use Rattle.shapers_hangul.specs.Hangul.{is_s, is_lv, has_jamo_of, is_narrow, jamo_two, jamo_three, jamo_unit, jamo_parts, syllable_unit, lone_tone, lone_unit, first_unit, taken, is_syllable, is_marked, joined_tone, is_split, unsafe_len, first_item, tone_len, item_len, glyph_copies, unit_output, item_output, is_merged, item_joined, output_len, is_kept};
 
@@ -307,18 +307,20 @@ fn read_item<F: hb_font_t>(face: &F, circles: bool, glyphs: &[hb_glyph_info_t]) 
 
 // Whether the character that opens the text stays as it is, as far as it and the next one decide.
 #[inline]
-pub(super) fn stays_alone<F: hb_font_t>(face: &F, glyphs: &[hb_glyph_info_t]) -> bool
-    ensures { (circles : Bool) → let us = characters glyphs.now in
+pub(super) fn stays_alone<F: hb_font_t>(face: &F, circles: bool, glyphs: &[hb_glyph_info_t]) -> bool
+    ensures { let us = characters glyphs.now in
         result ≡ true → is_kept (first_item (F.font face.now) circles us) ≡ true }
 {
     let u = character_at(glyphs, 0);
-    if follows(character_at(glyphs, 1)) {
-        return false;
-    }
+    let v = character_at(glyphs, 1);
     if is_combined_s(u) {
-        return face.has_glyph(u);
+        return !follows(v) && face.has_glyph(u);
     }
-    !is_hangul_tone(u)
+    if is_hangul_tone(u) {
+        // it takes nothing along, and stays where it gets no circle
+        return !circles || !face.has_glyph(DOTTED_CIRCLE);
+    }
+    !follows(v)
 }
 
 // The item that opens the text, which stands within it.

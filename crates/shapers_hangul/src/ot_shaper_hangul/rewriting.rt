@@ -44,7 +44,7 @@ fn stays_at<F: hb_font_t>(face: &F, circles: bool, glyphs: &[hb_glyph_info_t], p
         result ≡ is_kept (first_item (F.font face.now) circles us) }
 {
     let rest = rest_from(glyphs, place);
-    stays_alone(face, rest) || first_item(face, circles, rest).is_kept()
+    stays_alone(face, circles, rest) || first_item(face, circles, rest).is_kept()
 }
 
 // How far the text stays as it is: the place of the first item that changes it, or its end.
@@ -124,7 +124,7 @@ fn measure<F: hb_font_t>(
     let mut room = limit - kept;
     let mut place = kept;
     while place < glyphs.len() {
-        if stays_alone(face, rest_from(glyphs, place)) {
+        if stays_alone(face, circles, rest_from(glyphs, place)) {
             if room == 0 {
                 return Err(ShaperError::TooLong);
             }

@@ -170,11 +170,12 @@ fn masks_of(map: &hb_ot_map_t) -> [u32; 17]
 }
 
 /// What the shaper keeps in the plan: the script's row of the table, whether the font follows the
-/// older specification, its questions to the font, and the masks of its features. Questions leave
-/// contexts out in the older specification, but for Malayalam. No mask touches a glyph flag bit. It
-/// can't refuse and takes no memory.
+/// older specification, among which consonants the base is looked for, its questions to the font,
+/// and the masks of its features. Questions leave contexts out in the older specification, but for
+/// Malayalam. No mask touches a glyph flag bit. It can't refuse and takes no memory.
 pub fn create_data(plan: &hb_ot_shape_plan_t) -> PlanData
-    ensures data { result ≡ Indic (indic_plan plan.now.script plan.now.ot_map) }
+    ensures data { let search = plan.now.base_search in
+        result ≡ Indic (indic_plan search plan.now.script plan.now.ot_map) }
     ensures off_flags { AllByRecursion (λ mask. mask % 8 ≡ 0) (masks_kept result) }
 {
     let map = &plan.ot_map;
@@ -189,6 +190,7 @@ pub fn create_data(plan: &hb_ot_shape_plan_t) -> PlanData
     PlanData::Indic(indic_shape_plan_t {
         config,
         is_old_spec,
+        base_search: plan.base_search,
         rphf: question(*b"rphf"),
         pref: question(*b"pref"),
         blwf: question(*b"blwf"),
@@ -206,7 +208,7 @@ pub fn indic_in(plan: &hb_ot_shape_plan_t) -> &indic_shape_plan_t
 {
     match &plan.plan_data {
         PlanData::Indic(kept) => kept,
-        _ => unreachable!(),
+        _ => unreachable!("the plan has no data of the Indic shaper"),
     }
 }
 

@@ -7,12 +7,12 @@ use shapers_base::font::GlyphId;
 use shapers_base::plan::ot_category_t::{OT_C, OT_M, OT_MPst, OT_ZWJ, OT_ZWNJ};
 use shapers_base::plan::ot_position_t::POS_BASE_C;
 
-/// The glyph's number, as fonts take it.
+/// The glyph's number, as fonts take it. No font has a glyph of a number above 65535, nor of that one.
 #[inline]
 pub fn number(glyph: &hb_glyph_info_t) -> GlyphId
     ensures { result ≡ number glyph.now }
 {
-    GlyphId((glyph.glyph_id % 65536) as u16)
+    GlyphId(glyph.glyph_id.min(u32::from(u16::MAX)) as u16)
 }
 
 /// Whether a glyph is a joiner, and no lookup put it in for several.

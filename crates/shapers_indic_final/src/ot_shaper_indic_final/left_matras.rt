@@ -15,7 +15,9 @@ ghost use Rattle.shapers_indic_final.specs.LeftMatraWalk.{Merged, Reaches, as_pa
 
 use super::matras::is_left;
 use super::moves::move_matra;
-use shapers_base::buffer::{BufferClusterLevel, GlyphChange, hb_buffer_t, hb_glyph_info_t};
+use shapers_base::buffer::{
+    BufferClusterLevel, GlyphChange, Placement, hb_buffer_t, hb_glyph_info_t,
+};
 
 // What merges have put into two clusters, which aren't written yet: where the glyphs before the
 // matras start, up to these, and their cluster; the place behind the glyphs from the matras on, and
@@ -267,7 +269,7 @@ fn move_matras(top: usize, buffer: &mut hb_buffer_t, s: usize, e: usize) -> usiz
 {
     let at = list_places(false, top, buffer, s, e, s);
     list_places(true, top, buffer, s, e, at);
-    buffer.apply(s, e);
+    buffer.apply(s, e, Placement::Listed);
     at
 }
 

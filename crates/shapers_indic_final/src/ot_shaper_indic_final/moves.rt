@@ -8,8 +8,7 @@ ghost use Rattle.shapers_indic_final.specs.FinalMatras.{matra_step};
 ghost use Rattle.shapers_indic_final.specs.FinalPref.{pref_move};
 ghost use Rattle.shapers_indic_final.specs.FinalReph.{final_reph_step};
 
-use shapers_base::buffer::{GlyphWalk, hb_buffer_t, hb_glyph_info_t};
-use shapers_syllabic::ot_shaper_syllabic::{turn_left, turn_right};
+use shapers_base::buffer::{Placement, hb_buffer_t};
 
 // Merges the syllable from `s` on up to its place `j`, and moves its first glyph, the reph, there.
 #[inline]
@@ -74,7 +73,12 @@ fn move_first_last(buffer: &mut hb_buffer_t, s: usize, e: usize)
       places = buffer.new.places;
     } }
 {
-    buffer.walk(&mut FirstLast { start: s, end: e });
+    let behind = Placement::Forward {
+        to: s,
+        from: s + 1,
+        count: e - s - 1,
+    };
+    buffer.apply(s, e, behind);
 }
 
 // Moves the last glyph of the stretch from `s` to `e` before the others.
@@ -87,49 +91,10 @@ fn move_last_first(buffer: &mut hb_buffer_t, s: usize, e: usize)
       places = buffer.new.places;
     } }
 {
-    buffer.walk(&mut LastFirst { start: s, end: e });
-}
-
-// The first glyph of a stretch goes behind the others.
-#[derive(Clone, Copy)]
-struct FirstLast {
-    start: usize,
-    end: usize,
-}
-
-impl GlyphWalk for FirstLast {
-    ghost use Rattle.std.specs.Prelude.{◌≡◌, ◌<◌, ◌≤◌, length};
-    ghost use Rattle.shapers_buffer.specs.Lists.{first_last};
-    ghost use Rattle.shapers_buffer.specs.Clusters.{with_stretch};
-
-    ghost can_walk = { λ w gs. (w.start < w.end) × (w.end ≤ length gs) };
-
-    ghost walks = { λ w _ gs hs. hs ≡ with_stretch w.start w.end first_last gs };
-
-    #[inline]
-    fn walk(&mut self, glyphs: &mut [hb_glyph_info_t]) {
-        turn_left(&mut glyphs[self.start..self.end]);
-    }
-}
-
-// The last glyph of a stretch goes before the others.
-#[derive(Clone, Copy)]
-struct LastFirst {
-    start: usize,
-    end: usize,
-}
-
-impl GlyphWalk for LastFirst {
-    ghost use Rattle.std.specs.Prelude.{◌≡◌, ◌<◌, ◌≤◌, length};
-    ghost use Rattle.shapers_buffer.specs.Clusters.{with_stretch};
-    ghost use Rattle.shapers_indic_final.specs.FinalGlyphs.{last_goes_first};
-
-    ghost can_walk = { λ w gs. (w.start < w.end) × (w.end ≤ length gs) };
-
-    ghost walks = { λ w _ gs hs. hs ≡ with_stretch w.start w.end last_goes_first gs };
-
-    #[inline]
-    fn walk(&mut self, glyphs: &mut [hb_glyph_info_t]) {
-        turn_right(&mut glyphs[self.start..self.end]);
-    }
+    let before = Placement::Forward {
+        to: s,
+        from: e - 1,
+        count: 1,
+    };
+    buffer.apply(s, e, before);
 }

@@ -2,7 +2,7 @@
 ghost use Rattle.std.specs.Prelude.{◌≡◌, true};
 ghost use Rattle.shapers_indic.specs.Plan.{indic_in, is_indic_data};
 ghost use Rattle.shapers_indic_final.specs.FinalLaws.{FinallyKept};
-ghost use Rattle.shapers_indic_final.specs.FinalWordStart.{FinallyReordered};
+ghost use Rattle.shapers_indic_final.specs.FinalWordStart.{FinallyLinked, FinallyReordered};
 ghost use Rattle.shapers_indic_final.specs.FinalRules.{final_rules};
 ghost use Rattle.shapers_syllabic.specs.CircleLaws.{NoNewCluster};
 
@@ -23,6 +23,8 @@ pub fn final_reordering<F: hb_font_t>(plan: &hb_ot_shape_plan_t, face: &F, buffe
     requires kept { is_indic_data plan.now.plan_data ≡ true }
     ensures reordered { let rules = final_rules (F.font face.now) (indic_in plan.now) in
         FinallyReordered rules buffer.old buffer.new }
+    ensures linked { let rules = final_rules (F.font face.now) (indic_in plan.now) in
+        FinallyLinked rules buffer.old buffer.new }
     ensures laws { let rules = final_rules (F.font face.now) (indic_in plan.now) in
         FinallyKept rules buffer.old buffer.new }
     ensures clusters { NoNewCluster buffer.old.glyphs buffer.new.glyphs }

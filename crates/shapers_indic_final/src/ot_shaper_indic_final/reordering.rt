@@ -1,11 +1,9 @@
 //! The final reordering of one syllable, and of a text.
 ghost use Rattle.std.specs.Prelude.{◌%◌, ◌≡◌, ◌≤◌, length};
-ghost use Rattle.std.specs.List.{position};
-ghost use Rattle.shapers_indic_final.specs.FinalWordStart.{FinallyReordered};
+ghost use Rattle.shapers_indic_final.specs.FinalWordStart.{FinallyLinked, FinallyReordered};
 ghost use Rattle.shapers_indic_final.specs.FinalReordering.{final_order, final_steps};
 ghost use Rattle.shapers_indic_final.specs.FinalWalk.{changes_syllable};
 ghost use Rattle.shapers_syllabic.specs.Reordering.{SyllableReordered};
-ghost use Rattle.shapers_syllabic.specs.ReorderingLaws.{NextChanging};
 
 use super::base::settle_base;
 use super::glyphs::has_mask;
@@ -15,7 +13,7 @@ use super::viramas::{is_lost_virama, recover_viramas};
 use super::word_start::open_syllable;
 use shapers_base::buffer::{Script, hb_buffer_t, hb_glyph_info_t};
 use shapers_base::plan::ot_position_t::{POS_BELOW_C, POS_PRE_M, POS_RA_TO_BECOME_REPH};
-use shapers_syllabic::ot_shaper_syllabic::syllable_start;
+use shapers_syllabic::ot_shaper_syllabic::{MayChange, next_changing};
 
 // Reorders each syllable of the text and opens it, from left to right.
 #[inline]
@@ -23,10 +21,12 @@ pub(super) fn reorder_text(rules: &Rules, script: Option<Script>, buffer: &mut h
     requires of_buffer { script ≡ buffer.old.script }
     requires pref { rules.now.pref % 8 ≡ 0 }
     requires init { rules.now.init % 8 ≡ 0 }
-    ensures { FinallyReordered rules.now buffer.old buffer.new }
+    ensures reordered { FinallyReordered rules.now buffer.old buffer.new }
+    ensures linked { FinallyLinked rules.now buffer.old buffer.new }
 {
+    let order = FinalOrder { rules, script };
     let mut start = 0;
-    while let Some(first) = next_changing(rules, script, buffer.glyphs(), start) {
+    while let Some(first) = next_changing(&order, buffer.glyphs(), start) {
         let end = buffer.next_syllable(first);
         reorder_syllable(rules, script, buffer, first, end);
         open_syllable(rules.init, buffer, first);
@@ -35,33 +35,22 @@ pub(super) fn reorder_text(rules: &Rules, script: Option<Script>, buffer: &mut h
     buffer.clear_places();
 }
 
-// Where the next syllable starts that may change, of those from `start` on.
-#[inline]
-fn next_changing(
-    rules: &Rules,
+// The final reordering of syllables, under rules, in a text of a script.
+#[derive(Clone, Copy)]
+struct FinalOrder<'a> {
+    rules: &'a Rules,
     script: Option<Script>,
-    glyphs: &[hb_glyph_info_t],
-    start: usize,
-) -> Option<usize>
-    requires { start ≤ length glyphs.now }
-    ensures { NextChanging (changes_syllable rules.now script) start glyphs.now result }
-{
-    let count = first_changing(rules, script, &glyphs[start..])?;
-    Some(syllable_start(glyphs, start, start + count))
 }
 
-// The first glyph that may change its syllable.
-#[inline]
-fn first_changing(
-    rules: &Rules,
-    script: Option<Script>,
-    glyphs: &[hb_glyph_info_t],
-) -> Option<usize>
-    ensures { result ≡ position (changes_syllable rules.now script) glyphs.now }
-{
-    glyphs
-        .iter()
-        .position(|glyph| changes_syllable(rules, script, glyph))
+impl<'a> MayChange for FinalOrder<'a> {
+    ghost use Rattle.shapers_indic_final.specs.FinalWalk.{changes_syllable};
+
+    ghost changes = { λ it. changes_syllable it.rules.now it.script };
+
+    #[inline]
+    fn may_change(&self, glyph: &hb_glyph_info_t) -> bool {
+        changes_syllable(self.rules, self.script, glyph)
+    }
 }
 
 // Whether a glyph may change its syllable: a left matra, a reph, what `pref` may form, a virama to

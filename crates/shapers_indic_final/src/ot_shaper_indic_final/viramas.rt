@@ -46,7 +46,7 @@ pub(super) fn is_lost_virama(virama: Option<GlyphId>, glyph: &hb_glyph_info_t) -
 {
     match virama {
         Some(virama) => {
-            glyph.glyph_id == virama.0 as u32
+            glyph.glyph_id == u32::from(virama.0)
                 && glyph.marks.is_ligated()
                 && glyph.marks.is_multiplied()
         }

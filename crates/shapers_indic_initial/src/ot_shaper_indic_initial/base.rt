@@ -9,8 +9,9 @@ use super::reph::{limit, reph_len};
 use super::rules::Rules;
 use shapers_base::buffer::hb_glyph_info_t;
 use shapers_base::font::hb_font_t;
+use shapers_base::plan::BaseSearch;
 use shapers_base::plan::ot_category_t::{
-    OT_C, OT_CS, OT_DOTTEDCIRCLE, OT_H, OT_PLACEHOLDER, OT_Ra, OT_V, OT_ZWJ,
+    OT_C, OT_CM, OT_CS, OT_DOTTEDCIRCLE, OT_H, OT_PLACEHOLDER, OT_Ra, OT_V, OT_ZWJ,
 };
 use shapers_base::plan::ot_position_t::{POS_BELOW_C, POS_POST_C};
 
@@ -35,9 +36,8 @@ pub(super) fn find_base<F: hb_font_t>(rules: &Rules<F>, glyphs: &[hb_glyph_info_
     let reph = reph_len(rules, glyphs);
     let limit = limit(reph, glyphs);
     let otherwise = if reph == 0 { glyphs.len() } else { 0 };
-    let place = last_or_first(limit.min(glyphs.len().saturating_sub(1)), glyphs).unwrap_or(
-        otherwise,
-    );
+    let lo = limit.min(glyphs.len().saturating_sub(1));
+    let place = last_or_first(rules.plan.base_search, lo, glyphs).unwrap_or(otherwise);
     Base {
         place,
         has_reph: reph != 0 && !(place == 0 && limit <= 2),
@@ -47,33 +47,33 @@ pub(super) fn find_base<F: hb_font_t>(rules: &Rules<F>, glyphs: &[hb_glyph_info_
 // The base from place `lo` on, or behind what stops the search: the last consonant without a
 // below-base or post-base form, else the first consonant.
 #[inline]
-fn last_or_first(lo: usize, glyphs: &[hb_glyph_info_t]) -> Option<usize>
+fn last_or_first(search: BaseSearch, lo: usize, glyphs: &[hb_glyph_info_t]) -> Option<usize>
     requires { lo ≤ length glyphs.now }
-    ensures { result ≡ last_or_first (search_from lo glyphs.now) glyphs.now }
+    ensures { result ≡ last_or_first search (search_from lo glyphs.now) glyphs.now }
 {
-    if let Some(base) = last_base(lo, glyphs) {
+    if let Some(base) = last_base(search, lo, glyphs) {
         return Some(base);
     }
-    first_candidate(search_from(lo, glyphs), glyphs)
+    first_candidate(search, search_from(lo, glyphs), glyphs)
 }
 
 // The last consonant without a below-base or post-base form from place `lo` on, or behind what
 // stops the search.
 #[inline]
-fn last_base(lo: usize, glyphs: &[hb_glyph_info_t]) -> Option<usize>
+fn last_base(search: BaseSearch, lo: usize, glyphs: &[hb_glyph_info_t]) -> Option<usize>
     requires { lo ≤ length glyphs.now }
     ensures { let gs = glyphs.now in
-        result ≡ greatest_place (is_base gs) (search_from lo gs) (length gs) }
+        result ≡ greatest_place (is_base search gs) (search_from lo gs) (length gs) }
 {
     let mut below = false;
     for i in (lo..glyphs.len()).rev() {
         if stops_search(glyphs, i) {
             return None;
         }
-        if is_base(&glyphs[i], below) {
+        if is_base(search, &glyphs[i], below) {
             return Some(i);
         }
-        below = is_below(&glyphs[i]) || below;
+        below = is_below(search, &glyphs[i]) || below;
     }
     None
 }
@@ -81,24 +81,23 @@ fn last_base(lo: usize, glyphs: &[hb_glyph_info_t]) -> Option<usize>
 // Whether the search may end with a glyph: a consonant that has no below-base form, nor a post-base
 // one unless a consonant with a below-base form follows.
 #[inline]
-fn is_base(glyph: &hb_glyph_info_t, below: bool) -> bool
-    ensures { let g = glyph.now in
-        let below_base = is_base_candidate g && has_position POS_BELOW_C g in
-        result ≡
-        is_base_candidate g && not below_base && (not (has_position POS_POST_C g) || below) }
+fn is_base(search: BaseSearch, glyph: &hb_glyph_info_t, below: bool) -> bool
+    ensures { let g = glyph.now in let candidate = is_base_candidate search g in
+        let below_base = candidate && has_position POS_BELOW_C g in
+        result ≡ candidate && not below_base && (not (has_position POS_POST_C g) || below) }
 {
-    is_base_candidate(glyph)
+    is_base_candidate(search, glyph)
         && glyph.auxiliary != POS_BELOW_C
         && (glyph.auxiliary != POS_POST_C || below)
 }
 
 // Whether a glyph is a consonant with a below-base form.
 #[inline]
-fn is_below(glyph: &hb_glyph_info_t) -> bool
+fn is_below(search: BaseSearch, glyph: &hb_glyph_info_t) -> bool
     ensures { let g = glyph.now in
-        result ≡ is_base_candidate g && has_position POS_BELOW_C g }
+        result ≡ is_base_candidate search g && has_position POS_BELOW_C g }
 {
-    is_base_candidate(glyph) && glyph.auxiliary == POS_BELOW_C
+    is_base_candidate(search, glyph) && glyph.auxiliary == POS_BELOW_C
 }
 
 // Where the search ends: behind the last glyph that stops it, or at place `lo`.
@@ -119,12 +118,12 @@ fn search_from(lo: usize, glyphs: &[hb_glyph_info_t]) -> usize
 // The first consonant that may be the base from place `start` on.
 #[allow(clippy::manual_find, clippy::needless_range_loop)]
 #[inline]
-fn first_candidate(start: usize, glyphs: &[hb_glyph_info_t]) -> Option<usize>
+fn first_candidate(search: BaseSearch, start: usize, glyphs: &[hb_glyph_info_t]) -> Option<usize>
     requires { start ≤ length glyphs.now }
-    ensures { result ≡ least_place (may_be_base glyphs.now) start (length glyphs.now) }
+    ensures { result ≡ least_place (may_be_base search glyphs.now) start (length glyphs.now) }
 {
     for i in start..glyphs.len() {
-        if is_base_candidate(&glyphs[i]) {
+        if is_base_candidate(search, &glyphs[i]) {
             return Some(i);
         }
     }
@@ -142,12 +141,13 @@ fn stops_search(glyphs: &[hb_glyph_info_t], i: usize) -> bool
 
 // Whether a glyph is a consonant that may be the base.
 #[inline]
-fn is_base_candidate(glyph: &hb_glyph_info_t) -> bool
-    ensures { result ≡ is_base_candidate glyph.now }
+fn is_base_candidate(search: BaseSearch, glyph: &hb_glyph_info_t) -> bool
+    ensures { result ≡ is_base_candidate search glyph.now }
 {
     !glyph.marks.is_ligated()
-        && matches!(
-            glyph.category,
-            OT_C | OT_CS | OT_Ra | OT_V | OT_PLACEHOLDER | OT_DOTTEDCIRCLE
-        )
+        && match glyph.category {
+            OT_C | OT_CS | OT_Ra | OT_V | OT_PLACEHOLDER | OT_DOTTEDCIRCLE => true,
+            OT_CM => search == BaseSearch::AllConsonants,
+            _ => false,
+        }
 }

@@ -14,7 +14,7 @@ use shapers_base::plan::{IndicWouldSubstituteFeature, Position, indic_shape_plan
 use shapers_indic::ot_shaper_indic::glyphs::number;
 use shapers_indic::ot_shaper_indic::virama_glyph;
 
-/// Gives consonants of position BASE_C for which the font has a below-base or a post-base form, by
+/// Gives consonants of position `BASE_C` for which the font has a below-base or a post-base form, by
 /// its glyph for the script's virama, that form's position. It takes no memory.
 #[inline]
 pub(super) fn update_consonant_positions<F: hb_font_t>(rules: &Rules<F>, buffer: &mut hb_buffer_t)

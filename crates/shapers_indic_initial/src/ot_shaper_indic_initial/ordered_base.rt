@@ -7,7 +7,7 @@ ghost use Rattle.shapers_indic_initial.specs.InitialOrder.{ordered_base};
 use shapers_base::buffer::hb_glyph_info_t;
 use shapers_base::plan::ot_position_t::POS_BASE_C;
 
-/// The place of the first glyph of position BASE_C in an ordered syllable, or its length.
+/// The place of the first glyph of position `BASE_C` in an ordered syllable, or its length.
 #[tactic(auto, using(crate::proofs::OrderedBase::base_is))]
 #[inline]
 pub(super) fn ordered_base(glyphs: &[hb_glyph_info_t]) -> usize

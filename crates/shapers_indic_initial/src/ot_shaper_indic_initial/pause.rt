@@ -3,7 +3,7 @@ ghost use Rattle.std.specs.Prelude.{◌≡◌, [], IfOk, IsOk, None, OnErr, OnOk
 ghost use Rattle.shapers_buffer.specs.Refusals.{Refuses};
 ghost use Rattle.shapers_indic.specs.Plan.{indic_in, is_indic_data};
 ghost use Rattle.shapers_indic_initial.specs.InitialLaws.{InitiallyMerged};
-ghost use Rattle.shapers_indic_initial.specs.InitialPause.{InitiallyReordered, initial_circles, initial_refusal, order_by_font, steps_by_font};
+ghost use Rattle.shapers_indic_initial.specs.InitialPause.{InitiallyLinked, InitiallyReordered, initial_circles, initial_refusal, order_by_font, steps_by_font};
 ghost use Rattle.shapers_syllabic.specs.CircleLaws.{NoNewCluster};
 ghost use Rattle.shapers_syllabic.specs.Circles.{circled};
 ghost use Rattle.shapers_syllabic.specs.Reordering.{PauseReordered};
@@ -46,6 +46,8 @@ pub fn initial_reordering<F: hb_font_t>(
     ensures answer { let circles = initial_circles (F.font face.now) buffer.old in
         IfOk result (λ answer. answer ≡ is_some circles) }
     ensures ok { OnOk result (InitiallyReordered
+        (F.font face.now) plan.now.ot_map (indic_in plan.now) buffer.old buffer.new) }
+    ensures linked { OnOk result (InitiallyLinked
         (F.font face.now) plan.now.ot_map (indic_in plan.now) buffer.old buffer.new) }
     ensures syllables { let font = F.font face.now in
         let kept = indic_in plan.now in

@@ -12,7 +12,7 @@ use super::base::{Base, find_base};
 use super::halant::{halant_move, joiner_comes_first};
 use super::positions::{attach_marks, own, set_positions_by_base};
 use super::rules::Rules;
-use shapers_base::buffer::{GlyphWalk, Script, hb_buffer_t, hb_glyph_info_t};
+use shapers_base::buffer::{GlyphWalk, Placement, Script, hb_buffer_t, hb_glyph_info_t};
 use shapers_base::font::hb_font_t;
 
 /// Prepares the syllable from `start` to `end` for its order. Kannada's opening Ra, H, ZWJ becomes
@@ -105,7 +105,7 @@ fn move_to_end(buffer: &mut hb_buffer_t, from: usize, end: usize)
         buffer.set_place(i, i + 1);
     }
     buffer.set_place(last, from);
-    buffer.apply(from, end);
+    buffer.apply(from, end, Placement::Listed);
 }
 
 // Where a syllable stands whose glyphs get their positions by its base.

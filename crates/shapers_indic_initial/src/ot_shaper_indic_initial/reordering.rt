@@ -13,10 +13,10 @@ use super::rules::Rules;
 use shapers_base::buffer::{GlyphWalk, Script, ShaperError, hb_buffer_t, hb_glyph_info_t};
 use shapers_base::font::hb_font_t;
 use shapers_indic::ot_shaper_indic::glyphs::is_plain_consonant;
-use shapers_syllabic::ot_shaper_syllabic::Reorder;
 use shapers_syllabic::ot_shaper_syllabic::indic_syllable::{
     BROKEN_CLUSTER, CONSONANT_SYLLABLE, STANDALONE_CLUSTER, VOWEL_SYLLABLE,
 };
+use shapers_syllabic::ot_shaper_syllabic::{MayChange, Reorder, ReorderBySteps};
 
 /// The initial reordering of a syllable that has positions by the font: its order, and its masks.
 #[derive(Drop)]
@@ -24,19 +24,8 @@ pub(super) struct InitialOrder<'a, F: hb_font_t> {
     pub(super) rules: &'a Rules<'a, F>,
 }
 
-impl<'a, F: hb_font_t> Reorder for InitialOrder<'a, F> {
-    ghost use Rattle.shapers_indic_initial.specs.InitialReordering.{initial_order, initial_steps};
-    ghost use Rattle.shapers_indic_initial.specs.InitialRules.{initial_rules};
-
-    ghost meaning = { λ r script gs.
-        let rules = r.rules.now in
-        initial_order (initial_rules (F.font rules.face.now) rules.map.now rules.plan.now)
-        script gs };
-
-    ghost steps = { λ r script gs.
-        let rules = r.rules.now in
-        initial_steps (initial_rules (F.font rules.face.now) rules.map.now rules.plan.now)
-        script gs };
+impl<'a, F: hb_font_t> MayChange for InitialOrder<'a, F> {
+    ghost use Rattle.std.specs.Prelude.{true};
 
     ghost changes = { λ _ _. true };
 
@@ -45,6 +34,27 @@ impl<'a, F: hb_font_t> Reorder for InitialOrder<'a, F> {
     fn may_change(&self, _: &hb_glyph_info_t) -> bool {
         true
     }
+}
+
+impl<'a, F: hb_font_t> Reorder for InitialOrder<'a, F> {
+    ghost use Rattle.std.specs.Prelude.{false};
+    ghost use Rattle.shapers_indic_initial.specs.InitialReordering.{InitialRelation, initial_order, initial_steps};
+    ghost use Rattle.shapers_indic_initial.specs.InitialRules.{initial_rules};
+    ghost use Rattle.shapers_indic_initial.specs.Proved.InitialLaws.{initial_laws};
+    ghost use Rattle.shapers_syllabic.proofs.LinkedSyllables.{each_may, ordered_by_steps};
+    ghost use Rattle.shapers_syllabic.proofs.ReorderingLaws.{numbers_kept};
+
+    ghost meaning = { λ it.
+        let rules = it.rules.now in
+        initial_order (initial_rules (F.font rules.face.now) rules.map.now rules.plan.now) };
+
+    ghost takes = { λ _ _. Unit {0} };
+
+    ghost may_refuse = { λ _. false };
+
+    ghost relation = { λ it.
+        let rules = it.rules.now in
+        InitialRelation (initial_rules (F.font rules.face.now) rules.map.now rules.plan.now) };
 
     #[inline]
     fn reorder(
@@ -63,6 +73,37 @@ impl<'a, F: hb_font_t> Reorder for InitialOrder<'a, F> {
         }
         Ok(())
     }
+
+    ghost permutes = { λ it script.
+        let rules = it.rules.now in
+        let r = initial_rules (F.font rules.face.now) rules.map.now rules.plan.now in
+        numbers_kept (initial_order r script) (initial_steps r script) (initial_laws r script) };
+
+    ghost orders = { λ it s e old new.
+        let rules = it.rules.now in
+        let r = initial_rules (F.font rules.face.now) rules.map.now rules.plan.now in
+        ordered_by_steps (initial_order r old.script) (initial_steps r old.script) s e old new };
+
+    ghost stays = { λ it.
+        let rules = it.rules.now in
+        each_may (InitialRelation
+        (initial_rules (F.font rules.face.now) rules.map.now rules.plan.now)) };
+}
+
+impl<'a, F: hb_font_t> ReorderBySteps for InitialOrder<'a, F> {
+    ghost use Rattle.shapers_indic_initial.specs.InitialReordering.{initial_steps};
+    ghost use Rattle.shapers_indic_initial.specs.InitialRules.{initial_rules};
+    ghost use Rattle.shapers_indic_initial.specs.Proved.InitialLaws.{initial_laws};
+
+    ghost steps = { λ it.
+        let rules = it.rules.now in
+        initial_steps (initial_rules (F.font rules.face.now) rules.map.now rules.plan.now) };
+
+    ghost laws = { λ it.
+        let rules = it.rules.now in
+        initial_laws (initial_rules (F.font rules.face.now) rules.map.now rules.plan.now) };
+
+    ghost leads = { λ _ _ _ _ _ done. done };
 }
 
 impl<'a, F: hb_font_t> InitialOrder<'a, F> {

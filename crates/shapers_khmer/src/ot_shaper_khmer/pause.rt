@@ -10,7 +10,7 @@ ghost use Rattle.shapers_khmer.specs.Plan.{is_khmer_data};
 ghost use Rattle.shapers_syllabic.specs.declared.ot_shaper_syllabic.kinds.khmer_syllable.TheConstants.{NON_KHMER_CLUSTER};
 ghost use Rattle.shapers_syllabic.specs.CircleLaws.{NoNewCluster};
 ghost use Rattle.shapers_syllabic.specs.Circles.{circled};
-ghost use Rattle.shapers_syllabic.specs.Reordering.{PauseReordered, carried, script_circles, text_steps};
+ghost use Rattle.shapers_syllabic.specs.Reordering.{PauseLinked, PauseReordered, SyllableReordered, carried, script_circles, text_steps};
 ghost use Rattle.shapers_syllabic.specs.ReorderingLaws.{PauseCutsAtBorders};
 
 use super::khmer_feature::{ABVF, BLWF, CFAR, PREF, PSTF};
@@ -49,6 +49,10 @@ pub fn reorder_khmer<F: hb_font_t>(
     ensures ok { let circles = script_circles khmer_circles (F.font face.now) buffer.old in
         OnOk result (PauseReordered circles
         (khmer_order (order_in plan.now.plan_data)) khmer_steps buffer.old buffer.new) }
+    ensures linked { let circles = script_circles khmer_circles (F.font face.now) buffer.old in
+        let order = khmer_order (order_in plan.now.plan_data) in
+        OnOk result (PauseLinked circles
+        (SyllableReordered order khmer_steps) buffer.old buffer.new) }
     ensures movers { let circles = script_circles khmer_circles (F.font face.now) buffer.old in
         OnOk result (PauseReordered circles
         (ordered_by_movers (order_in plan.now.plan_data)) steps_by_movers buffer.old buffer.new) }
@@ -88,6 +92,6 @@ fn order_of(plan_data: &PlanData) -> KhmerOrder
                 cfar: masks[CFAR],
             }
         }
-        _ => unreachable!(),
+        _ => unreachable!("the plan has no data of the Khmer shaper"),
     }
 }

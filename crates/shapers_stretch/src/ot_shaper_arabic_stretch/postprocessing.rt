@@ -14,6 +14,7 @@ use super::tiles::TileLaying;
 use shapers_base::buffer::{Direction, ShaperError, hb_buffer_t};
 use shapers_base::font::hb_font_t;
 use shapers_base::plan::{PlanData, StretchStart, hb_ot_shape_plan_t};
+use std::mem;
 
 /// Stretches marks: where the buffer is marked to have some, the tiles of each run of them are
 /// laid, and laid again, over the word before it, and no break is left inside. Refuses with
@@ -45,7 +46,7 @@ pub fn postprocess_glyphs<F: hb_font_t>(
 {
     match &plan.plan_data {
         PlanData::Arabic(arabic_plan) => stretch_marks(face, arabic_plan.stretch_start, buffer),
-        _ => unreachable!(),
+        _ => unreachable!("the plan has no data of the Arabic shaper"),
     }
 }
 
@@ -69,10 +70,15 @@ fn stretch_marks<F: hb_font_t>(
     if !buffer.has_stch() {
         return Ok(());
     }
-    match buffer.direction() {
-        Direction::RightToLeft => stretch_text(face, choice, true, buffer),
-        _ => stretch_backwards(face, choice, buffer),
-    }
+    // (a font that panics leaves the empty buffer, and none that is reversed or half laid)
+    let empty = hb_buffer_t::new(buffer.alloc(), buffer.max_len());
+    let mut text = mem::replace(buffer, empty);
+    let result = match text.direction() {
+        Direction::RightToLeft => stretch_text(face, choice, true, &mut text),
+        _ => stretch_backwards(face, choice, &mut text),
+    };
+    *buffer = text;
+    result
 }
 
 // Stretches a text that is in working order backwards.

@@ -23,7 +23,7 @@ pub fn record_stch(plan: &hb_ot_shape_plan_t, buffer: &mut hb_buffer_t)
                 record_tiles(buffer);
             }
         }
-        _ => unreachable!(),
+        _ => unreachable!("the plan has no data of the Arabic shaper"),
     }
 }
 

@@ -160,7 +160,7 @@ impl<'a, F: hb_font_t> TileLaying<'a, F> {
                 let tiles = part.tiles..unlaid.end;
                 self.lay_tiles(lay, glyphs, positions, tiles, pen).place
             }
-            None => unreachable!(),
+            None => unreachable!("a run whose copies were counted has no lay"),
         }
     }
 

@@ -28,7 +28,7 @@ pub fn set_categories<T: Tables>(tables: &T, buffer: &mut hb_buffer_t)
     buffer.change_each(0, len, &ByTable { tables });
 }
 
-/// The same for the glyphs of a slice.
+/// `set_categories` for the glyphs of a slice.
 #[inline]
 pub fn set_categories_in<T: Tables>(tables: &T, glyphs: &mut [hb_glyph_info_t])
     ensures { glyphs.new ≡ map (with_category (T.tables tables.now)) glyphs.old }
@@ -48,7 +48,7 @@ pub fn set_categories_and_positions<T: Tables>(tables: &T, buffer: &mut hb_buffe
     buffer.change_each(0, len, &PlacedByTable { tables });
 }
 
-/// The same for the glyphs of a slice.
+/// `set_categories_and_positions` for the glyphs of a slice.
 #[inline]
 pub fn set_categories_and_positions_in<T: Tables>(tables: &T, glyphs: &mut [hb_glyph_info_t])
     ensures { glyphs.new ≡ map (with_category_and_position (T.tables tables.now)) glyphs.old }

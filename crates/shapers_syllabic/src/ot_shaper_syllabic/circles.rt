@@ -56,6 +56,11 @@ struct Places {
 /// broken, the caller forbids circles or the font has none. Without its circles the text is what it
 /// was. Refuses with `TooLong` where the text
 /// would be longer than `max_len`, and with `Memory`; where no circle opens it takes none.
+///
+/// # Errors
+///
+/// `TooLong` where the buffer would be longer than `max_len`, `Memory` where memory is refused;
+/// nothing has changed then.
 pub fn insert_dotted_circles<F: hb_font_t>(
     face: &F,
     buffer: &mut hb_buffer_t,

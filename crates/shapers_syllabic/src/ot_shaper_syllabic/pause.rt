@@ -1,22 +1,23 @@
 //! A reordering pause: dotted circles, and then the order of each syllable.
-ghost use Rattle.std.specs.Prelude.{◌≡◌, [], IfOk, IsOk, OnErr, OnOk, is_some, length, None};
+ghost use Rattle.std.specs.Prelude.{◌≡◌, [], false, IfOk, IsOk, OnErr, OnOk, is_some, length, None};
 ghost use Rattle.shapers_buffer.specs.Refusals.{Refuses};
 ghost use Rattle.shapers_syllabic.specs.CircleLaws.{NoNewCluster};
 ghost use Rattle.shapers_syllabic.specs.Circles.{circled};
-ghost use Rattle.shapers_syllabic.specs.Reordering.{PauseReordered, script_circles, first_unknown, kind_refusal};
-ghost use Rattle.shapers_syllabic.specs.ReorderingLaws.{PauseCutsAtBorders, ReorderLaws, StaysWithout, TextReordered};
+ghost use Rattle.shapers_syllabic.specs.Reordering.{PauseLinked, PauseReordered, TakesText, script_circles, first_unknown, kind_refusal};
+ghost use Rattle.shapers_syllabic.specs.ReorderingLaws.{PauseCutsAtBorders, TextReordered};
 
 use super::circles::ScriptCircles;
-use super::reordering::{Reorder, reorder_syllables};
+use super::reordering::{ReorderBySteps, reorder_syllables};
 use shapers_base::buffer::{ShaperError, hb_buffer_t};
 use shapers_base::font::hb_font_t;
 
 /// Gives broken syllables their dotted circles and then reorders each syllable. Returns whether
 /// circles were wanted. Refuses with `UnknownSyllable` where a kind is above the last known one, if
-/// there is one; with `TooLong`; and with `Memory`, but not where no circle opens. The order itself
-/// never refuses. Every cluster afterwards is one that the text had before its circles.
+/// there is one; with `TooLong`; and with `Memory`, but not where no circle opens and the order
+/// never refuses. After a refusal the buffer is as it was, unless it is the order's. Every cluster
+/// afterwards is one that the text had before its circles.
 #[inline]
-pub fn reorder_pause<F: hb_font_t, R: Reorder>(
+pub fn reorder_pause<F: hb_font_t, R: ReorderBySteps>(
     face: &F,
     order: &R,
     script: &ScriptCircles,
@@ -24,16 +25,16 @@ pub fn reorder_pause<F: hb_font_t, R: Reorder>(
     buffer: &mut hb_buffer_t,
 ) -> Result<bool, ShaperError>
     requires without_positions { buffer.old.positions ≡ [] }
-    requires laws { ReorderLaws
-        (R.meaning order.now buffer.old.script) (R.steps order.now buffer.old.script) }
-    requires stays { StaysWithout (R.changes order.now)
-        (R.meaning order.now buffer.old.script) (R.steps order.now buffer.old.script) }
+    requires takes { let circles = script_circles script.now (F.font face.now) buffer.old in
+        TakesText (R.takes order.now) (circled circles buffer.old.glyphs) }
     ensures answer { let circles = script_circles script.now (F.font face.now) buffer.old in
         IfOk result (λ answer. answer ≡ is_some circles) }
     ensures ok { let circles = script_circles script.now (F.font face.now) buffer.old in
         OnOk result (PauseReordered circles
         (R.meaning order.now buffer.old.script) (R.steps order.now buffer.old.script)
         buffer.old buffer.new) }
+    ensures linked { let circles = script_circles script.now (F.font face.now) buffer.old in
+        OnOk result (PauseLinked circles (R.relation order.now) buffer.old buffer.new) }
     ensures cut { let circles = script_circles script.now (F.font face.now) buffer.old in
         OnOk result (PauseCutsAtBorders circles
         (R.meaning order.now buffer.old.script) (R.steps order.now buffer.old.script)
@@ -45,9 +46,9 @@ pub fn reorder_pause<F: hb_font_t, R: Reorder>(
     ensures refusal { let circles = script_circles script.now (F.font face.now) buffer.old in
         Refuses (kind_refusal last_kind buffer.old.glyphs)
         buffer.old.max_len (length (circled circles buffer.old.glyphs)) result }
-    ensures err { OnErr result (buffer.new ≡ buffer.old) }
+    ensures err { R.may_refuse order.now ≡ false → OnErr result (buffer.new ≡ buffer.old) }
     ensures without_memory { let circles = script_circles script.now (F.font face.now) buffer.old in
-        kind_refusal last_kind buffer.old.glyphs ≡ None →
+        R.may_refuse order.now ≡ false → kind_refusal last_kind buffer.old.glyphs ≡ None →
         circled circles buffer.old.glyphs ≡ buffer.old.glyphs → IsOk result }
 {
     if let Some(place) = first_unknown(buffer, last_kind) {

@@ -1,25 +1,18 @@
 //! Reordering a text syllable by syllable.
-ghost use Rattle.std.specs.Prelude.{◌≡◌, ◌<◌, ◌≤◌, ℕ, [], IsOk, drop, get_or, length};
+ghost use Rattle.std.specs.Prelude.{◌≡◌, ◌<◌, ◌≤◌, ℕ, [], OnOk, drop, get_or, length};
 ghost use Rattle.std.specs.List.{position};
 ghost use Rattle.shapers_buffer.specs.Clusters.{stretch_of};
 ghost use Rattle.shapers_buffer.specs.Glyph.{default_glyph};
 ghost use Rattle.shapers_syllabic.specs.Borders.{MeetAtBorder};
-ghost use Rattle.shapers_syllabic.specs.Reordering.{SyllableReordered, SyllablesReordered};
-ghost use Rattle.shapers_syllabic.specs.ReorderingLaws.{NextChanging, ReorderLaws, StaysWithout};
+ghost use Rattle.shapers_syllabic.specs.Reordering.{RefusesIf, SyllablesLinked, TakesText, TextOrdered, glyph_numbers};
+ghost use Rattle.shapers_syllabic.specs.ReorderingLaws.{NextChanging};
 
 use shapers_base::buffer::{ShaperError, hb_buffer_t, hb_glyph_info_t};
 
-/// How one syllable is reordered. What a syllable becomes, and the merges and moves that lead
-/// there, are functions of that syllable and the buffer's script alone.
-pub trait Reorder {
-    ghost use Rattle.std.specs.Prelude.{◌≡◌, Bool, List, Option, length};
+/// Which glyphs may change their syllable.
+pub trait MayChange {
+    ghost use Rattle.std.specs.Prelude.{◌≡◌, Bool};
     ghost use Rattle.shapers_buffer.specs.declared.buffer.glyph.hb_glyph_info_t.{hb_glyph_info_t};
-    ghost use Rattle.shapers_buffer.specs.declared.buffer.tag.Script.{Script};
-    ghost use Rattle.shapers_clusters.specs.Steps.{Step};
-
-    ghost meaning: { Self → Option Script → List hb_glyph_info_t → List hb_glyph_info_t };
-
-    ghost steps: { Self → Option Script → List hb_glyph_info_t → List Step };
 
     ghost changes: { Self → hb_glyph_info_t → Bool };
 
@@ -27,33 +20,94 @@ pub trait Reorder {
     /// is, and need not be looked at.
     fn may_change(&self, glyph: &hb_glyph_info_t) -> bool
         ensures { result ≡ changes self.now glyph.now };
+}
 
-    /// Reorders the syllable from `start` to `end`. It never refuses.
+/// How one syllable is reordered. What it becomes is a function of its own glyphs, of the buffer's
+/// script, and of the plan and the font that the order holds, and has the same glyph numbers. In
+/// contracts `takes` is what is required of these numbers, `may_refuse` whether there may be no
+/// memory, and `relation` the buffer before and after, clusters and glyph flags among it.
+pub trait Reorder: MayChange {
+    ghost use Rattle.std.specs.Prelude.{◌≡◌, ◌<◌, ◌≤◌, ℕ, Bool, List, Option, false, length};
+    ghost use Rattle.std.specs.List.{list_any};
+    ghost use Rattle.std.specs.List.Sorted.{IsPermutation};
+    ghost use Rattle.shapers_buffer.specs.declared.buffer.glyph.hb_glyph_info_t.{hb_glyph_info_t};
+    ghost use Rattle.shapers_buffer.specs.declared.buffer.tag.Script.{Script};
+    ghost use Rattle.shapers_buffer.specs.Buffer.{Buffer};
+    ghost use Rattle.shapers_buffer.specs.Clusters.{stretch_of};
+    ghost use Rattle.shapers_syllabic.specs.Reordering.{SyllableOrdered, glyph_numbers};
+
+    // What a syllable becomes in a buffer of a script, clusters and glyph flags apart.
+    ghost meaning: { Self → Option Script → List hb_glyph_info_t → List hb_glyph_info_t };
+
+    // What is required of a syllable's glyph numbers.
+    ghost takes: { Self → List ℕ → Type 0 };
+
+    // Whether the order may refuse, for want of memory.
+    ghost may_refuse: { Self → Bool };
+
+    // The buffer before and after the syllable from one place to another is reordered, clusters and
+    // glyph flags among it.
+    ghost relation: { Self → ℕ → ℕ → Buffer → Buffer → Type 0 };
+
+    /// Reorders the syllable from `start` to `end`. Only an order that may refuse returns `Memory`,
+    /// and then nothing is said of the buffer.
     fn reorder(&self, buffer: &mut hb_buffer_t, start: usize, end: usize) -> Result<(), ShaperError>
         requires in_order { start ≤ end }
         requires in_range { end ≤ length buffer.old.glyphs }
         requires without_positions { buffer.old.positions ≡ [] }
-        ensures reordered { SyllableReordered
-            (meaning self.now buffer.old.script) (steps self.now buffer.old.script)
-            start end buffer.old buffer.new }
-        ensures ok { IsOk result };
+        requires takes { takes self.now (glyph_numbers (stretch_of start end buffer.old.glyphs)) }
+        ensures related { OnOk result (relation self.now start end buffer.old buffer.new) }
+        ensures refusal { RefusesIf (may_refuse self.now) result };
+
+    // No glyph number of a syllable is lost.
+    ghost permutes: { (it : Self) (script : Option Script) (gs : List hb_glyph_info_t) →
+        IsPermutation (glyph_numbers gs) (glyph_numbers (meaning it script gs)) };
+
+    // What is related has the order that is meant.
+    ghost orders: { (it : Self) (s e : ℕ) (old new : Buffer) → relation it s e old new →
+        SyllableOrdered (meaning it old.script) s e old new };
+
+    // A syllable without a glyph that may change it stays as it is.
+    ghost stays: { (it : Self) (s e : ℕ) (b : Buffer) → s < e → e ≤ length b.glyphs →
+        list_any (Self.changes it) (stretch_of s e b.glyphs) ≡ false → relation it s e b b };
 }
 
-/// Reorders each syllable of the text, from left to right. It requires the laws of the order: its
-/// steps fit a syllable, lose nothing and lead to what the syllable becomes, and a syllable without
-/// a glyph that may change it stays. The placement list is empty afterwards, so that no place
-/// depends on how syllables were moved. It never refuses.
+/// An order whose merges and moves are known: of the clusters and glyph flags after it, all laws of
+/// such steps hold.
+pub trait ReorderBySteps: Reorder {
+    ghost use Rattle.std.specs.Prelude.{ℕ, List, Option};
+    ghost use Rattle.shapers_buffer.specs.declared.buffer.glyph.hb_glyph_info_t.{hb_glyph_info_t};
+    ghost use Rattle.shapers_buffer.specs.declared.buffer.tag.Script.{Script};
+    ghost use Rattle.shapers_buffer.specs.Buffer.{Buffer};
+    ghost use Rattle.shapers_clusters.specs.Steps.{Step};
+    ghost use Rattle.shapers_syllabic.specs.Reordering.{SyllableReordered};
+    ghost use Rattle.shapers_syllabic.specs.ReorderingLaws.{ReorderLaws};
+
+    // The merges and moves that lead a syllable to what it becomes.
+    ghost steps: { Self → Option Script → List hb_glyph_info_t → List Step };
+
+    // They fit the syllable, lose nothing, and lead there;
+    ghost laws: { (it : Self) (script : Option Script) →
+        ReorderLaws (Self.meaning it script) (steps it script) };
+
+    // and they tell what becomes of the buffer.
+    ghost leads: { (it : Self) (s e : ℕ) (old new : Buffer) → Self.relation it s e old new →
+        SyllableReordered (Self.meaning it old.script) (steps it old.script) s e old new };
+}
+
+/// Reorders each syllable of the text, from left to right, and empties the placement list, so that
+/// no place depends on how syllables were moved. The text becomes what its syllables become, one
+/// after another, and the order's relation leads there, one link a syllable. It refuses where the
+/// order does, and then nothing is said of the buffer.
 #[inline]
 pub fn reorder_syllables<R: Reorder>(order: &R, buffer: &mut hb_buffer_t) -> Result<(), ShaperError>
     requires without_positions { buffer.old.positions ≡ [] }
-    requires laws { ReorderLaws
-        (R.meaning order.now buffer.old.script) (R.steps order.now buffer.old.script) }
-    requires stays { StaysWithout (R.changes order.now)
-        (R.meaning order.now buffer.old.script) (R.steps order.now buffer.old.script) }
-    ensures reordered { SyllablesReordered
-        (R.meaning order.now buffer.old.script) (R.steps order.now buffer.old.script)
-        buffer.old buffer.new }
-    ensures ok { IsOk result }
+    requires takes { TakesText (R.takes order.now) buffer.old.glyphs }
+    ensures ordered { OnOk result
+        (TextOrdered (R.meaning order.now buffer.old.script) buffer.old buffer.new) }
+    ensures linked { OnOk result
+        (SyllablesLinked (R.relation order.now) buffer.old buffer.new) }
+    ensures refusal { RefusesIf (R.may_refuse order.now) result }
 {
     let mut start = 0;
     while let Some(first) = next_changing(order, buffer.glyphs(), start) {
@@ -65,11 +119,15 @@ pub fn reorder_syllables<R: Reorder>(order: &R, buffer: &mut hb_buffer_t) -> Res
     Ok(())
 }
 
-// Where the next syllable starts that may change, of those from `start` on.
+/// Where the next syllable starts that may change, of those from `start` on.
 #[inline]
-fn next_changing<R: Reorder>(order: &R, glyphs: &[hb_glyph_info_t], start: usize) -> Option<usize>
+pub fn next_changing<M: MayChange>(
+    order: &M,
+    glyphs: &[hb_glyph_info_t],
+    start: usize,
+) -> Option<usize>
     requires { start ≤ length glyphs.now }
-    ensures { NextChanging (R.changes order.now) start glyphs.now result }
+    ensures { NextChanging (M.changes order.now) start glyphs.now result }
 {
     let count = first_changing(order, &glyphs[start..])?;
     Some(syllable_start(glyphs, start, start + count))
@@ -77,15 +135,15 @@ fn next_changing<R: Reorder>(order: &R, glyphs: &[hb_glyph_info_t], start: usize
 
 // The first glyph that may change its syllable.
 #[inline]
-fn first_changing<R: Reorder>(order: &R, glyphs: &[hb_glyph_info_t]) -> Option<usize>
-    ensures { result ≡ position (R.changes order.now) glyphs.now }
+fn first_changing<M: MayChange>(order: &M, glyphs: &[hb_glyph_info_t]) -> Option<usize>
+    ensures { result ≡ position (M.changes order.now) glyphs.now }
 {
     glyphs.iter().position(|glyph| order.may_change(glyph))
 }
 
-/// Where the syllable starts that `place` stands in, if one starts at `start`.
+// Where the syllable starts that `place` stands in, if one starts at `start`.
 #[inline]
-pub fn syllable_start(glyphs: &[hb_glyph_info_t], start: usize, place: usize) -> usize
+fn syllable_start(glyphs: &[hb_glyph_info_t], start: usize, place: usize) -> usize
     requires in_order { start ≤ place }
     requires in_range { place < length glyphs.now }
     ensures from { start ≤ result }

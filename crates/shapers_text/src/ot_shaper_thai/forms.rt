@@ -8,6 +8,7 @@ ghost use Rattle.shapers_text.specs.ThaiWalk.{types_of, base_after, form_set, af
 
 use shapers_base::buffer::{GlyphWalk, hb_buffer_t, hb_glyph_info_t, unsafe_to_break_in};
 use shapers_base::font::hb_font_t;
+use std::mem;
 
 /// The type of a consonant.
 #[allow(clippy::enum_variant_names)]
@@ -323,5 +324,9 @@ pub fn do_pua_shaping<F: hb_font_t>(face: &F, buffer: &mut hb_buffer_t)
     ensures { let has = has_nominal (F.font face.now) in
         buffer.new ≡ record buffer.old { glyphs = pua_shaped has buffer.old.glyphs } }
 {
-    buffer.walk(&mut PuaShaping { face });
+    // (a font that panics leaves the empty buffer, and no text with some of the forms)
+    let empty = hb_buffer_t::new(buffer.alloc(), buffer.max_len());
+    let mut text = mem::replace(buffer, empty);
+    text.walk(&mut PuaShaping { face });
+    *buffer = text;
 }

@@ -220,7 +220,7 @@ impl GlyphWalk for Rewriting {
 
 /// Puts each SARA AM in two: NIKHAHIT, before the above-base marks that stand before it, and SARA
 /// AA.
-/// A SARA AM merges with its marks or, at level MonotoneGraphemes, with the glyph before it.
+/// A SARA AM merges with its marks or, at level `MonotoneGraphemes`, with the glyph before it.
 /// Refuses as a growth does. (OpenType's Thai and Lao notes; rustybuzz's comment on the rule.)
 pub fn rewrite_sara_am(buffer: &mut hb_buffer_t) -> Result<(), ShaperError>
     requires { buffer.old.positions ≡ [] }

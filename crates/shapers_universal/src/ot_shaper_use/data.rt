@@ -11,7 +11,8 @@ use shapers_arabic::ot_shaper_arabic::data_create_arabic;
 use shapers_base::buffer::{Script, hb_tag_t};
 use shapers_base::plan::{PlanData, arabic_shape_plan_t, hb_ot_shape_plan_t, use_shape_plan_t};
 
-// The scripts of this shaper whose letters join. (Unicode, ArabicShaping.txt.)
+// The scripts of this shaper whose letters join. (Unicode, ArabicShaping.txt.) A new one is also a
+// line in joining_scripts of specs/PlanData.antt and in the row `joining` of proofs/SyllableRows.antt.
 const JOINING_SCRIPTS: [Script; 13] = [
     Script(*b"Adlm"),
     Script(*b"Arab"),

@@ -27,7 +27,7 @@ pub fn setup_masks<T: Tables>(plan: &hb_ot_shape_plan_t, tables: &T, buffer: &mu
                 setup_masks_inner(arabic_plan, plan.script, buffer, tables);
             }
         }
-        _ => unreachable!(),
+        _ => unreachable!("the plan has no data of the universal shaper"),
     }
 }
 

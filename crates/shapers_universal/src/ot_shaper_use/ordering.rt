@@ -11,33 +11,11 @@ ghost use Rattle.shapers_universal.specs.Universal.{goes_front, goes_front_at, i
 ghost use Rattle.shapers_universal.specs.UniversalWalk.{MergesFirst, first_piece_len, fronts_from, has_universal_reph, last_place_first, piece_places, syllable_places_in_order, start_from, stays_at};
 
 use super::category;
-use shapers_base::buffer::{ClusterRun, GlyphWalk, ShaperError, hb_buffer_t, hb_glyph_info_t};
+use shapers_base::buffer::{ClusterRun, Placement, ShaperError, hb_buffer_t, hb_glyph_info_t};
 use shapers_syllabic::ot_shaper_syllabic::use_syllable::{
     BROKEN_CLUSTER, SAKOT_TERMINATED_CLUSTER, STANDARD_CLUSTER, VIRAMA_TERMINATED_CLUSTER,
 };
-use shapers_syllabic::ot_shaper_syllabic::{Reorder, turn_right};
-
-// The categories of what stands after the base.
-const POST_BASE: [u8; 18] = [
-    category::FAbv,
-    category::FBlw,
-    category::FPst,
-    category::FMAbv,
-    category::FMBlw,
-    category::FMPst,
-    category::MAbv,
-    category::MBlw,
-    category::MPst,
-    category::MPre,
-    category::VAbv,
-    category::VBlw,
-    category::VPst,
-    category::VPre,
-    category::VMAbv,
-    category::VMBlw,
-    category::VMPst,
-    category::VMPre,
-];
+use shapers_syllabic::ot_shaper_syllabic::{MayChange, Reorder, ReorderBySteps};
 
 /// The order of a syllable in the universal shaper: a reph moves behind what it passes, and in each
 /// piece up to a halant the vowels and modifiers before the base come to the front. (OpenType, the
@@ -45,20 +23,33 @@ const POST_BASE: [u8; 18] = [
 #[derive(Clone, Copy, Debug)]
 pub struct UniversalOrder;
 
-impl Reorder for UniversalOrder {
-    ghost use Rattle.shapers_universal.specs.Universal.{universal_order, universal_steps};
+impl MayChange for UniversalOrder {
     ghost use Rattle.shapers_universal.specs.UniversalWalk.{may_reorder};
 
-    ghost meaning = { λ _ _ gs. universal_order gs };
-
-    ghost steps = { λ _ _ gs. universal_steps gs };
-
-    ghost changes = { λ _ g. may_reorder g };
+    ghost changes = { λ _. may_reorder };
 
     #[inline]
     fn may_change(&self, glyph: &hb_glyph_info_t) -> bool {
         glyph.category == category::R || goes_front(glyph)
     }
+}
+
+impl Reorder for UniversalOrder {
+    ghost use Rattle.std.specs.Prelude.{false};
+    ghost use Rattle.shapers_universal.specs.Universal.{universal_order, universal_steps};
+    ghost use Rattle.shapers_universal.specs.Proved.Reordered.{universal_stays};
+    ghost use Rattle.shapers_universal.specs.Proved.UniversalView.{universal_laws};
+    ghost use Rattle.shapers_syllabic.specs.Reordering.{SyllableReordered};
+    ghost use Rattle.shapers_syllabic.proofs.LinkedSyllables.{ordered_by_steps};
+    ghost use Rattle.shapers_syllabic.proofs.ReorderingLaws.{numbers_kept};
+
+    ghost meaning = { λ _ _. universal_order };
+
+    ghost takes = { λ _ _. Unit {0} };
+
+    ghost may_refuse = { λ _. false };
+
+    ghost relation = { λ _. SyllableReordered universal_order universal_steps };
 
     #[inline]
     fn reorder(
@@ -76,6 +67,23 @@ impl Reorder for UniversalOrder {
         }
         Ok(())
     }
+
+    ghost permutes = { λ _ _. numbers_kept universal_order universal_steps universal_laws };
+
+    ghost orders = { λ _. ordered_by_steps universal_order universal_steps };
+
+    ghost stays = { λ _. universal_stays };
+}
+
+impl ReorderBySteps for UniversalOrder {
+    ghost use Rattle.shapers_universal.specs.Universal.{universal_steps};
+    ghost use Rattle.shapers_universal.specs.Proved.UniversalView.{universal_laws};
+
+    ghost steps = { λ _ _. universal_steps };
+
+    ghost laws = { λ _ _. universal_laws };
+
+    ghost leads = { λ _ _ _ _ _ done. done };
 }
 
 // Reorders the syllable from `s` to `e`, in which no reph stands in front.
@@ -91,7 +99,7 @@ fn reorder_fronts(buffer: &mut hb_buffer_t, s: usize, e: usize)
         if some_go_front(&buffer.glyphs()[behind..e]) {
             reorder_syllable(buffer, s, e);
         } else {
-            move_to_front(buffer, start, behind);
+            move_to_front(buffer, s, e, start, behind);
         }
     }
 }
@@ -103,7 +111,7 @@ fn first_front(glyphs: &[hb_glyph_info_t], s: usize, e: usize) -> Option<(usize,
     requires in_order { s ≤ e }
     requires in_range { e ≤ length glyphs.now }
     ensures first { MergesFirst s e glyphs.now result }
-    ensures inside { IfSome result (λ p. p.0 < p.1 × p.1 ≤ e) }
+    ensures inside { IfSome result (λ p. s ≤ p.0 × p.0 < p.1 × p.1 ≤ e) }
 {
     for i in s..e {
         if goes_front(&glyphs[i]) {
@@ -119,6 +127,7 @@ fn piece_start(glyphs: &[hb_glyph_info_t], s: usize, i: usize) -> usize
     requires in_order { s ≤ i }
     requires in_range { i ≤ length glyphs.now }
     ensures start { result ≡ start_from s s (stretch_of s i glyphs.now) }
+    ensures from { s ≤ result }
     ensures before { result ≤ i }
 {
     for end in (s + 1..i + 1).rev() {
@@ -129,40 +138,25 @@ fn piece_start(glyphs: &[hb_glyph_info_t], s: usize, i: usize) -> usize
     s
 }
 
-// Merges the glyphs from `start` to `end` and moves the last of them to their front.
+// Merges the glyphs from `start` to `end`, of the syllable from `s` to `e`, and moves the last of
+// them to their front.
 #[inline]
-fn move_to_front(buffer: &mut hb_buffer_t, start: usize, end: usize)
+fn move_to_front(buffer: &mut hb_buffer_t, s: usize, e: usize, start: usize, end: usize)
+    requires from { s ≤ start }
     requires some { start < end }
-    requires in_range { end ≤ length buffer.old.glyphs }
+    requires to { end ≤ e }
+    requires in_range { e ≤ length buffer.old.glyphs }
     ensures { let merged = merge buffer.old.level start end buffer.old.glyphs in
         let moved = with_stretch start end (λ _. pick (last_place_first start end) merged) merged in
         buffer.new ≡ record buffer.old { glyphs = moved; places = buffer.new.places } }
 {
     buffer.merge_clusters(start, end);
-    buffer.walk(&mut BringLast { start, end });
-}
-
-// Brings the last of the glyphs from `start` to `end` to their front.
-#[derive(Clone, Copy)]
-struct BringLast {
-    start: usize,
-    end: usize,
-}
-
-impl GlyphWalk for BringLast {
-    ghost use Rattle.std.specs.Prelude.{◌≡◌, ◌<◌, ◌≤◌, length};
-    ghost use Rattle.std.specs.List.{slice_rotate_right};
-    ghost use Rattle.shapers_buffer.specs.Clusters.{with_stretch};
-
-    ghost can_walk = { λ bring gs. (bring.start < bring.end) × (bring.end ≤ length gs) };
-
-    ghost walks = { λ bring _ gs hs.
-        hs ≡ with_stretch bring.start bring.end (λ xs. slice_rotate_right xs 1) gs };
-
-    #[inline]
-    fn walk(&mut self, glyphs: &mut [hb_glyph_info_t]) {
-        turn_right(&mut glyphs[self.start..self.end]);
-    }
+    let to_front = Placement::Forward {
+        to: start,
+        from: end - 1,
+        count: 1,
+    };
+    buffer.apply(s, e, to_front);
 }
 
 // Whether some glyph goes to the front of its piece.
@@ -196,7 +190,7 @@ fn reorder_syllable(buffer: &mut hb_buffer_t, s: usize, e: usize)
     list_order(buffer, s, behind, e);
     buffer.merge_clusters(s, behind);
     merge_fronts(buffer, s, behind, e);
-    buffer.apply(s, e);
+    buffer.apply(s, e, Placement::Listed);
 }
 
 // Merges each glyph from `behind` to `e` that goes to the front with all of its piece before it,
@@ -388,7 +382,27 @@ fn is_passed(glyph: &hb_glyph_info_t) -> bool
 fn is_post_base(category: u8) -> bool
     ensures { result ≡ list_any (λ c. c == category) post_base }
 {
-    POST_BASE.contains(&category)
+    matches!(
+        category,
+        category::FAbv
+            | category::FBlw
+            | category::FPst
+            | category::FMAbv
+            | category::FMBlw
+            | category::FMPst
+            | category::MAbv
+            | category::MBlw
+            | category::MPst
+            | category::MPre
+            | category::VAbv
+            | category::VBlw
+            | category::VPst
+            | category::VPre
+            | category::VMAbv
+            | category::VMBlw
+            | category::VMPst
+            | category::VMPre
+    )
 }
 
 // Whether a glyph is a halant, and no ligature.

@@ -21,12 +21,16 @@ pub fn record_rphf(plan: &hb_ot_shape_plan_t, buffer: &mut hb_buffer_t)
 {
     match &plan.plan_data {
         PlanData::Universal(universal_plan) => {
+            // no glyph has the mask of a feature that the font lacks
+            if universal_plan.rphf_mask == 0 {
+                return;
+            }
             let record = RecordRphf {
                 mask: universal_plan.rphf_mask,
             };
             buffer.walk(&mut EachFront { change: &record });
         }
-        _ => unreachable!(),
+        _ => unreachable!("the plan has no data of the universal shaper"),
     }
 }
 
@@ -41,7 +45,7 @@ pub fn record_pref(buffer: &mut hb_buffer_t)
     });
 }
 
-/// The same for the syllables of a slice, where `mask` is that of `rphf`.
+/// `record_rphf` for the syllables of a slice, where `mask` is that of `rphf`.
 #[inline]
 pub fn record_rphf_in(mask: u32, glyphs: &mut [hb_glyph_info_t])
     ensures { glyphs.new ≡ flat_map (rphf_recorded mask) (syllables glyphs.old) }

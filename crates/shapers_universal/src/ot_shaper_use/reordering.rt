@@ -5,7 +5,7 @@ ghost use Rattle.shapers_buffer.specs.Refusals.{RefusesLength};
 ghost use Rattle.shapers_clusters.specs.Laws.{ReorderedHold};
 ghost use Rattle.shapers_syllabic.specs.CircleLaws.{NoNewCluster};
 ghost use Rattle.shapers_syllabic.specs.Circles.{circled};
-ghost use Rattle.shapers_syllabic.specs.Reordering.{PauseReordered, carried, script_circles, text_steps};
+ghost use Rattle.shapers_syllabic.specs.Reordering.{PauseLinked, PauseReordered, SyllableReordered, carried, script_circles, text_steps};
 ghost use Rattle.shapers_syllabic.specs.ReorderingLaws.{PauseCutsAtBorders};
 ghost use Rattle.shapers_universal.specs.Universal.{universal_order, universal_steps};
 ghost use Rattle.shapers_universal.specs.UniversalText.{universal_circles};
@@ -36,6 +36,9 @@ pub fn reorder_use<F: hb_font_t>(face: &F, buffer: &mut hb_buffer_t) -> Result<b
         IfOk result (λ answer. answer ≡ is_some circles) }
     ensures ok { let circles = script_circles universal_circles (F.font face.now) buffer.old in
         OnOk result (PauseReordered circles universal_order universal_steps buffer.old buffer.new) }
+    ensures linked { let circles = script_circles universal_circles (F.font face.now) buffer.old in
+        OnOk result (PauseLinked circles
+        (SyllableReordered universal_order universal_steps) buffer.old buffer.new) }
     ensures laws { let circles = script_circles universal_circles (F.font face.now) buffer.old in
         let opened = circled circles buffer.old.glyphs in
         OnOk result (ReorderedHold carried buffer.old.level

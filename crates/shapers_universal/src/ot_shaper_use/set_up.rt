@@ -23,6 +23,10 @@ use shapers_syllabic::ot_shaper_syllabic::{set_up_by_bytes, set_up_syllables};
 /// three, and, where the plan has no plan of Arabic, the masks of forms by the places of syllables.
 /// Refuses with `SpansDontCover` where a span is empty or the lengths don't add up to the buffer's.
 /// It takes no memory, leaves the clusters as they are and only adds glyph flags.
+///
+/// # Errors
+///
+/// `SpansDontCover`; nothing has changed then.
 #[inline]
 pub fn setup_syllables_use(
     plan: &hb_ot_shape_plan_t,
@@ -74,7 +78,7 @@ fn set_masks(plan: &hb_ot_shape_plan_t, buffer: &mut hb_buffer_t)
                 set_forms(&plan.ot_map, buffer);
             }
         }
-        _ => unreachable!(),
+        _ => unreachable!("the plan has no data of the universal shaper"),
     }
 }
 

@@ -32,9 +32,9 @@ pub const PAUSES: [&str; 15] = [
     "arabic_fallback_shape",
 ];
 
-const COMMANDS: [&str; 12] = [
+const COMMANDS: [&str; 13] = [
     "font", "applies", "table", "pair", "mask", "stage", "set", "text", "context", "at", "span",
-    "run",
+    "spans", "run",
 ];
 
 const HOOKS: [&str; 7] = [
@@ -48,7 +48,7 @@ const HOOKS: [&str; 7] = [
 ];
 
 // The settings with what their values may be.
-const SETTINGS: [(&str, Field); 13] = [
+const SETTINGS: [(&str, Field); 15] = [
     ("shaper", Field::Word(&SHAPERS)),
     ("script", Field::Tag),
     ("chosen", Field::Tag),
@@ -62,6 +62,8 @@ const SETTINGS: [(&str, Field); 13] = [
     ("positions", Field::Word(&["yes", "no"])),
     ("stretch", Field::Word(&["code", "centred"])),
     ("breaks", Field::Word(&["code", "sound"])),
+    ("base", Field::Word(&["nonmedial", "all"])),
+    ("tables", Field::Word(&["lines", "unicode"])),
 ];
 
 // The fields of a glyph with what their values may be.
@@ -86,6 +88,8 @@ const PLACE: Field = Field::Decimal(usize::MAX as u64);
 pub enum Field {
     /// A character, by its hexadecimal number.
     Character,
+    /// A character by its number, or characters themselves, one of them outside of ASCII.
+    Text,
     /// A decimal number up to this one.
     Decimal(u64),
     /// A joining type.
@@ -115,6 +119,7 @@ impl Field {
     pub fn accepts(self, text: &str) -> bool {
         match self {
             Field::Character => character(text).is_some(),
+            Field::Text => !text.is_ascii() || character(text).is_some(),
             Field::Decimal(most) => decimal(text).is_some_and(|number| number <= most),
             Field::Joining => decimal(text).is_some_and(|number| matches!(number, 0..=5 | 7 | 8)),
             Field::Signed => {
@@ -135,7 +140,7 @@ impl Field {
     /// What was expected in place of a text that is no such field.
     pub fn expected(self, text: &str) -> String {
         match self {
-            Field::Character => expected_character(text),
+            Field::Character | Field::Text => expected_character(text),
             Field::Decimal(most) => format!("a decimal number from 0 to {most}"),
             Field::Joining => "a joining type: 0, 1, 2, 3, 4, 5, 7 or 8".into(),
             Field::Signed => {
@@ -177,16 +182,17 @@ pub fn fields_of(texts: &[&str]) -> Vec<Field> {
             fields.push(Field::Setting);
             fields.extend(value_of(&SETTINGS, texts.first()));
         }
-        "text" => fields.extend(texts.iter().map(|_| Field::Character)),
+        "text" => fields.extend(texts.iter().map(|_| Field::Text)),
         "context" => {
             fields.push(Field::Word(&["0", "1"]));
-            fields.extend(texts.iter().map(|_| Field::Character));
+            fields.extend(texts.iter().map(|_| Field::Text));
         }
         "at" => {
             fields.extend([PLACE, Field::Name]);
             fields.extend(value_of(&GLYPH_FIELDS, texts.get(1)));
         }
         "span" => fields.extend([Field::Decimal(0xFFFF_FFFF), Field::Decimal(15)]),
+        "spans" => fields.push(Field::Word(&["found"])),
         "run" => {
             fields.push(Field::Word(&HOOKS));
             fields.extend(arguments_of(texts.first()));
@@ -216,6 +222,15 @@ fn arguments_of(hook: Option<&&str>) -> Vec<Field> {
 /// The character of a hexadecimal number.
 pub fn character(text: &str) -> Option<char> {
     char::from_u32(hexadecimal(text)?)
+}
+
+/// The characters of a field of `text`: of ASCII alone it is the number of one, else it is they.
+pub fn characters(text: &str) -> Vec<char> {
+    if text.is_ascii() {
+        character(text).into_iter().collect()
+    } else {
+        text.chars().collect()
+    }
 }
 
 fn hexadecimal(text: &str) -> Option<u32> {
@@ -311,7 +326,7 @@ mod tests {
     }
 
     // Texts of all kinds, among them the ends of each range and what lies beside them.
-    const TEXTS: [&str; 60] = [
+    const TEXTS: [&str; 61] = [
         "0",
         "1",
         "2",
@@ -365,6 +380,7 @@ mod tests {
         "code",
         "sound",
         "centred",
+        "nonmedial",
         "slm",
         "slmx",
         "preprocess",
@@ -375,7 +391,7 @@ mod tests {
     ];
 
     // Lines that the program takes, of each form.
-    const LINES: [&str; 41] = [
+    const LINES: [&str; 42] = [
         "font 41 1 -5",
         "applies 1 2 3",
         "applies 1 2 3 4",
@@ -396,6 +412,7 @@ mod tests {
         "set positions no",
         "set stretch code",
         "set breaks code",
+        "set base all",
         "text 41",
         "text 41 42",
         "context 0 41",

@@ -1,9 +1,11 @@
 //! Buffers.
-use super::{Out, array, boxed, put};
+use super::{Out, array, boxed, put, text};
 use crate::buffer::Buffer;
+use crate::encodings::Unit;
 use crate::layout::{Glyph, Properties};
 use crate::status::{Argument, Error, Status};
-use core::ffi::c_uint;
+use core::ffi::{c_char, c_int, c_uint};
+use core::ops::Range;
 use core::ptr::null_mut;
 use sengadlit::buffer::GlyphPosition;
 
@@ -113,6 +115,96 @@ pub unsafe extern "C" fn sengadlit_buffer_set_context(
         _ => Err(Error::argument(Argument::Context)),
     };
     ended(buffer, taken)
+}
+
+// The item of a text of so many units that begins at a place and has a length, with -1 all that is left.
+fn item(text_length: usize, offset: c_uint, length: c_int) -> Result<Range<usize>, Error> {
+    let start = offset as usize;
+    let end = match usize::try_from(length) {
+        Ok(length) => start.checked_add(length),
+        Err(_) if length == -1 => Some(text_length),
+        Err(_) => None,
+    };
+    let item = end.map(|end| start..end);
+    let item = item.filter(|item| item.start <= item.end && item.end <= text_length);
+    item.ok_or_else(|| Error::argument(Argument::Range))
+}
+
+// Adds an item of a text.
+//
+// # Safety
+//
+// The text has the length beside it, or ends with a zero.
+unsafe fn add<U: Unit>(
+    buffer: Option<&mut Buffer>,
+    first: *const U,
+    text_length: c_int,
+    item_offset: c_uint,
+    item_length: c_int,
+) -> Status {
+    let Some(buffer) = buffer else {
+        return Status::Argument;
+    };
+    // SAFETY: a text of C's with its length, or one that ends with a zero.
+    let units = unsafe { text(first, text_length) };
+    let added = units.and_then(|units| {
+        let item = item(units.len(), item_offset, item_length)?;
+        buffer.add(units, item)
+    });
+    ended(buffer, added)
+}
+
+/// # Safety
+///
+/// The text has the length beside it, or ends with a zero.
+#[unsafe(no_mangle)]
+pub unsafe extern "C" fn sengadlit_buffer_add_utf8(
+    buffer: Option<&mut Buffer>,
+    text: *const c_char,
+    text_length: c_int,
+    item_offset: c_uint,
+    item_length: c_int,
+) -> Status {
+    // SAFETY: the caller's promise.
+    unsafe {
+        add(
+            buffer,
+            text.cast::<u8>(),
+            text_length,
+            item_offset,
+            item_length,
+        )
+    }
+}
+
+/// # Safety
+///
+/// The text has the length beside it, or ends with a zero.
+#[unsafe(no_mangle)]
+pub unsafe extern "C" fn sengadlit_buffer_add_utf16(
+    buffer: Option<&mut Buffer>,
+    text: *const u16,
+    text_length: c_int,
+    item_offset: c_uint,
+    item_length: c_int,
+) -> Status {
+    // SAFETY: the caller's promise.
+    unsafe { add(buffer, text, text_length, item_offset, item_length) }
+}
+
+/// # Safety
+///
+/// The text has the length beside it, or ends with a zero.
+#[unsafe(no_mangle)]
+pub unsafe extern "C" fn sengadlit_buffer_add_utf32(
+    buffer: Option<&mut Buffer>,
+    text: *const u32,
+    text_length: c_int,
+    item_offset: c_uint,
+    item_length: c_int,
+) -> Status {
+    // SAFETY: the caller's promise.
+    unsafe { add(buffer, text, text_length, item_offset, item_length) }
 }
 
 #[unsafe(no_mangle)]

@@ -7,6 +7,7 @@ use core::ffi::c_uint;
 use sengadlit::buffer::{GeneralCategory, Tag};
 use sengadlit::font::{Font as AnswersFont, GlyphId, Tables as AnswersTables};
 use sengadlit::plan::{Category, JoiningType, Position};
+use sengadlit::unicode::UnicodeTables;
 
 /// `sengadlit_font_funcs_t`.
 #[repr(C)]
@@ -133,19 +134,26 @@ impl<'a> Asked<'a, FontFuncs> {
     }
 }
 
-impl<'a> Asked<'a, TablesFuncs> {
-    /// The tables, if they have all that is used; where nothing is, they may be null.
+/// Tables: Unicode's, or functions with their user data.
+pub struct AskedTables<'a> {
+    // None where the tables are Unicode's.
+    asked: Option<Asked<'a, TablesFuncs>>,
+}
+
+impl<'a> AskedTables<'a> {
+    /// The tables, if they have all that is used; null ones are Unicode's.
     #[inline]
-    pub fn tables(tables: Option<&Tables<'a>>, asks: u8) -> Result<Self, Error> {
-        let funcs = tables
-            .and_then(|tables| tables.funcs)
-            .unwrap_or(&TablesFuncs::NONE);
+    pub fn of(tables: Option<&Tables<'a>>, asks: u8) -> Result<Self, Error> {
+        let Some(tables) = tables else {
+            return Ok(AskedTables { asked: None });
+        };
+        let funcs = tables.funcs.unwrap_or(&TablesFuncs::NONE);
         if asks & !funcs.answered() != 0 {
             return Err(Error::argument(Argument::Tables));
         }
-        Ok(Asked {
-            funcs,
-            user_data: tables.map_or(core::ptr::null_mut(), |tables| tables.user_data),
+        let user_data = tables.user_data;
+        Ok(AskedTables {
+            asked: Some(Asked { funcs, user_data }),
         })
     }
 }
@@ -153,7 +161,7 @@ impl<'a> Asked<'a, TablesFuncs> {
 /// How many glyphs a question about lookups is about at most.
 const QUESTIONED: usize = 3;
 
-// No call below uses a function that is missing (`Asked::font`, `Asked::tables`).
+// No call below uses a function that is missing (`Asked::font`, `AskedTables::of`).
 impl AnswersFont for Asked<'_, FontFuncs> {
     #[inline]
     fn get_nominal_glyph(&self, c: u32) -> Option<GlyphId> {
@@ -216,6 +224,54 @@ impl AnswersFont for Asked<'_, FontFuncs> {
         // SAFETY: a callback of C, with what it is given.
         let has = unsafe { has(self.user_data, numbers::tag_number(tag)) };
         has != 0
+    }
+}
+
+impl AnswersTables for AskedTables<'_> {
+    #[inline]
+    fn joining_type(&self, c: char) -> JoiningType {
+        match &self.asked {
+            None => UnicodeTables.joining_type(c),
+            Some(asked) => asked.joining_type(c),
+        }
+    }
+
+    #[inline]
+    fn general_category(&self, c: char) -> GeneralCategory {
+        match &self.asked {
+            None => UnicodeTables.general_category(c),
+            Some(asked) => asked.general_category(c),
+        }
+    }
+
+    #[inline]
+    fn indic_categories(&self, c: u32) -> (Category, Position) {
+        match &self.asked {
+            None => UnicodeTables.indic_categories(c),
+            Some(asked) => asked.indic_categories(c),
+        }
+    }
+
+    #[inline]
+    fn use_category(&self, c: u32) -> Category {
+        match &self.asked {
+            None => UnicodeTables.use_category(c),
+            Some(asked) => asked.use_category(c),
+        }
+    }
+
+    fn compose(&self, a: char, b: char) -> Option<char> {
+        match &self.asked {
+            None => UnicodeTables.compose(a, b),
+            Some(asked) => asked.compose(a, b),
+        }
+    }
+
+    fn decompose(&self, ab: char) -> Option<(char, char)> {
+        match &self.asked {
+            None => UnicodeTables.decompose(ab),
+            Some(asked) => asked.decompose(ab),
+        }
     }
 }
 

@@ -84,6 +84,13 @@ impl Text {
         unsafe { slice::from_raw_parts(self.first, self.inner.len()) }
     }
 
+    /// The glyphs, to be written.
+    #[inline]
+    pub fn glyphs_mut(&mut self) -> &mut [Glyph] {
+        // SAFETY: as for `glyphs`, and `self` is borrowed by nobody else.
+        unsafe { slice::from_raw_parts_mut(self.first, self.inner.len()) }
+    }
+
     /// Where the glyphs stand, for C to read and write until the next call that is given the text.
     #[inline]
     pub fn place(&mut self) -> *mut Glyph {
@@ -141,9 +148,13 @@ impl Text {
         self.inner.set_max_len(settings.max_len.max(self.len()));
     }
 
-    /// Sets the characters on both sides.
-    pub fn set_context(&mut self, before: &[char], after: &[char]) {
+    /// Sets the characters before the text, the nearest first.
+    pub fn set_pre_context(&mut self, before: &[char]) {
         self.inner.set_pre_context(before);
+    }
+
+    /// Sets those after it.
+    pub fn set_post_context(&mut self, after: &[char]) {
         self.inner.set_post_context(after);
     }
 

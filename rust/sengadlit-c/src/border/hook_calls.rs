@@ -2,11 +2,12 @@
 use super::callbacks::{Font, Tables};
 use super::{Out, array, guarded, put};
 use crate::buffer::Buffer;
-use crate::hooks;
 use crate::layout::Bool;
 use crate::plan::Plan;
 use crate::status::{Argument, Error, Status};
+use crate::{hooks, numbers};
 use core::ffi::c_uint;
+use core::ptr::null;
 use sengadlit::buffer::Span;
 
 // Runs a hook. Why it fails stays in the buffer, which a panic leaves empty.
@@ -150,6 +151,43 @@ pub unsafe extern "C" fn sengadlit_run_pause(
         let are_wanted = hooks::run_pause(plan, pause, font, spans, buffer)?;
         put(circles, Bool::from(are_wanted));
         Ok(Status::Done)
+    })
+}
+
+#[unsafe(no_mangle)]
+pub extern "C" fn sengadlit_spans(
+    shaper: u32,
+    buffer: Option<&mut Buffer>,
+    length: Out<'_, c_uint>,
+) -> *const Span {
+    let Some(buffer) = buffer else {
+        return null();
+    };
+    let found = guarded(|| {
+        let shaper = numbers::shaper(shaper).ok_or_else(|| Error::argument(Argument::Shaper))?;
+        let spans = buffer.find_spans(shaper)?;
+        Ok((spans.as_ptr(), spans.len()))
+    });
+    match found {
+        Ok((first, count)) => {
+            put(length, count as c_uint);
+            first
+        }
+        Err(error) => {
+            failed(buffer, error);
+            null()
+        }
+    }
+}
+
+#[unsafe(no_mangle)]
+pub extern "C" fn sengadlit_setup_syllables_found(
+    plan: Option<&Plan>,
+    pause: u32,
+    buffer: Option<&mut Buffer>,
+) -> Status {
+    on_buffer(plan, buffer, |plan, buffer| {
+        hooks::setup_syllables_found(plan, pause, buffer)
     })
 }
 

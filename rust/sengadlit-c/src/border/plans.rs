@@ -8,6 +8,7 @@ use crate::{features, numbers};
 use core::ffi::{c_uint, c_void};
 use core::ptr::null_mut;
 use core::sync::atomic::Ordering::{AcqRel, Relaxed};
+use sengadlit::Shaper;
 use sengadlit::plan::{Planner, Request};
 use std::process::abort;
 
@@ -30,6 +31,27 @@ pub extern "C" fn sengadlit_shaper_get_constants(
         fallback_position: Bool::from(shaper.fallback_position()),
     });
     Status::Done
+}
+
+#[unsafe(no_mangle)]
+pub extern "C" fn sengadlit_shaper_for_script(
+    script: u32,
+    direction: u32,
+    chosen_script: u32,
+    shaper: Out<'_, u32>,
+) -> Status {
+    let (Some(direction), Some(shaper)) = (numbers::direction(direction), shaper) else {
+        return Status::Argument;
+    };
+    let chosen = (chosen_script != 0).then(|| numbers::tag(chosen_script));
+    let script = numbers::script(script);
+    match script.and_then(|script| Shaper::for_script(script, direction, chosen)) {
+        Some(found) => {
+            shaper.write(numbers::shaper_number(found));
+            Status::Done
+        }
+        None => Status::Absent,
+    }
 }
 
 // ---- Features ----
@@ -148,6 +170,7 @@ pub struct PlanInput {
     pub centres_stretch: Bool,
     pub sound_breaks: Bool,
     pub global_mask: u32,
+    pub searches_medials: Bool,
     pub features: *const Feature,
     pub features_length: c_uint,
     pub stages: *const Stage,

@@ -158,6 +158,16 @@ fn a_wide_font_is_asked_for_lookups_until_one_would_apply() {
 }
 
 #[test]
+fn a_wide_font_is_asked_for_no_lookup_of_a_glyph_that_is_too_large() {
+    let font = one_glyph(1);
+    assert!(!font.would_apply_any(&[7], &[GlyphId(2), GlyphId(0xFFFF)], false));
+    assert_eq!(font.check(), Err(GlyphTooLarge(0xFFFF)));
+    assert!(font.would_apply_any(&[7], &[GlyphId(2), GlyphId(0xFFFE)], false));
+    assert_eq!(font.check(), Ok(()));
+    assert_eq!(font.into_inner().asked, [(7, [2, 0xFFFE].to_vec())]);
+}
+
+#[test]
 #[should_panic]
 fn a_question_for_more_than_eight_glyphs_panics() {
     one_glyph(1).would_apply(7, &[GlyphId(0); 9], false);
@@ -201,4 +211,82 @@ fn a_font_of_characters_has_no_lookups() {
 #[should_panic = "a font for characters alone has no result for a feature"]
 fn a_font_of_characters_has_no_features() {
     NominalOnly(|_| None).has_feature(Tag(*b"rclt"));
+}
+
+/// Glyphs whose provided methods return something else than their defaults: no glyph, but each character has
+/// one, and lookups apply where there are as many as glyphs.
+struct Overriding;
+
+impl Glyphs for Overriding {
+    fn get_nominal_glyph(&self, _c: u32) -> Option<GlyphId> {
+        None
+    }
+
+    fn glyph_h_advance(&self, _glyph: GlyphId) -> i32 {
+        0
+    }
+
+    fn would_apply(&self, _lookup: u16, _glyphs: &[GlyphId], _zero_context: bool) -> bool {
+        false
+    }
+
+    fn has_glyph(&self, _c: u32) -> bool {
+        true
+    }
+
+    fn would_apply_any(&self, lookups: &[u16], glyphs: &[GlyphId], zero_context: bool) -> bool {
+        lookups.len() == glyphs.len() && zero_context
+    }
+}
+
+impl WideGlyphs for Overriding {
+    fn get_nominal_glyph(&mut self, c: u32) -> Option<u32> {
+        Glyphs::get_nominal_glyph(self, c).map(u32::from)
+    }
+
+    fn glyph_h_advance(&mut self, _glyph: u32) -> i32 {
+        0
+    }
+
+    fn would_apply(&mut self, _lookup: u16, _glyphs: &[u32], _zero_context: bool) -> bool {
+        false
+    }
+
+    fn has_glyph(&mut self, c: u32) -> bool {
+        Glyphs::has_glyph(self, c)
+    }
+
+    fn would_apply_any(&mut self, lookups: &[u16], glyphs: &[u32], zero_context: bool) -> bool {
+        assert!(!lookups.is_empty(), "a question without lookups");
+        lookups.len() == glyphs.len() && zero_context
+    }
+}
+
+/// Whether a font's provided methods return what those of [`Overriding`] do.
+fn overrides<F: Font>(font: F) -> bool {
+    let three = [GlyphId(1), GlyphId(2), GlyphId(3)];
+    font.has_glyph(0x41)
+        && font.would_apply_any(&[4, 5, 6], &three, true)
+        && font.would_apply_any(&[4; 8], &[GlyphId(7); 8], true)
+        && !font.would_apply_any(&[4, 5], &three, true)
+        && !font.would_apply_any(&[4, 5, 6], &three, false)
+}
+
+#[test]
+fn adapters_and_references_ask_provided_methods() {
+    assert!(overrides(GlyphsOnly(Overriding)));
+    assert!(overrides(GlyphsOnly(&Overriding)));
+    let (glyphs, wide) = (GlyphsOnly(Overriding), Wide::new(Overriding));
+    let (glyphs, wide): (&dyn Font, &dyn Font) = (&glyphs, &wide);
+    assert!(overrides(glyphs) && overrides(wide));
+    assert!(overrides(Wide::new(Overriding)));
+    assert!(overrides(Wide::new(&mut Overriding)));
+}
+
+#[test]
+fn a_question_without_lookups_is_asked_of_no_wide_font() {
+    assert!(!Wide::new(Overriding).would_apply_any(&[], &[GlyphId(1)], true));
+    // other fonts may return true
+    let glyphs: &dyn Font = &GlyphsOnly(Overriding);
+    assert!(glyphs.would_apply_any(&[], &[], true));
 }

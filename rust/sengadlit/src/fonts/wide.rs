@@ -74,8 +74,9 @@ impl Error for GlyphTooLarge {}
 ///   an error afterwards. The hooks need the glyphs of the dotted circle, of Hangul's tones and of
 ///   the virama of an Indic script. While `check` returns no error, the results are those of a font
 ///   with numbers of 16 bits.
-/// - *Advances and lookups* take numbers of the buffer's, which are at most 65535 by the conditions of
-///   the hooks that call them.
+/// - *Lookups* are queried with numbers of the buffer's. The font isn't queried for one that is 65535
+///   or greater: no lookup applies to it, and `check` returns an error afterwards.
+/// - *Advances* are of numbers of at most 65535, by the condition of the hook that calls them.
 ///
 /// A call costs a test that no other is in progress, and one for a lookup a copy of its glyphs: for
 /// Indic's initial reordering, which makes most calls, 7 % more instructions. The hooks make one call
@@ -85,6 +86,10 @@ pub struct Wide<F> {
     font: RefCell<F>,
     too_large: Cell<Option<u32>>,
 }
+
+/// What the hooks pass for every glyph number from 65535 on: a font of 16 bits has at most 65,535
+/// glyphs, and so none of that number.
+const BEYOND: GlyphId = GlyphId(u16::MAX);
 
 /// The most glyphs that one question for a lookup may have.
 const QUESTION_LENGTH: usize = 8;
@@ -103,8 +108,12 @@ impl<F> Wide<F> {
         self.font.into_inner()
     }
 
-    /// Returns an error if a glyph needed since the last check had too large a number. What the
-    /// hook made is then what it makes of a font without that glyph.
+    /// Whether the font had what the hooks needed since the last check.
+    ///
+    /// # Errors
+    ///
+    /// A glyph had too large a number. What the hook made is what it makes of a font without that
+    /// glyph.
     pub fn check(&self) -> Result<(), GlyphTooLarge> {
         match self.too_large.take() {
             None => Ok(()),
@@ -146,6 +155,10 @@ impl<F: WideGlyphs> Font for Wide<F> {
     #[inline]
     fn would_apply_any(&self, lookups: &[u16], glyphs: &[GlyphId], zero_context: bool) -> bool {
         if lookups.is_empty() {
+            return false;
+        }
+        if glyphs.contains(&BEYOND) {
+            self.too_large.set(Some(BEYOND.0.into()));
             return false;
         }
         let mut numbers = [0; QUESTION_LENGTH];

@@ -43,6 +43,10 @@ impl<T: Copy, const CAP: usize> ArrayVec<T, CAP> {
     }
 
     /// Adds an element at the end, or gives it back where the list is full.
+    ///
+    /// # Errors
+    ///
+    /// The element, where the list is full.
     #[inline]
     pub fn try_push(&mut self, element: T) -> Result<(), CapacityError<T>> {
         if self.is_full() {
@@ -53,6 +57,10 @@ impl<T: Copy, const CAP: usize> ArrayVec<T, CAP> {
     }
 
     /// Adds all of these elements at the end, or none where they find no room.
+    ///
+    /// # Errors
+    ///
+    /// There is no room for all of them; nothing is added then.
     #[inline]
     pub fn try_extend_from_slice(&mut self, other: &[T]) -> Result<(), CapacityError> {
         let room = &mut self.items[self.len..];

@@ -22,6 +22,10 @@ impl<T> Vec<T> {
     }
 
     /// An empty list with room for `capacity` elements.
+    ///
+    /// # Errors
+    ///
+    /// Memory is refused.
     #[inline]
     pub fn with_capacity(alloc: Global, capacity: usize) -> Result<Self, AllocError> {
         let mut list = Vec::new(alloc);
@@ -66,18 +70,30 @@ impl<T> Vec<T> {
     }
 
     /// Makes room for `additional` more elements, and for some beyond these where it grows.
+    ///
+    /// # Errors
+    ///
+    /// Memory is refused; nothing has changed then.
     #[inline]
     pub fn reserve(&mut self, additional: usize) -> Result<(), AllocError> {
         self.0.try_reserve(additional).map_err(|_| AllocError)
     }
 
     /// Makes room for `additional` more elements and no others.
+    ///
+    /// # Errors
+    ///
+    /// Memory is refused; nothing has changed then.
     #[inline]
     pub fn reserve_exact(&mut self, additional: usize) -> Result<(), AllocError> {
         self.0.try_reserve_exact(additional).map_err(|_| AllocError)
     }
 
     /// Adds an element at the end, or gives it back.
+    ///
+    /// # Errors
+    ///
+    /// Memory is refused; the error holds the element.
     #[inline]
     pub fn push(&mut self, value: T) -> Result<(), AllocFailed<T>> {
         if self.reserve(1).is_err() {
@@ -92,6 +108,10 @@ impl<T> Vec<T> {
     /// # Panics
     ///
     /// If `index` is above the length.
+    ///
+    /// # Errors
+    ///
+    /// Memory is refused; the error holds the element.
     #[inline]
     pub fn insert(&mut self, index: usize, value: T) -> Result<(), AllocFailed<T>> {
         if self.reserve(1).is_err() {
@@ -130,6 +150,10 @@ impl<T> Vec<T> {
     }
 
     /// Moves the elements of `other` to the end.
+    ///
+    /// # Errors
+    ///
+    /// Memory is refused; nothing has changed then.
     #[inline]
     pub fn append(&mut self, other: &mut Self) -> Result<(), AllocError> {
         self.reserve(other.len())?;
@@ -140,6 +164,10 @@ impl<T> Vec<T> {
 
 impl<T: Copy> Vec<T> {
     /// A list of these elements.
+    ///
+    /// # Errors
+    ///
+    /// Memory is refused.
     #[inline]
     pub fn from_slice(alloc: Global, items: &[T]) -> Result<Self, AllocError> {
         let mut list = Vec::with_capacity(alloc, items.len())?;
@@ -148,6 +176,10 @@ impl<T: Copy> Vec<T> {
     }
 
     /// A list of `len` copies of an element.
+    ///
+    /// # Errors
+    ///
+    /// Memory is refused.
     #[inline]
     pub fn from_elem(alloc: Global, value: T, len: usize) -> Result<Self, AllocError> {
         let mut list = Vec::with_capacity(alloc, len)?;
@@ -156,6 +188,10 @@ impl<T: Copy> Vec<T> {
     }
 
     /// Adds these elements at the end.
+    ///
+    /// # Errors
+    ///
+    /// Memory is refused; nothing has changed then.
     #[inline]
     pub fn extend_from_slice(&mut self, items: &[T]) -> Result<(), AllocError> {
         self.reserve(items.len())?;
@@ -164,6 +200,10 @@ impl<T: Copy> Vec<T> {
     }
 
     /// Keeps the first `len` elements, or fills up to `len` with copies of `value`.
+    ///
+    /// # Errors
+    ///
+    /// Memory is refused; nothing has changed then.
     #[inline]
     pub fn resize(&mut self, len: usize, value: T) -> Result<(), AllocError> {
         self.reserve(len.saturating_sub(self.len()))?;

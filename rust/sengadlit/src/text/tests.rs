@@ -46,6 +46,7 @@ fn a_default_buffer_is_empty() {
     let buffer = Buffer::default();
     assert!(buffer.is_empty());
     assert_eq!(buffer.max_len(), Buffer::MAX_LEN_DEFAULT);
+    assert_eq!(Buffer::MAX_LEN_DEFAULT, (1 << 30) - 1);
     assert_eq!(buffer.direction(), Direction::LeftToRight);
     let level = BufferClusterLevel::MonotoneGraphemes;
     assert_eq!(buffer.cluster_level(), level);
@@ -73,6 +74,17 @@ fn a_text_that_is_too_long_adds_nothing() {
     assert_eq!(buffer.push_str("b"), Ok(()));
 }
 
+/// A text of 2³² characters U+0000, whose pages no memory need be found for, where they are zero.
+#[cfg(target_pointer_width = "64")]
+#[test]
+fn a_text_whose_places_need_more_than_32_bits_adds_nothing() {
+    let text = std::vec![0; 1 << 32];
+    let text = std::str::from_utf8(&text).unwrap();
+    let mut buffer = Buffer::new(Global, usize::MAX);
+    assert_eq!(buffer.push_str(text), Err(ShaperError::TooLong));
+    assert!(buffer.is_empty());
+}
+
 #[test]
 fn a_buffer_is_collected_from_glyphs() {
     let glyphs = [
@@ -81,6 +93,14 @@ fn a_buffer_is_collected_from_glyphs() {
     ];
     let buffer: Buffer = glyphs.into_iter().collect();
     assert_eq!(buffer.glyphs(), glyphs);
+}
+
+#[test]
+fn a_buffer_lends_its_glyphs() {
+    let buffer = Buffer::from("ab");
+    let numbers: List<u32> = buffer.iter().map(|glyph| glyph.glyph_id).collect();
+    assert_eq!(numbers, [0x61, 0x62]);
+    assert_eq!(buffer.as_ref(), buffer.glyphs());
 }
 
 #[test]

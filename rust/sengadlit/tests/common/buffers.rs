@@ -149,7 +149,8 @@ pub fn random_buffer(numbers: &mut Numbers, kind: Glyphs) -> Buffer {
 
 /// Settings, contexts and marks drawn by lot.
 fn set_anything(numbers: &mut Numbers, buffer: &mut Buffer) {
-    buffer.set_max_len(buffer.len() + numbers.below(200));
+    // (a limit below the length counts as the length)
+    buffer.set_max_len(numbers.below(buffer.len() + 200));
     buffer.set_cluster_level(numbers.one_of(&[
         BufferClusterLevel::MonotoneGraphemes,
         BufferClusterLevel::MonotoneCharacters,

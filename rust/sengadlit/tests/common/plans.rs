@@ -4,7 +4,7 @@ use super::numbers::Numbers;
 use sengadlit::alloc::Global;
 use sengadlit::buffer::{Script, Tag};
 use sengadlit::map::{FeatureMap, Map};
-use sengadlit::plan::{BreakFlags, Pause, Plan, StretchStart};
+use sengadlit::plan::{BaseSearch, BreakFlags, Pause, Plan, StretchStart};
 use sengadlit::shaper::Shaper;
 use std::ops::Range;
 
@@ -90,6 +90,7 @@ pub fn random_plan(numbers: &mut Numbers, shaper: Shaper) -> Plan {
     plan.has_gpos_mark = numbers.once_in(2);
     plan.stretch_start = numbers.one_of(&[StretchStart::AsCode, StretchStart::Centred]);
     plan.break_flags = numbers.one_of(&[BreakFlags::AsCode, BreakFlags::Sound]);
+    plan.base_search = numbers.one_of(&[BaseSearch::WithoutMedials, BaseSearch::AllConsonants]);
     shaper.with_data(plan)
 }
 

@@ -169,8 +169,20 @@ const FEATURE: FeatureMap = FeatureMap {
 /// The map, made from slices, and the plan, built from them.
 pub fn of_the_map(length: usize) -> Vec<Trial> {
     let from_slices = format!("Map::from_slices with {length} lookups");
+    let no_map = format!("Map::from_slices with a stage past {length} lookups");
     let build = format!("PlanBuilder::build_for with {length} lookups");
     vec![
+        // What can't be a map's takes no memory, so that none is refused.
+        Trial {
+            may_refuse: false,
+            ..trial(no_map, Subject::Nothing, move |_| {
+                let (stage, lookups) = (0..length + 1, &[7; 1024][..length]);
+                let stages = core::slice::from_ref(&stage);
+                let map = Map::from_slices(Global, &[FEATURE], stages, lookups, 0, None, true)?;
+                assert!(map.is_none());
+                Ok(())
+            })
+        },
         trial(from_slices, Subject::Nothing, move |_| {
             let (stages, lookups) = ([0..length, 0..1], &[7; 1024][..length]);
             let map = Map::from_slices(Global, &[FEATURE], &stages, lookups, 0, None, true)?;

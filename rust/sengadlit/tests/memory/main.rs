@@ -4,6 +4,8 @@
 mod allocator;
 #[path = "../common/mod.rs"]
 mod common;
+#[cfg(feature = "tables")]
+mod found;
 mod hooks;
 mod lists;
 mod trial;
@@ -11,6 +13,7 @@ mod trial;
 use allocator::Refusing;
 use common::buffers::{Contents, Glyphs, copy_of};
 use common::scenes::Scene;
+use sengadlit::alloc::{AllocError, Global, Vec as List};
 use sengadlit::buffer::ShaperError;
 use trial::{Trial, refused_requests};
 
@@ -45,6 +48,15 @@ fn hooks_and_pauses_that_take_no_memory() {
     }
 }
 
+#[cfg(feature = "tables")]
+#[test]
+fn calls_that_find_syllables_or_take_a_text() {
+    for length in LENGTHS {
+        run(&found::growing(length));
+        run(&found::standing(length));
+    }
+}
+
 #[test]
 fn calls_of_the_buffer() {
     for length in LENGTHS {
@@ -59,6 +71,17 @@ fn calls_of_planner_and_map() {
         run(&lists::of_the_planner(length));
         run(&lists::of_the_map(length));
     }
+}
+
+#[test]
+fn an_append_that_is_refused_changes_neither_list() {
+    let list = |items| List::from_slice(Global, items).unwrap();
+    let (mut words, mut more) = (list(&[1, 2]), list(&[3; 100]));
+    let (returned, requests) = allocator::refusing(1, || words.append(&mut more));
+    assert_eq!((returned, requests), (Err(AllocError), 1));
+    assert_eq!((&*words, &*more), (&[1, 2][..], &[3; 100][..]));
+    assert_eq!(words.append(&mut more), Ok(()));
+    assert_eq!((words.len(), more.len()), (102, 0));
 }
 
 /// Calls drawn by lot, each with each of its requests refused.
@@ -81,10 +104,16 @@ fn refuse_each(scene: &Scene) -> usize {
     let setting = scene.setting();
     let mut buffer = copy_of(&scene.buffer);
     let (wanted, requests) = allocator::refusing(0, || scene.call.make(&setting, &mut buffer));
+    assert_ne!(wanted, Err(ShaperError::Memory), "refused by nobody");
     for refused in 1..=requests {
         let mut again = copy_of(&scene.buffer);
         let (returned, _) = allocator::refusing(refused, || scene.call.make(&setting, &mut again));
-        assert_eq!(returned, Err(ShaperError::Memory));
+        // (a text that becomes too long is refused for that, whether or not memory is)
+        let expected = match wanted {
+            Err(ShaperError::TooLong) => ShaperError::TooLong,
+            _ => ShaperError::Memory,
+        };
+        assert_eq!(returned, Err(expected));
         assert_eq!(
             Contents::with_places(&again),
             Contents::with_places(&scene.buffer)

@@ -36,9 +36,17 @@ pub fn character(field: &str) -> Result<char, Fault> {
     char::from_u32(hexadecimal(field)?).ok_or(Fault::Unreadable)
 }
 
-/// Each of these fields as a character.
+/// The characters of these fields: of ASCII alone a field is the number of one, else it is they.
 pub fn characters(fields: &[&str]) -> Result<Vec<char>, Fault> {
-    fields.iter().map(|field| character(field)).collect()
+    let mut characters = Vec::new();
+    for field in fields {
+        if field.is_ascii() {
+            characters.push(character(field)?);
+        } else {
+            characters.extend(field.chars());
+        }
+    }
+    Ok(characters)
 }
 
 /// A glyph, by its number.

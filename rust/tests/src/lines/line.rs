@@ -8,12 +8,15 @@ use super::fields::{
 use super::session::Session;
 use super::tables::Entry;
 use sengadlit::buffer::{BufferClusterLevel, BufferFlags, Direction};
-use sengadlit::plan::{BreakFlags, JoiningType, StretchStart};
+use sengadlit::plan::{BaseSearch, BreakFlags, JoiningType, StretchStart};
 use sengadlit::{GlyphInfo, Script, Shaper, Span};
 
 impl Session {
     /// Reads a line and carries it out.
     pub fn carry_out(&mut self, line: &str) -> Result<(), Fault> {
+        if line.is_empty() || line.starts_with('#') {
+            return Ok(());
+        }
         let fields: Vec<&str> = line.split(' ').collect();
         let (word, fields) = fields.split_first().ok_or(Fault::Unreadable)?;
         match (*word, fields) {
@@ -29,6 +32,7 @@ impl Session {
             ("at", [place, "adv", value]) => self.at_advance(place, value),
             ("at", [place, field, value]) => self.at(place, field, value),
             ("span", [length, kind]) => self.span(length, kind),
+            ("spans", ["found"]) => self.find_spans(),
             ("run", call) => self.run(call),
             _ => Err(Fault::Unreadable),
         }
@@ -93,7 +97,9 @@ impl Session {
             "global" => self.settings.global_mask = hexadecimal(value)?,
             "stretch" => self.settings.stretch_start = stretch_start(value)?,
             "breaks" => self.settings.break_flags = break_flags(value)?,
+            "base" => self.settings.base_search = base_search(value)?,
             "positions" => self.set_positions(yes_or_no(value)?),
+            "tables" => self.tables.has_unicode = other_characters(value)?,
             _ => return Err(Fault::Unreadable),
         }
         Ok(())
@@ -109,6 +115,7 @@ impl Session {
     fn context(&mut self, side: &str, us: &[&str]) -> Result<(), Fault> {
         check(us.len() <= 5)?;
         let characters = characters(us)?;
+        check(characters.len() <= 5)?;
         match side {
             "0" => self.buffer.set_pre_context(&characters),
             "1" => self.buffer.set_post_context(&characters),
@@ -142,6 +149,26 @@ impl Session {
             kind: decimal_to(kind, 15)?,
         });
         Ok(())
+    }
+
+    fn find_spans(&mut self) -> Result<(), Fault> {
+        let shaper = self.settings.shaper.ok_or(Fault::Unreadable)?;
+        let has_syllables = matches!(
+            shaper,
+            Shaper::Indic | Shaper::Khmer | Shaper::Myanmar | Shaper::Universal
+        );
+        check(has_syllables)?;
+        self.spans = shaper.spans_of(&self.buffer)?.iter().copied().collect();
+        Ok(())
+    }
+}
+
+/// Whether the characters without a line are Unicode's.
+fn other_characters(name: &str) -> Result<bool, Fault> {
+    match name {
+        "lines" => Ok(false),
+        "unicode" => Ok(true),
+        _ => Err(Fault::Unreadable),
     }
 }
 
@@ -228,6 +255,14 @@ fn break_flags(name: &str) -> Result<BreakFlags, Fault> {
     match name {
         "code" => Ok(BreakFlags::AsCode),
         "sound" => Ok(BreakFlags::Sound),
+        _ => Err(Fault::Unreadable),
+    }
+}
+
+fn base_search(name: &str) -> Result<BaseSearch, Fault> {
+    match name {
+        "nonmedial" => Ok(BaseSearch::WithoutMedials),
+        "all" => Ok(BaseSearch::AllConsonants),
         _ => Err(Fault::Unreadable),
     }
 }

@@ -3,7 +3,7 @@
 use super::fault::Fault;
 use sengadlit::alloc::Global;
 use sengadlit::map::FeatureMap;
-use sengadlit::plan::{BreakFlags, StretchStart};
+use sengadlit::plan::{BaseSearch, BreakFlags, StretchStart};
 use sengadlit::{Map, Plan, Script, Shaper, Tag};
 use std::ops::Range;
 
@@ -25,6 +25,7 @@ pub struct Settings {
     pub gpos_mark: bool,
     pub stretch_start: StretchStart,
     pub break_flags: BreakFlags,
+    pub base_search: BaseSearch,
     pub global_mask: u32,
     features: Vec<Feature>,
 }
@@ -39,6 +40,7 @@ impl Default for Settings {
             gpos_mark: false,
             stretch_start: StretchStart::AsCode,
             break_flags: BreakFlags::AsCode,
+            base_search: BaseSearch::WithoutMedials,
             global_mask: 0,
             features: Vec::new(),
         }
@@ -62,6 +64,7 @@ impl Settings {
         plan.has_gpos_mark = self.gpos_mark;
         plan.stretch_start = self.stretch_start;
         plan.break_flags = self.break_flags;
+        plan.base_search = self.base_search;
         Ok(shaper.with_data(plan))
     }
 

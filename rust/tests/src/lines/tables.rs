@@ -1,8 +1,9 @@
-//! The tables that the lines `table` and `pair` describe.
+//! The tables that the lines `table` and `pair` describe, over Unicode's or none.
 
 use sengadlit::Tables;
 use sengadlit::buffer::GeneralCategory;
 use sengadlit::plan::{Category, JoiningType, Position};
+use sengadlit::unicode::UnicodeTables;
 use std::collections::HashMap;
 
 /// What a line `table` says of a character.
@@ -28,6 +29,8 @@ pub struct LineTables {
     entries: HashMap<u32, Entry>,
     compositions: HashMap<(char, char), char>,
     decompositions: HashMap<char, (char, char)>,
+    /// Whether other characters are Unicode's.
+    pub has_unicode: bool,
 }
 
 impl LineTables {
@@ -44,7 +47,26 @@ impl LineTables {
     }
 
     fn entry(&self, c: u32) -> Entry {
-        self.entries.get(&c).copied().unwrap_or(DEFAULT)
+        let line = self.entries.get(&c).copied();
+        line.unwrap_or_else(|| match char::from_u32(c) {
+            Some(character) if self.has_unicode => Entry {
+                joining_type: UnicodeTables.joining_type(character),
+                general_category: UnicodeTables.general_category(character),
+                indic_categories: UnicodeTables.indic_categories(c),
+                use_category: UnicodeTables.use_category(c),
+            },
+            None if self.has_unicode => Entry {
+                indic_categories: UnicodeTables.indic_categories(c),
+                use_category: UnicodeTables.use_category(c),
+                ..DEFAULT
+            },
+            _ => DEFAULT,
+        })
+    }
+
+    // What Unicode has, where that counts.
+    fn unicode(&self) -> Option<UnicodeTables> {
+        self.has_unicode.then_some(UnicodeTables)
     }
 }
 
@@ -66,10 +88,12 @@ impl Tables for LineTables {
     }
 
     fn compose(&self, a: char, b: char) -> Option<char> {
-        self.compositions.get(&(a, b)).copied()
+        let pair = self.compositions.get(&(a, b)).copied();
+        pair.or_else(|| self.unicode()?.compose(a, b))
     }
 
     fn decompose(&self, ab: char) -> Option<(char, char)> {
-        self.decompositions.get(&ab).copied()
+        let pair = self.decompositions.get(&ab).copied();
+        pair.or_else(|| self.unicode()?.decompose(ab))
     }
 }

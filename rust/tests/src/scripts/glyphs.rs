@@ -6,8 +6,9 @@ use super::Draft;
 pub fn write_text(draft: &mut Draft, characters: &[u32]) -> usize {
     let longest = draft.numbers.one_of(&[2, 8, 8, 8, 16, 16, 40]);
     let length = draft.numbers.below(longest + 1);
+    let by_numbers = draft.percent(80);
     let text: String = (0..length)
-        .map(|_| format!(" {:04X}", draft.numbers.one_of(characters)))
+        .map(|_| field_of(draft.numbers.one_of(characters), by_numbers))
         .collect();
     draft.add(format_args!("text{text}"));
     match draft.numbers.below(10) {
@@ -16,6 +17,14 @@ pub fn write_text(draft: &mut Draft, characters: &[u32]) -> usize {
         _ => {}
     }
     length
+}
+
+/// A field of a text: a character by its number, or itself where it may be.
+fn field_of(number: u32, by_number: bool) -> String {
+    match char::from_u32(number) {
+        Some(character) if !by_number && !character.is_ascii() => format!(" {character}"),
+        _ => format!(" {number:04X}"),
+    }
 }
 
 /// Clusters that rise by more than one, fall, or are in no order.

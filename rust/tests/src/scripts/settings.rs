@@ -30,6 +30,8 @@ pub fn set(draft: &mut Draft, writing: &Writing) {
     sometimes(draft, 40, format_args!("set stretch {stretch}"));
     let breaks = draft.numbers.one_of(&["code", "sound"]);
     sometimes(draft, 60, format_args!("set breaks {breaks}"));
+    let base = draft.numbers.one_of(&["nonmedial", "all"]);
+    sometimes(draft, 60, format_args!("set base {base}"));
     let max_len = 8 + draft.numbers.below(40);
     sometimes(draft, 15, format_args!("set maxlen {max_len}"));
     add_features(draft);
@@ -82,7 +84,7 @@ fn add_contexts(draft: &mut Draft) {
                 .map(|_| {
                     draft
                         .numbers
-                        .one_of(&[" 628", " 62F", " 64B", " 41", " 1820", " 915"])
+                        .one_of(&[" 628", " 62F", " \u{64B}", " 41", " 1820", " \u{915}"])
                 })
                 .collect();
             draft.add(format_args!("context {side}{characters}"));

@@ -17,8 +17,8 @@ returns-clause-joined g c =
     let text = text_of joining general old in
     let before : nearest text.before ≡ c.nearest_in-before.result = sym (c.nearest_in-before.ensures.nearest ∙ ap (λ cs. nearest (context_types joining general cs)) c.pre_context.ensures.chars) in
     let after : nearest text.after ≡ c.nearest_in-after.result = sym (c.nearest_in-after.ensures.nearest ∙ ap (λ cs. nearest (context_types joining general cs)) c.post_context.ensures.chars) in
-    let glyphs = c.walk.ensures.walked.0 text.before text.after before after ∙ ap (λ flags. joined_glyphs c.args.arabic_plan.now.break_flags c.args.arabic_plan.now.mask_array flags c.args.script text old.glyphs) c.flags-flags.ensures in
-    c.walk.ensures.others ∙ ap (λ gs. let b : Buffer = record old { glyphs = gs } in b) glyphs
+    let glyphs = c.walk_aside.ensures.walked.0 text.before text.after before after ∙ ap (λ flags. joined_glyphs c.args.arabic_plan.now.break_flags c.args.arabic_plan.now.mask_array flags c.args.script text old.glyphs) c.flags-flags.ensures in
+    c.walk_aside.ensures.others ∙ ap (λ gs. let b : Buffer = record old { glyphs = gs } in b) glyphs
 
 pub returns-clause-cut : goal.returns-clause-cut
 returns-clause-cut g c =

@@ -1,5 +1,5 @@
-//! Generated from crates/hbhook_boxes/src/escaped.rt by rust/erase; edit the source.
-//!
+// Generated from crates/hbhook_boxes/src/escaped.rt by rust/erase; edit the source.
+
 //! Text as HTML has it.
 
 use crate::support::prelude::*;

@@ -1,5 +1,5 @@
-//! Generated from crates/hbhook_boxes/src/fault.rt by rust/erase; edit the source.
-//!
+// Generated from crates/hbhook_boxes/src/fault.rt by rust/erase; edit the source.
+
 //! What ends a page before the last line.
 
 use crate::generated::hbhook_commands::{Fault, LineFault, report};

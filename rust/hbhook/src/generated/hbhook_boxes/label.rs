@@ -1,5 +1,5 @@
-//! Generated from crates/hbhook_boxes/src/label.rt by rust/erase; edit the source.
-//!
+// Generated from crates/hbhook_boxes/src/label.rt by rust/erase; edit the source.
+
 //! Small texts of a drawing.
 
 use crate::support::prelude::*;

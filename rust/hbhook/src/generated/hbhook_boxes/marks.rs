@@ -1,5 +1,5 @@
-//! Generated from crates/hbhook_boxes/src/marks.rt by rust/erase; edit the source.
-//!
+// Generated from crates/hbhook_boxes/src/marks.rt by rust/erase; edit the source.
+
 //! The characters that combine with the one before them.
 
 /// Whether a character is a mark: Unicode's general categories Mn, Mc and Me.

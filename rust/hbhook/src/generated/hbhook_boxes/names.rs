@@ -1,8 +1,9 @@
-//! Generated from crates/hbhook_boxes/src/names.rt by rust/erase; edit the source.
-//!
+// Generated from crates/hbhook_boxes/src/names.rt by rust/erase; edit the source.
+
 //! The names that shapers have for categories, auxiliary bytes and kinds of syllables.
 
 use crate::generated::hbhook_commands::ShaperName;
+use sengadlit::buffer::Tag;
 use sengadlit::ot_shaper_arabic::arabic_action_t;
 use sengadlit::ot_shaper_syllabic::{
     indic_syllable, khmer_syllable, myanmar_syllable, use_syllable,
@@ -10,8 +11,20 @@ use sengadlit::ot_shaper_syllabic::{
 use sengadlit::ot_shaper_use::category as use_category;
 use sengadlit::plan::{ot_category_t, ot_position_t};
 
+/// What a shaper calls something, and what that means.
+#[derive(Clone, Copy)]
+pub(crate) struct Name {
+    pub short: &'static str,
+    pub meaning: &'static str,
+}
+
+// A name with its meaning.
+fn named(short: &'static str, meaning: &'static str) -> Option<Name> {
+    Some(Name { short, meaning })
+}
+
 /// What a shaper calls a category.
-pub(crate) fn category_name(shaper: ShaperName, category: u8) -> Option<&'static str> {
+pub(crate) fn category_name(shaper: ShaperName, category: u8) -> Option<Name> {
     match shaper {
         ShaperName::Indic | ShaperName::Khmer | ShaperName::Myanmar => {
             indic_category_name(category)
@@ -22,13 +35,54 @@ pub(crate) fn category_name(shaper: ShaperName, category: u8) -> Option<&'static
 }
 
 /// What a shaper calls a value of the auxiliary byte.
-pub(crate) fn auxiliary_name(shaper: ShaperName, auxiliary: u8) -> Option<&'static str> {
+pub(crate) fn auxiliary_name(shaper: ShaperName, auxiliary: u8) -> Option<Name> {
     match shaper {
         ShaperName::Indic | ShaperName::Myanmar => position_name(auxiliary),
         ShaperName::Arabic | ShaperName::Universal => action_name(auxiliary),
         ShaperName::Hangul => jamo_name(auxiliary),
         _ => None,
     }
+}
+
+// What the features are that hooks turn on glyph by glyph, by OpenType's registry.
+const FEATURES: [(Tag, &str); 18] = [
+    (Tag(*b"abvf"), "the feature for forms above the base"),
+    (Tag(*b"blwf"), "the feature for forms below the base"),
+    (Tag(*b"cfar"), "the feature for what follows a Coeng Ro"),
+    (
+        Tag(*b"fin2"),
+        "the feature for a final Alaph behind a letter that doesn't join",
+    ),
+    (
+        Tag(*b"fin3"),
+        "the feature for a final Alaph behind Dalath or Rish",
+    ),
+    (Tag(*b"fina"), "the feature for final forms"),
+    (Tag(*b"half"), "the feature for half forms, before the base"),
+    (Tag(*b"init"), "the feature for initial forms"),
+    (Tag(*b"isol"), "the feature for isolated forms"),
+    (Tag(*b"ljmo"), "the feature for leading consonants"),
+    (Tag(*b"med2"), "the feature for a medial Alaph"),
+    (Tag(*b"medi"), "the feature for medial forms"),
+    (Tag(*b"pref"), "the feature for forms before the base"),
+    (Tag(*b"pstf"), "the feature for forms behind the base"),
+    (Tag(*b"rphf"), "the feature for reph"),
+    (
+        Tag(*b"stch"),
+        "the feature for the tiles of a stretched mark",
+    ),
+    (Tag(*b"tjmo"), "the feature for trailing consonants"),
+    (Tag(*b"vjmo"), "the feature for vowels"),
+];
+
+/// What a feature of the mask is.
+pub(crate) fn feature_meaning(tag: Tag) -> &'static str {
+    for (other, meaning) in FEATURES {
+        if other == tag {
+            return meaning;
+        }
+    }
+    "a feature that is on for the glyph"
 }
 
 /// What a shaper calls a kind of syllable; broken ones are called so by all.
@@ -46,157 +100,174 @@ pub(crate) fn kind_name(shaper: ShaperName, kind: u8) -> Option<&'static str> {
 pub(crate) const BROKEN: &str = "broken";
 
 // The categories of Indic, Khmer and Myanmar.
-fn indic_category_name(category: u8) -> Option<&'static str> {
+fn indic_category_name(category: u8) -> Option<Name> {
     match category {
-        ot_category_t::OT_X => Some("X"),
-        ot_category_t::OT_C => Some("C"),
-        ot_category_t::OT_V => Some("V"),
-        ot_category_t::OT_N => Some("N"),
-        ot_category_t::OT_H => Some("H"),
-        ot_category_t::OT_ZWNJ => Some("ZWNJ"),
-        ot_category_t::OT_ZWJ => Some("ZWJ"),
-        ot_category_t::OT_M => Some("M"),
-        ot_category_t::OT_SM => Some("SM"),
-        ot_category_t::OT_A => Some("A"),
-        ot_category_t::OT_PLACEHOLDER => Some("PLACEHOLDER"),
-        ot_category_t::OT_DOTTEDCIRCLE => Some("DOTTEDCIRCLE"),
-        ot_category_t::OT_RS => Some("RS"),
-        ot_category_t::OT_MPst => Some("MPst"),
-        ot_category_t::OT_Repha => Some("Repha"),
-        ot_category_t::OT_Ra => Some("Ra"),
-        ot_category_t::OT_CM => Some("CM"),
-        ot_category_t::OT_Symbol => Some("Symbol"),
-        ot_category_t::OT_CS => Some("CS"),
+        ot_category_t::OT_X => named("X", "another character"),
+        ot_category_t::OT_C => named("C", "a consonant"),
+        ot_category_t::OT_V => named("V", "an independent vowel"),
+        ot_category_t::OT_N => named("N", "a nukta, or a sign that binds as one"),
+        ot_category_t::OT_H => named("H", "a halant (virama, Coeng)"),
+        ot_category_t::OT_ZWNJ => named("ZWNJ", "the zero width non-joiner, 200C"),
+        ot_category_t::OT_ZWJ => named("ZWJ", "the zero width joiner, 200D"),
+        ot_category_t::OT_M => named("M", "a dependent vowel, or matra"),
+        ot_category_t::OT_SM => named("SM", "a syllable modifier"),
+        ot_category_t::OT_A => named("A", "a Vedic accent; in Myanmar the anusvara"),
+        ot_category_t::OT_PLACEHOLDER => {
+            named("PLACEHOLDER", "a digit or the like, in place of a base")
+        }
+        ot_category_t::OT_DOTTEDCIRCLE => named("DOTTEDCIRCLE", "the dotted circle, 25CC"),
+        ot_category_t::OT_RS => named("RS", "a register shifter"),
+        ot_category_t::OT_MPst => named("MPst", "a matra behind post-base consonants"),
+        ot_category_t::OT_Repha => named("Repha", "a reph with a character of its own"),
+        ot_category_t::OT_Ra => named(
+            "Ra",
+            "the letter Ra, which may become a reph, or Khmer's Ro",
+        ),
+        ot_category_t::OT_CM => named("CM", "a medial consonant"),
+        ot_category_t::OT_Symbol => named("Symbol", "a symbol, or avagraha"),
+        ot_category_t::OT_CS => named("CS", "a consonant with a stacker before it"),
         _ => southeast_category_name(category),
     }
 }
 
 // The categories that Khmer and Myanmar have besides.
-fn southeast_category_name(category: u8) -> Option<&'static str> {
+fn southeast_category_name(category: u8) -> Option<Name> {
     match category {
-        ot_category_t::OT_VAbv => Some("VAbv"),
-        ot_category_t::OT_VBlw => Some("VBlw"),
-        ot_category_t::OT_VPre => Some("VPre"),
-        ot_category_t::OT_VPst => Some("VPst"),
-        ot_category_t::OT_Robatic => Some("Robatic"),
-        ot_category_t::OT_Xgroup => Some("Xgroup"),
-        ot_category_t::OT_Ygroup => Some("Ygroup"),
-        ot_category_t::OT_As => Some("As"),
-        ot_category_t::OT_MH => Some("MH"),
-        ot_category_t::OT_MR => Some("MR"),
-        ot_category_t::OT_MW => Some("MW"),
-        ot_category_t::OT_MY => Some("MY"),
-        ot_category_t::OT_PT => Some("PT"),
-        ot_category_t::OT_VS => Some("VS"),
-        ot_category_t::OT_ML => Some("ML"),
+        ot_category_t::OT_VAbv => named("VAbv", "a vowel above the base"),
+        ot_category_t::OT_VBlw => named("VBlw", "a vowel below the base"),
+        ot_category_t::OT_VPre => named("VPre", "a vowel before the base"),
+        ot_category_t::OT_VPst => named("VPst", "a vowel behind the base"),
+        ot_category_t::OT_Robatic => named("Robatic", "the robat and its like"),
+        ot_category_t::OT_Xgroup => named("Xgroup", "a sign that follows a base or a vowel"),
+        ot_category_t::OT_Ygroup => named("Ygroup", "a sign that closes a syllable"),
+        ot_category_t::OT_As => named("As", "the asat, 103A"),
+        ot_category_t::OT_MH => named("MH", "the medial Ha"),
+        ot_category_t::OT_MR => named("MR", "the medial Ra, which goes before the base"),
+        ot_category_t::OT_MW => named("MW", "the medial Wa"),
+        ot_category_t::OT_MY => named("MY", "the medial Ya"),
+        ot_category_t::OT_PT => named("PT", "a tone of Pwo and other languages"),
+        ot_category_t::OT_VS => named("VS", "a variation selector"),
+        ot_category_t::OT_ML => named("ML", "the medial La of Mon"),
         _ => None,
     }
 }
 
 // The categories of the universal shaper.
-fn use_category_name(category: u8) -> Option<&'static str> {
+fn use_category_name(category: u8) -> Option<Name> {
     match category {
-        use_category::O => Some("O"),
-        use_category::B => Some("B"),
-        use_category::N => Some("N"),
-        use_category::GB => Some("GB"),
-        use_category::CGJ => Some("CGJ"),
-        use_category::SUB => Some("SUB"),
-        use_category::H => Some("H"),
-        use_category::HN => Some("HN"),
-        use_category::ZWNJ => Some("ZWNJ"),
-        use_category::WJ => Some("WJ"),
-        use_category::RSV => Some("Rsv"),
-        use_category::R => Some("R"),
-        use_category::S => Some("S"),
-        use_category::CS => Some("CS"),
-        use_category::IS => Some("IS"),
-        use_category::Sk => Some("Sk"),
-        use_category::G => Some("G"),
-        use_category::J => Some("J"),
-        use_category::SB => Some("SB"),
-        use_category::SE => Some("SE"),
-        use_category::HVM => Some("HVM"),
-        use_category::HM => Some("HM"),
-        use_category::HR => Some("HR"),
+        use_category::O => named("O", "another character"),
+        use_category::B => named("B", "a base"),
+        use_category::N => named("N", "a number that is a base"),
+        use_category::GB => named("GB", "a generic base, as the dotted circle"),
+        use_category::CGJ => named("CGJ", "the combining grapheme joiner"),
+        use_category::SUB => named("SUB", "a consonant written below the base"),
+        use_category::H => named("H", "a halant, or virama"),
+        use_category::HN => named("HN", "a halant of numbers"),
+        use_category::ZWNJ => named("ZWNJ", "the zero width non-joiner"),
+        use_category::WJ => named("WJ", "the word joiner"),
+        use_category::RSV => named("Rsv", "a reserved character"),
+        use_category::R => named("R", "a repha, which goes behind the base"),
+        use_category::S => named("S", "a symbol"),
+        use_category::CS => named("CS", "a consonant with a stacker before it"),
+        use_category::IS => named("IS", "a stacker that isn't seen"),
+        use_category::Sk => named("Sk", "the Sakot of Tai Tham"),
+        use_category::G => named("G", "a hieroglyph"),
+        use_category::J => named("J", "a joiner of hieroglyphs"),
+        use_category::SB => named("SB", "a sign before the base"),
+        use_category::SE => named("SE", "a sign behind the base"),
+        use_category::HVM => named("HVM", "a halant, or a vowel modifier"),
+        use_category::HM => named("HM", "a mirror of hieroglyphs"),
+        use_category::HR => named("HR", "a rotation of hieroglyphs"),
         _ => use_mark_name(category),
     }
 }
 
 // The categories of the universal shaper that tell where a mark stands.
-fn use_mark_name(category: u8) -> Option<&'static str> {
+fn use_mark_name(category: u8) -> Option<Name> {
     match category {
-        use_category::VPre => Some("VPre"),
-        use_category::VMPre => Some("VMPre"),
-        use_category::FAbv => Some("FAbv"),
-        use_category::FBlw => Some("FBlw"),
-        use_category::FPst => Some("FPst"),
-        use_category::MAbv => Some("MAbv"),
-        use_category::MBlw => Some("MBlw"),
-        use_category::MPst => Some("MPst"),
-        use_category::MPre => Some("MPre"),
-        use_category::CMAbv => Some("CMAbv"),
-        use_category::CMBlw => Some("CMBlw"),
-        use_category::VAbv => Some("VAbv"),
-        use_category::VBlw => Some("VBlw"),
-        use_category::VPst => Some("VPst"),
-        use_category::VMAbv => Some("VMAbv"),
-        use_category::VMBlw => Some("VMBlw"),
-        use_category::VMPst => Some("VMPst"),
-        use_category::SMAbv => Some("SMAbv"),
-        use_category::SMBlw => Some("SMBlw"),
-        use_category::FMAbv => Some("FMAbv"),
-        use_category::FMBlw => Some("FMBlw"),
-        use_category::FMPst => Some("FMPst"),
+        use_category::VPre => named("VPre", "a vowel before the base, which goes to the front"),
+        use_category::VMPre => named(
+            "VMPre",
+            "a vowel modifier before the base, which goes to the front",
+        ),
+        use_category::FAbv => named("FAbv", "a final consonant, above"),
+        use_category::FBlw => named("FBlw", "a final consonant, below"),
+        use_category::FPst => named("FPst", "a final consonant, behind"),
+        use_category::MAbv => named("MAbv", "a medial consonant, above"),
+        use_category::MBlw => named("MBlw", "a medial consonant, below"),
+        use_category::MPst => named("MPst", "a medial consonant, behind"),
+        use_category::MPre => named("MPre", "a medial consonant before the base"),
+        use_category::CMAbv => named("CMAbv", "a consonant modifier, above"),
+        use_category::CMBlw => named("CMBlw", "a consonant modifier, below"),
+        use_category::VAbv => named("VAbv", "a vowel above the base"),
+        use_category::VBlw => named("VBlw", "a vowel below the base"),
+        use_category::VPst => named("VPst", "a vowel behind the base"),
+        use_category::VMAbv => named("VMAbv", "a vowel modifier, above"),
+        use_category::VMBlw => named("VMBlw", "a vowel modifier, below"),
+        use_category::VMPst => named("VMPst", "a vowel modifier, behind"),
+        use_category::SMAbv => named("SMAbv", "a mark of symbols, above"),
+        use_category::SMBlw => named("SMBlw", "a mark of symbols, below"),
+        use_category::FMAbv => named("FMAbv", "a modifier of finals, above"),
+        use_category::FMBlw => named("FMBlw", "a modifier of finals, below"),
+        use_category::FMPst => named("FMPst", "a modifier of finals, behind"),
         _ => None,
     }
 }
 
 // The positions of Indic and Myanmar.
-fn position_name(position: u8) -> Option<&'static str> {
+fn position_name(position: u8) -> Option<Name> {
     match position {
-        ot_position_t::POS_START => Some("Start"),
-        ot_position_t::POS_RA_TO_BECOME_REPH => Some("Reph"),
-        ot_position_t::POS_PRE_M => Some("PreM"),
-        ot_position_t::POS_PRE_C => Some("PreC"),
-        ot_position_t::POS_BASE_C => Some("BaseC"),
-        ot_position_t::POS_AFTER_MAIN => Some("AfterMain"),
-        ot_position_t::POS_ABOVE_C => Some("AboveC"),
-        ot_position_t::POS_BEFORE_SUB => Some("BeforeSub"),
-        ot_position_t::POS_BELOW_C => Some("BelowC"),
-        ot_position_t::POS_AFTER_SUB => Some("AfterSub"),
-        ot_position_t::POS_BEFORE_POST => Some("BeforePost"),
-        ot_position_t::POS_POST_C => Some("PostC"),
-        ot_position_t::POS_AFTER_POST => Some("AfterPost"),
-        ot_position_t::POS_SMVD => Some("SMVD"),
-        ot_position_t::POS_END => Some("End"),
+        ot_position_t::POS_START => named("Start", "the front of the syllable"),
+        ot_position_t::POS_RA_TO_BECOME_REPH => named("Reph", "a Ra that becomes the reph"),
+        ot_position_t::POS_PRE_M => named("PreM", "a matra before the base"),
+        ot_position_t::POS_PRE_C => named("PreC", "a consonant before the base, in half form"),
+        ot_position_t::POS_BASE_C => named("BaseC", "the base consonant"),
+        ot_position_t::POS_AFTER_MAIN => named("AfterMain", "behind the base"),
+        ot_position_t::POS_ABOVE_C => named("AboveC", "a consonant or matra above the base"),
+        ot_position_t::POS_BEFORE_SUB => named("BeforeSub", "before the consonants below the base"),
+        ot_position_t::POS_BELOW_C => named("BelowC", "a consonant or matra below the base"),
+        ot_position_t::POS_AFTER_SUB => named("AfterSub", "behind the consonants below the base"),
+        ot_position_t::POS_BEFORE_POST => {
+            named("BeforePost", "before the consonants behind the base")
+        }
+        ot_position_t::POS_POST_C => named("PostC", "a consonant or matra behind the base"),
+        ot_position_t::POS_AFTER_POST => {
+            named("AfterPost", "behind the consonants behind the base")
+        }
+        ot_position_t::POS_SMVD => named("SMVD", "a syllable modifier or Vedic sign"),
+        ot_position_t::POS_END => named("End", "the end of the syllable"),
         _ => None,
     }
 }
 
 // The forms of Arabic letters, and the tiles of stretched marks.
-fn action_name(action: u8) -> Option<&'static str> {
+fn action_name(action: u8) -> Option<Name> {
     match action {
-        arabic_action_t::ISOL => Some("isol"),
-        arabic_action_t::FINA => Some("fina"),
-        arabic_action_t::FIN2 => Some("fin2"),
-        arabic_action_t::FIN3 => Some("fin3"),
-        arabic_action_t::MEDI => Some("medi"),
-        arabic_action_t::MED2 => Some("med2"),
-        arabic_action_t::INIT => Some("init"),
-        arabic_action_t::NONE => Some("no form"),
-        arabic_action_t::STRETCHING_FIXED => Some("fixed tile"),
-        arabic_action_t::STRETCHING_REPEATING => Some("repeating"),
+        arabic_action_t::ISOL => named("isol", "the isolated form"),
+        arabic_action_t::FINA => named("fina", "the final form"),
+        arabic_action_t::FIN2 => named(
+            "fin2",
+            "the final form of Alaph behind a letter that doesn't join",
+        ),
+        arabic_action_t::FIN3 => named("fin3", "the final form of Alaph behind Dalath or Rish"),
+        arabic_action_t::MEDI => named("medi", "the medial form"),
+        arabic_action_t::MED2 => named("med2", "the medial form of Alaph"),
+        arabic_action_t::INIT => named("init", "the initial form"),
+        arabic_action_t::NONE => named("no form", "a character that has no forms"),
+        arabic_action_t::STRETCHING_FIXED => named("fixed tile", "a tile of a stretched mark"),
+        arabic_action_t::STRETCHING_REPEATING => {
+            named("repeating", "a tile of a stretched mark that is repeated")
+        }
         _ => None,
     }
 }
 
 // The features of jamo.
-fn jamo_name(feature: u8) -> Option<&'static str> {
+fn jamo_name(feature: u8) -> Option<Name> {
     match feature {
-        1 => Some("ljmo"),
-        2 => Some("vjmo"),
-        3 => Some("tjmo"),
+        1 => named("ljmo", "a leading consonant"),
+        2 => named("vjmo", "a vowel"),
+        3 => named("tjmo", "a trailing consonant"),
         _ => None,
     }
 }

@@ -1,5 +1,5 @@
-//! Generated from crates/hbhook_boxes/src/numbers.rt by rust/erase; edit the source.
-//!
+// Generated from crates/hbhook_boxes/src/numbers.rt by rust/erase; edit the source.
+
 //! Which numbers are those of glyphs, and which those of characters.
 
 use crate::support::prelude::*;

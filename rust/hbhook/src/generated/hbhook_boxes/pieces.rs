@@ -1,5 +1,5 @@
-//! Generated from crates/hbhook_boxes/src/pieces.rt by rust/erase; edit the source.
-//!
+// Generated from crates/hbhook_boxes/src/pieces.rt by rust/erase; edit the source.
+
 //! Where a row may wrap: between pieces that no cluster, no syllable and no line crosses.
 
 use crate::support::prelude::*;

@@ -1,11 +1,11 @@
-//! Generated from crates/hbhook_boxes/src/row.rt by rust/erase; edit the source.
-//!
+// Generated from crates/hbhook_boxes/src/row.rt by rust/erase; edit the source.
+
 //! A row of boxes: the glyphs of a buffer, and what is shown of them.
 
 use crate::support::prelude::*;
 
 use crate::generated::hbhook_boxes::label::Style;
-use crate::generated::hbhook_boxes::names::{auxiliary_name, category_name};
+use crate::generated::hbhook_boxes::names::{Name, auxiliary_name, category_name};
 use crate::generated::hbhook_boxes::numbers::Numbers;
 use crate::generated::hbhook_commands::{Feature, ShaperName};
 use crate::support::alloc::{AllocError, Global};
@@ -81,15 +81,11 @@ impl Row<'_> {
     pub(crate) fn details(&self, glyph: &GlyphInfo) -> Result<Vec<Detail>, AllocError> {
         let mut details = Vec::new(self.alloc);
         if glyph.category != 0 {
-            let name = self
-                .shaper
-                .and_then(|shaper| category_name(shaper, glyph.category));
+            let name = self.category_name(glyph);
             details.push(self.named(Style::Category, name, "category", glyph.category)?)?;
         }
         if glyph.auxiliary != 0 {
-            let name = self
-                .shaper
-                .and_then(|shaper| auxiliary_name(shaper, glyph.auxiliary));
+            let name = self.auxiliary_name(glyph);
             details.push(self.named(Style::Auxiliary, name, "aux", glyph.auxiliary)?)?;
         }
         if glyph.modified_combining_class != 0 {
@@ -100,17 +96,29 @@ impl Row<'_> {
         Ok(details)
     }
 
+    /// What the shaper calls a glyph's category.
+    pub(crate) fn category_name(&self, glyph: &GlyphInfo) -> Option<Name> {
+        self.shaper
+            .and_then(|shaper| category_name(shaper, glyph.category))
+    }
+
+    /// What the shaper calls a glyph's auxiliary byte.
+    pub(crate) fn auxiliary_name(&self, glyph: &GlyphInfo) -> Option<Name> {
+        self.shaper
+            .and_then(|shaper| auxiliary_name(shaper, glyph.auxiliary))
+    }
+
     // A name, or else what the number is of, with the number.
     fn named(
         &self,
         style: Style,
-        name: Option<&str>,
+        name: Option<Name>,
         of: &str,
         number: u8,
     ) -> Result<Detail, AllocError> {
         let mut text = String::new(self.alloc);
         match name {
-            Some(name) => text.push_str(name)?,
+            Some(name) => text.push_str(name.short)?,
             None => write!(text, "{of} {number}")?,
         }
         Ok(Detail { style, text })

@@ -1,5 +1,5 @@
-//! Generated from crates/hbhook_boxes/src/scale.rt by rust/erase; edit the source.
-//!
+// Generated from crates/hbhook_boxes/src/scale.rt by rust/erase; edit the source.
+
 //! Positions, drawn to scale: glyphs as wide as their advances, where their offsets put them.
 
 use crate::support::prelude::*;

@@ -1,9 +1,12 @@
-//! Generated from crates/hbhook_boxes/src/shown.rt by rust/erase; edit the source.
-//!
+// Generated from crates/hbhook_boxes/src/shown.rt by rust/erase; edit the source.
+
 //! How a glyph is shown: as a character, or by its number.
+
+use crate::support::prelude::*;
 
 use crate::generated::hbhook_boxes::marks::is_mark;
 use crate::generated::hbhook_boxes::numbers::Numbers;
+use crate::support::alloc::{AllocError, Global};
 use sengadlit::buffer::GlyphInfo;
 
 /// What stands in a glyph's box.
@@ -34,6 +37,18 @@ impl Shown {
             Some(character) => Shown::of_character(character),
             None => Shown::Glyph,
         }
+    }
+
+    /// The text that shows a glyph of this number: the character, one that combines on a dotted
+    /// circle, or the number.
+    pub(crate) fn text(self, alloc: Global, number: u32) -> Result<String, AllocError> {
+        let mut text = String::new(alloc);
+        match self {
+            Shown::Character(character) => text.push(character)?,
+            Shown::Mark(character) => write!(text, "\u{25CC}{character}")?,
+            Shown::Unseen | Shown::Private | Shown::Glyph => write!(text, "{number:04X}")?,
+        }
+        Ok(text)
     }
 
     // What is shown of a character.

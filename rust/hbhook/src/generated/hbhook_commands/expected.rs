@@ -1,5 +1,5 @@
-//! Generated from crates/hbhook_commands/src/expected.rt by rust/erase; edit the source.
-//!
+// Generated from crates/hbhook_commands/src/expected.rt by rust/erase; edit the source.
+
 //! What was expected of a rejected line.
 
 /// A number that one byte holds.
@@ -43,7 +43,7 @@ impl Expected {
             Expected::NoByteOrderMark
         } else if line.ends_with('\r') {
             Expected::LineFeed
-        } else if line.is_empty() || line.starts_with('#') || line.starts_with("//") {
+        } else if line.starts_with("//") {
             Expected::Command
         } else if line.contains('\t') || line.split(' ').any(|field| field.is_empty()) {
             Expected::OneSpace

@@ -1,5 +1,5 @@
-//! Generated from crates/hbhook_commands/src/fault.rt by rust/erase; edit the source.
-//!
+// Generated from crates/hbhook_commands/src/fault.rt by rust/erase; edit the source.
+
 //! What ends a run before its last line.
 
 use crate::generated::hbhook_commands::expected::Expected;
@@ -74,7 +74,7 @@ impl Fault {
     /// ensures most { result ≤ 2 }
     /// ```
     ///
-    /// - `status_of`: crates/hbhook_commands/specs/Fault.antt
+    /// - `status_of`: `crates/hbhook_commands/specs/Fault.antt`
     ///
     /// </details>
     pub fn status(self) -> u8 {

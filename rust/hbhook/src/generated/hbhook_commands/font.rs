@@ -1,5 +1,5 @@
-//! Generated from crates/hbhook_commands/src/font.rt by rust/erase; edit the source.
-//!
+// Generated from crates/hbhook_commands/src/font.rt by rust/erase; edit the source.
+
 //! The font that the lines `font` and `applies` describe.
 
 use crate::support::prelude::*;

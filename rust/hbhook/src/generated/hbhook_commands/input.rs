@@ -1,5 +1,5 @@
-//! Generated from crates/hbhook_commands/src/input.rt by rust/erase; edit the source.
-//!
+// Generated from crates/hbhook_commands/src/input.rt by rust/erase; edit the source.
+
 //! The input of a run, and its lines.
 
 use crate::support::prelude::*;

@@ -1,5 +1,5 @@
-//! Generated from crates/hbhook_commands/src/lib.rt by rust/erase; edit the source.
-//!
+// Generated from crates/hbhook_commands/src/lib.rt by rust/erase; edit the source.
+
 //! The lines of the program as commands: reads them, keeps what they set, and reports what is wrong
 //! with them.
 

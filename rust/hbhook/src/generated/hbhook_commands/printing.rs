@@ -1,5 +1,5 @@
-//! Generated from crates/hbhook_commands/src/printing.rt by rust/erase; edit the source.
-//!
+// Generated from crates/hbhook_commands/src/printing.rt by rust/erase; edit the source.
+
 //! What a run writes: the glyphs of the buffer on standard output, a fault on standard error.
 
 use crate::support::prelude::*;

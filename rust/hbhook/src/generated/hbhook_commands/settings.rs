@@ -1,5 +1,5 @@
-//! Generated from crates/hbhook_commands/src/settings.rt by rust/erase; edit the source.
-//!
+// Generated from crates/hbhook_commands/src/settings.rt by rust/erase; edit the source.
+
 //! What the lines have set so far, but for what the buffer keeps.
 
 use crate::support::prelude::*;
@@ -13,7 +13,7 @@ use crate::support::alloc::{AllocError, Global};
 use core::ops::Range;
 use sengadlit::buffer::{Script, Span, Tag};
 use sengadlit::map::{FeatureMap, Map};
-use sengadlit::plan::{BreakFlags, Plan, StretchStart};
+use sengadlit::plan::{BaseSearch, BreakFlags, Plan, StretchStart};
 
 /// A feature's mask and lookups.
 pub struct Feature {
@@ -33,6 +33,7 @@ pub struct Settings {
     pub gpos_mark: bool,
     pub stretch_start: StretchStart,
     pub break_flags: BreakFlags,
+    pub base_search: BaseSearch,
     pub global_mask: u32,
     pub font: LineFont,
     pub tables: LineTables,
@@ -51,6 +52,7 @@ impl Settings {
             gpos_mark: false,
             stretch_start: StretchStart::AsCode,
             break_flags: BreakFlags::AsCode,
+            base_search: BaseSearch::WithoutMedials,
             global_mask: 0,
             font: LineFont::new(alloc),
             tables: LineTables::new(alloc),
@@ -73,6 +75,7 @@ impl Settings {
     /// ensures gpos_mark { IfOk result (λ plan. plan.has_gpos_mark ≡ self.now.gpos_mark) }
     /// ensures stretch { IfOk result (λ plan. plan.stretch_start ≡ self.now.stretch_start) }
     /// ensures breaks { IfOk result (λ plan. plan.break_flags ≡ self.now.break_flags) }
+    /// ensures base { IfOk result (λ plan. plan.base_search ≡ self.now.base_search) }
     /// ```
     ///
     /// </details>
@@ -81,6 +84,7 @@ impl Settings {
         plan.has_gpos_mark = self.gpos_mark;
         plan.stretch_start = self.stretch_start;
         plan.break_flags = self.break_flags;
+        plan.base_search = self.base_search;
         Ok(plan)
     }
 

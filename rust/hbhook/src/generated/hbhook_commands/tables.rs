@@ -1,6 +1,6 @@
-//! Generated from crates/hbhook_commands/src/tables.rt by rust/erase; edit the source.
-//!
-//! The tables that the lines `table` and `pair` describe.
+// Generated from crates/hbhook_commands/src/tables.rt by rust/erase; edit the source.
+
+//! The tables that the lines `table` and `pair` describe, over Unicode's or none.
 
 use crate::support::prelude::*;
 
@@ -9,6 +9,7 @@ use crate::support::collections::BTreeMap;
 use sengadlit::buffer::GeneralCategory;
 use sengadlit::font::Tables;
 use sengadlit::plan::{Category, JoiningType, Position};
+use sengadlit::unicode::UnicodeTables;
 
 /// What the tables say of a character.
 #[derive(Clone, Copy)]
@@ -39,10 +40,21 @@ pub struct CanonicalPair {
     pub whole: char,
 }
 
+/// What holds of the characters that no line names.
+#[derive(Clone, Copy, Debug, PartialEq, Eq)]
+pub enum OtherCharacters {
+    /// [`CharacterEntry::DEFAULT`], and no pair.
+    Unknown,
+    /// What Unicode has.
+    Unicode,
+}
+
 /// The tables of the lines so far.
 pub struct LineTables {
     entries: BTreeMap<u32, CharacterEntry>,
     pairs: Vec<CanonicalPair>,
+    /// The other characters.
+    pub others: OtherCharacters,
 }
 
 impl LineTables {
@@ -51,6 +63,7 @@ impl LineTables {
         LineTables {
             entries: BTreeMap::new(alloc),
             pairs: Vec::new(alloc),
+            others: OtherCharacters::Unknown,
         }
     }
 
@@ -67,37 +80,61 @@ impl LineTables {
     }
 }
 
-// What the tables say of the character of this number.
-fn entry(tables: &LineTables, c: u32) -> CharacterEntry {
-    let entry = tables.entries.get(&c).copied();
-    entry.unwrap_or(CharacterEntry::DEFAULT)
+// What a line says of the character of this number.
+fn entry(tables: &LineTables, c: u32) -> Option<CharacterEntry> {
+    tables.entries.get(&c).copied()
 }
 
 impl Tables for LineTables {
     fn joining_type(&self, c: char) -> JoiningType {
-        entry(self, u32::from(c)).joining_type
+        match (entry(self, u32::from(c)), self.others) {
+            (Some(entry), _) => entry.joining_type,
+            (None, OtherCharacters::Unknown) => CharacterEntry::DEFAULT.joining_type,
+            (None, OtherCharacters::Unicode) => UnicodeTables.joining_type(c),
+        }
     }
 
     fn general_category(&self, c: char) -> GeneralCategory {
-        entry(self, u32::from(c)).general_category
+        match (entry(self, u32::from(c)), self.others) {
+            (Some(entry), _) => entry.general_category,
+            (None, OtherCharacters::Unknown) => CharacterEntry::DEFAULT.general_category,
+            (None, OtherCharacters::Unicode) => UnicodeTables.general_category(c),
+        }
     }
 
     fn indic_categories(&self, c: u32) -> (Category, Position) {
-        let entry = entry(self, c);
-        (entry.indic_category, entry.indic_position)
+        match (entry(self, c), self.others) {
+            (Some(entry), _) => (entry.indic_category, entry.indic_position),
+            (None, OtherCharacters::Unknown) => {
+                let entry = CharacterEntry::DEFAULT;
+                (entry.indic_category, entry.indic_position)
+            }
+            (None, OtherCharacters::Unicode) => UnicodeTables.indic_categories(c),
+        }
     }
 
     fn use_category(&self, c: u32) -> Category {
-        entry(self, c).universal_category
+        match (entry(self, c), self.others) {
+            (Some(entry), _) => entry.universal_category,
+            (None, OtherCharacters::Unknown) => CharacterEntry::DEFAULT.universal_category,
+            (None, OtherCharacters::Unicode) => UnicodeTables.use_category(c),
+        }
     }
 
     fn compose(&self, a: char, b: char) -> Option<char> {
-        Some(composing(self.pairs.as_slice(), a, b)?.whole)
+        match (composing(self.pairs.as_slice(), a, b), self.others) {
+            (Some(pair), _) => Some(pair.whole),
+            (None, OtherCharacters::Unknown) => None,
+            (None, OtherCharacters::Unicode) => UnicodeTables.compose(a, b),
+        }
     }
 
     fn decompose(&self, ab: char) -> Option<(char, char)> {
-        let pair = composing_to(self.pairs.as_slice(), ab)?;
-        Some((pair.first, pair.second))
+        match (composing_to(self.pairs.as_slice(), ab), self.others) {
+            (Some(pair), _) => Some((pair.first, pair.second)),
+            (None, OtherCharacters::Unknown) => None,
+            (None, OtherCharacters::Unicode) => UnicodeTables.decompose(ab),
+        }
     }
 }
 

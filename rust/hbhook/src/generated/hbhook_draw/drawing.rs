@@ -1,12 +1,13 @@
-//! Generated from crates/hbhook_draw/src/drawing.rt by rust/erase; edit the source.
-//!
+// Generated from crates/hbhook_draw/src/drawing.rt by rust/erase; edit the source.
+
 //! The walk over the lines: which rows the page has.
 
 use crate::support::prelude::*;
 
 use crate::generated::hbhook_boxes::{
-    Context, DrawFault, FOOT, HEAD, Line, MOST_GLYPHS, Numbers, Row, draw_boxes, draw_positions,
-    shortened, write_answers, write_fault, write_lines, write_note, write_text,
+    Context, DrawFault, FOOT, HEAD, Legend, Line, MOST_GLYPHS, Numbers, Row, draw_boxes,
+    draw_positions, shortened, write_answers, write_fault, write_glyphs, write_lines, write_note,
+    write_text,
 };
 use crate::generated::hbhook_commands::{LineKind, kind_of_line};
 use crate::generated::hbhook_draw::origins::{Origins, Traced};
@@ -20,6 +21,7 @@ pub(crate) struct Drawing {
     session: Session,
     numbers: Numbers,
     page: String,
+    legend: Legend,
     // The lines that wrote to the buffer since the last row, and the text that they set.
     written: Vec<Line>,
     text: String,
@@ -33,6 +35,7 @@ impl Drawing {
             session: Session::new(alloc),
             numbers: Numbers::new(alloc),
             page: String::from_str(alloc, HEAD)?,
+            legend: Legend::new(alloc),
             written: Vec::new(alloc),
             text: String::new(alloc),
         })
@@ -79,8 +82,12 @@ impl Drawing {
     /// The page, whole.
     pub(crate) fn finished(mut self) -> Result<String, AllocError> {
         self.draw_written()?;
-        self.page.push_str(FOOT)?;
-        Ok(self.page)
+        let Drawing {
+            legend, mut page, ..
+        } = self;
+        legend.write(&mut page)?;
+        page.push_str(FOOT)?;
+        Ok(page)
     }
 
     // Carries out a line that writes to the buffer.
@@ -119,7 +126,8 @@ impl Drawing {
         self.written.clear();
         self.text.clear();
         let origins = Origins::none(&self.session);
-        draw_row(&mut self.page, &self.session, &self.numbers, &origins)
+        let (page, legend) = (&mut self.page, &mut self.legend);
+        draw_row(page, legend, &self.session, &self.numbers, &origins)
     }
 
     // Carries out the line of a hook, and draws what the hook returned and left.
@@ -130,16 +138,18 @@ impl Drawing {
         let answers = self.session.take_answers();
         write_lines(&mut self.page, &[Line::new(self.alloc, number, line)?])?;
         write_answers(&mut self.page, answers.as_str())?;
-        draw_row(&mut self.page, &self.session, &self.numbers, &origins)?;
+        let (page, legend) = (&mut self.page, &mut self.legend);
+        draw_row(page, legend, &self.session, &self.numbers, &origins)?;
         Ok(())
     }
 }
 
 // Draws the buffer, with lines to its glyphs from where they stood: from left to right, but a text
 // from right to left in that direction, until it has positions: then its glyphs stand in the order
-// of the line.
+// of the line. Where a hook changed the buffer, its glyphs are also there as text.
 fn draw_row<'a>(
     page: &mut String,
+    legend: &mut Legend,
     session: &'a Session,
     numbers: &'a Numbers,
     origins: &'a Origins,
@@ -159,10 +169,13 @@ fn draw_row<'a>(
     if row.glyphs.is_empty() {
         return write_note(page, "The buffer is empty.");
     }
-    if !row.origins.is_empty() && !row.has_changed() {
+    if !row.before.is_empty() && row.has_changed() {
+        write_glyphs(page, &row)?;
+    } else if !row.origins.is_empty() {
         write_note(page, "Each glyph stands where it stood.")?;
         row.origins = &[];
     }
+    legend.add(&row)?;
     draw_boxes(page, &row)?;
     draw_positions(page, &row, session.font())
 }

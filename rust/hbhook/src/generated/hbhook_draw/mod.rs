@@ -1,5 +1,5 @@
-//! Generated from crates/hbhook_draw/src/lib.rt by rust/erase; edit the source.
-//!
+// Generated from crates/hbhook_draw/src/lib.rt by rust/erase; edit the source.
+
 //! Draws what hooks do: carries out the lines of the program, and writes a page of HTML with a row
 //! of boxes, one per glyph, for the text and after each hook.
 

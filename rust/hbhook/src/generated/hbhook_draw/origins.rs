@@ -1,5 +1,5 @@
-//! Generated from crates/hbhook_draw/src/origins.rt by rust/erase; edit the source.
-//!
+// Generated from crates/hbhook_draw/src/origins.rt by rust/erase; edit the source.
+
 //! Where the glyphs that a hook left stood before it.
 
 use crate::support::prelude::*;

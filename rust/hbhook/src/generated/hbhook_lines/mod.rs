@@ -1,5 +1,5 @@
-//! Generated from crates/hbhook_lines/src/lib.rt by rust/erase; edit the source.
-//!
+// Generated from crates/hbhook_lines/src/lib.rt by rust/erase; edit the source.
+
 //! The program: carries out the lines of an input on a buffer of glyphs and prints the buffer.
 
 mod session;

@@ -1,5 +1,5 @@
-//! Generated from crates/hbhook_lines/src/session.rt by rust/erase; edit the source.
-//!
+// Generated from crates/hbhook_lines/src/session.rt by rust/erase; edit the source.
+
 //! Carries out the lines.
 
 use crate::support::prelude::*;
@@ -16,9 +16,14 @@ use core::mem;
 use sengadlit::buffer::{Buffer, GlyphInfo, GlyphPosition};
 use sengadlit::font::Tables;
 use sengadlit::shaper::Shaper;
+use sengadlit::spans::{Indic, Khmer, Myanmar, Universal, spans_into};
 
 // The greatest length of a buffer before a line sets it.
 const MAX_LEN: usize = 1_000_000;
+
+// The shapers that cut a text into syllables.
+const SYLLABLES: Expected =
+    Expected::Condition("a line `set shaper` with indic, khmer, myanmar or universal before it");
 
 // Each character has its own cluster.
 const TEXT_LENGTH: Expected = Expected::Condition("no more characters than clusters of 32 bits");
@@ -87,6 +92,7 @@ impl Session {
     fn carry_out_command(&mut self, command: Command) -> Result<(), LineFault> {
         let settings = &mut self.settings;
         match command {
+            Command::Comment => {}
             Command::Font(character, glyph, advance) => {
                 settings.font.add_glyph(character, glyph, advance)?;
             }
@@ -101,6 +107,7 @@ impl Session {
             Command::Context(Side::After, characters) => self.buffer.set_post_context(&characters),
             Command::At(place, field) => self.set_field(place, field)?,
             Command::Span(span) => settings.add_span(span)?,
+            Command::FindSpans => self.find_spans()?,
             Command::Run(call) => self.run(call)?,
         }
         Ok(())
@@ -126,6 +133,8 @@ impl Session {
             Setting::GposMark(gpos_mark) => self.settings.gpos_mark = gpos_mark,
             Setting::Stretch(stretch_start) => self.settings.stretch_start = stretch_start,
             Setting::Breaks(break_flags) => self.settings.break_flags = break_flags,
+            Setting::Base(base_search) => self.settings.base_search = base_search,
+            Setting::Tables(others) => self.settings.tables.others = others,
             Setting::Direction(direction) => self.buffer.set_direction(direction),
             Setting::Level(level) => self.buffer.set_cluster_level(level),
             Setting::Flags(flags) => self.buffer.set_flags(flags),
@@ -178,6 +187,27 @@ impl Session {
                 general_category: self.settings.tables.general_category(*character),
                 ..GlyphInfo::DEFAULT
             })?;
+        }
+        Ok(())
+    }
+
+    // Takes the spans that the shaper's grammar finds in the buffer, in place of all others.
+    fn find_spans(&mut self) -> Result<(), LineFault> {
+        let (glyphs, spans) = (self.buffer.glyphs(), &mut self.settings.spans);
+        match self
+            .settings
+            .shaper
+            .ok_or(LineFault::Unreadable(SYLLABLES))?
+        {
+            ShaperName::Indic => spans_into(&Indic, glyphs, spans)?,
+            ShaperName::Khmer => spans_into(&Khmer, glyphs, spans)?,
+            ShaperName::Myanmar => spans_into(&Myanmar, glyphs, spans)?,
+            ShaperName::Universal => spans_into(&Universal, glyphs, spans)?,
+            ShaperName::Arabic
+            | ShaperName::Hangul
+            | ShaperName::Hebrew
+            | ShaperName::Thai
+            | ShaperName::Zawgyi => return Err(LineFault::Unreadable(SYLLABLES)),
         }
         Ok(())
     }

@@ -1,5 +1,5 @@
-//! Generated from crates/hbhook_lines/src/shapers.rt by rust/erase; edit the source.
-//!
+// Generated from crates/hbhook_lines/src/shapers.rt by rust/erase; edit the source.
+
 //! The shapers that lines name.
 
 use crate::generated::hbhook_commands::ShaperName;

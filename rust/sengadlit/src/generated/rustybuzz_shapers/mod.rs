@@ -1,5 +1,5 @@
-//! Generated from crates/rustybuzz_shapers/src/lib.rt by rust/erase; edit the source.
-//!
+// Generated from crates/rustybuzz_shapers/src/lib.rt by rust/erase; edit the source.
+
 //! The script shapers behind one enum, and everything that its callers name.
 
 pub mod shaper;

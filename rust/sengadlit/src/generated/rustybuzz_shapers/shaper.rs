@@ -1,5 +1,5 @@
-//! Generated from crates/rustybuzz_shapers/src/shaper.rt by rust/erase; edit the source.
-//!
+// Generated from crates/rustybuzz_shapers/src/shaper.rt by rust/erase; edit the source.
+
 //! The shapers behind one enum, one method per hook. Where a shaper lacks a hook, its method
 //! returns None and changes nothing.
 
@@ -23,9 +23,23 @@ use crate::generated::shapers_stretch::ot_shaper_arabic_stretch;
 use crate::generated::shapers_text::{ot_shaper_hebrew, ot_shaper_thai};
 use crate::generated::shapers_universal::ot_shaper_use;
 pub use conditions::{has_positions, kinds_fit, lacks_positions, pause_fits};
+use core::mem;
 pub use pauses::{pause_may_change, run_pause};
 
-/// A script shaper.
+/// A script shaper. Where it lacks a hook, a dash here, the method returns `None` and changes nothing;
+/// `has_hook` is this table. What runs between two stages of lookups is a [`Pause`].
+///
+/// | hook | Arabic | Hangul | Hebrew | Indic | Khmer | Myanmar | Zawgyi | Thai | universal |
+/// |---|---|---|---|---|---|---|---|---|---|
+/// | [`collect_features`](Self::collect_features) | yes | yes | - | yes | yes | yes | - | - | yes |
+/// | [`override_features`](Self::override_features) | - | yes | - | yes | yes | - | - | - | - |
+/// | [`create_data`](Self::create_data) | yes | yes | - | yes | yes | - | - | - | yes |
+/// | [`preprocess_text`](Self::preprocess_text) | - | yes | - | yes | - | - | - | yes | yes |
+/// | [`decompose`](Self::decompose) | - | - | - | yes | yes | - | - | - | - |
+/// | [`compose`](Self::compose) | - | - | yes | yes | yes | - | - | - | yes |
+/// | [`reorder_marks`](Self::reorder_marks) | yes | - | yes | - | - | - | - | - | - |
+/// | [`setup_masks`](Self::setup_masks) | yes | yes | - | yes | yes | yes | - | - | yes |
+/// | [`postprocess_glyphs`](Self::postprocess_glyphs) | yes | - | - | - | - | - | - | - | - |
 #[derive(Clone, Copy, Debug, PartialEq, Eq)]
 pub enum Shaper {
     /// Arabic, Syriac and the scripts that join like them.
@@ -110,7 +124,7 @@ impl Shaper {
     /// ensures { result ≡ has_hook self hook }
     /// ```
     ///
-    /// - `has_hook`: crates/rustybuzz_shapers/specs/Standing.antt
+    /// - `has_hook`: `crates/rustybuzz_shapers/specs/Standing.antt`
     ///
     /// </details>
     pub const fn has_hook(self, hook: Hook) -> bool {
@@ -152,7 +166,7 @@ impl Shaper {
     /// ensures { result ≡ normalizes self }
     /// ```
     ///
-    /// - `normalizes`: crates/rustybuzz_shapers/specs/Records.antt
+    /// - `normalizes`: `crates/rustybuzz_shapers/specs/Records.antt`
     ///
     /// </details>
     #[inline]
@@ -174,7 +188,7 @@ impl Shaper {
     /// ensures { result ≡ wants_gpos_script self }
     /// ```
     ///
-    /// - `wants_gpos_script`: crates/rustybuzz_shapers/specs/Records.antt
+    /// - `wants_gpos_script`: `crates/rustybuzz_shapers/specs/Records.antt`
     ///
     /// </details>
     #[inline]
@@ -195,7 +209,7 @@ impl Shaper {
     /// ensures { result ≡ zeroes_marks self }
     /// ```
     ///
-    /// - `zeroes_marks`: crates/rustybuzz_shapers/specs/Records.antt
+    /// - `zeroes_marks`: `crates/rustybuzz_shapers/specs/Records.antt`
     ///
     /// </details>
     #[inline]
@@ -217,7 +231,7 @@ impl Shaper {
     /// ensures { result ≡ places_marks self }
     /// ```
     ///
-    /// - `places_marks`: crates/rustybuzz_shapers/specs/Records.antt
+    /// - `places_marks`: `crates/rustybuzz_shapers/specs/Records.antt`
     ///
     /// </details>
     #[inline]
@@ -227,6 +241,10 @@ impl Shaper {
 
     /// Requests the features of the shaper's scripts: all of the list, or nothing where memory is
     /// refused. Arabic's list depends on the planner's script and on the font.
+    ///
+    /// # Errors
+    ///
+    /// `Memory`; the planner is as it was then.
     ///
     /// <details><summary>Contract</summary>
     ///
@@ -243,9 +261,9 @@ impl Shaper {
     /// ensures absent { has_hook self CollectFeatures ≡ false → IsOk result }
     /// ```
     ///
-    /// - `asked`, `collected`: crates/rustybuzz_shapers/specs/Records.antt
-    /// - `has_hook`: crates/rustybuzz_shapers/specs/Standing.antt
-    /// - `rclt`: crates/shapers_arabic/specs/Requests.antt
+    /// - `asked`, `collected`: `crates/rustybuzz_shapers/specs/Records.antt`
+    /// - `has_hook`: `crates/rustybuzz_shapers/specs/Standing.antt`
+    /// - `rclt`: `crates/shapers_arabic/specs/Requests.antt`
     ///
     /// </details>
     pub fn collect_features<F: Font>(
@@ -267,6 +285,10 @@ impl Shaper {
     /// Requests what comes after the features of all shapers: all of it, or nothing where memory is
     /// refused.
     ///
+    /// # Errors
+    ///
+    /// `Memory`; the planner is as it was then.
+    ///
     /// <details><summary>Contract</summary>
     ///
     /// # Contract
@@ -280,8 +302,8 @@ impl Shaper {
     /// ensures absent { has_hook self OverrideFeatures ≡ false → IsOk result }
     /// ```
     ///
-    /// - `asked`, `overridden`: crates/rustybuzz_shapers/specs/Records.antt
-    /// - `has_hook`: crates/rustybuzz_shapers/specs/Standing.antt
+    /// - `asked`, `overridden`: `crates/rustybuzz_shapers/specs/Records.antt`
+    /// - `has_hook`: `crates/rustybuzz_shapers/specs/Standing.antt`
     ///
     /// </details>
     pub fn override_features(self, planner: &mut Planner) -> Result<Option<()>, ShaperError> {
@@ -305,8 +327,8 @@ impl Shaper {
     /// ensures off_flags { IfSome result MasksOffFlags }
     /// ```
     ///
-    /// - `MasksOffFlags`, `data_created`: crates/rustybuzz_shapers/specs/Hooks.antt
-    /// - `has_hook`: crates/rustybuzz_shapers/specs/Standing.antt
+    /// - `MasksOffFlags`, `data_created`: `crates/rustybuzz_shapers/specs/Hooks.antt`
+    /// - `has_hook`: `crates/rustybuzz_shapers/specs/Standing.antt`
     ///
     /// </details>
     pub fn create_data(self, plan: &Plan) -> Option<PlanData> {
@@ -326,6 +348,11 @@ impl Shaper {
     /// before their syllables. Both refuse as a growth does. For Indic and the universal shaper the
     /// caller runs the vowel constraints.
     ///
+    /// # Errors
+    ///
+    /// `TooLong` where the buffer would be longer than `max_len`, `Memory` where memory is
+    /// refused; nothing has changed then.
+    ///
     /// <details><summary>Contract</summary>
     ///
     /// # Contract
@@ -342,8 +369,8 @@ impl Shaper {
     /// ensures err { OnErr result (buffer.new ≡ buffer.old) }
     /// ```
     ///
-    /// - `PreprocessKeeps`, `Preprocessed`, `RefusesPreprocess`, `preprocess_answer`: crates/rustybuzz_shapers/specs/Hooks.antt
-    /// - `has_hook`: crates/rustybuzz_shapers/specs/Standing.antt
+    /// - `PreprocessKeeps`, `Preprocessed`, `RefusesPreprocess`, `preprocess_answer`: `crates/rustybuzz_shapers/specs/Hooks.antt`
+    /// - `has_hook`: `crates/rustybuzz_shapers/specs/Standing.antt`
     ///
     /// </details>
     #[inline]
@@ -372,6 +399,11 @@ impl Shaper {
     /// Rewrites the glyphs after positioning: for Arabic, marks stretch over the words before them,
     /// as wide as these or wider by less than one unit per added copy, where their tiles fit.
     ///
+    /// # Errors
+    ///
+    /// `StretchOverflow` where a number or an offset doesn't fit 32 bits; `TooLong` and
+    /// `Memory`. Nothing has changed then.
+    ///
     /// <details><summary>Contract</summary>
     ///
     /// # Contract
@@ -391,9 +423,9 @@ impl Shaper {
     /// ensures err { OnErr result (buffer.new ≡ buffer.old) }
     /// ```
     ///
-    /// - `PostprocessFits`, `PostprocessKeeps`, `Postprocessed`, `RefusesPostprocess`: crates/rustybuzz_shapers/specs/Hooks.antt
-    /// - `has_hook`: crates/rustybuzz_shapers/specs/Standing.antt
-    /// - `glyphs_added`: crates/rustybuzz_shapers/specs/Stretched.antt
+    /// - `PostprocessFits`, `PostprocessKeeps`, `Postprocessed`, `RefusesPostprocess`: `crates/rustybuzz_shapers/specs/Hooks.antt`
+    /// - `has_hook`: `crates/rustybuzz_shapers/specs/Standing.antt`
+    /// - `glyphs_added`: `crates/rustybuzz_shapers/specs/Stretched.antt`
     ///
     /// </details>
     #[inline]
@@ -432,8 +464,8 @@ impl Shaper {
     /// ensures answer { is_some result ≡ has_hook self Compose }
     /// ```
     ///
-    /// - `Composed`: crates/rustybuzz_shapers/specs/Hooks.antt
-    /// - `has_hook`: crates/rustybuzz_shapers/specs/Standing.antt
+    /// - `Composed`: `crates/rustybuzz_shapers/specs/Hooks.antt`
+    /// - `has_hook`: `crates/rustybuzz_shapers/specs/Standing.antt`
     ///
     /// </details>
     #[inline]
@@ -465,8 +497,8 @@ impl Shaper {
     /// ensures answer { is_some result ≡ has_hook self Decompose }
     /// ```
     ///
-    /// - `Decomposed`: crates/rustybuzz_shapers/specs/Hooks.antt
-    /// - `has_hook`: crates/rustybuzz_shapers/specs/Standing.antt
+    /// - `Decomposed`: `crates/rustybuzz_shapers/specs/Hooks.antt`
+    /// - `has_hook`: `crates/rustybuzz_shapers/specs/Standing.antt`
     ///
     /// </details>
     #[inline]
@@ -507,9 +539,9 @@ impl Shaper {
     /// ensures flags { OnlyFlagsAdded buffer.old.glyphs buffer.new.glyphs }
     /// ```
     ///
-    /// - `GlyphsFit`, `MasksSet`, `PlanFits`: crates/rustybuzz_shapers/specs/Hooks.antt
-    /// - `has_hook`: crates/rustybuzz_shapers/specs/Standing.antt
-    /// - `OnlyFlagsAdded`: crates/shapers_clusters/specs/FlagLaw.antt
+    /// - `GlyphsFit`, `MasksSet`, `PlanFits`: `crates/rustybuzz_shapers/specs/Hooks.antt`
+    /// - `has_hook`: `crates/rustybuzz_shapers/specs/Standing.antt`
+    /// - `OnlyFlagsAdded`: `crates/shapers_clusters/specs/FlagLaw.antt`
     ///
     /// </details>
     #[inline]
@@ -521,15 +553,31 @@ impl Shaper {
         buffer: &mut Buffer,
     ) -> Option<()> {
         match self {
+            Self::Hebrew | Self::MyanmarZawgyi | Self::Thai => return None,
+            Self::Arabic | Self::Hangul => self.set_masks(plan, tables, buffer),
+            Self::Indic | Self::Khmer | Self::Myanmar | Self::Universal => {
+                // (tables that panic leave the empty buffer, and no text with some categories)
+                let empty = Buffer::new(buffer.alloc(), buffer.max_len());
+                let mut text = mem::replace(buffer, empty);
+                self.set_masks(plan, tables, &mut text);
+                *buffer = text;
+            }
+        }
+        Some(())
+    }
+
+    // The masks of a shaper, where it sets any.
+    #[inline]
+    fn set_masks<T: Tables>(self, plan: &Plan, tables: &T, buffer: &mut Buffer) {
+        match self {
             Self::Arabic => ot_shaper_arabic::setup_masks(plan, tables, buffer),
             Self::Hangul => ot_shaper_hangul::setup_masks(plan, buffer),
             Self::Indic => ot_shaper_indic::setup_masks(tables, buffer),
             Self::Khmer => ot_shaper_khmer::setup_masks(tables, buffer),
             Self::Myanmar => ot_shaper_myanmar::setup_masks(tables, buffer),
             Self::Universal => ot_shaper_use::setup_masks(plan, tables, buffer),
-            Self::Hebrew | Self::MyanmarZawgyi | Self::Thai => return None,
+            Self::Hebrew | Self::MyanmarZawgyi | Self::Thai => {}
         }
-        Some(())
     }
 
     /// Reorders the marks from `start` to `end`: for Hebrew, at the first three neighbours of its
@@ -550,8 +598,8 @@ impl Shaper {
     /// ensures laws { MarksKeep self start end buffer.old buffer.new }
     /// ```
     ///
-    /// - `MarksFit`, `MarksKeep`, `MarksReordered`: crates/rustybuzz_shapers/specs/Hooks.antt
-    /// - `has_hook`: crates/rustybuzz_shapers/specs/Standing.antt
+    /// - `MarksFit`, `MarksKeep`, `MarksReordered`: `crates/rustybuzz_shapers/specs/Hooks.antt`
+    /// - `has_hook`: `crates/rustybuzz_shapers/specs/Standing.antt`
     ///
     /// </details>
     #[inline]

@@ -1,12 +1,13 @@
-//! Generated from crates/shapers_arabic/src/ot_shaper_arabic.rt by rust/erase; edit the source.
-//!
+// Generated from crates/shapers_arabic/src/ot_shaper_arabic.rt by rust/erase; edit the source.
+
 //! The shaper of Arabic and of the scripts that join like it.
 
-use crate::generated::shapers_base::buffer::{Buffer, Script, Tag};
+use crate::generated::shapers_base::buffer::{Buffer, GlyphWalk, Script, Tag};
 use crate::generated::shapers_base::font::{Font, Tables};
 use crate::generated::shapers_base::map::{F_GLOBAL, F_HAS_FALLBACK, F_MANUAL_ZWJ, F_NONE};
 use crate::generated::shapers_base::plan::{Pause, Plan, PlanData, Planner, Request, ShaperError};
 use crate::support::arrayvec::ArrayVec;
+use core::mem;
 
 pub mod arabic_action_t;
 mod breaks;
@@ -57,8 +58,8 @@ const LAST_REQUESTS: [Request; 3] = [
 /// ensures err { OnErr result (planner.new ≡ planner.old) }
 /// ```
 ///
-/// - `arabic_list`, `is_arabic`, `rclt`: crates/shapers_arabic/specs/Requests.antt
-/// - `with_requests`: crates/shapers_base/specs/Planner.antt
+/// - `arabic_list`, `is_arabic`, `rclt`: `crates/shapers_arabic/specs/Requests.antt`
+/// - `with_requests`: `crates/shapers_base/specs/Planner.antt`
 ///
 /// </details>
 pub fn collect_features<F: Font>(face: &F, planner: &mut Planner) -> Result<(), ShaperError> {
@@ -144,10 +145,10 @@ fn joining_requests(flags: u32) -> [Request; 14] {
 /// ensures flags { OnlyFlagsAdded buffer.old.glyphs buffer.new.glyphs }
 /// ```
 ///
-/// - `BreaksWhereClear`, `NoneNeedless`: crates/shapers_arabic/specs/Breaks.antt
-/// - `FirstKeepsAsFlagged`: crates/shapers_arabic/specs/FirstPiece.antt
-/// - `AreCharacters`, `CutsAsHalves`, `buffer_joined`: crates/shapers_arabic/specs/JoinedText.antt
-/// - `OnlyFlagsAdded`: crates/shapers_clusters/specs/FlagLaw.antt
+/// - `BreaksWhereClear`, `NoneNeedless`: `crates/shapers_arabic/specs/Breaks.antt`
+/// - `FirstKeepsAsFlagged`: `crates/shapers_arabic/specs/FirstPiece.antt`
+/// - `AreCharacters`, `CutsAsHalves`, `buffer_joined`: `crates/shapers_arabic/specs/JoinedText.antt`
+/// - `OnlyFlagsAdded`: `crates/shapers_clusters/specs/FlagLaw.antt`
 ///
 /// </details>
 #[inline]
@@ -169,7 +170,17 @@ pub fn setup_masks_inner<T: Tables>(
         after,
         tables,
     };
-    buffer.walk(&mut walk);
+    walk_aside(&mut walk, buffer);
+}
+
+// Walks over the glyphs while an empty buffer stands for theirs: so tables that panic leave that one,
+// and no text of which a part has its forms.
+#[inline]
+fn walk_aside<W: GlyphWalk>(walk: &mut W, buffer: &mut Buffer) {
+    let empty = Buffer::new(buffer.alloc(), buffer.max_len());
+    let mut text = mem::replace(buffer, empty);
+    text.walk(walk);
+    *buffer = text;
 }
 
 /// Gives each glyph its form, the form's mask and the glyph flags of joining, with the script and
@@ -202,11 +213,11 @@ pub fn setup_masks_inner<T: Tables>(
 /// ensures flags { OnlyFlagsAdded buffer.old.glyphs buffer.new.glyphs }
 /// ```
 ///
-/// - `BreaksWhereClear`, `NoneNeedless`: crates/shapers_arabic/specs/Breaks.antt
-/// - `FirstKeepsAsFlagged`: crates/shapers_arabic/specs/FirstPiece.antt
-/// - `AreCharacters`, `CutsAsHalves`, `buffer_joined`: crates/shapers_arabic/specs/JoinedText.antt
-/// - `IsArabic`, `breaks_of`, `masks_of`: crates/shapers_arabic/specs/PlanData.antt
-/// - `OnlyFlagsAdded`: crates/shapers_clusters/specs/FlagLaw.antt
+/// - `BreaksWhereClear`, `NoneNeedless`: `crates/shapers_arabic/specs/Breaks.antt`
+/// - `FirstKeepsAsFlagged`: `crates/shapers_arabic/specs/FirstPiece.antt`
+/// - `AreCharacters`, `CutsAsHalves`, `buffer_joined`: `crates/shapers_arabic/specs/JoinedText.antt`
+/// - `IsArabic`, `breaks_of`, `masks_of`: `crates/shapers_arabic/specs/PlanData.antt`
+/// - `OnlyFlagsAdded`: `crates/shapers_clusters/specs/FlagLaw.antt`
 ///
 /// </details>
 #[inline]
@@ -215,6 +226,6 @@ pub fn setup_masks<T: Tables>(plan: &Plan, tables: &T, buffer: &mut Buffer) {
         PlanData::Arabic(arabic_plan) => {
             setup_masks_inner(arabic_plan, plan.script, buffer, tables);
         }
-        _ => unreachable!(),
+        _ => unreachable!("the plan has no data of the Arabic shaper"),
     }
 }

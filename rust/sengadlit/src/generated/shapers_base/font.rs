@@ -1,5 +1,5 @@
-//! Generated from crates/shapers_base/src/font.rt by rust/erase; edit the source.
-//!
+// Generated from crates/shapers_base/src/font.rt by rust/erase; edit the source.
+
 //! What the shapers read of a font and of the Unicode tables. Both are functions: the same question
 //! has the same result.
 
@@ -37,7 +37,7 @@ pub trait Font {
     /// ensures { result ≡ has_nominal (font self.now) c }
     /// ```
     ///
-    /// - `has_nominal`: crates/shapers_base/specs/Font.antt
+    /// - `has_nominal`: `crates/shapers_base/specs/Font.antt`
     ///
     /// </details>
     #[inline]
@@ -83,7 +83,7 @@ pub trait Font {
     /// ensures { result ≡ would_one (font self.now).applies lookups.now glyphs.now zero_context }
     /// ```
     ///
-    /// - `would_one`: crates/shapers_base/specs/Map.antt
+    /// - `would_one`: `crates/shapers_base/specs/Map.antt`
     ///
     /// </details>
     #[inline]

@@ -1,5 +1,5 @@
-//! Generated from crates/shapers_base/src/map.rt by rust/erase; edit the source.
-//!
+// Generated from crates/shapers_base/src/map.rt by rust/erase; edit the source.
+
 //! The map from features to masks and lookups, as far as the shapers read it. It knows GSUB alone.
 
 use crate::support::prelude::*;
@@ -74,7 +74,7 @@ impl Map {
     ///     result ≡ (if can_be_map map then Some map else None) }
     /// ```
     ///
-    /// - `Map`, `can_be_map`: crates/shapers_base/specs/Map.antt
+    /// - `Map`, `can_be_map`: `crates/shapers_base/specs/Map.antt`
     ///
     /// </details>
     pub fn new(
@@ -101,6 +101,10 @@ impl Map {
     /// A map of copies of these, by the same rule as `new`. The only refusal is `Memory`, and none
     /// comes where they can't be a map's.
     ///
+    /// # Errors
+    ///
+    /// `Memory`.
+    ///
     /// <details><summary>Contract</summary>
     ///
     /// # Contract
@@ -116,9 +120,18 @@ impl Map {
     /// } in
     ///     IfOk result (λ answer. answer ≡ (if can_be_map map then Some map else None)) }
     /// ensures refusal { IsOkUnless result Memory }
+    /// ensures none { let map : Map = record {
+    ///   features = features.now;
+    ///   stages = stages.now;
+    ///   lookups = lookups.now;
+    ///   global = global_mask;
+    ///   chosen = chosen_script;
+    ///   found = found_script;
+    /// } in
+    ///     can_be_map map ≡ false → IsOk result }
     /// ```
     ///
-    /// - `Map`, `can_be_map`: crates/shapers_base/specs/Map.antt
+    /// - `Map`, `can_be_map`: `crates/shapers_base/specs/Map.antt`
     ///
     /// </details>
     pub fn from_slices(
@@ -154,7 +167,7 @@ impl Map {
     /// ensures off_flags { result % 8 ≡ 0 }
     /// ```
     ///
-    /// - `mask_of`: crates/shapers_base/specs/Map.antt
+    /// - `mask_of`: `crates/shapers_base/specs/Map.antt`
     ///
     /// </details>
     #[inline]
@@ -175,7 +188,7 @@ impl Map {
     /// ensures { result ≡ of_gsub table_index (stage_of tag self.now) None }
     /// ```
     ///
-    /// - `of_gsub`, `stage_of`: crates/shapers_base/specs/Map.antt
+    /// - `of_gsub`, `stage_of`: `crates/shapers_base/specs/Map.antt`
     ///
     /// </details>
     #[inline]
@@ -198,7 +211,7 @@ impl Map {
     /// ensures in_range { result.end ≤ length self.now.lookups }
     /// ```
     ///
-    /// - `no_range`, `of_gsub`, `range_of`: crates/shapers_base/specs/Map.antt
+    /// - `no_range`, `of_gsub`, `range_of`: `crates/shapers_base/specs/Map.antt`
     ///
     /// </details>
     #[inline]
@@ -220,7 +233,7 @@ impl Map {
     /// ensures { result.now ≡ lookups_in range.now self.now }
     /// ```
     ///
-    /// - `lookups_in`: crates/shapers_base/specs/Map.antt
+    /// - `lookups_in`: `crates/shapers_base/specs/Map.antt`
     ///
     /// </details>
     #[inline]
@@ -240,7 +253,7 @@ impl Map {
     /// ensures { result ≡ of_gsub table_index (slice_get self.now.lookups index) None }
     /// ```
     ///
-    /// - `of_gsub`: crates/shapers_base/specs/Map.antt
+    /// - `of_gsub`: `crates/shapers_base/specs/Map.antt`
     ///
     /// </details>
     #[inline]
@@ -261,7 +274,7 @@ impl Map {
     /// ensures { result ≡ of_gsub table_index self.now.chosen None }
     /// ```
     ///
-    /// - `of_gsub`: crates/shapers_base/specs/Map.antt
+    /// - `of_gsub`: `crates/shapers_base/specs/Map.antt`
     ///
     /// </details>
     #[inline]
@@ -282,7 +295,7 @@ impl Map {
     /// ensures { result ≡ of_gsub table_index self.now.found false }
     /// ```
     ///
-    /// - `of_gsub`: crates/shapers_base/specs/Map.antt
+    /// - `of_gsub`: `crates/shapers_base/specs/Map.antt`
     ///
     /// </details>
     #[inline]

@@ -1,5 +1,5 @@
-//! Generated from crates/shapers_base/src/lib.rt by rust/erase; edit the source.
-//!
+// Generated from crates/shapers_base/src/lib.rt by rust/erase; edit the source.
+
 //! What a shaper is given: the buffer, the font, the Unicode tables, the map and the plan.
 
 pub mod font;

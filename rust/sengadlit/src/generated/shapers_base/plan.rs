@@ -1,5 +1,5 @@
-//! Generated from crates/shapers_base/src/plan.rt by rust/erase; edit the source.
-//!
+// Generated from crates/shapers_base/src/plan.rt by rust/erase; edit the source.
+
 //! The planner and the plan: what the shapers request of a font, and what they decided for one
 //! script and font before they see a text. With them what two shapers or more name.
 
@@ -24,7 +24,8 @@ pub use arabic::{ArabicPlan, StretchStart};
 pub use breaks::BreakFlags;
 pub use hangul::HangulPlan;
 pub use indic::{
-    BlwfMode, IndicConfig, IndicPlan, IndicWouldSubstituteFeature, RephMode, RephPosition,
+    BaseSearch, BlwfMode, IndicConfig, IndicPlan, IndicWouldSubstituteFeature, RephMode,
+    RephPosition,
 };
 pub use joining::JoiningType;
 pub use khmer::KhmerPlan;
@@ -53,13 +54,16 @@ pub struct Plan {
     pub stretch_start: StretchStart,
     /// Which places are flagged unsafe to break.
     pub break_flags: BreakFlags,
+    /// Among which consonants Indic looks for the base of a syllable.
+    pub base_search: BaseSearch,
     /// What the shaper itself keeps.
     pub plan_data: PlanData,
 }
 
 impl Plan {
     /// A plan whose shaper keeps nothing yet, for a font whose GPOS places no marks; tiles begin
-    /// and breaks are flagged as the code of HarfBuzz has it.
+    /// and breaks are flagged as the code of HarfBuzz has it, and Indic's base is looked for as in
+    /// rustybuzz 0.20.1.
     ///
     /// <details><summary>Contract</summary>
     ///
@@ -69,7 +73,7 @@ impl Plan {
     /// ensures { result ≡ new_plan script ot_map }
     /// ```
     ///
-    /// - `new_plan`: crates/shapers_base/specs/Plan.antt
+    /// - `new_plan`: `crates/shapers_base/specs/Plan.antt`
     ///
     /// </details>
     #[inline]
@@ -80,6 +84,7 @@ impl Plan {
             has_gpos_mark: false,
             stretch_start: StretchStart::AsCode,
             break_flags: BreakFlags::AsCode,
+            base_search: BaseSearch::WithoutMedials,
             plan_data: PlanData::None,
         }
     }
@@ -113,7 +118,7 @@ impl PlanData {
     /// ensures { option_copied result ≡ as_arabic self.now }
     /// ```
     ///
-    /// - `as_arabic`: crates/shapers_base/specs/Plan.antt
+    /// - `as_arabic`: `crates/shapers_base/specs/Plan.antt`
     ///
     /// </details>
     #[inline]
@@ -134,7 +139,7 @@ impl PlanData {
     /// ensures { option_copied result ≡ as_hangul self.now }
     /// ```
     ///
-    /// - `as_hangul`: crates/shapers_base/specs/Plan.antt
+    /// - `as_hangul`: `crates/shapers_base/specs/Plan.antt`
     ///
     /// </details>
     #[inline]
@@ -155,7 +160,7 @@ impl PlanData {
     /// ensures { option_copied result ≡ as_universal self.now }
     /// ```
     ///
-    /// - `as_universal`: crates/shapers_base/specs/Plan.antt
+    /// - `as_universal`: `crates/shapers_base/specs/Plan.antt`
     ///
     /// </details>
     #[inline]
@@ -176,7 +181,7 @@ impl PlanData {
     /// ensures { option_copied result ≡ as_khmer self.now }
     /// ```
     ///
-    /// - `as_khmer`: crates/shapers_base/specs/Plan.antt
+    /// - `as_khmer`: `crates/shapers_base/specs/Plan.antt`
     ///
     /// </details>
     #[inline]
@@ -197,7 +202,7 @@ impl PlanData {
     /// ensures { option_copied result ≡ as_indic self.now }
     /// ```
     ///
-    /// - `as_indic`: crates/shapers_base/specs/Plan.antt
+    /// - `as_indic`: `crates/shapers_base/specs/Plan.antt`
     ///
     /// </details>
     #[inline]

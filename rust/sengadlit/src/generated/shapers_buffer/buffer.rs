@@ -1,5 +1,5 @@
-//! Generated from crates/shapers_buffer/src/buffer.rt by rust/erase; edit the source.
-//!
+// Generated from crates/shapers_buffer/src/buffer.rt by rust/erase; edit the source.
+
 //! The buffer of glyphs: what the shapers read and rewrite.
 
 use crate::support::prelude::*;
@@ -38,6 +38,7 @@ pub use glyph_flags::{
 pub use glyph_marks::GlyphMarks;
 pub use level::{BufferClusterLevel, Direction};
 pub use merging::{least_cluster, merge_clusters_in};
+pub use placement::Placement;
 pub use refusal::ShaperError;
 pub use replacing::GlyphRewriting;
 pub use settings::{BufferSettings, context_characters};
@@ -80,7 +81,7 @@ impl Buffer {
     /// ensures { result ≡ new_buffer max_len }
     /// ```
     ///
-    /// - `new_buffer`: crates/shapers_buffer/specs/Buffer.antt
+    /// - `new_buffer`: `crates/shapers_buffer/specs/Buffer.antt`
     ///
     /// </details>
     #[inline]
@@ -159,6 +160,10 @@ impl Buffer {
 
     /// The glyph at place `i`.
     ///
+    /// # Panics
+    ///
+    /// Where `i` is no place of the buffer.
+    ///
     /// <details><summary>Contract</summary>
     ///
     /// # Contract
@@ -175,6 +180,10 @@ impl Buffer {
     }
 
     /// Puts a glyph at place `i`.
+    ///
+    /// # Panics
+    ///
+    /// Where `i` is no place of the buffer.
     ///
     /// <details><summary>Contract</summary>
     ///
@@ -193,6 +202,11 @@ impl Buffer {
 
     /// Adds a glyph at the end of a buffer without positions.
     ///
+    /// # Errors
+    ///
+    /// `TooLong` where the buffer would be longer than `max_len`, `Memory` where memory is
+    /// refused; nothing has changed then.
+    ///
     /// <details><summary>Contract</summary>
     ///
     /// # Contract
@@ -205,7 +219,7 @@ impl Buffer {
     /// ensures err { OnErr result (self.new ≡ self.old) }
     /// ```
     ///
-    /// - `RefusesLength`: crates/shapers_buffer/specs/Refusals.antt
+    /// - `RefusesLength`: `crates/shapers_buffer/specs/Refusals.antt`
     ///
     /// </details>
     #[inline]
@@ -220,6 +234,11 @@ impl Buffer {
 
     /// Adds `n` default glyphs at the end and, unless there are no positions, `n` zero positions.
     ///
+    /// # Errors
+    ///
+    /// `TooLong` where the buffer would be longer than `max_len`, `Memory` where memory is
+    /// refused; nothing has changed then.
+    ///
     /// <details><summary>Contract</summary>
     ///
     /// # Contract
@@ -230,8 +249,8 @@ impl Buffer {
     /// ensures err { OnErr result (self.new ≡ self.old) }
     /// ```
     ///
-    /// - `grown`: crates/shapers_buffer/specs/Buffer.antt
-    /// - `RefusesLength`: crates/shapers_buffer/specs/Refusals.antt
+    /// - `grown`: `crates/shapers_buffer/specs/Buffer.antt`
+    /// - `RefusesLength`: `crates/shapers_buffer/specs/Refusals.antt`
     ///
     /// </details>
     #[inline]
@@ -245,7 +264,7 @@ impl Buffer {
         if !self.pos.is_empty() {
             self.pos.resize(len, GlyphPosition::ZERO)?;
         }
-        self.info.resize(len, GlyphInfo::DEFAULT).unwrap();
+        self.info.resize(len, GlyphInfo::DEFAULT)?;
         Ok(())
     }
 
@@ -271,6 +290,10 @@ impl Buffer {
     }
 
     /// An equal buffer.
+    ///
+    /// # Errors
+    ///
+    /// `Memory`.
     ///
     /// <details><summary>Contract</summary>
     ///

@@ -1,5 +1,5 @@
-//! Generated from crates/shapers_hangul/src/ot_shaper_hangul.rt by rust/erase; edit the source.
-//!
+// Generated from crates/shapers_hangul/src/ot_shaper_hangul.rt by rust/erase; edit the source.
+
 //! The shaper of Hangul.
 
 use crate::generated::shapers_base::buffer::{Buffer, GlyphChange, GlyphInfo, Tag, change_each_in};
@@ -37,8 +37,8 @@ const OVERRIDES: [Request; 1] = [Request::Feature(Tag(*b"calt"), F_GLOBAL, 0)];
 /// ensures err { OnErr result (planner.new ≡ planner.old) }
 /// ```
 ///
-/// - `with_requests`: crates/shapers_base/specs/Planner.antt
-/// - `hangul_list`: crates/shapers_hangul/specs/Requests.antt
+/// - `with_requests`: `crates/shapers_base/specs/Planner.antt`
+/// - `hangul_list`: `crates/shapers_hangul/specs/Requests.antt`
 ///
 /// </details>
 pub fn collect_features(planner: &mut Planner) -> Result<(), ShaperError> {
@@ -58,8 +58,8 @@ pub fn collect_features(planner: &mut Planner) -> Result<(), ShaperError> {
 /// ensures err { OnErr result (planner.new ≡ planner.old) }
 /// ```
 ///
-/// - `with_requests`: crates/shapers_base/specs/Planner.antt
-/// - `hangul_overrides`: crates/shapers_hangul/specs/Requests.antt
+/// - `with_requests`: `crates/shapers_base/specs/Planner.antt`
+/// - `hangul_overrides`: `crates/shapers_hangul/specs/Requests.antt`
 ///
 /// </details>
 pub fn override_features(planner: &mut Planner) -> Result<(), ShaperError> {
@@ -91,9 +91,9 @@ pub fn override_features(planner: &mut Planner) -> Result<(), ShaperError> {
 /// ensures kept { AllKept (F.font face.now) buffer.old → IsOk result }
 /// ```
 ///
-/// - `RefusesLength`: crates/shapers_buffer/specs/Refusals.antt
-/// - `rewritten`: crates/shapers_hangul/specs/Hangul.antt
-/// - `AllKept`, `KeepsClusters`, `KeepsGlyphFlags`, `SpellsByUnits`, `SpellsSame`: crates/shapers_hangul/specs/HangulLaws.antt
+/// - `RefusesLength`: `crates/shapers_buffer/specs/Refusals.antt`
+/// - `rewritten`: `crates/shapers_hangul/specs/Hangul.antt`
+/// - `AllKept`, `KeepsClusters`, `KeepsGlyphFlags`, `SpellsByUnits`, `SpellsSame`: `crates/shapers_hangul/specs/HangulLaws.antt`
 ///
 /// </details>
 #[inline]
@@ -107,6 +107,11 @@ pub fn preprocess_text<F: Font>(
 
 /// `preprocess_text`, which returns whether it rewrote the text: just where every character stays as
 /// it is, it returns false, and has changed nothing.
+///
+/// # Errors
+///
+/// `TooLong` where the buffer would be longer than `max_len`, `Memory` where memory is refused;
+/// nothing has changed then.
 ///
 /// <details><summary>Contract</summary>
 ///
@@ -127,9 +132,9 @@ pub fn preprocess_text<F: Font>(
 /// ensures err { OnErr result (buffer.new ≡ buffer.old) }
 /// ```
 ///
-/// - `RefusesLength`: crates/shapers_buffer/specs/Refusals.antt
-/// - `rewritten`: crates/shapers_hangul/specs/Hangul.antt
-/// - `AllKept`, `KeepsClusters`, `KeepsGlyphFlags`, `SpellsByUnits`, `SpellsSame`: crates/shapers_hangul/specs/HangulLaws.antt
+/// - `RefusesLength`: `crates/shapers_buffer/specs/Refusals.antt`
+/// - `rewritten`: `crates/shapers_hangul/specs/Hangul.antt`
+/// - `AllKept`, `KeepsClusters`, `KeepsGlyphFlags`, `SpellsByUnits`, `SpellsSame`: `crates/shapers_hangul/specs/HangulLaws.antt`
 ///
 /// </details>
 #[inline]
@@ -152,8 +157,8 @@ pub fn preprocess_text_changes<F: Font>(
 /// ensures off_flags { All (λ mask. mask % 8 ≡ 0) (masks_kept result) }
 /// ```
 ///
-/// - `masks_kept`: crates/shapers_base/specs/Masks.antt
-/// - `jamo_masks`: crates/shapers_hangul/specs/Masks.antt
+/// - `masks_kept`: `crates/shapers_base/specs/Masks.antt`
+/// - `jamo_masks`: `crates/shapers_hangul/specs/Masks.antt`
 ///
 /// </details>
 pub fn create_data(plan: &Plan) -> PlanData {
@@ -190,7 +195,7 @@ impl GlyphChange for JamoMasks {
 /// ensures { glyphs.new ≡ map (with_numbered_mask hangul_plan.now.mask_array) glyphs.old }
 /// ```
 ///
-/// - `with_numbered_mask`: crates/shapers_base/specs/Masks.antt
+/// - `with_numbered_mask`: `crates/shapers_base/specs/Masks.antt`
 ///
 /// </details>
 #[inline]
@@ -214,8 +219,8 @@ pub fn setup_masks_in(hangul_plan: &HangulPlan, glyphs: &mut [GlyphInfo]) {
 /// ensures flags { OnlyFlagsAdded buffer.old.glyphs buffer.new.glyphs }
 /// ```
 ///
-/// - `OnlyFlagsAdded`: crates/shapers_clusters/specs/FlagLaw.antt
-/// - `is_hangul_data`, `with_jamo_masks`: crates/shapers_hangul/specs/Masks.antt
+/// - `OnlyFlagsAdded`: `crates/shapers_clusters/specs/FlagLaw.antt`
+/// - `is_hangul_data`, `with_jamo_masks`: `crates/shapers_hangul/specs/Masks.antt`
 ///
 /// </details>
 #[inline]
@@ -227,6 +232,6 @@ pub fn setup_masks(plan: &Plan, buffer: &mut Buffer) {
             };
             buffer.change_each(0, buffer.len(), &masks);
         }
-        _ => unreachable!(),
+        _ => unreachable!("the plan has no data of the Hangul shaper"),
     }
 }

@@ -1,5 +1,5 @@
-//! Generated from crates/shapers_indic/src/lib.rt by rust/erase; edit the source.
-//!
+// Generated from crates/shapers_indic/src/lib.rt by rust/erase; edit the source.
+
 //! The shaper of the Indic scripts.
 
 pub mod ot_shaper_indic;

@@ -1,5 +1,5 @@
-//! Generated from crates/shapers_indic/src/ot_shaper_indic.rt by rust/erase; edit the source.
-//!
+// Generated from crates/shapers_indic/src/ot_shaper_indic.rt by rust/erase; edit the source.
+
 //! The shaper of the Indic scripts.
 
 use crate::generated::shapers_base::buffer::{Buffer, Tag};
@@ -78,8 +78,8 @@ const OVERRIDES: [Request; 2] = [
 /// ensures err { OnErr result (planner.new ≡ planner.old) }
 /// ```
 ///
-/// - `with_requests`: crates/shapers_base/specs/Planner.antt
-/// - `indic_list`: crates/shapers_indic/specs/Requests.antt
+/// - `with_requests`: `crates/shapers_base/specs/Planner.antt`
+/// - `indic_list`: `crates/shapers_indic/specs/Requests.antt`
 ///
 /// </details>
 pub fn collect_features(planner: &mut Planner) -> Result<(), ShaperError> {
@@ -99,8 +99,8 @@ pub fn collect_features(planner: &mut Planner) -> Result<(), ShaperError> {
 /// ensures err { OnErr result (planner.new ≡ planner.old) }
 /// ```
 ///
-/// - `with_requests`: crates/shapers_base/specs/Planner.antt
-/// - `indic_overrides`: crates/shapers_indic/specs/Requests.antt
+/// - `with_requests`: `crates/shapers_base/specs/Planner.antt`
+/// - `indic_overrides`: `crates/shapers_indic/specs/Requests.antt`
 ///
 /// </details>
 pub fn override_features(planner: &mut Planner) -> Result<(), ShaperError> {
@@ -119,7 +119,7 @@ pub fn override_features(planner: &mut Planner) -> Result<(), ShaperError> {
 /// ensures { result ≡ composed_in_indic (T.tables tables.now) a b }
 /// ```
 ///
-/// - `composed_in_indic`: crates/shapers_indic/specs/Characters.antt
+/// - `composed_in_indic`: `crates/shapers_indic/specs/Characters.antt`
 ///
 /// </details>
 #[inline]
@@ -140,7 +140,7 @@ pub fn compose<T: Tables>(tables: &T, a: char, b: char) -> Option<char> {
 /// ensures { result ≡ decomposed_in_indic (T.tables tables.now) ab }
 /// ```
 ///
-/// - `decomposed_in_indic`: crates/shapers_indic/specs/Characters.antt
+/// - `decomposed_in_indic`: `crates/shapers_indic/specs/Characters.antt`
 ///
 /// </details>
 #[inline]
@@ -165,7 +165,7 @@ pub fn decompose<T: Tables>(tables: &T, ab: char) -> Option<(char, char)> {
 ///     buffer.new ≡ record buffer.old { glyphs = changed } }
 /// ```
 ///
-/// - `with_category_and_position`: crates/shapers_syllabic/specs/Characters.antt
+/// - `with_category_and_position`: `crates/shapers_syllabic/specs/Characters.antt`
 ///
 /// </details>
 #[inline]

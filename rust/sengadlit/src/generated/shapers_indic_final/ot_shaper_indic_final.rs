@@ -1,5 +1,5 @@
-//! Generated from crates/shapers_indic_final/src/ot_shaper_indic_final.rt by rust/erase; edit the source.
-//!
+// Generated from crates/shapers_indic_final/src/ot_shaper_indic_final.rt by rust/erase; edit the source.
+
 //! The final reordering of Indic syllables: after substitutions each finds its base again, and its
 //! left matras, its reph and a formed pref glyph go to their places. (OpenType, development of
 //! Indic scripts: "Final reordering".)

@@ -1,5 +1,5 @@
-//! Generated from crates/shapers_indic_initial/src/ot_shaper_indic_initial.rt by rust/erase; edit the source.
-//!
+// Generated from crates/shapers_indic_initial/src/ot_shaper_indic_initial.rt by rust/erase; edit the source.
+
 //! The initial reordering of Indic syllables: positions by the font, dotted circles, and then each
 //! syllable by itself. (OpenType, development of Indic scripts: "Reorder characters".)
 

@@ -1,5 +1,5 @@
-//! Generated from crates/shapers_khmer/src/ot_shaper_khmer.rt by rust/erase; edit the source.
-//!
+// Generated from crates/shapers_khmer/src/ot_shaper_khmer.rt by rust/erase; edit the source.
+
 //! The shaper of Khmer.
 
 use crate::generated::shapers_base::buffer::{Buffer, Tag};
@@ -53,8 +53,8 @@ const OVERRIDES: [Request; 2] = [
 /// ensures err { OnErr result (planner.new ≡ planner.old) }
 /// ```
 ///
-/// - `with_requests`: crates/shapers_base/specs/Planner.antt
-/// - `khmer_list`: crates/shapers_khmer/specs/Requests.antt
+/// - `with_requests`: `crates/shapers_base/specs/Planner.antt`
+/// - `khmer_list`: `crates/shapers_khmer/specs/Requests.antt`
 ///
 /// </details>
 pub fn collect_features(planner: &mut Planner) -> Result<(), ShaperError> {
@@ -74,8 +74,8 @@ pub fn collect_features(planner: &mut Planner) -> Result<(), ShaperError> {
 /// ensures err { OnErr result (planner.new ≡ planner.old) }
 /// ```
 ///
-/// - `with_requests`: crates/shapers_base/specs/Planner.antt
-/// - `khmer_overrides`: crates/shapers_khmer/specs/Requests.antt
+/// - `with_requests`: `crates/shapers_base/specs/Planner.antt`
+/// - `khmer_overrides`: `crates/shapers_khmer/specs/Requests.antt`
 ///
 /// </details>
 pub fn override_features(planner: &mut Planner) -> Result<(), ShaperError> {
@@ -94,8 +94,8 @@ pub fn override_features(planner: &mut Planner) -> Result<(), ShaperError> {
 /// ensures off_flags { All (λ mask. mask % 8 ≡ 0) (masks_kept result) }
 /// ```
 ///
-/// - `masks_kept`: crates/shapers_base/specs/Masks.antt
-/// - `khmer_masks`: crates/shapers_khmer/specs/Plan.antt
+/// - `masks_kept`: `crates/shapers_base/specs/Masks.antt`
+/// - `khmer_masks`: `crates/shapers_khmer/specs/Plan.antt`
 ///
 /// </details>
 pub fn create_data(plan: &Plan) -> PlanData {
@@ -126,7 +126,7 @@ pub fn create_data(plan: &Plan) -> PlanData {
 /// ensures { result ≡ composed_behind (T.tables tables.now) a b }
 /// ```
 ///
-/// - `composed_behind`: crates/shapers_syllabic/specs/Characters.antt
+/// - `composed_behind`: `crates/shapers_syllabic/specs/Characters.antt`
 ///
 /// </details>
 #[inline]
@@ -145,7 +145,7 @@ pub fn compose<T: Tables>(tables: &T, a: char, b: char) -> Option<char> {
 /// ensures { result ≡ decomposed_in_khmer (T.tables tables.now) ab }
 /// ```
 ///
-/// - `decomposed_in_khmer`: crates/shapers_khmer/specs/Khmer.antt
+/// - `decomposed_in_khmer`: `crates/shapers_khmer/specs/Khmer.antt`
 ///
 /// </details>
 #[inline]
@@ -168,7 +168,7 @@ pub fn decompose<T: Tables>(tables: &T, ab: char) -> Option<(char, char)> {
 ///     record buffer.old { glyphs = map (with_category (T.tables tables.now)) buffer.old.glyphs } }
 /// ```
 ///
-/// - `with_category`: crates/shapers_syllabic/specs/Characters.antt
+/// - `with_category`: `crates/shapers_syllabic/specs/Characters.antt`
 ///
 /// </details>
 #[inline]

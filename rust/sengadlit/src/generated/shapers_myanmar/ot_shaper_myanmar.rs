@@ -1,5 +1,5 @@
-//! Generated from crates/shapers_myanmar/src/ot_shaper_myanmar.rt by rust/erase; edit the source.
-//!
+// Generated from crates/shapers_myanmar/src/ot_shaper_myanmar.rt by rust/erase; edit the source.
+
 //! The shaper of Myanmar.
 
 mod moving;
@@ -52,8 +52,8 @@ const REQUESTS: [Request; 17] = [
 /// ensures err { OnErr result (planner.new ≡ planner.old) }
 /// ```
 ///
-/// - `with_requests`: crates/shapers_base/specs/Planner.antt
-/// - `myanmar_list`: crates/shapers_myanmar/specs/Requests.antt
+/// - `with_requests`: `crates/shapers_base/specs/Planner.antt`
+/// - `myanmar_list`: `crates/shapers_myanmar/specs/Requests.antt`
 ///
 /// </details>
 pub fn collect_features(planner: &mut Planner) -> Result<(), ShaperError> {
@@ -71,7 +71,7 @@ pub fn collect_features(planner: &mut Planner) -> Result<(), ShaperError> {
 ///     record buffer.old { glyphs = map (with_category (T.tables tables.now)) buffer.old.glyphs } }
 /// ```
 ///
-/// - `with_category`: crates/shapers_syllabic/specs/Characters.antt
+/// - `with_category`: `crates/shapers_syllabic/specs/Characters.antt`
 ///
 /// </details>
 #[inline]
@@ -102,6 +102,9 @@ const CIRCLES: ScriptCircles = ScriptCircles {
 ///     IfOk result (λ answer. answer ≡ is_some circles) }
 /// ensures order { let circles = script_circles myanmar_circles (F.font face.now) buffer.old in
 ///     OnOk result (PauseReordered circles myanmar_order myanmar_steps buffer.old buffer.new) }
+/// ensures linked { let circles = script_circles myanmar_circles (F.font face.now) buffer.old in
+///     OnOk result (PauseLinked circles
+///     (SyllableReordered myanmar_order myanmar_steps) buffer.old buffer.new) }
 /// ensures cut { let circles = script_circles myanmar_circles (F.font face.now) buffer.old in
 ///     OnOk result (PauseCutsAtBorders circles myanmar_order myanmar_steps buffer.old buffer.new) }
 /// ensures laws { let circles = script_circles myanmar_circles (F.font face.now) buffer.old in
@@ -119,15 +122,15 @@ const CIRCLES: ScriptCircles = ScriptCircles {
 ///     circled circles buffer.old.glyphs ≡ buffer.old.glyphs → IsOk result }
 /// ```
 ///
-/// - `order_view`: crates/shapers_buffer/specs/Glyph.antt
-/// - `Refuses`: crates/shapers_buffer/specs/Refusals.antt
-/// - `unknown_refusal`: crates/shapers_buffer/specs/Syllables.antt
-/// - `ReorderedHold`: crates/shapers_clusters/specs/Laws.antt
-/// - `myanmar_circles`, `myanmar_order`, `myanmar_steps`: crates/shapers_myanmar/specs/Myanmar.antt
-/// - `NoNewCluster`: crates/shapers_syllabic/specs/CircleLaws.antt
-/// - `circled`: crates/shapers_syllabic/specs/Circles.antt
-/// - `PauseReordered`, `carried`, `script_circles`, `text_steps`: crates/shapers_syllabic/specs/Reordering.antt
-/// - `PauseCutsAtBorders`: crates/shapers_syllabic/specs/ReorderingLaws.antt
+/// - `order_view`: `crates/shapers_buffer/specs/Glyph.antt`
+/// - `Refuses`: `crates/shapers_buffer/specs/Refusals.antt`
+/// - `unknown_refusal`: `crates/shapers_buffer/specs/Syllables.antt`
+/// - `ReorderedHold`: `crates/shapers_clusters/specs/Laws.antt`
+/// - `myanmar_circles`, `myanmar_order`, `myanmar_steps`: `crates/shapers_myanmar/specs/Myanmar.antt`
+/// - `NoNewCluster`: `crates/shapers_syllabic/specs/CircleLaws.antt`
+/// - `circled`: `crates/shapers_syllabic/specs/Circles.antt`
+/// - `PauseLinked`, `PauseReordered`, `SyllableReordered`, `carried`, `script_circles`, `text_steps`: `crates/shapers_syllabic/specs/Reordering.antt`
+/// - `PauseCutsAtBorders`: `crates/shapers_syllabic/specs/ReorderingLaws.antt`
 ///
 /// </details>
 #[inline]

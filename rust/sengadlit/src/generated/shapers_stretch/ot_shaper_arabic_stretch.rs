@@ -1,5 +1,5 @@
-//! Generated from crates/shapers_stretch/src/ot_shaper_arabic_stretch.rt by rust/erase; edit the source.
-//!
+// Generated from crates/shapers_stretch/src/ot_shaper_arabic_stretch.rt by rust/erase; edit the source.
+
 //! Marks that stretch: their tiles are laid, and laid again, over the word before them. (OpenType
 //! `stch`.)
 

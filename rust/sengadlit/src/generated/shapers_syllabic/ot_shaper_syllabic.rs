@@ -1,5 +1,5 @@
-//! Generated from crates/shapers_syllabic/src/ot_shaper_syllabic.rt by rust/erase; edit the source.
-//!
+// Generated from crates/shapers_syllabic/src/ot_shaper_syllabic.rt by rust/erase; edit the source.
+
 //! What the shapers of syllabic scripts share: syllables by spans, dotted circles, reordering,
 //! clearing.
 
@@ -8,10 +8,10 @@ mod circles;
 mod clearing;
 mod consonants;
 mod kinds;
+mod moving;
 mod pause;
 mod reordering;
 mod set_up;
-mod turning;
 
 pub use characters::{
     compose, set_categories, set_categories_and_positions, set_categories_and_positions_in,
@@ -23,7 +23,7 @@ pub use clearing::{
 };
 pub use consonants::is_consonant;
 pub use kinds::{indic_syllable, khmer_syllable, myanmar_syllable, use_syllable};
+pub use moving::{move_before, place_among};
 pub use pause::reorder_pause;
-pub use reordering::{Reorder, reorder_syllables, syllable_start};
+pub use reordering::{MayChange, Reorder, ReorderBySteps, next_changing, reorder_syllables};
 pub use set_up::{flag_syllables_in, set_up_by_bytes, set_up_syllables};
-pub use turning::{move_before, place_among, turn_left, turn_right};

@@ -1,5 +1,5 @@
-//! Generated from crates/shapers_text/src/ot_shaper_hebrew.rt by rust/erase; edit the source.
-//!
+// Generated from crates/shapers_text/src/ot_shaper_hebrew.rt by rust/erase; edit the source.
+
 //! Hebrew: the order of marks, and the letters that compose with points where the font places no
 //! marks.
 
@@ -31,9 +31,9 @@ use crate::generated::shapers_base::plan::Plan;
 /// ensures laws { HebrewMarksReordered start end buffer.old buffer.new }
 /// ```
 ///
-/// - `order_view`: crates/shapers_buffer/specs/Glyph.antt
-/// - `run_step`: crates/shapers_clusters/specs/Steps.antt
-/// - `HebrewMarksReordered`, `hebrew_mark_step`, `marks_swapped`: crates/shapers_text/specs/Hebrew.antt
+/// - `order_view`: `crates/shapers_buffer/specs/Glyph.antt`
+/// - `run_step`: `crates/shapers_clusters/specs/Steps.antt`
+/// - `HebrewMarksReordered`, `hebrew_mark_step`, `marks_swapped`: `crates/shapers_text/specs/Hebrew.antt`
 ///
 /// </details>
 #[inline]
@@ -42,8 +42,8 @@ pub fn reorder_marks(_plan: &Plan, buffer: &mut Buffer, start: usize, end: usize
     buffer.walk(&mut MarkOrder { level, start, end });
 }
 
-/// The same in a slice whose clusters merge at this level. Returns whether marks changed places:
-/// where it returns false nothing changed.
+/// `reorder_marks` of glyphs in a slice, whose clusters merge at this level. Returns whether marks
+/// changed places: where it returns false nothing changed.
 ///
 /// <details><summary>Contract</summary>
 ///
@@ -57,8 +57,8 @@ pub fn reorder_marks(_plan: &Plan, buffer: &mut Buffer, start: usize, end: usize
 /// ensures unchanged { result ≡ false → glyphs.new ≡ glyphs.old }
 /// ```
 ///
-/// - `run_step`: crates/shapers_clusters/specs/Steps.antt
-/// - `hebrew_mark_step`, `second_of_triple`: crates/shapers_text/specs/Hebrew.antt
+/// - `run_step`: `crates/shapers_clusters/specs/Steps.antt`
+/// - `hebrew_mark_step`, `second_of_triple`: `crates/shapers_text/specs/Hebrew.antt`
 ///
 /// </details>
 pub fn reorder_marks_in(
@@ -133,7 +133,7 @@ fn opens_triple(marks: &[GlyphInfo]) -> bool {
 ///     result ≡ composed_in_hebrew composed plan.now.has_gpos_mark a b }
 /// ```
 ///
-/// - `composed_in_hebrew`: crates/shapers_text/specs/Hebrew.antt
+/// - `composed_in_hebrew`: `crates/shapers_text/specs/Hebrew.antt`
 ///
 /// </details>
 #[inline]

@@ -1,5 +1,5 @@
-//! Generated from crates/shapers_text/src/ot_shaper_thai.rt by rust/erase; edit the source.
-//!
+// Generated from crates/shapers_text/src/ot_shaper_thai.rt by rust/erase; edit the source.
+
 //! Thai and Lao: SARA AM in two, and for fonts whose GSUB table doesn't know Thai its private use
 //! forms.
 
@@ -45,11 +45,11 @@ const THAI: Script = Script(*b"Thai");
 ///     some ≡ false → IsOk result }
 /// ```
 ///
-/// - `characters`, `clusters`: crates/shapers_buffer/specs/Glyph.antt
-/// - `RefusesLength`: crates/shapers_buffer/specs/Refusals.antt
-/// - `glyphs_in_two`, `is_sara_am`: crates/shapers_text/specs/Thai.antt
-/// - `asks_for_forms`, `preprocessed_in_thai`: crates/shapers_text/specs/ThaiForms.antt
-/// - `ClustersInTwo`, `FlagsInTwo`, `KeptInTwo`: crates/shapers_text/specs/ThaiLaws.antt
+/// - `characters`, `clusters`: `crates/shapers_buffer/specs/Glyph.antt`
+/// - `RefusesLength`: `crates/shapers_buffer/specs/Refusals.antt`
+/// - `glyphs_in_two`, `is_sara_am`: `crates/shapers_text/specs/Thai.antt`
+/// - `asks_for_forms`, `preprocessed_in_thai`: `crates/shapers_text/specs/ThaiForms.antt`
+/// - `ClustersInTwo`, `FlagsInTwo`, `KeptInTwo`: `crates/shapers_text/specs/ThaiLaws.antt`
 ///
 /// </details>
 pub fn preprocess_text<F: Font>(
@@ -66,6 +66,11 @@ pub fn preprocess_text<F: Font>(
 
 /// `preprocess_text`, which returns whether it rewrote the text: where there is no SARA AM and the
 /// plan wants no private use forms, it returns false and has changed nothing.
+///
+/// # Errors
+///
+/// `TooLong` where the buffer would be longer than `max_len`, `Memory` where memory is refused;
+/// nothing has changed then.
 ///
 /// <details><summary>Contract</summary>
 ///
@@ -91,11 +96,11 @@ pub fn preprocess_text<F: Font>(
 ///     some ≡ false → IsOk result }
 /// ```
 ///
-/// - `characters`, `clusters`: crates/shapers_buffer/specs/Glyph.antt
-/// - `RefusesLength`: crates/shapers_buffer/specs/Refusals.antt
-/// - `glyphs_in_two`, `is_sara_am`: crates/shapers_text/specs/Thai.antt
-/// - `asks_for_forms`, `preprocessed_in_thai`: crates/shapers_text/specs/ThaiForms.antt
-/// - `ClustersInTwo`, `FlagsInTwo`, `KeptInTwo`: crates/shapers_text/specs/ThaiLaws.antt
+/// - `characters`, `clusters`: `crates/shapers_buffer/specs/Glyph.antt`
+/// - `RefusesLength`: `crates/shapers_buffer/specs/Refusals.antt`
+/// - `glyphs_in_two`, `is_sara_am`: `crates/shapers_text/specs/Thai.antt`
+/// - `asks_for_forms`, `preprocessed_in_thai`: `crates/shapers_text/specs/ThaiForms.antt`
+/// - `ClustersInTwo`, `FlagsInTwo`, `KeptInTwo`: `crates/shapers_text/specs/ThaiLaws.antt`
 ///
 /// </details>
 pub fn preprocess_text_changes<F: Font>(

@@ -1,5 +1,5 @@
-//! Generated from crates/shapers_universal/src/ot_shaper_use.rt by rust/erase; edit the source.
-//!
+// Generated from crates/shapers_universal/src/ot_shaper_use.rt by rust/erase; edit the source.
+
 //! The universal shaper.
 
 use crate::generated::shapers_base::buffer::Tag;
@@ -76,8 +76,8 @@ const REQUESTS: [Request; 30] = [
 /// ensures err { OnErr result (planner.new ≡ planner.old) }
 /// ```
 ///
-/// - `with_requests`: crates/shapers_base/specs/Planner.antt
-/// - `universal_list`: crates/shapers_universal/specs/Requests.antt
+/// - `with_requests`: `crates/shapers_base/specs/Planner.antt`
+/// - `universal_list`: `crates/shapers_universal/specs/Requests.antt`
 ///
 /// </details>
 pub fn collect_features(planner: &mut Planner) -> Result<(), ShaperError> {

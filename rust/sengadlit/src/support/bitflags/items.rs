@@ -185,6 +185,10 @@ macro_rules! bitflag_methods {
             }
 
             /// The flags of the set, one at a time, and then what other bits are left.
+            #[allow(
+                clippy::iter_without_into_iter,
+                reason = "bitflags itself has none by reference"
+            )]
             pub fn iter(&self) -> $crate::support::bitflags::Iter<Self> {
                 $crate::support::bitflags::Flags::iter(self)
             }

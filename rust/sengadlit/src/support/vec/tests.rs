@@ -21,7 +21,10 @@ fn a_new_list_is_empty_and_takes_no_memory() {
 fn a_list_has_the_capacity_that_it_is_made_with() {
     let list: Vec<u32> = Vec::with_capacity(Global, 9).unwrap();
     assert!(list.is_empty());
-    assert!(list.capacity() >= 9);
+    assert_eq!(list.capacity(), 9);
+    let mut words = self::list(&[1]);
+    words.reserve_exact(9).unwrap();
+    assert_eq!(words.capacity(), 10);
 }
 
 #[test]

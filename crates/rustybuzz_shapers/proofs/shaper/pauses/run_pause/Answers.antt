@@ -2,18 +2,20 @@
 use Rattle.std.proofs.Common.{refl, sym, subst}
 use Rattle.std.specs.Prelude.{OnOk}
 use Rattle.shapers_base.specs.declared.plan.pause.Pause.{Pause}
+use Rattle.shapers_base.specs.declared.plan.pause.Pause.TheVariants.{InitialReordering}
+use Rattle.shapers_buffer.specs.Buffer.{Buffer}
 use Rattle.shapers_indic.specs.Plan.{indic_in}
 use Rattle.shapers_indic_initial.proofs.FontPositions.{order_by_font_laws}
 use Rattle.shapers_indic_initial.proofs.InitialSerialsStay.{order_by_font_reads_no_serials}
 use Rattle.shapers_khmer.specs.Khmer.{order_in}
-use Rattle.shapers_khmer.proofs.KhmerLaws.{khmer_laws}
+use Rattle.shapers_khmer.specs.Proved.KhmerLaws.{khmer_laws}
 use Rattle.shapers_khmer.proofs.KhmerSerials.{khmer_reads_no_serials}
-use Rattle.shapers_myanmar.proofs.MyanmarLaws.{myanmar_laws}
+use Rattle.shapers_myanmar.specs.Proved.MyanmarLaws.{myanmar_laws}
 use Rattle.shapers_myanmar.proofs.MyanmarSerials.{myanmar_reads_no_serials}
 use Rattle.shapers_universal.specs.PlanData.{rphf_of}
 use Rattle.shapers_universal.proofs.UniversalSerials.{universal_reads_no_serials}
-use Rattle.shapers_universal.proofs.UniversalView.{universal_laws}
-use Rattle.rustybuzz_shapers.specs.Pauses.{PauseKeeps, by_initial, by_khmer, by_myanmar, by_universal}
+use Rattle.shapers_universal.specs.Proved.UniversalView.{universal_laws}
+use Rattle.rustybuzz_shapers.specs.Pauses.{PauseKeeps, RefusesPause, by_initial, by_khmer, by_myanmar, by_universal}
 use Rattle.shapers_syllabic.proofs.SetUpFlags.{set_up_added}
 use Rattle.rustybuzz_shapers.proofs.FlagLaws.{bytes_cleared, marks_cleared, pref_record_added, rphf_record_added, tiles_added, unchanged_added}
 use Rattle.rustybuzz_shapers.proofs.PauseLaws.{both, on_kept}
@@ -77,9 +79,17 @@ pub returns-in-InitialReordering-clause-laws : goal.returns-in-InitialReordering
 returns-in-InitialReordering-clause-laws g c =
     let plan = c.args.plan.now in
     let font = g.F.hb_font_t.font c.args.face.now in
-    let old = c.args.buffer.now in
-    let new = c.initial_reordering.new.buffer in
-    subst (λ (p : Pause). OnOk c.initial_reordering.result (PauseKeeps p plan font c.args.spans.now old new)) (sym c.in-InitialReordering.is) (on_kept _ c.initial_reordering.result (by_initial plan font old) old new (order_by_font_laws font plan.ot_map (indic_in plan) old.script) (order_by_font_reads_no_serials font plan.ot_map (indic_in plan) old.script) c.initial_reordering.ensures.syllables c.initial_reordering.ensures.merged)
+    let made = c.initial_reordering-circles in
+    let text = c.replace-text.result in
+    let new = made.new.buffer in
+    let kept = on_kept _ made.result (by_initial plan font text) text new (order_by_font_laws font plan.ot_map (indic_in plan) text.script) (order_by_font_reads_no_serials font plan.ot_map (indic_in plan) text.script) made.ensures.syllables (both _ _ made.result made.ensures.linked made.ensures.merged) in
+    subst (λ (p : Pause). OnOk made.result (PauseKeeps p plan font c.args.spans.now c.args.buffer.now new)) (sym c.in-InitialReordering.is) (subst (λ (b : Buffer). OnOk made.result (PauseKeeps InitialReordering plan font c.args.spans.now b new)) c.replace-text.ensures.value kept)
+
+pub returns-in-InitialReordering-clause-refusal : goal.returns-in-InitialReordering-clause-refusal
+returns-in-InitialReordering-clause-refusal g c =
+    let font = g.F.hb_font_t.font c.args.face.now in
+    let made = c.initial_reordering-circles in
+    subst (λ (p : Pause). RefusesPause p font c.args.spans.now c.args.buffer.now made.result) (sym c.in-InitialReordering.is) (subst (λ (b : Buffer). RefusesPause InitialReordering font c.args.spans.now b made.result) c.replace-text.ensures.value (made.ensures.refusal, made.ensures.without_memory))
 
 pub returns-in-ReorderKhmer-clause-laws : goal.returns-in-ReorderKhmer-clause-laws
 returns-in-ReorderKhmer-clause-laws g c =
@@ -87,7 +97,7 @@ returns-in-ReorderKhmer-clause-laws g c =
     let font = g.F.hb_font_t.font c.args.face.now in
     let old = c.args.buffer.now in
     let new = c.reorder_khmer.new.buffer in
-    subst (λ (p : Pause). OnOk c.reorder_khmer.result (PauseKeeps p plan font c.args.spans.now old new)) (sym c.in-ReorderKhmer.is) (on_kept _ c.reorder_khmer.result (by_khmer plan font old) old new (khmer_laws (order_in plan.plan_data)) (khmer_reads_no_serials (order_in plan.plan_data)) c.reorder_khmer.ensures.ok (both _ _ c.reorder_khmer.result c.reorder_khmer.ensures.laws c.reorder_khmer.ensures.movers))
+    subst (λ (p : Pause). OnOk c.reorder_khmer.result (PauseKeeps p plan font c.args.spans.now old new)) (sym c.in-ReorderKhmer.is) (on_kept _ c.reorder_khmer.result (by_khmer plan font old) old new (khmer_laws (order_in plan.plan_data)) (khmer_reads_no_serials (order_in plan.plan_data)) c.reorder_khmer.ensures.ok (both _ _ c.reorder_khmer.result c.reorder_khmer.ensures.linked (both _ _ c.reorder_khmer.result c.reorder_khmer.ensures.laws c.reorder_khmer.ensures.movers)))
 
 pub returns-in-ReorderMyanmar-clause-laws : goal.returns-in-ReorderMyanmar-clause-laws
 returns-in-ReorderMyanmar-clause-laws g c =
@@ -95,7 +105,7 @@ returns-in-ReorderMyanmar-clause-laws g c =
     let font = g.F.hb_font_t.font c.args.face.now in
     let old = c.args.buffer.now in
     let new = c.reorder_myanmar.new.buffer in
-    subst (λ (p : Pause). OnOk c.reorder_myanmar.result (PauseKeeps p plan font c.args.spans.now old new)) (sym c.in-ReorderMyanmar.is) (on_kept _ c.reorder_myanmar.result (by_myanmar font old) old new myanmar_laws myanmar_reads_no_serials c.reorder_myanmar.ensures.order c.reorder_myanmar.ensures.laws)
+    subst (λ (p : Pause). OnOk c.reorder_myanmar.result (PauseKeeps p plan font c.args.spans.now old new)) (sym c.in-ReorderMyanmar.is) (on_kept _ c.reorder_myanmar.result (by_myanmar font old) old new myanmar_laws myanmar_reads_no_serials c.reorder_myanmar.ensures.order (both _ _ c.reorder_myanmar.result c.reorder_myanmar.ensures.linked c.reorder_myanmar.ensures.laws))
 
 pub returns-in-ReorderUse-clause-laws : goal.returns-in-ReorderUse-clause-laws
 returns-in-ReorderUse-clause-laws g c =
@@ -103,4 +113,4 @@ returns-in-ReorderUse-clause-laws g c =
     let font = g.F.hb_font_t.font c.args.face.now in
     let old = c.args.buffer.now in
     let new = c.reorder_use.new.buffer in
-    subst (λ (p : Pause). OnOk c.reorder_use.result (PauseKeeps p plan font c.args.spans.now old new)) (sym c.in-ReorderUse.is) (on_kept _ c.reorder_use.result (by_universal font old) old new universal_laws universal_reads_no_serials c.reorder_use.ensures.ok c.reorder_use.ensures.laws)
+    subst (λ (p : Pause). OnOk c.reorder_use.result (PauseKeeps p plan font c.args.spans.now old new)) (sym c.in-ReorderUse.is) (on_kept _ c.reorder_use.result (by_universal font old) old new universal_laws universal_reads_no_serials c.reorder_use.ensures.ok (both _ _ c.reorder_use.result c.reorder_use.ensures.linked c.reorder_use.ensures.laws))

@@ -18,7 +18,6 @@ loop-i-init g c =
         flagged = refl;
       };
       counted = omega arith;
-      state = c.requires.state;
       within = tt;
     }
 
@@ -36,6 +35,5 @@ loop-i-preserved g c =
       text = c.join_place.ensures.text ∙ l.invariant.text;
       walked = λ before e. c.join_place.ensures.walked before (stored_types joining gs) gs (omega (arith, length-map gs (λ g2. resolved (joining g2.glyph_id) g2.general_category), length-same_text gs l.glyphs l.invariant.text)) (type-at joining gs l.glyphs l.i default_glyph (omega arith) l.invariant.text ∙ sym c.stored_type-joining_type.ensures.type_is) (l.invariant.walked before e);
       counted = omega arith;
-      state = c.join_place.ensures.state;
       within = c.join_place.ensures.within;
     }

@@ -1,5 +1,5 @@
 -- The letters so far.
-use Rattle.std.proofs.Common.{◌≡◌, ◌+◌, ◌<◌, List}
+use Rattle.std.proofs.Common.{◌≡◌, ◌+◌, List}
 use Rattle.shapers_base.specs.declared.plan.joining.hb_arabic_joining_type_t.{hb_arabic_joining_type_t}
 use Rattle.shapers_arabic.specs.Joining.{nearest}
 use Rattle.shapers_arabic.specs.JoinedText.{stored_types}
@@ -11,6 +11,5 @@ invariant-loop-i g l = record {
   text : SameText l.initial.glyphs l.glyphs;
   walked : (before : List hb_arabic_joining_type_t) → l.fn.state ≡ state_at_start (nearest before) → WalkedTo l.flags before (stored_types (g.T.Tables.tables l.tables).joining l.initial.glyphs) l.initial.glyphs l.i l.letters.state l.letters.last l.glyphs;
   counted : l.count ≡ l.initial.count + l.i;
-  state : l.letters.state < 7;
   within : IsWithin l.letters.last l.i;
 }

@@ -39,6 +39,5 @@ returns-in_default c =
         walked = walked-at before types (i + 1) (cell letters.state t).2 new.state (Some i) new.last _ _ (walk-letter before types i letters.state letters.last fs t h at letter w.walked) c.join_letter.ensures.state c.join_letter.ensures.last c.join_letter.ensures.forms;
         flagged = flagged-letter c.args.flags before types first gs hs i letters.state letters.last t h at letter w.walked.last_is w.flagged c.join_letter.ensures.flagged;
       };
-      state = c.join_letter.ensures.next;
       within = subst (λ last. IsWithin last (i + 1)) (sym c.join_letter.ensures.last) (let low : i < i + 1 = omega arith in low);
     }

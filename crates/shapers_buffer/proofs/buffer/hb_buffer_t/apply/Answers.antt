@@ -1,36 +1,47 @@
-use Rattle.std.proofs.Common.{◌≡◌, ◌<◌, ◌++◌, ◌∙◌, ap, arith, drop, length, List, subst, sym, take, ℕ}
-use Rattle.std.proofs.lemmas.List.{take_at}
-use Rattle.std.specs.List.{All}
+-- Each form of a placement makes of the glyphs what its places say.
+use Rattle.std.proofs.Common.{◌≡◌, ◌+◌, ◌≤◌, ◌∙◌, List, ℕ, ap, arith, length, subst, sym}
 use Rattle.shapers_buffer.specs.Buffer.{Buffer}
-use Rattle.shapers_buffer.specs.Clusters.{stretch_of, with_stretch}
-use Rattle.shapers_buffer.specs.Places.{listed, pick, placed, without_last_zeros}
-use Rattle.shapers_buffer.specs.contracts.buffer.hb_buffer_t.{the_view}
+use Rattle.shapers_buffer.specs.Places.{PlacesEachOnce, placed_by}
+use Rattle.shapers_buffer.specs.declared.buffer.placement.Placement.{Placement}
+use Rattle.shapers_buffer.specs.declared.buffer.placement.Placement.TheVariants.{Forward}
 use Rattle.shapers_buffer.specs.declared.buffer.glyph.hb_glyph_info_t.{hb_glyph_info_t}
-use Rattle.shapers_buffer.proofs.PlaceLaws.{listed-stretch, listed_within}
+use Rattle.shapers_buffer.proofs.Placements.{forward_inside, placed_forward, placed_stays, rotated_stretch}
 use Rattle.shapers_buffer.proofs.buffer.hb_buffer_t.apply.Goals as goal
 
-pub reorder-requires-clause-within : goal.reorder-requires-clause-within
-reorder-requires-clause-within c =
-    let s = c.args.start in
-    let e = c.args.end in
-    let places = c.open_places.new.places.items in
-    let same_length : length c.deref_mut.result.now ≡ length c.args.self.now.glyphs = ap length c.deref_mut.ensures.value ∙ ap (λ (b : Buffer). length b.glyphs) c.self.view_is in
-    let n = length c.deref_mut.result.now in
-    let opened : without_last_zeros places ≡ c.args.self.now.places = c.open_places.ensures.places ∙ ap (λ (b : Buffer). b.places) c.self.view_is in
-    let same : listed s e c.args.self.now.places ≡ stretch_of s e c.deref.result.now = ap (listed s e) (sym opened) ∙ listed-stretch s e places c.requires.in_order c.open_places.ensures.opened ∙ ap (λ (ps : List ℕ). stretch_of s e ps) (sym c.deref.ensures.value) in
-    subst (λ (ps : List ℕ). All (λ p. p < n) ps) same (listed_within s e n c.args.self.now.places c.requires.in_order (omega arith) c.requires.permutes)
+inside : (placement : Placement) (to from count s e : ℕ) (places : List ℕ) → placement ≡ Forward to from count → s ≤ e → PlacesEachOnce placement s e places → (s ≤ to) × (to ≤ from) × (from + count ≤ e)
+inside placement to from count s e places is order each = forward_inside to from count s e places order (subst (λ p. PlacesEachOnce p s e places) is each)
 
-pub returns : goal.returns
-returns c =
-    let s = c.args.start in
-    let e = c.args.end in
-    let places = c.open_places.new.places.items in
-    let b = the_view c.self.inside in
-    let opened : without_last_zeros places ≡ b.places = c.open_places.ensures.places in
-    let read : stretch_of s e c.deref.result.now ≡ listed s e b.places = ap (λ (ps : List ℕ). stretch_of s e ps) c.deref.ensures.value ∙ sym (listed-stretch s e places c.requires.in_order c.open_places.ensures.opened) ∙ ap (listed s e) opened in
-    let moved = λ (ps : List ℕ) (gs : List hb_glyph_info_t). with_stretch s e (λ (_ : List hb_glyph_info_t). pick ps gs) gs in
-    let written : c.reorder.new.glyphs ≡ moved (listed s e b.places) b.glyphs = c.reorder.ensures ∙ ap (λ (ps : List ℕ). moved ps c.deref_mut.result.now) read ∙ ap (moved (listed s e b.places)) c.deref_mut.ensures.value in
-    let back : take c.self.inside.info.len (c.reorder.new.glyphs ++ drop (length c.reorder.new.glyphs) c.self.inside.info.items) ≡ c.reorder.new.glyphs = take_at c.reorder.new.glyphs (drop (length c.reorder.new.glyphs) c.self.inside.info.items) c.self.inside.info.len (omega (arith, c.reorder.auto.glyphs, c.deref_mut.ensures.len)) in
-    ap (λ (gs : List hb_glyph_info_t). let r : Buffer = record b { glyphs = gs; places = without_last_zeros places } in r) (back ∙ written)
-    ∙ ap (λ (ps : List ℕ). let r : Buffer = record b { glyphs = placed s e b.places b.glyphs; places = ps } in r) opened
-    ∙ ap (λ (b : Buffer). let r : Buffer = record b { glyphs = placed s e b.places b.glyphs } in r) c.self.view_is
+pub bring_forward-requires-clause-in_order : goal.bring_forward-requires-clause-in_order
+bring_forward-requires-clause-in_order c =
+    let a = c.args in
+    let f = c.in-Forward in
+    (inside a.placement f.to f.from f.count a.start a.end a.self.now.places f.is c.requires.in_order c.requires.permutes).1
+
+pub bring_forward-requires-clause-in_range : goal.bring_forward-requires-clause-in_range
+bring_forward-requires-clause-in_range c =
+    let a = c.args in
+    let f = c.in-Forward in
+    let last : f.from + f.count ≤ a.end = (inside a.placement f.to f.from f.count a.start a.end a.self.now.places f.is c.requires.in_order c.requires.permutes).2 in
+    omega (arith, last, c.requires.in_range)
+
+pub returns-in-Stays : goal.returns-in-Stays
+returns-in-Stays c =
+    let a = c.args in
+    let b = a.self.now in
+    let stay : b.glyphs ≡ placed_by a.placement a.start a.end b.places b.glyphs =
+    sym (ap (λ p. placed_by p a.start a.end b.places b.glyphs) c.in-Stays.is
+    ∙ placed_stays a.start a.end b.places b.glyphs c.requires.in_order c.requires.in_range) in
+    ap (λ (gs : List hb_glyph_info_t). let r : Buffer = record b { glyphs = gs } in r) stay
+
+pub returns-in-Forward : goal.returns-in-Forward
+returns-in-Forward c =
+    let a = c.args in
+    let b = a.self.now in
+    let f = c.in-Forward in
+    let within = inside a.placement f.to f.from f.count a.start a.end b.places f.is c.requires.in_order c.requires.permutes in
+    let last : f.from + f.count ≤ length b.glyphs = omega (arith, within.2, c.requires.in_range) in
+    let moved = rotated_stretch f.to f.from f.count b.glyphs within.1 last
+    ∙ sym (ap (λ p. placed_by p a.start a.end b.places b.glyphs) f.is
+    ∙ placed_forward f.to f.from f.count a.start a.end b.places b.glyphs within.0 within.1 within.2 c.requires.in_range) in
+    c.bring_forward.ensures
+    ∙ ap (λ (gs : List hb_glyph_info_t). let r : Buffer = record b { glyphs = gs } in r) moved

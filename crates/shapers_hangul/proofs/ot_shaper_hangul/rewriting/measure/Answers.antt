@@ -37,7 +37,7 @@ returns-then-room-eq0-clause-length g c =
     let gs = c.args.glyphs.now in
     let circles = c.args.circles in
     let stays : is_kept (first_item font circles (characters (drop l.place gs))) ≡ true =
-    subst (λ (xs : List hb_glyph_info_t). is_kept (first_item font circles (characters xs)) ≡ true) c.rest_from.ensures (c.stays_alone.ensures circles c.if-stays_alone.true) in
+    subst (λ (xs : List hb_glyph_info_t). is_kept (first_item font circles (characters xs)) ≡ true) c.rest_from.ensures (c.stays_alone.ensures c.if-stays_alone.true) in
     omega (arith, length_staying font circles gs l.place c.loop-place-test.true stays, l.invariant.room_left, c.if-room-eq0.true)
 
 pub loop-place-preserved-then-stays_alone : goal.loop-place-preserved-then-stays_alone
@@ -47,7 +47,7 @@ loop-place-preserved-then-stays_alone g c =
     let gs = c.args.glyphs.now in
     let circles = c.args.circles in
     let stays : is_kept (first_item font circles (characters (drop l.place gs))) ≡ true =
-    subst (λ (xs : List hb_glyph_info_t). is_kept (first_item font circles (characters xs)) ≡ true) c.rest_from.ensures (c.stays_alone.ensures circles c.if-stays_alone.true) in
+    subst (λ (xs : List hb_glyph_info_t). is_kept (first_item font circles (characters xs)) ≡ true) c.rest_from.ensures (c.stays_alone.ensures c.if-stays_alone.true) in
     record {
       within = omega (arith, c.loop-place-test.true);
       room_left = omega (arith, length_staying font circles gs l.place c.loop-place-test.true stays, l.invariant.room_left, c.if-room-eq0.false);

@@ -1,10 +1,10 @@
 -- One syllable more that may change, behind those that stay.
-use Rattle.std.proofs.Common.{◌≡◌, arith, drop, false, subst}
+use Rattle.std.proofs.Common.{◌≡◌, arith, drop, false, length, subst}
 use Rattle.std.specs.List.{list_any}
 use Rattle.shapers_indic_final.specs.FinalReordering.{final_order, final_steps}
 use Rattle.shapers_indic_final.specs.FinalWalk.{changes_syllable}
-use Rattle.shapers_indic_final.proofs.FinalPassed.{all_finished, finishing_passes, next_finished}
-use Rattle.shapers_indic_final.proofs.FinalTextWalk.{FinishedNext, ToFinish}
+use Rattle.shapers_indic_final.proofs.FinalPassed.{all_finished, finally_linked, finishing_passes, next_finished}
+use Rattle.shapers_indic_final.proofs.FinalTextWalk.{FinishedNext, ToFinish, to_finish_all}
 use Rattle.shapers_syllabic.specs.Reordering.{SyllableReordered}
 use Rattle.shapers_syllabic.specs.ReorderingLaws.{IsNextChanging}
 use Rattle.shapers_syllabic.proofs.Skipping.{to_end}
@@ -34,14 +34,21 @@ loop-first-smaller c =
 pub loop-first-preserved : goal.loop-first-preserved
 loop-first-preserved c = let more = next c in more.to
 
-pub returns : goal.returns
-returns c =
+pub loop-first-init : goal.loop-first-init
+loop-first-init c = to_finish_all c.args.rules.now c.args.buffer.now
+
+all : (c : goal.After-clear_places) → ToFinish c.args.rules.now c.args.buffer.now c.loop-first.buffer (length c.loop-first.buffer.glyphs)
+all c =
     let r = c.args.rules.now in
     let old = c.args.buffer.now in
     let now = c.loop-first.buffer in
     let start = c.loop-first.start in
     let none = subst (λ gs. list_any (changes_syllable r c.args.script) (drop start gs) ≡ false) c.glyphs.ensures c.in_default.ensures in
-    all_finished r old now c.clear_places.new.self
-    (to_end (changes_syllable r old.script) now.glyphs (ToFinish r old now) (finishing_passes r old now c.requires.pref c.requires.init) start c.loop-first.invariant.inside
-    (subst (λ script. list_any (changes_syllable r script) (drop start now.glyphs) ≡ false) c.requires.of_buffer none) c.loop-first.invariant)
-    c.clear_places.ensures
+    to_end (changes_syllable r old.script) now.glyphs (ToFinish r old now) (finishing_passes r old now c.requires.pref c.requires.init) start c.loop-first.invariant.inside
+    (subst (λ script. list_any (changes_syllable r script) (drop start now.glyphs) ≡ false) c.requires.of_buffer none) c.loop-first.invariant
+
+pub returns-clause-reordered : goal.returns-clause-reordered
+returns-clause-reordered c = all_finished c.args.rules.now c.args.buffer.now c.loop-first.buffer c.clear_places.new.self (all c) c.clear_places.ensures
+
+pub returns-clause-linked : goal.returns-clause-linked
+returns-clause-linked c = finally_linked c.args.rules.now c.args.buffer.now c.loop-first.buffer c.clear_places.new.self (all c) c.clear_places.ensures

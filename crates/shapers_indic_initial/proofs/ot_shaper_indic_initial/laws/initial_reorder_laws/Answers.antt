@@ -1,5 +1,5 @@
 use Rattle.shapers_indic_initial.proofs.FontPositions.{order_by_font_laws}
-use Rattle.shapers_indic_initial.proofs.InitialLaws.{initial_laws}
+use Rattle.shapers_indic_initial.specs.Proved.InitialLaws.{initial_laws}
 use Rattle.shapers_indic_initial.proofs.ot_shaper_indic_initial.laws.initial_reorder_laws.Goals as goal
 
 pub returns-clause-order : goal.returns-clause-order

@@ -1,40 +1,27 @@
 -- What the pause promises, by the plan's data.
-use Rattle.std.proofs.Common.{◌≡◌, ap, ◌∙◌}
 use Rattle.shapers_buffer.specs.Buffer.{Buffer}
-use Rattle.shapers_base.specs.declared.plan.indic.indic_shape_plan_t.{indic_shape_plan_t}
 use Rattle.shapers_indic.specs.Plan.{indic_in, virama_glyph}
-use Rattle.shapers_indic_initial.specs.InitialFont.{all_by_virama}
 use Rattle.shapers_indic_initial.specs.InitialPause.{initial_circles, order_by_font, steps_by_font}
-use Rattle.shapers_indic_initial.specs.InitialRules.{initial_rules}
-use Rattle.shapers_indic_initial.proofs.FontCircles.{paused_by_font, reordered_behind_circles}
+use Rattle.shapers_indic_initial.proofs.FontCircles.{initially_linked, linked_behind_circles, paused_by_font}
 use Rattle.shapers_indic_initial.proofs.FontPositions.{laws_by_font}
-use Rattle.shapers_indic_initial.proofs.InitialLaws.{initial_laws}
 use Rattle.shapers_indic_initial.proofs.TextClusters.{initial_text_merges}
 use Rattle.shapers_syllabic.specs.Circles.{circled}
 use Rattle.shapers_syllabic.proofs.CircleLaws.{no_new_cluster}
 use Rattle.shapers_syllabic.proofs.ReorderingCuts.{cuts_at_borders}
 use Rattle.shapers_syllabic.proofs.ReorderingLaws.{text_reordered}
-use Rattle.shapers_syllabic.proofs.Skipping.{each_may}
+use Rattle.shapers_syllabic.proofs.LinkedSyllables.{takes_any}
 use Rattle.shapers_indic_initial.proofs.ot_shaper_indic_initial.pause.initial_reordering.Goals as goal
 
-pub reorder_syllables-requires-clause-laws : goal.reorder_syllables-requires-clause-laws
-reorder_syllables-requires-clause-laws g c = initial_laws (initial_rules (g.F.hb_font_t.font c.args.face.now) c.args.plan.now.ot_map c.indic_in.result.now) c.update_consonant_positions.new.buffer.script
+pub reorder_syllables-requires-clause-takes : goal.reorder_syllables-requires-clause-takes
+reorder_syllables-requires-clause-takes g c = takes_any (λ _. Unit {0}) (λ _. tt) c.update_consonant_positions.new.buffer.glyphs
 
-pub reorder_syllables-requires-clause-stays : goal.reorder_syllables-requires-clause-stays
-reorder_syllables-requires-clause-stays g c = each_may _ _
+pub returns-clause-linked : goal.returns-clause-linked
+returns-clause-linked g c =
+    linked_behind_circles (g.F.hb_font_t.font c.args.face.now) c.args.plan.now.ot_map (indic_in c.args.plan.now) c.indic_in.result.now c.args.buffer.now c.insert.new.buffer c.update_consonant_positions.new.buffer c.reorder_syllables.new.buffer
+    c.indic_in.ensures c.in_ok-circles.ensures.ok c.update_consonant_positions.ensures c.in_ok-reorder_syllables.ensures.linked
 
 pub returns-clause-ok : goal.returns-clause-ok
-returns-clause-ok g c =
-    let font = g.F.hb_font_t.font c.args.face.now in
-    let m = c.args.plan.now.ot_map in
-    let p = indic_in c.args.plan.now in
-    let b0 = c.args.buffer.now in
-    let b1 = c.insert.new.buffer in
-    let b2 = c.update_consonant_positions.new.buffer in
-    let asked : b2 ≡ (let b : Buffer = record b1 { glyphs = all_by_virama font m p (virama_glyph font p) b1.glyphs } in b) =
-    c.update_consonant_positions.ensures
-    ∙ ap (λ (q : indic_shape_plan_t). (let b : Buffer = record b1 { glyphs = all_by_virama font m q (virama_glyph font q) b1.glyphs } in b)) c.indic_in.ensures in
-    reordered_behind_circles font m p c.indic_in.result.now b0 b1 b2 c.reorder_syllables.new.buffer c.indic_in.ensures c.in_ok-circles.ensures.ok asked c.reorder_syllables.ensures.reordered
+returns-clause-ok g c = initially_linked (g.F.hb_font_t.font c.args.face.now) c.args.plan.now.ot_map (indic_in c.args.plan.now) c.args.buffer.now c.reorder_syllables.new.buffer (returns-clause-linked g c)
 
 pub returns-clause-syllables : goal.returns-clause-syllables
 returns-clause-syllables g c = paused_by_font (g.F.hb_font_t.font c.args.face.now) c.args.plan.now.ot_map (indic_in c.args.plan.now) c.args.buffer.now c.reorder_syllables.new.buffer (returns-clause-ok g c)

@@ -1,4 +1,4 @@
-use Rattle.shapers_khmer.proofs.KhmerLaws.{khmer_laws, khmer_moves_merged}
+use Rattle.shapers_khmer.specs.Proved.KhmerLaws.{khmer_laws, khmer_moves_merged}
 use Rattle.shapers_khmer.proofs.ot_shaper_khmer.laws.khmer_reorder_laws.Goals as goal
 
 pub returns-clause-laws : goal.returns-clause-laws

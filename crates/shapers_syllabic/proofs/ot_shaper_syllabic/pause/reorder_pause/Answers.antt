@@ -2,10 +2,24 @@ use Rattle.shapers_buffer.specs.Buffer.{Buffer}
 use Rattle.shapers_syllabic.specs.Circles.{circled}
 use Rattle.shapers_syllabic.specs.Reordering.{script_circles}
 use Rattle.shapers_syllabic.proofs.CircleLaws.{no_new_cluster}
+use Rattle.shapers_syllabic.proofs.LinkedSyllables.{text_moved}
 use Rattle.shapers_syllabic.proofs.ReorderingCuts.{cuts_at_borders}
 use Rattle.shapers_syllabic.proofs.ReorderingLaws.{text_reordered}
 use Rattle.shapers_syllabic.proofs.ReorderingWalk.{pause_reordered}
 use Rattle.shapers_syllabic.proofs.ot_shaper_syllabic.pause.reorder_pause.Goals as goal
+
+pub returns-clause-ok : goal.returns-clause-ok
+returns-clause-ok g c =
+    let order = c.args.order.now in
+    let old = c.args.buffer.now in
+    let new = c.reorder_syllables.new.buffer in
+    let opened = c.insert.new.buffer in
+    let circles = script_circles c.args.script.now (g.F.hb_font_t.font c.args.face.now) old in
+    let meaning = g.R.Reorder.meaning order in
+    let steps = g.R.ReorderBySteps.steps order in
+    pause_reordered circles meaning steps old opened new c.in_ok-circles.ensures.ok
+    (text_moved meaning steps (g.R.Reorder.relation order) opened new (g.met.R.Reorder.permutes order)
+    (g.met.R.ReorderBySteps.leads order) c.in_ok-reorder_syllables.ensures.linked)
 
 pub returns-clause-cut : goal.returns-clause-cut
 returns-clause-cut g c =
@@ -13,8 +27,8 @@ returns-clause-cut g c =
     let old = c.args.buffer.now in
     let new = c.reorder_syllables.new.buffer in
     let circles = script_circles c.args.script.now (g.F.hb_font_t.font c.args.face.now) old in
-    cuts_at_borders circles (g.R.Reorder.meaning order old.script) (g.R.Reorder.steps order old.script) old new c.requires.laws
-    (pause_reordered circles (g.R.Reorder.meaning order) (g.R.Reorder.steps order) old c.insert.new.buffer new c.in_ok-circles.ensures.ok c.reorder_syllables.ensures.reordered)
+    cuts_at_borders circles (g.R.Reorder.meaning order old.script) (g.R.ReorderBySteps.steps order old.script) old new
+    (g.met.R.ReorderBySteps.laws order old.script) (returns-clause-ok g c)
 
 pub returns-clause-laws : goal.returns-clause-laws
 returns-clause-laws g c =
@@ -23,8 +37,8 @@ returns-clause-laws g c =
     let new = c.reorder_syllables.new.buffer in
     let circles = script_circles c.args.script.now (g.F.hb_font_t.font c.args.face.now) old in
     let opened : Buffer = record old { glyphs = circled circles old.glyphs } in
-    text_reordered (g.R.Reorder.meaning order old.script) (g.R.Reorder.steps order old.script) opened new c.requires.laws
-    (pause_reordered circles (g.R.Reorder.meaning order) (g.R.Reorder.steps order) old c.insert.new.buffer new c.in_ok-circles.ensures.ok c.reorder_syllables.ensures.reordered)
+    text_reordered (g.R.Reorder.meaning order old.script) (g.R.ReorderBySteps.steps order old.script) opened new
+    (g.met.R.ReorderBySteps.laws order old.script) (returns-clause-ok g c)
 
 pub returns-clause-clusters : goal.returns-clause-clusters
 returns-clause-clusters g c =

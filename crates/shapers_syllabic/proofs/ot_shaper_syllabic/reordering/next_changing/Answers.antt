@@ -6,9 +6,12 @@ use Rattle.shapers_syllabic.proofs.ot_shaper_syllabic.reordering.next_changing.G
 
 pub returns-in_err-count : goal.returns-in_err-count
 returns-in_err-count g c =
-    let changes = g.R.Reorder.changes c.args.order.now in
-    subst (NextChanging changes c.args.start c.args.glyphs.now) (sym c.from_residual.ensures) (none_found changes c.args.start c.args.glyphs.now c.in_err-count.ensures)
+    let changes = g.M.MayChange.changes c.args.order.now in
+    subst (NextChanging changes c.args.start c.args.glyphs.now) (sym c.from_residual.ensures)
+    (none_found changes c.args.start c.args.glyphs.now c.in_err-count.ensures)
 
 pub returns : goal.returns
 returns g c =
-    next_found (g.R.Reorder.changes c.args.order.now) c.args.start c.in_ok-count.count c.args.glyphs.now c.syllable_start.result c.in_ok-count.ensures c.syllable_start.ensures.from c.syllable_start.ensures.to c.syllable_start.ensures.border
+    next_found (g.M.MayChange.changes c.args.order.now) c.args.start c.in_ok-count.count c.args.glyphs.now
+    c.syllable_start.result c.in_ok-count.ensures c.syllable_start.ensures.from c.syllable_start.ensures.to
+    c.syllable_start.ensures.together c.syllable_start.ensures.border

@@ -7,5 +7,6 @@ abbrev pub invariant-loop-i : goal.invariant-loop-i
 invariant-loop-i l = record {
   from : l.start ≤ l.i;
   within : l.i ≤ l.place;
-  together : (k : ℕ) → l.i ≤ k → k < l.place → (get_or l.glyphs k default_glyph).syllable ≡ (get_or l.glyphs l.place default_glyph).syllable;
+  together : (k : ℕ) → l.i ≤ k → k < l.place → (get_or l.glyphs k default_glyph).syllable ≡
+      (get_or l.glyphs l.place default_glyph).syllable;
 }

@@ -4,7 +4,7 @@ use Rattle.std.specs.List.{range_with_len}
 use Rattle.shapers_buffer.proofs.Listing.{left_as, left_one}
 use Rattle.shapers_universal.specs.Universal.{goes_front, goes_front_at}
 use Rattle.shapers_universal.proofs.UniversalListing.{fronts_back, same_when_placed}
-use Rattle.shapers_universal.proofs.UniversalPlaces.{at, goes_front_is}
+use Rattle.shapers_universal.specs.Proved.UniversalPlaces.{at, goes_front_is}
 use Rattle.shapers_universal.proofs.ot_shaper_use.ordering.list_fronts.Goals as goal
 
 pub loop-i-preserved-then-goes_front : goal.loop-i-preserved-then-goes_front

@@ -7,7 +7,7 @@ use Rattle.shapers_buffer.proofs.ClusterLemmas.{length-stretch}
 use Rattle.shapers_universal.specs.Universal.{is_universal_halant}
 use Rattle.shapers_universal.specs.UniversalWalk.{first_piece_len, piece_places, syllable_places_in_order}
 use Rattle.shapers_universal.proofs.UniversalListing.{listed_twice}
-use Rattle.shapers_universal.proofs.UniversalPlaces.{calm_places, length-piece, order_first}
+use Rattle.shapers_universal.specs.Proved.UniversalPlaces.{calm_places, length-piece, order_first}
 use Rattle.shapers_universal.proofs.ot_shaper_use.ordering.list_order.Goals as goal
 
 pub returns : goal.returns

@@ -8,7 +8,7 @@ use Rattle.shapers_buffer.proofs.ClusterLemmas.{length-stretch}
 use Rattle.shapers_universal.specs.Universal.{is_universal_halant}
 use Rattle.shapers_universal.specs.UniversalWalk.{first_piece_len, piece_places, syllable_places_in_order}
 use Rattle.shapers_universal.proofs.UniversalListing.{left_ends, left_part, same_when_placed}
-use Rattle.shapers_universal.proofs.UniversalPlaces.{calm_nothing, length-piece, order_first, order_none}
+use Rattle.shapers_universal.specs.Proved.UniversalPlaces.{calm_nothing, length-piece, order_first, order_none}
 use Rattle.shapers_universal.proofs.ot_shaper_use.ordering.list_pieces.Goals as goal
 
 pub loop-start-init : goal.loop-start-init

@@ -5,7 +5,7 @@ use Rattle.shapers_buffer.proofs.Listing.{left_as, left_one}
 use Rattle.shapers_universal.specs.Universal.{goes_front}
 use Rattle.shapers_universal.specs.UniversalWalk.{stays_at}
 use Rattle.shapers_universal.proofs.UniversalListing.{rest_next, same_when_placed}
-use Rattle.shapers_universal.proofs.UniversalPlaces.{at, goes_front_is}
+use Rattle.shapers_universal.specs.Proved.UniversalPlaces.{at, goes_front_is}
 use Rattle.shapers_universal.proofs.ot_shaper_use.ordering.list_rest.Goals as goal
 use Rattle.shapers_universal.proofs.ot_shaper_use.ordering.list_rest.Goals.{then-not-goes_front, else-not-goes_front}
 

@@ -5,8 +5,8 @@ use Rattle.shapers_buffer.specs.Clusters.{stretch_of}
 use Rattle.shapers_universal.specs.Universal.{goes_front}
 use Rattle.shapers_universal.specs.UniversalWalk.{fronts_from}
 use Rattle.shapers_universal.proofs.OneFront.{none_from, one_reordered}
-use Rattle.shapers_universal.proofs.Reordered.{still_reordered}
-use Rattle.shapers_universal.proofs.UniversalFronts.{fronts_from-none}
+use Rattle.shapers_universal.specs.Proved.Reordered.{still_reordered}
+use Rattle.shapers_universal.specs.Proved.UniversalFronts.{fronts_from-none}
 use Rattle.shapers_universal.proofs.ot_shaper_use.ordering.reorder_fronts.Goals as goal
 
 pub returns-else-some_go_front : goal.returns-else-some_go_front

@@ -2,7 +2,7 @@
 use Rattle.std.proofs.Common.{◌≡◌, ◌+◌, ap, arith, ◌∙◌}
 use Rattle.shapers_buffer.specs.Clusters.{stretch_of}
 use Rattle.shapers_universal.specs.Universal.{reph_run}
-use Rattle.shapers_universal.proofs.Reordered.{Parts, parts_make, parts_permute, parts_reordered}
+use Rattle.shapers_universal.specs.Proved.Reordered.{Parts, parts_make, parts_permute, parts_reordered}
 use Rattle.shapers_universal.proofs.ot_shaper_use.ordering.reorder_syllable.Goals as goal
 
 pub apply-requires-clause-in_range : goal.apply-requires-clause-in_range

@@ -1,5 +1,5 @@
-//! Generated from crates/hbhook_commands/src/command/fields.rt by rust/erase; edit the source.
-//!
+// Generated from crates/hbhook_commands/src/command/fields.rt by rust/erase; edit the source.
+
 //! What a field of a line may be: a number, a character, a tag, a word of a list.
 
 use crate::generated::hbhook_commands::expected::Expected;

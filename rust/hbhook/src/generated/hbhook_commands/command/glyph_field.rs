@@ -1,5 +1,5 @@
-//! Generated from crates/hbhook_commands/src/command/glyph_field.rt by rust/erase; edit the source.
-//!
+// Generated from crates/hbhook_commands/src/command/glyph_field.rt by rust/erase; edit the source.
+
 //! The lines `at I FIELD V`.
 
 use super::fields::{decimal, decimal_to, general_category, hexadecimal, signed};

@@ -1,5 +1,5 @@
-//! Generated from crates/hbhook_commands/src/command/hook.rt by rust/erase; edit the source.
-//!
+// Generated from crates/hbhook_commands/src/command/hook.rt by rust/erase; edit the source.
+
 //! The lines `run NAME ..`.
 
 use super::fields::{character, decimal};

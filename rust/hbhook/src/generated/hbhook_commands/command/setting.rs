@@ -1,17 +1,18 @@
-//! Generated from crates/hbhook_commands/src/command/setting.rt by rust/erase; edit the source.
-//!
+// Generated from crates/hbhook_commands/src/command/setting.rt by rust/erase; edit the source.
+
 //! The lines `set K V`.
 
 use super::fields::{decimal, four_characters, hexadecimal, yes_or_no};
 use crate::generated::hbhook_commands::expected::{COUNT, Expected};
 use crate::generated::hbhook_commands::fault::LineFault;
+use crate::generated::hbhook_commands::tables::OtherCharacters;
 use crate::support::bitflags::Flags;
 use sengadlit::buffer::{BufferClusterLevel, BufferFlags, Direction, Script, Tag};
-use sengadlit::plan::{BreakFlags, StretchStart};
+use sengadlit::plan::{BaseSearch, BreakFlags, StretchStart};
 
 // The names of the settings.
 const KEYS: &str = "shaper, script, chosen, found, gposmark, direction, level, flags, maxlen, \
-    global, positions, stretch, breaks";
+    global, positions, stretch, breaks, base, tables";
 
 // The names of the shapers.
 const SHAPERS: &str = "arabic, hangul, hebrew, indic, khmer, myanmar, zawgyi, thai, universal";
@@ -58,6 +59,10 @@ pub enum Setting {
     Stretch(StretchStart),
     /// Which places are flagged unsafe to break.
     Breaks(BreakFlags),
+    /// Among which consonants Indic looks for the base of a syllable.
+    Base(BaseSearch),
+    /// What holds of characters without a line.
+    Tables(OtherCharacters),
 }
 
 impl Setting {
@@ -77,6 +82,8 @@ impl Setting {
             "positions" => Ok(Setting::Positions(yes_or_no(value)?)),
             "stretch" => Ok(Setting::Stretch(stretch_start(value)?)),
             "breaks" => Ok(Setting::Breaks(break_flags(value)?)),
+            "base" => Ok(Setting::Base(base_search(value)?)),
+            "tables" => Ok(Setting::Tables(other_characters(value)?)),
             _ => Err(LineFault::Unreadable(Expected::Word(KEYS))),
         }
     }
@@ -133,5 +140,21 @@ fn break_flags(name: &str) -> Result<BreakFlags, LineFault> {
         "code" => Ok(BreakFlags::AsCode),
         "sound" => Ok(BreakFlags::Sound),
         _ => Err(LineFault::Unreadable(Expected::Word("code, sound"))),
+    }
+}
+
+fn base_search(name: &str) -> Result<BaseSearch, LineFault> {
+    match name {
+        "nonmedial" => Ok(BaseSearch::WithoutMedials),
+        "all" => Ok(BaseSearch::AllConsonants),
+        _ => Err(LineFault::Unreadable(Expected::Word("nonmedial, all"))),
+    }
+}
+
+fn other_characters(name: &str) -> Result<OtherCharacters, LineFault> {
+    match name {
+        "lines" => Ok(OtherCharacters::Unknown),
+        "unicode" => Ok(OtherCharacters::Unicode),
+        _ => Err(LineFault::Unreadable(Expected::Word("lines, unicode"))),
     }
 }

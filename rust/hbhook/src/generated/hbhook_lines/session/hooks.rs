@@ -1,5 +1,5 @@
-//! Generated from crates/hbhook_lines/src/session/hooks.rt by rust/erase; edit the source.
-//!
+// Generated from crates/hbhook_lines/src/session/hooks.rt by rust/erase; edit the source.
+
 //! The lines `run NAME ..`: the conditions of a call are tested before the call is made.
 
 use super::Session;

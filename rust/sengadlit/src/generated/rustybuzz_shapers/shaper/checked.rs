@@ -1,5 +1,5 @@
-//! Generated from crates/rustybuzz_shapers/src/shaper/checked.rt by rust/erase; edit the source.
-//!
+// Generated from crates/rustybuzz_shapers/src/shaper/checked.rt by rust/erase; edit the source.
+
 //! Calls for callers that can't know whether a hook's conditions are met. Each tests them in the
 //! order of `Condition` before it writes anything, and returns the first that isn't met; the buffer
 //! is then unchanged. The hooks that aren't here have no conditions.
@@ -54,6 +54,11 @@ impl From<ShaperError> for CallError {
 impl Shaper {
     /// Tests the condition of `preprocess_text`, in constant time, and calls it.
     ///
+    /// # Errors
+    ///
+    /// The first condition that isn't met, or the refusal of the call; nothing has changed
+    /// then.
+    ///
     /// <details><summary>Contract</summary>
     ///
     /// # Contract
@@ -69,8 +74,8 @@ impl Shaper {
     /// ensures err { OnErr result (buffer.new ≡ buffer.old) }
     /// ```
     ///
-    /// - `AsRefused`, `StopsAt`, `preprocess_asks`: crates/rustybuzz_shapers/specs/Checked.antt
-    /// - `PreprocessKeeps`, `Preprocessed`, `RefusesPreprocess`, `preprocess_answer`: crates/rustybuzz_shapers/specs/Hooks.antt
+    /// - `AsRefused`, `StopsAt`, `preprocess_asks`: `crates/rustybuzz_shapers/specs/Checked.antt`
+    /// - `PreprocessKeeps`, `Preprocessed`, `RefusesPreprocess`, `preprocess_answer`: `crates/rustybuzz_shapers/specs/Hooks.antt`
     ///
     /// </details>
     #[inline]
@@ -87,6 +92,10 @@ impl Shaper {
     /// Tests the conditions of `setup_masks` and calls it. The test takes one pass over the glyphs
     /// for Arabic, and for the universal shaper where letters join; else constant time.
     ///
+    /// # Errors
+    ///
+    /// The first condition that isn't met; nothing has changed then.
+    ///
     /// <details><summary>Contract</summary>
     ///
     /// # Contract
@@ -102,10 +111,10 @@ impl Shaper {
     /// ensures err { OnErr result (buffer.new ≡ buffer.old) }
     /// ```
     ///
-    /// - `AsRefused`, `StopsAt`, `masks_ask`: crates/rustybuzz_shapers/specs/Checked.antt
-    /// - `MasksSet`: crates/rustybuzz_shapers/specs/Hooks.antt
-    /// - `has_hook`: crates/rustybuzz_shapers/specs/Standing.antt
-    /// - `OnlyFlagsAdded`: crates/shapers_clusters/specs/FlagLaw.antt
+    /// - `AsRefused`, `StopsAt`, `masks_ask`: `crates/rustybuzz_shapers/specs/Checked.antt`
+    /// - `MasksSet`: `crates/rustybuzz_shapers/specs/Hooks.antt`
+    /// - `has_hook`: `crates/rustybuzz_shapers/specs/Standing.antt`
+    /// - `OnlyFlagsAdded`: `crates/shapers_clusters/specs/FlagLaw.antt`
     ///
     /// </details>
     #[inline]
@@ -122,6 +131,10 @@ impl Shaper {
 
     /// Tests the conditions of `reorder_marks`, in constant time, and calls it.
     ///
+    /// # Errors
+    ///
+    /// The first condition that isn't met; nothing has changed then.
+    ///
     /// <details><summary>Contract</summary>
     ///
     /// # Contract
@@ -136,9 +149,9 @@ impl Shaper {
     /// ensures err { OnErr result (buffer.new ≡ buffer.old) }
     /// ```
     ///
-    /// - `AsRefused`, `StopsAt`, `marks_ask`: crates/rustybuzz_shapers/specs/Checked.antt
-    /// - `MarksKeep`, `MarksReordered`: crates/rustybuzz_shapers/specs/Hooks.antt
-    /// - `has_hook`: crates/rustybuzz_shapers/specs/Standing.antt
+    /// - `AsRefused`, `StopsAt`, `marks_ask`: `crates/rustybuzz_shapers/specs/Checked.antt`
+    /// - `MarksKeep`, `MarksReordered`: `crates/rustybuzz_shapers/specs/Hooks.antt`
+    /// - `has_hook`: `crates/rustybuzz_shapers/specs/Standing.antt`
     ///
     /// </details>
     #[inline]
@@ -155,6 +168,11 @@ impl Shaper {
 
     /// Tests the conditions of `postprocess_glyphs` and calls it. The test takes one pass over the
     /// glyphs for Arabic, else constant time.
+    ///
+    /// # Errors
+    ///
+    /// The first condition that isn't met, or the refusal of the call; nothing has changed
+    /// then.
     ///
     /// <details><summary>Contract</summary>
     ///
@@ -175,10 +193,10 @@ impl Shaper {
     /// ensures err { OnErr result (buffer.new ≡ buffer.old) }
     /// ```
     ///
-    /// - `AsRefused`, `StopsAt`, `postprocess_asks`: crates/rustybuzz_shapers/specs/Checked.antt
-    /// - `PostprocessKeeps`, `Postprocessed`, `RefusesPostprocess`: crates/rustybuzz_shapers/specs/Hooks.antt
-    /// - `has_hook`: crates/rustybuzz_shapers/specs/Standing.antt
-    /// - `glyphs_added`: crates/rustybuzz_shapers/specs/Stretched.antt
+    /// - `AsRefused`, `StopsAt`, `postprocess_asks`: `crates/rustybuzz_shapers/specs/Checked.antt`
+    /// - `PostprocessKeeps`, `Postprocessed`, `RefusesPostprocess`: `crates/rustybuzz_shapers/specs/Hooks.antt`
+    /// - `has_hook`: `crates/rustybuzz_shapers/specs/Standing.antt`
+    /// - `glyphs_added`: `crates/rustybuzz_shapers/specs/Stretched.antt`
     ///
     /// </details>
     #[inline]
@@ -231,6 +249,10 @@ impl Shaper {
 
 /// Tests the conditions of `run_pause`, in one pass over the spans, and calls it.
 ///
+/// # Errors
+///
+/// The first condition that isn't met, or the refusal of the pause; nothing has changed then.
+///
 /// <details><summary>Contract</summary>
 ///
 /// # Contract
@@ -248,8 +270,8 @@ impl Shaper {
 /// ensures err { OnErr result (buffer.new ≡ buffer.old) }
 /// ```
 ///
-/// - `AsRefused`, `StopsAt`, `pause_asks`: crates/rustybuzz_shapers/specs/Checked.antt
-/// - `PauseKeeps`, `Paused`, `RefusesPause`, `pause_circles`: crates/rustybuzz_shapers/specs/Pauses.antt
+/// - `AsRefused`, `StopsAt`, `pause_asks`: `crates/rustybuzz_shapers/specs/Checked.antt`
+/// - `PauseKeeps`, `Paused`, `RefusesPause`, `pause_circles`: `crates/rustybuzz_shapers/specs/Pauses.antt`
 ///
 /// </details>
 #[inline]

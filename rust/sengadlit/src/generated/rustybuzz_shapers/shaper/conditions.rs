@@ -1,5 +1,5 @@
-//! Generated from crates/rustybuzz_shapers/src/shaper/conditions.rt by rust/erase; edit the source.
-//!
+// Generated from crates/rustybuzz_shapers/src/shaper/conditions.rt by rust/erase; edit the source.
+
 //! What the hooks require of their callers: the plan's data, and tests of the rest.
 
 use super::Shaper;
@@ -26,9 +26,9 @@ impl Shaper {
     /// ensures off_flags { has_hook self CreateData ≡ true → MasksOffFlags result.plan_data }
     /// ```
     ///
-    /// - `MasksOffFlags`, `PlanFits`, `data_created`, `with_created`: crates/rustybuzz_shapers/specs/Hooks.antt
-    /// - `PausesFit`: crates/rustybuzz_shapers/specs/Pauses.antt
-    /// - `has_hook`: crates/rustybuzz_shapers/specs/Standing.antt
+    /// - `MasksOffFlags`, `PlanFits`, `data_created`, `with_created`: `crates/rustybuzz_shapers/specs/Hooks.antt`
+    /// - `PausesFit`: `crates/rustybuzz_shapers/specs/Pauses.antt`
+    /// - `has_hook`: `crates/rustybuzz_shapers/specs/Standing.antt`
     ///
     /// </details>
     pub fn with_data(self, mut plan: Plan) -> Plan {
@@ -53,7 +53,7 @@ impl Shaper {
     /// ensures { IsTrue result ↔ PlanFits self plan.now }
     /// ```
     ///
-    /// - `PlanFits`: crates/rustybuzz_shapers/specs/Hooks.antt
+    /// - `PlanFits`: `crates/rustybuzz_shapers/specs/Hooks.antt`
     ///
     /// </details>
     #[inline]
@@ -78,17 +78,16 @@ impl Shaper {
     /// # Contract
     ///
     /// ```text
-    /// requires { start ≤ end }
     /// ensures { IsTrue result ↔ MarksFit self start end }
     /// ```
     ///
-    /// - `MarksFit`: crates/rustybuzz_shapers/specs/Hooks.antt
+    /// - `MarksFit`: `crates/rustybuzz_shapers/specs/Hooks.antt`
     ///
     /// </details>
     #[inline]
     pub fn marks_fit(self, start: usize, end: usize) -> bool {
         match self {
-            Self::Arabic => end - start <= 32,
+            Self::Arabic => end.saturating_sub(start) <= 32,
             Self::Hangul
             | Self::Hebrew
             | Self::Indic
@@ -111,7 +110,7 @@ impl Shaper {
     /// ensures { IsTrue result ↔ GlyphsFit self plan.now buffer.now.glyphs }
     /// ```
     ///
-    /// - `GlyphsFit`: crates/rustybuzz_shapers/specs/Hooks.antt
+    /// - `GlyphsFit`: `crates/rustybuzz_shapers/specs/Hooks.antt`
     ///
     /// </details>
     #[inline]
@@ -140,7 +139,7 @@ impl Shaper {
     /// ensures { IsTrue result ↔ PostprocessFits self plan.now buffer.now.glyphs }
     /// ```
     ///
-    /// - `PostprocessFits`: crates/rustybuzz_shapers/specs/Hooks.antt
+    /// - `PostprocessFits`: `crates/rustybuzz_shapers/specs/Hooks.antt`
     ///
     /// </details>
     #[inline]
@@ -169,7 +168,7 @@ impl Shaper {
 /// ensures { IsTrue result ↔ PauseFits pause plan.now }
 /// ```
 ///
-/// - `PauseFits`: crates/rustybuzz_shapers/specs/Pauses.antt
+/// - `PauseFits`: `crates/rustybuzz_shapers/specs/Pauses.antt`
 ///
 /// </details>
 pub fn pause_fits(pause: Pause, plan: &Plan) -> bool {

@@ -1,5 +1,5 @@
-//! Generated from crates/rustybuzz_shapers/src/shaper/pauses.rt by rust/erase; edit the source.
-//!
+// Generated from crates/rustybuzz_shapers/src/shaper/pauses.rt by rust/erase; edit the source.
+
 //! The pauses behind one dispatcher.
 
 use crate::generated::shapers_base::buffer::{Buffer, ShaperError, Span};
@@ -15,6 +15,7 @@ use crate::generated::shapers_syllabic::ot_shaper_syllabic::{
     set_up_syllables,
 };
 use crate::generated::shapers_universal::ot_shaper_use;
+use core::mem;
 
 /// Does what a shaper does between two stages of substitution, and returns whether dotted circles
 /// were wanted. Spans are read by the pauses that set syllables alone: those refuse with
@@ -22,6 +23,11 @@ use crate::generated::shapers_universal::ot_shaper_use;
 /// syllables, but for the universal shaper's, and then as circles do. A refused pause leaves the
 /// buffer as it was. A reordering leaves the placement list empty, so that each place reads 0; the
 /// other pauses leave it as it was.
+///
+/// # Errors
+///
+/// `SpansDontCover` of a pause that sets syllables; `UnknownSyllable`, `TooLong` and `Memory`
+/// of one that reorders. Nothing has changed then.
 ///
 /// <details><summary>Contract</summary>
 ///
@@ -41,7 +47,7 @@ use crate::generated::shapers_universal::ot_shaper_use;
 /// ensures err { OnErr result (buffer.new ≡ buffer.old) }
 /// ```
 ///
-/// - `PauseFits`, `PauseKeeps`, `Paused`, `RefusesPause`, `pause_circles`: crates/rustybuzz_shapers/specs/Pauses.antt
+/// - `PauseFits`, `PauseKeeps`, `Paused`, `RefusesPause`, `pause_circles`: `crates/rustybuzz_shapers/specs/Pauses.antt`
 ///
 /// </details>
 pub fn run_pause<F: Font>(
@@ -63,7 +69,12 @@ pub fn run_pause<F: Font>(
         }
         Pause::SetupSyllablesUse => ot_shaper_use::setup_syllables_use(plan, spans, buffer)?,
         Pause::InitialReordering => {
-            return ot_shaper_indic_initial::initial_reordering(plan, face, buffer);
+            // (a font that panics leaves the empty buffer, and no text that is half reordered)
+            let empty = Buffer::new(buffer.alloc(), buffer.max_len());
+            let mut text = mem::replace(buffer, empty);
+            let circles = ot_shaper_indic_initial::initial_reordering(plan, face, &mut text);
+            *buffer = text;
+            return circles;
         }
         Pause::ReorderKhmer => return ot_shaper_khmer::reorder_khmer(plan, face, buffer),
         Pause::ReorderMyanmar => return ot_shaper_myanmar::reorder_myanmar(face, buffer),
@@ -93,7 +104,7 @@ pub fn run_pause<F: Font>(
 /// ensures stays { result ≡ false → PauseStays pause plan.now }
 /// ```
 ///
-/// - `PauseFits`, `PauseStays`, `may_change`: crates/rustybuzz_shapers/specs/Pauses.antt
+/// - `PauseFits`, `PauseStays`, `may_change`: `crates/rustybuzz_shapers/specs/Pauses.antt`
 ///
 /// </details>
 #[inline]

@@ -1,5 +1,5 @@
-//! Generated from crates/shapers_arabic/src/ot_shaper_arabic/arabic_action_t.rt by rust/erase; edit the source.
-//!
+// Generated from crates/shapers_arabic/src/ot_shaper_arabic/arabic_action_t.rt by rust/erase; edit the source.
+
 //! The forms that a letter takes, and the two kinds of pieces of a mark that stretches.
 
 /// The isolated form (`isol`).

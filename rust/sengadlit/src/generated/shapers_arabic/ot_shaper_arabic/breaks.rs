@@ -1,5 +1,5 @@
-//! Generated from crates/shapers_arabic/src/ot_shaper_arabic/breaks.rt by rust/erase; edit the source.
-//!
+// Generated from crates/shapers_arabic/src/ot_shaper_arabic/breaks.rt by rust/erase; edit the source.
+
 //! The flags that the choice `Sound` adds: where the pieces of a broken text would lose a form.
 
 use super::arabic_action_t::{FIN2, FIN3, FINA, MED2, MEDI, NONE};

@@ -1,5 +1,5 @@
-//! Generated from crates/shapers_arabic/src/ot_shaper_arabic/data.rt by rust/erase; edit the source.
-//!
+// Generated from crates/shapers_arabic/src/ot_shaper_arabic/data.rt by rust/erase; edit the source.
+
 //! What the shaper keeps in the plan.
 
 use crate::generated::shapers_base::buffer::Tag;
@@ -19,7 +19,7 @@ use crate::generated::shapers_base::plan::{ArabicPlan, Plan, PlanData};
 /// ensures off_flags { AllByRecursion (λ mask. mask % 8 ≡ 0) result.mask_array }
 /// ```
 ///
-/// - `arabic_plan`: crates/shapers_arabic/specs/PlanData.antt
+/// - `arabic_plan`: `crates/shapers_arabic/specs/PlanData.antt`
 ///
 /// </details>
 pub fn data_create_arabic(plan: &Plan) -> ArabicPlan {
@@ -54,7 +54,7 @@ pub fn data_create_arabic(plan: &Plan) -> ArabicPlan {
 /// ensures off_flags { AllByRecursion (λ mask. mask % 8 ≡ 0) (masks_of result) }
 /// ```
 ///
-/// - `arabic_plan`, `masks_of`: crates/shapers_arabic/specs/PlanData.antt
+/// - `arabic_plan`, `masks_of`: `crates/shapers_arabic/specs/PlanData.antt`
 ///
 /// </details>
 pub fn create_data(plan: &Plan) -> PlanData {

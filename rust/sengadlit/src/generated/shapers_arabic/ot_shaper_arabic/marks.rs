@@ -1,5 +1,5 @@
-//! Generated from crates/shapers_arabic/src/ot_shaper_arabic/marks.rt by rust/erase; edit the source.
-//!
+// Generated from crates/shapers_arabic/src/ot_shaper_arabic/marks.rt by rust/erase; edit the source.
+
 //! The order of Arabic marks: those that modify a letter come first. (Unicode Technical Report 53.)
 
 use crate::generated::shapers_base::buffer::modified_combining_class::{BELOW, CCC22, CCC26};
@@ -36,8 +36,8 @@ const ABOVE: u8 = 230;
 /// ensures laws { ArabicMarksReordered start end buffer.old buffer.new }
 /// ```
 ///
-/// - `ArabicMarksReordered`, `marks_merged`, `marks_reordered`: crates/shapers_arabic/specs/Marks.antt
-/// - `order_view`: crates/shapers_buffer/specs/Glyph.antt
+/// - `ArabicMarksReordered`, `marks_merged`, `marks_reordered`: `crates/shapers_arabic/specs/Marks.antt`
+/// - `order_view`: `crates/shapers_buffer/specs/Glyph.antt`
 ///
 /// </details>
 #[inline]
@@ -60,8 +60,8 @@ impl GlyphWalk for MarkOrder {
     }
 }
 
-/// The same in a slice whose clusters merge at this level. Returns whether one of the marks modifies
-/// a letter: where it returns false nothing changed.
+/// `reorder_marks` of glyphs in a slice, whose clusters merge at this level. Returns whether one of
+/// the marks modifies a letter: where it returns false nothing changed.
 ///
 /// <details><summary>Contract</summary>
 ///
@@ -77,9 +77,9 @@ impl GlyphWalk for MarkOrder {
 /// ensures unchanged { result ≡ false → glyphs.new ≡ glyphs.old }
 /// ```
 ///
-/// - `is_modifier`: crates/shapers_arabic/specs/MarkParts.antt
-/// - `marks_merged`, `marks_reordered`: crates/shapers_arabic/specs/Marks.antt
-/// - `stretch_of`: crates/shapers_buffer/specs/Clusters.antt
+/// - `is_modifier`: `crates/shapers_arabic/specs/MarkParts.antt`
+/// - `marks_merged`, `marks_reordered`: `crates/shapers_arabic/specs/Marks.antt`
+/// - `stretch_of`: `crates/shapers_buffer/specs/Clusters.antt`
 ///
 /// </details>
 pub fn reorder_marks_in(

@@ -1,5 +1,5 @@
-//! Generated from crates/shapers_arabic/src/ot_shaper_arabic/masks.rt by rust/erase; edit the source.
-//!
+// Generated from crates/shapers_arabic/src/ot_shaper_arabic/masks.rt by rust/erase; edit the source.
+
 //! What follows joining: the selectors of Mongolian, and the masks of the forms.
 
 use crate::generated::shapers_base::buffer::{GlyphInfo, Script};
@@ -36,10 +36,11 @@ pub(super) fn copy_to_selectors(glyphs: &mut [GlyphInfo]) {
     }
 }
 
-// Gives each glyph the mask of its form.
+// Gives each glyph the mask of its form. The remainder is the form itself; it spares the test that
+// the index is below 8.
 #[inline]
 pub(super) fn add_masks(masks: &[u32; 8], glyphs: &mut [GlyphInfo]) {
     for glyph in glyphs.iter_mut() {
-        glyph.mask |= masks[usize::from(glyph.auxiliary)];
+        glyph.mask |= masks[usize::from(glyph.auxiliary % 8)];
     }
 }

@@ -1,5 +1,5 @@
-//! Generated from crates/shapers_arabic/src/ot_shaper_arabic/walk.rt by rust/erase; edit the source.
-//!
+// Generated from crates/shapers_arabic/src/ot_shaper_arabic/walk.rt by rust/erase; edit the source.
+
 //! One walk over the glyphs of a buffer: joining, the flags of breaks, the selectors, and the masks.
 
 use super::breaks::flag_breaks;

@@ -1,4 +1,4 @@
-//! Generated from crates/shapers_base/src/plan/breaks.rt by rust/erase; edit the source.
+// Generated from crates/shapers_base/src/plan/breaks.rt by rust/erase; edit the source.
 
 /// Which places of a text are flagged unsafe to break.
 #[derive(Clone, Copy, Debug, PartialEq, Eq, Default)]

@@ -1,5 +1,5 @@
-//! Generated from crates/shapers_base/src/plan/indic.rt by rust/erase; edit the source.
-//!
+// Generated from crates/shapers_base/src/plan/indic.rt by rust/erase; edit the source.
+
 //! What the shaper of the Indic scripts keeps in the plan, and its questions to the font.
 
 use crate::generated::shapers_base::buffer::{Script, Tag};
@@ -42,6 +42,16 @@ pub enum BlwfMode {
     PostOnly,
 }
 
+/// Among which consonants the base of a syllable is looked for.
+#[derive(Clone, Copy, Debug, PartialEq, Eq, Default)]
+pub enum BaseSearch {
+    /// Among those that aren't medial (`OT_CM`), as in rustybuzz 0.20.1.
+    #[default]
+    WithoutMedials,
+    /// Among all, as in HarfBuzz.
+    AllConsonants,
+}
+
 /// The properties of one script that the rules depend on.
 #[derive(Clone, Copy, Debug, PartialEq, Eq)]
 pub struct IndicConfig {
@@ -78,7 +88,7 @@ impl IndicWouldSubstituteFeature {
     /// ensures { result ≡ question_for feature_tag zero_context map.now }
     /// ```
     ///
-    /// - `question_for`: crates/shapers_base/specs/Questions.antt
+    /// - `question_for`: `crates/shapers_base/specs/Questions.antt`
     ///
     /// </details>
     #[inline]
@@ -103,7 +113,7 @@ impl IndicWouldSubstituteFeature {
     /// ensures { result ≡ would_by (F.font face.now).applies map.now self.now glyphs.now }
     /// ```
     ///
-    /// - `would_by`: crates/shapers_base/specs/Questions.antt
+    /// - `would_by`: `crates/shapers_base/specs/Questions.antt`
     ///
     /// </details>
     #[inline]
@@ -121,7 +131,7 @@ impl IndicWouldSubstituteFeature {
     /// ensures { result.now ≡ lookups_in self.now.lookups map.now }
     /// ```
     ///
-    /// - `lookups_in`: crates/shapers_base/specs/Map.antt
+    /// - `lookups_in`: `crates/shapers_base/specs/Map.antt`
     ///
     /// </details>
     #[inline]
@@ -153,6 +163,8 @@ pub struct IndicPlan {
     pub config: IndicConfig,
     /// Whether the font follows the older specification.
     pub is_old_spec: bool,
+    /// Among which consonants the base is looked for.
+    pub base_search: BaseSearch,
     /// The question whether the font forms a reph, by `rphf`.
     pub rphf: IndicWouldSubstituteFeature,
     /// The question whether it forms a consonant that goes before the base, by `pref`.

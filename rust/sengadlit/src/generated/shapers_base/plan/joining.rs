@@ -1,4 +1,4 @@
-//! Generated from crates/shapers_base/src/plan/joining.rt by rust/erase; edit the source.
+// Generated from crates/shapers_base/src/plan/joining.rt by rust/erase; edit the source.
 
 /// How a character joins its neighbours, as the Unicode Character Database has it, with the two
 /// groups that Syriac treats on their own. The numbers are those of the joining tables.
@@ -45,7 +45,7 @@ impl JoiningType {
     /// ensures { result ≡ find (λ t. joining_number t == number) joining_types }
     /// ```
     ///
-    /// - `joining_number`, `joining_types`: crates/shapers_base/specs/Numbers.antt
+    /// - `joining_number`, `joining_types`: `crates/shapers_base/specs/Numbers.antt`
     ///
     /// </details>
     #[inline]
@@ -73,7 +73,7 @@ impl JoiningType {
     /// ensures { result ≡ joining_number self }
     /// ```
     ///
-    /// - `joining_number`: crates/shapers_base/specs/Numbers.antt
+    /// - `joining_number`: `crates/shapers_base/specs/Numbers.antt`
     ///
     /// </details>
     #[inline]

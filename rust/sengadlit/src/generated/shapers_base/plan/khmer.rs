@@ -1,4 +1,4 @@
-//! Generated from crates/shapers_base/src/plan/khmer.rt by rust/erase; edit the source.
+// Generated from crates/shapers_base/src/plan/khmer.rt by rust/erase; edit the source.
 
 /// What Khmer keeps in the plan.
 #[derive(Clone, Copy, Debug, PartialEq, Eq)]

@@ -1,5 +1,5 @@
-//! Generated from crates/shapers_base/src/plan/ot_position_t.rt by rust/erase; edit the source.
-//!
+// Generated from crates/shapers_base/src/plan/ot_position_t.rt by rust/erase; edit the source.
+
 //! The positions in an Indic syllable, in the order that they are sorted in (HarfBuzz's; OpenType's note on Indic scripts
 //! has the order in words).
 

@@ -1,4 +1,4 @@
-//! Generated from crates/shapers_base/src/plan/pause.rt by rust/erase; edit the source.
+// Generated from crates/shapers_base/src/plan/pause.rt by rust/erase; edit the source.
 
 /// What a shaper does between two stages of substitution.
 #[repr(u8)]
@@ -66,7 +66,7 @@ impl Pause {
     /// ensures { result ≡ slice_get pauses number }
     /// ```
     ///
-    /// - `pauses`: crates/shapers_base/specs/Numbers.antt
+    /// - `pauses`: `crates/shapers_base/specs/Numbers.antt`
     ///
     /// </details>
     #[inline]
@@ -84,7 +84,7 @@ impl Pause {
     /// ensures { slice_get pauses result ≡ Some self }
     /// ```
     ///
-    /// - `pauses`: crates/shapers_base/specs/Numbers.antt
+    /// - `pauses`: `crates/shapers_base/specs/Numbers.antt`
     ///
     /// </details>
     #[inline]

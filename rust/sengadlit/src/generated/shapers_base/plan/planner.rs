@@ -1,4 +1,4 @@
-//! Generated from crates/shapers_base/src/plan/planner.rt by rust/erase; edit the source.
+// Generated from crates/shapers_base/src/plan/planner.rt by rust/erase; edit the source.
 
 use crate::support::prelude::*;
 
@@ -100,7 +100,11 @@ impl Planner {
         face.has_feature(tag)
     }
 
-    /// Requests a feature. The only refusal is `Memory`.
+    /// Requests a feature.
+    ///
+    /// # Errors
+    ///
+    /// `Memory`; the planner is as it was then.
     ///
     /// <details><summary>Contract</summary>
     ///
@@ -113,7 +117,7 @@ impl Planner {
     /// ensures err { OnErr result (self.new ≡ self.old) }
     /// ```
     ///
-    /// - `with_requests`: crates/shapers_base/specs/Planner.antt
+    /// - `with_requests`: `crates/shapers_base/specs/Planner.antt`
     ///
     /// </details>
     #[inline]
@@ -121,7 +125,11 @@ impl Planner {
         self.add_requests(&[Request::Feature(tag, flags, value)])
     }
 
-    /// Requests a feature that holds for the whole text. The only refusal is `Memory`.
+    /// Requests a feature that holds for the whole text.
+    ///
+    /// # Errors
+    ///
+    /// `Memory`; the planner is as it was then.
     ///
     /// <details><summary>Contract</summary>
     ///
@@ -134,7 +142,7 @@ impl Planner {
     /// ensures err { OnErr result (self.new ≡ self.old) }
     /// ```
     ///
-    /// - `with_requests`: crates/shapers_base/specs/Planner.antt
+    /// - `with_requests`: `crates/shapers_base/specs/Planner.antt`
     ///
     /// </details>
     #[inline]
@@ -142,7 +150,11 @@ impl Planner {
         self.add_feature(tag, flags | F_GLOBAL, value)
     }
 
-    /// Requests that a feature be off. The only refusal is `Memory`.
+    /// Requests that a feature be off.
+    ///
+    /// # Errors
+    ///
+    /// `Memory`; the planner is as it was then.
     ///
     /// <details><summary>Contract</summary>
     ///
@@ -155,7 +167,7 @@ impl Planner {
     /// ensures err { OnErr result (self.new ≡ self.old) }
     /// ```
     ///
-    /// - `with_requests`: crates/shapers_base/specs/Planner.antt
+    /// - `with_requests`: `crates/shapers_base/specs/Planner.antt`
     ///
     /// </details>
     #[inline]
@@ -163,7 +175,11 @@ impl Planner {
         self.add_feature(tag, F_GLOBAL, 0)
     }
 
-    /// Requests a pause between two stages. The only refusal is `Memory`.
+    /// Requests a pause between two stages.
+    ///
+    /// # Errors
+    ///
+    /// `Memory`; the planner is as it was then.
     ///
     /// <details><summary>Contract</summary>
     ///
@@ -175,7 +191,7 @@ impl Planner {
     /// ensures err { OnErr result (self.new ≡ self.old) }
     /// ```
     ///
-    /// - `with_requests`: crates/shapers_base/specs/Planner.antt
+    /// - `with_requests`: `crates/shapers_base/specs/Planner.antt`
     ///
     /// </details>
     #[inline]
@@ -184,6 +200,10 @@ impl Planner {
     }
 
     /// Requests a whole list: all of it, or nothing where memory is refused.
+    ///
+    /// # Errors
+    ///
+    /// `Memory`; the planner is as it was then.
     ///
     /// <details><summary>Contract</summary>
     ///
@@ -195,7 +215,7 @@ impl Planner {
     /// ensures err { OnErr result (self.new ≡ self.old) }
     /// ```
     ///
-    /// - `with_requests`: crates/shapers_base/specs/Planner.antt
+    /// - `with_requests`: `crates/shapers_base/specs/Planner.antt`
     ///
     /// </details>
     #[inline]

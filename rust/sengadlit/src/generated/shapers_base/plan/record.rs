@@ -1,4 +1,4 @@
-//! Generated from crates/shapers_base/src/plan/record.rt by rust/erase; edit the source.
+// Generated from crates/shapers_base/src/plan/record.rt by rust/erase; edit the source.
 
 /// How the text is normalized before the font's mapping.
 #[derive(Clone, Copy, Debug, PartialEq, Eq)]

@@ -1,4 +1,4 @@
-//! Generated from crates/shapers_base/src/plan/universal.rt by rust/erase; edit the source.
+// Generated from crates/shapers_base/src/plan/universal.rt by rust/erase; edit the source.
 
 use super::ArabicPlan;
 

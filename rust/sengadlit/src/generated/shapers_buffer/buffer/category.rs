@@ -1,4 +1,4 @@
-//! Generated from crates/shapers_buffer/src/buffer/category.rt by rust/erase; edit the source.
+// Generated from crates/shapers_buffer/src/buffer/category.rt by rust/erase; edit the source.
 
 /// The general categories of the Unicode Character Database, in their order: one byte, from 0 to 29,
 /// as HarfBuzz numbers them.
@@ -112,7 +112,7 @@ impl GeneralCategory {
     /// ensures { result ≡ slice_get categories number }
     /// ```
     ///
-    /// - `categories`: crates/shapers_buffer/specs/Numbers.antt
+    /// - `categories`: `crates/shapers_buffer/specs/Numbers.antt`
     ///
     /// </details>
     #[inline]
@@ -130,7 +130,7 @@ impl GeneralCategory {
     /// ensures { slice_get categories result ≡ Some self }
     /// ```
     ///
-    /// - `categories`: crates/shapers_buffer/specs/Numbers.antt
+    /// - `categories`: `crates/shapers_buffer/specs/Numbers.antt`
     ///
     /// </details>
     #[inline]
@@ -148,7 +148,7 @@ impl GeneralCategory {
     /// ensures { result ≡ is_mark self }
     /// ```
     ///
-    /// - `is_mark`: crates/shapers_buffer/specs/Category.antt
+    /// - `is_mark`: `crates/shapers_buffer/specs/Category.antt`
     ///
     /// </details>
     #[inline]

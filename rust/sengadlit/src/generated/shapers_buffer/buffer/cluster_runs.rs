@@ -1,5 +1,5 @@
-//! Generated from crates/shapers_buffer/src/buffer/cluster_runs.rt by rust/erase; edit the source.
-//!
+// Generated from crates/shapers_buffer/src/buffer/cluster_runs.rt by rust/erase; edit the source.
+
 //! Runs of glyphs that merges have put into one cluster, which is written once, behind the last of
 //! these merges.
 
@@ -45,8 +45,8 @@ impl Buffer {
     /// ensures same_length { length self.new.glyphs ≡ length self.old.glyphs }
     /// ```
     ///
-    /// - `RunFits`, `with_run`: crates/shapers_buffer/specs/ClusterRuns.antt
-    /// - `merge`, `merged`: crates/shapers_buffer/specs/Clusters.antt
+    /// - `RunFits`, `with_run`: `crates/shapers_buffer/specs/ClusterRuns.antt`
+    /// - `merge`, `merged`: `crates/shapers_buffer/specs/Clusters.antt`
     ///
     /// </details>
     #[inline]
@@ -65,7 +65,7 @@ impl Buffer {
     /// ensures { self.new ≡ record self.old { glyphs = with_run run self.old.glyphs } }
     /// ```
     ///
-    /// - `RunFits`, `with_run`: crates/shapers_buffer/specs/ClusterRuns.antt
+    /// - `RunFits`, `with_run`: `crates/shapers_buffer/specs/ClusterRuns.antt`
     ///
     /// </details>
     #[inline]
@@ -88,8 +88,8 @@ impl Buffer {
 /// ensures fits { RunFits result glyphs.new }
 /// ```
 ///
-/// - `RunFits`, `with_run`: crates/shapers_buffer/specs/ClusterRuns.antt
-/// - `merge`, `merged`: crates/shapers_buffer/specs/Clusters.antt
+/// - `RunFits`, `with_run`: `crates/shapers_buffer/specs/ClusterRuns.antt`
+/// - `merge`, `merged`: `crates/shapers_buffer/specs/Clusters.antt`
 ///
 /// </details>
 #[inline]
@@ -118,7 +118,7 @@ pub fn merge_run_in(
 /// ensures { glyphs.new ≡ with_run run glyphs.old }
 /// ```
 ///
-/// - `RunFits`, `with_run`: crates/shapers_buffer/specs/ClusterRuns.antt
+/// - `RunFits`, `with_run`: `crates/shapers_buffer/specs/ClusterRuns.antt`
 ///
 /// </details>
 #[inline]

@@ -1,5 +1,5 @@
-//! Generated from crates/shapers_buffer/src/buffer/exchanging.rt by rust/erase; edit the source.
-//!
+// Generated from crates/shapers_buffer/src/buffer/exchanging.rt by rust/erase; edit the source.
+
 //! Lists taken out of the buffer and exchanged with the caller's, so that no glyph is copied and
 //! the caller's room is used again.
 
@@ -54,6 +54,10 @@ impl Buffer {
     /// Exchanges the buffer's glyphs for those of the list; the buffer has no positions afterwards.
     /// Refuses by their number, and then both are as they were.
     ///
+    /// # Errors
+    ///
+    /// `TooLong` and `Memory`; buffer and list are as they were then.
+    ///
     /// <details><summary>Contract</summary>
     ///
     /// # Contract
@@ -67,7 +71,7 @@ impl Buffer {
     /// ensures err_glyphs { OnErr result (glyphs.new ≡ glyphs.old) }
     /// ```
     ///
-    /// - `RefusesLength`: crates/shapers_buffer/specs/Refusals.antt
+    /// - `RefusesLength`: `crates/shapers_buffer/specs/Refusals.antt`
     ///
     /// </details>
     #[inline]
@@ -96,7 +100,7 @@ impl Buffer {
     ///     (if result then self.old.positions else positions.old.items) }
     /// ```
     ///
-    /// - `can_be_positions`: crates/shapers_buffer/specs/Buffer.antt
+    /// - `can_be_positions`: `crates/shapers_buffer/specs/Buffer.antt`
     ///
     /// </details>
     #[inline]
@@ -110,6 +114,11 @@ impl Buffer {
 
     /// Exchanges the buffer's text for another: its glyphs, its positions (none, or one per glyph)
     /// and its settings. Refuses by the number of glyphs, and then all is as it was.
+    ///
+    /// # Errors
+    ///
+    /// `TooLong` where the glyphs are more than `max_len` of the settings, and `Memory`; both
+    /// texts are as they were then.
     ///
     /// <details><summary>Contract</summary>
     ///
@@ -127,8 +136,8 @@ impl Buffer {
     /// ensures err_positions { OnErr result (positions.new ≡ positions.old) }
     /// ```
     ///
-    /// - `RefusesLength`: crates/shapers_buffer/specs/Refusals.antt
-    /// - `are_paired`, `with_text`: crates/shapers_buffer/specs/Settings.antt
+    /// - `RefusesLength`: `crates/shapers_buffer/specs/Refusals.antt`
+    /// - `are_paired`, `with_text`: `crates/shapers_buffer/specs/Settings.antt`
     ///
     /// </details>
     #[inline]

@@ -1,5 +1,5 @@
-//! Generated from crates/shapers_buffer/src/buffer/fields.rt by rust/erase; edit the source.
-//!
+// Generated from crates/shapers_buffer/src/buffer/fields.rt by rust/erase; edit the source.
+
 //! Readers and setters of the buffer's fields.
 
 use crate::support::prelude::*;
@@ -8,6 +8,10 @@ use super::{Buffer, BufferClusterLevel, BufferFlags, Direction, GlyphPosition, S
 
 impl Buffer {
     /// Where the glyph at place `i` is drawn; `i` is below the number of positions.
+    ///
+    /// # Panics
+    ///
+    /// Where there is no position at place `i`.
     ///
     /// <details><summary>Contract</summary>
     ///
@@ -25,6 +29,10 @@ impl Buffer {
     }
 
     /// Sets where the glyph at place `i` is drawn; `i` is below the number of positions.
+    ///
+    /// # Panics
+    ///
+    /// Where there is no position at place `i`.
     ///
     /// <details><summary>Contract</summary>
     ///
@@ -88,7 +96,7 @@ impl Buffer {
     ///     self.new ≡ (if result then taken else self.old) }
     /// ```
     ///
-    /// - `can_be_positions`: crates/shapers_buffer/specs/Buffer.antt
+    /// - `can_be_positions`: `crates/shapers_buffer/specs/Buffer.antt`
     ///
     /// </details>
     #[inline]
@@ -375,20 +383,21 @@ impl Buffer {
         self.max_len
     }
 
-    /// Sets the greatest length that the buffer may have, which is at least its length.
+    /// Sets the greatest length that the buffer may have; a limit below its length counts as its
+    /// length, so that the text doesn't grow.
     ///
     /// <details><summary>Contract</summary>
     ///
     /// # Contract
     ///
     /// ```text
-    /// requires { length self.old.glyphs ≤ max_len }
-    /// ensures { self.new ≡ record self.old { max_len = max_len } }
+    /// ensures { self.new ≡
+    ///     record self.old { max_len = max max_len (length self.old.glyphs) } }
     /// ```
     ///
     /// </details>
     #[inline]
     pub fn set_max_len(&mut self, max_len: usize) {
-        self.max_len = max_len;
+        self.max_len = max_len.max(self.info.len());
     }
 }

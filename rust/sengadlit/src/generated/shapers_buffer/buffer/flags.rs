@@ -1,4 +1,4 @@
-//! Generated from crates/shapers_buffer/src/buffer/flags.rt by rust/erase; edit the source.
+// Generated from crates/shapers_buffer/src/buffer/flags.rt by rust/erase; edit the source.
 
 use crate::support::bitflags::{Flag, Flags, bitflag_items};
 
@@ -56,7 +56,7 @@ impl BufferFlags {
     /// ensures { result.0 ≡ from_harfbuzz bits }
     /// ```
     ///
-    /// - `from_harfbuzz`: crates/shapers_buffer/specs/Numbers.antt
+    /// - `from_harfbuzz`: `crates/shapers_buffer/specs/Numbers.antt`
     ///
     /// </details>
     #[inline]
@@ -81,7 +81,7 @@ impl BufferFlags {
     /// ensures { result ≡ to_harfbuzz self.0 }
     /// ```
     ///
-    /// - `to_harfbuzz`: crates/shapers_buffer/specs/Numbers.antt
+    /// - `to_harfbuzz`: `crates/shapers_buffer/specs/Numbers.antt`
     ///
     /// </details>
     #[inline]

@@ -1,4 +1,4 @@
-//! Generated from crates/shapers_buffer/src/buffer/glyph.rt by rust/erase; edit the source.
+// Generated from crates/shapers_buffer/src/buffer/glyph.rt by rust/erase; edit the source.
 
 use super::category::GeneralCategory;
 use super::glyph_marks::GlyphMarks;
@@ -22,7 +22,7 @@ pub struct GlyphInfo {
     pub category: u8,
     /// What else its shaper notes of it: an Arabic form, a Hangul jamo's feature, an Indic or Myanmar position.
     pub auxiliary: u8,
-    /// The character's General_Category in the Unicode Character Database.
+    /// The character's `General_Category` in the Unicode Character Database.
     pub general_category: GeneralCategory,
     /// The character's canonical combining class, as HarfBuzz renumbers it (`modified_combining_class`).
     pub modified_combining_class: u8,

@@ -1,5 +1,5 @@
-//! Generated from crates/shapers_buffer/src/buffer/glyph_flags.rt by rust/erase; edit the source.
-//!
+// Generated from crates/shapers_buffer/src/buffer/glyph_flags.rt by rust/erase; edit the source.
+
 //! The glyph flags: the low three bits of a mask, from which line breakers and the like see what a
 //! change of the text at a glyph would do.
 
@@ -23,6 +23,10 @@ impl Buffer {
     /// Flags the places from `s` to `e` whose cluster isn't the least one there: unsafe to break,
     /// and unsafe to concatenate.
     ///
+    /// # Panics
+    ///
+    /// Where `s` is above `e`, or `e` above the length.
+    ///
     /// <details><summary>Contract</summary>
     ///
     /// # Contract
@@ -33,7 +37,7 @@ impl Buffer {
     /// ensures { self.new ≡ record self.old { glyphs = unsafe_inside s e self.old.glyphs } }
     /// ```
     ///
-    /// - `unsafe_inside`: crates/shapers_buffer/specs/GlyphFlags.antt
+    /// - `unsafe_inside`: `crates/shapers_buffer/specs/GlyphFlags.antt`
     ///
     /// </details>
     #[inline]
@@ -43,6 +47,10 @@ impl Buffer {
 
     /// Flags every place from `s` to `e` as unsafe to concatenate, where the buffer wants that
     /// flag.
+    ///
+    /// # Panics
+    ///
+    /// Where `s` is above `e`, or `e` above the length.
     ///
     /// <details><summary>Contract</summary>
     ///
@@ -56,8 +64,8 @@ impl Buffer {
     ///     self.new ≡ record self.old { glyphs = flagged } }
     /// ```
     ///
-    /// - `asks`, `flags_concat`: crates/shapers_buffer/specs/Buffer.antt
-    /// - `flagged`, `unsafe_to_concat_in`: crates/shapers_buffer/specs/GlyphFlags.antt
+    /// - `asks`, `flags_concat`: `crates/shapers_buffer/specs/Buffer.antt`
+    /// - `flagged`, `unsafe_to_concat_in`: `crates/shapers_buffer/specs/GlyphFlags.antt`
     ///
     /// </details>
     #[inline]
@@ -67,6 +75,10 @@ impl Buffer {
 
     /// Flags the places from `s` to `e` whose cluster isn't the least one there: safe to insert a
     /// tatweel, where the buffer wants that flag, else as `unsafe_to_break`.
+    ///
+    /// # Panics
+    ///
+    /// Where `s` is above `e`, or `e` above the length.
     ///
     /// <details><summary>Contract</summary>
     ///
@@ -79,8 +91,8 @@ impl Buffer {
     ///     self.new ≡ record self.old { glyphs = flagged } }
     /// ```
     ///
-    /// - `asks`, `flags_tatweel`: crates/shapers_buffer/specs/Buffer.antt
-    /// - `flagged`, `tatweel_inside`: crates/shapers_buffer/specs/GlyphFlags.antt
+    /// - `asks`, `flags_tatweel`: `crates/shapers_buffer/specs/Buffer.antt`
+    /// - `flagged`, `tatweel_inside`: `crates/shapers_buffer/specs/GlyphFlags.antt`
     ///
     /// </details>
     #[inline]
@@ -90,6 +102,10 @@ impl Buffer {
 }
 
 /// No break inside the stretch, over glyphs in a slice, as `Buffer::unsafe_to_break`.
+///
+/// # Panics
+///
+/// Where `s` is above `e`, or `e` above the length.
 ///
 /// <details><summary>Contract</summary>
 ///
@@ -101,7 +117,7 @@ impl Buffer {
 /// ensures { glyphs.new ≡ unsafe_inside s e glyphs.old }
 /// ```
 ///
-/// - `unsafe_inside`: crates/shapers_buffer/specs/GlyphFlags.antt
+/// - `unsafe_inside`: `crates/shapers_buffer/specs/GlyphFlags.antt`
 ///
 /// </details>
 #[inline]
@@ -111,6 +127,10 @@ pub fn unsafe_to_break_in(glyphs: &mut [GlyphInfo], s: usize, e: usize) {
 
 /// No concatenation in the stretch, where the flags want that, over glyphs in a slice, as
 /// `Buffer::unsafe_to_concat`.
+///
+/// # Panics
+///
+/// Where `s` is above `e`, or `e` above the length.
 ///
 /// <details><summary>Contract</summary>
 ///
@@ -122,8 +142,8 @@ pub fn unsafe_to_break_in(glyphs: &mut [GlyphInfo], s: usize, e: usize) {
 /// ensures { glyphs.new ≡ unsafe_to_concat_in (has_flag flags_concat flags) s e glyphs.old }
 /// ```
 ///
-/// - `flags_concat`, `has_flag`: crates/shapers_buffer/specs/Buffer.antt
-/// - `unsafe_to_concat_in`: crates/shapers_buffer/specs/GlyphFlags.antt
+/// - `flags_concat`, `has_flag`: `crates/shapers_buffer/specs/Buffer.antt`
+/// - `unsafe_to_concat_in`: `crates/shapers_buffer/specs/GlyphFlags.antt`
 ///
 /// </details>
 #[inline]
@@ -135,6 +155,10 @@ pub fn unsafe_to_concat_in(flags: BufferFlags, glyphs: &mut [GlyphInfo], s: usiz
 
 /// A join inside the stretch, over glyphs in a slice, as `Buffer::safe_to_insert_tatweel`.
 ///
+/// # Panics
+///
+/// Where `s` is above `e`, or `e` above the length.
+///
 /// <details><summary>Contract</summary>
 ///
 /// # Contract
@@ -145,8 +169,8 @@ pub fn unsafe_to_concat_in(flags: BufferFlags, glyphs: &mut [GlyphInfo], s: usiz
 /// ensures { glyphs.new ≡ tatweel_inside (has_flag flags_tatweel flags) s e glyphs.old }
 /// ```
 ///
-/// - `flags_tatweel`, `has_flag`: crates/shapers_buffer/specs/Buffer.antt
-/// - `tatweel_inside`: crates/shapers_buffer/specs/GlyphFlags.antt
+/// - `flags_tatweel`, `has_flag`: `crates/shapers_buffer/specs/Buffer.antt`
+/// - `tatweel_inside`: `crates/shapers_buffer/specs/GlyphFlags.antt`
 ///
 /// </details>
 #[inline]

@@ -1,5 +1,5 @@
-//! Generated from crates/shapers_buffer/src/buffer/glyph_marks.rt by rust/erase; edit the source.
-//!
+// Generated from crates/shapers_buffer/src/buffer/glyph_marks.rt by rust/erase; edit the source.
+
 //! The marks of a glyph, in one byte: a glyph has 24 bytes, and with a byte a mark it would have 28.
 
 use crate::support::bitflags::{Flag, Flags, bitflag_items};
@@ -17,7 +17,7 @@ bitflag_items! {
         const LIGATED = 2;
         /// A lookup put the glyph in as one of several for one.
         const MULTIPLIED = 4;
-        /// The character may stay undrawn (Default_Ignorable_Code_Point).
+        /// The character may stay undrawn (`Default_Ignorable_Code_Point`).
         const IGNORABLE = 8;
         /// The character carries on the grapheme of the one before it.
         const CONTINUATION = 16;
@@ -57,7 +57,7 @@ impl GlyphMarks {
     /// ensures { result ≡ is_substituted self }
     /// ```
     ///
-    /// - `is_substituted`: crates/shapers_buffer/specs/Marks.antt
+    /// - `is_substituted`: `crates/shapers_buffer/specs/Marks.antt`
     ///
     /// </details>
     #[inline]
@@ -75,7 +75,7 @@ impl GlyphMarks {
     /// ensures { result ≡ is_ligated self }
     /// ```
     ///
-    /// - `is_ligated`: crates/shapers_buffer/specs/Marks.antt
+    /// - `is_ligated`: `crates/shapers_buffer/specs/Marks.antt`
     ///
     /// </details>
     #[inline]
@@ -93,7 +93,7 @@ impl GlyphMarks {
     /// ensures { result ≡ is_multiplied self }
     /// ```
     ///
-    /// - `is_multiplied`: crates/shapers_buffer/specs/Marks.antt
+    /// - `is_multiplied`: `crates/shapers_buffer/specs/Marks.antt`
     ///
     /// </details>
     #[inline]
@@ -101,7 +101,7 @@ impl GlyphMarks {
         self.contains(GlyphMarks::MULTIPLIED)
     }
 
-    /// Whether the character may stay undrawn (Default_Ignorable_Code_Point).
+    /// Whether the character may stay undrawn (`Default_Ignorable_Code_Point`).
     ///
     /// <details><summary>Contract</summary>
     ///
@@ -111,7 +111,7 @@ impl GlyphMarks {
     /// ensures { result ≡ is_ignorable self }
     /// ```
     ///
-    /// - `is_ignorable`: crates/shapers_buffer/specs/Marks.antt
+    /// - `is_ignorable`: `crates/shapers_buffer/specs/Marks.antt`
     ///
     /// </details>
     #[inline]
@@ -129,7 +129,7 @@ impl GlyphMarks {
     /// ensures { result ≡ is_continuation self }
     /// ```
     ///
-    /// - `is_continuation`: crates/shapers_buffer/specs/Marks.antt
+    /// - `is_continuation`: `crates/shapers_buffer/specs/Marks.antt`
     ///
     /// </details>
     #[inline]
@@ -147,7 +147,7 @@ impl GlyphMarks {
     /// ensures { self.new ≡ set_mark SUBSTITUTED on self.old }
     /// ```
     ///
-    /// - `SUBSTITUTED`, `set_mark`: crates/shapers_buffer/specs/Marks.antt
+    /// - `SUBSTITUTED`, `set_mark`: `crates/shapers_buffer/specs/Marks.antt`
     ///
     /// </details>
     #[inline]
@@ -165,7 +165,7 @@ impl GlyphMarks {
     /// ensures { self.new ≡ set_mark LIGATED on self.old }
     /// ```
     ///
-    /// - `LIGATED`, `set_mark`: crates/shapers_buffer/specs/Marks.antt
+    /// - `LIGATED`, `set_mark`: `crates/shapers_buffer/specs/Marks.antt`
     ///
     /// </details>
     #[inline]
@@ -183,7 +183,7 @@ impl GlyphMarks {
     /// ensures { self.new ≡ set_mark MULTIPLIED on self.old }
     /// ```
     ///
-    /// - `MULTIPLIED`, `set_mark`: crates/shapers_buffer/specs/Marks.antt
+    /// - `MULTIPLIED`, `set_mark`: `crates/shapers_buffer/specs/Marks.antt`
     ///
     /// </details>
     #[inline]
@@ -191,7 +191,7 @@ impl GlyphMarks {
         self.set(GlyphMarks::MULTIPLIED, on);
     }
 
-    /// Sets whether the character may stay undrawn (Default_Ignorable_Code_Point).
+    /// Sets whether the character may stay undrawn (`Default_Ignorable_Code_Point`).
     ///
     /// <details><summary>Contract</summary>
     ///
@@ -201,7 +201,7 @@ impl GlyphMarks {
     /// ensures { self.new ≡ set_mark IGNORABLE on self.old }
     /// ```
     ///
-    /// - `IGNORABLE`, `set_mark`: crates/shapers_buffer/specs/Marks.antt
+    /// - `IGNORABLE`, `set_mark`: `crates/shapers_buffer/specs/Marks.antt`
     ///
     /// </details>
     #[inline]
@@ -219,7 +219,7 @@ impl GlyphMarks {
     /// ensures { self.new ≡ set_mark CONTINUATION on self.old }
     /// ```
     ///
-    /// - `CONTINUATION`, `set_mark`: crates/shapers_buffer/specs/Marks.antt
+    /// - `CONTINUATION`, `set_mark`: `crates/shapers_buffer/specs/Marks.antt`
     ///
     /// </details>
     #[inline]

@@ -1,4 +1,4 @@
-//! Generated from crates/shapers_buffer/src/buffer/level.rt by rust/erase; edit the source.
+// Generated from crates/shapers_buffer/src/buffer/level.rt by rust/erase; edit the source.
 
 /// How glyphs of one grapheme or word share clusters.
 #[repr(u8)]
@@ -30,7 +30,7 @@ impl BufferClusterLevel {
     /// ensures { result ≡ slice_get levels number }
     /// ```
     ///
-    /// - `levels`: crates/shapers_buffer/specs/Numbers.antt
+    /// - `levels`: `crates/shapers_buffer/specs/Numbers.antt`
     ///
     /// </details>
     #[inline]
@@ -48,7 +48,7 @@ impl BufferClusterLevel {
     /// ensures { slice_get levels result ≡ Some self }
     /// ```
     ///
-    /// - `levels`: crates/shapers_buffer/specs/Numbers.antt
+    /// - `levels`: `crates/shapers_buffer/specs/Numbers.antt`
     ///
     /// </details>
     #[inline]
@@ -92,7 +92,7 @@ impl Direction {
     /// ensures { result ≡ find (λ d. direction_number d == number) directions }
     /// ```
     ///
-    /// - `direction_number`, `directions`: crates/shapers_buffer/specs/Numbers.antt
+    /// - `direction_number`, `directions`: `crates/shapers_buffer/specs/Numbers.antt`
     ///
     /// </details>
     #[inline]
@@ -117,7 +117,7 @@ impl Direction {
     /// ensures { result ≡ direction_number self }
     /// ```
     ///
-    /// - `direction_number`: crates/shapers_buffer/specs/Numbers.antt
+    /// - `direction_number`: `crates/shapers_buffer/specs/Numbers.antt`
     ///
     /// </details>
     #[inline]

@@ -1,5 +1,5 @@
-//! Generated from crates/shapers_buffer/src/buffer/merging.rt by rust/erase; edit the source.
-//!
+// Generated from crates/shapers_buffer/src/buffer/merging.rt by rust/erase; edit the source.
+
 //! The merge rule over slices of glyphs.
 
 use super::glyph::GlyphInfo;
@@ -9,6 +9,10 @@ impl Buffer {
     /// Gives the glyphs from `s` to `e` their least cluster, and with them the neighbours on both
     /// sides that share the cluster of its ends. A glyph whose cluster changes loses its glyph
     /// flags. Nothing for fewer than two places, and nothing at level Characters.
+    ///
+    /// # Panics
+    ///
+    /// Where `s` is above `e`, or `e` above the length.
     ///
     /// <details><summary>Contract</summary>
     ///
@@ -20,7 +24,7 @@ impl Buffer {
     /// ensures { self.new ≡ record self.old { glyphs = merge self.old.level s e self.old.glyphs } }
     /// ```
     ///
-    /// - `merge`: crates/shapers_buffer/specs/Clusters.antt
+    /// - `merge`: `crates/shapers_buffer/specs/Clusters.antt`
     ///
     /// </details>
     #[inline]
@@ -30,6 +34,10 @@ impl Buffer {
 }
 
 /// The merge rule over glyphs in a slice, as `Buffer::merge_clusters`.
+///
+/// # Panics
+///
+/// Where `s` is above `e`, or `e` above the length.
 ///
 /// <details><summary>Contract</summary>
 ///
@@ -41,7 +49,7 @@ impl Buffer {
 /// ensures { glyphs.new ≡ merge level s e glyphs.old }
 /// ```
 ///
-/// - `merge`: crates/shapers_buffer/specs/Clusters.antt
+/// - `merge`: `crates/shapers_buffer/specs/Clusters.antt`
 ///
 /// </details>
 #[inline]
@@ -75,6 +83,10 @@ fn merge_stretch(info: &mut [GlyphInfo], s: usize, e: usize) {
 
 /// The least cluster of a stretch that isn't empty.
 ///
+/// # Panics
+///
+/// Where there is no glyph.
+///
 /// <details><summary>Contract</summary>
 ///
 /// # Contract
@@ -84,8 +96,8 @@ fn merge_stretch(info: &mut [GlyphInfo], s: usize, e: usize) {
 /// ensures { result ≡ least (clusters stretch.now) }
 /// ```
 ///
-/// - `least`: crates/shapers_buffer/specs/Clusters.antt
-/// - `clusters`: crates/shapers_buffer/specs/Glyph.antt
+/// - `least`: `crates/shapers_buffer/specs/Clusters.antt`
+/// - `clusters`: `crates/shapers_buffer/specs/Glyph.antt`
 ///
 /// </details>
 #[inline]

@@ -1,5 +1,5 @@
-//! Generated from crates/shapers_buffer/src/buffer/modified_combining_class.rt by rust/erase; edit the source.
-//!
+// Generated from crates/shapers_buffer/src/buffer/modified_combining_class.rt by rust/erase; edit the source.
+
 //! The canonical combining classes that the shapers tell apart, as HarfBuzz renumbers them so that
 //! marks of one script sort in its reading order.
 

@@ -1,8 +1,9 @@
-//! Generated from crates/shapers_buffer/src/buffer/placement.rt by rust/erase; edit the source.
-//!
-//! The placement list: a reordering lists for each place of a syllable the place whose glyph comes
-//! there, and then the syllable is written once. Its room grows with the buffer, so that a
-//! reordering takes no memory; what was never listed is never written.
+// Generated from crates/shapers_buffer/src/buffer/placement.rt by rust/erase; edit the source.
+
+//! Placements: a reordering says for each place of a syllable the place whose glyph comes there, and
+//! then the syllable is written once. Most syllables stay, or one stretch of theirs comes forward;
+//! any other order is listed. The room for the list grows with the buffer, so that a reordering
+//! takes no memory; what was never listed is never written.
 
 use crate::support::prelude::*;
 
@@ -10,6 +11,25 @@ use super::Buffer;
 use super::glyph::GlyphInfo;
 use super::refusal::ShaperError;
 use crate::support::alloc::Global;
+
+/// The old places of the glyphs of one syllable, in the forms that text has.
+#[derive(Clone, Copy, Debug, PartialEq, Eq)]
+pub enum Placement {
+    /// Each glyph stays in its place.
+    Stays,
+    /// A stretch comes forward, and what it passes goes back behind it. So a glyph goes back where
+    /// those behind it come forward.
+    Forward {
+        /// The place to which the stretch comes.
+        to: usize,
+        /// The place of its first glyph.
+        from: usize,
+        /// How many glyphs it has.
+        count: usize,
+    },
+    /// Each place gets the glyph of the place that [`Buffer::set_place`] listed for it.
+    Listed,
+}
 
 impl Buffer {
     /// The place whose glyph is listed to come to `i`.
@@ -23,7 +43,7 @@ impl Buffer {
     /// ensures { result ≡ place_at self.now.places i }
     /// ```
     ///
-    /// - `place_at`: crates/shapers_buffer/specs/Places.antt
+    /// - `place_at`: `crates/shapers_buffer/specs/Places.antt`
     ///
     /// </details>
     #[inline]
@@ -31,7 +51,7 @@ impl Buffer {
         self.places.get(i).copied().unwrap_or(0)
     }
 
-    /// Lists that the glyph of place `place` is to come to `i`.
+    /// Lists that the glyph of place `place` is to come to `i`. Panics if `i` is beyond the buffer.
     ///
     /// <details><summary>Contract</summary>
     ///
@@ -42,12 +62,13 @@ impl Buffer {
     /// ensures { self.new ≡ record self.old { places = with_place i place self.old.places } }
     /// ```
     ///
-    /// - `with_place`: crates/shapers_buffer/specs/Places.antt
+    /// - `with_place`: `crates/shapers_buffer/specs/Places.antt`
     ///
     /// </details>
     #[inline]
     pub fn set_place(&mut self, i: usize, place: usize) {
-        open_places(&mut self.places, i + 1);
+        // the slice panics before room is taken for a place beyond the buffer
+        open_places(&mut self.places, self.info[..i + 1].len());
         self.places[i] = place;
     }
 
@@ -67,8 +88,8 @@ impl Buffer {
         self.places.clear();
     }
 
-    /// Gives each place from `start` to `end` the glyph of the place listed for it; each place from
-    /// `start` to `end` is listed once. Positions stay. It takes no memory.
+    /// Gives each place from `start` to `end` the glyph of the place that the placement says for it;
+    /// it says each of these places once. Positions stay. It takes no memory.
     ///
     /// <details><summary>Contract</summary>
     ///
@@ -77,19 +98,86 @@ impl Buffer {
     /// ```text
     /// requires in_order { start ≤ end }
     /// requires in_range { end ≤ length self.old.glyphs }
-    /// requires permutes { ListsEachOnce start end self.old.places }
-    /// ensures { let moved = placed start end self.old.places self.old.glyphs in
+    /// requires permutes { PlacesEachOnce placement start end self.old.places }
+    /// ensures { let moved = placed_by placement start end self.old.places self.old.glyphs in
     ///     self.new ≡ record self.old { glyphs = moved } }
     /// ```
     ///
-    /// - `ListsEachOnce`, `placed`: crates/shapers_buffer/specs/Places.antt
+    /// - `PlacesEachOnce`, `placed_by`: `crates/shapers_buffer/specs/Places.antt`
     ///
     /// </details>
     #[inline]
-    pub fn apply(&mut self, start: usize, end: usize) {
-        open_places(&mut self.places, end);
+    pub fn apply(&mut self, start: usize, end: usize, placement: Placement) {
+        match placement {
+            Placement::Stays => {}
+            Placement::Forward { to, from, count } => self.bring_forward(to, from, count),
+            Placement::Listed => self.apply_list(start, end),
+        }
+    }
+
+    // Brings the `count` glyphs from place `from` on to the place `to`.
+    #[inline]
+    fn bring_forward(&mut self, to: usize, from: usize, count: usize) {
+        turn(&mut self.info[to..from + count], count);
+    }
+
+    // Gives each place from `start` to `end` the glyph of the place listed for it.
+    #[inline]
+    fn apply_list(&mut self, start: usize, end: usize) {
+        open_places(&mut self.places, self.info[..end].len());
         open_spare(&mut self.spare, end - start);
         reorder(&mut self.info, &self.places, &mut self.spare, start, end);
+    }
+}
+
+// How many glyphs are moved one by one past others. Stretches are short, so neighbours are swapped:
+// a rotation calls functions that copy memory, even for one glyph.
+const FEW: usize = 2;
+
+// Brings the last `count` glyphs before the others.
+#[inline]
+fn turn(glyphs: &mut [GlyphInfo], count: usize) {
+    let passed = glyphs.len() - count;
+    if passed == 1 {
+        turn_left(glyphs);
+    } else if count <= FEW {
+        turn_last(glyphs, count);
+    } else if passed <= FEW {
+        turn_first(glyphs, passed);
+    } else {
+        glyphs.rotate_right(count);
+    }
+}
+
+// Brings the last `count` glyphs before the others, one after another.
+#[inline]
+fn turn_last(glyphs: &mut [GlyphInfo], count: usize) {
+    for _ in 0..count {
+        turn_right(glyphs);
+    }
+}
+
+// Brings the first `count` glyphs behind the others, one after another.
+#[inline]
+fn turn_first(glyphs: &mut [GlyphInfo], count: usize) {
+    for _ in 0..count {
+        turn_left(glyphs);
+    }
+}
+
+// Moves the first glyph behind the others.
+#[inline]
+fn turn_left(glyphs: &mut [GlyphInfo]) {
+    for i in 1..glyphs.len() {
+        glyphs.swap(i - 1, i);
+    }
+}
+
+// Moves the last glyph before the others.
+#[inline]
+fn turn_right(glyphs: &mut [GlyphInfo]) {
+    for i in (1..glyphs.len()).rev() {
+        glyphs.swap(i - 1, i);
     }
 }
 

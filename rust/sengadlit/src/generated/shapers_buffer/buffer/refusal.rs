@@ -1,4 +1,4 @@
-//! Generated from crates/shapers_buffer/src/buffer/refusal.rt by rust/erase; edit the source.
+// Generated from crates/shapers_buffer/src/buffer/refusal.rt by rust/erase; edit the source.
 
 use crate::support::alloc::AllocError;
 

@@ -1,5 +1,5 @@
-//! Generated from crates/shapers_buffer/src/buffer/replacing.rt by rust/erase; edit the source.
-//!
+// Generated from crates/shapers_buffer/src/buffer/replacing.rt by rust/erase; edit the source.
+
 //! Other glyphs for the buffer's, texts rewritten, and glyphs copied with their positions.
 
 use crate::support::prelude::*;
@@ -34,6 +34,10 @@ impl Buffer {
     /// Rewrites the text, which has no positions, to `len` glyphs. Refuses by their number, before
     /// anything changes.
     ///
+    /// # Errors
+    ///
+    /// `TooLong` and `Memory`; nothing has changed then.
+    ///
     /// <details><summary>Contract</summary>
     ///
     /// # Contract
@@ -48,7 +52,7 @@ impl Buffer {
     /// ensures err { OnErr result (self.new ≡ self.old) }
     /// ```
     ///
-    /// - `RefusesLength`: crates/shapers_buffer/specs/Refusals.antt
+    /// - `RefusesLength`: `crates/shapers_buffer/specs/Refusals.antt`
     ///
     /// </details>
     #[inline]
@@ -64,12 +68,18 @@ impl Buffer {
         self.info.reserve(len.saturating_sub(self.info.len()))?;
         self.spare.clear();
         rewriting.rewrite(&mut self.info, &mut self.spare);
+        // (in plain Rust a caller's rewriting may write more than it should)
+        self.spare.truncate(len);
         mem::swap(&mut self.info, &mut self.spare);
         Ok(())
     }
 
     /// Puts these glyphs in the place of the buffer's, which has no positions. Refuses by their
     /// number, whatever the buffer held.
+    ///
+    /// # Errors
+    ///
+    /// `TooLong` and `Memory`; nothing has changed then.
     ///
     /// <details><summary>Contract</summary>
     ///
@@ -82,7 +92,7 @@ impl Buffer {
     /// ensures err { OnErr result (self.new ≡ self.old) }
     /// ```
     ///
-    /// - `RefusesLength`: crates/shapers_buffer/specs/Refusals.antt
+    /// - `RefusesLength`: `crates/shapers_buffer/specs/Refusals.antt`
     ///
     /// </details>
     #[inline]
@@ -97,6 +107,10 @@ impl Buffer {
 
     /// Copies the glyph at `from`, with its position, to `to`.
     ///
+    /// # Panics
+    ///
+    /// Where one of the places is none of the buffer.
+    ///
     /// <details><summary>Contract</summary>
     ///
     /// # Contract
@@ -107,7 +121,7 @@ impl Buffer {
     /// ensures { self.new ≡ copied_to from to self.old }
     /// ```
     ///
-    /// - `copied_to`: crates/shapers_buffer/specs/Buffer.antt
+    /// - `copied_to`: `crates/shapers_buffer/specs/Buffer.antt`
     ///
     /// </details>
     #[inline]

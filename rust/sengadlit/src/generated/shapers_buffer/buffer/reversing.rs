@@ -1,5 +1,5 @@
-//! Generated from crates/shapers_buffer/src/buffer/reversing.rt by rust/erase; edit the source.
-//!
+// Generated from crates/shapers_buffer/src/buffer/reversing.rt by rust/erase; edit the source.
+
 //! The buffer backwards.
 
 use super::Buffer;
@@ -27,6 +27,10 @@ impl Buffer {
 
     /// Turns the glyphs from `s` to `e` round, with their positions.
     ///
+    /// # Panics
+    ///
+    /// Where `s` is above `e`, or `e` above the length.
+    ///
     /// <details><summary>Contract</summary>
     ///
     /// # Contract
@@ -40,7 +44,7 @@ impl Buffer {
     /// } }
     /// ```
     ///
-    /// - `with_stretch`: crates/shapers_buffer/specs/Clusters.antt
+    /// - `with_stretch`: `crates/shapers_buffer/specs/Clusters.antt`
     ///
     /// </details>
     #[inline]

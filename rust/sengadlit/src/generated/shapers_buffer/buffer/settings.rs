@@ -1,5 +1,5 @@
-//! Generated from crates/shapers_buffer/src/buffer/settings.rt by rust/erase; edit the source.
-//!
+// Generated from crates/shapers_buffer/src/buffer/settings.rt by rust/erase; edit the source.
+
 //! All settings of a buffer at once.
 
 use super::{Buffer, BufferClusterLevel, BufferFlags, CONTEXT_LENGTH, Direction, Script, context};
@@ -40,8 +40,8 @@ impl<'a> BufferSettings<'a> {
     /// ensures { with_settings result (new_buffer max_len) ≡ new_buffer max_len }
     /// ```
     ///
-    /// - `new_buffer`: crates/shapers_buffer/specs/Buffer.antt
-    /// - `with_settings`: crates/shapers_buffer/specs/Settings.antt
+    /// - `new_buffer`: `crates/shapers_buffer/specs/Buffer.antt`
+    /// - `with_settings`: `crates/shapers_buffer/specs/Settings.antt`
     ///
     /// </details>
     #[inline]
@@ -71,7 +71,7 @@ impl<'a> BufferSettings<'a> {
 /// ensures { result.items ≡ take 5 (map character_of numbers.now) }
 /// ```
 ///
-/// - `character_of`: crates/shapers_buffer/specs/Settings.antt
+/// - `character_of`: `crates/shapers_buffer/specs/Settings.antt`
 ///
 /// </details>
 #[inline]
@@ -79,7 +79,7 @@ pub fn context_characters(numbers: &[u32]) -> ArrayVec<char, CONTEXT_LENGTH> {
     let nearest = &numbers[..numbers.len().min(CONTEXT_LENGTH)];
     let mut characters = ArrayVec::new();
     for number in nearest {
-        characters.try_push(character(*number)).unwrap();
+        characters.push(character(*number));
     }
     characters
 }
@@ -103,7 +103,7 @@ impl Buffer {
     /// ensures at_most_five_after { length result.post_context.now ≤ 5 }
     /// ```
     ///
-    /// - `with_settings`: crates/shapers_buffer/specs/Settings.antt
+    /// - `with_settings`: `crates/shapers_buffer/specs/Settings.antt`
     ///
     /// </details>
     #[inline]
@@ -132,7 +132,7 @@ impl Buffer {
     /// ensures { self.new ≡ with_settings settings.now self.old }
     /// ```
     ///
-    /// - `with_settings`: crates/shapers_buffer/specs/Settings.antt
+    /// - `with_settings`: `crates/shapers_buffer/specs/Settings.antt`
     ///
     /// </details>
     #[inline]

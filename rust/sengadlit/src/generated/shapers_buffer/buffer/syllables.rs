@@ -1,5 +1,5 @@
-//! Generated from crates/shapers_buffer/src/buffer/syllables.rt by rust/erase; edit the source.
-//!
+// Generated from crates/shapers_buffer/src/buffer/syllables.rt by rust/erase; edit the source.
+
 //! Syllables in the buffer: longest runs of glyphs of equal syllable bytes.
 
 use super::glyph::GlyphInfo;
@@ -20,6 +20,10 @@ impl Buffer {
     /// Where the syllable ends that place `s` stands in: behind the longest run of its byte from
     /// `s` on.
     ///
+    /// # Panics
+    ///
+    /// Where `s` is no place of the buffer.
+    ///
     /// <details><summary>Contract</summary>
     ///
     /// # Contract
@@ -31,7 +35,7 @@ impl Buffer {
     /// ensures further { s < result }
     /// ```
     ///
-    /// - `first_syllable_len`: crates/shapers_buffer/specs/Syllables.antt
+    /// - `first_syllable_len`: `crates/shapers_buffer/specs/Syllables.antt`
     ///
     /// </details>
     #[inline]
@@ -49,7 +53,7 @@ impl Buffer {
     /// ensures { result ≡ unknown_syllable last_kind self.now.glyphs }
     /// ```
     ///
-    /// - `unknown_syllable`: crates/shapers_buffer/specs/Syllables.antt
+    /// - `unknown_syllable`: `crates/shapers_buffer/specs/Syllables.antt`
     ///
     /// </details>
     #[inline]
@@ -60,6 +64,10 @@ impl Buffer {
     /// Gives each place the syllable byte of the span that covers it, and sets the mark of a broken
     /// syllable where a span is of the broken kind. Refuses with `SpansDontCover` where a span is
     /// empty or the lengths don't add up to the buffer's. It takes no memory.
+    ///
+    /// # Errors
+    ///
+    /// `SpansDontCover`; nothing has changed then.
     ///
     /// <details><summary>Contract</summary>
     ///
@@ -72,8 +80,8 @@ impl Buffer {
     /// ensures err { OnErr result (self.new ≡ self.old) }
     /// ```
     ///
-    /// - `RefusesInput`: crates/shapers_buffer/specs/Refusals.antt
-    /// - `spans_refusal`, `with_spans`: crates/shapers_buffer/specs/Syllables.antt
+    /// - `RefusesInput`: `crates/shapers_buffer/specs/Refusals.antt`
+    /// - `spans_refusal`, `with_spans`: `crates/shapers_buffer/specs/Syllables.antt`
     ///
     /// </details>
     #[inline]
@@ -102,7 +110,7 @@ impl Buffer {
 /// ensures within { result ≤ length glyphs.now }
 /// ```
 ///
-/// - `first_syllable_len`: crates/shapers_buffer/specs/Syllables.antt
+/// - `first_syllable_len`: `crates/shapers_buffer/specs/Syllables.antt`
 ///
 /// </details>
 #[inline]
@@ -153,7 +161,7 @@ pub fn has_span_of_kind(spans: &[Span], kind: u8) -> bool {
 /// ensures { result ≡ spans_cover len spans.now }
 /// ```
 ///
-/// - `spans_cover`: crates/shapers_buffer/specs/Syllables.antt
+/// - `spans_cover`: `crates/shapers_buffer/specs/Syllables.antt`
 ///
 /// </details>
 #[inline]
@@ -196,7 +204,7 @@ fn set_syllable_in(glyphs: &mut [GlyphInfo], s: usize, e: usize, byte: u8) {
 /// ensures { glyphs.new ≡ map (in_syllable byte) glyphs.old }
 /// ```
 ///
-/// - `in_syllable`: crates/shapers_buffer/specs/Syllables.antt
+/// - `in_syllable`: `crates/shapers_buffer/specs/Syllables.antt`
 ///
 /// </details>
 #[inline]

@@ -1,4 +1,4 @@
-//! Generated from crates/shapers_buffer/src/buffer/tag.rt by rust/erase; edit the source.
+// Generated from crates/shapers_buffer/src/buffer/tag.rt by rust/erase; edit the source.
 
 /// A tag of the OpenType registry: four bytes.
 #[repr(transparent)]

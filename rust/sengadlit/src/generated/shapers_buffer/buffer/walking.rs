@@ -1,5 +1,5 @@
-//! Generated from crates/shapers_buffer/src/buffer/walking.rt by rust/erase; edit the source.
-//!
+// Generated from crates/shapers_buffer/src/buffer/walking.rt by rust/erase; edit the source.
+
 //! Changes and walks of the glyphs in place, over the slice that the buffer keeps them in.
 
 use super::Buffer;
@@ -58,6 +58,10 @@ pub trait PositionedWalk {
 impl Buffer {
     /// Changes each glyph from `s` to `e`. It takes no memory.
     ///
+    /// # Panics
+    ///
+    /// Where `s` is above `e`, or `e` above the length.
+    ///
     /// <details><summary>Contract</summary>
     ///
     /// # Contract
@@ -69,7 +73,7 @@ impl Buffer {
     ///     self.new ≡ record self.old { glyphs = changed } }
     /// ```
     ///
-    /// - `with_stretch`: crates/shapers_buffer/specs/Clusters.antt
+    /// - `with_stretch`: `crates/shapers_buffer/specs/Clusters.antt`
     ///
     /// </details>
     #[inline]

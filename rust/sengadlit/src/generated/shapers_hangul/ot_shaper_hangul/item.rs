@@ -1,5 +1,5 @@
-//! Generated from crates/shapers_hangul/src/ot_shaper_hangul/item.rt by rust/erase; edit the source.
-//!
+// Generated from crates/shapers_hangul/src/ot_shaper_hangul/item.rt by rust/erase; edit the source.
+
 //! The units of a Hangul text, and the tones that join them.
 
 use crate::support::prelude::*;
@@ -274,15 +274,17 @@ fn read_item<F: Font>(face: &F, circles: bool, glyphs: &[GlyphInfo]) -> Item {
 
 // Whether the character that opens the text stays as it is, as far as it and the next one decide.
 #[inline]
-pub(super) fn stays_alone<F: Font>(face: &F, glyphs: &[GlyphInfo]) -> bool {
+pub(super) fn stays_alone<F: Font>(face: &F, circles: bool, glyphs: &[GlyphInfo]) -> bool {
     let u = character_at(glyphs, 0);
-    if follows(character_at(glyphs, 1)) {
-        return false;
-    }
+    let v = character_at(glyphs, 1);
     if is_combined_s(u) {
-        return face.has_glyph(u);
+        return !follows(v) && face.has_glyph(u);
     }
-    !is_hangul_tone(u)
+    if is_hangul_tone(u) {
+        // it takes nothing along, and stays where it gets no circle
+        return !circles || !face.has_glyph(DOTTED_CIRCLE);
+    }
+    !follows(v)
 }
 
 // The item that opens the text, which stands within it.

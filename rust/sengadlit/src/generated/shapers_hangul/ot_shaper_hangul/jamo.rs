@@ -1,5 +1,5 @@
-//! Generated from crates/shapers_hangul/src/ot_shaper_hangul/jamo.rt by rust/erase; edit the source.
-//!
+// Generated from crates/shapers_hangul/src/ot_shaper_hangul/jamo.rt by rust/erase; edit the source.
+
 //! Jamo, syllable characters and tones, by their numbers.
 
 // Where the leading jamo that combine, their vowels and the syllable characters begin, and the

@@ -1,5 +1,5 @@
-//! Generated from crates/shapers_hangul/src/ot_shaper_hangul/rewriting.rt by rust/erase; edit the source.
-//!
+// Generated from crates/shapers_hangul/src/ot_shaper_hangul/rewriting.rt by rust/erase; edit the source.
+
 //! The text rewritten, item after item.
 
 use crate::support::prelude::*;
@@ -27,7 +27,7 @@ fn rest_from(glyphs: &[GlyphInfo], place: usize) -> &[GlyphInfo] {
 #[inline]
 fn stays_at<F: Font>(face: &F, circles: bool, glyphs: &[GlyphInfo], place: usize) -> bool {
     let rest = rest_from(glyphs, place);
-    stays_alone(face, rest) || first_item(face, circles, rest).is_kept()
+    stays_alone(face, circles, rest) || first_item(face, circles, rest).is_kept()
 }
 
 // How far the text stays as it is: the place of the first item that changes it, or its end.
@@ -85,7 +85,7 @@ fn measure<F: Font>(
     let mut room = limit - kept;
     let mut place = kept;
     while place < glyphs.len() {
-        if stays_alone(face, rest_from(glyphs, place)) {
+        if stays_alone(face, circles, rest_from(glyphs, place)) {
             if room == 0 {
                 return Err(ShaperError::TooLong);
             }

@@ -1,5 +1,5 @@
-//! Generated from crates/shapers_indic/src/ot_shaper_indic/data.rt by rust/erase; edit the source.
-//!
+// Generated from crates/shapers_indic/src/ot_shaper_indic/data.rt by rust/erase; edit the source.
+
 //! What the shaper keeps in the plan.
 
 use crate::generated::shapers_base::buffer::{Script, Tag};
@@ -158,21 +158,22 @@ fn masks_of(map: &Map) -> [u32; 17] {
 }
 
 /// What the shaper keeps in the plan: the script's row of the table, whether the font follows the
-/// older specification, its questions to the font, and the masks of its features. Questions leave
-/// contexts out in the older specification, but for Malayalam. No mask touches a glyph flag bit. It
-/// can't refuse and takes no memory.
+/// older specification, among which consonants the base is looked for, its questions to the font,
+/// and the masks of its features. Questions leave contexts out in the older specification, but for
+/// Malayalam. No mask touches a glyph flag bit. It can't refuse and takes no memory.
 ///
 /// <details><summary>Contract</summary>
 ///
 /// # Contract
 ///
 /// ```text
-/// ensures data { result ≡ Indic (indic_plan plan.now.script plan.now.ot_map) }
+/// ensures data { let search = plan.now.base_search in
+///     result ≡ Indic (indic_plan search plan.now.script plan.now.ot_map) }
 /// ensures off_flags { AllByRecursion (λ mask. mask % 8 ≡ 0) (masks_kept result) }
 /// ```
 ///
-/// - `masks_kept`: crates/shapers_base/specs/Masks.antt
-/// - `indic_plan`: crates/shapers_indic/specs/Plan.antt
+/// - `masks_kept`: `crates/shapers_base/specs/Masks.antt`
+/// - `indic_plan`: `crates/shapers_indic/specs/Plan.antt`
 ///
 /// </details>
 pub fn create_data(plan: &Plan) -> PlanData {
@@ -184,6 +185,7 @@ pub fn create_data(plan: &Plan) -> PlanData {
     PlanData::Indic(IndicPlan {
         config,
         is_old_spec,
+        base_search: plan.base_search,
         rphf: question(*b"rphf"),
         pref: question(*b"pref"),
         blwf: question(*b"blwf"),
@@ -204,14 +206,14 @@ pub fn create_data(plan: &Plan) -> PlanData {
 /// ensures { result.now ≡ indic_in plan.now }
 /// ```
 ///
-/// - `indic_in`, `is_indic_data`: crates/shapers_indic/specs/Plan.antt
+/// - `indic_in`, `is_indic_data`: `crates/shapers_indic/specs/Plan.antt`
 ///
 /// </details>
 #[inline]
 pub fn indic_in(plan: &Plan) -> &IndicPlan {
     match &plan.plan_data {
         PlanData::Indic(kept) => kept,
-        _ => unreachable!(),
+        _ => unreachable!("the plan has no data of the Indic shaper"),
     }
 }
 
@@ -225,7 +227,7 @@ pub fn indic_in(plan: &Plan) -> &IndicPlan {
 /// ensures { result ≡ virama_glyph (F.font face.now) plan.now }
 /// ```
 ///
-/// - `virama_glyph`: crates/shapers_indic/specs/Plan.antt
+/// - `virama_glyph`: `crates/shapers_indic/specs/Plan.antt`
 ///
 /// </details>
 #[inline]

@@ -1,5 +1,5 @@
-//! Generated from crates/shapers_indic/src/ot_shaper_indic/glyphs.rt by rust/erase; edit the source.
-//!
+// Generated from crates/shapers_indic/src/ot_shaper_indic/glyphs.rt by rust/erase; edit the source.
+
 //! What both reorderings read of a glyph.
 
 use crate::generated::shapers_base::buffer::GlyphInfo;
@@ -7,7 +7,7 @@ use crate::generated::shapers_base::font::GlyphId;
 use crate::generated::shapers_base::plan::ot_category_t::{OT_C, OT_M, OT_MPst, OT_ZWJ, OT_ZWNJ};
 use crate::generated::shapers_base::plan::ot_position_t::POS_BASE_C;
 
-/// The glyph's number, as fonts take it.
+/// The glyph's number, as fonts take it. No font has a glyph of a number above 65535, nor of that one.
 ///
 /// <details><summary>Contract</summary>
 ///
@@ -17,12 +17,12 @@ use crate::generated::shapers_base::plan::ot_position_t::POS_BASE_C;
 /// ensures { result ≡ number glyph.now }
 /// ```
 ///
-/// - `number`: crates/shapers_indic/specs/Glyphs.antt
+/// - `number`: `crates/shapers_indic/specs/Glyphs.antt`
 ///
 /// </details>
 #[inline]
 pub fn number(glyph: &GlyphInfo) -> GlyphId {
-    GlyphId((glyph.glyph_id % 65536) as u16)
+    GlyphId(glyph.glyph_id.min(u32::from(u16::MAX)) as u16)
 }
 
 /// Whether a glyph is a joiner, and no lookup put it in for several.
@@ -35,7 +35,7 @@ pub fn number(glyph: &GlyphInfo) -> GlyphId {
 /// ensures { result ≡ is_joiner glyph.now }
 /// ```
 ///
-/// - `is_joiner`: crates/shapers_indic/specs/Glyphs.antt
+/// - `is_joiner`: `crates/shapers_indic/specs/Glyphs.antt`
 ///
 /// </details>
 #[inline]
@@ -53,7 +53,7 @@ pub fn is_joiner(glyph: &GlyphInfo) -> bool {
 /// ensures { result ≡ is_matra glyph.now }
 /// ```
 ///
-/// - `is_matra`: crates/shapers_indic/specs/Glyphs.antt
+/// - `is_matra`: `crates/shapers_indic/specs/Glyphs.antt`
 ///
 /// </details>
 #[inline]
@@ -72,7 +72,7 @@ pub fn is_matra(glyph: &GlyphInfo) -> bool {
 /// ensures { result ≡ is_plain_consonant syllable.now }
 /// ```
 ///
-/// - `is_plain_consonant`: crates/shapers_indic/specs/Glyphs.antt
+/// - `is_plain_consonant`: `crates/shapers_indic/specs/Glyphs.antt`
 ///
 /// </details>
 #[inline]

@@ -1,5 +1,5 @@
-//! Generated from crates/shapers_indic/src/ot_shaper_indic/indic_feature.rt by rust/erase; edit the source.
-//!
+// Generated from crates/shapers_indic/src/ot_shaper_indic/indic_feature.rt by rust/erase; edit the source.
+
 //! The places of the features in the shaper's list of them.
 
 /// Nukta forms (`nukt`).

@@ -1,5 +1,5 @@
-//! Generated from crates/shapers_indic_final/src/ot_shaper_indic_final/base.rt by rust/erase; edit the source.
-//!
+// Generated from crates/shapers_indic_final/src/ot_shaper_indic_final/base.rt by rust/erase; edit the source.
+
 //! The base of a syllable after substitutions. (OpenType, development of Indic scripts: "Final
 //! reordering".)
 

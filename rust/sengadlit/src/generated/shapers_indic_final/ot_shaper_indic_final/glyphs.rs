@@ -1,5 +1,5 @@
-//! Generated from crates/shapers_indic_final/src/ot_shaper_indic_final/glyphs.rt by rust/erase; edit the source.
-//!
+// Generated from crates/shapers_indic_final/src/ot_shaper_indic_final/glyphs.rt by rust/erase; edit the source.
+
 //! What the final reordering reads of a glyph.
 
 use crate::generated::shapers_base::buffer::GlyphInfo;

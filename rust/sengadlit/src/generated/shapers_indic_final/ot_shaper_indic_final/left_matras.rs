@@ -1,5 +1,5 @@
-//! Generated from crates/shapers_indic_final/src/ot_shaper_indic_final/left_matras.rt by rust/erase; edit the source.
-//!
+// Generated from crates/shapers_indic_final/src/ot_shaper_indic_final/left_matras.rt by rust/erase; edit the source.
+
 //! The left matras of one syllable moved to their place, in time that is linear in the syllable.
 //! Each merges with all behind it up to the base. So at any time at most two runs of glyphs are in
 //! clusters that merges have given them: the matras that have gone with what follows them, and
@@ -8,7 +8,9 @@
 
 use super::matras::is_left;
 use super::moves::move_matra;
-use crate::generated::shapers_base::buffer::{Buffer, BufferClusterLevel, GlyphChange, GlyphInfo};
+use crate::generated::shapers_base::buffer::{
+    Buffer, BufferClusterLevel, GlyphChange, GlyphInfo, Placement,
+};
 
 // What merges have put into two clusters, which aren't written yet: where the glyphs before the
 // matras start, up to these, and their cluster; the place behind the glyphs from the matras on, and
@@ -175,7 +177,7 @@ fn list_places(
 fn move_matras(top: usize, buffer: &mut Buffer, s: usize, e: usize) -> usize {
     let at = list_places(false, top, buffer, s, e, s);
     list_places(true, top, buffer, s, e, at);
-    buffer.apply(s, e);
+    buffer.apply(s, e, Placement::Listed);
     at
 }
 

@@ -1,5 +1,5 @@
-//! Generated from crates/shapers_indic_final/src/ot_shaper_indic_final/matras.rt by rust/erase; edit the source.
-//!
+// Generated from crates/shapers_indic_final/src/ot_shaper_indic_final/matras.rt by rust/erase; edit the source.
+
 //! Where the left matras of a syllable go. (OpenType, development of Indic scripts: "Reorder
 //! matras".)
 

@@ -1,9 +1,8 @@
-//! Generated from crates/shapers_indic_final/src/ot_shaper_indic_final/moves.rt by rust/erase; edit the source.
-//!
+// Generated from crates/shapers_indic_final/src/ot_shaper_indic_final/moves.rt by rust/erase; edit the source.
+
 //! One glyph moved to the other end of a stretch, in place.
 
-use crate::generated::shapers_base::buffer::{Buffer, GlyphInfo, GlyphWalk};
-use crate::generated::shapers_syllabic::ot_shaper_syllabic::{turn_left, turn_right};
+use crate::generated::shapers_base::buffer::{Buffer, Placement};
 
 // Merges the syllable from `s` on up to its place `j`, and moves its first glyph, the reph, there.
 #[inline]
@@ -31,39 +30,21 @@ pub(super) fn move_matra(buffer: &mut Buffer, s: usize, b: usize, i: usize, j: u
 // Moves the first glyph of the stretch from `s` to `e` behind the others.
 #[inline]
 fn move_first_last(buffer: &mut Buffer, s: usize, e: usize) {
-    buffer.walk(&mut FirstLast { start: s, end: e });
+    let behind = Placement::Forward {
+        to: s,
+        from: s + 1,
+        count: e - s - 1,
+    };
+    buffer.apply(s, e, behind);
 }
 
 // Moves the last glyph of the stretch from `s` to `e` before the others.
 #[inline]
 fn move_last_first(buffer: &mut Buffer, s: usize, e: usize) {
-    buffer.walk(&mut LastFirst { start: s, end: e });
-}
-
-// The first glyph of a stretch goes behind the others.
-#[derive(Clone, Copy)]
-struct FirstLast {
-    start: usize,
-    end: usize,
-}
-
-impl GlyphWalk for FirstLast {
-    #[inline]
-    fn walk(&mut self, glyphs: &mut [GlyphInfo]) {
-        turn_left(&mut glyphs[self.start..self.end]);
-    }
-}
-
-// The last glyph of a stretch goes before the others.
-#[derive(Clone, Copy)]
-struct LastFirst {
-    start: usize,
-    end: usize,
-}
-
-impl GlyphWalk for LastFirst {
-    #[inline]
-    fn walk(&mut self, glyphs: &mut [GlyphInfo]) {
-        turn_right(&mut glyphs[self.start..self.end]);
-    }
+    let before = Placement::Forward {
+        to: s,
+        from: e - 1,
+        count: 1,
+    };
+    buffer.apply(s, e, before);
 }

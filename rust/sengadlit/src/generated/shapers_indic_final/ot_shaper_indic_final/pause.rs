@@ -1,5 +1,5 @@
-//! Generated from crates/shapers_indic_final/src/ot_shaper_indic_final/pause.rt by rust/erase; edit the source.
-//!
+// Generated from crates/shapers_indic_final/src/ot_shaper_indic_final/pause.rt by rust/erase; edit the source.
+
 //! The pause of the final reordering.
 
 use super::reordering::reorder_text;
@@ -23,16 +23,18 @@ use crate::generated::shapers_indic::ot_shaper_indic::indic_in;
 /// requires kept { is_indic_data plan.now.plan_data ≡ true }
 /// ensures reordered { let rules = final_rules (F.font face.now) (indic_in plan.now) in
 ///     FinallyReordered rules buffer.old buffer.new }
+/// ensures linked { let rules = final_rules (F.font face.now) (indic_in plan.now) in
+///     FinallyLinked rules buffer.old buffer.new }
 /// ensures laws { let rules = final_rules (F.font face.now) (indic_in plan.now) in
 ///     FinallyKept rules buffer.old buffer.new }
 /// ensures clusters { NoNewCluster buffer.old.glyphs buffer.new.glyphs }
 /// ```
 ///
-/// - `indic_in`, `is_indic_data`: crates/shapers_indic/specs/Plan.antt
-/// - `FinallyKept`: crates/shapers_indic_final/specs/FinalLaws.antt
-/// - `final_rules`: crates/shapers_indic_final/specs/FinalRules.antt
-/// - `FinallyReordered`: crates/shapers_indic_final/specs/FinalWordStart.antt
-/// - `NoNewCluster`: crates/shapers_syllabic/specs/CircleLaws.antt
+/// - `indic_in`, `is_indic_data`: `crates/shapers_indic/specs/Plan.antt`
+/// - `FinallyKept`: `crates/shapers_indic_final/specs/FinalLaws.antt`
+/// - `final_rules`: `crates/shapers_indic_final/specs/FinalRules.antt`
+/// - `FinallyLinked`, `FinallyReordered`: `crates/shapers_indic_final/specs/FinalWordStart.antt`
+/// - `NoNewCluster`: `crates/shapers_syllabic/specs/CircleLaws.antt`
 ///
 /// </details>
 #[inline]

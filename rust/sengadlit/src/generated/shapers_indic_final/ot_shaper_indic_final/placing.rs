@@ -1,5 +1,5 @@
-//! Generated from crates/shapers_indic_final/src/ot_shaper_indic_final/placing.rt by rust/erase; edit the source.
-//!
+// Generated from crates/shapers_indic_final/src/ot_shaper_indic_final/placing.rt by rust/erase; edit the source.
+
 //! Left matras, the reph and a formed pref glyph of one syllable, each put in its place.
 
 use super::left_matras::part_matras;

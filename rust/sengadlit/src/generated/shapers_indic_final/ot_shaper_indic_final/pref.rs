@@ -1,5 +1,5 @@
-//! Generated from crates/shapers_indic_final/src/ot_shaper_indic_final/pref.rt by rust/erase; edit the source.
-//!
+// Generated from crates/shapers_indic_final/src/ot_shaper_indic_final/pref.rt by rust/erase; edit the source.
+
 //! Where a glyph formed by `pref` goes. (OpenType, development of Indic scripts: "Reorder
 //! pre-base-reordering consonants".)
 

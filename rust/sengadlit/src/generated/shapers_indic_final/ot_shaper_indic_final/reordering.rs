@@ -1,5 +1,5 @@
-//! Generated from crates/shapers_indic_final/src/ot_shaper_indic_final/reordering.rt by rust/erase; edit the source.
-//!
+// Generated from crates/shapers_indic_final/src/ot_shaper_indic_final/reordering.rt by rust/erase; edit the source.
+
 //! The final reordering of one syllable, and of a text.
 
 use super::base::settle_base;
@@ -12,13 +12,14 @@ use crate::generated::shapers_base::buffer::{Buffer, GlyphInfo, Script};
 use crate::generated::shapers_base::plan::ot_position_t::{
     POS_BELOW_C, POS_PRE_M, POS_RA_TO_BECOME_REPH,
 };
-use crate::generated::shapers_syllabic::ot_shaper_syllabic::syllable_start;
+use crate::generated::shapers_syllabic::ot_shaper_syllabic::{MayChange, next_changing};
 
 // Reorders each syllable of the text and opens it, from left to right.
 #[inline]
 pub(super) fn reorder_text(rules: &Rules, script: Option<Script>, buffer: &mut Buffer) {
+    let order = FinalOrder { rules, script };
     let mut start = 0;
-    while let Some(first) = next_changing(rules, script, buffer.glyphs(), start) {
+    while let Some(first) = next_changing(&order, buffer.glyphs(), start) {
         let end = buffer.next_syllable(first);
         reorder_syllable(rules, script, buffer, first, end);
         open_syllable(rules.init, buffer, first);
@@ -27,24 +28,18 @@ pub(super) fn reorder_text(rules: &Rules, script: Option<Script>, buffer: &mut B
     buffer.clear_places();
 }
 
-// Where the next syllable starts that may change, of those from `start` on.
-#[inline]
-fn next_changing(
-    rules: &Rules,
+// The final reordering of syllables, under rules, in a text of a script.
+#[derive(Clone, Copy)]
+struct FinalOrder<'a> {
+    rules: &'a Rules,
     script: Option<Script>,
-    glyphs: &[GlyphInfo],
-    start: usize,
-) -> Option<usize> {
-    let count = first_changing(rules, script, &glyphs[start..])?;
-    Some(syllable_start(glyphs, start, start + count))
 }
 
-// The first glyph that may change its syllable.
-#[inline]
-fn first_changing(rules: &Rules, script: Option<Script>, glyphs: &[GlyphInfo]) -> Option<usize> {
-    glyphs
-        .iter()
-        .position(|glyph| changes_syllable(rules, script, glyph))
+impl<'a> MayChange for FinalOrder<'a> {
+    #[inline]
+    fn may_change(&self, glyph: &GlyphInfo) -> bool {
+        changes_syllable(self.rules, self.script, glyph)
+    }
 }
 
 // Whether a glyph may change its syllable: a left matra, a reph, what `pref` may form, a virama to

@@ -1,5 +1,5 @@
-//! Generated from crates/shapers_indic_final/src/ot_shaper_indic_final/reph.rt by rust/erase; edit the source.
-//!
+// Generated from crates/shapers_indic_final/src/ot_shaper_indic_final/reph.rt by rust/erase; edit the source.
+
 //! Where the reph of a syllable goes. (OpenType, development of Indic scripts: "Reorder reph".)
 
 use super::glyphs::{is_formed, is_halant};

@@ -1,5 +1,5 @@
-//! Generated from crates/shapers_indic_final/src/ot_shaper_indic_final/rules.rt by rust/erase; edit the source.
-//!
+// Generated from crates/shapers_indic_final/src/ot_shaper_indic_final/rules.rt by rust/erase; edit the source.
+
 //! What the final reordering reads of the plan and the font.
 
 use crate::generated::shapers_base::buffer::Script;
@@ -36,7 +36,7 @@ impl Rules {
     /// ensures { result ≡ final_rules (F.font face.now) plan.now }
     /// ```
     ///
-    /// - `final_rules`: crates/shapers_indic_final/specs/FinalRules.antt
+    /// - `final_rules`: `crates/shapers_indic_final/specs/FinalRules.antt`
     ///
     /// </details>
     #[inline]

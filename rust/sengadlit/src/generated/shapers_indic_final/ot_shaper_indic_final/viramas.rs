@@ -1,5 +1,5 @@
-//! Generated from crates/shapers_indic_final/src/ot_shaper_indic_final/viramas.rt by rust/erase; edit the source.
-//!
+// Generated from crates/shapers_indic_final/src/ot_shaper_indic_final/viramas.rt by rust/erase; edit the source.
+
 //! Viramas that lookups put in for several glyphs and then took apart become halants again.
 
 use crate::generated::shapers_base::buffer::{Buffer, GlyphChange, GlyphInfo};
@@ -34,7 +34,7 @@ impl GlyphChange for Recover {
 pub(super) fn is_lost_virama(virama: Option<GlyphId>, glyph: &GlyphInfo) -> bool {
     match virama {
         Some(virama) => {
-            glyph.glyph_id == virama.0 as u32
+            glyph.glyph_id == u32::from(virama.0)
                 && glyph.marks.is_ligated()
                 && glyph.marks.is_multiplied()
         }

@@ -1,5 +1,5 @@
-//! Generated from crates/shapers_indic_final/src/ot_shaper_indic_final/word_start.rt by rust/erase; edit the source.
-//!
+// Generated from crates/shapers_indic_final/src/ot_shaper_indic_final/word_start.rt by rust/erase; edit the source.
+
 //! The opening of a syllable: a left matra gets the mask of `init` at the start of a word, and
 //! inside a word a break before it is unsafe.
 

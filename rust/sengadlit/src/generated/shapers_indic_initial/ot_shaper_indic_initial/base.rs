@@ -1,5 +1,5 @@
-//! Generated from crates/shapers_indic_initial/src/ot_shaper_indic_initial/base.rt by rust/erase; edit the source.
-//!
+// Generated from crates/shapers_indic_initial/src/ot_shaper_indic_initial/base.rt by rust/erase; edit the source.
+
 //! The base consonant of a syllable, and whether it has a reph. (OpenType, development of Indic
 //! scripts: "Find base consonant".)
 
@@ -7,8 +7,9 @@ use super::reph::{limit, reph_len};
 use super::rules::Rules;
 use crate::generated::shapers_base::buffer::GlyphInfo;
 use crate::generated::shapers_base::font::Font;
+use crate::generated::shapers_base::plan::BaseSearch;
 use crate::generated::shapers_base::plan::ot_category_t::{
-    OT_C, OT_CS, OT_DOTTEDCIRCLE, OT_H, OT_PLACEHOLDER, OT_Ra, OT_V, OT_ZWJ,
+    OT_C, OT_CM, OT_CS, OT_DOTTEDCIRCLE, OT_H, OT_PLACEHOLDER, OT_Ra, OT_V, OT_ZWJ,
 };
 use crate::generated::shapers_base::plan::ot_position_t::{POS_BELOW_C, POS_POST_C};
 
@@ -26,8 +27,8 @@ pub(super) fn find_base<F: Font>(rules: &Rules<F>, glyphs: &[GlyphInfo]) -> Base
     let reph = reph_len(rules, glyphs);
     let limit = limit(reph, glyphs);
     let otherwise = if reph == 0 { glyphs.len() } else { 0 };
-    let place =
-        last_or_first(limit.min(glyphs.len().saturating_sub(1)), glyphs).unwrap_or(otherwise);
+    let lo = limit.min(glyphs.len().saturating_sub(1));
+    let place = last_or_first(rules.plan.base_search, lo, glyphs).unwrap_or(otherwise);
     Base {
         place,
         has_reph: reph != 0 && !(place == 0 && limit <= 2),
@@ -37,26 +38,26 @@ pub(super) fn find_base<F: Font>(rules: &Rules<F>, glyphs: &[GlyphInfo]) -> Base
 // The base from place `lo` on, or behind what stops the search: the last consonant without a
 // below-base or post-base form, else the first consonant.
 #[inline]
-fn last_or_first(lo: usize, glyphs: &[GlyphInfo]) -> Option<usize> {
-    if let Some(base) = last_base(lo, glyphs) {
+fn last_or_first(search: BaseSearch, lo: usize, glyphs: &[GlyphInfo]) -> Option<usize> {
+    if let Some(base) = last_base(search, lo, glyphs) {
         return Some(base);
     }
-    first_candidate(search_from(lo, glyphs), glyphs)
+    first_candidate(search, search_from(lo, glyphs), glyphs)
 }
 
 // The last consonant without a below-base or post-base form from place `lo` on, or behind what
 // stops the search.
 #[inline]
-fn last_base(lo: usize, glyphs: &[GlyphInfo]) -> Option<usize> {
+fn last_base(search: BaseSearch, lo: usize, glyphs: &[GlyphInfo]) -> Option<usize> {
     let mut below = false;
     for i in (lo..glyphs.len()).rev() {
         if stops_search(glyphs, i) {
             return None;
         }
-        if is_base(&glyphs[i], below) {
+        if is_base(search, &glyphs[i], below) {
             return Some(i);
         }
-        below = is_below(&glyphs[i]) || below;
+        below = is_below(search, &glyphs[i]) || below;
     }
     None
 }
@@ -64,16 +65,16 @@ fn last_base(lo: usize, glyphs: &[GlyphInfo]) -> Option<usize> {
 // Whether the search may end with a glyph: a consonant that has no below-base form, nor a post-base
 // one unless a consonant with a below-base form follows.
 #[inline]
-fn is_base(glyph: &GlyphInfo, below: bool) -> bool {
-    is_base_candidate(glyph)
+fn is_base(search: BaseSearch, glyph: &GlyphInfo, below: bool) -> bool {
+    is_base_candidate(search, glyph)
         && glyph.auxiliary != POS_BELOW_C
         && (glyph.auxiliary != POS_POST_C || below)
 }
 
 // Whether a glyph is a consonant with a below-base form.
 #[inline]
-fn is_below(glyph: &GlyphInfo) -> bool {
-    is_base_candidate(glyph) && glyph.auxiliary == POS_BELOW_C
+fn is_below(search: BaseSearch, glyph: &GlyphInfo) -> bool {
+    is_base_candidate(search, glyph) && glyph.auxiliary == POS_BELOW_C
 }
 
 // Where the search ends: behind the last glyph that stops it, or at place `lo`.
@@ -90,9 +91,9 @@ fn search_from(lo: usize, glyphs: &[GlyphInfo]) -> usize {
 // The first consonant that may be the base from place `start` on.
 #[allow(clippy::manual_find, clippy::needless_range_loop)]
 #[inline]
-fn first_candidate(start: usize, glyphs: &[GlyphInfo]) -> Option<usize> {
+fn first_candidate(search: BaseSearch, start: usize, glyphs: &[GlyphInfo]) -> Option<usize> {
     for i in start..glyphs.len() {
-        if is_base_candidate(&glyphs[i]) {
+        if is_base_candidate(search, &glyphs[i]) {
             return Some(i);
         }
     }
@@ -107,10 +108,11 @@ fn stops_search(glyphs: &[GlyphInfo], i: usize) -> bool {
 
 // Whether a glyph is a consonant that may be the base.
 #[inline]
-fn is_base_candidate(glyph: &GlyphInfo) -> bool {
+fn is_base_candidate(search: BaseSearch, glyph: &GlyphInfo) -> bool {
     !glyph.marks.is_ligated()
-        && matches!(
-            glyph.category,
-            OT_C | OT_CS | OT_Ra | OT_V | OT_PLACEHOLDER | OT_DOTTEDCIRCLE
-        )
+        && match glyph.category {
+            OT_C | OT_CS | OT_Ra | OT_V | OT_PLACEHOLDER | OT_DOTTEDCIRCLE => true,
+            OT_CM => search == BaseSearch::AllConsonants,
+            _ => false,
+        }
 }

@@ -1,5 +1,5 @@
-//! Generated from crates/shapers_indic_initial/src/ot_shaper_indic_initial/cycles.rt by rust/erase; edit the source.
-//!
+// Generated from crates/shapers_indic_initial/src/ot_shaper_indic_initial/cycles.rt by rust/erase; edit the source.
+
 //! What merges once a syllable is in its new order: the cycles of the order, or all from the base
 //! on.
 

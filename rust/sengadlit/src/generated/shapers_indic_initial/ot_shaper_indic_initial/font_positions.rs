@@ -1,5 +1,5 @@
-//! Generated from crates/shapers_indic_initial/src/ot_shaper_indic_initial/font_positions.rt by rust/erase; edit the source.
-//!
+// Generated from crates/shapers_indic_initial/src/ot_shaper_indic_initial/font_positions.rt by rust/erase; edit the source.
+
 //! Positions by the font: consonants that it has below-base or post-base forms of.
 
 use super::rules::Rules;
@@ -11,7 +11,7 @@ use crate::generated::shapers_base::plan::{IndicPlan, IndicWouldSubstituteFeatur
 use crate::generated::shapers_indic::ot_shaper_indic::glyphs::number;
 use crate::generated::shapers_indic::ot_shaper_indic::virama_glyph;
 
-/// Gives consonants of position BASE_C for which the font has a below-base or a post-base form, by
+/// Gives consonants of position `BASE_C` for which the font has a below-base or a post-base form, by
 /// its glyph for the script's virama, that form's position. It takes no memory.
 #[inline]
 pub(super) fn update_consonant_positions<F: Font>(rules: &Rules<F>, buffer: &mut Buffer) {

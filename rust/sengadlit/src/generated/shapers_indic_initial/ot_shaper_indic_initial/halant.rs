@@ -1,5 +1,5 @@
-//! Generated from crates/shapers_indic_initial/src/ot_shaper_indic_initial/halant.rt by rust/erase; edit the source.
-//!
+// Generated from crates/shapers_indic_initial/src/ot_shaper_indic_initial/halant.rt by rust/erase; edit the source.
+
 //! The H that the older specification puts behind the last consonant, and the joiner that Kannada
 //! puts before it. (OpenType, development of Indic scripts.)
 

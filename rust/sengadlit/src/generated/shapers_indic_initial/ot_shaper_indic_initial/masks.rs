@@ -1,5 +1,5 @@
-//! Generated from crates/shapers_indic_initial/src/ot_shaper_indic_initial/masks.rt by rust/erase; edit the source.
-//!
+// Generated from crates/shapers_indic_initial/src/ot_shaper_indic_initial/masks.rt by rust/erase; edit the source.
+
 //! The masks of a syllable in its new order. (OpenType, development of Indic scripts: which
 //! features apply where.)
 

@@ -1,5 +1,5 @@
-//! Generated from crates/shapers_indic_initial/src/ot_shaper_indic_initial/pause.rt by rust/erase; edit the source.
-//!
+// Generated from crates/shapers_indic_initial/src/ot_shaper_indic_initial/pause.rt by rust/erase; edit the source.
+
 //! The pause of the initial reordering.
 
 use super::font_positions::update_consonant_positions;
@@ -43,6 +43,8 @@ const CIRCLES: ScriptCircles = ScriptCircles {
 ///     IfOk result (λ answer. answer ≡ is_some circles) }
 /// ensures ok { OnOk result (InitiallyReordered
 ///     (F.font face.now) plan.now.ot_map (indic_in plan.now) buffer.old buffer.new) }
+/// ensures linked { OnOk result (InitiallyLinked
+///     (F.font face.now) plan.now.ot_map (indic_in plan.now) buffer.old buffer.new) }
 /// ensures syllables { let font = F.font face.now in
 ///     let kept = indic_in plan.now in
 ///     OnOk result (PauseReordered (initial_circles font buffer.old)
@@ -70,14 +72,14 @@ const CIRCLES: ScriptCircles = ScriptCircles {
 ///     initial_refusal buffer.old ≡ None → opened ≡ buffer.old.glyphs → IsOk result }
 /// ```
 ///
-/// - `Refuses`: crates/shapers_buffer/specs/Refusals.antt
-/// - `indic_in`, `is_indic_data`: crates/shapers_indic/specs/Plan.antt
-/// - `InitiallyMerged`: crates/shapers_indic_initial/specs/InitialLaws.antt
-/// - `InitiallyReordered`, `initial_circles`, `initial_refusal`, `order_by_font`, `steps_by_font`: crates/shapers_indic_initial/specs/InitialPause.antt
-/// - `NoNewCluster`: crates/shapers_syllabic/specs/CircleLaws.antt
-/// - `circled`: crates/shapers_syllabic/specs/Circles.antt
-/// - `PauseReordered`: crates/shapers_syllabic/specs/Reordering.antt
-/// - `PauseCutsAtBorders`, `TextReordered`: crates/shapers_syllabic/specs/ReorderingLaws.antt
+/// - `Refuses`: `crates/shapers_buffer/specs/Refusals.antt`
+/// - `indic_in`, `is_indic_data`: `crates/shapers_indic/specs/Plan.antt`
+/// - `InitiallyMerged`: `crates/shapers_indic_initial/specs/InitialLaws.antt`
+/// - `InitiallyLinked`, `InitiallyReordered`, `initial_circles`, `initial_refusal`, `order_by_font`, `steps_by_font`: `crates/shapers_indic_initial/specs/InitialPause.antt`
+/// - `NoNewCluster`: `crates/shapers_syllabic/specs/CircleLaws.antt`
+/// - `circled`: `crates/shapers_syllabic/specs/Circles.antt`
+/// - `PauseReordered`: `crates/shapers_syllabic/specs/Reordering.antt`
+/// - `PauseCutsAtBorders`, `TextReordered`: `crates/shapers_syllabic/specs/ReorderingLaws.antt`
 ///
 /// </details>
 pub fn initial_reordering<F: Font>(

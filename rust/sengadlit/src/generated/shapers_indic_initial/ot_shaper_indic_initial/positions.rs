@@ -1,5 +1,5 @@
-//! Generated from crates/shapers_indic_initial/src/ot_shaper_indic_initial/positions.rt by rust/erase; edit the source.
-//!
+// Generated from crates/shapers_indic_initial/src/ot_shaper_indic_initial/positions.rt by rust/erase; edit the source.
+
 //! The positions of a syllable's glyphs, by which it is ordered. (OpenType, development of Indic
 //! scripts: "Reorder characters".)
 

@@ -1,5 +1,5 @@
-//! Generated from crates/shapers_indic_initial/src/ot_shaper_indic_initial/preparing.rt by rust/erase; edit the source.
-//!
+// Generated from crates/shapers_indic_initial/src/ot_shaper_indic_initial/preparing.rt by rust/erase; edit the source.
+
 //! What comes before the order of a syllable: its positions, and the moves of single glyphs.
 //! (OpenType, development of Indic scripts: "Reorder characters".)
 
@@ -7,7 +7,7 @@ use super::base::{Base, find_base};
 use super::halant::{halant_move, joiner_comes_first};
 use super::positions::{attach_marks, own, set_positions_by_base};
 use super::rules::Rules;
-use crate::generated::shapers_base::buffer::{Buffer, GlyphInfo, GlyphWalk, Script};
+use crate::generated::shapers_base::buffer::{Buffer, GlyphInfo, GlyphWalk, Placement, Script};
 use crate::generated::shapers_base::font::Font;
 
 /// Prepares the syllable from `start` to `end` for its order. Kannada's opening Ra, H, ZWJ becomes
@@ -71,7 +71,7 @@ fn move_to_end(buffer: &mut Buffer, from: usize, end: usize) {
         buffer.set_place(i, i + 1);
     }
     buffer.set_place(last, from);
-    buffer.apply(from, end);
+    buffer.apply(from, end, Placement::Listed);
 }
 
 // Where a syllable stands whose glyphs get their positions by its base.

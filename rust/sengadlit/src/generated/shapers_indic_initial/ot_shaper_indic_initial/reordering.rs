@@ -1,5 +1,5 @@
-//! Generated from crates/shapers_indic_initial/src/ot_shaper_indic_initial/reordering.rt by rust/erase; edit the source.
-//!
+// Generated from crates/shapers_indic_initial/src/ot_shaper_indic_initial/reordering.rt by rust/erase; edit the source.
+
 //! The initial reordering of one syllable.
 
 use super::masks::set_masks;
@@ -9,23 +9,25 @@ use super::rules::Rules;
 use crate::generated::shapers_base::buffer::{Buffer, GlyphInfo, GlyphWalk, Script, ShaperError};
 use crate::generated::shapers_base::font::Font;
 use crate::generated::shapers_indic::ot_shaper_indic::glyphs::is_plain_consonant;
-use crate::generated::shapers_syllabic::ot_shaper_syllabic::Reorder;
 use crate::generated::shapers_syllabic::ot_shaper_syllabic::indic_syllable::{
     BROKEN_CLUSTER, CONSONANT_SYLLABLE, STANDALONE_CLUSTER, VOWEL_SYLLABLE,
 };
+use crate::generated::shapers_syllabic::ot_shaper_syllabic::{MayChange, Reorder, ReorderBySteps};
 
 /// The initial reordering of a syllable that has positions by the font: its order, and its masks.
 pub(super) struct InitialOrder<'a, F: Font> {
     pub(super) rules: &'a Rules<'a, F>,
 }
 
-impl<'a, F: Font> Reorder for InitialOrder<'a, F> {
+impl<'a, F: Font> MayChange for InitialOrder<'a, F> {
     // each may: it gets a position and masks
     #[inline]
     fn may_change(&self, _: &GlyphInfo) -> bool {
         true
     }
+}
 
+impl<'a, F: Font> Reorder for InitialOrder<'a, F> {
     #[inline]
     fn reorder(&self, buffer: &mut Buffer, start: usize, end: usize) -> Result<(), ShaperError> {
         if is_plain_consonant(&buffer.glyphs()[start..end]) {
@@ -39,6 +41,8 @@ impl<'a, F: Font> Reorder for InitialOrder<'a, F> {
         Ok(())
     }
 }
+
+impl<'a, F: Font> ReorderBySteps for InitialOrder<'a, F> {}
 
 impl<'a, F: Font> InitialOrder<'a, F> {
     // Gives the glyphs of an ordered syllable with its base at this place their masks.

@@ -1,5 +1,5 @@
-//! Generated from crates/shapers_indic_initial/src/ot_shaper_indic_initial/reph.rt by rust/erase; edit the source.
-//!
+// Generated from crates/shapers_indic_initial/src/ot_shaper_indic_initial/reph.rt by rust/erase; edit the source.
+
 //! The reph that opens a syllable, and the limit of the search for its base. (OpenType, development
 //! of Indic scripts.)
 

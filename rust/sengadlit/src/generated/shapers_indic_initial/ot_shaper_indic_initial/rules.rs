@@ -1,5 +1,5 @@
-//! Generated from crates/shapers_indic_initial/src/ot_shaper_indic_initial/rules.rt by rust/erase; edit the source.
-//!
+// Generated from crates/shapers_indic_initial/src/ot_shaper_indic_initial/rules.rt by rust/erase; edit the source.
+
 //! What the initial reordering reads of the plan and the font.
 
 use crate::generated::shapers_base::font::Font;

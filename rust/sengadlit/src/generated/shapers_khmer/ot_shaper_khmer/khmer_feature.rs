@@ -1,5 +1,5 @@
-//! Generated from crates/shapers_khmer/src/ot_shaper_khmer/khmer_feature.rt by rust/erase; edit the source.
-//!
+// Generated from crates/shapers_khmer/src/ot_shaper_khmer/khmer_feature.rt by rust/erase; edit the source.
+
 //! The places of the basic features in the shaper's list of them.
 
 /// The forms before the base (`pref`).

@@ -1,5 +1,5 @@
-//! Generated from crates/shapers_khmer/src/ot_shaper_khmer/pause.rt by rust/erase; edit the source.
-//!
+// Generated from crates/shapers_khmer/src/ot_shaper_khmer/pause.rt by rust/erase; edit the source.
+
 //! The reordering pause of Khmer.
 
 use super::khmer_feature::{ABVF, BLWF, CFAR, PREF, PSTF};
@@ -40,6 +40,10 @@ const CIRCLES: ScriptCircles = ScriptCircles {
 /// ensures ok { let circles = script_circles khmer_circles (F.font face.now) buffer.old in
 ///     OnOk result (PauseReordered circles
 ///     (khmer_order (order_in plan.now.plan_data)) khmer_steps buffer.old buffer.new) }
+/// ensures linked { let circles = script_circles khmer_circles (F.font face.now) buffer.old in
+///     let order = khmer_order (order_in plan.now.plan_data) in
+///     OnOk result (PauseLinked circles
+///     (SyllableReordered order khmer_steps) buffer.old buffer.new) }
 /// ensures movers { let circles = script_circles khmer_circles (F.font face.now) buffer.old in
 ///     OnOk result (PauseReordered circles
 ///     (ordered_by_movers (order_in plan.now.plan_data)) steps_by_movers buffer.old buffer.new) }
@@ -61,17 +65,17 @@ const CIRCLES: ScriptCircles = ScriptCircles {
 ///     circled circles buffer.old.glyphs ≡ buffer.old.glyphs → IsOk result }
 /// ```
 ///
-/// - `order_view`: crates/shapers_buffer/specs/Glyph.antt
-/// - `Refuses`: crates/shapers_buffer/specs/Refusals.antt
-/// - `unknown_refusal`: crates/shapers_buffer/specs/Syllables.antt
-/// - `ReorderedHold`: crates/shapers_clusters/specs/Laws.antt
-/// - `khmer_circles`, `khmer_order`, `khmer_steps`, `order_in`: crates/shapers_khmer/specs/Khmer.antt
-/// - `ordered_by_movers`, `steps_by_movers`: crates/shapers_khmer/specs/KhmerMovers.antt
-/// - `is_khmer_data`: crates/shapers_khmer/specs/Plan.antt
-/// - `NoNewCluster`: crates/shapers_syllabic/specs/CircleLaws.antt
-/// - `circled`: crates/shapers_syllabic/specs/Circles.antt
-/// - `PauseReordered`, `carried`, `script_circles`, `text_steps`: crates/shapers_syllabic/specs/Reordering.antt
-/// - `PauseCutsAtBorders`: crates/shapers_syllabic/specs/ReorderingLaws.antt
+/// - `order_view`: `crates/shapers_buffer/specs/Glyph.antt`
+/// - `Refuses`: `crates/shapers_buffer/specs/Refusals.antt`
+/// - `unknown_refusal`: `crates/shapers_buffer/specs/Syllables.antt`
+/// - `ReorderedHold`: `crates/shapers_clusters/specs/Laws.antt`
+/// - `khmer_circles`, `khmer_order`, `khmer_steps`, `order_in`: `crates/shapers_khmer/specs/Khmer.antt`
+/// - `ordered_by_movers`, `steps_by_movers`: `crates/shapers_khmer/specs/KhmerMovers.antt`
+/// - `is_khmer_data`: `crates/shapers_khmer/specs/Plan.antt`
+/// - `NoNewCluster`: `crates/shapers_syllabic/specs/CircleLaws.antt`
+/// - `circled`: `crates/shapers_syllabic/specs/Circles.antt`
+/// - `PauseLinked`, `PauseReordered`, `SyllableReordered`, `carried`, `script_circles`, `text_steps`: `crates/shapers_syllabic/specs/Reordering.antt`
+/// - `PauseCutsAtBorders`: `crates/shapers_syllabic/specs/ReorderingLaws.antt`
 ///
 /// </details>
 #[inline]
@@ -96,6 +100,6 @@ fn order_of(plan_data: &PlanData) -> KhmerOrder {
                 cfar: masks[CFAR],
             }
         }
-        _ => unreachable!(),
+        _ => unreachable!("the plan has no data of the Khmer shaper"),
     }
 }

@@ -1,5 +1,5 @@
-//! Generated from crates/shapers_myanmar/src/ot_shaper_myanmar/positions.rt by rust/erase; edit the source.
-//!
+// Generated from crates/shapers_myanmar/src/ot_shaper_myanmar/positions.rt by rust/erase; edit the source.
+
 //! The positions of the glyphs of a syllable. (OpenType, Myanmar script development.)
 
 use crate::generated::shapers_base::buffer::GlyphInfo;

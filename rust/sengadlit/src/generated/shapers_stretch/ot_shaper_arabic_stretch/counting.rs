@@ -1,5 +1,5 @@
-//! Generated from crates/shapers_stretch/src/ot_shaper_arabic_stretch/counting.rt by rust/erase; edit the source.
-//!
+// Generated from crates/shapers_stretch/src/ot_shaper_arabic_stretch/counting.rt by rust/erase; edit the source.
+
 //! The first pass over a text whose marks stretch: whether all its numbers fit, and how many cells
 //! it gains. A run takes a turn for each of its tiles, and none for a copy.
 

@@ -1,5 +1,5 @@
-//! Generated from crates/shapers_stretch/src/ot_shaper_arabic_stretch/measuring.rt by rust/erase; edit the source.
-//!
+// Generated from crates/shapers_stretch/src/ot_shaper_arabic_stretch/measuring.rt by rust/erase; edit the source.
+
 //! The numbers of a run: what its word and tiles measure, how often the tiles repeat, and how they
 //! are laid.
 

@@ -1,5 +1,5 @@
-//! Generated from crates/shapers_stretch/src/ot_shaper_arabic_stretch/parts.rt by rust/erase; edit the source.
-//!
+// Generated from crates/shapers_stretch/src/ot_shaper_arabic_stretch/parts.rt by rust/erase; edit the source.
+
 //! The parts of a text: what stands before a word, the word, and the run of tiles behind it.
 
 use crate::generated::shapers_arabic::ot_shaper_arabic::arabic_action_t::{

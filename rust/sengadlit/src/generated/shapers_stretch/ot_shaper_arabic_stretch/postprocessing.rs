@@ -1,5 +1,5 @@
-//! Generated from crates/shapers_stretch/src/ot_shaper_arabic_stretch/postprocessing.rt by rust/erase; edit the source.
-//!
+// Generated from crates/shapers_stretch/src/ot_shaper_arabic_stretch/postprocessing.rt by rust/erase; edit the source.
+
 //! The hook behind positioning: marks stretch over the words before them.
 
 use super::counting::count_added;
@@ -7,6 +7,7 @@ use super::tiles::TileLaying;
 use crate::generated::shapers_base::buffer::{Buffer, Direction, ShaperError};
 use crate::generated::shapers_base::font::Font;
 use crate::generated::shapers_base::plan::{Plan, PlanData, StretchStart};
+use core::mem;
 
 /// Stretches marks: where the buffer is marked to have some, the tiles of each run of them are
 /// laid, and laid again, over the word before it, and no break is left inside. Refuses with
@@ -37,11 +38,11 @@ use crate::generated::shapers_base::plan::{Plan, PlanData, StretchStart};
 /// ensures unmarked { buffer.old.stch ≡ false → IsOk result }
 /// ```
 ///
-/// - `IsArabic`: crates/shapers_arabic/specs/PlanData.antt
-/// - `Refuses`: crates/shapers_buffer/specs/Refusals.antt
-/// - `start_of`: crates/shapers_stretch/specs/Recorded.antt
-/// - `copies_in`, `marks_stretched`, `stretch_refusal`: crates/shapers_stretch/specs/Stretch.antt
-/// - `AreCopies`, `IsLaidOver`: crates/shapers_stretch/specs/StretchLaws.antt
+/// - `IsArabic`: `crates/shapers_arabic/specs/PlanData.antt`
+/// - `Refuses`: `crates/shapers_buffer/specs/Refusals.antt`
+/// - `start_of`: `crates/shapers_stretch/specs/Recorded.antt`
+/// - `copies_in`, `marks_stretched`, `stretch_refusal`: `crates/shapers_stretch/specs/Stretch.antt`
+/// - `AreCopies`, `IsLaidOver`: `crates/shapers_stretch/specs/StretchLaws.antt`
 ///
 /// </details>
 #[inline]
@@ -52,7 +53,7 @@ pub fn postprocess_glyphs<F: Font>(
 ) -> Result<(), ShaperError> {
     match &plan.plan_data {
         PlanData::Arabic(arabic_plan) => stretch_marks(face, arabic_plan.stretch_start, buffer),
-        _ => unreachable!(),
+        _ => unreachable!("the plan has no data of the Arabic shaper"),
     }
 }
 
@@ -66,10 +67,15 @@ fn stretch_marks<F: Font>(
     if !buffer.has_stch() {
         return Ok(());
     }
-    match buffer.direction() {
-        Direction::RightToLeft => stretch_text(face, choice, true, buffer),
-        _ => stretch_backwards(face, choice, buffer),
-    }
+    // (a font that panics leaves the empty buffer, and none that is reversed or half laid)
+    let empty = Buffer::new(buffer.alloc(), buffer.max_len());
+    let mut text = mem::replace(buffer, empty);
+    let result = match text.direction() {
+        Direction::RightToLeft => stretch_text(face, choice, true, &mut text),
+        _ => stretch_backwards(face, choice, &mut text),
+    };
+    *buffer = text;
+    result
 }
 
 // Stretches a text that is in working order backwards.

@@ -1,5 +1,5 @@
-//! Generated from crates/shapers_stretch/src/ot_shaper_arabic_stretch/recording.rt by rust/erase; edit the source.
-//!
+// Generated from crates/shapers_stretch/src/ot_shaper_arabic_stretch/recording.rt by rust/erase; edit the source.
+
 //! The pause behind `stch`: glyphs that it multiplied are the tiles of a mark.
 
 use crate::generated::shapers_arabic::ot_shaper_arabic::arabic_action_t::{
@@ -21,8 +21,8 @@ use crate::generated::shapers_base::plan::{Plan, PlanData};
 /// ensures { buffer.new ≡ tiles_recorded plan.now.plan_data buffer.old }
 /// ```
 ///
-/// - `IsArabic`: crates/shapers_arabic/specs/PlanData.antt
-/// - `tiles_recorded`: crates/shapers_stretch/specs/Recorded.antt
+/// - `IsArabic`: `crates/shapers_arabic/specs/PlanData.antt`
+/// - `tiles_recorded`: `crates/shapers_stretch/specs/Recorded.antt`
 ///
 /// </details>
 #[inline]
@@ -33,7 +33,7 @@ pub fn record_stch(plan: &Plan, buffer: &mut Buffer) {
                 record_tiles(buffer);
             }
         }
-        _ => unreachable!(),
+        _ => unreachable!("the plan has no data of the Arabic shaper"),
     }
 }
 
@@ -71,8 +71,8 @@ impl GlyphWalk for TileRecorder {
 /// ensures answer { result ≡ list_any (λ g. is_multiplied g.marks) glyphs.old }
 /// ```
 ///
-/// - `is_multiplied`: crates/shapers_buffer/specs/Marks.antt
-/// - `recorded`: crates/shapers_stretch/specs/Recorded.antt
+/// - `is_multiplied`: `crates/shapers_buffer/specs/Marks.antt`
+/// - `recorded`: `crates/shapers_stretch/specs/Recorded.antt`
 ///
 /// </details>
 #[inline]

@@ -1,5 +1,5 @@
-//! Generated from crates/shapers_stretch/src/ot_shaper_arabic_stretch/tiles.rt by rust/erase; edit the source.
-//!
+// Generated from crates/shapers_stretch/src/ot_shaper_arabic_stretch/tiles.rt by rust/erase; edit the source.
+
 //! The second pass over a text whose marks stretch: from behind, in place, each run is laid over
 //! its word. The writer never overtakes the reader.
 
@@ -92,7 +92,7 @@ impl<'a, F: Font> TileLaying<'a, F> {
                 let tiles = part.tiles..unlaid.end;
                 self.lay_tiles(lay, glyphs, positions, tiles, pen).place
             }
-            None => unreachable!(),
+            None => unreachable!("a run whose copies were counted has no lay"),
         }
     }
 

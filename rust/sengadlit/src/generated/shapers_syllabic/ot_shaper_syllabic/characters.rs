@@ -1,5 +1,5 @@
-//! Generated from crates/shapers_syllabic/src/ot_shaper_syllabic/characters.rt by rust/erase; edit the source.
-//!
+// Generated from crates/shapers_syllabic/src/ot_shaper_syllabic/characters.rt by rust/erase; edit the source.
+
 //! What several shapers look up about a character.
 
 use crate::generated::shapers_base::buffer::{Buffer, GlyphChange, GlyphInfo, change_each_in};
@@ -16,7 +16,7 @@ use crate::generated::shapers_base::font::Tables;
 /// ensures { result ≡ composed_behind (T.tables tables.now) a b }
 /// ```
 ///
-/// - `composed_behind`: crates/shapers_syllabic/specs/Characters.antt
+/// - `composed_behind`: `crates/shapers_syllabic/specs/Characters.antt`
 ///
 /// </details>
 #[inline]
@@ -39,7 +39,7 @@ pub fn compose<T: Tables>(tables: &T, a: char, b: char) -> Option<char> {
 ///     record buffer.old { glyphs = map (with_category (T.tables tables.now)) buffer.old.glyphs } }
 /// ```
 ///
-/// - `with_category`: crates/shapers_syllabic/specs/Characters.antt
+/// - `with_category`: `crates/shapers_syllabic/specs/Characters.antt`
 ///
 /// </details>
 #[inline]
@@ -48,7 +48,7 @@ pub fn set_categories<T: Tables>(tables: &T, buffer: &mut Buffer) {
     buffer.change_each(0, len, &ByTable { tables });
 }
 
-/// The same for the glyphs of a slice.
+/// `set_categories` for the glyphs of a slice.
 ///
 /// <details><summary>Contract</summary>
 ///
@@ -58,7 +58,7 @@ pub fn set_categories<T: Tables>(tables: &T, buffer: &mut Buffer) {
 /// ensures { glyphs.new ≡ map (with_category (T.tables tables.now)) glyphs.old }
 /// ```
 ///
-/// - `with_category`: crates/shapers_syllabic/specs/Characters.antt
+/// - `with_category`: `crates/shapers_syllabic/specs/Characters.antt`
 ///
 /// </details>
 #[inline]
@@ -79,7 +79,7 @@ pub fn set_categories_in<T: Tables>(tables: &T, glyphs: &mut [GlyphInfo]) {
 ///     buffer.new ≡ record buffer.old { glyphs = changed } }
 /// ```
 ///
-/// - `with_category_and_position`: crates/shapers_syllabic/specs/Characters.antt
+/// - `with_category_and_position`: `crates/shapers_syllabic/specs/Characters.antt`
 ///
 /// </details>
 #[inline]
@@ -88,7 +88,7 @@ pub fn set_categories_and_positions<T: Tables>(tables: &T, buffer: &mut Buffer) 
     buffer.change_each(0, len, &PlacedByTable { tables });
 }
 
-/// The same for the glyphs of a slice.
+/// `set_categories_and_positions` for the glyphs of a slice.
 ///
 /// <details><summary>Contract</summary>
 ///
@@ -98,7 +98,7 @@ pub fn set_categories_and_positions<T: Tables>(tables: &T, buffer: &mut Buffer) 
 /// ensures { glyphs.new ≡ map (with_category_and_position (T.tables tables.now)) glyphs.old }
 /// ```
 ///
-/// - `with_category_and_position`: crates/shapers_syllabic/specs/Characters.antt
+/// - `with_category_and_position`: `crates/shapers_syllabic/specs/Characters.antt`
 ///
 /// </details>
 #[inline]

@@ -1,5 +1,5 @@
-//! Generated from crates/shapers_syllabic/src/ot_shaper_syllabic/circles.rt by rust/erase; edit the source.
-//!
+// Generated from crates/shapers_syllabic/src/ot_shaper_syllabic/circles.rt by rust/erase; edit the source.
+
 //! Dotted circles: the base of a broken syllable.
 
 use crate::generated::shapers_base::buffer::{
@@ -48,6 +48,11 @@ struct Places {
 /// was. Refuses with `TooLong` where the text
 /// would be longer than `max_len`, and with `Memory`; where no circle opens it takes none.
 ///
+/// # Errors
+///
+/// `TooLong` where the buffer would be longer than `max_len`, `Memory` where memory is refused;
+/// nothing has changed then.
+///
 /// <details><summary>Contract</summary>
 ///
 /// # Contract
@@ -78,10 +83,10 @@ struct Places {
 ///     circled circles buffer.old.glyphs ≡ buffer.old.glyphs → IsOk result }
 /// ```
 ///
-/// - `dotted_circle`: crates/shapers_base/specs/Font.antt
-/// - `RefusesLength`: crates/shapers_buffer/specs/Refusals.antt
-/// - `CirclesErased`: crates/shapers_syllabic/specs/CircleLaws.antt
-/// - `circled`, `circles_for`: crates/shapers_syllabic/specs/Circles.antt
+/// - `dotted_circle`: `crates/shapers_base/specs/Font.antt`
+/// - `RefusesLength`: `crates/shapers_buffer/specs/Refusals.antt`
+/// - `CirclesErased`: `crates/shapers_syllabic/specs/CircleLaws.antt`
+/// - `circled`, `circles_for`: `crates/shapers_syllabic/specs/Circles.antt`
 ///
 /// </details>
 pub fn insert_dotted_circles<F: Font>(
@@ -128,10 +133,10 @@ impl ScriptCircles {
     ///     circled circles buffer.old.glyphs ≡ buffer.old.glyphs → IsOk result }
     /// ```
     ///
-    /// - `RefusesLength`: crates/shapers_buffer/specs/Refusals.antt
-    /// - `CirclesErased`: crates/shapers_syllabic/specs/CircleLaws.antt
-    /// - `circled`: crates/shapers_syllabic/specs/Circles.antt
-    /// - `script_circles`: crates/shapers_syllabic/specs/Reordering.antt
+    /// - `RefusesLength`: `crates/shapers_buffer/specs/Refusals.antt`
+    /// - `CirclesErased`: `crates/shapers_syllabic/specs/CircleLaws.antt`
+    /// - `circled`: `crates/shapers_syllabic/specs/Circles.antt`
+    /// - `script_circles`: `crates/shapers_syllabic/specs/Reordering.antt`
     ///
     /// </details>
     pub fn insert<F: Font>(&self, face: &F, buffer: &mut Buffer) -> Result<bool, ShaperError> {

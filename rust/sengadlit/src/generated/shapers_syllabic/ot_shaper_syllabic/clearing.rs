@@ -1,5 +1,5 @@
-//! Generated from crates/shapers_syllabic/src/ot_shaper_syllabic/clearing.rt by rust/erase; edit the source.
-//!
+// Generated from crates/shapers_syllabic/src/ot_shaper_syllabic/clearing.rt by rust/erase; edit the source.
+
 //! Clearing what one pause left on the glyphs for another.
 
 use crate::generated::shapers_base::buffer::{Buffer, GlyphChange, GlyphInfo, change_each_in};
@@ -14,7 +14,7 @@ use crate::generated::shapers_base::buffer::{Buffer, GlyphChange, GlyphInfo, cha
 /// ensures { buffer.new ≡ record buffer.old { glyphs = map (in_syllable 0) buffer.old.glyphs } }
 /// ```
 ///
-/// - `in_syllable`: crates/shapers_buffer/specs/Syllables.antt
+/// - `in_syllable`: `crates/shapers_buffer/specs/Syllables.antt`
 ///
 /// </details>
 #[inline]
@@ -33,7 +33,7 @@ pub fn clear_syllables(buffer: &mut Buffer) {
 /// ensures { glyphs.new ≡ map (in_syllable 0) glyphs.old }
 /// ```
 ///
-/// - `in_syllable`: crates/shapers_buffer/specs/Syllables.antt
+/// - `in_syllable`: `crates/shapers_buffer/specs/Syllables.antt`
 ///
 /// </details>
 #[inline]
@@ -51,7 +51,7 @@ pub fn clear_syllables_in(glyphs: &mut [GlyphInfo]) {
 /// ensures { buffer.new ≡ record buffer.old { glyphs = map unsubstituted buffer.old.glyphs } }
 /// ```
 ///
-/// - `unsubstituted`: crates/shapers_syllabic/specs/Syllabic.antt
+/// - `unsubstituted`: `crates/shapers_syllabic/specs/Syllabic.antt`
 ///
 /// </details>
 #[inline]
@@ -70,7 +70,7 @@ pub fn clear_substitution_flags(buffer: &mut Buffer) {
 /// ensures { glyphs.new ≡ map unsubstituted glyphs.old }
 /// ```
 ///
-/// - `unsubstituted`: crates/shapers_syllabic/specs/Syllabic.antt
+/// - `unsubstituted`: `crates/shapers_syllabic/specs/Syllabic.antt`
 ///
 /// </details>
 #[inline]

@@ -1,5 +1,5 @@
-//! Generated from crates/shapers_syllabic/src/ot_shaper_syllabic/consonants.rt by rust/erase; edit the source.
-//!
+// Generated from crates/shapers_syllabic/src/ot_shaper_syllabic/consonants.rt by rust/erase; edit the source.
+
 //! The consonants of Indic and Myanmar.
 
 use crate::generated::shapers_base::buffer::GlyphInfo;
@@ -18,7 +18,7 @@ use crate::generated::shapers_base::plan::ot_category_t::{
 /// ensures { result ≡ is_consonant glyph.now }
 /// ```
 ///
-/// - `is_consonant`: crates/shapers_syllabic/specs/Consonants.antt
+/// - `is_consonant`: `crates/shapers_syllabic/specs/Consonants.antt`
 ///
 /// </details>
 #[inline]

@@ -1,5 +1,5 @@
-//! Generated from crates/shapers_syllabic/src/ot_shaper_syllabic/kinds.rt by rust/erase; edit the source.
-//!
+// Generated from crates/shapers_syllabic/src/ot_shaper_syllabic/kinds.rt by rust/erase; edit the source.
+
 //! The kinds of syllables, as the grammars of the scripts distinguish them.
 
 /// The kinds of Indic syllables.

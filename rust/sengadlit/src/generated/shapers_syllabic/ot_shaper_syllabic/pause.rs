@@ -1,16 +1,17 @@
-//! Generated from crates/shapers_syllabic/src/ot_shaper_syllabic/pause.rt by rust/erase; edit the source.
-//!
+// Generated from crates/shapers_syllabic/src/ot_shaper_syllabic/pause.rt by rust/erase; edit the source.
+
 //! A reordering pause: dotted circles, and then the order of each syllable.
 
 use super::circles::ScriptCircles;
-use super::reordering::{Reorder, reorder_syllables};
+use super::reordering::{ReorderBySteps, reorder_syllables};
 use crate::generated::shapers_base::buffer::{Buffer, ShaperError};
 use crate::generated::shapers_base::font::Font;
 
 /// Gives broken syllables their dotted circles and then reorders each syllable. Returns whether
 /// circles were wanted. Refuses with `UnknownSyllable` where a kind is above the last known one, if
-/// there is one; with `TooLong`; and with `Memory`, but not where no circle opens. The order itself
-/// never refuses. Every cluster afterwards is one that the text had before its circles.
+/// there is one; with `TooLong`; and with `Memory`, but not where no circle opens and the order
+/// never refuses. After a refusal the buffer is as it was, unless it is the order's. Every cluster
+/// afterwards is one that the text had before its circles.
 ///
 /// <details><summary>Contract</summary>
 ///
@@ -18,16 +19,16 @@ use crate::generated::shapers_base::font::Font;
 ///
 /// ```text
 /// requires without_positions { buffer.old.positions ≡ [] }
-/// requires laws { ReorderLaws
-///     (R.meaning order.now buffer.old.script) (R.steps order.now buffer.old.script) }
-/// requires stays { StaysWithout (R.changes order.now)
-///     (R.meaning order.now buffer.old.script) (R.steps order.now buffer.old.script) }
+/// requires takes { let circles = script_circles script.now (F.font face.now) buffer.old in
+///     TakesText (R.takes order.now) (circled circles buffer.old.glyphs) }
 /// ensures answer { let circles = script_circles script.now (F.font face.now) buffer.old in
 ///     IfOk result (λ answer. answer ≡ is_some circles) }
 /// ensures ok { let circles = script_circles script.now (F.font face.now) buffer.old in
 ///     OnOk result (PauseReordered circles
 ///     (R.meaning order.now buffer.old.script) (R.steps order.now buffer.old.script)
 ///     buffer.old buffer.new) }
+/// ensures linked { let circles = script_circles script.now (F.font face.now) buffer.old in
+///     OnOk result (PauseLinked circles (R.relation order.now) buffer.old buffer.new) }
 /// ensures cut { let circles = script_circles script.now (F.font face.now) buffer.old in
 ///     OnOk result (PauseCutsAtBorders circles
 ///     (R.meaning order.now buffer.old.script) (R.steps order.now buffer.old.script)
@@ -39,21 +40,21 @@ use crate::generated::shapers_base::font::Font;
 /// ensures refusal { let circles = script_circles script.now (F.font face.now) buffer.old in
 ///     Refuses (kind_refusal last_kind buffer.old.glyphs)
 ///     buffer.old.max_len (length (circled circles buffer.old.glyphs)) result }
-/// ensures err { OnErr result (buffer.new ≡ buffer.old) }
+/// ensures err { R.may_refuse order.now ≡ false → OnErr result (buffer.new ≡ buffer.old) }
 /// ensures without_memory { let circles = script_circles script.now (F.font face.now) buffer.old in
-///     kind_refusal last_kind buffer.old.glyphs ≡ None →
+///     R.may_refuse order.now ≡ false → kind_refusal last_kind buffer.old.glyphs ≡ None →
 ///     circled circles buffer.old.glyphs ≡ buffer.old.glyphs → IsOk result }
 /// ```
 ///
-/// - `Refuses`: crates/shapers_buffer/specs/Refusals.antt
-/// - `NoNewCluster`: crates/shapers_syllabic/specs/CircleLaws.antt
-/// - `circled`: crates/shapers_syllabic/specs/Circles.antt
-/// - `PauseReordered`, `kind_refusal`, `script_circles`: crates/shapers_syllabic/specs/Reordering.antt
-/// - `PauseCutsAtBorders`, `ReorderLaws`, `StaysWithout`, `TextReordered`: crates/shapers_syllabic/specs/ReorderingLaws.antt
+/// - `Refuses`: `crates/shapers_buffer/specs/Refusals.antt`
+/// - `NoNewCluster`: `crates/shapers_syllabic/specs/CircleLaws.antt`
+/// - `circled`: `crates/shapers_syllabic/specs/Circles.antt`
+/// - `PauseLinked`, `PauseReordered`, `TakesText`, `kind_refusal`, `script_circles`: `crates/shapers_syllabic/specs/Reordering.antt`
+/// - `PauseCutsAtBorders`, `TextReordered`: `crates/shapers_syllabic/specs/ReorderingLaws.antt`
 ///
 /// </details>
 #[inline]
-pub fn reorder_pause<F: Font, R: Reorder>(
+pub fn reorder_pause<F: Font, R: ReorderBySteps>(
     face: &F,
     order: &R,
     script: &ScriptCircles,

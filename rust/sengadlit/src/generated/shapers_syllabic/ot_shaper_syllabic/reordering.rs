@@ -1,12 +1,11 @@
-//! Generated from crates/shapers_syllabic/src/ot_shaper_syllabic/reordering.rt by rust/erase; edit the source.
-//!
+// Generated from crates/shapers_syllabic/src/ot_shaper_syllabic/reordering.rt by rust/erase; edit the source.
+
 //! Reordering a text syllable by syllable.
 
 use crate::generated::shapers_base::buffer::{Buffer, GlyphInfo, ShaperError};
 
-/// How one syllable is reordered. What a syllable becomes, and the merges and moves that lead
-/// there, are functions of that syllable and the buffer's script alone.
-pub trait Reorder {
+/// Which glyphs may change their syllable.
+pub trait MayChange {
     /// Whether a syllable with this glyph may change. A syllable without such a glyph stays as it
     /// is, and need not be looked at.
     ///
@@ -20,8 +19,15 @@ pub trait Reorder {
     ///
     /// </details>
     fn may_change(&self, glyph: &GlyphInfo) -> bool;
+}
 
-    /// Reorders the syllable from `start` to `end`. It never refuses.
+/// How one syllable is reordered. What it becomes is a function of its own glyphs, of the buffer's
+/// script, and of the plan and the font that the order holds, and has the same glyph numbers. In
+/// contracts `takes` is what is required of these numbers, `may_refuse` whether there may be no
+/// memory, and `relation` the buffer before and after, clusters and glyph flags among it.
+pub trait Reorder: MayChange {
+    /// Reorders the syllable from `start` to `end`. Only an order that may refuse returns `Memory`,
+    /// and then nothing is said of the buffer.
     ///
     /// <details><summary>Contract</summary>
     ///
@@ -31,22 +37,26 @@ pub trait Reorder {
     /// requires in_order { start ≤ end }
     /// requires in_range { end ≤ length buffer.old.glyphs }
     /// requires without_positions { buffer.old.positions ≡ [] }
-    /// ensures reordered { SyllableReordered
-    ///     (meaning self.now buffer.old.script) (steps self.now buffer.old.script)
-    ///     start end buffer.old buffer.new }
-    /// ensures ok { IsOk result }
+    /// requires takes { takes self.now (glyph_numbers (stretch_of start end buffer.old.glyphs)) }
+    /// ensures related { OnOk result (relation self.now start end buffer.old buffer.new) }
+    /// ensures refusal { RefusesIf (may_refuse self.now) result }
     /// ```
     ///
-    /// - `SyllableReordered`: crates/shapers_syllabic/specs/Reordering.antt
+    /// - `stretch_of`: `crates/shapers_buffer/specs/Clusters.antt`
+    /// - `RefusesIf`, `glyph_numbers`: `crates/shapers_syllabic/specs/Reordering.antt`
     ///
     /// </details>
     fn reorder(&self, buffer: &mut Buffer, start: usize, end: usize) -> Result<(), ShaperError>;
 }
 
-/// Reorders each syllable of the text, from left to right. It requires the laws of the order: its
-/// steps fit a syllable, lose nothing and lead to what the syllable becomes, and a syllable without
-/// a glyph that may change it stays. The placement list is empty afterwards, so that no place
-/// depends on how syllables were moved. It never refuses.
+/// An order whose merges and moves are known: of the clusters and glyph flags after it, all laws of
+/// such steps hold.
+pub trait ReorderBySteps: Reorder {}
+
+/// Reorders each syllable of the text, from left to right, and empties the placement list, so that
+/// no place depends on how syllables were moved. The text becomes what its syllables become, one
+/// after another, and the order's relation leads there, one link a syllable. It refuses where the
+/// order does, and then nothing is said of the buffer.
 ///
 /// <details><summary>Contract</summary>
 ///
@@ -54,18 +64,15 @@ pub trait Reorder {
 ///
 /// ```text
 /// requires without_positions { buffer.old.positions ≡ [] }
-/// requires laws { ReorderLaws
-///     (R.meaning order.now buffer.old.script) (R.steps order.now buffer.old.script) }
-/// requires stays { StaysWithout (R.changes order.now)
-///     (R.meaning order.now buffer.old.script) (R.steps order.now buffer.old.script) }
-/// ensures reordered { SyllablesReordered
-///     (R.meaning order.now buffer.old.script) (R.steps order.now buffer.old.script)
-///     buffer.old buffer.new }
-/// ensures ok { IsOk result }
+/// requires takes { TakesText (R.takes order.now) buffer.old.glyphs }
+/// ensures ordered { OnOk result
+///     (TextOrdered (R.meaning order.now buffer.old.script) buffer.old buffer.new) }
+/// ensures linked { OnOk result
+///     (SyllablesLinked (R.relation order.now) buffer.old buffer.new) }
+/// ensures refusal { RefusesIf (R.may_refuse order.now) result }
 /// ```
 ///
-/// - `SyllablesReordered`: crates/shapers_syllabic/specs/Reordering.antt
-/// - `ReorderLaws`, `StaysWithout`: crates/shapers_syllabic/specs/ReorderingLaws.antt
+/// - `RefusesIf`, `SyllablesLinked`, `TakesText`, `TextOrdered`: `crates/shapers_syllabic/specs/Reordering.antt`
 ///
 /// </details>
 #[inline]
@@ -80,43 +87,35 @@ pub fn reorder_syllables<R: Reorder>(order: &R, buffer: &mut Buffer) -> Result<(
     Ok(())
 }
 
-// Where the next syllable starts that may change, of those from `start` on.
-#[inline]
-fn next_changing<R: Reorder>(order: &R, glyphs: &[GlyphInfo], start: usize) -> Option<usize> {
-    let count = first_changing(order, &glyphs[start..])?;
-    Some(syllable_start(glyphs, start, start + count))
-}
-
-// The first glyph that may change its syllable.
-#[inline]
-fn first_changing<R: Reorder>(order: &R, glyphs: &[GlyphInfo]) -> Option<usize> {
-    glyphs.iter().position(|glyph| order.may_change(glyph))
-}
-
-/// Where the syllable starts that `place` stands in, if one starts at `start`.
+/// Where the next syllable starts that may change, of those from `start` on.
 ///
 /// <details><summary>Contract</summary>
 ///
 /// # Contract
 ///
 /// ```text
-/// requires in_order { start ≤ place }
-/// requires in_range { place < length glyphs.now }
-/// ensures from { start ≤ result }
-/// ensures to { result ≤ place }
-/// ensures together { (k : ℕ) → result ≤ k → k < place →
-///     (get_or glyphs.now k default_glyph).syllable
-///     ≡ (get_or glyphs.now place default_glyph).syllable }
-/// ensures border { MeetAtBorder (stretch_of start result glyphs.now) (drop result glyphs.now) }
+/// requires { start ≤ length glyphs.now }
+/// ensures { NextChanging (M.changes order.now) start glyphs.now result }
 /// ```
 ///
-/// - `stretch_of`: crates/shapers_buffer/specs/Clusters.antt
-/// - `default_glyph`: crates/shapers_buffer/specs/Glyph.antt
-/// - `MeetAtBorder`: crates/shapers_syllabic/specs/Borders.antt
+/// - `NextChanging`: `crates/shapers_syllabic/specs/ReorderingLaws.antt`
 ///
 /// </details>
 #[inline]
-pub fn syllable_start(glyphs: &[GlyphInfo], start: usize, place: usize) -> usize {
+pub fn next_changing<M: MayChange>(order: &M, glyphs: &[GlyphInfo], start: usize) -> Option<usize> {
+    let count = first_changing(order, &glyphs[start..])?;
+    Some(syllable_start(glyphs, start, start + count))
+}
+
+// The first glyph that may change its syllable.
+#[inline]
+fn first_changing<M: MayChange>(order: &M, glyphs: &[GlyphInfo]) -> Option<usize> {
+    glyphs.iter().position(|glyph| order.may_change(glyph))
+}
+
+// Where the syllable starts that `place` stands in, if one starts at `start`.
+#[inline]
+fn syllable_start(glyphs: &[GlyphInfo], start: usize, place: usize) -> usize {
     for i in (start..place).rev() {
         if glyphs[i].syllable != glyphs[i + 1].syllable {
             return i + 1;

@@ -1,5 +1,5 @@
-//! Generated from crates/shapers_syllabic/src/ot_shaper_syllabic/set_up.rt by rust/erase; edit the source.
-//!
+// Generated from crates/shapers_syllabic/src/ot_shaper_syllabic/set_up.rt by rust/erase; edit the source.
+
 //! Cutting a text into syllables.
 
 use crate::generated::shapers_base::buffer::glyph_flag::{UNSAFE_TO_BREAK, UNSAFE_TO_CONCAT};
@@ -28,11 +28,11 @@ use crate::generated::shapers_base::buffer::{
 /// ensures err { OnErr result (buffer.new ≡ buffer.old) }
 /// ```
 ///
-/// - `clusters`: crates/shapers_buffer/specs/Glyph.antt
-/// - `RefusesInput`: crates/shapers_buffer/specs/Refusals.antt
-/// - `spans_refusal`, `with_spans`: crates/shapers_buffer/specs/Syllables.antt
-/// - `SetUpCutsAtSpans`: crates/shapers_syllabic/specs/Borders.antt
-/// - `with_unsafe_syllables`: crates/shapers_syllabic/specs/Syllabic.antt
+/// - `clusters`: `crates/shapers_buffer/specs/Glyph.antt`
+/// - `RefusesInput`: `crates/shapers_buffer/specs/Refusals.antt`
+/// - `spans_refusal`, `with_spans`: `crates/shapers_buffer/specs/Syllables.antt`
+/// - `SetUpCutsAtSpans`: `crates/shapers_syllabic/specs/Borders.antt`
+/// - `with_unsafe_syllables`: `crates/shapers_syllabic/specs/Syllabic.antt`
 ///
 /// </details>
 #[inline]
@@ -62,7 +62,7 @@ pub fn set_up_syllables(
 /// ensures { buffer.new ≡ set_up_by_bytes broken_kind buffer.old }
 /// ```
 ///
-/// - `set_up_by_bytes`: crates/shapers_syllabic/specs/Syllabic.antt
+/// - `set_up_by_bytes`: `crates/shapers_syllabic/specs/Syllabic.antt`
 ///
 /// </details>
 #[inline]
@@ -83,7 +83,7 @@ pub fn set_up_by_bytes(broken_kind: u8, buffer: &mut Buffer) {
 /// ensures { glyphs.new ≡ unsafe_syllables glyphs.old }
 /// ```
 ///
-/// - `unsafe_syllables`: crates/shapers_syllabic/specs/Syllabic.antt
+/// - `unsafe_syllables`: `crates/shapers_syllabic/specs/Syllabic.antt`
 ///
 /// </details>
 #[inline]

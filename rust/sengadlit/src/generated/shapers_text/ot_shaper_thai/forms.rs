@@ -1,10 +1,11 @@
-//! Generated from crates/shapers_text/src/ot_shaper_thai/forms.rt by rust/erase; edit the source.
-//!
+// Generated from crates/shapers_text/src/ot_shaper_thai/forms.rt by rust/erase; edit the source.
+
 //! The private use forms of Thai, for fonts whose GSUB table doesn't know the script: marks that
 //! would touch are shifted, and a descender that is in the way is left out. (The Thai note.)
 
 use crate::generated::shapers_base::buffer::{Buffer, GlyphInfo, GlyphWalk, unsafe_to_break_in};
 use crate::generated::shapers_base::font::Font;
+use core::mem;
 
 /// The type of a consonant.
 #[allow(clippy::enum_variant_names)]
@@ -282,10 +283,14 @@ impl<'a, F: Font> GlyphWalk for PuaShaping<'a, F> {
 ///     buffer.new ≡ record buffer.old { glyphs = pua_shaped has buffer.old.glyphs } }
 /// ```
 ///
-/// - `has_nominal`: crates/shapers_base/specs/Font.antt
-/// - `pua_shaped`: crates/shapers_text/specs/ThaiForms.antt
+/// - `has_nominal`: `crates/shapers_base/specs/Font.antt`
+/// - `pua_shaped`: `crates/shapers_text/specs/ThaiForms.antt`
 ///
 /// </details>
 pub fn do_pua_shaping<F: Font>(face: &F, buffer: &mut Buffer) {
-    buffer.walk(&mut PuaShaping { face });
+    // (a font that panics leaves the empty buffer, and no text with some of the forms)
+    let empty = Buffer::new(buffer.alloc(), buffer.max_len());
+    let mut text = mem::replace(buffer, empty);
+    text.walk(&mut PuaShaping { face });
+    *buffer = text;
 }

@@ -1,5 +1,5 @@
-//! Generated from crates/shapers_text/src/ot_shaper_thai/sara_am.rt by rust/erase; edit the source.
-//!
+// Generated from crates/shapers_text/src/ot_shaper_thai/sara_am.rt by rust/erase; edit the source.
+
 //! SARA AM in two: NIKHAHIT, which goes before the above-base marks, and SARA AA.
 
 use crate::generated::shapers_base::buffer::{
@@ -159,7 +159,7 @@ impl GlyphWalk for Rewriting {
 
 /// Puts each SARA AM in two: NIKHAHIT, before the above-base marks that stand before it, and SARA
 /// AA.
-/// A SARA AM merges with its marks or, at level MonotoneGraphemes, with the glyph before it.
+/// A SARA AM merges with its marks or, at level `MonotoneGraphemes`, with the glyph before it.
 /// Refuses as a growth does. (OpenType's Thai and Lao notes; rustybuzz's comment on the rule.)
 ///
 /// <details><summary>Contract</summary>
@@ -179,10 +179,10 @@ impl GlyphWalk for Rewriting {
 ///     some ≡ false → IsOk result }
 /// ```
 ///
-/// - `merge_all`: crates/shapers_buffer/specs/Clusters.antt
-/// - `characters`: crates/shapers_buffer/specs/Glyph.antt
-/// - `RefusesLength`: crates/shapers_buffer/specs/Refusals.antt
-/// - `glyphs_in_two`, `is_sara_am`, `sara_am_stretches`: crates/shapers_text/specs/Thai.antt
+/// - `merge_all`: `crates/shapers_buffer/specs/Clusters.antt`
+/// - `characters`: `crates/shapers_buffer/specs/Glyph.antt`
+/// - `RefusesLength`: `crates/shapers_buffer/specs/Refusals.antt`
+/// - `glyphs_in_two`, `is_sara_am`, `sara_am_stretches`: `crates/shapers_text/specs/Thai.antt`
 ///
 /// </details>
 pub fn rewrite_sara_am(buffer: &mut Buffer) -> Result<(), ShaperError> {

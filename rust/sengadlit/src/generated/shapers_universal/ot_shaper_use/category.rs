@@ -1,5 +1,5 @@
-//! Generated from crates/shapers_universal/src/ot_shaper_use/category.rt by rust/erase; edit the source.
-//!
+// Generated from crates/shapers_universal/src/ot_shaper_use/category.rt by rust/erase; edit the source.
+
 //! The categories of the universal shaper; the numbers are those of HarfBuzz's tables, the names
 //! those of the note on the Universal Shaping Engine.
 

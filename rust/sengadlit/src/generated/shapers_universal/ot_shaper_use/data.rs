@@ -1,12 +1,13 @@
-//! Generated from crates/shapers_universal/src/ot_shaper_use/data.rt by rust/erase; edit the source.
-//!
+// Generated from crates/shapers_universal/src/ot_shaper_use/data.rt by rust/erase; edit the source.
+
 //! What the universal shaper keeps in the plan.
 
 use crate::generated::shapers_arabic::ot_shaper_arabic::data_create_arabic;
 use crate::generated::shapers_base::buffer::{Script, Tag};
 use crate::generated::shapers_base::plan::{ArabicPlan, Plan, PlanData, UniversalPlan};
 
-// The scripts of this shaper whose letters join. (Unicode, ArabicShaping.txt.)
+// The scripts of this shaper whose letters join. (Unicode, ArabicShaping.txt.) A new one is also a
+// line in joining_scripts of specs/PlanData.antt and in the row `joining` of proofs/SyllableRows.antt.
 const JOINING_SCRIPTS: [Script; 13] = [
     Script(*b"Adlm"),
     Script(*b"Arab"),
@@ -37,8 +38,8 @@ const JOINING_SCRIPTS: [Script; 13] = [
 /// ensures off_flags { AllByRecursion (λ mask. mask % 8 ≡ 0) (masks_kept result) }
 /// ```
 ///
-/// - `masks_kept`: crates/shapers_base/specs/Masks.antt
-/// - `universal_plan`: crates/shapers_universal/specs/PlanData.antt
+/// - `masks_kept`: `crates/shapers_base/specs/Masks.antt`
+/// - `universal_plan`: `crates/shapers_universal/specs/PlanData.antt`
 ///
 /// </details>
 pub fn create_data(plan: &Plan) -> PlanData {

@@ -1,5 +1,5 @@
-//! Generated from crates/shapers_universal/src/ot_shaper_use/forms.rt by rust/erase; edit the source.
-//!
+// Generated from crates/shapers_universal/src/ot_shaper_use/forms.rt by rust/erase; edit the source.
+
 //! The forms of syllables by their places in runs.
 
 use crate::generated::shapers_base::buffer::{

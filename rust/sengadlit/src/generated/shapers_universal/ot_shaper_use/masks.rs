@@ -1,5 +1,5 @@
-//! Generated from crates/shapers_universal/src/ot_shaper_use/masks.rt by rust/erase; edit the source.
-//!
+// Generated from crates/shapers_universal/src/ot_shaper_use/masks.rt by rust/erase; edit the source.
+
 //! The masks of joining and the categories of the universal shaper.
 
 use crate::generated::shapers_arabic::ot_shaper_arabic::setup_masks_inner;
@@ -24,8 +24,8 @@ use crate::generated::shapers_base::plan::{Plan, PlanData};
 ///     BreaksAsJoining arabic plan.now.script (T.tables tables.now) buffer.old buffer.new }
 /// ```
 ///
-/// - `arabic_of`, `is_universal`: crates/shapers_universal/specs/PlanData.antt
-/// - `BreaksAsJoining`, `CanJoin`, `MasksAreSet`: crates/shapers_universal/specs/UniversalMasks.antt
+/// - `arabic_of`, `is_universal`: `crates/shapers_universal/specs/PlanData.antt`
+/// - `BreaksAsJoining`, `CanJoin`, `MasksAreSet`: `crates/shapers_universal/specs/UniversalMasks.antt`
 ///
 /// </details>
 #[inline]
@@ -37,7 +37,7 @@ pub fn setup_masks<T: Tables>(plan: &Plan, tables: &T, buffer: &mut Buffer) {
                 setup_masks_inner(arabic_plan, plan.script, buffer, tables);
             }
         }
-        _ => unreachable!(),
+        _ => unreachable!("the plan has no data of the universal shaper"),
     }
 }
 
@@ -58,7 +58,7 @@ fn set_categories<T: Tables>(tables: &T, buffer: &mut Buffer) {
 /// ensures { glyphs.new ≡ map (categorized (T.tables tables.now).universal) glyphs.old }
 /// ```
 ///
-/// - `categorized`: crates/shapers_universal/specs/UniversalMasks.antt
+/// - `categorized`: `crates/shapers_universal/specs/UniversalMasks.antt`
 ///
 /// </details>
 #[inline]

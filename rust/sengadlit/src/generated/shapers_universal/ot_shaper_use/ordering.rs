@@ -1,38 +1,16 @@
-//! Generated from crates/shapers_universal/src/ot_shaper_use/ordering.rt by rust/erase; edit the source.
-//!
+// Generated from crates/shapers_universal/src/ot_shaper_use/ordering.rt by rust/erase; edit the source.
+
 //! The order of a syllable: the places of its glyphs are listed in their new order, what moves
 //! merges with what it passes, and then the syllable is written once.
 
 use super::category;
 use crate::generated::shapers_base::buffer::{
-    Buffer, ClusterRun, GlyphInfo, GlyphWalk, ShaperError,
+    Buffer, ClusterRun, GlyphInfo, Placement, ShaperError,
 };
 use crate::generated::shapers_syllabic::ot_shaper_syllabic::use_syllable::{
     BROKEN_CLUSTER, SAKOT_TERMINATED_CLUSTER, STANDARD_CLUSTER, VIRAMA_TERMINATED_CLUSTER,
 };
-use crate::generated::shapers_syllabic::ot_shaper_syllabic::{Reorder, turn_right};
-
-// The categories of what stands after the base.
-const POST_BASE: [u8; 18] = [
-    category::FAbv,
-    category::FBlw,
-    category::FPst,
-    category::FMAbv,
-    category::FMBlw,
-    category::FMPst,
-    category::MAbv,
-    category::MBlw,
-    category::MPst,
-    category::MPre,
-    category::VAbv,
-    category::VBlw,
-    category::VPst,
-    category::VPre,
-    category::VMAbv,
-    category::VMBlw,
-    category::VMPst,
-    category::VMPre,
-];
+use crate::generated::shapers_syllabic::ot_shaper_syllabic::{MayChange, Reorder, ReorderBySteps};
 
 /// The order of a syllable in the universal shaper: a reph moves behind what it passes, and in each
 /// piece up to a halant the vowels and modifiers before the base come to the front. (OpenType, the
@@ -40,12 +18,14 @@ const POST_BASE: [u8; 18] = [
 #[derive(Clone, Copy, Debug)]
 pub struct UniversalOrder;
 
-impl Reorder for UniversalOrder {
+impl MayChange for UniversalOrder {
     #[inline]
     fn may_change(&self, glyph: &GlyphInfo) -> bool {
         glyph.category == category::R || goes_front(glyph)
     }
+}
 
+impl Reorder for UniversalOrder {
     #[inline]
     fn reorder(&self, buffer: &mut Buffer, start: usize, end: usize) -> Result<(), ShaperError> {
         if is_reordered(&buffer.glyphs()[start..end]) {
@@ -59,6 +39,8 @@ impl Reorder for UniversalOrder {
     }
 }
 
+impl ReorderBySteps for UniversalOrder {}
+
 // Reorders the syllable from `s` to `e`, in which no reph stands in front.
 #[inline]
 fn reorder_fronts(buffer: &mut Buffer, s: usize, e: usize) {
@@ -66,7 +48,7 @@ fn reorder_fronts(buffer: &mut Buffer, s: usize, e: usize) {
         if some_go_front(&buffer.glyphs()[behind..e]) {
             reorder_syllable(buffer, s, e);
         } else {
-            move_to_front(buffer, start, behind);
+            move_to_front(buffer, s, e, start, behind);
         }
     }
 }
@@ -94,25 +76,17 @@ fn piece_start(glyphs: &[GlyphInfo], s: usize, i: usize) -> usize {
     s
 }
 
-// Merges the glyphs from `start` to `end` and moves the last of them to their front.
+// Merges the glyphs from `start` to `end`, of the syllable from `s` to `e`, and moves the last of
+// them to their front.
 #[inline]
-fn move_to_front(buffer: &mut Buffer, start: usize, end: usize) {
+fn move_to_front(buffer: &mut Buffer, s: usize, e: usize, start: usize, end: usize) {
     buffer.merge_clusters(start, end);
-    buffer.walk(&mut BringLast { start, end });
-}
-
-// Brings the last of the glyphs from `start` to `end` to their front.
-#[derive(Clone, Copy)]
-struct BringLast {
-    start: usize,
-    end: usize,
-}
-
-impl GlyphWalk for BringLast {
-    #[inline]
-    fn walk(&mut self, glyphs: &mut [GlyphInfo]) {
-        turn_right(&mut glyphs[self.start..self.end]);
-    }
+    let to_front = Placement::Forward {
+        to: start,
+        from: end - 1,
+        count: 1,
+    };
+    buffer.apply(s, e, to_front);
 }
 
 // Whether some glyph goes to the front of its piece.
@@ -137,7 +111,7 @@ fn reorder_syllable(buffer: &mut Buffer, s: usize, e: usize) {
     list_order(buffer, s, behind, e);
     buffer.merge_clusters(s, behind);
     merge_fronts(buffer, s, behind, e);
-    buffer.apply(s, e);
+    buffer.apply(s, e, Placement::Listed);
 }
 
 // Merges each glyph from `behind` to `e` that goes to the front with all of its piece before it,
@@ -267,7 +241,27 @@ fn is_passed(glyph: &GlyphInfo) -> bool {
 // Whether glyphs of this category stand after the base.
 #[inline]
 fn is_post_base(category: u8) -> bool {
-    POST_BASE.contains(&category)
+    matches!(
+        category,
+        category::FAbv
+            | category::FBlw
+            | category::FPst
+            | category::FMAbv
+            | category::FMBlw
+            | category::FMPst
+            | category::MAbv
+            | category::MBlw
+            | category::MPst
+            | category::MPre
+            | category::VAbv
+            | category::VBlw
+            | category::VPst
+            | category::VPre
+            | category::VMAbv
+            | category::VMBlw
+            | category::VMPst
+            | category::VMPre
+    )
 }
 
 // Whether a glyph is a halant, and no ligature.

@@ -1,5 +1,5 @@
-//! Generated from crates/shapers_universal/src/ot_shaper_use/records.rt by rust/erase; edit the source.
-//!
+// Generated from crates/shapers_universal/src/ot_shaper_use/records.rt by rust/erase; edit the source.
+
 //! What lookups did, kept as categories for the reordering.
 
 use super::category;
@@ -19,20 +19,24 @@ use crate::generated::shapers_base::plan::{Plan, PlanData};
 /// ensures { buffer.new ≡ with_rphf_recorded (rphf_of plan.now.plan_data) buffer.old }
 /// ```
 ///
-/// - `is_universal`, `rphf_of`: crates/shapers_universal/specs/PlanData.antt
-/// - `with_rphf_recorded`: crates/shapers_universal/specs/UniversalSyllables.antt
+/// - `is_universal`, `rphf_of`: `crates/shapers_universal/specs/PlanData.antt`
+/// - `with_rphf_recorded`: `crates/shapers_universal/specs/UniversalSyllables.antt`
 ///
 /// </details>
 #[inline]
 pub fn record_rphf(plan: &Plan, buffer: &mut Buffer) {
     match &plan.plan_data {
         PlanData::Universal(universal_plan) => {
+            // no glyph has the mask of a feature that the font lacks
+            if universal_plan.rphf_mask == 0 {
+                return;
+            }
             let record = RecordRphf {
                 mask: universal_plan.rphf_mask,
             };
             buffer.walk(&mut EachFront { change: &record });
         }
-        _ => unreachable!(),
+        _ => unreachable!("the plan has no data of the universal shaper"),
     }
 }
 
@@ -47,7 +51,7 @@ pub fn record_rphf(plan: &Plan, buffer: &mut Buffer) {
 /// ensures { buffer.new ≡ with_pref_recorded buffer.old }
 /// ```
 ///
-/// - `with_pref_recorded`: crates/shapers_universal/specs/UniversalSyllables.antt
+/// - `with_pref_recorded`: `crates/shapers_universal/specs/UniversalSyllables.antt`
 ///
 /// </details>
 #[inline]
@@ -57,7 +61,7 @@ pub fn record_pref(buffer: &mut Buffer) {
     });
 }
 
-/// The same for the syllables of a slice, where `mask` is that of `rphf`.
+/// `record_rphf` for the syllables of a slice, where `mask` is that of `rphf`.
 ///
 /// <details><summary>Contract</summary>
 ///
@@ -67,8 +71,8 @@ pub fn record_pref(buffer: &mut Buffer) {
 /// ensures { glyphs.new ≡ flat_map (rphf_recorded mask) (syllables glyphs.old) }
 /// ```
 ///
-/// - `syllables`: crates/shapers_buffer/specs/Syllables.antt
-/// - `rphf_recorded`: crates/shapers_universal/specs/UniversalSyllables.antt
+/// - `syllables`: `crates/shapers_buffer/specs/Syllables.antt`
+/// - `rphf_recorded`: `crates/shapers_universal/specs/UniversalSyllables.antt`
 ///
 /// </details>
 #[inline]
@@ -87,8 +91,8 @@ pub fn record_rphf_in(mask: u32, glyphs: &mut [GlyphInfo]) {
 /// ensures { glyphs.new ≡ flat_map (first_recorded VPre) (syllables glyphs.old) }
 /// ```
 ///
-/// - `syllables`: crates/shapers_buffer/specs/Syllables.antt
-/// - `first_recorded`: crates/shapers_universal/specs/UniversalSyllables.antt
+/// - `syllables`: `crates/shapers_buffer/specs/Syllables.antt`
+/// - `first_recorded`: `crates/shapers_universal/specs/UniversalSyllables.antt`
 ///
 /// </details>
 #[inline]

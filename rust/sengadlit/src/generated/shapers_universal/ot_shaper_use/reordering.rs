@@ -1,5 +1,5 @@
-//! Generated from crates/shapers_universal/src/ot_shaper_use/reordering.rt by rust/erase; edit the source.
-//!
+// Generated from crates/shapers_universal/src/ot_shaper_use/reordering.rt by rust/erase; edit the source.
+
 //! The reordering of a text in the universal shaper.
 
 use super::category;
@@ -32,6 +32,9 @@ const CIRCLES: ScriptCircles = ScriptCircles {
 ///     IfOk result (λ answer. answer ≡ is_some circles) }
 /// ensures ok { let circles = script_circles universal_circles (F.font face.now) buffer.old in
 ///     OnOk result (PauseReordered circles universal_order universal_steps buffer.old buffer.new) }
+/// ensures linked { let circles = script_circles universal_circles (F.font face.now) buffer.old in
+///     OnOk result (PauseLinked circles
+///     (SyllableReordered universal_order universal_steps) buffer.old buffer.new) }
 /// ensures laws { let circles = script_circles universal_circles (F.font face.now) buffer.old in
 ///     let opened = circled circles buffer.old.glyphs in
 ///     OnOk result (ReorderedHold carried buffer.old.level
@@ -48,15 +51,15 @@ const CIRCLES: ScriptCircles = ScriptCircles {
 ///     circled circles buffer.old.glyphs ≡ buffer.old.glyphs → IsOk result }
 /// ```
 ///
-/// - `order_view`: crates/shapers_buffer/specs/Glyph.antt
-/// - `RefusesLength`: crates/shapers_buffer/specs/Refusals.antt
-/// - `ReorderedHold`: crates/shapers_clusters/specs/Laws.antt
-/// - `NoNewCluster`: crates/shapers_syllabic/specs/CircleLaws.antt
-/// - `circled`: crates/shapers_syllabic/specs/Circles.antt
-/// - `PauseReordered`, `carried`, `script_circles`, `text_steps`: crates/shapers_syllabic/specs/Reordering.antt
-/// - `PauseCutsAtBorders`: crates/shapers_syllabic/specs/ReorderingLaws.antt
-/// - `universal_order`, `universal_steps`: crates/shapers_universal/specs/Universal.antt
-/// - `universal_circles`: crates/shapers_universal/specs/UniversalText.antt
+/// - `order_view`: `crates/shapers_buffer/specs/Glyph.antt`
+/// - `RefusesLength`: `crates/shapers_buffer/specs/Refusals.antt`
+/// - `ReorderedHold`: `crates/shapers_clusters/specs/Laws.antt`
+/// - `NoNewCluster`: `crates/shapers_syllabic/specs/CircleLaws.antt`
+/// - `circled`: `crates/shapers_syllabic/specs/Circles.antt`
+/// - `PauseLinked`, `PauseReordered`, `SyllableReordered`, `carried`, `script_circles`, `text_steps`: `crates/shapers_syllabic/specs/Reordering.antt`
+/// - `PauseCutsAtBorders`: `crates/shapers_syllabic/specs/ReorderingLaws.antt`
+/// - `universal_order`, `universal_steps`: `crates/shapers_universal/specs/Universal.antt`
+/// - `universal_circles`: `crates/shapers_universal/specs/UniversalText.antt`
 ///
 /// </details>
 #[inline]

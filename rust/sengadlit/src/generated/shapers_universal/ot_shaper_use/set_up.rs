@@ -1,5 +1,5 @@
-//! Generated from crates/shapers_universal/src/ot_shaper_use/set_up.rt by rust/erase; edit the source.
-//!
+// Generated from crates/shapers_universal/src/ot_shaper_use/set_up.rt by rust/erase; edit the source.
+
 //! Cutting a text into the syllables of the universal shaper.
 
 use super::category;
@@ -15,6 +15,10 @@ use crate::generated::shapers_syllabic::ot_shaper_syllabic::{set_up_by_bytes, se
 /// three, and, where the plan has no plan of Arabic, the masks of forms by the places of syllables.
 /// Refuses with `SpansDontCover` where a span is empty or the lengths don't add up to the buffer's.
 /// It takes no memory, leaves the clusters as they are and only adds glyph flags.
+///
+/// # Errors
+///
+/// `SpansDontCover`; nothing has changed then.
 ///
 /// <details><summary>Contract</summary>
 ///
@@ -34,13 +38,13 @@ use crate::generated::shapers_syllabic::ot_shaper_syllabic::{set_up_by_bytes, se
 /// ensures err { OnErr result (buffer.new ≡ buffer.old) }
 /// ```
 ///
-/// - `clusters`: crates/shapers_buffer/specs/Glyph.antt
-/// - `RefusesInput`: crates/shapers_buffer/specs/Refusals.antt
-/// - `spans_refusal`: crates/shapers_buffer/specs/Syllables.antt
-/// - `OnlyFlagsAdded`: crates/shapers_clusters/specs/FlagLaw.antt
-/// - `is_universal`: crates/shapers_universal/specs/PlanData.antt
-/// - `UniversalSetUpCutsAtSpans`: crates/shapers_universal/specs/UniversalCuts.antt
-/// - `syllables_set_up`: crates/shapers_universal/specs/UniversalSyllables.antt
+/// - `clusters`: `crates/shapers_buffer/specs/Glyph.antt`
+/// - `RefusesInput`: `crates/shapers_buffer/specs/Refusals.antt`
+/// - `spans_refusal`: `crates/shapers_buffer/specs/Syllables.antt`
+/// - `OnlyFlagsAdded`: `crates/shapers_clusters/specs/FlagLaw.antt`
+/// - `is_universal`: `crates/shapers_universal/specs/PlanData.antt`
+/// - `UniversalSetUpCutsAtSpans`: `crates/shapers_universal/specs/UniversalCuts.antt`
+/// - `syllables_set_up`: `crates/shapers_universal/specs/UniversalSyllables.antt`
 ///
 /// </details>
 #[inline]
@@ -67,8 +71,8 @@ pub fn setup_syllables_use(
 ///     buffer.new ≡ set_up_by_its_bytes kept plan.now.ot_map buffer.old }
 /// ```
 ///
-/// - `is_universal`: crates/shapers_universal/specs/PlanData.antt
-/// - `set_up_by_its_bytes`: crates/shapers_universal/specs/UniversalSyllables.antt
+/// - `is_universal`: `crates/shapers_universal/specs/PlanData.antt`
+/// - `set_up_by_its_bytes`: `crates/shapers_universal/specs/UniversalSyllables.antt`
 ///
 /// </details>
 #[inline]
@@ -87,7 +91,7 @@ fn set_masks(plan: &Plan, buffer: &mut Buffer) {
                 set_forms(&plan.ot_map, buffer);
             }
         }
-        _ => unreachable!(),
+        _ => unreachable!("the plan has no data of the universal shaper"),
     }
 }
 

@@ -1,5 +1,5 @@
-//! Generated from crates/shapers_universal/src/ot_shaper_use/syllable_walk.rt by rust/erase; edit the source.
-//!
+// Generated from crates/shapers_universal/src/ot_shaper_use/syllable_walk.rt by rust/erase; edit the source.
+
 //! Walks over a text syllable by syllable, over the slice that the buffer keeps it in.
 
 use crate::generated::shapers_base::buffer::{GlyphInfo, GlyphWalk, first_syllable_len};

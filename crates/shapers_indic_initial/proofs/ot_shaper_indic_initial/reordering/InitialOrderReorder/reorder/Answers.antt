@@ -9,8 +9,8 @@ use Rattle.shapers_indic_initial.proofs.PlainConsonant.{plain_here}
 use Rattle.shapers_syllabic.specs.Reordering.{SyllableReordered}
 use Rattle.shapers_indic_initial.proofs.ot_shaper_indic_initial.reordering.InitialOrderReorder.reorder.Goals as goal
 
-pub returns-then-is_reordered-clause-reordered : goal.returns-then-is_reordered-clause-reordered
-returns-then-is_reordered-clause-reordered g c =
+pub returns-then-is_reordered-clause-related : goal.returns-then-is_reordered-clause-related
+returns-then-is_reordered-clause-related g c =
     let instance = c.args.self.now.rules.now in
     let r = initial_rules (g.F.hb_font_t.font instance.face.now) instance.map.now instance.plan.now in
     let s = c.args.start in
@@ -28,8 +28,8 @@ returns-then-is_reordered-clause-reordered g c =
     order
     (subst (λ script. SyllableReordered (masked_in_order r script) (λ _. []) s e b3 b4) (script3 ∙ script2) c.mask_syllable.ensures)
 
-pub returns-else-is_reordered-clause-reordered : goal.returns-else-is_reordered-clause-reordered
-returns-else-is_reordered-clause-reordered g c =
+pub returns-else-is_reordered-clause-related : goal.returns-else-is_reordered-clause-related
+returns-else-is_reordered-clause-related g c =
     let instance = c.args.self.now.rules.now in
     let r = initial_rules (g.F.hb_font_t.font instance.face.now) instance.map.now instance.plan.now in
     let s = c.args.start in
@@ -38,8 +38,8 @@ returns-else-is_reordered-clause-reordered g c =
     other_syllable r b.script s e b c.requires.in_order
     (ap (λ gs. is_reordered_in_indic (stretch_of s e gs)) (sym c.glyphs-2.ensures) ∙ sym c.is_reordered.ensures ∙ c.if-is_reordered.false)
 
-pub returns-then-is_plain_consonant-clause-reordered : goal.returns-then-is_plain_consonant-clause-reordered
-returns-then-is_plain_consonant-clause-reordered g c =
+pub returns-then-is_plain_consonant-clause-related : goal.returns-then-is_plain_consonant-clause-related
+returns-then-is_plain_consonant-clause-related g c =
     let instance = c.args.self.now.rules.now in
     let r = initial_rules (g.F.hb_font_t.font instance.face.now) instance.map.now instance.plan.now in
     let s = c.args.start in

@@ -4,11 +4,11 @@ use Rattle.std.specs.List.{list_any}
 use Rattle.shapers_buffer.specs.Clusters.{stretch_of}
 use Rattle.shapers_universal.specs.Universal.{goes_front, is_reordered_in_universal}
 use Rattle.shapers_universal.specs.UniversalWalk.{has_universal_reph}
-use Rattle.shapers_universal.proofs.Reordered.{still_reordered}
+use Rattle.shapers_universal.specs.Proved.Reordered.{still_reordered}
 use Rattle.shapers_universal.proofs.ot_shaper_use.ordering.UniversalOrderReorder.reorder.Goals as goal
 
-pub returns-else-is_reordered-clause-reordered : goal.returns-else-is_reordered-clause-reordered
-returns-else-is_reordered-clause-reordered c =
+pub returns-else-is_reordered-clause-related : goal.returns-else-is_reordered-clause-related
+returns-else-is_reordered-clause-related c =
     let s = c.args.start in
     let e = c.args.end in
     let zs = stretch_of s e c.args.buffer.now.glyphs in

@@ -1,0 +1,56 @@
+//! A font, tables and a context of normalization, whose answers are drawn from a seed and the question, the
+//! same in both crates.
+
+/// Mixes the bits of a number.
+pub fn mixed(number: u64) -> u64 {
+    let number = (number ^ number >> 30).wrapping_mul(0xBF58_476D_1CE4_E5B9);
+    let number = (number ^ number >> 27).wrapping_mul(0x94D0_49BB_1331_11EB);
+    number ^ number >> 31
+}
+
+/// The words of an answer, by the trait (0 a font, 1 tables, 2 a context), the place of the method in it, the
+/// seed and the words of the question.
+pub fn answer(of: u64, method: u64, seed: u64, question: &[u64]) -> Vec<u64> {
+    let question = match (of, method) {
+        // whether there is a glyph is known from the glyph
+        (0, 1) => return vec![answer(0, 0, seed, question)[0]],
+        (2, 5) => return vec![answer(2, 3, seed, question)[0]],
+        // one of the lookups would apply: the answers for each of them
+        (0, 4) => {
+            let (lookups, rest) = question[1..].split_at(question[0] as usize);
+            let would_apply = |lookup: &u64| answer(0, 3, seed, &[&[*lookup], rest].concat())[0] == 1;
+            return vec![u64::from(lookups.iter().any(would_apply))];
+        }
+        _ => question,
+    };
+    let start = mixed(seed ^ (of * 8 + method + 1));
+    let lot = question.iter().fold(start, |lot, word| mixed(lot ^ word));
+    let first = question.first().copied().unwrap_or(0);
+    match (of, method) {
+        (0, 0) if lot % 5 == 0 => vec![0],
+        (0, 0) => vec![1, lot >> 8 & if lot % 3 == 0 { 0xFFFF } else { 0xFF }],
+        (0, 2) => vec![[lot >> 16 & 0x3FF, 0, 0xFFFF_FFFF, 0x7FFF_FFFF, 0x8000_0000][if lot % 16 < 11 { 0 } else { (lot % 16 - 11) as usize }] & 0xFFFF_FFFF],
+        (0, _) => vec![lot & 1],
+        (1, 0) => vec![lot % 8],
+        (1, 1) => vec![[10, 12, 7, 11][(lot >> 8) as usize & 3].min(29) * (lot & 1) + (lot >> 16) % 30 * (1 - (lot & 1))],
+        (1, 2) => vec![lot % 37, (lot >> 16) % 16],
+        (1, 3) => vec![lot % 58],
+        (1, 4) if lot % 3 == 0 => vec![0],
+        (1, 4) => vec![1, 0x100 + (lot >> 8) % 0xD00],
+        (1, _) if lot % 3 == 0 => vec![0],
+        (1, _) => vec![1, 0x100 + (lot >> 8) % 0xD00, 0x300 + (lot >> 32) % 0x70 + first % 2],
+        // (few characters come apart, of those that stand before the blocks of others)
+        (2, 0) => vec![lot % 3],
+        (2, 1) if lot % 3 != 0 || first < 0x20 => vec![0],
+        (2, 1) => vec![1, first / 2 + lot % 2, [0, 0x300, 0x334, 0x20][(lot >> 8) as usize % 4]],
+        (2, 2) if lot % 2 == 0 => vec![0],
+        (2, 2) => vec![1, 0xC0 + (lot >> 8) % 0x200],
+        (2, 3 | 4) => answer(0, 0, seed, question),
+        (2, 6) => answer(1, 1, seed, question),
+        (2, 7) => vec![[0, 220, 230, 230, 22, 7][(lot >> 8) as usize % 6]],
+        (2, 8) => vec![u64::from(lot % 5 == 0)],
+        (2, 9) => answer(0, 0, seed, &[0x2_0000]),
+        (2, 10) => vec![lot & 1],
+        _ => unreachable!("a font, tables, and a context"),
+    }
+}

@@ -1,0 +1,43 @@
+-- Texts that aren't normalized in halves.
+use Rattle.std.specs.Prelude.{◌≡◌, ℕ, List, [], ◌∷◌, ◌++◌, map, refl}
+use Rattle.shapers_base.specs.declared.plan.record.NormalizationMode.TheVariants.{AUTO}
+use Rattle.shapers_buffer.specs.declared.buffer.glyph.hb_glyph_info_t.{hb_glyph_info_t}
+use Rattle.shapers_buffer.specs.declared.buffer.level.BufferClusterLevel.TheVariants.{MonotoneCharacters}
+use Rattle.shapers_buffer.specs.Glyph.{clusters, default_glyph}
+use Rattle.shapers_normal.specs.Context.{Context}
+use Rattle.shapers_normal.specs.Normalization.{normalized}
+use Rattle.shapers_normal.specs.Properties.{as_character}
+use Rattle.shapers_normal.specs.declared.ot_shape_normalize.normalizing.Rounds.TheVariants.{Always}
+use Rattle.shapers_normal.proofs.RowContext.{text, with_font}
+
+abbrev latin : Context
+latin = with_font AUTO (0x65 ∷ 0xE9 ∷ 0x301 ∷ 0x323 ∷ 0x34F ∷ [])
+
+abbrev done : List hb_glyph_info_t → List hb_glyph_info_t
+done gs = normalized latin Always MonotoneCharacters gs
+
+abbrev letter_in : ℕ → hb_glyph_info_t
+letter_in cluster = record (as_character latin 0x65 0 default_glyph) { cluster = cluster }
+
+-- a letter behind the cut in the cluster of the last mark before it, and in its own
+abbrev accents : List hb_glyph_info_t
+accents = text latin (0x65 ∷ 0x301 ∷ 0x323 ∷ [])
+
+shared_whole : clusters (done (accents ++ letter_in 2 ∷ [])) ≡ 0 ∷ 0 ∷ 0 ∷ []
+shared_whole = refl
+
+shared_halves : clusters (done accents ++ done (letter_in 2 ∷ [])) ≡ 0 ∷ 0 ∷ 2 ∷ []
+shared_halves = refl
+
+own_whole : clusters (done (accents ++ letter_in 3 ∷ [])) ≡ 0 ∷ 0 ∷ 3 ∷ []
+own_whole = refl
+
+-- a joiner at the cut
+abbrev joined : List hb_glyph_info_t
+joined = text latin (0x65 ∷ 0x323 ∷ 0x34F ∷ [])
+
+joiner_whole : map (λ g. g.marks.0) (done (joined ++ letter_in 3 ∷ [])) ≡ 0 ∷ 16 ∷ 24 ∷ 0 ∷ []
+joiner_whole = refl
+
+joiner_halves : map (λ g. g.marks.0) (done joined ++ done (letter_in 3 ∷ [])) ≡ 0 ∷ 16 ∷ 56 ∷ 0 ∷ []
+joiner_halves = refl

@@ -1,0 +1,49 @@
+-- The properties of characters.
+use Rattle.std.specs.Prelude.{◌≡◌, ℕ, [], ◌∷◌, List, map, refl}
+use Rattle.shapers_base.specs.declared.plan.record.NormalizationMode.TheVariants.{AUTO}
+use Rattle.shapers_buffer.specs.declared.buffer.category.hb_unicode_general_category_t.TheVariants.{Mn, Sm}
+use Rattle.shapers_buffer.specs.declared.buffer.glyph.hb_glyph_info_t.{hb_glyph_info_t}
+use Rattle.shapers_normal.specs.Properties.{as_character, character_marks, class_byte}
+use Rattle.shapers_normal.proofs.RowContext.{with_font}
+
+-- a glyph with all fields set keeps the fields that aren't its character's, and the marks of lookups
+abbrev busy : hb_glyph_info_t
+busy = record {
+  glyph_id = 3;
+  cluster = 5;
+  mask = 7;
+  var = 11;
+  syllable = 13;
+  category = 17;
+  auxiliary = 19;
+  general_category = Sm;
+  modified_combining_class = 23;
+  lig_comp = 14;
+  marks = record { 0 = 255 };
+}
+
+as_mark : as_character (with_font AUTO []) 0x301 99 busy ≡ record {
+  glyph_id = 0x301;
+  cluster = 5;
+  mask = 7;
+  var = 99;
+  syllable = 13;
+  category = 17;
+  auxiliary = 19;
+  general_category = Mn;
+  modified_combining_class = 230;
+  lig_comp = 14;
+  marks = record { 0 = 215 };
+}
+as_mark = refl
+
+-- a letter, a mark, a soft hyphen, both joiners, the grapheme joiner, a Mongolian selector; and an
+-- ignorable character of ASCII's, which there is none of
+abbrev samples : List ℕ
+samples = 0x65 ∷ 0x301 ∷ 0xAD ∷ 0x200C ∷ 0x200D ∷ 0x34F ∷ 0x180B ∷ 0x41 ∷ []
+
+marks_of : map (λ c. (character_marks (with_font AUTO []) c (record { 0 = 0 })).0) samples ≡ 0 ∷ 16 ∷ 8 ∷ 8 ∷ 8 ∷ 56 ∷ 40 ∷ 0 ∷ []
+marks_of = refl
+
+bytes_of : map (class_byte (with_font AUTO [])) samples ≡ 0 ∷ 230 ∷ 0 ∷ 2 ∷ 1 ∷ 0 ∷ 0 ∷ 0 ∷ []
+bytes_of = refl

@@ -1,0 +1,10 @@
+pub mod Context
+pub mod Decomposition
+pub mod DecompositionWalk
+pub mod Laws
+pub mod Normalization
+pub mod Properties
+pub mod Recomposition
+pub mod RecompositionWalk
+pub mod Sorting
+pub mod Variants

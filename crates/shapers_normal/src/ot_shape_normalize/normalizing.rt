@@ -1,0 +1,179 @@
+//! The three rounds, one after another.
+ghost use Rattle.std.specs.Prelude.{◌≡◌, ◌≤◌, [], length, take, if◌then◌else◌, OnOk, OnErr};
+ghost use Rattle.std.specs.List.{list_any};
+ghost use Rattle.shapers_buffer.specs.Refusals.{RefusesLength};
+ghost use Rattle.shapers_normal.specs.Decomposition.{first_round};
+ghost use Rattle.shapers_normal.specs.Normalization.{composes, has_rounds, joiners_shown, later_rounds, normalized, passes_over};
+ghost use Rattle.shapers_normal.specs.Sorting.{is_mark_glyph, marks_ordered};
+
+use super::context::NormalizeContext;
+use super::decomposing::decompose;
+use super::properties::{GRAPHEME_JOINER, with_hidden};
+use super::recomposing::recompose_in;
+use super::sorting::{class, is_mark, order_marks_in};
+use shapers_base::buffer::{
+    BufferClusterLevel, GlyphWalk, ShaperError, hb_buffer_t, hb_glyph_info_t,
+};
+use shapers_base::plan::NormalizationMode;
+use std::mem;
+
+/// When marks are ordered and composed.
+#[derive(Clone, Copy, Debug, PartialEq, Eq, Default)]
+pub enum Rounds {
+    /// Where the text has a mark behind its first place, as the code of HarfBuzz has it: a letter
+    /// that comes apart in a text without marks stays apart.
+    #[default]
+    AsCode,
+    /// In each text, so that a letter becomes the same in a short text and in a long one.
+    Always,
+}
+
+/// Normalizes a text without positions, whose glyphs are characters with their properties: takes
+/// them apart, orders the marks, and composes what the font has. `var` is then the number of each
+/// character's glyph. Refuses where the text taken apart is longer than the buffer may be, and then
+/// nothing has changed. (Unicode Standard Annex 15; HarfBuzz's order of rounds.)
+pub fn normalize<C: NormalizeContext>(
+    context: &C,
+    rounds: Rounds,
+    buffer: &mut hb_buffer_t,
+) -> Result<(), ShaperError>
+    requires { buffer.old.positions ≡ [] }
+    ensures ok { let context = C.context context.now in
+        let text = normalized context rounds buffer.old.level buffer.old.glyphs in
+        OnOk result (buffer.new ≡ record buffer.old { glyphs = text }) }
+    ensures length { let text = first_round (C.context context.now) buffer.old.level buffer.old.glyphs in
+        RefusesLength buffer.old.max_len (length text) result }
+    ensures err { OnErr result (buffer.new ≡ buffer.old) }
+{
+    let runs = has_rounds(rounds, buffer.glyphs());
+    decompose(context, buffer)?;
+    let level = buffer.cluster_level();
+    let mut later = LaterRounds {
+        context,
+        level,
+        runs,
+        len: 0,
+    };
+    // (a context that panics leaves the empty buffer, and no text with marks half ordered)
+    let empty = hb_buffer_t::new(buffer.alloc(), buffer.max_len());
+    let mut text = mem::replace(buffer, empty);
+    text.walk(&mut later);
+    text.truncate(later.len);
+    *buffer = text;
+    Ok(())
+}
+
+// Whether marks are ordered and composed.
+#[inline]
+fn has_rounds(rounds: Rounds, glyphs: &[hb_glyph_info_t]) -> bool
+    ensures { result ≡ has_rounds rounds glyphs.now }
+{
+    match rounds {
+        Rounds::Always => true,
+        Rounds::AsCode => has_mark(&glyphs[glyphs.len().min(1)..]),
+    }
+}
+
+// Whether one of these glyphs is a mark.
+#[inline]
+fn has_mark(glyphs: &[hb_glyph_info_t]) -> bool
+    ensures { result ≡ list_any is_mark_glyph glyphs.now }
+{
+    glyphs.iter().any(is_mark)
+}
+
+// What follows the first round; it leaves so many glyphs.
+#[derive(Drop)]
+struct LaterRounds<'a, C: NormalizeContext> {
+    context: &'a C,
+    level: BufferClusterLevel,
+    runs: bool,
+    len: usize,
+}
+
+impl<'a, C: NormalizeContext> GlyphWalk for LaterRounds<'a, C> {
+    ghost use Rattle.std.specs.Prelude.{⊤, ◌≡◌, ◌≤◌, length, take};
+    ghost use Rattle.shapers_normal.specs.Normalization.{later_rounds};
+
+    ghost can_walk = { λ w gs. ⊤ };
+
+    ghost walks = { λ v w gs hs. (w.len ≤ length gs)
+        × (take w.len hs ≡ later_rounds (C.context v.context.now) v.runs v.level gs) };
+
+    #[inline]
+    fn walk(&mut self, glyphs: &mut [hb_glyph_info_t]) {
+        self.len = run_later(self.context, self.runs, self.level, glyphs);
+    }
+}
+
+// Runs what follows the first round. Returns how many glyphs are left, at the front.
+fn run_later<C: NormalizeContext>(
+    context: &C,
+    runs: bool,
+    level: BufferClusterLevel,
+    glyphs: &mut [hb_glyph_info_t],
+) -> usize
+    ensures text { take result glyphs.new
+        ≡ later_rounds (C.context context.now) runs level glyphs.old }
+    ensures within { result ≤ length glyphs.old }
+{
+    order_if(runs, context, level, glyphs);
+    show_joiners(glyphs);
+    if runs && composes(context.normalization_preference()) {
+        recompose_in(context, level, glyphs)
+    } else {
+        glyphs.len()
+    }
+}
+
+// Orders the marks, if that is wanted.
+#[inline]
+fn order_if<C: NormalizeContext>(
+    runs: bool,
+    context: &C,
+    level: BufferClusterLevel,
+    glyphs: &mut [hb_glyph_info_t],
+)
+    ensures { glyphs.new
+        ≡ (if runs then marks_ordered (C.context context.now) level glyphs.old else glyphs.old) }
+{
+    if runs {
+        order_marks_in(context, level, glyphs);
+    }
+}
+
+// Whether a shaper wants characters composed.
+#[inline]
+fn composes(mode: NormalizationMode) -> bool
+    ensures { result ≡ composes mode }
+{
+    match mode {
+        NormalizationMode::NONE => false,
+        NormalizationMode::AUTO | NormalizationMode::CD => true,
+    }
+}
+
+// Lets lookups pass over the grapheme joiners that kept no marks apart.
+fn show_joiners(glyphs: &mut [hb_glyph_info_t])
+    ensures { glyphs.new ≡ joiners_shown glyphs.old }
+{
+    for i in 1..glyphs.len().max(1) - 1 {
+        let (before, behind) = (class(&glyphs[i - 1]), class(&glyphs[i + 1]));
+        glyphs[i] = pass_over(before, behind, glyphs[i]);
+    }
+}
+
+// A grapheme joiner between glyphs of these classes, shown if it kept nothing apart.
+#[inline]
+fn pass_over(before: u8, behind: u8, glyph: hb_glyph_info_t) -> hb_glyph_info_t
+    ensures { result ≡ passes_over before behind glyph }
+{
+    if glyph.glyph_id == GRAPHEME_JOINER && (behind == 0 || before <= behind) {
+        hb_glyph_info_t {
+            marks: with_hidden(glyph.marks, false),
+            ..glyph
+        }
+    } else {
+        glyph
+    }
+}

@@ -1,0 +1,225 @@
+//! The third round: a letter and the marks behind it compose, as far as the font has what comes of
+//! it.
+ghost use Rattle.std.specs.Prelude.{◌≡◌, ◌<◌, ◌≤◌, ◌+◌, ◌++◌, length, take};
+ghost use Rattle.std.specs.List.{prefix_len};
+ghost use Rattle.shapers_buffer.specs.Clusters.{flooded, has_cluster, merge};
+ghost use Rattle.shapers_normal.specs.Recomposition.{composition, if_drawn, is_free, next_glyph, left_as_is, recomposed, taken_in, without_place};
+ghost use Rattle.shapers_normal.specs.RecompositionWalk.{over_gap, walk_at, IsPlace};
+
+use super::context::NormalizeContext;
+use super::properties::set_character;
+use super::sorting::{class, is_mark, merges};
+use shapers_base::buffer::{
+    BufferClusterLevel, GlyphChange, change_each_in, hb_glyph_info_t, merge_clusters_in,
+};
+use shapers_base::font::GlyphId;
+
+/// Composes each starter with the marks behind it that nothing keeps apart from it, as far as the
+/// shaper composes them and the font has the character. A mark that is taken in comes into one
+/// cluster with its starter. Returns how many glyphs are left, at the front; it takes no memory.
+/// (Unicode's Canonical Composition Algorithm.)
+pub fn recompose_in<C: NormalizeContext>(
+    context: &C,
+    level: BufferClusterLevel,
+    glyphs: &mut [hb_glyph_info_t],
+) -> usize
+    ensures text { take result glyphs.new ≡ recomposed (C.context context.now) level glyphs.old }
+    ensures within { result ≤ length glyphs.old }
+{
+    if glyphs.is_empty() {
+        return 0;
+    }
+    let mut place = Place {
+        starter: 0,
+        to: 1,
+        from: 1,
+    };
+    while place.from < glyphs.len() {
+        place = step(context, level, glyphs, place);
+    }
+    place.to
+}
+
+// The glyph at `from` composes with the starter, or else stays.
+#[inline]
+fn step<C: NormalizeContext>(
+    context: &C,
+    level: BufferClusterLevel,
+    glyphs: &mut [hb_glyph_info_t],
+    place: Place,
+) -> Place
+    requires { IsPlace (length glyphs.old) place }
+    ensures next { walk_at result glyphs.new
+        ≡ next_glyph (C.context context.now) level (walk_at place glyphs.old) }
+    ensures from { result.from ≡ place.from + 1 }
+    ensures to { result.to ≤ result.from }
+    ensures starter { result.starter < result.to }
+{
+    match composition_at(context, glyphs, place) {
+        Some((c, glyph)) => take_in(context, level, glyphs, place, (c, glyph)),
+        None => pass_by(glyphs, place),
+    }
+}
+
+// What the starter and the mark at `from` compose to, with its glyph.
+#[inline]
+fn composition_at<C: NormalizeContext>(
+    context: &C,
+    glyphs: &[hb_glyph_info_t],
+    place: Place,
+) -> Option<(u32, GlyphId)>
+    requires { IsPlace (length glyphs.now) place }
+    ensures { result ≡ composition (C.context context.now) (walk_at place glyphs.now) }
+{
+    let mark = &glyphs[place.from];
+    if is_mark(mark) && is_free(glyphs, place) {
+        compose(context, glyphs[place.starter].glyph_id, mark.glyph_id)
+    } else {
+        None
+    }
+}
+
+// Whether nothing keeps the mark at `from` apart from the starter: of two marks of one class the
+// first blocks the second.
+#[inline]
+fn is_free(glyphs: &[hb_glyph_info_t], place: Place) -> bool
+    requires { IsPlace (length glyphs.now) place }
+    ensures { result ≡ is_free (walk_at place glyphs.now) }
+{
+    place.starter + 1 == place.to || class(&glyphs[place.to - 1]) < class(&glyphs[place.from])
+}
+
+// What two characters compose to, with its glyph, if the font has one.
+#[inline]
+fn compose<C: NormalizeContext>(context: &C, a: u32, b: u32) -> Option<(u32, GlyphId)>
+    ensures { result ≡ if_drawn (C.context context.now) ((C.context context.now).composed a b) }
+{
+    let c = context.compose(a, b)?;
+    let glyph = context.get_nominal_glyph(c)?;
+    Some((c, glyph))
+}
+
+// Takes the mark at `from` into the starter, which becomes this character.
+#[inline]
+fn take_in<C: NormalizeContext>(
+    context: &C,
+    level: BufferClusterLevel,
+    glyphs: &mut [hb_glyph_info_t],
+    place: Place,
+    drawn: (u32, GlyphId),
+) -> Place
+    requires { IsPlace (length glyphs.old) place }
+    ensures next { walk_at result glyphs.new
+        ≡ taken_in (C.context context.now) level drawn (walk_at place glyphs.old) }
+    ensures place { result ≡ record place { from = place.from + 1 } }
+{
+    merge_apart(level, glyphs, place);
+    set_character(context, &mut glyphs[place.starter], drawn.0, drawn.1.0);
+    Place {
+        from: place.from + 1,
+        ..place
+    }
+}
+
+// Leaves the glyph at `from` as it is.
+#[inline]
+fn pass_by(glyphs: &mut [hb_glyph_info_t], place: Place) -> Place
+    requires { IsPlace (length glyphs.old) place }
+    ensures next { walk_at result glyphs.new ≡ left_as_is (walk_at place glyphs.old) }
+    ensures from { result.from ≡ place.from + 1 }
+    ensures to { result.to ≡ place.to + 1 }
+    ensures starter { result.starter < result.to }
+{
+    let starter = if class(&glyphs[place.from]) == 0 {
+        place.to
+    } else {
+        place.starter
+    };
+    glyphs[place.to] = glyphs[place.from];
+    Place {
+        starter,
+        to: place.to + 1,
+        from: place.from + 1,
+    }
+}
+
+// Merges the clusters from the starter to the mark at `from`, which goes.
+#[inline]
+fn merge_apart(level: BufferClusterLevel, glyphs: &mut [hb_glyph_info_t], place: Place)
+    requires { IsPlace (length glyphs.old) place }
+    ensures { let old = over_gap place.to place.from glyphs.old in
+        over_gap place.to (place.from + 1) glyphs.new
+        ≡ without_place place.to (merge level place.starter (place.to + 1) old) }
+{
+    glyphs[place.to] = glyphs[place.from];
+    let (front, behind) = glyphs.split_at_mut(place.from + 1);
+    merge_joined(level, &mut front[..place.to + 1], place.starter, behind);
+}
+
+// Merges the clusters from `s` to the end of the first slice, as if the other one stood behind it.
+#[inline]
+fn merge_joined(
+    level: BufferClusterLevel,
+    front: &mut [hb_glyph_info_t],
+    s: usize,
+    behind: &mut [hb_glyph_info_t],
+)
+    requires { s + 1 < length front.old }
+    ensures { front.new ++ behind.new
+        ≡ merge level s (length front.old) (front.old ++ behind.old) }
+{
+    if merges(level) {
+        let end = front.len();
+        let last = front[end - 1].cluster;
+        merge_clusters_in(level, front, s, end);
+        flood_behind(behind, last, front[s].cluster);
+    }
+}
+
+// Puts the glyphs of cluster `from` that open the list into cluster `to`.
+#[inline]
+fn flood_behind(glyphs: &mut [hb_glyph_info_t], from: u32, to: u32)
+    ensures { glyphs.new ≡ flooded from to glyphs.old }
+{
+    let count = count_in(glyphs, from);
+    change_each_in(&mut glyphs[..count], &IntoCluster(to));
+}
+
+// How many glyphs of a cluster open the list.
+#[inline]
+fn count_in(glyphs: &[hb_glyph_info_t], cluster: u32) -> usize
+    ensures count { result ≡ prefix_len (has_cluster cluster) glyphs.now }
+    ensures few { result ≤ length glyphs.now }
+{
+    glyphs
+        .iter()
+        .take_while(|glyph| glyph.cluster == cluster)
+        .count()
+}
+
+// Puts a glyph into a cluster; if that is another one, its glyph flags go.
+#[derive(Clone, Copy)]
+struct IntoCluster(u32);
+
+impl GlyphChange for IntoCluster {
+    ghost use Rattle.shapers_buffer.specs.Clusters.{in_cluster};
+
+    ghost changed = { λ change g. in_cluster change.0 g };
+
+    #[inline]
+    fn change(&self, glyph: &mut hb_glyph_info_t) {
+        if glyph.cluster != self.0 {
+            glyph.cluster = self.0;
+            glyph.mask &= !7;
+        }
+    }
+}
+
+// A walk that takes glyphs out: what stays lies before `to`, what is still to come from `from` on,
+// and what lies between has been taken in.
+#[derive(Clone, Copy)]
+struct Place {
+    starter: usize,
+    to: usize,
+    from: usize,
+}

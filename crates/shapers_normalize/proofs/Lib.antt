@@ -1,0 +1,4 @@
+pub mod ArabicAlone
+pub mod HebrewAlone
+pub mod OrderLaws
+pub mod OrderMonotone

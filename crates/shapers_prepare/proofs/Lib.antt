@@ -1,0 +1,11 @@
+mod DirectionRows
+mod FirstCircleRows
+pub mod GraphemeProofs
+mod GraphemeRows
+pub mod GraphemeSteps
+mod PartedRows
+mod PropertyRows
+pub mod PropertySteps
+mod RotationRows
+pub mod TurningSteps
+pub mod VowelSteps

@@ -1,0 +1,12 @@
+pub mod CharacterProperties
+pub mod FirstCircle
+pub mod GlyphProperties
+pub mod GraphemeLaws
+pub mod Graphemes
+pub mod NativeDirection
+pub mod PropertyWalk
+pub mod Rotation
+pub mod UnicodeValues
+pub mod VowelRows
+pub mod VowelWalk
+pub mod Vowels

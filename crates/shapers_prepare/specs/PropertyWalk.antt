@@ -1,0 +1,27 @@
+-- Words of the code's walk, which keeps what the characters so far leave open.
+use Rattle.std.specs.Prelude.{ℕ, Bool, ◌||◌, List, if◌then◌else◌}
+use Rattle.shapers_prepare.specs.declared.ot_shape_prepare.properties.Open.{Open}
+use Rattle.shapers_prepare.specs.declared.ot_shape_prepare.properties.Open.TheVariants.{Joiner, HalfFlag, Nothing}
+use Rattle.shapers_prepare.specs.CharacterProperties.{CharacterProperties}
+use Rattle.shapers_prepare.specs.GlyphProperties.{always_continues, ends_in_half_flag, ends_joined, is_regional_indicator, is_zero_width_joiner}
+
+-- what these characters leave open
+abbrev pub left_open : List ℕ → Open
+left_open before =
+    if ends_joined before then Joiner else if ends_in_half_flag before then HalfFlag else Nothing
+
+-- what is open behind one more
+abbrev pub half_flag_behind : Open → Open
+half_flag_behind HalfFlag = Nothing
+half_flag_behind _ = HalfFlag
+
+abbrev pub then_open : Open → ℕ → Open
+then_open open_now c =
+    if is_zero_width_joiner c then Joiner
+    else if is_regional_indicator c then half_flag_behind open_now else Nothing
+
+-- whether a character that is no mark carries on the grapheme before it
+abbrev pub goes_on_behind : CharacterProperties → Open → ℕ → Bool
+goes_on_behind p Joiner c = always_continues c || p.pictographic c
+goes_on_behind p HalfFlag c = always_continues c || is_regional_indicator c
+goes_on_behind p Nothing c = always_continues c

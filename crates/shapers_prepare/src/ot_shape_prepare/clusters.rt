@@ -1,0 +1,83 @@
+//! Clusters by graphemes.
+ghost use Rattle.std.specs.Prelude.{◌≡◌};
+ghost use Rattle.shapers_buffer.specs.Clusters.{merge_all};
+ghost use Rattle.shapers_buffer.specs.GlyphFlags.{unsafe_all};
+ghost use Rattle.shapers_prepare.specs.Graphemes.{clusters_formed, graphemes};
+
+use shapers_base::buffer::{
+    BufferClusterLevel, ClusterRun, GlyphWalk, hb_buffer_t, hb_glyph_info_t, merge_run_in,
+    unsafe_to_break_in, write_run_in,
+};
+
+/// Brings each grapheme into one cluster where that is the level, and else flags it unsafe to break
+/// inside.
+pub fn form_clusters(buffer: &mut hb_buffer_t)
+    ensures { let text = clusters_formed buffer.old.level buffer.old.glyphs in
+        buffer.new ≡ record buffer.old { glyphs = text } }
+{
+    let level = buffer.cluster_level();
+    buffer.walk(&mut Forming { level });
+}
+
+// The walk over the graphemes of a text.
+#[derive(Drop)]
+struct Forming {
+    level: BufferClusterLevel,
+}
+
+impl GlyphWalk for Forming {
+    ghost use Rattle.std.specs.Prelude.{⊤, ◌≡◌};
+    ghost use Rattle.shapers_prepare.specs.Graphemes.{clusters_formed};
+
+    ghost can_walk = { λ w gs. ⊤ };
+
+    ghost walks = { λ v w gs hs. hs ≡ clusters_formed v.level gs };
+
+    #[inline]
+    fn walk(&mut self, glyphs: &mut [hb_glyph_info_t]) {
+        match self.level {
+            BufferClusterLevel::MonotoneGraphemes => merge_graphemes_in(self.level, glyphs),
+            BufferClusterLevel::MonotoneCharacters | BufferClusterLevel::Characters => {
+                flag_graphemes_in(glyphs)
+            }
+        }
+    }
+}
+
+// Merges each grapheme. What merges have put into one cluster is written once.
+pub(super) fn merge_graphemes_in(level: BufferClusterLevel, glyphs: &mut [hb_glyph_info_t])
+    ensures { glyphs.new ≡ merge_all level (graphemes glyphs.old) glyphs.old }
+{
+    if glyphs.is_empty() {
+        return;
+    }
+    let mut run = ClusterRun::NONE;
+    let mut start = 0;
+    for i in 1..glyphs.len() {
+        if !glyphs[i].marks.is_continuation() {
+            run = merge_run_in(level, glyphs, run, start, i);
+            start = i;
+        }
+    }
+    let end = glyphs.len();
+    run = merge_run_in(level, glyphs, run, start, end);
+    write_run_in(glyphs, run);
+}
+
+// Flags each grapheme unsafe to break inside.
+fn flag_graphemes_in(glyphs: &mut [hb_glyph_info_t])
+    ensures { glyphs.new ≡ unsafe_all (graphemes glyphs.old) glyphs.old }
+{
+    if glyphs.is_empty() {
+        return;
+    }
+    let mut start = 0;
+    for i in 1..glyphs.len() {
+        if !glyphs[i].marks.is_continuation() {
+            unsafe_to_break_in(glyphs, start, i);
+            start = i;
+        }
+    }
+    let end = glyphs.len();
+    unsafe_to_break_in(glyphs, start, end);
+}

@@ -1,0 +1,186 @@
+//! The properties of each character, as its glyph keeps them.
+ghost use Rattle.std.specs.Prelude.{◌≡◌, ◌&&◌, ◌||◌};
+ghost use Rattle.shapers_buffer.specs.Marks.{set_mark};
+ghost use Rattle.shapers_normal.specs.Properties.{HIDDEN, is_seen_by_lookups, joiner_class};
+ghost use Rattle.shapers_prepare.specs.GlyphProperties.{always_continues, is_mark_character, is_regional_indicator, kept_class, kept_marks, need_not_be_drawn, properties_set, with_properties};
+ghost use Rattle.shapers_prepare.specs.PropertyWalk.{goes_on_behind, then_open};
+
+use super::unicode::UnicodeProperties;
+use shapers_base::buffer::{GlyphMarks, GlyphWalk, hb_buffer_t, hb_glyph_info_t};
+use shapers_normal::ot_shape_normalize::HIDDEN;
+
+// ZWJ, which joins pictographs.
+const ZERO_WIDTH_JOINER: u32 = 0x200D;
+
+/// Sets what each glyph keeps of its character: the general category, the class of a mark, whether
+/// it need not be drawn, whether lookups see it all the same, and whether it carries on the grapheme
+/// before it. What lookups noted stays. (Unicode Standard Annex 29 as far as HarfBuzz needs it:
+/// marks, modifiers of emoji, flags of two regional indicators, pictographs behind ZWJ, half-width
+/// marks, tags.)
+pub fn set_unicode_properties<U: UnicodeProperties>(unicode: &U, buffer: &mut hb_buffer_t)
+    ensures { let text = properties_set (U.properties unicode.now) buffer.old.glyphs in
+        buffer.new ≡ record buffer.old { glyphs = text } }
+{
+    buffer.walk(&mut PropertyWalk { unicode });
+}
+
+// The walk that sets the properties of a text.
+#[derive(Drop)]
+struct PropertyWalk<'a, U: UnicodeProperties> {
+    unicode: &'a U,
+}
+
+impl<'a, U: UnicodeProperties> GlyphWalk for PropertyWalk<'a, U> {
+    ghost use Rattle.std.specs.Prelude.{⊤, ◌≡◌};
+    ghost use Rattle.shapers_prepare.specs.GlyphProperties.{properties_set};
+
+    ghost can_walk = { λ w gs. ⊤ };
+
+    ghost walks = { λ v w gs hs. hs ≡ properties_set (U.properties v.unicode.now) gs };
+
+    #[inline]
+    fn walk(&mut self, glyphs: &mut [hb_glyph_info_t]) {
+        set_properties_in(self.unicode, glyphs);
+    }
+}
+
+// What the characters before one leave open.
+#[derive(Clone, Copy)]
+pub(super) enum Open {
+    // A joiner, behind which a pictograph goes on.
+    Joiner,
+    // Half a flag, which another regional indicator completes.
+    HalfFlag,
+    // Neither.
+    Nothing,
+}
+
+// Sets the properties of a text.
+fn set_properties_in<U: UnicodeProperties>(unicode: &U, glyphs: &mut [hb_glyph_info_t])
+    ensures { glyphs.new ≡ properties_set (U.properties unicode.now) glyphs.old }
+{
+    let mut before = Open::Nothing;
+    for glyph in glyphs.iter_mut() {
+        set_properties(unicode, before, glyph);
+        before = then_open(before, glyph.glyph_id);
+    }
+}
+
+// What is open behind a character, where this was open before it.
+#[inline]
+fn then_open(before: Open, c: u32) -> Open
+    ensures { result ≡ then_open before c }
+{
+    if c == ZERO_WIDTH_JOINER {
+        return Open::Joiner;
+    }
+    match before {
+        Open::Joiner | Open::Nothing if is_regional_indicator(c) => Open::HalfFlag,
+        _ => Open::Nothing,
+    }
+}
+
+// Sets the properties of one glyph.
+#[inline]
+pub(super) fn set_properties<U: UnicodeProperties>(
+    unicode: &U,
+    before: Open,
+    glyph: &mut hb_glyph_info_t,
+)
+    ensures { let p = U.properties unicode.now in
+        let c = glyph.old.glyph_id in
+        let continues = is_mark_character p c || goes_on_behind p before c in
+        glyph.new ≡ with_properties p continues glyph.old }
+{
+    let c = glyph.glyph_id;
+    let general = unicode.general_category(c);
+    let is_mark = c >= 0x80 && general.is_mark();
+    let is_ignorable = c >= 0x80 && unicode.is_default_ignorable(c);
+    let continues = is_mark || goes_on_behind(unicode, before, c);
+    glyph.general_category = general;
+    glyph.modified_combining_class = kept_class(unicode, c, is_mark, is_ignorable);
+    glyph.marks = kept_marks(glyph.marks, c, is_ignorable, continues);
+}
+
+// Whether a character that is no mark carries on the grapheme before it.
+#[inline]
+fn goes_on_behind<U: UnicodeProperties>(unicode: &U, before: Open, c: u32) -> bool
+    ensures { result ≡ goes_on_behind (U.properties unicode.now) before c }
+{
+    match before {
+        Open::Joiner => always_continues(c) || unicode.is_extended_pictographic(c),
+        Open::HalfFlag => always_continues(c) || is_regional_indicator(c),
+        Open::Nothing => always_continues(c),
+    }
+}
+
+// Whether a character carries on any grapheme: the joiner, katakana's half-width voiced marks, the
+// modifiers of an emoji's skin, tags.
+#[inline]
+fn always_continues(c: u32) -> bool
+    ensures { result ≡ always_continues c }
+{
+    matches!(c, ZERO_WIDTH_JOINER | 0xFF9E..=0xFF9F | 0x1F3FB..=0x1F3FF | 0xE0020..=0xE007F)
+}
+
+// Whether a character is half of a flag.
+#[inline]
+pub(super) fn is_regional_indicator(c: u32) -> bool
+    ensures { result ≡ is_regional_indicator c }
+{
+    matches!(c, 0x1F1E6..=0x1F1FF)
+}
+
+// The class of a mark, or which joiner a character is that need not be drawn.
+#[inline]
+fn kept_class<U: UnicodeProperties>(unicode: &U, c: u32, is_mark: bool, is_ignorable: bool) -> u8
+    requires mark { is_mark ≡ is_mark_character (U.properties unicode.now) c }
+    requires ignorable { is_ignorable ≡ need_not_be_drawn (U.properties unicode.now) c }
+    ensures { result ≡ kept_class (U.properties unicode.now) c }
+{
+    if is_mark {
+        unicode.modified_combining_class(c)
+    } else if is_ignorable {
+        joiner_class(c)
+    } else {
+        0
+    }
+}
+
+// Which joiner a character is: 1 for ZWJ, 2 for ZWNJ.
+#[inline]
+fn joiner_class(c: u32) -> u8
+    ensures { result ≡ joiner_class c }
+{
+    match c {
+        ZERO_WIDTH_JOINER => 1,
+        0x200C => 2,
+        _ => 0,
+    }
+}
+
+// These marks with those of a character.
+#[inline]
+fn kept_marks(marks: GlyphMarks, c: u32, is_ignorable: bool, continues: bool) -> GlyphMarks
+    ensures { let ignorable = set_mark 8 is_ignorable marks in
+        let continuation = set_mark 16 continues ignorable in
+        result ≡ set_mark HIDDEN (is_ignorable && is_seen_by_lookups c) continuation }
+{
+    let mut kept = marks;
+    kept.set_ignorable(is_ignorable);
+    kept.set_continuation(continues);
+    if is_ignorable && is_seen_by_lookups(c) {
+        GlyphMarks(kept.0 | HIDDEN)
+    } else {
+        GlyphMarks(kept.0 & (255 - HIDDEN))
+    }
+}
+
+// Whether lookups see a character that need not be drawn: Mongolian variation selectors and tags
+// choose forms, and the grapheme joiner keeps marks apart.
+#[inline]
+fn is_seen_by_lookups(c: u32) -> bool
+    ensures { result ≡ is_seen_by_lookups c }
+{
+    matches!(c, 0x180B..=0x180D | 0x180F | 0xE0020..=0xE007F | 0x034F)
+}

@@ -1,0 +1,128 @@
+//! Characters for another direction.
+ghost use Rattle.std.specs.Prelude.{◌≡◌, map};
+ghost use Rattle.shapers_prepare.specs.Rotation.{mirrored_glyph, rotated_glyph, runs_backward, runs_vertically, upright_glyph, which_font_has};
+
+use super::unicode::UnicodeProperties;
+use shapers_base::buffer::{Direction, GlyphChange, hb_buffer_t, hb_glyph_info_t};
+use shapers_base::font::hb_font_t;
+
+/// What characters are rotated by: the direction that the caller wants of the text, and of the plan
+/// the mask of the feature that mirrors (`rtlm`) and whether the font has a feature for vertical
+/// forms (`vert`).
+#[derive(Clone, Copy, Debug, PartialEq, Eq)]
+pub struct CharRotation {
+    /// The direction that the caller wants.
+    pub direction: Direction,
+    /// The mask of `rtlm`.
+    pub rtlm_mask: u32,
+    /// Whether the font has `vert`.
+    pub has_vert: bool,
+}
+
+/// In text that runs backward each character becomes its mirrored one where the font has that, and
+/// else gets the mask of `rtlm`; in vertical text without `vert` its vertical form where the font
+/// has that. The properties of the characters stay. (Unicode's Bidi_Mirroring_Glyph and vertical
+/// compatibility mappings.)
+pub fn rotate_chars<U: UnicodeProperties, F: hb_font_t>(
+    unicode: &U,
+    face: &F,
+    rotation: &CharRotation,
+    buffer: &mut hb_buffer_t,
+)
+    ensures { let p = U.properties unicode.now in
+        let text = map (rotated_glyph p (F.font face.now) rotation.now) buffer.old.glyphs in
+        buffer.new ≡ record buffer.old { glyphs = text } }
+{
+    let end = buffer.len();
+    let rotation = *rotation;
+    buffer.change_each(
+        0,
+        end,
+        &Rotating {
+            unicode,
+            face,
+            rotation,
+        },
+    );
+}
+
+// The change of one glyph.
+#[derive(Drop)]
+struct Rotating<'a, U: UnicodeProperties, F: hb_font_t> {
+    unicode: &'a U,
+    face: &'a F,
+    rotation: CharRotation,
+}
+
+impl<'a, U: UnicodeProperties, F: hb_font_t> GlyphChange for Rotating<'a, U, F> {
+    ghost use Rattle.shapers_prepare.specs.Rotation.{rotated_glyph};
+
+    ghost changed = { λ r g. rotated_glyph (U.properties r.unicode.now) (F.font r.face.now) r.rotation g };
+
+    #[inline]
+    fn change(&self, glyph: &mut hb_glyph_info_t) {
+        if runs_backward(self.rotation.direction) {
+            mirror(self.unicode, self.face, self.rotation.rtlm_mask, glyph);
+        }
+        if runs_vertically(self.rotation.direction) && !self.rotation.has_vert {
+            stand_upright(self.unicode, self.face, glyph);
+        }
+    }
+}
+
+// The mirrored character where the font has it, else the feature that mirrors.
+#[inline]
+fn mirror<U: UnicodeProperties, F: hb_font_t>(
+    unicode: &U,
+    face: &F,
+    rtlm_mask: u32,
+    glyph: &mut hb_glyph_info_t,
+)
+    ensures { let p = U.properties unicode.now in
+        glyph.new ≡ mirrored_glyph p (F.font face.now) rtlm_mask glyph.old }
+{
+    match which_font_has(face, unicode.mirrored(glyph.glyph_id)) {
+        Some(c) => glyph.glyph_id = c,
+        None => glyph.mask |= rtlm_mask,
+    }
+}
+
+// The vertical form where the font has it.
+#[inline]
+fn stand_upright<U: UnicodeProperties, F: hb_font_t>(
+    unicode: &U,
+    face: &F,
+    glyph: &mut hb_glyph_info_t,
+)
+    ensures { let p = U.properties unicode.now in
+        glyph.new ≡ upright_glyph p (F.font face.now) glyph.old }
+{
+    if let Some(c) = which_font_has(face, unicode.vertical_form(glyph.glyph_id)) {
+        glyph.glyph_id = c;
+    }
+}
+
+// A character that the font has, if there is one.
+#[inline]
+fn which_font_has<F: hb_font_t>(face: &F, c: Option<u32>) -> Option<u32>
+    ensures { result ≡ which_font_has (F.font face.now) c }
+{
+    match c {
+        Some(c) if face.has_glyph(c) => Some(c),
+        _ => None,
+    }
+}
+
+#[inline]
+fn runs_backward(direction: Direction) -> bool
+    ensures { result ≡ runs_backward direction }
+{
+    matches!(direction, Direction::RightToLeft | Direction::BottomToTop)
+}
+
+#[inline]
+fn runs_vertically(direction: Direction) -> bool
+    ensures { result ≡ runs_vertically direction }
+{
+    matches!(direction, Direction::TopToBottom | Direction::BottomToTop)
+}

@@ -1,0 +1,320 @@
+//! Circles between vowels that look like another one together.
+ghost use Rattle.std.specs.Prelude.{◌≡◌, ◌≤◌, ◌<◌, ◌+◌, [], ◌∷◌, ◌++◌, IsOk, OnErr, OnOk, length, vec_capacity};
+ghost use Rattle.shapers_buffer.specs.Refusals.{RefusesLength};
+ghost use Rattle.shapers_prepare.specs.Vowels.{circle_before_last, is_parted_pair, is_parted_triple, left_behind, pair_behind, triple_behind, universal_vowel_script, vowel_circle, vowel_script, vowel_script_of, vowels_parted, vowels_parted_from};
+ghost use Rattle.shapers_prepare.specs.VowelWalk.{vowel_circles};
+
+use super::vowel_pairs::{
+    is_bengali_pair, is_brahmi_pair, is_devanagari_pair, is_gujarati_pair, is_gurmukhi_pair,
+    is_kannada_pair, is_khojki_pair, is_khudawadi_pair, is_malayalam_pair, is_modi_pair,
+    is_oriya_pair, is_sinhala_pair, is_takri_pair, is_tamil_pair, is_telugu_pair, is_tirhuta_pair,
+};
+use bitflags::Flags;
+use shapers_base::buffer::{
+    BufferFlags, GlyphMarks, GlyphRewriting, Script, ShaperError, hb_buffer_t, hb_glyph_info_t,
+};
+
+// The character of the dotted circle.
+const DOTTED_CIRCLE: u32 = 0x25CC;
+
+/// Parts vowels of the Indic and the universal shaper that look like another one together by a
+/// dotted circle before the last of them, where the caller allows circles; the buffer's script says
+/// which vowels. The circle has all of the vowel behind it but its character, and begins a grapheme.
+/// Where no circle comes it takes no memory. (Microsoft's Indic_Shaping_Invalid_Cluster.)
+///
+/// # Errors
+///
+/// `TooLong` where the buffer would be longer than `max_len`, `Memory` where memory is refused;
+/// nothing has changed then.
+pub fn preprocess_text_vowel_constraints(buffer: &mut hb_buffer_t) -> Result<(), ShaperError>
+    requires { buffer.old.positions ≡ [] }
+    ensures ok { OnOk result (buffer.new ≡
+        record buffer.old { glyphs = vowels_parted buffer.old }) }
+    ensures length { RefusesLength buffer.old.max_len (length (vowels_parted buffer.old)) result }
+    ensures err { OnErr result (buffer.new ≡ buffer.old) }
+    ensures without_memory { vowels_parted buffer.old ≡ buffer.old.glyphs → IsOk result }
+{
+    // so that a return with nothing changed keeps the promise on lengths, too
+    prove!(buffer.len() <= buffer.max_len());
+    match vowel_script_of(buffer) {
+        None => Ok(()),
+        Some(script) => part_vowels(script, buffer),
+    }
+}
+
+/// A script that has such vowels.
+#[derive(Clone, Copy, Debug, PartialEq, Eq)]
+pub(super) enum VowelScript {
+    Devanagari,
+    Bengali,
+    Gurmukhi,
+    Gujarati,
+    Oriya,
+    Tamil,
+    Telugu,
+    Kannada,
+    Malayalam,
+    Sinhala,
+    Brahmi,
+    Khojki,
+    Khudawadi,
+    Tirhuta,
+    Modi,
+    Takri,
+}
+
+// The script of a buffer's text, where circles are allowed.
+fn vowel_script_of(buffer: &hb_buffer_t) -> Option<VowelScript>
+    ensures { result ≡ vowel_script_of buffer.now }
+{
+    if buffer
+        .flags()
+        .contains(BufferFlags::DO_NOT_INSERT_DOTTED_CIRCLE)
+    {
+        return None;
+    }
+    match buffer.script() {
+        None => None,
+        Some(script) => vowel_script(script),
+    }
+}
+
+// The script of this code, if it has such vowels.
+fn vowel_script(script: Script) -> Option<VowelScript>
+    ensures { result ≡ vowel_script script }
+{
+    if script == Script(*b"Deva") {
+        Some(VowelScript::Devanagari)
+    } else if script == Script(*b"Beng") {
+        Some(VowelScript::Bengali)
+    } else if script == Script(*b"Guru") {
+        Some(VowelScript::Gurmukhi)
+    } else if script == Script(*b"Gujr") {
+        Some(VowelScript::Gujarati)
+    } else if script == Script(*b"Orya") {
+        Some(VowelScript::Oriya)
+    } else if script == Script(*b"Taml") {
+        Some(VowelScript::Tamil)
+    } else if script == Script(*b"Telu") {
+        Some(VowelScript::Telugu)
+    } else if script == Script(*b"Knda") {
+        Some(VowelScript::Kannada)
+    } else if script == Script(*b"Mlym") {
+        Some(VowelScript::Malayalam)
+    } else {
+        universal_vowel_script(script)
+    }
+}
+
+// The same for scripts of the universal shaper.
+fn universal_vowel_script(script: Script) -> Option<VowelScript>
+    ensures { result ≡ universal_vowel_script script }
+{
+    if script == Script(*b"Sinh") {
+        Some(VowelScript::Sinhala)
+    } else if script == Script(*b"Brah") {
+        Some(VowelScript::Brahmi)
+    } else if script == Script(*b"Khoj") {
+        Some(VowelScript::Khojki)
+    } else if script == Script(*b"Sind") {
+        Some(VowelScript::Khudawadi)
+    } else if script == Script(*b"Tirh") {
+        Some(VowelScript::Tirhuta)
+    } else if script == Script(*b"Modi") {
+        Some(VowelScript::Modi)
+    } else if script == Script(*b"Takr") {
+        Some(VowelScript::Takri)
+    } else {
+        None
+    }
+}
+
+// Puts the circles into a text.
+fn part_vowels(script: VowelScript, buffer: &mut hb_buffer_t) -> Result<(), ShaperError>
+    requires { buffer.old.positions ≡ [] }
+    ensures ok { let text = vowels_parted_from script 0 buffer.old.glyphs in
+        OnOk result (buffer.new ≡ record buffer.old { glyphs = text }) }
+    ensures length { let text = vowels_parted_from script 0 buffer.old.glyphs in
+        RefusesLength buffer.old.max_len (length text) result }
+    ensures err { OnErr result (buffer.new ≡ buffer.old) }
+    ensures without_memory { let text = vowels_parted_from script 0 buffer.old.glyphs in
+        text ≡ buffer.old.glyphs → IsOk result }
+{
+    let len = buffer.len();
+    let count = count_circles(script, buffer.glyphs());
+    if count == 0 {
+        return Ok(());
+    }
+    if buffer.max_len() - len < count {
+        return Err(ShaperError::TooLong);
+    }
+    buffer.rewrite(len + count, &PartVowels { script })
+}
+
+// The rewriting that puts the circles in.
+#[derive(Drop)]
+struct PartVowels {
+    script: VowelScript,
+}
+
+impl GlyphRewriting for PartVowels {
+    ghost use Rattle.std.specs.Prelude.{⊤};
+    ghost use Rattle.shapers_prepare.specs.Vowels.{vowels_parted_from};
+
+    ghost can_rewrite = { λ r gs. ⊤ };
+
+    ghost rewrites = { λ r gs. vowels_parted_from r.script 0 gs };
+
+    #[inline]
+    fn rewrite(&self, glyphs: &mut [hb_glyph_info_t], to: &mut Vec<hb_glyph_info_t>) {
+        write_parted(self.script, glyphs, to);
+    }
+}
+
+// How many circles a text gets.
+fn count_circles(script: VowelScript, glyphs: &[hb_glyph_info_t]) -> usize
+    ensures { result ≡ vowel_circles script 0 glyphs.now }
+{
+    let mut count = 0;
+    let mut left = 0;
+    for i in 0..glyphs.len() {
+        if left == 1 {
+            count += 1;
+        }
+        left = left_behind(script, left, glyphs[i], &glyphs[i + 1..]);
+    }
+    count
+}
+
+// Writes a text with its circles to a list that has room for it.
+fn write_parted(script: VowelScript, glyphs: &[hb_glyph_info_t], to: &mut Vec<hb_glyph_info_t>)
+    requires room { length to.old.items + length (vowels_parted_from script 0 glyphs.now)
+        ≤ vec_capacity to.old }
+    ensures text { to.new.items ≡ to.old.items ++ vowels_parted_from script 0 glyphs.now }
+    ensures capacity { vec_capacity to.old ≤ vec_capacity to.new }
+{
+    let mut left = 0;
+    for i in 0..glyphs.len() {
+        write_with_circle(left, glyphs[i], to);
+        left = left_behind(script, left, glyphs[i], &glyphs[i + 1..]);
+    }
+}
+
+// Writes a glyph, with a circle before it where it is the last of a pair or triple, to a list that
+// has room for it.
+#[inline]
+fn write_with_circle(left: usize, glyph: hb_glyph_info_t, to: &mut Vec<hb_glyph_info_t>)
+    requires room { length to.old.items + length (circle_before_last left glyph) + 1
+        ≤ vec_capacity to.old }
+    ensures text { to.new.items ≡ to.old.items ++ (circle_before_last left glyph ++ glyph ∷ []) }
+    ensures capacity { vec_capacity to.old ≤ vec_capacity to.new }
+{
+    if left == 1 {
+        put(vowel_circle(glyph), to);
+    }
+    put(glyph, to);
+}
+
+// Adds a glyph to a list that has room for it.
+#[inline]
+fn put(glyph: hb_glyph_info_t, to: &mut Vec<hb_glyph_info_t>)
+    requires { length to.old.items < vec_capacity to.old }
+    ensures text { to.new.items ≡ to.old.items ++ glyph ∷ [] }
+    ensures capacity { vec_capacity to.old ≤ vec_capacity to.new }
+{
+    to.push(glyph).unwrap();
+}
+
+// The circle before a vowel: a copy of it, which begins a grapheme.
+#[inline]
+fn vowel_circle(glyph: hb_glyph_info_t) -> hb_glyph_info_t
+    ensures { result ≡ vowel_circle glyph }
+{
+    hb_glyph_info_t {
+        glyph_id: DOTTED_CIRCLE,
+        marks: GlyphMarks(glyph.marks.0 & (255 - 16)),
+        ..glyph
+    }
+}
+
+// How many glyphs behind this one are left of a pair or triple, if so many were left of one with it.
+#[inline]
+fn left_behind(
+    script: VowelScript,
+    left: usize,
+    glyph: hb_glyph_info_t,
+    behind: &[hb_glyph_info_t],
+) -> usize
+    ensures { result ≡ left_behind script left glyph behind.now }
+{
+    if left == 0 {
+        pair_behind(script, glyph.glyph_id, behind)
+    } else {
+        left - 1
+    }
+}
+
+// How many glyphs behind this character are of a pair or triple that it opens.
+#[inline]
+fn pair_behind(script: VowelScript, a: u32, behind: &[hb_glyph_info_t]) -> usize
+    ensures { result ≡ pair_behind script a behind.now }
+{
+    let Some((b, behind)) = behind.split_first() else {
+        return 0;
+    };
+    if is_parted_pair(script, a, b.glyph_id) {
+        1
+    } else {
+        triple_behind(script, a, b.glyph_id, behind)
+    }
+}
+
+#[inline]
+fn triple_behind(script: VowelScript, a: u32, b: u32, behind: &[hb_glyph_info_t]) -> usize
+    ensures { result ≡ triple_behind script a b behind.now }
+{
+    let Some((c, _)) = behind.split_first() else {
+        return 0;
+    };
+    if is_parted_triple(script, a, b, c.glyph_id) {
+        2
+    } else {
+        0
+    }
+}
+
+// Whether Devanagari's RA, virama and I stand there, which look like II.
+#[inline]
+fn is_parted_triple(script: VowelScript, a: u32, b: u32, c: u32) -> bool
+    ensures { result ≡ is_parted_triple script a b c }
+{
+    match script {
+        VowelScript::Devanagari => a == 0x0930 && b == 0x094D && c == 0x0907,
+        _ => false,
+    }
+}
+
+// Whether two characters are a pair of the script's.
+#[inline]
+fn is_parted_pair(script: VowelScript, a: u32, b: u32) -> bool
+    ensures { result ≡ is_parted_pair script a b }
+{
+    match script {
+        VowelScript::Devanagari => is_devanagari_pair(a, b),
+        VowelScript::Bengali => is_bengali_pair(a, b),
+        VowelScript::Gurmukhi => is_gurmukhi_pair(a, b),
+        VowelScript::Gujarati => is_gujarati_pair(a, b),
+        VowelScript::Oriya => is_oriya_pair(a, b),
+        VowelScript::Tamil => is_tamil_pair(a, b),
+        VowelScript::Telugu => is_telugu_pair(a, b),
+        VowelScript::Kannada => is_kannada_pair(a, b),
+        VowelScript::Malayalam => is_malayalam_pair(a, b),
+        VowelScript::Sinhala => is_sinhala_pair(a, b),
+        VowelScript::Brahmi => is_brahmi_pair(a, b),
+        VowelScript::Khojki => is_khojki_pair(a, b),
+        VowelScript::Khudawadi => is_khudawadi_pair(a, b),
+        VowelScript::Tirhuta => is_tirhuta_pair(a, b),
+        VowelScript::Modi => is_modi_pair(a, b),
+        VowelScript::Takri => is_takri_pair(a, b),
+    }
+}

@@ -1,0 +1,17 @@
+pub mod Re
+pub mod Grammar
+pub mod Passing
+pub mod Cuts
+pub mod Written
+pub mod Indic
+pub mod Khmer
+pub mod Myanmar
+pub mod Universal
+pub mod Machine
+pub mod Turning
+pub mod Joined
+pub mod Watch
+pub mod IndicMachine
+pub mod KhmerMachine
+pub mod MyanmarMachine
+pub mod UniversalMachine

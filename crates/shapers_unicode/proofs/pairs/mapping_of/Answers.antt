@@ -1,0 +1,17 @@
+use Rattle.std.proofs.Common.{arith, lit<, ◌∙◌, sym, ap, subst}
+use Rattle.ucd_table.specs.Groups.{HasGroup, group_at}
+use Rattle.shapers_unicode.specs.declared.tables.mapping.TheConstants.{MAPPING_OFFSETS, MAPPING_CHARS}
+use Rattle.shapers_unicode.proofs.MappingTable.{IsTable-MAPPING, groups-MAPPING}
+use Rattle.shapers_unicode.proofs.pairs.mapping_of.Goals as goal
+
+pub number_of-number-requires : goal.number_of-number-requires
+number_of-number-requires c = (lit< tt, IsTable-MAPPING)
+
+pub string_of-requires : goal.string_of-requires
+string_of-requires c =
+    subst (HasGroup MAPPING_OFFSETS MAPPING_CHARS) (sym c.number_of-number.ensures) (groups-MAPPING.has c.args.c (omega arith))
+
+pub returns : goal.returns
+returns c =
+    c.string_of.ensures ∙ ap (group_at MAPPING_OFFSETS MAPPING_CHARS) c.number_of-number.ensures
+    ∙ groups-MAPPING.gives c.args.c (omega arith)

@@ -1,0 +1,191 @@
+//! Canonical decompositions and compositions, and mirrored characters.
+ghost use Rattle.std.specs.Prelude.{◌≡◌, ◌<◌, ◌&&◌, true, Some};
+ghost use Rattle.shapers_hangul.specs.Hangul.{combines_l, combines_t, combines_v, is_lv, is_s, with_t, with_v};
+ghost use Rattle.shapers_unicode.specs.Pairs.{as_pair, canonical_mapping, composed, compositions, decomposed, first_or_none, hangul_parts, mirrored, mirrored_string, primary_composite};
+
+use crate::table::{number_of, string_of};
+use crate::tables::composition::{
+    COMPOSITION_BLOCKS, COMPOSITION_CHARS, COMPOSITION_INDEX, COMPOSITION_OFFSETS, COMPOSITION_TAIL,
+};
+use crate::tables::mapping::{
+    MAPPING_BLOCKS, MAPPING_CHARS, MAPPING_INDEX, MAPPING_OFFSETS, MAPPING_TAIL,
+};
+use crate::tables::mirrored::{
+    MIRRORED_BLOCKS, MIRRORED_CHARS, MIRRORED_INDEX, MIRRORED_OFFSETS, MIRRORED_TAIL,
+};
+
+// Hangul's first syllable, the first jamo of each kind (for T, the place before), and how many
+// syllables there are for an L, and for an LV.
+const S_BASE: u32 = 0xAC00;
+
+const L_BASE: u32 = 0x1100;
+
+const V_BASE: u32 = 0x1161;
+
+const T_BASE: u32 = 0x11A7;
+
+const N_COUNT: u32 = 588;
+
+const T_COUNT: u32 = 28;
+
+/// What a character decomposes to in one step by Unicode's canonical decomposition. A character that
+/// decomposes to one other has U+0000 beside it.
+#[tactic(auto, unfolding(crate::specs::Pairs::decomposed))]
+pub fn decompose(ab: char) -> Option<(char, char)>
+    ensures { result ≡ decomposed ab }
+{
+    if is_syllable(ab as u32) {
+        return syllable_parts(ab as u32);
+    }
+    pair_of(mapping_of(ab))
+}
+
+/// The character that two characters compose to by Unicode's canonical composition.
+#[tactic(auto, unfolding(crate::specs::Pairs::composed))]
+pub fn compose(a: char, b: char) -> Option<char>
+    ensures { result ≡ composed a b }
+{
+    if are_l_and_v(a as u32, b as u32) {
+        return compose_l_and_v(a as u32, b as u32);
+    }
+    if are_lv_and_t(a as u32, b as u32) {
+        return compose_lv_and_t(a as u32, b as u32);
+    }
+    composite(a, b)
+}
+
+/// The mirrored character of a character: what stands for it in text from right to left.
+#[tactic(auto, unfolding(crate::specs::Pairs::mirrored))]
+pub fn mirrored(c: char) -> Option<char>
+    ensures { result ≡ mirrored c }
+{
+    first_or_none(mirrored_string_of(c))
+}
+
+/// Whether it is a syllable of Hangul.
+fn is_syllable(c: u32) -> bool
+    ensures { result ≡ is_s c }
+{
+    matches!(c, 0xAC00..=0xD7A3)
+}
+
+/// A syllable of Hangul in one step: L and V, or LV and T.
+fn syllable_parts(s: u32) -> Option<(char, char)>
+    requires { is_s s ≡ true }
+    ensures { result ≡ Some (hangul_parts s) }
+{
+    let place = s - S_BASE;
+    if place % T_COUNT == 0 {
+        pair(L_BASE + place / N_COUNT, V_BASE + place % N_COUNT / T_COUNT)
+    } else {
+        pair(s - place % T_COUNT, T_BASE + place % T_COUNT)
+    }
+}
+
+/// Two characters below the surrogates.
+fn pair(a: u32, b: u32) -> Option<(char, char)>
+    requires first { a < 0xD800 }
+    requires second { b < 0xD800 }
+    ensures { result ≡ Some (a, b) }
+{
+    Some((char::from_u32(a)?, char::from_u32(b)?))
+}
+
+/// Whether they are a leading and a vowel jamo that combine.
+fn are_l_and_v(a: u32, b: u32) -> bool
+    ensures { result ≡ (combines_l a && combines_v b) }
+{
+    matches!(a, 0x1100..=0x1112) && matches!(b, 0x1161..=0x1175)
+}
+
+/// Their syllable.
+fn compose_l_and_v(l: u32, v: u32) -> Option<char>
+    requires { (combines_l l && combines_v v) ≡ true }
+    ensures { result ≡ Some (with_v l v) }
+{
+    char::from_u32(S_BASE + (l - L_BASE) * N_COUNT + (v - V_BASE) * T_COUNT)
+}
+
+/// Whether they are a syllable without a trailing jamo, and that.
+fn are_lv_and_t(a: u32, b: u32) -> bool
+    ensures { result ≡ (is_lv a && combines_t b) }
+{
+    is_syllable(a) && (a - S_BASE) % T_COUNT == 0 && matches!(b, 0x11A8..=0x11C2)
+}
+
+/// Their syllable.
+fn compose_lv_and_t(lv: u32, t: u32) -> Option<char>
+    requires { (is_lv lv && combines_t t) ≡ true }
+    ensures { result ≡ Some (with_t lv t) }
+{
+    char::from_u32(lv + (t - T_BASE))
+}
+
+/// A mapping of one or two characters as a pair.
+#[tactic(auto, using(crate::proofs::PairLemmas::as_pair_one, crate::proofs::PairLemmas::as_pair_two, crate::proofs::PairLemmas::as_pair_none))]
+fn pair_of(mapping: &[char]) -> Option<(char, char)>
+    ensures { result ≡ as_pair mapping.now }
+{
+    if mapping.len() == 1 {
+        return Some((mapping[0], '\0'));
+    }
+    if mapping.len() == 2 {
+        return Some((mapping[0], mapping[1]));
+    }
+    None
+}
+
+/// The first character, if there is one.
+#[tactic(auto, using(crate::proofs::PairLemmas::first_or_none_none, crate::proofs::PairLemmas::first_or_none_some))]
+fn first_or_none(string: &[char]) -> Option<char>
+    ensures { result ≡ first_or_none string.now }
+{
+    if string.len() == 0 {
+        return None;
+    }
+    Some(string[0])
+}
+
+/// The primary composite of two characters.
+fn composite(a: char, b: char) -> Option<char>
+    ensures { result ≡ primary_composite a b }
+{
+    let pairs = compositions_of(a);
+    let mut i = 0;
+    while i + 1 < pairs.len() {
+        if pairs[i] == b {
+            return Some(pairs[i + 1]);
+        }
+        i += 2;
+    }
+    None
+}
+
+/// The canonical mapping of a character.
+fn mapping_of(c: char) -> &'static [char]
+    ensures { result.now ≡ canonical_mapping c }
+{
+    let number = number_of(&MAPPING_INDEX, &MAPPING_BLOCKS, &MAPPING_TAIL, c as u32);
+    string_of(&MAPPING_OFFSETS, &MAPPING_CHARS, number)
+}
+
+/// What follows a character and composes with it, each with the composite.
+fn compositions_of(c: char) -> &'static [char]
+    ensures { result.now ≡ compositions c }
+{
+    let number = number_of(
+        &COMPOSITION_INDEX,
+        &COMPOSITION_BLOCKS,
+        &COMPOSITION_TAIL,
+        c as u32,
+    );
+    string_of(&COMPOSITION_OFFSETS, &COMPOSITION_CHARS, number)
+}
+
+/// What a character is mirrored to: one character or none.
+fn mirrored_string_of(c: char) -> &'static [char]
+    ensures { result.now ≡ mirrored_string c }
+{
+    let number = number_of(&MIRRORED_INDEX, &MIRRORED_BLOCKS, &MIRRORED_TAIL, c as u32);
+    string_of(&MIRRORED_OFFSETS, &MIRRORED_CHARS, number)
+}

@@ -1,0 +1,82 @@
+//! Properties of characters.
+ghost use Rattle.std.specs.Prelude.{◌≡◌};
+ghost use Rattle.shapers_unicode.specs.Classes.{modified_class};
+ghost use Rattle.shapers_unicode.specs.General.{general_category};
+ghost use Rattle.shapers_unicode.specs.Ignorable.{default_ignorable};
+ghost use Rattle.shapers_unicode.specs.Pictographic.{extended_pictographic};
+ghost use Rattle.shapers_unicode.specs.Universal.{universal_category};
+ghost use Rattle.shapers_unicode.specs.Indic.{indic_categories};
+ghost use Rattle.shapers_unicode.specs.Joining.{joining_type};
+
+use crate::table::value_of;
+use crate::tables::class::{CLASS_BLOCKS, CLASS_INDEX, CLASS_TAIL};
+use crate::tables::general::{GENERAL_BLOCKS, GENERAL_INDEX, GENERAL_TAIL};
+use crate::tables::ignorable::{IGNORABLE_BLOCKS, IGNORABLE_INDEX, IGNORABLE_TAIL};
+use crate::tables::indic::{INDIC_BLOCKS, INDIC_INDEX, INDIC_PAIRS, INDIC_TAIL};
+use crate::tables::joining::{JOINING_BLOCKS, JOINING_INDEX, JOINING_TAIL};
+use crate::tables::pictographic::{PICTOGRAPHIC_BLOCKS, PICTOGRAPHIC_INDEX, PICTOGRAPHIC_TAIL};
+use crate::tables::universal::{UNIVERSAL_BLOCKS, UNIVERSAL_INDEX, UNIVERSAL_TAIL};
+use shapers_base::plan::{Category, Position, hb_arabic_joining_type_t};
+use shapers_buffer::buffer::hb_unicode_general_category_t;
+
+/// The general category of a character.
+pub fn general_category(c: char) -> hb_unicode_general_category_t
+    ensures { result ≡ general_category c }
+{
+    let number = value_of(&GENERAL_INDEX, &GENERAL_BLOCKS, &GENERAL_TAIL, c as u32);
+    hb_unicode_general_category_t::from_number(number).unwrap_or(hb_unicode_general_category_t::Cn)
+}
+
+/// How a character joins its neighbours.
+pub fn joining_type(c: char) -> hb_arabic_joining_type_t
+    ensures { result ≡ joining_type c }
+{
+    let number = value_of(&JOINING_INDEX, &JOINING_BLOCKS, &JOINING_TAIL, c as u32);
+    hb_arabic_joining_type_t::from_number(number).unwrap_or(hb_arabic_joining_type_t::U)
+}
+
+/// The class by which a mark is ordered: its canonical combining class as HarfBuzz changes it.
+pub fn modified_combining_class(c: char) -> u8
+    ensures { result ≡ modified_class c }
+{
+    value_of(&CLASS_INDEX, &CLASS_BLOCKS, &CLASS_TAIL, c as u32)
+}
+
+/// Whether a font need not draw a character: Unicode's default ignorable characters but Hangul's fillers
+/// and Duployan's format controls.
+pub fn is_default_ignorable(c: char) -> bool
+    ensures { result ≡ default_ignorable c }
+{
+    value_of(
+        &IGNORABLE_INDEX,
+        &IGNORABLE_BLOCKS,
+        &IGNORABLE_TAIL,
+        c as u32,
+    ) == 1
+}
+
+/// Whether a character is a pictograph that may be part of an emoji sequence (`Extended_Pictographic`).
+pub fn is_extended_pictographic(c: char) -> bool
+    ensures { result ≡ extended_pictographic c }
+{
+    value_of(
+        &PICTOGRAPHIC_INDEX,
+        &PICTOGRAPHIC_BLOCKS,
+        &PICTOGRAPHIC_TAIL,
+        c as u32,
+    ) == 1
+}
+
+/// The category of a character in the universal shaper.
+pub fn universal_category(c: u32) -> Category
+    ensures { result ≡ universal_category c }
+{
+    value_of(&UNIVERSAL_INDEX, &UNIVERSAL_BLOCKS, &UNIVERSAL_TAIL, c)
+}
+
+/// The category and the position of a character in the Indic, Khmer and Myanmar shapers.
+pub fn indic_categories(c: u32) -> (Category, Position)
+    ensures { result ≡ indic_categories c }
+{
+    INDIC_PAIRS[value_of(&INDIC_INDEX, &INDIC_BLOCKS, &INDIC_TAIL, c) as usize]
+}

@@ -1,0 +1,309 @@
+//! The lines of a word: what a script needs around a text so that the hooks of its shaper run.
+
+use sengadlit::alloc::Global;
+use sengadlit::font::FeaturesOnly;
+use sengadlit::map::F_GLOBAL;
+use sengadlit::unicode::{UnicodeTables, decompose, general_category};
+use sengadlit::{Direction, Pause, Plan, Planner, Request, Script, Shaper, Tag};
+
+/// The scripts by their own blocks of Unicode: the first and the last character, and the code.
+const SCRIPTS: [(char, char, [u8; 4]); 44] = [
+    ('\u{0591}', '\u{05F4}', *b"Hebr"),
+    ('\u{0600}', '\u{06FF}', *b"Arab"),
+    ('\u{0700}', '\u{074F}', *b"Syrc"),
+    ('\u{07C0}', '\u{07FF}', *b"Nkoo"),
+    ('\u{0840}', '\u{085E}', *b"Mand"),
+    ('\u{0900}', '\u{097F}', *b"Deva"),
+    ('\u{0980}', '\u{09FE}', *b"Beng"),
+    ('\u{0A01}', '\u{0A76}', *b"Guru"),
+    ('\u{0A81}', '\u{0AFF}', *b"Gujr"),
+    ('\u{0B01}', '\u{0B77}', *b"Orya"),
+    ('\u{0B82}', '\u{0BFA}', *b"Taml"),
+    ('\u{0C00}', '\u{0C7F}', *b"Telu"),
+    ('\u{0C80}', '\u{0CF3}', *b"Knda"),
+    ('\u{0D00}', '\u{0D7F}', *b"Mlym"),
+    ('\u{0D81}', '\u{0DF4}', *b"Sinh"),
+    ('\u{0E01}', '\u{0E5B}', *b"Thai"),
+    ('\u{0E81}', '\u{0EDF}', *b"Laoo"),
+    ('\u{0F00}', '\u{0FDA}', *b"Tibt"),
+    ('\u{1000}', '\u{109F}', *b"Mymr"),
+    ('\u{1100}', '\u{11FF}', *b"Hang"),
+    ('\u{1700}', '\u{171F}', *b"Tglg"),
+    ('\u{1780}', '\u{17F9}', *b"Khmr"),
+    ('\u{1800}', '\u{18AA}', *b"Mong"),
+    ('\u{1900}', '\u{194F}', *b"Limb"),
+    ('\u{1950}', '\u{1974}', *b"Tale"),
+    ('\u{1A00}', '\u{1A1F}', *b"Bugi"),
+    ('\u{1A20}', '\u{1AAD}', *b"Lana"),
+    ('\u{1B00}', '\u{1B7F}', *b"Bali"),
+    ('\u{1B80}', '\u{1BBF}', *b"Sund"),
+    ('\u{1BC0}', '\u{1BFF}', *b"Batk"),
+    ('\u{1C00}', '\u{1C4F}', *b"Lepc"),
+    ('\u{2D30}', '\u{2D7F}', *b"Tfng"),
+    ('\u{A800}', '\u{A82C}', *b"Sylo"),
+    ('\u{A880}', '\u{A8D9}', *b"Saur"),
+    ('\u{A900}', '\u{A92F}', *b"Kali"),
+    ('\u{A930}', '\u{A95F}', *b"Rjng"),
+    ('\u{A980}', '\u{A9DF}', *b"Java"),
+    ('\u{AA00}', '\u{AA5F}', *b"Cham"),
+    ('\u{AA80}', '\u{AADF}', *b"Tavt"),
+    ('\u{ABC0}', '\u{ABF9}', *b"Mtei"),
+    ('\u{AC00}', '\u{D7FB}', *b"Hang"),
+    ('\u{11100}', '\u{11147}', *b"Cakm"),
+    ('\u{11400}', '\u{11461}', *b"Newa"),
+    ('\u{1E900}', '\u{1E95F}', *b"Adlm"),
+];
+
+/// The scripts of these whose text runs from right to left.
+const FROM_RIGHT: [&[u8; 4]; 6] = [b"Hebr", b"Arab", b"Syrc", b"Nkoo", b"Mand", b"Adlm"];
+
+/// The lines that run the hooks of a word's script over it, in the order of a pipeline: what comes
+/// before normalization, masks, and the pauses that set syllables up and reorder them. The features
+/// that hooks turn on have masks; vowel signs of several parts are taken apart, as normalization
+/// does. The script is that of the first character that is of one with a shaper; without such a
+/// character there are no lines.
+///
+/// ```
+/// let lines = hbhook::lines_of_word("\u{0E19}\u{0E33}").unwrap();
+/// assert_eq!(
+///     lines,
+///     "set tables unicode\nset shaper thai\nset script Thai\ntext \u{0E19}\u{0E33}\nrun preprocess\n"
+/// );
+/// assert!(hbhook::lines_of_word("word").is_none());
+/// ```
+#[must_use]
+pub fn lines_of_word(word: &str) -> Option<String> {
+    let code = word.chars().find_map(script_of)?;
+    let script = Script(code);
+    let shaper = Shaper::for_script(script, Direction::LeftToRight, None)?;
+    let mut lines = vec!["set tables unicode".into()];
+    lines.push(format!("set shaper {}", name_of(shaper)));
+    lines.push(format!("set script {}", String::from_utf8_lossy(&code)));
+    if FROM_RIGHT.contains(&&code) {
+        lines.push("set direction rtl".into());
+    }
+    let planned = Planned::of(shaper, script)?;
+    let masks = planned.features.iter().zip(4..32);
+    lines.extend(masks.map(|(tag, bit)| {
+        let tag = String::from_utf8_lossy(&tag.0);
+        format!("mask {tag} {:x}", 1u32 << bit)
+    }));
+    lines.push(line_of_text(&with_parts(shaper, script, word)));
+    if matches!(shaper, Shaper::Thai | Shaper::Hangul) {
+        lines.push("run preprocess".into());
+    }
+    if shaper.has_hook(sengadlit::shaper::Hook::SetupMasks) {
+        lines.push("run masks".into());
+    }
+    if !planned.pauses.is_empty() {
+        lines.push("spans found".into());
+    }
+    lines.extend(
+        planned
+            .pauses
+            .iter()
+            .map(|name| format!("run pause {name}")),
+    );
+    Some(lines.join("\n") + "\n")
+}
+
+fn script_of(character: char) -> Option<[u8; 4]> {
+    let row = SCRIPTS
+        .iter()
+        .find(|row| (row.0..=row.1).contains(&character))?;
+    Some(row.2)
+}
+
+// What the program calls a shaper.
+fn name_of(shaper: Shaper) -> &'static str {
+    match shaper {
+        Shaper::Arabic => "arabic",
+        Shaper::Hangul => "hangul",
+        Shaper::Hebrew => "hebrew",
+        Shaper::Indic => "indic",
+        Shaper::Khmer => "khmer",
+        Shaper::Myanmar => "myanmar",
+        Shaper::MyanmarZawgyi => "zawgyi",
+        Shaper::Thai => "thai",
+        Shaper::Universal => "universal",
+    }
+}
+
+// What a shaper requests for a script: the features that its hooks turn on glyph by glyph, and the
+// pauses that do something without lookups.
+struct Planned {
+    features: Vec<Tag>,
+    pauses: Vec<&'static str>,
+}
+
+impl Planned {
+    fn of(shaper: Shaper, script: Script) -> Option<Self> {
+        let mut planner = Planner::new(Global, Some(script));
+        shaper
+            .collect_features(&FeaturesOnly(|_: Tag| true), &mut planner)
+            .ok()?;
+        let mut planned = Planned {
+            features: Vec::new(),
+            pauses: Vec::new(),
+        };
+        for request in planner.requests() {
+            match *request {
+                Request::Feature(tag, flags, _) if flags & F_GLOBAL == 0 => {
+                    planned.features.push(tag)
+                }
+                Request::Pause(Some(pause)) => planned.pauses.extend(name_of_pause(pause)),
+                Request::Feature(..) | Request::Pause(None) => {}
+            }
+        }
+        Some(planned)
+    }
+}
+
+fn name_of_pause(pause: Pause) -> Option<&'static str> {
+    match pause {
+        Pause::SetupSyllablesIndic => Some("setup_syllables_indic"),
+        Pause::SetupSyllablesKhmer => Some("setup_syllables_khmer"),
+        Pause::SetupSyllablesMyanmar => Some("setup_syllables_myanmar"),
+        Pause::SetupSyllablesUse => Some("setup_syllables_use"),
+        Pause::InitialReordering => Some("initial_reordering"),
+        Pause::FinalReordering => Some("final_reordering"),
+        Pause::ReorderKhmer => Some("reorder_khmer"),
+        Pause::ReorderMyanmar => Some("reorder_myanmar"),
+        Pause::ReorderUse => Some("reorder_use"),
+        Pause::RecordStch
+        | Pause::RecordRphf
+        | Pause::RecordPref
+        | Pause::SyllabicClearVar
+        | Pause::ClearSubstitutionFlags
+        | Pause::ArabicFallbackShape => None,
+    }
+}
+
+// The characters of a word, vowel signs of several parts taken apart, where the shaper has syllables.
+fn with_parts(shaper: Shaper, script: Script, word: &str) -> String {
+    let Ok(plan) = Plan::builder().script(script).build_for(shaper) else {
+        return word.into();
+    };
+    let has_syllables = matches!(
+        shaper,
+        Shaper::Indic | Shaper::Khmer | Shaper::Myanmar | Shaper::Universal
+    );
+    let mut parts = String::new();
+    for character in word.chars() {
+        if has_syllables && general_category(character).is_mark() {
+            push_parts(shaper, &plan, character, &mut parts);
+        } else {
+            parts.push(character);
+        }
+    }
+    parts
+}
+
+// Adds a character's parts, of which only the first may have parts again.
+fn push_parts(shaper: Shaper, plan: &Plan, character: char, parts: &mut String) {
+    let own = shaper.decompose(plan, &UnicodeTables, character);
+    match own.unwrap_or_else(|| decompose(character)) {
+        Some((first, second)) => {
+            push_parts(shaper, plan, first, parts);
+            parts.push(second);
+        }
+        None => parts.push(character),
+    }
+}
+
+// The line of a text: characters of ASCII by their numbers, and others as they are.
+fn line_of_text(text: &str) -> String {
+    let mut line = String::from("text ");
+    for character in text.chars() {
+        if character.is_ascii() || character.is_whitespace() || character.is_control() {
+            line = format!("{} {:02X} ", line.trim_end(), u32::from(character));
+        } else {
+            line.push(character);
+        }
+    }
+    line.trim_end().into()
+}
+
+#[cfg(test)]
+mod tests {
+    use super::{SCRIPTS, lines_of_word};
+    use std::fs;
+    use std::path::Path;
+
+    // Whether the letters of a code come in this order in the script's name.
+    fn has_code(name: &str, code: [u8; 4]) -> bool {
+        let mut letters = name.bytes();
+        let is_in_name = code
+            .iter()
+            .all(|letter| letters.any(|other| other.eq_ignore_ascii_case(letter)));
+        is_in_name
+            || [("Tai_Tham", *b"Lana"), ("Lao", *b"Laoo"), ("Nko", *b"Nkoo")]
+                .contains(&(name, code))
+    }
+
+    #[test]
+    fn each_block_is_of_its_script() {
+        let path = Path::new(env!("CARGO_MANIFEST_DIR")).join("../../unicode/data/ucd/Scripts.txt");
+        let data = fs::read_to_string(path).unwrap();
+        let rows: Vec<(u32, u32, &str)> = data
+            .lines()
+            .filter_map(|line| line.split('#').next()?.split_once(';'))
+            .map(|(range, name)| {
+                let (first, last) = range
+                    .trim()
+                    .split_once("..")
+                    .unwrap_or((range.trim(), range.trim()));
+                let number = |text| u32::from_str_radix(text, 16).unwrap();
+                (number(first), number(last), name.trim())
+            })
+            .collect();
+        for (first, last, code) in SCRIPTS {
+            for end in [first, last] {
+                let found = rows
+                    .iter()
+                    .find(|row| (row.0..=row.1).contains(&u32::from(end)));
+                let name = found.map(|row| row.2);
+                assert!(
+                    name.is_some_and(|name| has_code(name, code)),
+                    "{end:?} {name:?} {code:?}"
+                );
+            }
+        }
+    }
+
+    #[test]
+    fn a_vowel_of_two_parts_is_taken_apart() {
+        let lines = lines_of_word("\u{0B95}\u{0BCA}").unwrap();
+        assert!(
+            lines.contains("\ntext \u{0B95}\u{0BC6}\u{0BBE}\n"),
+            "{lines}"
+        );
+        let lines = lines_of_word("\u{1780}\u{17C4}").unwrap();
+        assert!(
+            lines.contains("\ntext \u{1780}\u{17C1}\u{17C4}\n"),
+            "{lines}"
+        );
+        let lines = lines_of_word("\u{0DDD}").unwrap();
+        assert!(
+            lines.contains("\ntext \u{0DD9}\u{0DCF}\u{0DCA}\n"),
+            "{lines}"
+        );
+    }
+
+    #[test]
+    fn spaces_and_ascii_are_numbers() {
+        let lines = lines_of_word("1 \u{0628}\u{0627}\n\u{0628}").unwrap();
+        assert!(
+            lines.contains("\ntext 31 20 \u{0628}\u{0627} 0A \u{0628}\n"),
+            "{lines}"
+        );
+        assert!(lines.contains("\nset direction rtl\n"), "{lines}");
+    }
+
+    #[test]
+    fn other_texts_have_no_lines() {
+        for text in ["", "word", "\u{65E5}", " "] {
+            assert_eq!(lines_of_word(text), None, "{text}");
+        }
+    }
+}

@@ -1,0 +1,79 @@
+// Generated from crates/shapers_normalize/src/normalizing.rt by rust/erase; edit the source.
+
+//! Normalization of a text for a shaper.
+
+use crate::generated::rustybuzz_shapers::shaper::Shaper;
+use crate::generated::shapers_base::buffer::{Buffer, ShaperError};
+use crate::generated::shapers_base::font::GlyphId;
+use crate::generated::shapers_base::plan::Plan;
+use crate::generated::shapers_normal::ot_shape_normalize::{Rounds, normalize};
+use crate::generated::shapers_normalize::context::ShaperContext;
+use crate::generated::shapers_normalize::tables::{NormalizeFont, NormalizeTables};
+
+/// The caller's settings.
+#[derive(Clone, Copy, Debug, PartialEq, Eq, Default)]
+pub struct NormalizeSettings {
+    /// When marks are ordered and composed.
+    pub rounds: Rounds,
+    /// The glyph for what isn't drawn, which stands for spaces that the font lacks if it has no
+    /// common space.
+    pub invisible_glyph: Option<GlyphId>,
+    /// Whether the caller has a glyph for selectors that select nothing: they aren't ignorable
+    /// then.
+    pub draws_selectors: bool,
+}
+
+/// Normalizes a text without positions, whose glyphs are characters with their properties, for a
+/// shaper with its plan, a font and Unicode's tables: by the shaper's own `decompose`, `compose`
+/// and `reorder_marks`, and where it lacks one by the tables. `var` is then the number of each
+/// character's glyph. None stands for the shaper of a script that needs none.
+///
+/// # Errors
+///
+/// `TooLong` where the text taken apart is longer than the buffer may be, and `Memory`; nothing
+/// has changed then. (HarfBuzz's normalizer; Unicode Standard Annex 15.)
+///
+/// <details><summary>Contract</summary>
+///
+/// # Contract
+///
+/// ```text
+/// requires { buffer.old.positions ≡ [] }
+/// ensures ok { let context = shaper_context shaper plan.now (F.font font.now) (F.variants font.now)
+///     (T.tables tables.now) (T.texts tables.now) settings.now.invisible_glyph
+///     settings.now.draws_selectors in
+///     let text =
+///     normalized context settings.now.rounds buffer.old.level buffer.old.glyphs in
+///     OnOk result (buffer.new ≡ record buffer.old { glyphs = text }) }
+/// ensures length { let context = shaper_context shaper plan.now (F.font font.now) (F.variants font.now)
+///     (T.tables tables.now) (T.texts tables.now) settings.now.invisible_glyph
+///     settings.now.draws_selectors in
+///     RefusesLength buffer.old.max_len
+///     (length (first_round context buffer.old.level buffer.old.glyphs)) result }
+/// ensures err { OnErr result (buffer.new ≡ buffer.old) }
+/// ```
+///
+/// - `RefusesLength`: `crates/shapers_buffer/specs/Refusals.antt`
+/// - `first_round`: `crates/shapers_normal/specs/Decomposition.antt`
+/// - `normalized`: `crates/shapers_normal/specs/Normalization.antt`
+/// - `shaper_context`: `crates/shapers_normalize/specs/ByShaper.antt`
+///
+/// </details>
+pub fn ot_shape_normalize<F: NormalizeFont, T: NormalizeTables>(
+    shaper: Option<Shaper>,
+    plan: &Plan,
+    font: &F,
+    tables: &T,
+    settings: &NormalizeSettings,
+    buffer: &mut Buffer,
+) -> Result<(), ShaperError> {
+    let context = ShaperContext {
+        shaper,
+        plan,
+        font,
+        tables,
+        invisible_glyph: settings.invisible_glyph,
+        draws_selectors: settings.draws_selectors,
+    };
+    normalize(&context, settings.rounds, buffer)
+}

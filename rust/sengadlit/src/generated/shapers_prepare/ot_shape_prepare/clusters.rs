@@ -1,0 +1,79 @@
+// Generated from crates/shapers_prepare/src/ot_shape_prepare/clusters.rt by rust/erase; edit the source.
+
+//! Clusters by graphemes.
+
+use crate::generated::shapers_base::buffer::{
+    Buffer, BufferClusterLevel, ClusterRun, GlyphInfo, GlyphWalk, merge_run_in, unsafe_to_break_in,
+    write_run_in,
+};
+
+/// Brings each grapheme into one cluster where that is the level, and else flags it unsafe to break
+/// inside.
+///
+/// <details><summary>Contract</summary>
+///
+/// # Contract
+///
+/// ```text
+/// ensures { let text = clusters_formed buffer.old.level buffer.old.glyphs in
+///     buffer.new ≡ record buffer.old { glyphs = text } }
+/// ```
+///
+/// - `clusters_formed`: `crates/shapers_prepare/specs/Graphemes.antt`
+///
+/// </details>
+pub fn form_clusters(buffer: &mut Buffer) {
+    let level = buffer.cluster_level();
+    buffer.walk(&mut Forming { level });
+}
+
+// The walk over the graphemes of a text.
+struct Forming {
+    level: BufferClusterLevel,
+}
+
+impl GlyphWalk for Forming {
+    #[inline]
+    fn walk(&mut self, glyphs: &mut [GlyphInfo]) {
+        match self.level {
+            BufferClusterLevel::MonotoneGraphemes => merge_graphemes_in(self.level, glyphs),
+            BufferClusterLevel::MonotoneCharacters | BufferClusterLevel::Characters => {
+                flag_graphemes_in(glyphs)
+            }
+        }
+    }
+}
+
+// Merges each grapheme. What merges have put into one cluster is written once.
+pub(super) fn merge_graphemes_in(level: BufferClusterLevel, glyphs: &mut [GlyphInfo]) {
+    if glyphs.is_empty() {
+        return;
+    }
+    let mut run = ClusterRun::NONE;
+    let mut start = 0;
+    for i in 1..glyphs.len() {
+        if !glyphs[i].marks.is_continuation() {
+            run = merge_run_in(level, glyphs, run, start, i);
+            start = i;
+        }
+    }
+    let end = glyphs.len();
+    run = merge_run_in(level, glyphs, run, start, end);
+    write_run_in(glyphs, run);
+}
+
+// Flags each grapheme unsafe to break inside.
+fn flag_graphemes_in(glyphs: &mut [GlyphInfo]) {
+    if glyphs.is_empty() {
+        return;
+    }
+    let mut start = 0;
+    for i in 1..glyphs.len() {
+        if !glyphs[i].marks.is_continuation() {
+            unsafe_to_break_in(glyphs, start, i);
+            start = i;
+        }
+    }
+    let end = glyphs.len();
+    unsafe_to_break_in(glyphs, start, end);
+}

@@ -1,0 +1,158 @@
+// Generated from crates/shapers_prepare/src/ot_shape_prepare/properties.rt by rust/erase; edit the source.
+
+//! The properties of each character, as its glyph keeps them.
+
+use super::unicode::UnicodeProperties;
+use crate::generated::shapers_base::buffer::{Buffer, GlyphInfo, GlyphMarks, GlyphWalk};
+use crate::generated::shapers_normal::ot_shape_normalize::HIDDEN;
+
+// ZWJ, which joins pictographs.
+const ZERO_WIDTH_JOINER: u32 = 0x200D;
+
+/// Sets what each glyph keeps of its character: the general category, the class of a mark, whether
+/// it need not be drawn, whether lookups see it all the same, and whether it carries on the grapheme
+/// before it. What lookups noted stays. (Unicode Standard Annex 29 as far as HarfBuzz needs it:
+/// marks, modifiers of emoji, flags of two regional indicators, pictographs behind ZWJ, half-width
+/// marks, tags.)
+///
+/// <details><summary>Contract</summary>
+///
+/// # Contract
+///
+/// ```text
+/// ensures { let text = properties_set (U.properties unicode.now) buffer.old.glyphs in
+///     buffer.new ≡ record buffer.old { glyphs = text } }
+/// ```
+///
+/// - `properties_set`: `crates/shapers_prepare/specs/GlyphProperties.antt`
+///
+/// </details>
+pub fn set_unicode_properties<U: UnicodeProperties>(unicode: &U, buffer: &mut Buffer) {
+    buffer.walk(&mut PropertyWalk { unicode });
+}
+
+// The walk that sets the properties of a text.
+struct PropertyWalk<'a, U: UnicodeProperties> {
+    unicode: &'a U,
+}
+
+impl<'a, U: UnicodeProperties> GlyphWalk for PropertyWalk<'a, U> {
+    #[inline]
+    fn walk(&mut self, glyphs: &mut [GlyphInfo]) {
+        set_properties_in(self.unicode, glyphs);
+    }
+}
+
+// What the characters before one leave open.
+#[derive(Clone, Copy)]
+pub(super) enum Open {
+    // A joiner, behind which a pictograph goes on.
+    Joiner,
+    // Half a flag, which another regional indicator completes.
+    HalfFlag,
+    // Neither.
+    Nothing,
+}
+
+// Sets the properties of a text.
+fn set_properties_in<U: UnicodeProperties>(unicode: &U, glyphs: &mut [GlyphInfo]) {
+    let mut before = Open::Nothing;
+    for glyph in glyphs.iter_mut() {
+        set_properties(unicode, before, glyph);
+        before = then_open(before, glyph.glyph_id);
+    }
+}
+
+// What is open behind a character, where this was open before it.
+#[inline]
+fn then_open(before: Open, c: u32) -> Open {
+    if c == ZERO_WIDTH_JOINER {
+        return Open::Joiner;
+    }
+    match before {
+        Open::Joiner | Open::Nothing if is_regional_indicator(c) => Open::HalfFlag,
+        _ => Open::Nothing,
+    }
+}
+
+// Sets the properties of one glyph.
+#[inline]
+pub(super) fn set_properties<U: UnicodeProperties>(
+    unicode: &U,
+    before: Open,
+    glyph: &mut GlyphInfo,
+) {
+    let c = glyph.glyph_id;
+    let general = unicode.general_category(c);
+    let is_mark = c >= 0x80 && general.is_mark();
+    let is_ignorable = c >= 0x80 && unicode.is_default_ignorable(c);
+    let continues = is_mark || goes_on_behind(unicode, before, c);
+    glyph.general_category = general;
+    glyph.modified_combining_class = kept_class(unicode, c, is_mark, is_ignorable);
+    glyph.marks = kept_marks(glyph.marks, c, is_ignorable, continues);
+}
+
+// Whether a character that is no mark carries on the grapheme before it.
+#[inline]
+fn goes_on_behind<U: UnicodeProperties>(unicode: &U, before: Open, c: u32) -> bool {
+    match before {
+        Open::Joiner => always_continues(c) || unicode.is_extended_pictographic(c),
+        Open::HalfFlag => always_continues(c) || is_regional_indicator(c),
+        Open::Nothing => always_continues(c),
+    }
+}
+
+// Whether a character carries on any grapheme: the joiner, katakana's half-width voiced marks, the
+// modifiers of an emoji's skin, tags.
+#[inline]
+fn always_continues(c: u32) -> bool {
+    matches!(c, ZERO_WIDTH_JOINER | 0xFF9E..=0xFF9F | 0x1F3FB..=0x1F3FF | 0xE0020..=0xE007F)
+}
+
+// Whether a character is half of a flag.
+#[inline]
+pub(super) fn is_regional_indicator(c: u32) -> bool {
+    matches!(c, 0x1F1E6..=0x1F1FF)
+}
+
+// The class of a mark, or which joiner a character is that need not be drawn.
+#[inline]
+fn kept_class<U: UnicodeProperties>(unicode: &U, c: u32, is_mark: bool, is_ignorable: bool) -> u8 {
+    if is_mark {
+        unicode.modified_combining_class(c)
+    } else if is_ignorable {
+        joiner_class(c)
+    } else {
+        0
+    }
+}
+
+// Which joiner a character is: 1 for ZWJ, 2 for ZWNJ.
+#[inline]
+fn joiner_class(c: u32) -> u8 {
+    match c {
+        ZERO_WIDTH_JOINER => 1,
+        0x200C => 2,
+        _ => 0,
+    }
+}
+
+// These marks with those of a character.
+#[inline]
+fn kept_marks(marks: GlyphMarks, c: u32, is_ignorable: bool, continues: bool) -> GlyphMarks {
+    let mut kept = marks;
+    kept.set_ignorable(is_ignorable);
+    kept.set_continuation(continues);
+    if is_ignorable && is_seen_by_lookups(c) {
+        GlyphMarks(kept.0 | HIDDEN)
+    } else {
+        GlyphMarks(kept.0 & (255 - HIDDEN))
+    }
+}
+
+// Whether lookups see a character that need not be drawn: Mongolian variation selectors and tags
+// choose forms, and the grapheme joiner keeps marks apart.
+#[inline]
+fn is_seen_by_lookups(c: u32) -> bool {
+    matches!(c, 0x180B..=0x180D | 0x180F | 0xE0020..=0xE007F | 0x034F)
+}

@@ -1,0 +1,117 @@
+// Generated from crates/shapers_prepare/src/ot_shape_prepare/rotation.rt by rust/erase; edit the source.
+
+//! Characters for another direction.
+
+use super::unicode::UnicodeProperties;
+use crate::generated::shapers_base::buffer::{Buffer, Direction, GlyphChange, GlyphInfo};
+use crate::generated::shapers_base::font::Font;
+
+/// What characters are rotated by: the direction that the caller wants of the text, and of the plan
+/// the mask of the feature that mirrors (`rtlm`) and whether the font has a feature for vertical
+/// forms (`vert`).
+#[derive(Clone, Copy, Debug, PartialEq, Eq)]
+pub struct CharRotation {
+    /// The direction that the caller wants.
+    pub direction: Direction,
+    /// The mask of `rtlm`.
+    pub rtlm_mask: u32,
+    /// Whether the font has `vert`.
+    pub has_vert: bool,
+}
+
+/// In text that runs backward each character becomes its mirrored one where the font has that, and
+/// else gets the mask of `rtlm`; in vertical text without `vert` its vertical form where the font
+/// has that. The properties of the characters stay. (Unicode's Bidi_Mirroring_Glyph and vertical
+/// compatibility mappings.)
+///
+/// <details><summary>Contract</summary>
+///
+/// # Contract
+///
+/// ```text
+/// ensures { let p = U.properties unicode.now in
+///     let text = map (rotated_glyph p (F.font face.now) rotation.now) buffer.old.glyphs in
+///     buffer.new ≡ record buffer.old { glyphs = text } }
+/// ```
+///
+/// - `rotated_glyph`: `crates/shapers_prepare/specs/Rotation.antt`
+///
+/// </details>
+pub fn rotate_chars<U: UnicodeProperties, F: Font>(
+    unicode: &U,
+    face: &F,
+    rotation: &CharRotation,
+    buffer: &mut Buffer,
+) {
+    let end = buffer.len();
+    let rotation = *rotation;
+    buffer.change_each(
+        0,
+        end,
+        &Rotating {
+            unicode,
+            face,
+            rotation,
+        },
+    );
+}
+
+// The change of one glyph.
+struct Rotating<'a, U: UnicodeProperties, F: Font> {
+    unicode: &'a U,
+    face: &'a F,
+    rotation: CharRotation,
+}
+
+impl<'a, U: UnicodeProperties, F: Font> GlyphChange for Rotating<'a, U, F> {
+    #[inline]
+    fn change(&self, glyph: &mut GlyphInfo) {
+        if runs_backward(self.rotation.direction) {
+            mirror(self.unicode, self.face, self.rotation.rtlm_mask, glyph);
+        }
+        if runs_vertically(self.rotation.direction) && !self.rotation.has_vert {
+            stand_upright(self.unicode, self.face, glyph);
+        }
+    }
+}
+
+// The mirrored character where the font has it, else the feature that mirrors.
+#[inline]
+fn mirror<U: UnicodeProperties, F: Font>(
+    unicode: &U,
+    face: &F,
+    rtlm_mask: u32,
+    glyph: &mut GlyphInfo,
+) {
+    match which_font_has(face, unicode.mirrored(glyph.glyph_id)) {
+        Some(c) => glyph.glyph_id = c,
+        None => glyph.mask |= rtlm_mask,
+    }
+}
+
+// The vertical form where the font has it.
+#[inline]
+fn stand_upright<U: UnicodeProperties, F: Font>(unicode: &U, face: &F, glyph: &mut GlyphInfo) {
+    if let Some(c) = which_font_has(face, unicode.vertical_form(glyph.glyph_id)) {
+        glyph.glyph_id = c;
+    }
+}
+
+// A character that the font has, if there is one.
+#[inline]
+fn which_font_has<F: Font>(face: &F, c: Option<u32>) -> Option<u32> {
+    match c {
+        Some(c) if face.has_glyph(c) => Some(c),
+        _ => None,
+    }
+}
+
+#[inline]
+fn runs_backward(direction: Direction) -> bool {
+    matches!(direction, Direction::RightToLeft | Direction::BottomToTop)
+}
+
+#[inline]
+fn runs_vertically(direction: Direction) -> bool {
+    matches!(direction, Direction::TopToBottom | Direction::BottomToTop)
+}

@@ -1,0 +1,135 @@
+// Generated from crates/shapers_prepare/src/ot_shape_prepare/unicode.rt by rust/erase; edit the source.
+
+//! What preparing a text reads of Unicode.
+
+use crate::generated::shapers_base::buffer::GeneralCategory;
+use crate::generated::shapers_unicode::UnicodeTables;
+
+/// Properties of characters, by their numbers. Each is a function: the same call has the same
+/// result.
+pub trait UnicodeProperties {
+    /// The general category of a character.
+    ///
+    /// <details><summary>Contract</summary>
+    ///
+    /// # Contract
+    ///
+    /// ```text
+    /// ensures { result ≡ (properties self.now).general c }
+    /// ```
+    ///
+    /// </details>
+    fn general_category(&self, c: u32) -> GeneralCategory;
+
+    /// The combining class of a mark, as the shapers renumber it.
+    ///
+    /// <details><summary>Contract</summary>
+    ///
+    /// # Contract
+    ///
+    /// ```text
+    /// ensures { result ≡ (properties self.now).class c }
+    /// ```
+    ///
+    /// </details>
+    fn modified_combining_class(&self, c: u32) -> u8;
+
+    /// Whether a character is ignored by default, as the shapers have it.
+    ///
+    /// <details><summary>Contract</summary>
+    ///
+    /// # Contract
+    ///
+    /// ```text
+    /// ensures { result ≡ (properties self.now).ignorable c }
+    /// ```
+    ///
+    /// </details>
+    fn is_default_ignorable(&self, c: u32) -> bool;
+
+    /// Whether a character is a pictograph of emoji (`Extended_Pictographic`).
+    ///
+    /// <details><summary>Contract</summary>
+    ///
+    /// # Contract
+    ///
+    /// ```text
+    /// ensures { result ≡ (properties self.now).pictographic c }
+    /// ```
+    ///
+    /// </details>
+    fn is_extended_pictographic(&self, c: u32) -> bool;
+
+    /// The mirrored character, if there is one.
+    ///
+    /// <details><summary>Contract</summary>
+    ///
+    /// # Contract
+    ///
+    /// ```text
+    /// ensures { result ≡ (properties self.now).mirroring c }
+    /// ```
+    ///
+    /// </details>
+    fn mirrored(&self, c: u32) -> Option<u32>;
+
+    /// The form for vertical text, if there is one.
+    ///
+    /// <details><summary>Contract</summary>
+    ///
+    /// # Contract
+    ///
+    /// ```text
+    /// ensures { result ≡ (properties self.now).vertical c }
+    /// ```
+    ///
+    /// </details>
+    fn vertical_form(&self, c: u32) -> Option<u32>;
+}
+
+// Unicode's tables, in which a number that is no character has the properties of U+FFFD.
+impl UnicodeProperties for UnicodeTables {
+    #[inline]
+    fn general_category(&self, c: u32) -> GeneralCategory {
+        crate::generated::shapers_unicode::general_category(character(c))
+    }
+
+    #[inline]
+    fn modified_combining_class(&self, c: u32) -> u8 {
+        crate::generated::shapers_unicode::modified_combining_class(character(c))
+    }
+
+    #[inline]
+    fn is_default_ignorable(&self, c: u32) -> bool {
+        crate::generated::shapers_unicode::is_default_ignorable(character(c))
+    }
+
+    #[inline]
+    fn is_extended_pictographic(&self, c: u32) -> bool {
+        crate::generated::shapers_unicode::is_extended_pictographic(character(c))
+    }
+
+    #[inline]
+    fn mirrored(&self, c: u32) -> Option<u32> {
+        number(crate::generated::shapers_unicode::mirrored(character(c)))
+    }
+
+    #[inline]
+    fn vertical_form(&self, c: u32) -> Option<u32> {
+        number(crate::generated::shapers_unicode::vertical_form(character(
+            c,
+        )))
+    }
+}
+
+// The character of this number, or U+FFFD where it is none.
+#[inline]
+fn character(number: u32) -> char {
+    char::from_u32(number).unwrap_or(char::REPLACEMENT_CHARACTER)
+}
+
+// The number of a character.
+#[inline]
+fn number(character: Option<char>) -> Option<u32> {
+    Some(character? as u32)
+}

@@ -1,0 +1,144 @@
+// Generated from crates/shapers_spans/src/machine.rt by rust/erase; edit the source.
+
+//! Machines that read categories, one after another.
+
+use crate::generated::shapers_base::buffer::GlyphInfo;
+
+/// A machine for a grammar: its state says what the rules take from there on.
+///
+/// Where nothing ends in a state, its rank says how many more states at most come before one in
+/// which something does, one that turns, or the dead one. In a state that turns, each joiner leads
+/// back to it: as many joiners as there are may stand there. The waiting states are those that turn
+/// and those on the way to them, to which joiners alone lead. A text that begins with two joiners
+/// leads to one and the same state that turns, whichever joiners they are.
+pub trait Machine {
+    /// The kind of a glyph that begins nothing that a rule takes.
+    ///
+    /// <details><summary>Contract</summary>
+    ///
+    /// # Contract
+    ///
+    /// ```text
+    /// ensures kind { result ≡ (grammar self.now).other }
+    /// ensures fits { result ≤ 15 }
+    /// ```
+    ///
+    /// </details>
+    fn other(&self) -> u8;
+
+    /// The state in front of a syllable.
+    ///
+    /// <details><summary>Contract</summary>
+    ///
+    /// # Contract
+    ///
+    /// ```text
+    /// ensures state { is_state self.now result }
+    /// ensures first { result ≡ first self.now }
+    /// ensures alive { 0 < rank self.now result }
+    /// ensures rank { rank self.now result ≤ 2 }
+    /// ensures waits { waits self.now result ≡ false }
+    /// ensures passes { (grammar self.now).passes [] ≡ false }
+    /// ensures fit { KindsFit (grammar self.now) }
+    /// ensures kinds { (w : List ℕ) → IsKind (grammar self.now) w (ends self.now result w) }
+    /// ```
+    ///
+    /// - `IsKind`, `KindsFit`: `crates/shapers_spans/specs/Grammar.antt`
+    ///
+    /// </details>
+    fn start(&self) -> u8;
+
+    /// The state behind one more category.
+    ///
+    /// <details><summary>Contract</summary>
+    ///
+    /// # Contract
+    ///
+    /// ```text
+    /// requires { is_state self.now state }
+    /// ensures state { is_state self.now result }
+    /// ensures ends { (w : List ℕ) →
+    ///     ends self.now state (category ∷ w) ≡ ends self.now result w }
+    /// ensures falls { 0 < rank self.now state → ends self.now result [] ≡ None →
+    ///     turns self.now result ≡ false → rank self.now result < rank self.now state }
+    /// ensures rank { rank self.now result ≤ 2 }
+    /// ensures one { state ≡ first self.now → is_joiner self.now category ≡ true →
+    ///     begun self.now result ≡ true }
+    /// ensures begun { begun self.now result ≡ true →
+    ///     (turns self.now result ≡ false) × (rank self.now result ≤ 1) }
+    /// ensures two { begun self.now state ≡ true → is_joiner self.now category ≡ true →
+    ///     (result ≡ turned self.now) × (ends self.now result [] ≡ None) }
+    /// ensures same { turns self.now state ≡ true → is_joiner self.now category ≡ true →
+    ///     result ≡ state }
+    /// ensures waits { waits self.now result ≡ true →
+    ///     (is_joiner self.now category ≡ true)
+    ///     × ((waits self.now state ≡ true) ⊎ (ends self.now state [] ≡ None → ⊥)) }
+    /// ```
+    ///
+    /// </details>
+    fn next(&self, state: u8, category: u8) -> u8;
+
+    /// Whether nothing ends from here on.
+    ///
+    /// <details><summary>Contract</summary>
+    ///
+    /// # Contract
+    ///
+    /// ```text
+    /// requires { is_state self.now state }
+    /// ensures dead { IsTrue result → (w : List ℕ) → ends self.now state w ≡ None }
+    /// ensures alive { result ≡ false → 0 < rank self.now state }
+    /// ```
+    ///
+    /// </details>
+    fn is_dead(&self, state: u8) -> bool;
+
+    /// The kind of what ends here, if anything does.
+    ///
+    /// <details><summary>Contract</summary>
+    ///
+    /// # Contract
+    ///
+    /// ```text
+    /// requires { is_state self.now state }
+    /// ensures { result ≡ ends self.now state [] }
+    /// ```
+    ///
+    /// </details>
+    fn kind(&self, state: u8) -> Option<u8>;
+
+    /// Whether joiners, as many as there are, lead from this state back to it.
+    ///
+    /// <details><summary>Contract</summary>
+    ///
+    /// # Contract
+    ///
+    /// ```text
+    /// requires { is_state self.now state }
+    /// ensures turns { result ≡ turns self.now state }
+    /// ensures waits { IsTrue result → waits self.now state ≡ true }
+    /// ensures stays { IsTrue result → (k : ℕ) → is_joiner self.now k ≡ true → (w : List ℕ) →
+    ///     ends self.now state (k ∷ w) ≡ ends self.now state w }
+    /// ```
+    ///
+    /// </details>
+    fn turns(&self, state: u8) -> bool;
+
+    /// The first place from `n` on whose glyph is read.
+    ///
+    /// <details><summary>Contract</summary>
+    ///
+    /// # Contract
+    ///
+    /// ```text
+    /// requires { n ≤ length glyphs.now }
+    /// ensures place { result ≡ n + reach_of (grammar self.now).passes (drop n glyphs.now) 0 }
+    /// ensures within { result ≤ length glyphs.now }
+    /// ensures end { (grammar self.now).passes [] ≡ false }
+    /// ```
+    ///
+    /// - `reach_of`: `crates/shapers_spans/specs/Grammar.antt`
+    ///
+    /// </details>
+    fn next_read(&self, glyphs: &[GlyphInfo], n: usize) -> usize;
+}

@@ -1,0 +1,158 @@
+// Generated from crates/shapers_unicode/src/properties.rt by rust/erase; edit the source.
+
+//! Properties of characters.
+
+use crate::generated::shapers_base::plan::{Category, JoiningType, Position};
+use crate::generated::shapers_buffer::buffer::GeneralCategory;
+use crate::generated::shapers_unicode::table::value_of;
+use crate::generated::shapers_unicode::tables::class::{CLASS_BLOCKS, CLASS_INDEX, CLASS_TAIL};
+use crate::generated::shapers_unicode::tables::general::{
+    GENERAL_BLOCKS, GENERAL_INDEX, GENERAL_TAIL,
+};
+use crate::generated::shapers_unicode::tables::ignorable::{
+    IGNORABLE_BLOCKS, IGNORABLE_INDEX, IGNORABLE_TAIL,
+};
+use crate::generated::shapers_unicode::tables::indic::{
+    INDIC_BLOCKS, INDIC_INDEX, INDIC_PAIRS, INDIC_TAIL,
+};
+use crate::generated::shapers_unicode::tables::joining::{
+    JOINING_BLOCKS, JOINING_INDEX, JOINING_TAIL,
+};
+use crate::generated::shapers_unicode::tables::pictographic::{
+    PICTOGRAPHIC_BLOCKS, PICTOGRAPHIC_INDEX, PICTOGRAPHIC_TAIL,
+};
+use crate::generated::shapers_unicode::tables::universal::{
+    UNIVERSAL_BLOCKS, UNIVERSAL_INDEX, UNIVERSAL_TAIL,
+};
+
+/// The general category of a character.
+///
+/// <details><summary>Contract</summary>
+///
+/// # Contract
+///
+/// ```text
+/// ensures { result ≡ general_category c }
+/// ```
+///
+/// - `general_category`: `crates/shapers_unicode/specs/General.antt`
+///
+/// </details>
+pub fn general_category(c: char) -> GeneralCategory {
+    let number = value_of(&GENERAL_INDEX, &GENERAL_BLOCKS, &GENERAL_TAIL, c as u32);
+    GeneralCategory::from_number(number).unwrap_or(GeneralCategory::Cn)
+}
+
+/// How a character joins its neighbours.
+///
+/// <details><summary>Contract</summary>
+///
+/// # Contract
+///
+/// ```text
+/// ensures { result ≡ joining_type c }
+/// ```
+///
+/// - `joining_type`: `crates/shapers_unicode/specs/Joining.antt`
+///
+/// </details>
+pub fn joining_type(c: char) -> JoiningType {
+    let number = value_of(&JOINING_INDEX, &JOINING_BLOCKS, &JOINING_TAIL, c as u32);
+    JoiningType::from_number(number).unwrap_or(JoiningType::U)
+}
+
+/// The class by which a mark is ordered: its canonical combining class as HarfBuzz changes it.
+///
+/// <details><summary>Contract</summary>
+///
+/// # Contract
+///
+/// ```text
+/// ensures { result ≡ modified_class c }
+/// ```
+///
+/// - `modified_class`: `crates/shapers_unicode/specs/Classes.antt`
+///
+/// </details>
+pub fn modified_combining_class(c: char) -> u8 {
+    value_of(&CLASS_INDEX, &CLASS_BLOCKS, &CLASS_TAIL, c as u32)
+}
+
+/// Whether a font need not draw a character: Unicode's default ignorable characters but Hangul's fillers
+/// and Duployan's format controls.
+///
+/// <details><summary>Contract</summary>
+///
+/// # Contract
+///
+/// ```text
+/// ensures { result ≡ default_ignorable c }
+/// ```
+///
+/// - `default_ignorable`: `crates/shapers_unicode/specs/Ignorable.antt`
+///
+/// </details>
+pub fn is_default_ignorable(c: char) -> bool {
+    value_of(
+        &IGNORABLE_INDEX,
+        &IGNORABLE_BLOCKS,
+        &IGNORABLE_TAIL,
+        c as u32,
+    ) == 1
+}
+
+/// Whether a character is a pictograph that may be part of an emoji sequence (`Extended_Pictographic`).
+///
+/// <details><summary>Contract</summary>
+///
+/// # Contract
+///
+/// ```text
+/// ensures { result ≡ extended_pictographic c }
+/// ```
+///
+/// - `extended_pictographic`: `crates/shapers_unicode/specs/Pictographic.antt`
+///
+/// </details>
+pub fn is_extended_pictographic(c: char) -> bool {
+    value_of(
+        &PICTOGRAPHIC_INDEX,
+        &PICTOGRAPHIC_BLOCKS,
+        &PICTOGRAPHIC_TAIL,
+        c as u32,
+    ) == 1
+}
+
+/// The category of a character in the universal shaper.
+///
+/// <details><summary>Contract</summary>
+///
+/// # Contract
+///
+/// ```text
+/// ensures { result ≡ universal_category c }
+/// ```
+///
+/// - `universal_category`: `crates/shapers_unicode/specs/Universal.antt`
+///
+/// </details>
+pub fn universal_category(c: u32) -> Category {
+    value_of(&UNIVERSAL_INDEX, &UNIVERSAL_BLOCKS, &UNIVERSAL_TAIL, c)
+}
+
+/// The category and the position of a character in the Indic, Khmer and Myanmar shapers.
+///
+/// <details><summary>Contract</summary>
+///
+/// # Contract
+///
+/// ```text
+/// ensures { result ≡ indic_categories c }
+/// ```
+///
+/// - `indic_categories`: `crates/shapers_unicode/specs/Indic.antt`
+///
+/// </details>
+pub fn indic_categories(c: u32) -> (Category, Position) {
+    INDIC_PAIRS[value_of(&INDIC_INDEX, &INDIC_BLOCKS, &INDIC_TAIL, c) as usize]
+}

@@ -1,0 +1,62 @@
+// Generated from crates/shapers_unicode/src/table.rt by rust/erase; edit the source.
+
+//! A property of characters in two levels: which block a stretch of code points has, and the values
+//! of the blocks.
+
+/// The value of a code point: by its block as far as the index goes, and by the tail after that, whose
+/// entries are the end of a range and the value below it.
+#[inline]
+pub(crate) fn value_of<const SIZE: usize>(
+    index: &[u8],
+    blocks: &[[u8; SIZE]],
+    tail: &[(u32, u8)],
+    c: u32,
+) -> u8 {
+    let at = c as usize / SIZE;
+    if at < index.len() {
+        blocks[index[at] as usize][c as usize % SIZE]
+    } else {
+        in_tail(tail, c)
+    }
+}
+
+/// The number of a code point's string: as `value_of`, over numbers of two bytes.
+#[inline]
+pub(crate) fn number_of<const SIZE: usize>(
+    index: &[u8],
+    blocks: &[[u16; SIZE]],
+    tail: &[(u32, u16)],
+    c: u32,
+) -> u16 {
+    let at = c as usize / SIZE;
+    if at < index.len() {
+        blocks[index[at] as usize][c as usize % SIZE]
+    } else {
+        number_in_tail(tail, c)
+    }
+}
+
+/// The string with a number: they lie end to end, each from its offset to the next.
+#[inline]
+pub(crate) fn string_of(offsets: &[u16], chars: &'static [char], number: u16) -> &'static [char] {
+    let number = number as usize;
+    &chars[offsets[number] as usize..offsets[number + 1] as usize]
+}
+
+fn in_tail(tail: &[(u32, u8)], c: u32) -> u8 {
+    for (end, value) in tail {
+        if c < *end {
+            return *value;
+        }
+    }
+    0
+}
+
+fn number_in_tail(tail: &[(u32, u16)], c: u32) -> u16 {
+    for (end, value) in tail {
+        if c < *end {
+            return *value;
+        }
+    }
+    0
+}
