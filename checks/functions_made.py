@@ -613,7 +613,7 @@ def make(top, folder, libraries, kit, left_out=()):
         if module:
             text += copy.harness(module, entries)
         # (nobody reads the copy's pages)
-        text = re.sub(r"#!\[doc = include_str!.*\n", "", text)
+        text = re.sub(r"#!?\[doc = include_str!.*\n", "", text)
         if path == top / "rust/sengadlit/src/lib.rs":
             text = in_copy(text, copy)
         write(to, text)
