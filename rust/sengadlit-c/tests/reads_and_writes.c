@@ -1,14 +1,15 @@
 /* The header's list of what each hook reads and writes of a glyph, tried on random texts. Two texts that differ in what isn't
    read have equal results; what isn't written stays. And the list says no more than is true: texts that differ in one field
    that is read have, now and then, other results, and each field that is written changes now and then. listed.h is made of the
-   header by listed.awk. The first argument is the number of rounds of each row. The last line is 'N passed, M failed'. */
+   header by listed.awk. The first argument is the number of rounds of each row; few ones don't test the latter. The last line
+   is 'N passed, M failed'. */
 #include <sengadlit.h>
 
 #include <stdio.h>
 #include <stdlib.h>
 #include <string.h>
 
-enum { MOST = 13, ROOM = 1024, FLAGS = 7, TAGS = 19 };
+enum { MOST = 13, ROOM = 1024, FLAGS = 7, TAGS = 19, FEW = 5000 };
 
 static unsigned int passed, failed;
 
@@ -545,6 +546,7 @@ static void try_row(const struct call *call, unsigned long rounds)
             return;
         }
     passed++;
+    if (rounds < FEW) return;
     expect_cleared(call);
     for (unsigned int field = 0; field < FIELDS; field++) {
         const unsigned int bit = 1u << field;
@@ -556,7 +558,7 @@ static void try_row(const struct call *call, unsigned long rounds)
 
 int main(int argc, char **argv)
 {
-    const unsigned long rounds = argc > 1 ? strtoul(argv[1], NULL, 10) : 20000;
+    const unsigned long rounds = argc > 1 ? strtoul(argv[1], NULL, 10) : FEW;
 
     if (ROWS != CALLS) {
         printf("FAILED: %u rows for %u calls\n", (unsigned int)ROWS, (unsigned int)CALLS);
