@@ -638,7 +638,7 @@ void sengadlit_buffer_abandon(sengadlit_buffer_t *buffer);
 
 /* Makes the buffer ready for another text, as hb_buffer_clear_contents: glyphs, positions, contexts and the state go, script
    and direction become those of a new buffer; cluster_level, flags and max_length stay, and so does memory. Without it a state
-   stays as the text before left it: after one with a broken syllable, reorderings ask for a dotted circle in each text.
+   stays as the text before left it: after one with a broken syllable, reorderings look for a dotted circle in each text.
    `buffer` may be null. */
 void sengadlit_buffer_clear_contents(sengadlit_buffer_t *buffer);
 /* The same, and all properties become those of a new buffer. */
