@@ -1,5 +1,4 @@
 //! Buffers as C has them. A call has its buffer alone: whoever passes it to another call meanwhile, from a callback, is refused.
-use super::guarded;
 use crate::buffer::Buffer;
 use crate::status::{Error, Status};
 use core::cell::{Cell, UnsafeCell};
@@ -73,8 +72,8 @@ impl Pointer {
             .map_or(Error::NONE, |handle| handle.error.get())
     }
 
-    /// Makes a call, which has the buffer until it ends. Where it fails, the error stays in the buffer, which a panic leaves
-    /// empty, and `refused` makes the result of the status.
+    /// Makes a call, which has the buffer until it ends. Where it fails, the error stays in the buffer, which an internal one
+    /// leaves empty, and `refused` makes the result of the status.
     #[inline]
     pub fn call<A>(
         self,
@@ -86,7 +85,7 @@ impl Pointer {
         };
         match Call::begin(handle) {
             Ok(mut begun) => {
-                let ended = guarded(|| call(begun.buffer()));
+                let ended = call(begun.buffer());
                 ended.unwrap_or_else(|error| refused(begun.fail(error)))
             }
             Err(status) => refused(status),

@@ -22,7 +22,7 @@ fn on_buffer(
         |status| status,
         |buffer| {
             let plan = plan.ok_or_else(|| Error::argument(Argument::Plan))?;
-            hook(plan, buffer)
+            guarded(|| hook(plan, buffer))
         },
     )
 }
@@ -156,7 +156,7 @@ pub extern "C" fn sengadlit_spans(
         |buffer| {
             let shaper =
                 numbers::shaper(shaper).ok_or_else(|| Error::argument(Argument::Shaper))?;
-            let spans = buffer.find_spans(shaper)?;
+            let spans = guarded(|| buffer.find_spans(shaper))?;
             put(length, spans.len() as c_uint);
             Ok(spans.as_ptr())
         },
