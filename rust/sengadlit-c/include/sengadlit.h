@@ -22,8 +22,8 @@
    status return SENGADLIT_IN_CALL, those that return a pointer null, and the others do nothing, except that
    sengadlit_buffer_destroy takes effect when the call ends, and sengadlit_buffer_get_error works. A callback must not touch
    the glyphs or positions of that buffer by pointers from before, nor drop the last reference to the plan of the call.
-   A C++ exception that leaves a callback ends the program, with a message on stderr. A jump (longjmp) may leave a callback
-   of a call on a buffer: see sengadlit_buffer_abandon. */
+   A C++ exception that leaves a callback ends the program, with a message on stderr. A jump (longjmp) may leave one; memory
+   that the call took isn't freed then, and its buffer is in that call for good: see sengadlit_buffer_abandon. */
 #ifndef SENGADLIT_H
 #define SENGADLIT_H
 
@@ -236,8 +236,8 @@ enum {
     SENGADLIT_JOINING_TYPE_X = 8             /* T for categories Mn, Me and Cf, else U. */
 };
 
-/* Categories and positions. The numbers are those of HarfBuzz 13.0.0, of ot_category_t, ot_position_t and the machine
-   hb-ot-shaper-use-machine; HarfBuzz 6.0.0 has the same, without SMPST and RK. */
+/* Categories and positions. The numbers are those of HarfBuzz 13.0.0 by HarfRust 0.12.0, which follows it: ot_category_t,
+   ot_position_t, and the machine of the universal shaper. HarfBuzz 6.0.0 has fewer of them (no SMPST, no RK), numbered alike. */
 enum {
     SENGADLIT_INDIC_CATEGORY_X = 0,              /* Another character. */
     SENGADLIT_INDIC_CATEGORY_C = 1,              /* Consonant. */
@@ -633,7 +633,7 @@ sengadlit_buffer_t *sengadlit_buffer_create(void);
 void sengadlit_buffer_destroy(sengadlit_buffer_t *buffer);
 /* After a jump (longjmp) out of a callback, which leaves the call on the buffer for good: the buffer may only be destroyed, and
    every other function rejects it still. Memory that the call could have in use isn't freed by either: that of the buffer, and
-   what the call itself took. Nothing happens where no call has the buffer, where the call ends after all, and for null. */
+   what the call itself took. It does nothing for null, for a buffer in no call, and where the callback returns after all. */
 void sengadlit_buffer_abandon(sengadlit_buffer_t *buffer);
 
 /* Makes the buffer ready for another text, as hb_buffer_clear_contents: glyphs, positions, contexts and the state go, script

@@ -1,6 +1,6 @@
 /* Every function called from within every callback: on the buffer of the call, which is rejected, and on others. With the
-   argument `jumps` instead: jumps out of every callback, after which the buffer may only be abandoned and destroyed. The last
-   line is 'N passed, M failed'. */
+   argument `jumps` instead: jumps out of every callback, after which the buffer of the call may only be abandoned and
+   destroyed. The last line is 'N passed, M failed'. */
 #include "world.h"
 
 #include <setjmp.h>
@@ -480,11 +480,11 @@ static void jump_everywhere(void)
 {
     for (unsigned int i = 0; i < SCENES * CALLBACKS; i++) {
         scene = &scenes[i % SCENES];
-        if (scene->is_on_buffer) jump_out((enum callback)(i / SCENES));
+        jump_out((enum callback)(i / SCENES));
     }
+    for (unsigned int callback = 0; callback < CALLBACKS; callback++) check("a jump out of each callback", intrusions[callback] > 0);
     check("jumps out of glyphs", intrusions[NOMINAL_GLYPH] >= 4);
     check("jumps out of advances", intrusions[GLYPH_H_ADVANCE] == 2);
-    check("jumps out of tables", intrusions[JOINING_TYPE] + intrusions[INDIC_CATEGORIES] + intrusions[USE_CATEGORY] >= 3);
 }
 
 int main(int argc, char **argv)

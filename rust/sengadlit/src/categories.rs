@@ -2,9 +2,10 @@
 //! return, and what `category` and, for Indic, `auxiliary` of a glyph hold behind
 //! [`setup_masks`](crate::Shaper::setup_masks).
 //!
-//! Names and numbers are those of HarfBuzz 13.0.0 (`ot_category_t`, `ot_position_t`, and the universal
-//! shaper's machine). HarfBuzz 6.0.0 has the same, without `SMPst` and `RK`. The kinds of syllables
-//! are in [`ot_shaper_syllabic`](crate::ot_shaper_syllabic).
+//! Names and numbers are those of HarfBuzz 13.0.0 by HarfRust 0.12.0, which follows it:
+//! `ot_category_t`, `ot_position_t`, and the universal shaper's machine. HarfBuzz 6.0.0 has fewer of
+//! them (no `SMPst`, no `RK`), numbered alike. The kinds of syllables are in
+//! [`ot_shaper_syllabic`](crate::ot_shaper_syllabic).
 
 /// Of the Indic shaper.
 pub mod indic {
