@@ -3,6 +3,9 @@
 /// The cluster levels.
 pub const LEVELS: [&str; 4] = ["MonotoneGraphemes", "MonotoneCharacters", "Characters", "Graphemes"];
 
+/// Whether texts are prepared and normalized by the hooks' crate.
+pub const NORMALIZES: bool = true;
+
 /// The reasons of bindings/harfrust/reasons.
 pub const REASONS: &[&str] = &[
     "merge-flags",
@@ -14,16 +17,31 @@ pub const REASONS: &[&str] = &[
     "continuation",
     "yiddish-yod-yod",
     "dotted-circles",
+    "ignorable-180f",
 ];
 
 macro_rules! calls {
     ($module:ident, $harfrust:ident) => {
         pub mod $module {
-            use crate::{caught, parts, serialized, Glyph, Setting, Shaped, FEATURES};
+            use crate::{caught, made_up, parts, serialized, Glyph, Setting, Shaped, FEATURES};
+            use $harfrust::font::{BuiltinFontFuncs, FontFuncs};
             use $harfrust::{
-                BufferClusterLevel, BufferFlags, Direction, Feature, FontRef, GlyphBuffer, GlyphFlags, Script,
+                BufferClusterLevel, BufferFlags, Direction, Feature, FontRef, GlyphBuffer, GlyphFlags, GlyphId, Script,
                 SerializeFlags, ShapeOptions, ShapePlan, ShaperData, Tag, UnicodeBuffer,
             };
+
+            /// The made-up font of a text.
+            struct MadeUp(u32);
+
+            impl FontFuncs for MadeUp {
+                fn nominal_glyph(&mut self, _: &BuiltinFontFuncs, c: u32) -> Option<GlyphId> {
+                    made_up(self.0, c, 0).map(GlyphId::new)
+                }
+
+                fn variant_glyph(&mut self, _: &BuiltinFontFuncs, c: u32, selector: u32) -> Option<GlyphId> {
+                    made_up(self.0, c, selector).map(GlyphId::new)
+                }
+            }
 
             const LEVELS: [BufferClusterLevel; 4] = [
                 BufferClusterLevel::MonotoneGraphemes,
@@ -83,7 +101,14 @@ macro_rules! calls {
                         ));
                     }
                     let plan = plans.iter().find(|plan| plan.0 == direction && plan.1 == script).map(|plan| &plan.2);
-                    let options = ShapeOptions::new().plan(plan).features(&features).scale(setting.scale);
+                    let mut made_up = MadeUp(text.chars().fold(0, |sum: u32, c| sum.wrapping_mul(31) ^ c as u32));
+                    let mut options = ShapeOptions::new().plan(plan).features(&features).scale(setting.scale);
+                    if setting.gaps {
+                        if made_up.0 % 7 == 0 {
+                            buffer.set_not_found_variation_selector_glyph(3);
+                        }
+                        options = options.font_funcs(Some(&mut made_up));
+                    }
                     caught(|| glyphs(&shaper.shape(buffer, options)))
                 };
                 texts.iter().map(shape).collect()

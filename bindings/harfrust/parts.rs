@@ -11,8 +11,11 @@ use crate::hb::unicode::CharExt;
 use crate::hb::{hb_tag_t, script, Script};
 use crate::{BufferFlags, GlyphId};
 
+mod text;
+
 pub use crate::hb::buffer::GlyphInfo as Info;
 pub use crate::hb::unicode::Codepoint;
+pub use text::{data_without_shaper, prepare};
 
 // ---- Fonts ----
 

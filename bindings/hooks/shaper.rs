@@ -36,7 +36,7 @@ use super::ot_shape_normalize::*;
 use super::ot_shape_plan::hb_ot_shape_plan_t;
 use super::ot_shaper::*;
 
-mod parts;
+pub mod parts;
 #[cfg(feature = "shadow")]
 pub mod shadow;
 
@@ -102,7 +102,8 @@ fn create_data<const S: usize>(plan: &hb_ot_shape_plan_t) -> Box<dyn Any + Send 
         .has_gpos_mark(plan.has_gpos_mark)
         .base_search(BaseSearch::AllConsonants)
         .build_for(Shaper::ALL[S]);
-    Box::new(made.expect("stages are ranges, and masks touch no glyph flag"))
+    let plan = made.expect("stages are ranges, and masks touch no glyph flag");
+    Box::new(ShaperPlan { shaper: Some(Shaper::ALL[S]), plan })
 }
 
 /// What a plan keeps of this type.
@@ -111,8 +112,14 @@ pub fn kept<T: 'static>(data: &(dyn Any + Send + Sync)) -> Option<&T> {
     data.downcast_ref()
 }
 
+/// What a plan keeps: its shaper, and what the hooks read.
+pub struct ShaperPlan {
+    shaper: Option<Shaper>,
+    plan: Plan,
+}
+
 fn plan_of(plan: &hb_ot_shape_plan_t) -> &Plan {
-    plan.data::<Plan>()
+    &plan.data::<ShaperPlan>().plan
 }
 
 // ---- Glyphs ----
@@ -302,7 +309,10 @@ fn preprocess_text<const S: usize>(plan: &hb_ot_shape_plan_t, font: FontRef, buf
     let shaper = Shaper::ALL[S];
     if matches!(shaper, Shaper::Indic | Shaper::Universal) {
         super::ot_shaper_vowel_constraints::preprocess_text_vowel_constraints(buffer);
-    } else if may_rewrite(shaper, plan_of(plan), font, &buffer.info[..buffer.len]) {
+        return;
+    }
+    let characters = buffer.info[..buffer.len].iter().map(|info| info.glyph_id);
+    if may_rewrite(shaper, plan_of(plan), characters, |c| font.has_glyph(c)) {
         on_text(buffer, 0..buffer.len, |text| {
             exchange_flags(text);
             shaper.preprocess_text(plan_of(plan), &parts::font(font), text)?;
@@ -323,15 +333,19 @@ fn exchange_flags(text: &mut Buffer) {
 
 /// Whether preprocessing may change a text. It leaves Thai without SARA AM where GSUB has the script, and Hangul of
 /// syllables that the font has.
-fn may_rewrite(shaper: Shaper, plan: &Plan, font: FontRef, infos: &[Info]) -> bool {
-    let mut characters = infos.iter().map(|info| info.glyph_id);
+fn may_rewrite(
+    shaper: Shaper,
+    plan: &Plan,
+    mut characters: impl Iterator<Item = u32>,
+    mut has_glyph: impl FnMut(u32) -> bool,
+) -> bool {
     match shaper {
         Shaper::Thai if plan.ot_map.found_script(sengadlit::map::TableIndex::GSUB) => {
             characters.any(|c| matches!(c, 0x0E33 | 0x0EB3))
         }
         Shaper::Hangul => characters.any(|c| match c {
             0x1100..=0x11FF | 0x302E..=0x302F | 0xA960..=0xA97F | 0xD7B0..=0xD7FF => true,
-            0xAC00..=0xD7A3 => !font.has_glyph(c),
+            0xAC00..=0xD7A3 => !has_glyph(c),
             _ => false,
         }),
         _ => true,
