@@ -15,7 +15,7 @@ mod text;
 
 pub use crate::hb::buffer::GlyphInfo as Info;
 pub use crate::hb::unicode::Codepoint;
-pub use text::{data_without_shaper, prepare};
+pub use text::{data_without_shaper, may_turn, prepare};
 
 // ---- Fonts ----
 

@@ -83,27 +83,27 @@ fn request(planner: &mut hb_ot_shape_planner_t, wanted: &Planner) {
     }
 }
 
-fn create_data<const S: usize>(plan: &hb_ot_shape_plan_t) -> Box<dyn Any + Send + Sync> {
+fn create_data<const S: usize>(from: &hb_ot_shape_plan_t) -> Box<dyn Any + Send + Sync> {
     const GSUB: TableIndex = TableIndex::GSUB;
-    let map = &plan.ot_map;
+    let map = &from.ot_map;
     let features: Vec<_> =
         map.features_of(GSUB).map(|(tag, mask, stage)| FeatureMap::new(parts::tag_of(tag), mask, stage)).collect();
     let stages: Vec<_> = (0..map.stages(GSUB).len()).map(|stage| map.stage_lookup_range(GSUB, stage)).collect();
     let lookups: Vec<_> =
         (0..stages.last().map_or(0, |last| last.end)).map(|place| map.lookup(GSUB, place).index).collect();
     let made = Plan::builder()
-        .script(script_of(plan.script))
+        .script(script_of(from.script))
         .features(&features)
         .stages(&stages)
         .lookups(&lookups)
         .global_mask(map.get_global_mask())
         .chosen_script(map.chosen_script(GSUB).map(parts::tag_of))
         .found_script(map.found_script(GSUB))
-        .has_gpos_mark(plan.has_gpos_mark)
+        .has_gpos_mark(from.has_gpos_mark)
         .base_search(BaseSearch::AllConsonants)
         .build_for(Shaper::ALL[S]);
     let plan = made.expect("stages are ranges, and masks touch no glyph flag");
-    Box::new(ShaperPlan { shaper: Some(Shaper::ALL[S]), plan })
+    Box::new(ShaperPlan { shaper: Some(Shaper::ALL[S]), plan, may_turn: parts::may_turn(from) })
 }
 
 /// What a plan keeps of this type.
@@ -112,10 +112,11 @@ pub fn kept<T: 'static>(data: &(dyn Any + Send + Sync)) -> Option<&T> {
     data.downcast_ref()
 }
 
-/// What a plan keeps: its shaper, and what the hooks read.
+/// What a plan keeps: its shaper, what the hooks read, and whether the host's texts may be turned.
 pub struct ShaperPlan {
     shaper: Option<Shaper>,
     plan: Plan,
+    may_turn: bool,
 }
 
 fn plan_of(plan: &hb_ot_shape_plan_t) -> &Plan {

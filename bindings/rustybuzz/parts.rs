@@ -9,6 +9,7 @@ use crate::hb::buffer::*;
 use crate::hb::face::hb_font_t;
 use crate::hb::ot_layout::*;
 use crate::hb::ot_layout_gsubgpos::{WouldApply, WouldApplyContext};
+use crate::hb::ot_shape_plan::hb_ot_shape_plan_t;
 use crate::hb::unicode::{CharExt, GeneralCategoryExt};
 use crate::hb::{hb_tag_t, Script};
 use crate::BufferFlags;
@@ -16,6 +17,11 @@ use crate::BufferFlags;
 pub use crate::hb::buffer::hb_glyph_info_t as Info;
 
 pub type Codepoint = char;
+
+/// A text is turned by rustybuzz itself.
+pub fn may_turn(_: &hb_ot_shape_plan_t) -> bool {
+    false
+}
 
 // ---- Fonts ----
 
