@@ -9,6 +9,8 @@ use alloc::vec::Vec;
 use core::any::Any;
 use std::sync::{Mutex, PoisonError};
 
+use sengadlit::ot_shaper_syllabic::use_syllable;
+
 use super::*;
 
 pub(super) use super::{collect_features, override_features};

@@ -16,10 +16,7 @@ use core::ops::Range;
 use sengadlit::alloc::Global;
 use sengadlit::buffer::GlyphMarks;
 use sengadlit::font::FeaturesOnly;
-use sengadlit::ot_shaper_syllabic::{
-    clear_syllables_in, indic_syllable, khmer_syllable, myanmar_syllable, set_categories_and_positions_in,
-    set_categories_in, set_up_by_bytes, use_syllable,
-};
+use sengadlit::ot_shaper_syllabic::{clear_syllables_in, set_categories_and_positions_in, set_categories_in};
 use sengadlit::plan::{BaseSearch, NormalizationMode, ZeroWidthMarks};
 use sengadlit::shaper::{pause_may_change, Hook};
 use sengadlit::{
@@ -42,8 +39,6 @@ pub mod shadow;
 
 #[cfg(not(feature = "shadow"))]
 use self as hooks;
-#[cfg(not(feature = "shadow"))]
-pub use parts::names;
 use parts::{Codepoint, FontRef, Info, Ucd};
 #[cfg(feature = "shadow")]
 use shadow as hooks;
@@ -263,7 +258,7 @@ fn on_text<T>(
     }
 }
 
-/// Calls a hook that changes masks, categories and auxiliary bytes alone, and reads no marks.
+/// Calls a hook that changes masks, syllables, categories and auxiliary bytes alone, and reads no marks.
 fn on_masks(buffer: &mut hb_buffer_t, hook: impl FnOnce(&mut Buffer)) {
     let Ok(text) = load(buffer, 0..buffer.len, bare_glyph_of) else {
         buffer.successful = false;
@@ -274,8 +269,12 @@ fn on_masks(buffer: &mut hb_buffer_t, hook: impl FnOnce(&mut Buffer)) {
     for (info, glyph) in buffer.info.iter_mut().zip(buffer.work.text().glyphs()) {
         info.mask = glyph.mask;
         masks |= glyph.mask;
+        info.set_syllable(glyph.syllable);
         info.set_ot_shaper_var_u8_category(glyph.category);
         info.set_ot_shaper_var_u8_auxiliary(glyph.auxiliary);
+    }
+    if buffer.work.text().has_broken_syllable() {
+        buffer.scratch_flags |= HAS_BROKEN_SYLLABLE;
     }
     parts::note_masks(masks, buffer);
 }
@@ -309,7 +308,7 @@ fn direction_of(direction: super::Direction) -> Direction {
 fn preprocess_text<const S: usize>(plan: &hb_ot_shape_plan_t, font: FontRef, buffer: &mut hb_buffer_t) {
     let shaper = Shaper::ALL[S];
     if matches!(shaper, Shaper::Indic | Shaper::Universal) {
-        super::ot_shaper_vowel_constraints::preprocess_text_vowel_constraints(buffer);
+        parts::part_vowels(buffer);
         return;
     }
     let characters = buffer.info[..buffer.len].iter().map(|info| info.glyph_id);
@@ -497,10 +496,12 @@ fn pause<const P: usize>(plan: &hb_ot_shape_plan_t, font: FontRef, buffer: &mut 
         return false;
     }
     if pause == Pause::SetupSyllablesUse {
-        set_up_universal(plan, buffer);
+        // lookups follow, so that masks alone are copied
+        settle(buffer);
+        parts::set_up_universal(plan, buffer);
         return false;
     }
-    find_syllables(pause, buffer);
+    parts::find_syllables(pause, buffer);
     let loaded = if buffer.work.is_newer { Ok(buffer.work.text()) } else { load(buffer, 0..buffer.len, glyph_of) };
     let done = loaded.and_then(|text| run(pause, plan, font, text));
     buffer.work.is_newer |= done.is_ok();
@@ -512,39 +513,12 @@ fn pause<const P: usize>(plan: &hb_ot_shape_plan_t, font: FontRef, buffer: &mut 
     wants_circles
 }
 
-/// Does what the pause does on the text, whose syllables the host's machine has found.
+/// Does what the pause does on the text.
 fn run(pause: Pause, plan: &Plan, font: FontRef, text: &mut Buffer) -> Result<bool, ShaperError> {
-    match pause {
-        Pause::SetupSyllablesIndic => set_up_by_bytes(indic_syllable::BROKEN_CLUSTER, text),
-        Pause::SetupSyllablesKhmer => set_up_by_bytes(khmer_syllable::BROKEN_CLUSTER, text),
-        Pause::SetupSyllablesMyanmar => set_up_by_bytes(myanmar_syllable::BROKEN_CLUSTER, text),
-        _ => return run_pause(pause, plan, &parts::font(font), &[], text),
+    if parts::set_up(pause, plan, text) {
+        return Ok(false);
     }
-    Ok(false)
-}
-
-/// Lets the host's machine find the syllables of a text that is to be set up.
-fn find_syllables(pause: Pause, buffer: &mut hb_buffer_t) {
-    let find: fn(&mut hb_buffer_t) = match pause {
-        Pause::SetupSyllablesIndic => super::ot_shaper_indic_machine::find_syllables_indic,
-        Pause::SetupSyllablesKhmer => super::ot_shaper_khmer_machine::find_syllables_khmer,
-        Pause::SetupSyllablesMyanmar => super::ot_shaper_myanmar_machine::find_syllables_myanmar,
-        _ => return,
-    };
-    settle(buffer);
-    find(buffer);
-}
-
-/// The universal machine's kinds are one more than those of the hooks; what it passes over at the front has no byte,
-/// and stays in its order. Lookups follow, so that masks alone are copied.
-fn set_up_universal(plan: &Plan, buffer: &mut hb_buffer_t) {
-    settle(buffer);
-    super::ot_shaper_use_machine::find_syllables(buffer);
-    for info in &mut buffer.info[..buffer.len] {
-        let byte = info.syllable().checked_sub(1);
-        info.set_syllable(byte.unwrap_or(use_syllable::NUMERAL_CLUSTER));
-    }
-    on_masks(buffer, |text| ot_shaper_use::setup_syllables_use_by_bytes(plan, text));
+    run_pause(pause, plan, &parts::font(font), &[], text)
 }
 
 /// Whether a pause may change the text, by its contract.

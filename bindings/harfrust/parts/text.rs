@@ -62,6 +62,13 @@ const NUMBER: u32 = 21;
 /// The facts of the last character whose number ends in these ten bits.
 static REMEMBERED: [AtomicU32; 1024] = [const { AtomicU32::new(u32::MAX) }; 1024];
 
+/// Whether it is remembered of a character that it doesn't come apart.
+#[inline]
+fn stays_whole(c: u32) -> bool {
+    let facts = REMEMBERED[c as usize % REMEMBERED.len()].load(Ordering::Relaxed);
+    facts >> NUMBER == c >> 10 && facts & COMES_APART == 0
+}
+
 /// The facts of a character.
 #[inline(always)]
 fn facts_of(c: u32, text: &mut Buffer) -> Result<u32, ShaperError> {
@@ -383,7 +390,8 @@ impl<'p, 'f, 'a, 'u> Steps<'p, 'f, 'a, 'u> {
             None => Ok(()),
             Some(Shaper::Indic | Shaper::Universal) => preprocess_text_vowel_constraints(text),
             Some(shaper) => {
-                self.facts = u32::MAX;
+                // (no shaper makes a selector)
+                self.facts |= ROTATES | COMES_APART;
                 text.set_cluster_level(self.shaper_level);
                 let done = shaper.preprocess_text(self.plan, &parts::font(self.font), text);
                 text.set_cluster_level(self.level);
@@ -504,7 +512,11 @@ impl NormalizeContext for Context<'_, '_, '_, '_> {
         self.preference
     }
 
+    #[inline]
     fn decompose(&self, ab: u32) -> Option<(u32, u32)> {
+        if stays_whole(ab) {
+            return None;
+        }
         let ab = char::from_u32(ab)?;
         let by_shaper = self.shaper.and_then(|shaper| shaper.decompose(self.plan, &UnicodeTables, ab));
         let (a, b) = by_shaper.unwrap_or_else(|| UnicodeTables.decompose(ab))?;
