@@ -242,9 +242,10 @@ fn compare_script(script: &Script, show: usize) -> Tally {
     for path in &script.fonts {
         let font = fs::read(path).unwrap_or_else(|error| panic!("{}: {error}", path.display()));
         for level in 0..LEVELS.len() {
-            let gaps = script.name == STRINGS;
-            for (flags, contexts, features) in VARIANTS.into_iter().take(if gaps { 1 } else { VARIANTS.len() }) {
-                let setting = Setting { level, flags, contexts, features, scale: None, gaps };
+            let made_up = (script.name == STRINGS).then_some(0);
+            let variants = if made_up.is_some() { &VARIANTS[..1] } else { &VARIANTS };
+            for &(flags, contexts, features) in variants {
+                let setting = Setting { level, flags, contexts, features, scale: None, made_up };
                 compare(script, path, &font, &setting, show, &mut tally);
             }
         }

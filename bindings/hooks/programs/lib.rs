@@ -31,12 +31,13 @@ pub struct Setting {
     pub features: bool,
     /// The scale, where a crate has one.
     pub scale: Option<i32>,
-    /// Whether the font's glyphs are made up, so that it lacks some ([`made_up`]), where a crate takes such a font.
-    pub gaps: bool,
+    /// The number from which the glyphs of a made-up font are counted ([`made_up`]), where a crate
+    /// takes such a font. The text's direction and flags are made up with it.
+    pub made_up: Option<u32>,
 }
 
-/// The made-up glyph of a character, or of a character and a selector, for a text. A text's font lacks none, a 16th, a
-/// quarter, a half or nearly all of its characters.
+/// The made-up glyph of a character, or of a character and a selector, for a text of this number: a
+/// text's font lacks none, a 16th, a quarter, a half or nearly all of its characters.
 pub fn made_up(text: u32, character: u32, selector: u32) -> Option<u32> {
     let mixed = |number: u32| {
         let mixed = number.wrapping_mul(0x9E37_79B1) ^ character.wrapping_mul(0x85EB_CA77) ^ selector;
