@@ -174,6 +174,8 @@ fn position_of(position: &GlyphPosition) -> Position {
 #[derive(Default)]
 pub struct Work {
     text: Option<Box<Buffer>>,
+    /// A part of a text that comes apart, for its room.
+    part: Option<Box<Buffer>>,
     /// Whether the text is newer than the host's buffer.
     is_newer: bool,
 }

@@ -7,7 +7,9 @@
 use core::cell::RefCell;
 use core::sync::atomic::{AtomicU32, Ordering};
 
-use sengadlit::ot_shape_normalize::{normalize, order_marks_in, recompose_in, NormalizeContext, Rounds, HIDDEN};
+use sengadlit::ot_shape_normalize::{
+    decompose, normalize, order_marks_in, recompose_in, NormalizeContext, Rounds, HIDDEN,
+};
 use sengadlit::ot_shape_prepare::{
     ensure_native_direction, form_clusters, insert_dotted_circle, preprocess_text_vowel_constraints, rotate_chars,
     set_unicode_properties, CharRotation, BEGINNING_OF_TEXT,
@@ -85,10 +87,7 @@ fn facts_of(c: u32, text: &mut Buffer) -> Result<u32, ShaperError> {
 #[cold]
 #[inline(never)]
 fn find_facts(c: u32, text: &mut Buffer) -> Result<u32, ShaperError> {
-    let mut glyphs: Vec<Glyph> = text.take_glyphs().into();
-    glyphs.clear();
-    glyphs.push(Glyph { glyph_id: c, ..Glyph::DEFAULT });
-    text.replace_glyphs(glyphs.into())?;
+    refill(text, &[Glyph { glyph_id: c, ..Glyph::DEFAULT }])?;
     set_unicode_properties(&UnicodeTables, text);
     let mut facts = c >> 10 << NUMBER | u32::from(props_of(&text.get(0)));
     let Some(character) = char::from_u32(c) else {
@@ -151,13 +150,14 @@ pub fn prepare(context: &mut OtShapeContext) {
 /// Where a step is refused, the text is what the steps before it made, and the buffer has failed.
 fn run_steps(plan: &hb_ot_shape_plan_t, font: FontRef, wanted: HostDirection, buffer: &mut hb_buffer_t) {
     let mut text = buffer.work.text.take().unwrap_or_default();
+    let mut part = buffer.work.part.take();
     let done = set_properties_alone(buffer, &mut text).and_then(|facts| {
         let mut steps = Steps::new(plan, font, wanted, buffer, facts);
         note_facts(facts, buffer);
         if steps.number_in_place(buffer) {
             return Ok(());
         }
-        let done = load(buffer, &mut text).and_then(|()| steps.run(&mut text));
+        let done = load(buffer, &mut text).and_then(|()| steps.run(&mut text, &mut part));
         store(buffer, &text);
         if steps.is_rewritten {
             note_normalized(buffer);
@@ -166,6 +166,7 @@ fn run_steps(plan: &hb_ot_shape_plan_t, font: FontRef, wanted: HostDirection, bu
     });
     buffer.successful &= done.is_ok();
     buffer.work.text = Some(text);
+    buffer.work.part = part;
 }
 
 /// Makes the text one of the buffer's characters with their properties.
@@ -282,7 +283,7 @@ struct Steps<'p, 'f, 'a, 'u> {
     grapheme_level: BufferClusterLevel,
     /// The level of the other steps.
     level: BufferClusterLevel,
-    /// Whether all rounds of normalization were called.
+    /// Whether a character may have come apart, or another have been drawn for it.
     is_rewritten: bool,
 }
 
@@ -345,7 +346,7 @@ impl<'p, 'f, 'a, 'u> Steps<'p, 'f, 'a, 'u> {
         has_all
     }
 
-    fn run(&mut self, text: &mut Buffer) -> Result<(), ShaperError> {
+    fn run(&mut self, text: &mut Buffer, part: &mut Option<Box<Buffer>>) -> Result<(), ShaperError> {
         if self.has(OPENS) {
             set_unicode_properties(&UnicodeTables, text);
         }
@@ -362,14 +363,7 @@ impl<'p, 'f, 'a, 'u> Steps<'p, 'f, 'a, 'u> {
         }
         self.preprocess(text)?;
         self.rotate(text);
-        if self.normalize_simply(text) {
-            return Ok(());
-        }
-        self.is_rewritten = true;
-        let rounds = self.rounds;
-        normalize(&self.context(), rounds, text)?;
-        self.renumber(text);
-        Ok(())
+        self.normalize(text, part)
     }
 
     /// Whether the shaper's own preparation may change a text of these characters.
@@ -418,26 +412,67 @@ impl<'p, 'f, 'a, 'u> Steps<'p, 'f, 'a, 'u> {
         }
     }
 
-    /// Normalizes a text whose characters are all in the font, and of which none comes apart or is a selector: each gets
-    /// its glyph, and marks are ordered and composed. Returns whether it did.
-    fn normalize_simply(&mut self, text: &mut Buffer) -> bool {
-        if self.has(SELECTS) || self.has(COMES_APART) && self.preference != NormalizationMode::NONE {
+    /// Normalizes a text. Its clusters, each a character and the marks behind it, come apart on their own, so only those
+    /// that may do so are taken apart; then marks are ordered and composed.
+    fn normalize(&mut self, text: &mut Buffer, part: &mut Option<Box<Buffer>>) -> Result<(), ShaperError> {
+        if self.has(SELECTS) {
+            self.is_rewritten = true;
+            let rounds = self.rounds;
+            normalize(&self.context(), rounds, text)?;
+            self.renumber(text);
+            return Ok(());
+        }
+        let has_mark = text.glyphs().iter().skip(1).any(|glyph| glyph.general_category.is_mark());
+        if !self.number(text) {
+            self.is_rewritten = true;
+            self.take_apart(text, part.get_or_insert_default())?;
+        }
+        let len = text.len();
+        if has_mark || self.rounds == Rounds::Always {
+            self.order_and_compose(text);
+        }
+        if self.is_rewritten || text.len() < len {
+            self.renumber(text);
+        }
+        Ok(())
+    }
+
+    /// Gives each character its glyph where none comes apart. Returns whether the font has all.
+    fn number(&mut self, text: &mut Buffer) -> bool {
+        if self.has(COMES_APART) && self.preference != NormalizationMode::NONE {
             return false;
         }
         let font = &mut *self.font;
-        let mut has_mark = self.rounds == Rounds::Always;
-        let has_all = text.with_glyphs_mut(|glyphs| {
-            glyphs.iter_mut().enumerate().all(|(place, glyph)| {
-                let number = font.nominal_glyph(glyph.glyph_id).and_then(|glyph| narrow(glyph.to_u32()));
-                glyph.var = number.map_or(0, |glyph| glyph.0.into());
-                has_mark |= place > 0 && glyph.general_category.is_mark();
+        text.with_glyphs_mut(|glyphs| {
+            glyphs.iter_mut().all(|glyph| {
+                let number = font.nominal_glyph(glyph.glyph_id);
+                glyph.var = number.map_or(0, crate::GlyphId::to_u32);
                 number.is_some()
             })
-        });
-        if has_all && has_mark {
-            self.order_and_compose(text);
+        })
+    }
+
+    /// Takes the clusters apart that may come apart, each in this other text, and gives the others their glyphs.
+    fn take_apart(&mut self, text: &mut Buffer, part: &mut Buffer) -> Result<(), ShaperError> {
+        part.set_max_len(text.max_len());
+        part.set_cluster_level(self.level);
+        let context = self.context();
+        let mut all: Vec<Glyph> = Vec::with_capacity(2 * text.len());
+        let mut rest = text.glyphs();
+        while !rest.is_empty() {
+            let marks = rest[1..].iter().take_while(|glyph| glyph.general_category.is_mark()).count();
+            let (cluster, behind) = rest.split_at(1 + marks);
+            let start = all.len();
+            all.extend_from_slice(cluster);
+            if !context.number(&mut all[start..]) {
+                all.truncate(start);
+                refill(part, cluster)?;
+                decompose(&context, part)?;
+                all.extend_from_slice(part.glyphs());
+            }
+            rest = behind;
         }
-        has_all
+        text.replace_glyphs(all.into())
     }
 
     /// The second and the third round of normalization.
@@ -476,6 +511,14 @@ impl<'p, 'f, 'a, 'u> Steps<'p, 'f, 'a, 'u> {
     }
 }
 
+/// Makes a text one of these glyphs.
+fn refill(text: &mut Buffer, with: &[Glyph]) -> Result<(), ShaperError> {
+    let mut glyphs: Vec<Glyph> = text.take_glyphs().into();
+    glyphs.clear();
+    glyphs.extend_from_slice(with);
+    text.replace_glyphs(glyphs.into())
+}
+
 /// The cluster level of steps that merge where clusters are in order.
 fn level_of(level: hb_buffer_cluster_level_t) -> BufferClusterLevel {
     match level {
@@ -504,6 +547,24 @@ struct Context<'p, 'f, 'a, 'u> {
     preference: NormalizationMode,
     invisible_glyph: Option<GlyphId>,
     draws_selectors: bool,
+}
+
+impl Context<'_, '_, '_, '_> {
+    /// Gives each character of a cluster its glyph, if the font has all and it is known that none comes apart. Returns
+    /// whether it did.
+    fn number(&self, cluster: &mut [Glyph]) -> bool {
+        let is_short = match self.preference {
+            NormalizationMode::NONE => true,
+            NormalizationMode::AUTO => cluster.len() == 1,
+            NormalizationMode::CD => false,
+        };
+        let mut font = self.font.borrow_mut();
+        cluster.iter_mut().all(|glyph| {
+            let number = font.nominal_glyph(glyph.glyph_id);
+            glyph.var = number.map_or(0, crate::GlyphId::to_u32);
+            number.is_some() && (is_short || stays_whole(glyph.glyph_id))
+        })
+    }
 }
 
 impl NormalizeContext for Context<'_, '_, '_, '_> {
