@@ -225,6 +225,21 @@ fn a_letter_alone_stays_apart() {
     assert_eq!((longer[0] - alone[0], longer[1] - alone[1]), (1, 1));
 }
 
+/// At level MonotoneCharacters jamo that are composed merge, and not with the hooks, which are called
+/// at level Characters there: otherwise tones would merge. It shows where clusters run backward, in a
+/// text that is turned, as some made-up texts are.
+#[test]
+fn composed_jamo_of_a_turned_text_merge() {
+    let setting = Setting { level: 1, made_up: Some(0), ..Setting::default() };
+    let nanum = font("truetype/nanum/NanumGothic.ttf");
+    let syllables = (0xAC00_u32..0xAC00 + 28 * 40).step_by(28);
+    let both = syllables.map(|syllable| both_glyphs(&nanum, &format!("11A8 {syllable:X}"), setting));
+    let differ: Vec<_> = both.filter(|[stock, proved]| stock != proved).collect();
+    let clusters = |shaped: &Shaped| shaped.glyphs().iter().map(|glyph| glyph.cluster).collect::<Vec<_>>();
+    assert!(!differ.is_empty());
+    assert!(differ.iter().all(|[stock, proved]| clusters(stock) == [0] && clusters(proved) == [3]));
+}
+
 /// Glyph numbers that don't fit 16 bits are those of the font, with hyphens and spaces that it lacks.
 #[test]
 fn numbers_above_65535_stay() {
@@ -234,7 +249,8 @@ fn numbers_above_65535_stay() {
     for first in 'A'..='z' {
         for rest in ["e\u{301}\u{323}", "\u{2011}\u{2003}", "\u{1EAD}\u{A0}-", "\u{E0}\u{327}x"] {
             let text = format!("{first}{rest}");
-            let [stock, proved] = [stock::shape_texts, proved::shape_texts].map(|shape| shape(&latin, &[&text], &setting).remove(0));
+            let [stock, proved] =
+                [stock::shape_texts, proved::shape_texts].map(|shape| shape(&latin, &[&text], &setting).remove(0));
             assert!(stock == proved, "{text:?}: {stock} {proved}");
             large += proved.glyphs().iter().filter(|glyph| glyph.number > 70_000).count();
         }

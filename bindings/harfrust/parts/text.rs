@@ -371,8 +371,7 @@ impl<'p, 'f, 'a, 'u> Steps<'p, 'f, 'a, 'u> {
         let Some(shaper) = self.shaper else {
             return false;
         };
-        shaper.has_hook(Hook::PreprocessText)
-            && may_rewrite(shaper, self.plan, characters, |c| self.font.has_glyph(c))
+        shaper.has_hook(Hook::PreprocessText) && may_rewrite(shaper, self.plan, characters, |c| self.font.has_glyph(c))
     }
 
     /// The shaper's own preparation; Indic's and the universal shaper's is the vowel constraints.
@@ -481,7 +480,11 @@ impl<'p, 'f, 'a, 'u> Steps<'p, 'f, 'a, 'u> {
         let context = self.context();
         let len = text.with_glyphs_mut(|glyphs| {
             order_marks_in(&context, level, glyphs);
-            if composes { recompose_in(&context, level, glyphs) } else { glyphs.len() }
+            if composes {
+                recompose_in(&context, level, glyphs)
+            } else {
+                glyphs.len()
+            }
         });
         text.truncate(len);
     }
