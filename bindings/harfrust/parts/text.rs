@@ -58,38 +58,43 @@ const ROTATES: u32 = 1 << 18;
 const COMES_APART: u32 = 1 << 19;
 /// It selects a form, or keeps marks apart.
 const SELECTS: u32 = 1 << 20;
-/// The bits below are the host's properties, those above the character's number without its last ten bits.
-const NUMBER: u32 = 21;
+/// The bits below these are the host's properties; from this one on stands the character's number without its last bits.
+const NUMBER: u32 = 23;
+/// How many bits those are.
+const PLACE: u32 = 12;
 
-/// The facts of the last character whose number ends in these ten bits.
-static REMEMBERED: [AtomicU32; 1024] = [const { AtomicU32::new(u32::MAX) }; 1024];
+/// The facts of the last character whose number ends in these bits, each bit turned over: none is remembered at first.
+static REMEMBERED: [AtomicU32; 1 << PLACE] = [const { AtomicU32::new(0) }; 1 << PLACE];
+
+/// What is remembered of a character.
+#[inline(always)]
+fn remembered(c: u32) -> Option<u32> {
+    let facts = !REMEMBERED[c as usize % REMEMBERED.len()].load(Ordering::Relaxed);
+    (facts >> NUMBER == c >> PLACE).then_some(facts)
+}
 
 /// Whether it is remembered of a character that it doesn't come apart.
 #[inline]
 fn stays_whole(c: u32) -> bool {
-    let facts = REMEMBERED[c as usize % REMEMBERED.len()].load(Ordering::Relaxed);
-    facts >> NUMBER == c >> 10 && facts & COMES_APART == 0
+    remembered(c).is_some_and(|facts| facts & COMES_APART == 0)
 }
 
 /// The facts of a character.
 #[inline(always)]
 fn facts_of(c: u32, text: &mut Buffer) -> Result<u32, ShaperError> {
-    let place = &REMEMBERED[c as usize % REMEMBERED.len()];
-    let facts = place.load(Ordering::Relaxed);
-    if facts >> NUMBER == c >> 10 {
-        return Ok(facts);
+    match remembered(c) {
+        Some(facts) => Ok(facts),
+        None => find_facts(c, text),
     }
-    let facts = find_facts(c, text)?;
-    place.store(facts, Ordering::Relaxed);
-    Ok(facts)
 }
 
+/// Finds the facts of a character, and remembers them.
 #[cold]
 #[inline(never)]
 fn find_facts(c: u32, text: &mut Buffer) -> Result<u32, ShaperError> {
     refill(text, &[Glyph { glyph_id: c, ..Glyph::DEFAULT }])?;
     set_unicode_properties(&UnicodeTables, text);
-    let mut facts = c >> 10 << NUMBER | u32::from(props_of(&text.get(0)));
+    let mut facts = c >> PLACE << NUMBER | u32::from(props_of(&text.get(0)));
     let Some(character) = char::from_u32(c) else {
         return Ok(facts | OPENS);
     };
@@ -106,6 +111,7 @@ fn find_facts(c: u32, text: &mut Buffer) -> Result<u32, ShaperError> {
     ] {
         facts |= if holds { bit } else { 0 };
     }
+    REMEMBERED[c as usize % REMEMBERED.len()].store(!facts, Ordering::Relaxed);
     Ok(facts)
 }
 
@@ -157,7 +163,8 @@ fn run_steps(plan: &hb_ot_shape_plan_t, font: FontRef, wanted: HostDirection, bu
         if steps.number_in_place(buffer) {
             return Ok(());
         }
-        let done = load(buffer, &mut text).and_then(|()| steps.run(&mut text, &mut part));
+        load(buffer, &mut text)?;
+        let done = steps.run(&mut text, &mut part);
         store(buffer, &text);
         if steps.is_rewritten {
             note_normalized(buffer);
@@ -168,6 +175,10 @@ fn run_steps(plan: &hb_ot_shape_plan_t, font: FontRef, wanted: HostDirection, bu
     buffer.work.text = Some(text);
     buffer.work.part = part;
 }
+
+/// Marks of `sengadlit`'s, by their bits.
+const IGNORABLE: u8 = GlyphMarks::IGNORABLE.0;
+const CONTINUATION: u8 = GlyphMarks::CONTINUATION.0;
 
 /// Makes the text one of the buffer's characters with their properties.
 fn load(buffer: &hb_buffer_t, text: &mut Buffer) -> Result<(), ShaperError> {
@@ -189,14 +200,14 @@ fn load(buffer: &hb_buffer_t, text: &mut Buffer) -> Result<(), ShaperError> {
 #[inline(always)]
 fn character_of(info: &Info) -> Glyph {
     let props = info.unicode_props();
-    let (ignorable, hidden, continues) = (props >> 2 & 8, props >> 1 & u16::from(HIDDEN), props >> 3 & 16);
+    let marks = (props >> 2) as u8 & IGNORABLE | (props >> 1) as u8 & HIDDEN | (props >> 3) as u8 & CONTINUATION;
     Glyph {
         glyph_id: info.glyph_id,
         cluster: info.cluster,
         mask: info.mask,
         general_category: CATEGORIES[usize::from(props & 31)],
         modified_combining_class: (props >> 8) as u8,
-        marks: GlyphMarks((ignorable | hidden | continues) as u8),
+        marks: GlyphMarks(marks),
         ..Glyph::DEFAULT
     }
 }
@@ -209,23 +220,19 @@ fn store(buffer: &mut hb_buffer_t, text: &Buffer) {
     buffer.len = text.len();
     buffer.direction = host_direction_of(text.direction());
     for (info, glyph) in buffer.info.iter_mut().zip(text.glyphs()) {
-        let bytes = [glyph.category, glyph.auxiliary].map(u32::from);
-        let var2 = u32::from(props_of(glyph)) | bytes[0] << 16 | bytes[1] << 24;
-        *info = Info {
-            glyph_id: glyph.glyph_id,
-            mask: glyph.mask,
-            cluster: glyph.cluster,
-            vars: [glyph.var, var2.to_le()],
-        };
+        *info = parts::info(glyph.glyph_id, glyph.mask, glyph.cluster, glyph.var);
+        info.set_unicode_props(props_of(glyph));
+        info.set_ot_shaper_var_u8_category(glyph.category);
+        info.set_ot_shaper_var_u8_auxiliary(glyph.auxiliary);
     }
 }
 
 /// The host's properties of a character, by HarfBuzz's bits.
 #[inline(always)]
 fn props_of(glyph: &Glyph) -> u16 {
-    let marks = u16::from(glyph.marks.0);
-    let (ignorable, hidden, continues) = (marks & 8, marks & u16::from(HIDDEN), marks & 16);
-    let class = u16::from(glyph.modified_combining_class);
+    let GlyphMarks(marks) = glyph.marks;
+    let [ignorable, hidden, continues, class] =
+        [marks & IGNORABLE, marks & HIDDEN, marks & CONTINUATION, glyph.modified_combining_class].map(u16::from);
     glyph.general_category as u16 | ignorable << 2 | hidden << 1 | continues << 3 | class << 8
 }
 
