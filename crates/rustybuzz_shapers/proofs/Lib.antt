@@ -1,10 +1,18 @@
+mod Again
+mod AgainRows
+mod Apart
 mod Breaks
 mod CheckedRows
 mod Cuts
 mod Edited
 mod FlagLaws
+mod HangulLong
 mod Headline
 mod HookRows
+mod IndicHalves
+mod LengthRows
+mod Lengths
+mod LineAdvances
 mod PauseLaws
 mod PauseRows
 mod PauseStays
@@ -13,6 +21,10 @@ mod StandingRows
 mod Regrouped
 mod Together
 mod TogetherRows
+mod TextCuts
+mod ThaiClusterHalves
+mod ThaiHalves
+mod ThaiMonotone
 -- lemmas to cite, of the crates below, under their names
 pub use Rattle.shapers_clusters.proofs as clusters
 pub use Rattle.shapers_syllabic.proofs as syllabic

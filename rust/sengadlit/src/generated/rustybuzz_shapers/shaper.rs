@@ -113,6 +113,36 @@ pub const THAI_SHAPER: Shaper = Shaper::Thai;
 pub const UNIVERSAL_SHAPER: Shaper = Shaper::Universal;
 
 impl Shaper {
+    /// How many glyphs are room enough for what preprocessing, or a pause, makes of so many: a buffer
+    /// with this `max_len` is never too long for it. The greatest number, if that is less.
+    ///
+    /// <details><summary>Contract</summary>
+    ///
+    /// # Contract
+    ///
+    /// ```text
+    /// ensures bound { result ≡ min (len * growth self) (2 ^ 64 - 1) }
+    /// ensures preprocessing { PreprocessingHasRoom }
+    /// ensures pauses { PausesHaveRoom }
+    /// ```
+    ///
+    /// - `PausesHaveRoom`, `PreprocessingHasRoom`, `growth`: `crates/rustybuzz_shapers/specs/Lengths.antt`
+    ///
+    /// </details>
+    #[inline]
+    pub const fn length_bound(self, len: usize) -> usize {
+        len.saturating_mul(self.growth())
+    }
+
+    // How many times as long a text gets at most.
+    const fn growth(self) -> usize {
+        match self {
+            Self::Hangul => 3,
+            Self::Indic | Self::Khmer | Self::Myanmar | Self::Thai | Self::Universal => 2,
+            Self::Arabic | Self::Hebrew | Self::MyanmarZawgyi => 1,
+        }
+    }
+
     /// Whether the shaper has a hook. Where it lacks one, the hook's method returns None and
     /// changes nothing.
     ///
