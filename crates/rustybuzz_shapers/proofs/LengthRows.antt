@@ -2,6 +2,7 @@
 use Rattle.std.specs.Prelude.{◌≡◌, ℕ, ◌==◌, false, true, pos, Some, None, [], ◌∷◌, List, length, map, refl, if◌then◌else◌}
 use Rattle.std.specs.List.{list_any}
 use Rattle.shapers_base.specs.Font.{Font}
+use Rattle.shapers_base.specs.declared.plan.pause.Pause.TheVariants.{FinalReordering, InitialReordering, RecordStch, ReorderKhmer, ReorderMyanmar, ReorderUse}
 use Rattle.shapers_buffer.specs.declared.buffer.glyph.hb_glyph_info_t.{hb_glyph_info_t}
 use Rattle.shapers_buffer.specs.declared.buffer.level.BufferClusterLevel.TheVariants.{MonotoneGraphemes}
 use Rattle.shapers_buffer.specs.Glyph.{default_glyph}
@@ -9,7 +10,7 @@ use Rattle.shapers_hangul.specs.Hangul.{preprocessed}
 use Rattle.shapers_syllabic.specs.Circles.{circled}
 use Rattle.shapers_syllabic.specs.declared.ot_shaper_syllabic.circles.DottedCircles.{DottedCircles}
 use Rattle.shapers_text.specs.ThaiForms.{preprocessed_text}
-use Rattle.rustybuzz_shapers.specs.Lengths.{broken_in, growth}
+use Rattle.rustybuzz_shapers.specs.Lengths.{broken_in, growth, pause_growth}
 use Rattle.rustybuzz_shapers.specs.declared.shaper.hb_ot_shaper_t.TheVariants.{Arabic, Hangul, Hebrew, Indic, Khmer, Myanmar, MyanmarZawgyi, Thai, Universal}
 
 abbrev character : ℕ → hb_glyph_info_t
@@ -26,6 +27,9 @@ jamo_font = record {
 
 growths : map growth (Arabic ∷ Hangul ∷ Hebrew ∷ Indic ∷ Khmer ∷ Myanmar ∷ MyanmarZawgyi ∷ Thai ∷ Universal ∷ []) ≡ 1 ∷ 3 ∷ 1 ∷ 2 ∷ 2 ∷ 2 ∷ 1 ∷ 2 ∷ 2 ∷ []
 growths = refl
+
+pause_growths : map pause_growth (InitialReordering ∷ FinalReordering ∷ ReorderKhmer ∷ ReorderMyanmar ∷ ReorderUse ∷ RecordStch ∷ []) ≡ 2 ∷ 1 ∷ 2 ∷ 2 ∷ 2 ∷ 1 ∷ []
+pause_growths = refl
 
 -- one syllable character, three jamo
 three_jamo : length (preprocessed jamo_font true MonotoneGraphemes (character 0xAC01 ∷ [])) ≡ 3

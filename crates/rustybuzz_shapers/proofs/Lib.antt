@@ -6,6 +6,8 @@ mod CheckedRows
 mod Cuts
 mod Edited
 mod FlagLaws
+mod HangulHalves
+mod HangulItems
 mod HangulLong
 mod Headline
 mod HookRows
@@ -21,6 +23,7 @@ mod StandingRows
 mod Regrouped
 mod Together
 mod TogetherRows
+mod TextCutRows
 mod TextCuts
 mod ThaiClusterHalves
 mod ThaiHalves

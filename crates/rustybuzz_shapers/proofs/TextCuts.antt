@@ -6,8 +6,10 @@ use Rattle.shapers_buffer.specs.Buffer.{Buffer}
 use Rattle.shapers_buffer.specs.declared.buffer.glyph.hb_glyph_info_t.{hb_glyph_info_t}
 use Rattle.shapers_buffer.specs.declared.buffer.level.BufferClusterLevel.{BufferClusterLevel}
 use Rattle.shapers_buffer.specs.Glyph.{clusters, order_view}
+use Rattle.shapers_hangul.specs.Hangul.{allows_circles, preprocessed}
 use Rattle.shapers_text.specs.ThaiForms.{asks_for_forms, preprocessed_text}
-use Rattle.rustybuzz_shapers.specs.TextCuts.{OpensFreely, PreprocessedHalves, ThaiCuts}
+use Rattle.rustybuzz_shapers.specs.TextCuts.{HangulCuts, OpensFreely, PreprocessedHalves, ThaiCuts}
+use Rattle.rustybuzz_shapers.proofs.HangulHalves.{hangul_clusters_halves, hangul_order_halves}
 use Rattle.rustybuzz_shapers.proofs.ThaiClusterHalves.{thai_clusters_halves}
 use Rattle.rustybuzz_shapers.proofs.ThaiHalves.{thai_order_halves}
 
@@ -44,5 +46,22 @@ thai_cuts plan font gs hs old one two new free first second whole =
           ap (λ b. clusters (glyphs b)) whole
           ∙ made.in_clusters none
           ∙ ap (λ b. clusters (glyphs b) ++ clusters (preprocessed_text forms has old.level hs)) (sym first)
+          ∙ ap (λ b. clusters one.glyphs ++ clusters (glyphs b)) (sym second);
+    }
+
+pub hangul_cuts : HangulCuts
+hangul_cuts plan font gs hs old one two new between first second whole =
+    let circles = allows_circles old in
+    let glyphs = λ (b : Buffer). b.glyphs in
+    record {
+      order =
+          ap (λ b. order_view (glyphs b)) whole
+          ∙ hangul_order_halves font circles old.level gs hs between
+          ∙ ap (λ b. order_view (glyphs b) ++ order_view (preprocessed font circles old.level hs)) (sym first)
+          ∙ ap (λ b. order_view one.glyphs ++ order_view (glyphs b)) (sym second);
+      in_clusters = λ none.
+          ap (λ b. clusters (glyphs b)) whole
+          ∙ hangul_clusters_halves font circles old.level gs hs between none
+          ∙ ap (λ b. clusters (glyphs b) ++ clusters (preprocessed font circles old.level hs)) (sym first)
           ∙ ap (λ b. clusters one.glyphs ++ clusters (glyphs b)) (sym second);
     }

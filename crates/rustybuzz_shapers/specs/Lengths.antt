@@ -3,6 +3,7 @@ use Rattle.std.specs.Prelude.{ℕ, ◌+◌, ◌*◌, ◌≤◌, ◌≡◌, ◌�
 use Rattle.std.specs.List.{count_by}
 use Rattle.shapers_base.specs.declared.plan.hb_ot_shape_plan_t.{hb_ot_shape_plan_t}
 use Rattle.shapers_base.specs.declared.plan.pause.Pause.{Pause}
+use Rattle.shapers_base.specs.declared.plan.pause.Pause.TheVariants.{InitialReordering, ReorderKhmer, ReorderMyanmar, ReorderUse}
 use Rattle.shapers_base.specs.declared.plan.Preprocess.{Preprocess}
 use Rattle.shapers_base.specs.Font.{Font}
 use Rattle.shapers_buffer.specs.Buffer.{Buffer}
@@ -41,8 +42,8 @@ PausesGrow = (pause : Pause) (plan : hb_ot_shape_plan_t) (font : Font) (spans : 
     (old new : Buffer) → PauseKeeps pause plan font spans old new →
     length new.glyphs ≡ length old.glyphs + broken_in (pause_circles pause plan font old) old.glyphs
 
--- How many times as long a text gets at most, by preprocessing or by a pause of the shaper: twice,
--- too, where each syllable may be broken.
+-- How many times as long a text gets at most, by preprocessing or by a pause of the shaper: twice
+-- where each syllable may be broken.
 abbrev pub growth : hb_ot_shaper_t → ℕ
 growth Hangul = 3
 growth Thai = 2
@@ -60,9 +61,17 @@ PreprocessingHasRoom =
     length old.glyphs * growth shaper ≤ old.max_len → RefusesPreprocess shaper font old r →
     IsOkUnless r Memory
 
--- Where there is room for twice the text, no pause finds it too long.
+-- the same of a pause: the four that may open circles
+abbrev pub pause_growth : Pause → ℕ
+pause_growth InitialReordering = 2
+pause_growth ReorderKhmer = 2
+pause_growth ReorderMyanmar = 2
+pause_growth ReorderUse = 2
+pause_growth pause = 1
+
+-- Where there is room for so many glyphs, no pause finds the text too long.
 abbrev pub PausesHaveRoom : Type 0
 PausesHaveRoom =
     (pause : Pause) (font : Font) (spans : List Span) (old : Buffer)
     (r : Result Bool ShaperError) →
-    length old.glyphs * 2 ≤ old.max_len → RefusesPause pause font spans old r → r ≢ Err TooLong
+    length old.glyphs * pause_growth pause ≤ old.max_len → RefusesPause pause font spans old r → r ≢ Err TooLong

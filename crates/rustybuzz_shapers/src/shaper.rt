@@ -127,8 +127,8 @@ impl hb_ot_shaper_t {
     ghost use Rattle.rustybuzz_shapers.specs.Lengths.{PausesHaveRoom, PreprocessingHasRoom, growth};
     ghost use Rattle.rustybuzz_shapers.specs.Stretched.{glyphs_added};
 
-    /// How many glyphs are room enough for what preprocessing, or a pause, makes of so many: a buffer
-    /// with this `max_len` is never too long for it. The greatest number, if that is less.
+    /// For how many glyphs a text of so many needs room, whatever preprocessing or a pause of the shaper
+    /// makes of it: with this `max_len` neither refuses with `TooLong`. At most the greatest number.
     #[inline]
     pub const fn length_bound(self, len: usize) -> usize
         ensures bound { result ≡ min (len * growth self) (2 ^ 64 - 1) }

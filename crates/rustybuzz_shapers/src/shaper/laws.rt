@@ -14,7 +14,7 @@ ghost use Rattle.rustybuzz_shapers.specs.Monotone.{CirclesStayMonotone, ExactCut
 ghost use Rattle.rustybuzz_shapers.specs.Pauses.{by_initial, by_khmer, by_myanmar};
 ghost use Rattle.shapers_base.specs.declared.plan.pause.Pause.TheVariants.{SetupSyllablesIndic, SetupSyllablesKhmer, SetupSyllablesMyanmar, InitialReordering, ReorderKhmer, ReorderMyanmar};
 ghost use Rattle.rustybuzz_shapers.specs.Regrouped.{SyllablesRegrouped};
-ghost use Rattle.rustybuzz_shapers.specs.TextCuts.{ThaiCuts};
+ghost use Rattle.rustybuzz_shapers.specs.TextCuts.{HangulCuts, ThaiCuts};
 ghost use Rattle.rustybuzz_shapers.specs.Stretched.{LineAdvances, StretchesCover};
 
 use shapers_arabic::ot_shaper_arabic::{
@@ -141,8 +141,9 @@ pub fn again_law()
 {}
 
 /// A Thai or Lao text cut before a glyph that is no above-base mark and no SARA AM (where private use
-/// forms follow, before no mark either) is preprocessed as its halves are, one after the other;
-/// clusters too where the halves share none.
+/// forms follow, before no mark either) is preprocessed as its halves are, one after the other; so is
+/// a Hangul text that is cut between two items. Clusters too where the halves share none.
 pub fn text_cuts_law()
     ensures thai { ThaiCuts }
+    ensures hangul { HangulCuts }
 {}

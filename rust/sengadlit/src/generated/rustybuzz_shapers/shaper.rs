@@ -113,8 +113,8 @@ pub const THAI_SHAPER: Shaper = Shaper::Thai;
 pub const UNIVERSAL_SHAPER: Shaper = Shaper::Universal;
 
 impl Shaper {
-    /// How many glyphs are room enough for what preprocessing, or a pause, makes of so many: a buffer
-    /// with this `max_len` is never too long for it. The greatest number, if that is less.
+    /// For how many glyphs a text of so many needs room, whatever preprocessing or a pause of the shaper
+    /// makes of it: with this `max_len` neither refuses with `TooLong`. At most the greatest number.
     ///
     /// <details><summary>Contract</summary>
     ///
