@@ -50,14 +50,14 @@ marks MyanmarZawgyi start end old new k = unchanged old new k.1
 marks Thai start end old new k = unchanged old new k.1
 marks Universal start end old new k = unchanged old new k.1
 
-copied : (olds news : List hb_glyph_info_t) → AreCopies olds news → NoNewCluster olds news
-copied olds [] k = All-nil (Contains (clusters olds))
-copied olds (new ∷ news) k =
+copies_none : (olds news : List hb_glyph_info_t) → AreCopies olds news → NoNewCluster olds news
+copies_none olds [] k = All-nil (Contains (clusters olds))
+copies_none olds (new ∷ news) k =
     let there : Contains (clusters olds) k.0.0.cluster = Contains-map (λ (g : hb_glyph_info_t). g.cluster) olds k.0.0 k.0.1.0 in
-    All-cons (Contains (clusters olds)) new.cluster (clusters news) (subst (Contains (clusters olds)) (sym k.0.1.1.same) there) (copied olds news k.1)
+    All-cons (Contains (clusters olds)) new.cluster (clusters news) (subst (Contains (clusters olds)) (sym k.0.1.1.same) there) (copies_none olds news k.1)
 
 postprocessing : (shaper : hb_ot_shaper_t) (plan : hb_ot_shape_plan_t) (font : Font) (old new : Buffer) → PostprocessKeeps shaper plan font old new → NoNewCluster old.glyphs new.glyphs
-postprocessing Arabic plan font old new k = copied old.glyphs new.glyphs k.0
+postprocessing Arabic plan font old new k = copies_none old.glyphs new.glyphs k.0
 postprocessing Hangul plan font old new k = unchanged old new k.1
 postprocessing Hebrew plan font old new k = unchanged old new k.1
 postprocessing Indic plan font old new k = unchanged old new k.1

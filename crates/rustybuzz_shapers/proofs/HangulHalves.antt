@@ -38,7 +38,7 @@ order_made font circles level gs =
     outputs-map plain glyph_copies glyph_copies (record { character = λ u g. refl; jamo = λ n g. refl }) cut (all_joined level cut gs)
     ∙ ap (outputs glyph_copies cut) (plain_joined level font circles 0 0 (characters gs) gs)
 
-clusters_made : (font : Font) (circles : Bool) (level : BufferClusterLevel) (gs : List hb_glyph_info_t) → clusters (preprocessed font circles level gs) ≡ outputs place_copies (items font circles (characters gs)) (clusters (merge_all level (stretches level (items font circles (characters gs))) gs))
+pub clusters_made : (font : Font) (circles : Bool) (level : BufferClusterLevel) (gs : List hb_glyph_info_t) → clusters (preprocessed font circles level gs) ≡ outputs place_copies (items font circles (characters gs)) (clusters (merge_all level (stretches level (items font circles (characters gs))) gs))
 clusters_made font circles level gs =
     let cut = items font circles (characters gs) in
     outputs-map (λ (g : hb_glyph_info_t). g.cluster) glyph_copies place_copies (record { character = λ u g. refl; jamo = λ n g. refl }) cut (all_joined level cut gs)
@@ -56,7 +56,7 @@ ends_from level font circles n place zero (u ∷ us) within few =
     (ends_from level font circles n (place + 1) (item_len item - 1) us (omega (arith, within)) (omega (arith, fits, some)))
 ends_from level font circles n place (suc skip) (u ∷ us) within few = ends_from level font circles n (place + 1) skip us (omega (arith, within)) (omega (arith, few))
 
-ends_within : (level : BufferClusterLevel) (font : Font) (circles : Bool) (gs : List hb_glyph_info_t) → EndWithin (length gs) (stretches level (items font circles (characters gs)))
+pub ends_within : (level : BufferClusterLevel) (font : Font) (circles : Bool) (gs : List hb_glyph_info_t) → EndWithin (length gs) (stretches level (items font circles (characters gs)))
 ends_within level font circles gs = ends_from level font circles (length gs) 0 0 (characters gs) (omega (arith, length-characters gs)) (omega arith)
 
 -- the outputs of both halves' items

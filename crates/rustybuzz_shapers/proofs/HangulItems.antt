@@ -188,7 +188,7 @@ merged_past : (b : Bool) (n s k : ℕ) → cond b ((n + s, n + s + k) ∷ []) []
 merged_past true n s k = ap (λ (e : ℕ). (n + s, e) ∷ []) (omega arith)
 merged_past false n s k = refl
 
-of_three : {X : Type 0} (Q : X → Type 0) (a b : Bool) (p q o : X) → Q p → Q q → Q o → Q (cond a (cond b p q) o)
+pub of_three : {X : Type 0} (Q : X → Type 0) (a b : Bool) (p q o : X) → Q p → Q q → Q o → Q (cond a (cond b p q) o)
 of_three Q true true p q o one two three = one
 of_three Q true false p q o one two three = two
 of_three Q false b p q o one two three = three

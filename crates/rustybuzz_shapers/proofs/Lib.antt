@@ -9,6 +9,7 @@ mod FlagLaws
 mod HangulHalves
 mod HangulItems
 mod HangulLong
+mod HangulMonotone
 mod Headline
 mod HookRows
 mod IndicHalves

@@ -137,7 +137,7 @@ abbrev pub Ordered : (ℕ → ℕ → Type 0) → List ℕ → Type 0
 Ordered R [] = Unit {0}
 Ordered R (x ∷ xs) = AllByRecursion (R x) xs × Ordered R xs
 
-all_from : (P : ℕ → Type 0) (xs : List ℕ) → ((j : ℕ) → j < length xs → P (get_or xs j 0)) → AllByRecursion P xs
+pub all_from : (P : ℕ → Type 0) (xs : List ℕ) → ((j : ℕ) → j < length xs → P (get_or xs j 0)) → AllByRecursion P xs
 all_from P [] h = tt
 all_from P (x ∷ xs) h = (h 0 (omega arith), all_from P xs (λ j l. h (suc j) (omega (arith, l))))
 
@@ -146,7 +146,7 @@ all_at P [] j d h l = absurd (omega arith)
 all_at P (x ∷ xs) zero d h l = h.0
 all_at P (x ∷ xs) (suc j) d h l = all_at P xs j d h.1 (omega (arith, l))
 
-from_pairs : (R : ℕ → ℕ → Type 0) (xs : List ℕ) → AllPairs R xs → Ordered R xs
+pub from_pairs : (R : ℕ → ℕ → Type 0) (xs : List ℕ) → AllPairs R xs → Ordered R xs
 from_pairs R [] h = tt
 from_pairs R (x ∷ xs) h = (
   all_from (R x) xs (λ j l. h 0 (suc j) 0 (omega arith) (omega (arith, l))),

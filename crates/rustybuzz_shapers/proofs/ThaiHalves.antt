@@ -105,9 +105,9 @@ cut_at rule xs y ys low other =
 
 -- THE FORMS
 -- what stands before a character that is no mark isn't seen behind it
-first_last : (xs ys : List ℕ) → 0 < length xs → last_type (xs ++ ys) ≡ last_type xs
-first_last [] ys some = absurd (omega arith)
-first_last (x ∷ xs) ys some = refl
+last_in_front : (xs ys : List ℕ) → 0 < length xs → last_type (xs ++ ys) ≡ last_type xs
+last_in_front [] ys some = absurd (omega arith)
+last_in_front (x ∷ xs) ys some = refl
 
 same_action : (us : List ℕ) (v : ℕ) (ms : List ℕ) (w : ℕ) → is_thai_mark v ≡ false → action_after (us ++ v ∷ ms) w ≡ action_after (v ∷ ms) w
 same_action us v ms w h =
@@ -117,7 +117,7 @@ same_action us v ms w h =
     let base : base_type (us ++ v ∷ ms) ≡ base_type (v ∷ ms) =
     ap (λ zs. last_type (reverse zs)) (before_last_run_stop is_thai_mark us v ms h)
     ∙ ap last_type (reverse-append us (v ∷ b))
-    ∙ first_last (reverse (v ∷ b)) (reverse us) some
+    ∙ last_in_front (reverse (v ∷ b)) (reverse us) some
     ∙ ap (λ zs. last_type (reverse zs)) (sym (before_last_run_stop is_thai_mark [] v ms h)) in
     ap (λ c. action_of c (mark_type w) (marks_above (us ++ v ∷ ms)) (marks_below (us ++ v ∷ ms))) base
     ∙ ap (λ zs. action_of (base_type (v ∷ ms)) (mark_type w) (count_by (λ u. stands_above (mark_type u)) zs) (count_by (λ u. stands_below (mark_type u)) zs)) run

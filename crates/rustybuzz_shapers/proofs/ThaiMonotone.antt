@@ -25,15 +25,15 @@ use Rattle.rustybuzz_shapers.specs.Monotone.{StaysMonotone, ThaiStaysMonotone}
 use Rattle.rustybuzz_shapers.proofs.Monotone.{Ordered, to_pairs}
 
 -- lists of places in an order R, one after the other
-all_append : (P : ℕ → Type 0) (xs ys : List ℕ) → AllByRecursion P xs → AllByRecursion P ys → AllByRecursion P (xs ++ ys)
+pub all_append : (P : ℕ → Type 0) (xs ys : List ℕ) → AllByRecursion P xs → AllByRecursion P ys → AllByRecursion P (xs ++ ys)
 all_append P [] ys own more = more
 all_append P (x ∷ xs) ys own more = (own.0, all_append P xs ys own.1 more)
 
-all_weaker : (P Q : ℕ → Type 0) → ((x : ℕ) → P x → Q x) → (xs : List ℕ) → AllByRecursion P xs → AllByRecursion Q xs
+pub all_weaker : (P Q : ℕ → Type 0) → ((x : ℕ) → P x → Q x) → (xs : List ℕ) → AllByRecursion P xs → AllByRecursion Q xs
 all_weaker P Q weaker [] own = tt
 all_weaker P Q weaker (x ∷ xs) own = (weaker x own.0, all_weaker P Q weaker xs own.1)
 
-ordered_append : (R : ℕ → ℕ → Type 0) (xs ys : List ℕ) → Ordered R xs → Ordered R ys → AllByRecursion (λ x. AllByRecursion (R x) ys) xs → Ordered R (xs ++ ys)
+pub ordered_append : (R : ℕ → ℕ → Type 0) (xs ys : List ℕ) → Ordered R xs → Ordered R ys → AllByRecursion (λ x. AllByRecursion (R x) ys) xs → Ordered R (xs ++ ys)
 ordered_append R [] ys first second across = second
 ordered_append R (x ∷ xs) ys first second across = (all_append (R x) xs ys first.0 across.0, ordered_append R xs ys first.1 second across.1)
 

@@ -74,4 +74,5 @@ abbrev pub PausesHaveRoom : Type 0
 PausesHaveRoom =
     (pause : Pause) (font : Font) (spans : List Span) (old : Buffer)
     (r : Result Bool ShaperError) →
-    length old.glyphs * pause_growth pause ≤ old.max_len → RefusesPause pause font spans old r → r ≢ Err TooLong
+    length old.glyphs * pause_growth pause ≤ old.max_len → RefusesPause pause font spans old r →
+    r ≢ Err TooLong

@@ -16,10 +16,10 @@ use Rattle.shapers_clusters.specs.FlagLaw.{OnlyFlagsAdded}
 use Rattle.shapers_syllabic.specs.Borders.{MeetAtBorder}
 use Rattle.shapers_syllabic.specs.Circles.{circled, rephas_len, with_circles}
 use Rattle.shapers_syllabic.specs.declared.ot_shaper_syllabic.circles.DottedCircles.{DottedCircles}
-use Rattle.rustybuzz_shapers.specs.Hooks.{MarksKeep, PreprocessKeeps}
+use Rattle.rustybuzz_shapers.specs.Hooks.{MarksKeep, PreprocessKeeps, Preprocessed}
 use Rattle.rustybuzz_shapers.specs.Pauses.{PauseKeeps, pause_circles}
 use Rattle.rustybuzz_shapers.specs.declared.shaper.hb_ot_shaper_t.{hb_ot_shaper_t}
-use Rattle.rustybuzz_shapers.specs.declared.shaper.hb_ot_shaper_t.TheVariants.{Thai}
+use Rattle.rustybuzz_shapers.specs.declared.shaper.hb_ot_shaper_t.TheVariants.{Hangul, Thai}
 
 -- Clusters that rise along the first text rise along the second, and those that fall fall.
 abbrev pub StaysMonotone : List ℕ → List ℕ → Type 0
@@ -65,6 +65,12 @@ MasksStayMonotone = (gs ms : List hb_glyph_info_t) → OnlyFlagsAdded gs ms →
 abbrev pub ThaiStaysMonotone : Type 0
 ThaiStaysMonotone = (plan : hb_ot_shape_plan_t) (font : Font) (old new : Buffer) →
     merges old.level ≡ true → PreprocessKeeps Thai plan font old new →
+    StaysMonotone (clusters old.glyphs) (clusters new.glyphs)
+
+-- and a Hangul text
+abbrev pub HangulStaysMonotone : Type 0
+HangulStaysMonotone = (plan : hb_ot_shape_plan_t) (font : Font) (old new : Buffer) →
+    merges old.level ≡ true → Preprocessed Hangul plan font old new →
     StaysMonotone (clusters old.glyphs) (clusters new.glyphs)
 
 -- The reorderings of Indic, where two halves meet at a border of syllables and share no cluster:

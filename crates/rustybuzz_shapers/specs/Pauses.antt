@@ -213,9 +213,9 @@ CarriedAtBorders r old new = (gs hs xs ys : List hb_glyph_info_t) →
 
 -- What every reordering keeps. A text cut at any border of syllables gives the halves' results
 -- joined; where the bytes of the halves have other serials, but for serials; where they share no
--- cluster, glyph flags too. No glyph is lost, no cluster rises, glyph flags stay unless it fell, and
--- what shared a cluster still does: the laws of steps, from after circles on. Every cluster is one
--- that the text had before its circles.
+-- cluster, glyph flags too. No glyph is lost, no cluster rises, glyph flags stay unless it fell,
+-- and what shared a cluster still does: the laws of steps, from after circles on. Every cluster is
+-- one that the text had before its circles.
 pub record ReorderingKeeps (r : Reordering) (old new : Buffer) : Type 0 where
   pub cuts : PauseCutsAtBorders r.circles r.order r.steps old new
   pub renumbered : CutsAtBorders unnumbered (paused_order r.circles r.order)

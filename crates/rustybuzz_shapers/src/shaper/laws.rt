@@ -10,7 +10,7 @@ ghost use Rattle.shapers_arabic.specs.Concatenation.{ConcatenationLaw};
 ghost use Rattle.shapers_arabic.specs.Edits.{EditsStayNear};
 ghost use Rattle.rustybuzz_shapers.specs.Cuts.{IndicIsCutAfterBoth, IsCut, UniversalIsCut};
 ghost use Rattle.rustybuzz_shapers.specs.Headline.{ActionsByRule};
-ghost use Rattle.rustybuzz_shapers.specs.Monotone.{CirclesStayMonotone, ExactCutsStayMonotone, IndicKeepsHalves, MarksStayMonotone, MasksStayMonotone, PausesStayMonotone, ThaiStaysMonotone};
+ghost use Rattle.rustybuzz_shapers.specs.Monotone.{CirclesStayMonotone, ExactCutsStayMonotone, HangulStaysMonotone, IndicKeepsHalves, MarksStayMonotone, MasksStayMonotone, PausesStayMonotone, ThaiStaysMonotone};
 ghost use Rattle.rustybuzz_shapers.specs.Pauses.{by_initial, by_khmer, by_myanmar};
 ghost use Rattle.shapers_base.specs.declared.plan.pause.Pause.TheVariants.{SetupSyllablesIndic, SetupSyllablesKhmer, SetupSyllablesMyanmar, InitialReordering, ReorderKhmer, ReorderMyanmar};
 ghost use Rattle.rustybuzz_shapers.specs.Regrouped.{SyllablesRegrouped};
@@ -105,11 +105,13 @@ pub fn syllables_regrouped_law()
 /// Clusters that rise along the text before rise after it, and those that fall fall: at the levels
 /// that merge, after every pause but the reorderings of Indic, of the text with the circles that the
 /// pause opens; and circles leave them so, where no syllable opens with two rephas. So do SARA AMs
-/// taken in two, marks that are reordered, and masks that are set. The reorderings of Indic leave
-/// them so across the borders of syllables: halves that share no cluster keep to their own.
+/// taken in two, Hangul rewritten, marks that are reordered, and masks that are set. The reorderings
+/// of Indic leave them so across the borders of syllables: halves that share no cluster keep to
+/// their own.
 pub fn monotone_law()
     ensures pauses { PausesStayMonotone }
     ensures thai { ThaiStaysMonotone }
+    ensures hangul { HangulStaysMonotone }
     ensures marks { MarksStayMonotone }
     ensures masks { MasksStayMonotone }
     ensures indic { IndicKeepsHalves }

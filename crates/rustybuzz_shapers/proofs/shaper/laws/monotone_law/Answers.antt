@@ -1,3 +1,4 @@
+use Rattle.rustybuzz_shapers.proofs.HangulMonotone.{hangul_stays_monotone}
 use Rattle.rustybuzz_shapers.proofs.IndicHalves.{indic_keeps_halves}
 use Rattle.rustybuzz_shapers.proofs.Monotone.{circles_stay_monotone, exact_cuts_stay_monotone, flags_monotone, marks_stay_monotone, pauses_stay_monotone}
 use Rattle.rustybuzz_shapers.proofs.ThaiMonotone.{thai_stays_monotone}
@@ -23,3 +24,6 @@ returns-clause-indic c = indic_keeps_halves
 
 pub returns-clause-thai : goal.returns-clause-thai
 returns-clause-thai c = thai_stays_monotone
+
+pub returns-clause-hangul : goal.returns-clause-hangul
+returns-clause-hangul c = hangul_stays_monotone
