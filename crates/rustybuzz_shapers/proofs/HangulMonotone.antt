@@ -24,18 +24,18 @@ use Rattle.rustybuzz_shapers.proofs.Monotone.{Ordered, all_from, from_pairs, to_
 use Rattle.rustybuzz_shapers.proofs.ThaiMonotone.{all_append, all_weaker, ordered_append}
 
 -- What is made of some numbers keeps what holds of all of them, and stays in an order that they are in.
-record Keeps (P : ℕ → Type 0) (R : ℕ → ℕ → Type 0) (xs ys : List ℕ) : Type 0 where
-  all : AllByRecursion P xs → AllByRecursion P ys
-  ordered : Ordered R xs → Ordered R ys
+pub record Keeps (P : ℕ → Type 0) (R : ℕ → ℕ → Type 0) (xs ys : List ℕ) : Type 0 where
+  pub all : AllByRecursion P xs → AllByRecursion P ys
+  pub ordered : Ordered R xs → Ordered R ys
 
 -- an order that holds of each number and itself
-abbrev OfItself : (ℕ → ℕ → Type 0) → Type 0
+abbrev pub OfItself : (ℕ → ℕ → Type 0) → Type 0
 OfItself R = (x : ℕ) → R x x
 
 keeps_none : (P : ℕ → Type 0) (R : ℕ → ℕ → Type 0) (xs : List ℕ) → Keeps P R xs []
 keeps_none P R xs = record { all = λ own. tt; ordered = λ own. tt }
 
-keeps_itself : (P : ℕ → Type 0) (R : ℕ → ℕ → Type 0) (xs ys : List ℕ) → ys ≡ xs → Keeps P R xs ys
+pub keeps_itself : (P : ℕ → Type 0) (R : ℕ → ℕ → Type 0) (xs ys : List ℕ) → ys ≡ xs → Keeps P R xs ys
 keeps_itself P R xs ys is = record { all = λ own. subst (AllByRecursion P) (sym is) own; ordered = λ own. subst (Ordered R) (sym is) own }
 
 -- the first once, twice, and three times
@@ -121,10 +121,10 @@ ordered_across R [] ys own = tt
 ordered_across R (x ∷ xs) ys own = (all_right (R x) xs ys own.0, ordered_across R xs ys own.1)
 
 -- What keeps, whatever holds of all. Two parts that each do:
-abbrev KeepsEach : (ℕ → ℕ → Type 0) → List ℕ → List ℕ → Type 1
+abbrev pub KeepsEach : (ℕ → ℕ → Type 0) → List ℕ → List ℕ → Type 1
 KeepsEach R xs ys = (P : ℕ → Type 0) → Keeps P R xs ys
 
-keeps_both : (R : ℕ → ℕ → Type 0) (xs ys us vs : List ℕ) → KeepsEach R xs us → KeepsEach R ys vs → KeepsEach R (xs ++ ys) (us ++ vs)
+pub keeps_both : (R : ℕ → ℕ → Type 0) (xs ys us vs : List ℕ) → KeepsEach R xs us → KeepsEach R ys vs → KeepsEach R (xs ++ ys) (us ++ vs)
 keeps_both R xs ys us vs first second P = record {
   all = λ own. all_append P us vs ((first P).all (all_left P xs ys own)) ((second P).all (all_right P xs ys own));
   ordered = λ own.
@@ -149,7 +149,7 @@ one_further (suc n) [] = refl
 one_further (suc n) (w ∷ ws) = ap (λ xs. w ∷ xs) (one_further n ws)
 
 -- A TONE
-keeps_by : (R : ℕ → ℕ → Type 0) (xs ys us : List ℕ) → xs ≡ ys → KeepsEach R ys us → KeepsEach R xs us
+pub keeps_by : (R : ℕ → ℕ → Type 0) (xs ys us : List ℕ) → xs ≡ ys → KeepsEach R ys us → KeepsEach R xs us
 keeps_by R xs ys us is own P = subst (λ zs. Keeps P R zs us) (sym is) (own P)
 
 one_taken : (n : ℕ) (ws : List ℕ) → take (n + 1) ws ≡ take n ws ++ take 1 (drop n ws)

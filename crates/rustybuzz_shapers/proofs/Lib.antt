@@ -21,6 +21,7 @@ mod PauseRows
 mod PauseStays
 mod RecordRows
 mod StandingRows
+mod StretchMonotone
 mod Regrouped
 mod Together
 mod TogetherRows

@@ -76,7 +76,7 @@ exact_cuts_stay_monotone cs sts after x = (rising_after cs sts after x, falling_
 pub same_monotone : (cs js : List ℕ) → js ≡ cs → StaysMonotone cs js
 same_monotone cs js e = (λ h. subst IsRising (sym e) h, λ h. subst IsFalling (sym e) h)
 
-unchanged_monotone : (old new : Buffer) → new ≡ old → StaysMonotone (clusters old.glyphs) (clusters new.glyphs)
+pub unchanged_monotone : (old new : Buffer) → new ≡ old → StaysMonotone (clusters old.glyphs) (clusters new.glyphs)
 unchanged_monotone old new is = same_monotone (clusters old.glyphs) (clusters new.glyphs) (ap (λ (b : Buffer). clusters b.glyphs) is)
 
 pub same_clusters : (gs ms : List hb_glyph_info_t) → OnlyFlagsAdded gs ms → clusters ms ≡ clusters gs

@@ -1,5 +1,5 @@
 -- Clusters that rise, or fall, along the text: what keeps them so.
-use Rattle.std.specs.Prelude.{ℕ, ◌≤◌, ◌≡◌, ◌++◌, Bool, true, false, List}
+use Rattle.std.specs.Prelude.{ℕ, ◌≤◌, ◌≡◌, ◌++◌, Bool, true, false, List, length}
 use Rattle.std.specs.List.{All, AllByRecursion, Contains}
 use Rattle.shapers_buffer.specs.declared.buffer.glyph.hb_glyph_info_t.{hb_glyph_info_t}
 use Rattle.shapers_buffer.specs.declared.buffer.syllables.Span.{Span}
@@ -16,7 +16,7 @@ use Rattle.shapers_clusters.specs.FlagLaw.{OnlyFlagsAdded}
 use Rattle.shapers_syllabic.specs.Borders.{MeetAtBorder}
 use Rattle.shapers_syllabic.specs.Circles.{circled, rephas_len, with_circles}
 use Rattle.shapers_syllabic.specs.declared.ot_shaper_syllabic.circles.DottedCircles.{DottedCircles}
-use Rattle.rustybuzz_shapers.specs.Hooks.{MarksKeep, PreprocessKeeps, Preprocessed}
+use Rattle.rustybuzz_shapers.specs.Hooks.{MarksKeep, Postprocessed, PreprocessKeeps, Preprocessed}
 use Rattle.rustybuzz_shapers.specs.Pauses.{PauseKeeps, pause_circles}
 use Rattle.rustybuzz_shapers.specs.declared.shaper.hb_ot_shaper_t.{hb_ot_shaper_t}
 use Rattle.rustybuzz_shapers.specs.declared.shaper.hb_ot_shaper_t.TheVariants.{Hangul, Thai}
@@ -71,6 +71,13 @@ ThaiStaysMonotone = (plan : hb_ot_shape_plan_t) (font : Font) (old new : Buffer)
 abbrev pub HangulStaysMonotone : Type 0
 HangulStaysMonotone = (plan : hb_ot_shape_plan_t) (font : Font) (old new : Buffer) →
     merges old.level ≡ true → Preprocessed Hangul plan font old new →
+    StaysMonotone (clusters old.glyphs) (clusters new.glyphs)
+
+-- and marks stretched
+abbrev pub StretchStaysMonotone : Type 0
+StretchStaysMonotone =
+    (shaper : hb_ot_shaper_t) (plan : hb_ot_shape_plan_t) (font : Font) (old new : Buffer) →
+    length old.positions ≡ length old.glyphs → Postprocessed shaper plan font old new →
     StaysMonotone (clusters old.glyphs) (clusters new.glyphs)
 
 -- The reorderings of Indic, where two halves meet at a border of syllables and share no cluster:

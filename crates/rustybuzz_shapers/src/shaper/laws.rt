@@ -10,7 +10,7 @@ ghost use Rattle.shapers_arabic.specs.Concatenation.{ConcatenationLaw};
 ghost use Rattle.shapers_arabic.specs.Edits.{EditsStayNear};
 ghost use Rattle.rustybuzz_shapers.specs.Cuts.{IndicIsCutAfterBoth, IsCut, UniversalIsCut};
 ghost use Rattle.rustybuzz_shapers.specs.Headline.{ActionsByRule};
-ghost use Rattle.rustybuzz_shapers.specs.Monotone.{CirclesStayMonotone, ExactCutsStayMonotone, HangulStaysMonotone, IndicKeepsHalves, MarksStayMonotone, MasksStayMonotone, PausesStayMonotone, ThaiStaysMonotone};
+ghost use Rattle.rustybuzz_shapers.specs.Monotone.{CirclesStayMonotone, ExactCutsStayMonotone, HangulStaysMonotone, IndicKeepsHalves, MarksStayMonotone, MasksStayMonotone, PausesStayMonotone, StretchStaysMonotone, ThaiStaysMonotone};
 ghost use Rattle.rustybuzz_shapers.specs.Pauses.{by_initial, by_khmer, by_myanmar};
 ghost use Rattle.shapers_base.specs.declared.plan.pause.Pause.TheVariants.{SetupSyllablesIndic, SetupSyllablesKhmer, SetupSyllablesMyanmar, InitialReordering, ReorderKhmer, ReorderMyanmar};
 ghost use Rattle.rustybuzz_shapers.specs.Regrouped.{SyllablesRegrouped};
@@ -102,16 +102,16 @@ pub fn syllables_regrouped_law()
     ensures { SyllablesRegrouped }
 {}
 
-/// Clusters that rise along the text before rise after it, and those that fall fall: at the levels
-/// that merge, after every pause but the reorderings of Indic, of the text with the circles that the
-/// pause opens; and circles leave them so, where no syllable opens with two rephas. So do SARA AMs
-/// taken in two, Hangul rewritten, marks that are reordered, and masks that are set. The reorderings
-/// of Indic leave them so across the borders of syllables: halves that share no cluster keep to
-/// their own.
+/// Clusters that rise along the text before rise after it, and those that fall fall, at the levels
+/// that merge: after each hook, and after every pause but the reorderings of Indic, of the text with
+/// the circles that the pause opens; and circles leave them so, where no syllable opens with two
+/// rephas. The reorderings of Indic leave them so across the borders of syllables: halves that share
+/// no cluster keep to their own.
 pub fn monotone_law()
     ensures pauses { PausesStayMonotone }
     ensures thai { ThaiStaysMonotone }
     ensures hangul { HangulStaysMonotone }
+    ensures stretch { StretchStaysMonotone }
     ensures marks { MarksStayMonotone }
     ensures masks { MasksStayMonotone }
     ensures indic { IndicKeepsHalves }

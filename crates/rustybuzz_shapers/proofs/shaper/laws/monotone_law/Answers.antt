@@ -1,6 +1,7 @@
 use Rattle.rustybuzz_shapers.proofs.HangulMonotone.{hangul_stays_monotone}
 use Rattle.rustybuzz_shapers.proofs.IndicHalves.{indic_keeps_halves}
 use Rattle.rustybuzz_shapers.proofs.Monotone.{circles_stay_monotone, exact_cuts_stay_monotone, flags_monotone, marks_stay_monotone, pauses_stay_monotone}
+use Rattle.rustybuzz_shapers.proofs.StretchMonotone.{stretch_stays_monotone}
 use Rattle.rustybuzz_shapers.proofs.ThaiMonotone.{thai_stays_monotone}
 use Rattle.rustybuzz_shapers.proofs.shaper.laws.monotone_law.Goals as goal
 
@@ -27,3 +28,6 @@ returns-clause-thai c = thai_stays_monotone
 
 pub returns-clause-hangul : goal.returns-clause-hangul
 returns-clause-hangul c = hangul_stays_monotone
+
+pub returns-clause-stretch : goal.returns-clause-stretch
+returns-clause-stretch c = stretch_stays_monotone
