@@ -15,7 +15,8 @@ import re
 import subprocess
 import sys
 
-SCRIPTS = ["Devanagari", "Tamil", "Khmer", "Myanmar", "Arabic", "Hangul", "Hangul, composed", "Thai", "Hebrew", "Sinhala", "Tibetan"]
+SCRIPTS = ["Devanagari", "Tamil", "Khmer", "Myanmar", "Arabic", "Hangul", "Hangul, composed", "Thai", "Hebrew", "Sinhala", "Tibetan", "Latin",
+           "Latin, decomposed", "Arabic, pointed"]
 
 
 def counted(program, font, texts, times, how):
@@ -48,8 +49,10 @@ def main():
     if len(sys.argv) < 5:
         raise SystemExit(__doc__)
     texts, root, *folders = sys.argv[1:5]
-    with open(f"{texts}/scripts", encoding="utf-8") as file:
-        fonts = {fields[0]: fields[1] for fields in (line.rstrip("\n").split("\t") for line in file)}
+    fonts = {}
+    for name in ("scripts", "normalized"):
+        with open(f"{texts}/{name}", encoding="utf-8") as file:
+            fonts.update({fields[0]: fields[1] for fields in (line.rstrip("\n").split("\t") for line in file)})
     print("| script | font | a text is | characters | as it is, release | with the hooks | as it is, lto | with the hooks | anew | with the hooks |")
     print("|---|---|---|---|---|---|---|---|---|---|")
     with concurrent.futures.ThreadPoolExecutor(int(os.environ.get("JOBS", "2"))) as pool:

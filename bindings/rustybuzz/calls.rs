@@ -3,6 +3,9 @@
 /// The cluster levels.
 pub const LEVELS: [&str; 3] = ["MonotoneGraphemes", "MonotoneCharacters", "Characters"];
 
+/// Whether texts are prepared and normalized by the hooks' crate.
+pub const NORMALIZES: bool = false;
+
 /// The reasons of bindings/rustybuzz/reasons.
 pub const REASONS: &[&str] = &[
     "merge-flags",
