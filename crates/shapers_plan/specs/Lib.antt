@@ -1,0 +1,2 @@
+pub mod FontFeatures
+pub mod ShapePlan

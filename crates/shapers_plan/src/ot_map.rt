@@ -1,0 +1,6 @@
+//! From requests for features to masks and stages of lookups (HarfBuzz's map).
+pub mod font_features;
+pub mod lookups;
+
+pub use font_features::FontFeatures;
+pub use lookups::{Stage, StageLookup};
