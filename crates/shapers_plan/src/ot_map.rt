@@ -1,6 +1,9 @@
 //! From requests for features to masks and stages of lookups (HarfBuzz's map).
 pub mod font_features;
 pub mod lookups;
+mod masks;
+mod ordered;
+mod requests;
 
 pub use font_features::FontFeatures;
 pub use lookups::{Stage, StageLookup};
