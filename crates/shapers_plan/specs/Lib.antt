@@ -3,3 +3,4 @@ pub mod ShapePlan
 pub mod Ordered
 pub mod Requests
 pub mod Masks
+pub mod Stages
