@@ -4,3 +4,4 @@ pub mod Ordered
 pub mod Requests
 pub mod Masks
 pub mod Stages
+pub mod Collecting

@@ -7,3 +7,4 @@ mod requests;
 
 pub use font_features::FontFeatures;
 pub use lookups::{Stage, StageLookup};
+pub use masks::{F_GLOBAL_SEARCH, F_RANDOM};

@@ -1,39 +1,16 @@
 //! The plan of a text: its shaper, the font's lookups in stages, and the masks of its features.
-ghost use Rattle.std.specs.Prelude.{◌≡◌, ◌-◌, ◌≤◌, drop, length, take};
-ghost use Rattle.shapers_plan.specs.ShapePlan.{TextPlan};
+ghost use Rattle.std.specs.Prelude.{◌≡◌};
 
 use crate::ot_map::{Stage, StageLookup};
 use rustybuzz_shapers::shaper::hb_ot_shaper_t;
-use shapers_base::buffer::{Direction, hb_tag_t};
+use shapers_base::buffer::Direction;
 use shapers_base::plan::hb_ot_shape_plan_t;
 use std::marker::Model;
 
-/// A feature that the user asks for, from one cluster up to another.
-#[derive(Clone, Copy, Debug, PartialEq, Eq)]
-pub struct UserFeature {
-    /// The feature's tag.
-    pub tag: hb_tag_t,
-    /// Its value: 0 turns it off, 1 on; some features take more.
-    pub value: u32,
-    /// The first cluster.
-    pub start: u32,
-    /// The cluster behind the last; with `start` 0 and `u32::MAX` here, the feature holds for the whole text.
-    pub end: u32,
-}
+mod collecting;
+mod user;
 
-/// What a user's feature becomes where it doesn't hold for the whole text: in glyphs of the clusters
-/// from `start` to `end` the bits of `mask` become those of `value`.
-#[derive(Clone, Copy, Debug, PartialEq, Eq)]
-pub struct UserRange {
-    /// The bits of the feature.
-    pub mask: u32,
-    /// Which of them are set.
-    pub value: u32,
-    /// The first cluster.
-    pub start: u32,
-    /// The cluster behind the last.
-    pub end: u32,
-}
+pub use user::{UserFeature, UserRange};
 
 /// The masks of features that the driver itself turns on; 0 where the font lacks one.
 #[derive(Clone, Copy, Debug, PartialEq, Eq)]
@@ -65,9 +42,9 @@ pub struct ShapePlan {
 
 impl Model for ShapePlan {
     ghost use Rattle.std.specs.Prelude.{IsTrue};
-    ghost use Rattle.shapers_plan.specs.ShapePlan.{TextPlan, stages_fit};
+    ghost use Rattle.shapers_plan.specs.ShapePlan.{PlanView, stages_fit};
 
-    ghost Value = { TextPlan };
+    ghost Value = { PlanView };
 
     ghost view = { λ p. record {
       shaper = p.shaper;
