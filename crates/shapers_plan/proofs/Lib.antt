@@ -1,2 +1,4 @@
 pub mod Ordering
 pub mod Requesting
+pub mod MaskLemmas
+pub mod StageLemmas

@@ -5,3 +5,6 @@ pub mod Requests
 pub mod Masks
 pub mod Stages
 pub mod Collecting
+pub mod Compiling
+pub mod Planning
+pub mod Ranges

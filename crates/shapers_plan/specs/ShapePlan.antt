@@ -1,6 +1,5 @@
 -- What a plan is to its callers.
-use Rattle.std.specs.Prelude.{ℕ, Bool, ◌&&◌, List, length, nat_le, Option}
-use Rattle.std.specs.List.{list_all}
+use Rattle.std.specs.Prelude.{List, Option}
 use Rattle.shapers_buffer.specs.declared.buffer.level.Direction.{Direction}
 use Rattle.shapers_base.specs.declared.plan.hb_ot_shape_plan_t.{hb_ot_shape_plan_t}
 use Rattle.rustybuzz_shapers.specs.declared.shaper.hb_ot_shaper_t.{hb_ot_shaper_t}
@@ -21,11 +20,3 @@ pub record PlanView : Type 0 where
   pub positioning : List StageLookup
   pub masks : DriverMasks
   pub ranges : List UserRange
-
--- whether a stage is a range of a list of n lookups
-abbrev pub is_stage_of : ℕ → Stage → Bool
-is_stage_of n s = nat_le s.start s.end && nat_le s.end n
-
--- whether each stage is a range of these lookups
-abbrev pub stages_fit : List Stage → List StageLookup → Bool
-stages_fit stages lookups = list_all (is_stage_of (length lookups)) stages

@@ -1,13 +1,22 @@
 //! The plan of a text: its shaper, the font's lookups in stages, and the masks of its features.
-ghost use Rattle.std.specs.Prelude.{◌≡◌};
+ghost use Rattle.std.specs.Prelude.{◌≡◌, IfOk, IsOkUnless};
+ghost use Rattle.shapers_arabic.specs.Requests.{rclt};
+ghost use Rattle.shapers_buffer.specs.declared.buffer.refusal.ShaperError.TheVariants.{Memory};
+ghost use Rattle.shapers_plan.specs.Planning.{text_plan};
 
-use crate::ot_map::{Stage, StageLookup};
+use crate::ot_map::{CompiledMap, FontFeatures, Stage, StageLookup};
+use collecting::{collect, text_shaper};
+use making::{driver_masks, hooks_plan, user_ranges};
 use rustybuzz_shapers::shaper::hb_ot_shaper_t;
-use shapers_base::buffer::Direction;
+use shapers_base::buffer::{Direction, Script, ShaperError};
+use shapers_base::font::hb_font_t;
+use shapers_base::map::TableIndex;
 use shapers_base::plan::hb_ot_shape_plan_t;
+use std::alloc::Global;
 use std::marker::Model;
 
 mod collecting;
+mod making;
 mod user;
 
 pub use user::{UserFeature, UserRange};
@@ -42,7 +51,8 @@ pub struct ShapePlan {
 
 impl Model for ShapePlan {
     ghost use Rattle.std.specs.Prelude.{IsTrue};
-    ghost use Rattle.shapers_plan.specs.ShapePlan.{PlanView, stages_fit};
+    ghost use Rattle.shapers_plan.specs.Ranges.{stages_fit};
+    ghost use Rattle.shapers_plan.specs.ShapePlan.{PlanView};
 
     ghost Value = { PlanView };
 
@@ -61,6 +71,42 @@ impl Model for ShapePlan {
 }
 
 impl ShapePlan {
+    /// The plan of a text of this script and direction in a font, with the user's features. The
+    /// shaper follows from the script by which the font's features were found. (HarfBuzz's planner.)
+    ///
+    /// # Errors
+    ///
+    /// `Memory`.
+    pub fn new<F: hb_font_t, L: FontFeatures>(
+        alloc: Global,
+        script: Option<Script>,
+        direction: Direction,
+        face: &F,
+        features: &L,
+        users: &[UserFeature],
+    ) -> Result<Self, ShaperError>
+        ensures ok { let has_rclt = (F.font face.now).offers rclt in
+            let plan = text_plan (L.tables features.now) has_rclt script direction users.now in
+            IfOk result (λ it. it ≡ plan) }
+        ensures refusal { IsOkUnless result Memory }
+    {
+        let shaper = text_shaper(script, direction, features.chosen_script(TableIndex::GSUB));
+        let planner = collect(alloc, shaper, script, direction, face, users)?;
+        let compiled = CompiledMap::new(alloc, features, planner.requests())?;
+        let ranges = user_ranges(alloc, compiled.features.as_slice(), users)?;
+        let masks = driver_masks(&compiled.map);
+        Ok(ShapePlan {
+            shaper,
+            plan: hooks_plan(shaper, script, compiled.map),
+            direction,
+            substitutions: compiled.stages,
+            lookups: compiled.lookups,
+            positioning: compiled.positioning,
+            masks,
+            ranges,
+        })
+    }
+
     /// The shaper, or none for a text that no shaper has hooks for.
     #[inline]
     pub fn shaper(&self) -> Option<hb_ot_shaper_t>

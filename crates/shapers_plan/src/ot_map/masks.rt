@@ -1,5 +1,6 @@
 //! The bits of a glyph's mask that features get.
-ghost use Rattle.std.specs.Prelude.{◌≡◌, ◌+◌, ◌<◌, ◌≤◌, IfOk, IsOkUnless, is_some, option_map};
+ghost use Rattle.std.specs.Prelude.{◌≡◌, ◌+◌, ◌<◌, ◌≤◌, IfOk, IsOkUnless, IsTrue, is_some, option_map};
+ghost use Rattle.shapers_plan.specs.Compiling.{are_off_flags};
 ghost use Rattle.shapers_buffer.specs.declared.buffer.refusal.ShaperError.TheVariants.{Memory};
 ghost use Rattle.shapers_plan.specs.Masks.{bits_of, global_mask, in_script, is_served, is_whole, lookups_of, mapped, mapped_at, value_in};
 
@@ -23,19 +24,19 @@ const MAX_BITS: u32 = 8;
 
 /// A feature that has its bits.
 #[derive(Clone, Copy, Debug, PartialEq, Eq)]
-pub(super) struct MappedFeature {
+pub(crate) struct MappedFeature {
     /// The feature's tag.
-    pub(super) tag: hb_tag_t,
+    pub(crate) tag: hb_tag_t,
     /// The flags of its first request.
-    pub(super) flags: u32,
+    pub(crate) flags: u32,
     /// Its bits.
-    pub(super) mask: u32,
+    pub(crate) mask: u32,
     /// The lowest of them.
-    pub(super) one_mask: u32,
+    pub(crate) one_mask: u32,
     /// Its value where nothing else is set.
-    pub(super) default_value: u32,
+    pub(crate) default_value: u32,
     /// How many pauses stand before it.
-    pub(super) stage: usize,
+    pub(crate) stage: usize,
 }
 
 impl MappedFeature {
@@ -61,7 +62,7 @@ impl MappedFeature {
     }
 
     /// A value in the bits of the feature; what doesn't fit is cut off.
-    pub(super) fn value_in(&self, value: u32) -> u32
+    pub(crate) fn value_in(&self, value: u32) -> u32
         ensures { result ≡ value_in self.now value }
     {
         value.wrapping_mul(self.one_mask) & self.mask
@@ -134,6 +135,7 @@ pub(super) fn mapped<L: FontFeatures>(
     infos: &[FeatureInfo],
 ) -> Result<Vec<MappedFeature>, ShaperError>
     ensures ok { IfOk result (λ features. features.items ≡ mapped (L.tables font.now) infos.now) }
+    ensures off_flags { IfOk result (λ features. IsTrue (are_off_flags features.items)) }
     ensures refusal { IsOkUnless result Memory }
 {
     let mut features = Vec::new(alloc);
