@@ -2,3 +2,4 @@ pub mod Ordering
 pub mod Requesting
 pub mod MaskLemmas
 pub mod StageLemmas
+pub mod PlanLemmas

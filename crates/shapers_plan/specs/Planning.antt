@@ -42,7 +42,7 @@ abbrev pub hooks_plan : Option hb_ot_shaper_t → Option Script → Map → hb_o
 hooks_plan shaper script map =
     let bare = new_plan script map in
     let plan : hb_ot_shape_plan_t =
-        record bare { has_gpos_mark = not (one_mask_of "mark" map == 0) } in
+    record bare { has_gpos_mark = not (one_mask_of "mark" map == 0) } in
     option_map_or (λ s. with_created (data_created s plan) plan) shaper plan
 
 -- the bits of a mapped feature in a range

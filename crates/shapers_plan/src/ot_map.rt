@@ -9,5 +9,5 @@ mod requests;
 pub(crate) use compiling::CompiledMap;
 pub use font_features::FontFeatures;
 pub use lookups::{Stage, StageLookup};
-pub use masks::{F_GLOBAL_SEARCH, F_RANDOM};
 pub(crate) use masks::MappedFeature;
+pub use masks::{F_GLOBAL_SEARCH, F_RANDOM};

@@ -206,11 +206,7 @@ pub(super) struct Stages {
 
 impl Stages {
     // Adds a stage up to this pause.
-    fn push(
-        &mut self,
-        lookups: &[StageLookup],
-        pause: Option<Pause>,
-    ) -> Result<(), ShaperError>
+    fn push(&mut self, lookups: &[StageLookup], pause: Option<Pause>) -> Result<(), ShaperError>
         ensures lookups { OnOk result (self.new.lookups.items ≡ self.old.lookups.items ++ lookups.now) }
         ensures stages { let start = length self.old.lookups.items in
             let stage : Stage = record { start = start; end = start + length lookups.now; pause = pause } in

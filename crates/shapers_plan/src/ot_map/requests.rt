@@ -82,10 +82,7 @@ impl Numbered for FeatureInfo {
 /// # Errors
 ///
 /// `Memory`.
-pub(super) fn merged(
-    alloc: Global,
-    requests: &[Request],
-) -> Result<Vec<FeatureInfo>, ShaperError>
+pub(super) fn merged(alloc: Global, requests: &[Request]) -> Result<Vec<FeatureInfo>, ShaperError>
     ensures ok { IfOk result (λ infos. infos.items ≡ merged requests.now) }
     ensures refusal { IsOkUnless result Memory }
 {
