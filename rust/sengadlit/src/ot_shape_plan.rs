@@ -64,6 +64,7 @@ mod tests {
     use crate::map::TableIndex;
     use crate::plan::Pause;
     use crate::shaper::Shaper;
+    use std::vec::Vec;
 
     /// A font of the script Khmer, in which every feature of GSUB has lookups 9 and 3.
     struct Khmer;
@@ -106,33 +107,67 @@ mod tests {
         assert_eq!(plan.shaper(), Some(Shaper::Khmer));
         assert_eq!(plan.direction(), Direction::LeftToRight);
         let pauses: Vec<_> = plan.stages().iter().map(|stage| stage.pause).collect();
-        let khmer = [Pause::SetupSyllablesKhmer, Pause::ReorderKhmer, Pause::SyllabicClearVar];
+        let khmer = [
+            Pause::SetupSyllablesKhmer,
+            Pause::ReorderKhmer,
+            Pause::SyllabicClearVar,
+        ];
         assert_eq!(pauses[0], None);
         assert_eq!(pauses[1..4], khmer.map(Some));
         assert_eq!(pauses[4..], [None]);
         for stage in plan.stages().iter().filter(|stage| stage.start < stage.end) {
             let lookups = &plan.lookups()[stage.start..stage.end];
-            assert_eq!(lookups.iter().map(|lookup| lookup.index).collect::<Vec<_>>(), [3, 9]);
+            assert_eq!(
+                lookups
+                    .iter()
+                    .map(|lookup| lookup.index)
+                    .collect::<Vec<_>>(),
+                [3, 9]
+            );
         }
         assert!(plan.positioning().is_empty());
-        assert_eq!(plan.plan().ot_map.chosen_script(TableIndex::GSUB), Some(Tag(*b"khmr")));
+        assert_eq!(
+            plan.plan().ot_map.chosen_script(TableIndex::GSUB),
+            Some(Tag(*b"khmr"))
+        );
     }
 
     #[test]
     fn bits_of_features_are_apart() {
         let masks = plan_of(&[]).masks();
         let fractions = [masks.frac, masks.numr, masks.dnom];
-        assert!(fractions.iter().all(|mask| mask.is_power_of_two() && *mask >= 16));
-        assert_eq!(fractions.iter().fold(0, |all, mask| all | mask).count_ones(), 3);
+        assert!(
+            fractions
+                .iter()
+                .all(|mask| mask.is_power_of_two() && *mask >= 16)
+        );
+        assert_eq!(
+            fractions
+                .iter()
+                .fold(0, |all, mask| all | mask)
+                .count_ones(),
+            3
+        );
         assert_eq!((masks.rtlm, masks.vert), (0, 0));
     }
 
     #[test]
     fn a_users_feature_sets_the_bits_of_its_range() {
-        let user = UserFeature { tag: Tag(*b"salt"), value: 2, start: 3, end: 9 };
-        let everywhere = UserFeature { start: 0, end: u32::MAX, ..user };
+        let user = UserFeature {
+            tag: Tag(*b"salt"),
+            value: 2,
+            start: 3,
+            end: 9,
+        };
+        let everywhere = UserFeature {
+            start: 0,
+            end: u32::MAX,
+            ..user
+        };
         let plan = plan_of(&[everywhere, UserFeature { value: 3, ..user }]);
-        let [range] = plan.ranges() else { panic!("one of them is for a range") };
+        let [range] = plan.ranges() else {
+            panic!("one of them is for a range")
+        };
         assert_eq!((range.start, range.end), (3, 9));
         assert_eq!(range.mask.count_ones(), 2);
         assert_eq!(range.value, range.mask);
