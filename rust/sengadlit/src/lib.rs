@@ -186,6 +186,7 @@ mod generated {
     pub(crate) mod shapers_normal;
     #[cfg(feature = "tables")]
     pub(crate) mod shapers_normalize;
+    pub(crate) mod shapers_plan;
     #[cfg(feature = "tables")]
     pub(crate) mod shapers_prepare;
     pub(crate) mod shapers_spans;
@@ -204,6 +205,7 @@ pub mod flags;
 pub mod font;
 pub mod map;
 pub mod ot_shape_normalize;
+pub mod ot_shape_plan;
 #[cfg(feature = "tables")]
 pub mod ot_shape_prepare;
 pub mod ot_shaper_arabic;
