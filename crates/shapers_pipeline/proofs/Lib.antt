@@ -1,0 +1,2 @@
+mod FractionRows
+mod MaskRows

@@ -1,0 +1,8 @@
+//! From a text to the font's lookups: all that is done before them, as one call.
+#![tactic(auto)]
+
+mod fractions;
+mod masks;
+mod plan;
+
+pub use plan::{DriverMasks, UserRange};
