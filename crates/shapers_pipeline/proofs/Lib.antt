@@ -1,2 +1,3 @@
 mod FractionRows
+mod HookResults
 mod MaskRows

@@ -1,2 +1,3 @@
 pub mod Fractions
 pub mod Masks
+pub mod ShaperSteps

@@ -4,5 +4,6 @@
 mod fractions;
 mod masks;
 mod plan;
+mod preprocessing;
 
 pub use plan::{DriverMasks, UserRange};
