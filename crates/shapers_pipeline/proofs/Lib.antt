@@ -1,3 +1,5 @@
+mod Directed
 mod FractionRows
+mod Growing
 mod HookResults
 mod MaskRows

@@ -1,3 +1,5 @@
 pub mod Fractions
 pub mod Masks
+pub mod Prepared
+pub mod Refusals
 pub mod ShaperSteps

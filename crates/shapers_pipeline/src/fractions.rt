@@ -8,8 +8,8 @@ ghost use Rattle.shapers_pipeline.specs.Fractions.{fraction_around, fraction_mar
 
 use crate::plan::DriverMasks;
 use shapers_base::buffer::{
-    BufferFlags, Direction, GlyphChange, GlyphWalk, change_each_in, hb_buffer_t, hb_glyph_info_t, hb_unicode_general_category_t,
-    unsafe_to_break_in, unsafe_to_concat_in,
+    BufferFlags, Direction, GlyphChange, GlyphWalk, change_each_in, hb_buffer_t, hb_glyph_info_t,
+    hb_unicode_general_category_t, unsafe_to_break_in, unsafe_to_concat_in,
 };
 
 // The character that parts a fraction.

@@ -4,6 +4,8 @@
 mod fractions;
 mod masks;
 mod plan;
+mod prepare;
 mod preprocessing;
 
-pub use plan::{DriverMasks, UserRange};
+pub use plan::{DriverMasks, TextPlan, UserRange};
+pub use prepare::prepare_text;

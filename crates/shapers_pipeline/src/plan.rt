@@ -1,5 +1,21 @@
 //! What is decided for a text before it is seen.
 
+use rustybuzz_shapers::shaper::hb_ot_shaper_t;
+use shapers_base::plan::hb_ot_shape_plan_t;
+
+/// What is decided for a text before it is seen, as far as its preparation reads it.
+#[derive(Clone, Copy)]
+pub struct TextPlan<'a> {
+    /// The shaper of the text's script; None for one that needs none.
+    pub shaper: Option<hb_ot_shaper_t>,
+    /// The plan that its hooks read.
+    pub plan: &'a hb_ot_shape_plan_t,
+    /// The masks of the features that are turned on glyph by glyph.
+    pub masks: DriverMasks,
+    /// The caller's features in ranges, the later ones over the earlier.
+    pub ranges: &'a [UserRange],
+}
+
 /// The masks of the features that are turned on glyph by glyph, 0 where the font lacks one.
 #[derive(Clone, Copy, Debug, PartialEq, Eq)]
 pub struct DriverMasks {

@@ -25,6 +25,8 @@ pub(crate) fn preprocess_text<F: hb_font_t>(
     ensures length { let font = F.font face.now in
         RefusesLength buffer.old.max_len (preprocessed_len shaper font buffer.old) result }
     ensures err { OnErr result (buffer.new ≡ buffer.old) }
+    ensures positions { buffer.new.positions ≡ [] }
+    ensures limit { buffer.new.max_len ≡ buffer.old.max_len }
 {
     // so that a return with nothing changed keeps the promise on lengths, too
     prove!(buffer.len() <= buffer.max_len());
