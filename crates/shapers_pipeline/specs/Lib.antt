@@ -1,4 +1,5 @@
 pub mod Fractions
+pub mod Lookups
 pub mod Masks
 pub mod Prepared
 pub mod Refusals
