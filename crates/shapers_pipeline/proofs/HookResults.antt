@@ -1,6 +1,6 @@
 -- What the hooks' contracts say, as equations on the buffer.
-use Rattle.std.proofs.Common.{◌≡◌, ◌≤◌, length, Result}
-use Rattle.std.specs.Prelude.{IsOk, Ok, Err, None, Some, Option}
+use Rattle.std.proofs.Common.{◌≡◌, refl}
+use Rattle.std.specs.Prelude.{None, Some, Option}
 use Rattle.shapers_base.specs.Font.{CharacterTables, Font}
 use Rattle.shapers_base.specs.declared.plan.arabic.arabic_shape_plan_t.{arabic_shape_plan_t}
 use Rattle.shapers_base.specs.declared.plan.hb_ot_shape_plan_t.{hb_ot_shape_plan_t}
@@ -29,3 +29,20 @@ masks_are Myanmar plan tables old new set = set
 masks_are MyanmarZawgyi plan tables old new set = set.1
 masks_are Thai plan tables old new set = set.1
 masks_are Universal plan tables old new set = universal_is (arabic_of plan.plan_data) plan.script tables old new set
+
+universal_positions : (kept : Option arabic_shape_plan_t) (script : Option Script) (tables : CharacterTables) (b : Buffer) →
+    (universal_masked kept script tables b).positions ≡ b.positions
+universal_positions None script tables b = refl
+universal_positions (Some p) script tables b = refl
+
+pub masked_positions : (shaper : hb_ot_shaper_t) (plan : hb_ot_shape_plan_t) (tables : CharacterTables) (b : Buffer) →
+    (masked_by plan tables b shaper).positions ≡ b.positions
+masked_positions Arabic plan tables b = refl
+masked_positions Hangul plan tables b = refl
+masked_positions Hebrew plan tables b = refl
+masked_positions Indic plan tables b = refl
+masked_positions Khmer plan tables b = refl
+masked_positions Myanmar plan tables b = refl
+masked_positions MyanmarZawgyi plan tables b = refl
+masked_positions Thai plan tables b = refl
+masked_positions Universal plan tables b = universal_positions (arabic_of plan.plan_data) plan.script tables b

@@ -3,3 +3,5 @@ mod FractionRows
 mod Growing
 mod HookResults
 mod MaskRows
+mod Pausing
+mod PreparedRows

@@ -2,7 +2,7 @@
 use Rattle.std.specs.Prelude.{◌≡◌, ℕ, List, [], ◌∷◌, map, refl}
 use Rattle.shapers_buffer.specs.declared.buffer.category.hb_unicode_general_category_t.TheVariants.{Lo}
 use Rattle.shapers_buffer.specs.declared.buffer.glyph.hb_glyph_info_t.{hb_glyph_info_t}
-use Rattle.shapers_pipeline.specs.declared.plan.UserRange.{UserRange}
+use Rattle.shapers_plan.specs.declared.ot_shape_plan.user.UserRange.{UserRange}
 use Rattle.shapers_pipeline.specs.Masks.{as_glyph, with_features, with_mask_alone}
 
 abbrev glyph : ℕ → ℕ → ℕ → ℕ → hb_glyph_info_t

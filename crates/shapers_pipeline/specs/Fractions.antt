@@ -11,7 +11,7 @@ use Rattle.shapers_buffer.specs.Glyph.{default_glyph}
 use Rattle.shapers_buffer.specs.GlyphFlags.{unsafe_inside, unsafe_to_concat_in, with_bits}
 use Rattle.shapers_buffer.specs.declared.buffer.category.hb_unicode_general_category_t.{hb_unicode_general_category_t}
 use Rattle.shapers_buffer.specs.declared.buffer.category.hb_unicode_general_category_t.TheVariants.{Nd}
-use Rattle.shapers_pipeline.specs.declared.plan.DriverMasks.{DriverMasks}
+use Rattle.shapers_plan.specs.declared.ot_shape_plan.DriverMasks.{DriverMasks}
 use Rattle.shapers_pipeline.specs.declared.fractions.SlashMasks.{SlashMasks}
 
 abbrev pub is_fraction_slash : hb_glyph_info_t → Bool

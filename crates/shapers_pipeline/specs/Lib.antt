@@ -4,3 +4,5 @@ pub mod Masks
 pub mod Prepared
 pub mod Refusals
 pub mod ShaperSteps
+pub mod Stages
+pub mod Substituted

@@ -1,6 +1,5 @@
 -- Stages of lookups, each with a pause behind it.
-use Rattle.std.specs.Prelude.{ℕ, ◌≡◌, ◌≤◌, ◌⊎◌, true, List, [], ◌∷◌, All, drop, fold, take, Option, None, Some}
-use Prim.Native.Nat.{min}
+use Rattle.std.specs.Prelude.{◌≡◌, ◌≤◌, ◌-◌, ◌⊎◌, true, List, [], ◌∷◌, All, drop, fold, take}
 use Rattle.shapers_base.specs.declared.plan.pause.Pause.{Pause}
 use Rattle.shapers_base.specs.declared.plan.pause.Pause.TheVariants.{SetupSyllablesIndic, SetupSyllablesKhmer, SetupSyllablesMyanmar, SetupSyllablesUse}
 use Rattle.shapers_buffer.specs.Buffer.{Buffer}
@@ -15,8 +14,8 @@ use Rattle.shapers_spans.specs.Indic.{indic_grammar}
 use Rattle.shapers_spans.specs.Khmer.{khmer_grammar}
 use Rattle.shapers_spans.specs.Myanmar.{myanmar_grammar}
 use Rattle.shapers_spans.specs.Universal.{universal_grammar}
-use Rattle.shapers_pipeline.specs.declared.stage.Stage.{Stage}
-use Rattle.shapers_pipeline.specs.declared.stage.StageLookup.{StageLookup}
+use Rattle.shapers_plan.specs.declared.ot_map.lookups.Stage.{Stage}
+use Rattle.shapers_plan.specs.declared.ot_map.lookups.StageLookup.{StageLookup}
 
 -- What a lookup keeps of a text without positions: everything but its glyphs; each cluster is one
 -- that the text had, and at the levels that merge clusters still rise, or fall; glyph numbers are
@@ -41,7 +40,7 @@ StoppedIn substituted (x ∷ xs) old new =
 
 -- the lookups of a stage, as far as the list goes
 abbrev pub stage_lookups : Stage → List StageLookup → List StageLookup
-stage_lookups s list = drop s.start (take s.end list)
+stage_lookups s list = take (s.end - s.start) (drop s.start list)
 
 -- the spans that a pause takes: those of its grammar, if it writes syllables
 abbrev pub FoundSpans : Pause → List hb_glyph_info_t → List Span → Type 0

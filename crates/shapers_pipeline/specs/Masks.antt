@@ -2,7 +2,7 @@
 use Rattle.std.specs.Prelude.{ℕ, nat_le, nat_lt, bit_and, bit_or, ◌&&◌, fold, List, map, if◌then◌else◌}
 use Rattle.std.specs.Int.{bit_not, w32}
 use Rattle.shapers_buffer.specs.declared.buffer.glyph.hb_glyph_info_t.{hb_glyph_info_t}
-use Rattle.shapers_pipeline.specs.declared.plan.UserRange.{UserRange}
+use Rattle.shapers_plan.specs.declared.ot_shape_plan.user.UserRange.{UserRange}
 
 -- a glyph with the features that hold for the whole text, and no others and no glyph flags
 abbrev pub with_mask_alone : ℕ → hb_glyph_info_t → hb_glyph_info_t

@@ -21,9 +21,9 @@ use Rattle.rustybuzz_shapers.specs.declared.shaper.hb_ot_shaper_t.{hb_ot_shaper_
 use Rattle.shapers_pipeline.specs.Fractions.{fractions_set}
 use Rattle.shapers_pipeline.specs.Masks.{as_glyph, with_features, with_mask_alone}
 use Rattle.shapers_pipeline.specs.ShaperSteps.{masked_for, preprocessed_for, preprocessed_len}
-use Rattle.shapers_pipeline.specs.declared.plan.DriverMasks.{DriverMasks}
+use Rattle.shapers_plan.specs.declared.ot_shape_plan.DriverMasks.{DriverMasks}
 use Rattle.shapers_pipeline.specs.declared.plan.TextPlan.{TextPlan}
-use Rattle.shapers_pipeline.specs.declared.plan.UserRange.{UserRange}
+use Rattle.shapers_plan.specs.declared.ot_shape_plan.user.UserRange.{UserRange}
 
 -- what a text is prepared by: the shaper, its plan, the masks that are set glyph by glyph, the
 -- caller's features in ranges, the font with its variant forms, Unicode, and the caller's settings

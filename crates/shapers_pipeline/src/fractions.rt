@@ -6,11 +6,11 @@ ghost use Rattle.shapers_buffer.specs.Clusters.{with_stretch};
 ghost use Rattle.shapers_buffer.specs.GlyphFlags.{with_bits};
 ghost use Rattle.shapers_pipeline.specs.Fractions.{fraction_around, fraction_marked, fractions_around, fractions_set, has_fractions, is_decimal_glyph, is_fraction_slash, numbers_before, numbers_behind, runs_forward, slash_alone, slash_masks};
 
-use crate::plan::DriverMasks;
 use shapers_base::buffer::{
     BufferFlags, Direction, GlyphChange, GlyphWalk, change_each_in, hb_buffer_t, hb_glyph_info_t,
     hb_unicode_general_category_t, unsafe_to_break_in, unsafe_to_concat_in,
 };
+use shapers_plan::ot_shape_plan::DriverMasks;
 
 // The character that parts a fraction.
 const FRACTION_SLASH: u32 = 0x2044;

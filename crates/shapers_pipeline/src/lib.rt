@@ -1,4 +1,5 @@
-//! From a text to the font's lookups: all that is done before them, as one call.
+//! From a text to glyphs: all that comes before the font's lookups as one call, and the stages of
+//! lookups with what the shaper does behind them.
 #![tactic(auto)]
 
 mod fractions;
@@ -7,9 +8,11 @@ mod masks;
 mod plan;
 mod prepare;
 mod preprocessing;
-mod stage;
+mod stages;
+mod substitution;
 
 pub use lookups::Lookups;
-pub use plan::{DriverMasks, TextPlan, UserRange};
+pub use plan::{StagePlan, TextPlan};
 pub use prepare::prepare_text;
-pub use stage::{Stage, StageLookup};
+pub use stages::run_stages;
+pub use substitution::substitute_text;

@@ -3,16 +3,16 @@ ghost use Rattle.std.specs.Prelude.{◌≡◌, [], IfOk, IsOkUnless, OnErr, OnOk
 ghost use Rattle.shapers_buffer.specs.declared.buffer.refusal.ShaperError.TheVariants.{Memory};
 ghost use Rattle.shapers_pipeline.specs.Lookups.{FoundSpans, LookupKeeps, StoppedIn, looked_up};
 
-use crate::stage::{Stage, StageLookup};
 use shapers_base::buffer::{ShaperError, Span, hb_buffer_t, hb_glyph_info_t};
 use shapers_base::plan::Pause;
+use shapers_plan::ot_map::StageLookup;
 use shapers_spans::{Indic, Khmer, Myanmar, Universal, spans_of};
 use std::alloc::Global;
 
 /// The lookups of a font's GSUB. Each is a function of the text: the same text becomes the same.
 pub trait Lookups {
     ghost use Rattle.shapers_buffer.specs.Buffer.{Buffer};
-    ghost use Rattle.shapers_pipeline.specs.declared.stage.StageLookup.{StageLookup};
+    ghost use Rattle.shapers_plan.specs.declared.ot_map.lookups.StageLookup.{StageLookup};
 
     /// What a lookup makes of a text.
     ghost substituted: { Self → StageLookup → Buffer → Buffer };
@@ -34,7 +34,7 @@ pub trait Lookups {
 }
 
 // Applies lookups, one after another.
-fn apply_lookups<L: Lookups>(
+pub(crate) fn apply_lookups<L: Lookups>(
     lookups: &L,
     list: &[StageLookup],
     buffer: &mut hb_buffer_t,
@@ -44,6 +44,7 @@ fn apply_lookups<L: Lookups>(
         OnOk result (buffer.new ≡ looked_up f list.now buffer.old) }
     ensures err { let f = L.substituted lookups.now in
         OnErr result (StoppedIn f list.now buffer.old buffer.new) }
+    ensures positions { OnOk result (buffer.new.positions ≡ []) }
 {
     for lookup in list {
         lookups.substitute(lookup, buffer)?;
@@ -52,7 +53,7 @@ fn apply_lookups<L: Lookups>(
 }
 
 // The syllables that a pause writes into a text, found by its grammar; none for the other pauses.
-fn found_spans(
+pub(crate) fn found_spans(
     pause: Pause,
     glyphs: &[hb_glyph_info_t],
     alloc: Global,

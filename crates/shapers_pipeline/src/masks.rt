@@ -2,8 +2,8 @@
 ghost use Rattle.std.specs.Prelude.{◌≡◌, map};
 ghost use Rattle.shapers_pipeline.specs.Masks.{as_glyph, with_feature, with_features, with_mask_alone};
 
-use crate::plan::UserRange;
 use shapers_base::buffer::{GlyphChange, hb_buffer_t, hb_glyph_info_t};
+use shapers_plan::ot_shape_plan::UserRange;
 
 // Gives each glyph the features that hold for the whole text, and no others.
 pub(crate) fn initialize_masks(mask: u32, buffer: &mut hb_buffer_t)

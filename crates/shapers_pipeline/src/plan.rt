@@ -2,9 +2,11 @@
 
 use rustybuzz_shapers::shaper::hb_ot_shaper_t;
 use shapers_base::plan::hb_ot_shape_plan_t;
+use shapers_plan::ot_map::{Stage, StageLookup};
+use shapers_plan::ot_shape_plan::{DriverMasks, UserRange};
 
 /// What is decided for a text before it is seen, as far as its preparation reads it.
-#[derive(Clone, Copy)]
+#[derive(Clone, Copy, Debug)]
 pub struct TextPlan<'a> {
     /// The shaper of the text's script; None for one that needs none.
     pub shaper: Option<hb_ot_shaper_t>,
@@ -16,30 +18,13 @@ pub struct TextPlan<'a> {
     pub ranges: &'a [UserRange],
 }
 
-/// The masks of the features that are turned on glyph by glyph, 0 where the font lacks one.
-#[derive(Clone, Copy, Debug, PartialEq, Eq)]
-pub struct DriverMasks {
-    /// Fractions.
-    pub frac: u32,
-    /// Numerators.
-    pub numr: u32,
-    /// Denominators.
-    pub dnom: u32,
-    /// Mirrored forms of text from right to left.
-    pub rtlm: u32,
-    /// Forms for vertical text.
-    pub vert: u32,
-}
-
-/// A feature of the caller's in a range of clusters.
-#[derive(Clone, Copy, Debug, PartialEq, Eq)]
-pub struct UserRange {
-    /// The bits of the feature.
-    pub mask: u32,
-    /// Its value, in these bits.
-    pub value: u32,
-    /// The first cluster of the range.
-    pub start: u32,
-    /// The cluster behind the range.
-    pub end: u32,
+/// The same as far as the stages of lookups read it.
+#[derive(Clone, Copy, Debug)]
+pub struct StagePlan<'a> {
+    /// The plan that the shaper's hooks read.
+    pub plan: &'a hb_ot_shape_plan_t,
+    /// The stages, each a range of the list of lookups.
+    pub stages: &'a [Stage],
+    /// The lookups of all stages.
+    pub lookups: &'a [StageLookup],
 }

@@ -10,12 +10,13 @@ ghost use Rattle.shapers_pipeline.specs.Refusals.{AllHadRoom, IsPrepared, IsStop
 
 use crate::fractions::set_fractions;
 use crate::masks::{initialize_masks, map_glyphs, set_features};
-use crate::plan::{DriverMasks, TextPlan};
+use crate::plan::TextPlan;
 use crate::preprocessing::{plan_fits, preprocess_text, setup_masks};
 use rustybuzz_shapers::shaper::checked::{CallError, Condition};
 use rustybuzz_shapers::shaper::lacks_positions;
 use shapers_base::buffer::{Direction, ShaperError, hb_buffer_t};
 use shapers_normalize::{NormalizeFont, NormalizeSettings, NormalizeTables, ot_shape_normalize};
+use shapers_plan::ot_shape_plan::DriverMasks;
 use shapers_prepare::ot_shape_prepare::{
     CharRotation, UnicodeProperties, ensure_native_direction, form_clusters, insert_dotted_circle,
     rotate_chars, set_unicode_properties,
@@ -48,6 +49,7 @@ pub fn prepare_text<F: NormalizeFont, T: NormalizeTables + UnicodeProperties>(
     ensures err { let p = preparation plan.now settings.now (F.font font.now) (F.variants font.now)
         (T.properties tables.now) (T.tables tables.now) (T.texts tables.now) in
         IfErr result (λ e. IsStopped p buffer.old buffer.new e) }
+    ensures positions { OnOk result (buffer.new.positions ≡ []) }
 {
     if !lacks_positions(buffer) {
         return Err(CallError::Condition(Condition::Positions));

@@ -55,7 +55,7 @@ pub(crate) fn plan_fits(shaper: Option<hb_ot_shaper_t>, plan: &hb_ot_shape_plan_
 
 // Sets the masks and categories of the shaper, or returns the condition of it that the glyphs don't
 // meet; the buffer is unchanged then.
-#[tactic(auto, using(crate::proofs::HookResults::masks_are))]
+#[tactic(auto, using(crate::proofs::HookResults::masks_are, crate::proofs::HookResults::masked_positions))]
 pub(crate) fn setup_masks<F: hb_font_t, T: Tables>(
     shaper: Option<hb_ot_shaper_t>,
     plan: &hb_ot_shape_plan_t,
@@ -71,6 +71,7 @@ pub(crate) fn setup_masks<F: hb_font_t, T: Tables>(
     ensures unfit { OnErr result (GlyphsFitFor shaper plan.now buffer.old.glyphs → ⊥) }
     ensures refusal { IsOkUnless result Glyphs }
     ensures err { OnErr result (buffer.new ≡ buffer.old) }
+    ensures positions { buffer.new.positions ≡ [] }
 {
     let Some(shaper) = shaper else {
         return Ok(());

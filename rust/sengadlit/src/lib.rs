@@ -182,6 +182,10 @@ mod generated {
     #[cfg(feature = "tables")]
     pub(crate) mod shapers_normalize;
     #[cfg(feature = "tables")]
+    pub(crate) mod shapers_pipeline;
+    #[cfg(feature = "tables")]
+    pub(crate) mod shapers_plan;
+    #[cfg(feature = "tables")]
     pub(crate) mod shapers_prepare;
     pub(crate) mod shapers_spans;
     pub(crate) mod shapers_stretch;
@@ -197,6 +201,8 @@ pub mod buffer;
 pub mod flags;
 pub mod font;
 pub mod map;
+#[cfg(feature = "tables")]
+pub mod ot_shape;
 pub mod ot_shape_normalize;
 #[cfg(feature = "tables")]
 pub mod ot_shape_prepare;

@@ -6,7 +6,7 @@ use crate::generated::shapers_base::buffer::{
     Buffer, BufferFlags, Direction, GeneralCategory, GlyphChange, GlyphInfo, GlyphWalk,
     change_each_in, unsafe_to_break_in, unsafe_to_concat_in,
 };
-use crate::generated::shapers_pipeline::plan::DriverMasks;
+use crate::generated::shapers_plan::ot_shape_plan::DriverMasks;
 
 // The character that parts a fraction.
 const FRACTION_SLASH: u32 = 0x2044;

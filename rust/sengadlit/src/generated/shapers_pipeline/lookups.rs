@@ -6,7 +6,7 @@ use crate::support::prelude::*;
 
 use crate::generated::shapers_base::buffer::{Buffer, GlyphInfo, ShaperError, Span};
 use crate::generated::shapers_base::plan::Pause;
-use crate::generated::shapers_pipeline::stage::{Stage, StageLookup};
+use crate::generated::shapers_plan::ot_map::StageLookup;
 use crate::generated::shapers_spans::{Indic, Khmer, Myanmar, Universal, spans_of};
 use crate::support::alloc::Global;
 
@@ -36,7 +36,7 @@ pub trait Lookups {
 }
 
 // Applies lookups, one after another.
-fn apply_lookups<L: Lookups>(
+pub(crate) fn apply_lookups<L: Lookups>(
     lookups: &L,
     list: &[StageLookup],
     buffer: &mut Buffer,
@@ -48,7 +48,7 @@ fn apply_lookups<L: Lookups>(
 }
 
 // The syllables that a pause writes into a text, found by its grammar; none for the other pauses.
-fn found_spans(
+pub(crate) fn found_spans(
     pause: Pause,
     glyphs: &[GlyphInfo],
     alloc: Global,

@@ -3,7 +3,7 @@
 //! The masks that the plan gives a text, besides those of its shaper.
 
 use crate::generated::shapers_base::buffer::{Buffer, GlyphChange, GlyphInfo};
-use crate::generated::shapers_pipeline::plan::UserRange;
+use crate::generated::shapers_plan::ot_shape_plan::UserRange;
 
 // Gives each glyph the features that hold for the whole text, and no others.
 pub(crate) fn initialize_masks(mask: u32, buffer: &mut Buffer) {

@@ -1,6 +1,7 @@
 // Generated from crates/shapers_pipeline/src/lib.rt by rust/erase; edit the source.
 
-//! From a text to the font's lookups: all that is done before them, as one call.
+//! From a text to glyphs: all that comes before the font's lookups as one call, and the stages of
+//! lookups with what the shaper does behind them.
 
 mod fractions;
 mod lookups;
@@ -8,9 +9,9 @@ mod masks;
 mod plan;
 mod prepare;
 mod preprocessing;
-mod stage;
+mod stages;
 
 pub use lookups::Lookups;
-pub use plan::{DriverMasks, TextPlan, UserRange};
+pub use plan::{StagePlan, TextPlan};
 pub use prepare::prepare_text;
-pub use stage::{Stage, StageLookup};
+pub use stages::run_stages;

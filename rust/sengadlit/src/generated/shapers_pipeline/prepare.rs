@@ -10,8 +10,9 @@ use crate::generated::shapers_normalize::{
 };
 use crate::generated::shapers_pipeline::fractions::set_fractions;
 use crate::generated::shapers_pipeline::masks::{initialize_masks, map_glyphs, set_features};
-use crate::generated::shapers_pipeline::plan::{DriverMasks, TextPlan};
+use crate::generated::shapers_pipeline::plan::TextPlan;
 use crate::generated::shapers_pipeline::preprocessing::{plan_fits, preprocess_text, setup_masks};
+use crate::generated::shapers_plan::ot_shape_plan::DriverMasks;
 use crate::generated::shapers_prepare::ot_shape_prepare::{
     CharRotation, UnicodeProperties, ensure_native_direction, form_clusters, insert_dotted_circle,
     rotate_chars, set_unicode_properties,
