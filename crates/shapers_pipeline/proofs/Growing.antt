@@ -11,7 +11,6 @@ use Rattle.shapers_prepare.specs.FirstCircle.{with_first_circle}
 use Rattle.shapers_prepare.specs.Graphemes.{clusters_formed}
 use Rattle.shapers_prepare.specs.NativeDirection.{in_native_direction}
 use Rattle.shapers_prepare.specs.Rotation.{rotated_glyph}
-use Rattle.shapers_prepare.specs.declared.ot_shape_prepare.rotation.CharRotation.{CharRotation}
 use Rattle.shapers_pipeline.specs.Prepared.{Growth, Preparation, context_of, growth_of_normalization, growth_of_preprocessing, growths, growths_from, normalized_from, rotated_from, rotation_to, text_begun, text_directed, text_normalized, text_opened}
 use Rattle.shapers_pipeline.specs.Refusals.{AllHadRoom, OneRefused}
 use Rattle.shapers_pipeline.specs.ShaperSteps.{preprocessed_for, preprocessed_len}
@@ -89,30 +88,30 @@ circle_had_room : (p : Preparation) (old a b d : Buffer) (direction : Direction)
 circle_had_room p old a b d direction s = subst (λ x. length (with_first_circle p.properties p.font x) ≤ x.max_len) s.begun s.room
 
 -- what holds by this direction, of this text
-behind : (p : Preparation) (old a b d : Buffer) (direction : Direction) → Opened p old a b d direction → (Holds : Direction → Buffer → Type 0) →
+held_behind : (p : Preparation) (old a b d : Buffer) (direction : Direction) → Opened p old a b d direction → (Holds : Direction → Buffer → Type 0) →
     Holds direction d → Holds old.direction (text_directed p old)
-behind p old a b d direction s Holds held =
+held_behind p old a b d direction s Holds held =
     subst (Holds old.direction) (is_directed p old a b d direction s) (subst (λ w. Holds w d) s.wanted held)
 
 -- and within this limit, of the steps behind
-within : (p : Preparation) (old a b d : Buffer) (direction : Direction) → Opened p old a b d direction → (Holds : ℕ → List Growth → Type 0) →
+held_within : (p : Preparation) (old a b d : Buffer) (direction : Direction) → Opened p old a b d direction → (Holds : ℕ → List Growth → Type 0) →
     Holds d.max_len (growths_from p direction d) → Holds old.max_len (growths_from p old.direction (text_directed p old))
-within p old a b d direction s Holds held =
-    behind p old a b d direction s (λ w x. Holds old.max_len (growths_from p w x))
+held_within p old a b d direction s Holds held =
+    held_behind p old a b d direction s (λ w x. Holds old.max_len (growths_from p w x))
     (subst (λ n. Holds n (growths_from p direction d)) (same_limit p old a b d direction s) held)
 
 pub all_room : (p : Preparation) (old a b d : Buffer) (direction : Direction) (r : Result (Unit {0}) ShaperError) → Opened p old a b d direction →
     OnOk r (AllHadRoom d.max_len (growths_from p direction d)) → OnOk r (AllHadRoom old.max_len (growths p old))
 all_room p old a b d direction r s rest =
-    on_ok_weaker r (λ room. (circle_had_room p old a b d direction s, within p old a b d direction s AllHadRoom room)) rest
+    on_ok_weaker r (λ room. (circle_had_room p old a b d direction s, held_within p old a b d direction s AllHadRoom room)) rest
 
 pub one_refused : (p : Preparation) (old a b d new : Buffer) (direction : Direction) (r : Result (Unit {0}) ShaperError) → Opened p old a b d direction →
     IfErr r (λ e. OneRefused d.max_len (growths_from p direction d) e new) → IfErr r (λ e. OneRefused old.max_len (growths p old) e new)
 one_refused p old a b d new direction r s rest =
     IfErr-weaker r (λ e. OneRefused d.max_len (growths_from p direction d) e new) (λ e. OneRefused old.max_len (growths p old) e new)
-    (λ e refused. inr (circle_had_room p old a b d direction s, within p old a b d direction s (λ n gs. OneRefused n gs e new) refused)) rest
+    (λ e refused. inr (circle_had_room p old a b d direction s, held_within p old a b d direction s (λ n gs. OneRefused n gs e new) refused)) rest
 
 pub is_normalized : (p : Preparation) (old a b d new : Buffer) (direction : Direction) (r : Result (Unit {0}) ShaperError) → Opened p old a b d direction →
     OnOk r (new ≡ normalized_from p direction d) → OnOk r (new ≡ text_normalized p old)
 is_normalized p old a b d new direction r s rest =
-    behind p old a b d direction s (λ w x. OnOk r (new ≡ normalized_from p w x)) rest
+    held_behind p old a b d direction s (λ w x. OnOk r (new ≡ normalized_from p w x)) rest

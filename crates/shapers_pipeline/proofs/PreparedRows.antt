@@ -1,6 +1,6 @@
 -- A text before the lookups, as a whole: what each step does is seen in what comes out.
-use Rattle.std.specs.Prelude.{◌≡◌, ◌+◌, ◌==◌, ◌||◌, ℕ, suc, Bool, true, false, List, [], ◌∷◌, map, Option, None, Some, codes, pos, refl, if◌then◌else◌}
-use Rattle.shapers_base.specs.Font.{CharacterTables, Font}
+use Rattle.std.specs.Prelude.{◌≡◌, ◌+◌, ◌==◌, ◌||◌, ℕ, suc, false, List, [], ◌∷◌, map, Option, None, Some, codes, pos, refl, if◌then◌else◌}
+use Rattle.shapers_base.specs.Font.{Font}
 use Rattle.shapers_base.specs.Plan.{new_plan}
 use Rattle.shapers_base.specs.declared.font.GlyphId.{GlyphId}
 use Rattle.shapers_base.specs.declared.plan.joining.hb_arabic_joining_type_t.TheVariants.{U}
@@ -12,6 +12,7 @@ use Rattle.shapers_buffer.specs.declared.buffer.glyph.hb_glyph_info_t.{hb_glyph_
 use Rattle.shapers_buffer.specs.declared.buffer.level.Direction.{Direction}
 use Rattle.shapers_buffer.specs.declared.buffer.level.Direction.TheVariants.{LeftToRight, RightToLeft}
 use Rattle.shapers_normal.specs.declared.ot_shape_normalize.normalizing.Rounds.TheVariants.{AsCode}
+use Rattle.shapers_prepare.specs.VowelRows.{devanagari_pairs}
 use Rattle.rustybuzz_shapers.specs.declared.shaper.hb_ot_shaper_t.{hb_ot_shaper_t}
 use Rattle.rustybuzz_shapers.specs.declared.shaper.hb_ot_shaper_t.TheVariants.{Indic}
 use Rattle.shapers_pipeline.specs.Prepared.{Preparation, text_prepared}
@@ -97,4 +98,5 @@ turned = refl
 -- Devanagari: a circle between vowels, and the categories of the shaper
 vowels : seen (Some Indic) (buffer LeftToRight (codes "Deva") (0x905 ∷ 0x946 ∷ []))
     ≡ (0x905 + 1000, (0, (0x80000000, 5))) ∷ (0x25CC + 1000, (1, (0x80000000, 5))) ∷ (0x946 + 1000, (1, (0x80000000, 5))) ∷ []
+unfolding devanagari_pairs
 vowels = refl

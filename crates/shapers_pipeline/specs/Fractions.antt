@@ -1,6 +1,6 @@
--- The features of fractions: where decimal numbers stand on both sides of a fraction slash, those
--- before it take the features of numerators, and those behind it those of denominators.
-use Rattle.std.specs.Prelude.{ℕ, zero, suc, ◌==◌, ◌+◌, ◌-◌, bit_or, Bool, true, false, not, ◌&&◌, ◌||◌, List, [], ◌∷◌, length, map, slice_index_or, take, drop, if◌then◌else◌}
+-- The features of fractions: with decimal numbers on both sides of a fraction slash, those before it
+-- take the features of numerators, and those behind it those of denominators.
+use Rattle.std.specs.Prelude.{ℕ, zero, suc, ◌==◌, ◌+◌, ◌-◌, bit_or, Bool, true, false, not, ◌&&◌, ◌||◌, List, length, map, slice_index_or, take, drop, if◌then◌else◌}
 use Rattle.std.specs.List.{prefix_len, suffix_len}
 use Rattle.shapers_buffer.specs.declared.buffer.glyph.hb_glyph_info_t.{hb_glyph_info_t}
 use Rattle.shapers_buffer.specs.declared.buffer.level.Direction.{Direction}
@@ -9,27 +9,22 @@ use Rattle.shapers_buffer.specs.Buffer.{Buffer, asks, flags_concat}
 use Rattle.shapers_buffer.specs.Clusters.{with_stretch}
 use Rattle.shapers_buffer.specs.Glyph.{default_glyph}
 use Rattle.shapers_buffer.specs.GlyphFlags.{unsafe_inside, unsafe_to_concat_in, with_bits}
-use Rattle.shapers_buffer.specs.declared.buffer.category.hb_unicode_general_category_t.{hb_unicode_general_category_t}
-use Rattle.shapers_buffer.specs.declared.buffer.category.hb_unicode_general_category_t.TheVariants.{Nd}
+use Rattle.shapers_prepare.specs.NativeDirection.{is_decimal_number}
 use Rattle.shapers_plan.specs.declared.ot_shape_plan.DriverMasks.{DriverMasks}
 use Rattle.shapers_pipeline.specs.declared.fractions.SlashMasks.{SlashMasks}
 
 abbrev pub is_fraction_slash : hb_glyph_info_t → Bool
 is_fraction_slash g = g.glyph_id == 0x2044
 
-abbrev pub is_decimal_number : hb_unicode_general_category_t → Bool
-is_decimal_number Nd = true
-is_decimal_number _ = false
-
 abbrev pub is_decimal_glyph : hb_glyph_info_t → Bool
 is_decimal_glyph g = is_decimal_number g.general_category
 
 -- how many decimal numbers stand right before a place, and right behind it
-abbrev pub numbers_before : ℕ → List hb_glyph_info_t → ℕ
-numbers_before i gs = suffix_len is_decimal_glyph (take i gs)
+abbrev pub decimals_before : ℕ → List hb_glyph_info_t → ℕ
+decimals_before i gs = suffix_len is_decimal_glyph (take i gs)
 
-abbrev pub numbers_behind : ℕ → List hb_glyph_info_t → ℕ
-numbers_behind i gs = prefix_len is_decimal_glyph (drop (i + 1) gs)
+abbrev pub decimals_behind : ℕ → List hb_glyph_info_t → ℕ
+decimals_behind i gs = prefix_len is_decimal_glyph (drop (i + 1) gs)
 
 abbrev pub runs_forward : Direction → Bool
 runs_forward LeftToRight = true
@@ -64,8 +59,8 @@ slash_alone concat i before behind gs =
 -- the text with the features of the fraction whose slash stands at place i, if one does
 abbrev pub fraction_around : SlashMasks → Bool → ℕ → List hb_glyph_info_t → List hb_glyph_info_t
 fraction_around m concat i gs =
-    let before = numbers_before i gs in
-    let behind = numbers_behind i gs in
+    let before = decimals_before i gs in
+    let behind = decimals_behind i gs in
     if not (is_fraction_slash (slice_index_or gs i default_glyph)) then gs
     else if before == 0 || behind == 0 then slash_alone concat i before behind gs
     else fraction_marked m i before behind gs

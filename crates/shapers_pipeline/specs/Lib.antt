@@ -5,4 +5,3 @@ pub mod Prepared
 pub mod Refusals
 pub mod ShaperSteps
 pub mod Stages
-pub mod Substituted

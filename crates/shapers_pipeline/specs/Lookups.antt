@@ -39,8 +39,8 @@ StoppedIn substituted (x ∷ xs) old new =
     (new ≡ old) ⊎ StoppedIn substituted xs (substituted x old) new
 
 -- the lookups of a stage, as far as the list goes
-abbrev pub stage_lookups : Stage → List StageLookup → List StageLookup
-stage_lookups s list = take (s.end - s.start) (drop s.start list)
+abbrev pub lookups_of_stage : Stage → List StageLookup → List StageLookup
+lookups_of_stage s list = take (s.end - s.start) (drop s.start list)
 
 -- the spans that a pause takes: those of its grammar, if it writes syllables
 abbrev pub FoundSpans : Pause → List hb_glyph_info_t → List Span → Type 0

@@ -1,5 +1,5 @@
 -- The masks that the plan gives a text, besides those of its shaper.
-use Rattle.std.specs.Prelude.{ℕ, nat_le, nat_lt, bit_and, bit_or, ◌&&◌, fold, List, map, if◌then◌else◌}
+use Rattle.std.specs.Prelude.{ℕ, nat_le, nat_lt, bit_and, bit_or, ◌&&◌, fold, List, if◌then◌else◌}
 use Rattle.std.specs.Int.{bit_not, w32}
 use Rattle.shapers_buffer.specs.declared.buffer.glyph.hb_glyph_info_t.{hb_glyph_info_t}
 use Rattle.shapers_plan.specs.declared.ot_shape_plan.user.UserRange.{UserRange}

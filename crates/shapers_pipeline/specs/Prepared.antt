@@ -20,7 +20,7 @@ use Rattle.shapers_prepare.specs.declared.ot_shape_prepare.rotation.CharRotation
 use Rattle.rustybuzz_shapers.specs.declared.shaper.hb_ot_shaper_t.{hb_ot_shaper_t}
 use Rattle.shapers_pipeline.specs.Fractions.{fractions_set}
 use Rattle.shapers_pipeline.specs.Masks.{as_glyph, with_features, with_mask_alone}
-use Rattle.shapers_pipeline.specs.ShaperSteps.{masked_for, preprocessed_for, preprocessed_len}
+use Rattle.shapers_pipeline.specs.ShaperSteps.{masks_set_for, preprocessed_for, preprocessed_len}
 use Rattle.shapers_plan.specs.declared.ot_shape_plan.DriverMasks.{DriverMasks}
 use Rattle.shapers_pipeline.specs.declared.plan.TextPlan.{TextPlan}
 use Rattle.shapers_plan.specs.declared.ot_shape_plan.user.UserRange.{UserRange}
@@ -100,7 +100,7 @@ text_in_fractions p b =
 -- its glyph
 abbrev pub text_prepared : Preparation → Buffer → Buffer
 text_prepared p b =
-    let masked = masked_for p.shaper p.plan p.tables (text_in_fractions p b) in
+    let masked = masks_set_for p.shaper p.plan p.tables (text_in_fractions p b) in
     let featured = map (with_features p.ranges) masked.glyphs in
     record masked { glyphs = map as_glyph featured }
 

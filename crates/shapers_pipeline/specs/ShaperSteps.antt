@@ -45,30 +45,30 @@ preprocessed_len shaper font b =
     option_map_or (preprocessed_len_by font b) shaper (length b.glyphs)
 
 -- the buffer with the categories of the universal shaper and, where letters join, Arabic's forms
-abbrev pub universal_masked :
+abbrev pub universal_masks_set :
     Option arabic_shape_plan_t → Option Script → CharacterTables → Buffer → Buffer
-universal_masked None script tables b = with_categories tables b
-universal_masked (Some p) script tables b =
+universal_masks_set None script tables b = with_categories tables b
+universal_masks_set (Some p) script tables b =
     buffer_joined p.break_flags p.mask_array script tables.joining tables.general
     (with_categories tables b)
 
 -- the buffer with the masks and categories that a shaper sets
-abbrev pub masked_by : hb_ot_shape_plan_t → CharacterTables → Buffer → hb_ot_shaper_t → Buffer
-masked_by plan tables b Arabic =
+abbrev pub masks_set_by : hb_ot_shape_plan_t → CharacterTables → Buffer → hb_ot_shaper_t → Buffer
+masks_set_by plan tables b Arabic =
     buffer_joined (breaks_of plan.plan_data) (masks_of plan.plan_data) plan.script tables.joining
     tables.general b
-masked_by plan tables b Hangul = with_jamo_masks plan.plan_data b
-masked_by plan tables b Indic =
+masks_set_by plan tables b Hangul = with_jamo_masks plan.plan_data b
+masks_set_by plan tables b Indic =
     record b { glyphs = map (with_category_and_position tables) b.glyphs }
-masked_by plan tables b Khmer = record b { glyphs = map (with_category tables) b.glyphs }
-masked_by plan tables b Myanmar = record b { glyphs = map (with_category tables) b.glyphs }
-masked_by plan tables b Universal =
-    universal_masked (arabic_of plan.plan_data) plan.script tables b
-masked_by plan tables b shaper = b
+masks_set_by plan tables b Khmer = record b { glyphs = map (with_category tables) b.glyphs }
+masks_set_by plan tables b Myanmar = record b { glyphs = map (with_category tables) b.glyphs }
+masks_set_by plan tables b Universal =
+    universal_masks_set (arabic_of plan.plan_data) plan.script tables b
+masks_set_by plan tables b shaper = b
 
-abbrev pub masked_for :
+abbrev pub masks_set_for :
     Option hb_ot_shaper_t → hb_ot_shape_plan_t → CharacterTables → Buffer → Buffer
-masked_for shaper plan tables b = option_map_or (masked_by plan tables b) shaper b
+masks_set_for shaper plan tables b = option_map_or (masks_set_by plan tables b) shaper b
 
 -- the plan has the data that the shaper's masks are read from, and the glyphs are such as it takes
 abbrev pub PlanFitsFor : Option hb_ot_shaper_t → hb_ot_shape_plan_t → Type 0

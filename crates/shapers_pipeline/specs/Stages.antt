@@ -8,7 +8,7 @@ use Rattle.shapers_buffer.specs.declared.buffer.syllables.Span.{Span}
 use Rattle.rustybuzz_shapers.specs.Pauses.{PauseKeeps, Paused}
 use Rattle.shapers_plan.specs.declared.ot_map.lookups.Stage.{Stage}
 use Rattle.shapers_plan.specs.declared.ot_map.lookups.StageLookup.{StageLookup}
-use Rattle.shapers_pipeline.specs.Lookups.{FoundSpans, StoppedIn, looked_up, stage_lookups}
+use Rattle.shapers_pipeline.specs.Lookups.{FoundSpans, StoppedIn, looked_up, lookups_of_stage}
 
 -- what stages read: the plan of the hooks, the font, what each lookup makes of a text, and the list
 -- of lookups that the stages are ranges of
@@ -33,7 +33,7 @@ PauseRunIf (Some pause) plan font old new = PauseRun pause plan font old new
 
 -- what the lookups of a stage make of a text
 abbrev pub stage_looked_up : Substitution → Stage → Buffer → Buffer
-stage_looked_up r s b = looked_up r.substituted (stage_lookups s r.list) b
+stage_looked_up r s b = looked_up r.substituted (lookups_of_stage s r.list) b
 
 -- the buffer before and after a stage: its lookups, and then its pause
 abbrev pub StageRun : Substitution → Stage → Buffer → Buffer → Type 0
@@ -47,7 +47,7 @@ StagesRun r (s ∷ ss) old new = (mid : Buffer) × (StageRun r s old mid × Stag
 -- a stage that stopped: the buffer is as it was before the lookup that refused, or before the pause
 abbrev pub StageStopped : Substitution → Stage → Buffer → Buffer → Type 0
 StageStopped r s old new =
-    StoppedIn r.substituted (stage_lookups s r.list) old new ⊎ (new ≡ stage_looked_up r s old)
+    StoppedIn r.substituted (lookups_of_stage s r.list) old new ⊎ (new ≡ stage_looked_up r s old)
 
 -- one of these stages stopped, and those before it ran
 abbrev pub StagesStopped : Substitution → List Stage → Buffer → Buffer → Type 0

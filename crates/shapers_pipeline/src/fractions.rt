@@ -1,10 +1,10 @@
 //! The features of fractions.
 ghost use Rattle.std.specs.Prelude.{◌≡◌, ◌<◌, ◌≤◌, ◌+◌, length, map};
-ghost use Rattle.shapers_buffer.specs.Buffer.{asks, flags_concat, has_flag};
+ghost use Rattle.shapers_buffer.specs.Buffer.{flags_concat, has_flag};
 ghost use Rattle.std.specs.List.{prefix_len};
 ghost use Rattle.shapers_buffer.specs.Clusters.{with_stretch};
 ghost use Rattle.shapers_buffer.specs.GlyphFlags.{with_bits};
-ghost use Rattle.shapers_pipeline.specs.Fractions.{fraction_around, fraction_marked, fractions_around, fractions_set, has_fractions, is_decimal_glyph, is_fraction_slash, numbers_before, numbers_behind, runs_forward, slash_alone, slash_masks};
+ghost use Rattle.shapers_pipeline.specs.Fractions.{fraction_around, fraction_marked, fractions_around, fractions_set, has_fractions, is_decimal_glyph, is_fraction_slash, decimals_before, decimals_behind, runs_forward, slash_alone, slash_masks};
 
 use shapers_base::buffer::{
     BufferFlags, Direction, GlyphChange, GlyphWalk, change_each_in, hb_buffer_t, hb_glyph_info_t,
@@ -113,8 +113,8 @@ fn set_fraction(masks: SlashMasks, flags: BufferFlags, i: usize, glyphs: &mut [h
     if !is_fraction_slash(&glyphs[i]) {
         return;
     }
-    let before = numbers_before(i, glyphs);
-    let behind = numbers_behind(i, glyphs);
+    let before = decimals_before(i, glyphs);
+    let behind = decimals_behind(i, glyphs);
     if before == 0 || behind == 0 {
         flag_slash(flags, i, before, behind, glyphs);
     } else {
@@ -124,9 +124,9 @@ fn set_fraction(masks: SlashMasks, flags: BufferFlags, i: usize, glyphs: &mut [h
 
 // How many decimal numbers stand right before place `i`.
 #[inline]
-fn numbers_before(i: usize, glyphs: &[hb_glyph_info_t]) -> usize
+fn decimals_before(i: usize, glyphs: &[hb_glyph_info_t]) -> usize
     requires { i ≤ length glyphs.now }
-    ensures count { result ≡ numbers_before i glyphs.now }
+    ensures count { result ≡ decimals_before i glyphs.now }
     ensures few { result ≤ i }
 {
     glyphs[..i]
@@ -138,17 +138,17 @@ fn numbers_before(i: usize, glyphs: &[hb_glyph_info_t]) -> usize
 
 // How many decimal numbers stand right behind place `i`.
 #[inline]
-fn numbers_behind(i: usize, glyphs: &[hb_glyph_info_t]) -> usize
+fn decimals_behind(i: usize, glyphs: &[hb_glyph_info_t]) -> usize
     requires { i < length glyphs.now }
-    ensures count { result ≡ numbers_behind i glyphs.now }
+    ensures count { result ≡ decimals_behind i glyphs.now }
     ensures few { i + 1 + result ≤ length glyphs.now }
 {
-    numbers_in_front(&glyphs[i + 1..])
+    decimals_in_front(&glyphs[i + 1..])
 }
 
 // How many of the first glyphs are decimal numbers.
 #[inline]
-fn numbers_in_front(glyphs: &[hb_glyph_info_t]) -> usize
+fn decimals_in_front(glyphs: &[hb_glyph_info_t]) -> usize
     ensures count { result ≡ prefix_len is_decimal_glyph glyphs.now }
     ensures few { result ≤ length glyphs.now }
 {

@@ -22,11 +22,7 @@ pub trait Lookups {
     /// # Errors
     ///
     /// Why the text couldn't become longer; nothing has changed then.
-    fn substitute(
-        &self,
-        lookup: &StageLookup,
-        buffer: &mut hb_buffer_t,
-    ) -> Result<(), ShaperError>
+    fn substitute(&self, lookup: &StageLookup, buffer: &mut hb_buffer_t) -> Result<(), ShaperError>
         requires { buffer.old.positions ≡ [] }
         ensures ok { OnOk result (buffer.new ≡ substituted self.now lookup.now buffer.old) }
         ensures keeps { OnOk result (LookupKeeps buffer.old buffer.new) }

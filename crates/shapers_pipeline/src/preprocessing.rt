@@ -2,7 +2,7 @@
 ghost use Rattle.std.specs.Prelude.{◌≡◌, ◌↔◌, [], IsOkUnless, IsTrue, OnErr, OnOk};
 ghost use Rattle.shapers_buffer.specs.Refusals.{RefusesLength};
 ghost use Rattle.rustybuzz_shapers.specs.declared.shaper.checked.Condition.TheVariants.{Glyphs};
-ghost use Rattle.shapers_pipeline.specs.ShaperSteps.{GlyphsFitFor, PlanFitsFor, masked_for, preprocessed_for, preprocessed_len};
+ghost use Rattle.shapers_pipeline.specs.ShaperSteps.{GlyphsFitFor, PlanFitsFor, masks_set_for, preprocessed_for, preprocessed_len};
 
 use rustybuzz_shapers::shaper::checked::Condition;
 use rustybuzz_shapers::shaper::hb_ot_shaper_t;
@@ -66,7 +66,7 @@ pub(crate) fn setup_masks<F: hb_font_t, T: Tables>(
     requires without_positions { buffer.old.positions ≡ [] }
     requires data { PlanFitsFor shaper plan.now }
     ensures ok { let tables = T.tables tables.now in
-        OnOk result (buffer.new ≡ masked_for shaper plan.now tables buffer.old) }
+        OnOk result (buffer.new ≡ masks_set_for shaper plan.now tables buffer.old) }
     ensures fit { OnOk result (GlyphsFitFor shaper plan.now buffer.old.glyphs) }
     ensures unfit { OnErr result (GlyphsFitFor shaper plan.now buffer.old.glyphs → ⊥) }
     ensures refusal { IsOkUnless result Glyphs }

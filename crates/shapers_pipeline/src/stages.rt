@@ -1,6 +1,6 @@
 //! The stages of a plan: the lookups of each, and what the shaper does behind them.
 ghost use Rattle.std.specs.Prelude.{◌≡◌, [], OnErr, OnOk};
-ghost use Rattle.shapers_pipeline.specs.Lookups.{stage_lookups};
+ghost use Rattle.shapers_pipeline.specs.Lookups.{lookups_of_stage};
 ghost use Rattle.shapers_pipeline.specs.Stages.{PauseRun, StageRun, StageStopped, StagesRun, StagesStopped, Substitution};
 
 use crate::lookups::{Lookups, apply_lookups, found_spans};
@@ -27,18 +27,18 @@ pub fn run_stages<F: hb_font_t, L: Lookups>(
 ) -> Result<(), CallError>
     requires { buffer.old.positions ≡ [] }
     ensures ok { let r : Substitution = record {
-          plan = plan.now.plan.now;
-          font = F.font font.now;
-          substituted = L.substituted lookups.now;
-          list = plan.now.lookups.now;
-        } in
+      plan = plan.now.plan.now;
+      font = F.font font.now;
+      substituted = L.substituted lookups.now;
+      list = plan.now.lookups.now;
+    } in
         OnOk result (StagesRun r plan.now.stages.now buffer.old buffer.new) }
     ensures err { let r : Substitution = record {
-          plan = plan.now.plan.now;
-          font = F.font font.now;
-          substituted = L.substituted lookups.now;
-          list = plan.now.lookups.now;
-        } in
+      plan = plan.now.plan.now;
+      font = F.font font.now;
+      substituted = L.substituted lookups.now;
+      list = plan.now.lookups.now;
+    } in
         OnErr result (StagesStopped r plan.now.stages.now buffer.old buffer.new) }
     ensures positions { OnOk result (buffer.new.positions ≡ []) }
 {
@@ -58,22 +58,22 @@ fn run_stage<F: hb_font_t, L: Lookups>(
 ) -> Result<(), CallError>
     requires { buffer.old.positions ≡ [] }
     ensures ok { let r : Substitution = record {
-          plan = plan.now.plan.now;
-          font = F.font font.now;
-          substituted = L.substituted lookups.now;
-          list = plan.now.lookups.now;
-        } in
+      plan = plan.now.plan.now;
+      font = F.font font.now;
+      substituted = L.substituted lookups.now;
+      list = plan.now.lookups.now;
+    } in
         OnOk result (StageRun r stage buffer.old buffer.new) }
     ensures err { let r : Substitution = record {
-          plan = plan.now.plan.now;
-          font = F.font font.now;
-          substituted = L.substituted lookups.now;
-          list = plan.now.lookups.now;
-        } in
+      plan = plan.now.plan.now;
+      font = F.font font.now;
+      substituted = L.substituted lookups.now;
+      list = plan.now.lookups.now;
+    } in
         OnErr result (StageStopped r stage buffer.old buffer.new) }
     ensures positions { OnOk result (buffer.new.positions ≡ []) }
 {
-    apply_lookups(lookups, stage_lookups(stage, plan.lookups), buffer)?;
+    apply_lookups(lookups, lookups_of_stage(stage, plan.lookups), buffer)?;
     match stage.pause {
         Some(pause) => pause_with_spans(pause, plan.plan, font, buffer),
         None => Ok(()),
@@ -82,8 +82,8 @@ fn run_stage<F: hb_font_t, L: Lookups>(
 
 // The lookups of a stage, as far as the list goes.
 #[inline]
-fn stage_lookups(stage: Stage, list: &[StageLookup]) -> &[StageLookup]
-    ensures { result.now ≡ stage_lookups stage list.now }
+fn lookups_of_stage(stage: Stage, list: &[StageLookup]) -> &[StageLookup]
+    ensures { result.now ≡ lookups_of_stage stage list.now }
 {
     let end = stage.end.min(list.len());
     let start = stage.start.min(end);

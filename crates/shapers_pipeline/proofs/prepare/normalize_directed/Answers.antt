@@ -3,7 +3,7 @@ use Rattle.std.proofs.Common.{◌∙◌, ap, map}
 use Rattle.shapers_prepare.specs.Rotation.{rotated_glyph}
 use Rattle.shapers_buffer.specs.Buffer.{Buffer}
 use Rattle.shapers_pipeline.specs.Prepared.{preparation}
-use Rattle.shapers_pipeline.proofs.Growing.{Rotated, normalized_refused, normalized_room}
+use Rattle.shapers_pipeline.proofs.Growing.{normalized_refused, normalized_room}
 use Rattle.shapers_pipeline.proofs.prepare.normalize_directed.Goals as goal
 
 pub returns-clause-room : goal.returns-clause-room

@@ -9,7 +9,7 @@ returns-clause-ok g c =
     record {
       spans = taken;
       found = subst (λ gs. FoundSpans c.args.pause gs taken) c.glyphs.ensures
-          (subst (FoundSpans c.args.pause c.glyphs.result.now) (sym c.as_slice.ensures) c.in_ok-spans.ensures.spans);
+          (subst (FoundSpans c.args.pause c.glyphs.result.now) (sym c.as_slice.ensures.value) c.in_ok-spans.ensures.spans);
       paused = c.in_ok-checked_run_pause.ensures.ok;
       kept = c.in_ok-checked_run_pause.ensures.laws;
     }
