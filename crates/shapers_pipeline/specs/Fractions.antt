@@ -1,5 +1,5 @@
--- The features of fractions: with decimal numbers on both sides of a fraction slash, those before it
--- take the features of numerators, and those behind it those of denominators.
+-- The features of fractions: with decimal numbers on both sides of a fraction slash, those before
+-- it take the features of numerators, and those behind it those of denominators.
 use Rattle.std.specs.Prelude.{ℕ, zero, suc, ◌==◌, ◌+◌, ◌-◌, bit_or, Bool, true, false, not, ◌&&◌, ◌||◌, List, length, map, slice_index_or, take, drop, if◌then◌else◌}
 use Rattle.std.specs.List.{prefix_len, suffix_len}
 use Rattle.shapers_buffer.specs.declared.buffer.glyph.hb_glyph_info_t.{hb_glyph_info_t}
@@ -40,8 +40,8 @@ slash_masks direction m =
     then record { before = numerators; slash = m.frac; behind = denominators }
     else record { before = denominators; slash = m.frac; behind = numerators }
 
--- a fraction whose slash stands at place i, with so many numbers on both sides: nothing may be broken
--- in it
+-- a fraction whose slash stands at place i, with so many numbers on both sides: nothing may be
+-- broken in it
 abbrev pub fraction_marked : SlashMasks → ℕ → ℕ → ℕ → List hb_glyph_info_t → List hb_glyph_info_t
 fraction_marked m i before behind gs =
     let whole = unsafe_inside (i - before) (i + 1 + behind) gs in

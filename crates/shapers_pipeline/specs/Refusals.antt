@@ -15,8 +15,8 @@ abbrev pub AllHadRoom : ℕ → List Growth → Type 0
 AllHadRoom limit [] = Unit {0}
 AllHadRoom limit (g ∷ gs) = (g.wanted ≤ limit) × AllHadRoom limit gs
 
--- one of these steps refused, as a growth to its length does, and all before it had room; the buffer
--- is as it was before that step
+-- one of these steps refused, as a growth to its length does, and all before it had room; the
+-- buffer is as it was before that step
 abbrev pub OneRefused : ℕ → List Growth → ShaperError → Buffer → Type 0
 OneRefused limit [] e new = ⊥
 OneRefused limit (g ∷ gs) e new =

@@ -134,7 +134,8 @@ fn rotation_to(masks: &DriverMasks, direction: Direction) -> CharRotation
 // Sets the features of the whole text and the properties of its characters.
 #[inline]
 fn begin_text<T: UnicodeProperties>(plan: &TextPlan, tables: &T, buffer: &mut hb_buffer_t)
-    ensures { let masked = map (with_mask_alone plan.now.plan.now.ot_map.global) buffer.old.glyphs in
+    ensures { let global = plan.now.plan.now.ot_map.global in
+        let masked = map (with_mask_alone global) buffer.old.glyphs in
         let text = properties_set (T.properties tables.now) masked in
         buffer.new ≡ record buffer.old { glyphs = text } }
 {

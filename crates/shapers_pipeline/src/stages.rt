@@ -11,14 +11,14 @@ use shapers_base::font::hb_font_t;
 use shapers_base::plan::{Pause, hb_ot_shape_plan_t};
 use shapers_plan::ot_map::{Stage, StageLookup};
 
-/// Runs the stages of a plan over a text of glyphs without positions: the lookups of each, one after
-/// another, and then what the shaper does behind the stage. Syllables are found by the shaper's
-/// grammar where a pause writes them.
+/// Runs the stages of a plan over a text of glyphs without positions: the lookups of each, one
+/// after another, and then what the shaper does behind the stage. Syllables are found by the
+/// shaper's grammar where a pause writes them.
 ///
 /// # Errors
 ///
-/// A condition of a pause that isn't met, or the refusal of a lookup or a pause. The buffer is as it
-/// was before that one.
+/// A condition of a pause that isn't met, or the refusal of a lookup or a pause. The buffer is as
+/// it was before that one.
 pub fn run_stages<F: hb_font_t, L: Lookups>(
     plan: &StagePlan,
     font: &F,

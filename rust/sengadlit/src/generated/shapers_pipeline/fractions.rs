@@ -84,8 +84,8 @@ fn set_fraction(masks: SlashMasks, flags: BufferFlags, i: usize, glyphs: &mut [G
     if !is_fraction_slash(&glyphs[i]) {
         return;
     }
-    let before = numbers_before(i, glyphs);
-    let behind = numbers_behind(i, glyphs);
+    let before = decimals_before(i, glyphs);
+    let behind = decimals_behind(i, glyphs);
     if before == 0 || behind == 0 {
         flag_slash(flags, i, before, behind, glyphs);
     } else {
@@ -95,7 +95,7 @@ fn set_fraction(masks: SlashMasks, flags: BufferFlags, i: usize, glyphs: &mut [G
 
 // How many decimal numbers stand right before place `i`.
 #[inline]
-fn numbers_before(i: usize, glyphs: &[GlyphInfo]) -> usize {
+fn decimals_before(i: usize, glyphs: &[GlyphInfo]) -> usize {
     glyphs[..i]
         .iter()
         .rev()
@@ -105,13 +105,13 @@ fn numbers_before(i: usize, glyphs: &[GlyphInfo]) -> usize {
 
 // How many decimal numbers stand right behind place `i`.
 #[inline]
-fn numbers_behind(i: usize, glyphs: &[GlyphInfo]) -> usize {
-    numbers_in_front(&glyphs[i + 1..])
+fn decimals_behind(i: usize, glyphs: &[GlyphInfo]) -> usize {
+    decimals_in_front(&glyphs[i + 1..])
 }
 
 // How many of the first glyphs are decimal numbers.
 #[inline]
-fn numbers_in_front(glyphs: &[GlyphInfo]) -> usize {
+fn decimals_in_front(glyphs: &[GlyphInfo]) -> usize {
     glyphs
         .iter()
         .take_while(|glyph| is_decimal_glyph(glyph))

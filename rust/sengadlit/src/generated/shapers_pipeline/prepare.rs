@@ -44,6 +44,7 @@ use crate::generated::shapers_prepare::ot_shape_prepare::{
 /// ensures err { let p = preparation plan.now settings.now (F.font font.now) (F.variants font.now)
 ///     (T.properties tables.now) (T.tables tables.now) (T.texts tables.now) in
 ///     IfErr result (λ e. IsStopped p buffer.old buffer.new e) }
+/// ensures positions { OnOk result (buffer.new.positions ≡ []) }
 /// ```
 ///
 /// - `preparation`, `text_prepared`: `crates/shapers_pipeline/specs/Prepared.antt`

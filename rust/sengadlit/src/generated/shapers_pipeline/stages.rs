@@ -10,14 +10,14 @@ use crate::generated::shapers_pipeline::lookups::{Lookups, apply_lookups, found_
 use crate::generated::shapers_pipeline::plan::StagePlan;
 use crate::generated::shapers_plan::ot_map::{Stage, StageLookup};
 
-/// Runs the stages of a plan over a text of glyphs without positions: the lookups of each, one after
-/// another, and then what the shaper does behind the stage. Syllables are found by the shaper's
-/// grammar where a pause writes them.
+/// Runs the stages of a plan over a text of glyphs without positions: the lookups of each, one
+/// after another, and then what the shaper does behind the stage. Syllables are found by the
+/// shaper's grammar where a pause writes them.
 ///
 /// # Errors
 ///
-/// A condition of a pause that isn't met, or the refusal of a lookup or a pause. The buffer is as it
-/// was before that one.
+/// A condition of a pause that isn't met, or the refusal of a lookup or a pause. The buffer is as
+/// it was before that one.
 ///
 /// <details><summary>Contract</summary>
 ///
@@ -26,18 +26,18 @@ use crate::generated::shapers_plan::ot_map::{Stage, StageLookup};
 /// ```text
 /// requires { buffer.old.positions ≡ [] }
 /// ensures ok { let r : Substitution = record {
-///       plan = plan.now.plan.now;
-///       font = F.font font.now;
-///       substituted = L.substituted lookups.now;
-///       list = plan.now.lookups.now;
-///     } in
+///   plan = plan.now.plan.now;
+///   font = F.font font.now;
+///   substituted = L.substituted lookups.now;
+///   list = plan.now.lookups.now;
+/// } in
 ///     OnOk result (StagesRun r plan.now.stages.now buffer.old buffer.new) }
 /// ensures err { let r : Substitution = record {
-///       plan = plan.now.plan.now;
-///       font = F.font font.now;
-///       substituted = L.substituted lookups.now;
-///       list = plan.now.lookups.now;
-///     } in
+///   plan = plan.now.plan.now;
+///   font = F.font font.now;
+///   substituted = L.substituted lookups.now;
+///   list = plan.now.lookups.now;
+/// } in
 ///     OnErr result (StagesStopped r plan.now.stages.now buffer.old buffer.new) }
 /// ensures positions { OnOk result (buffer.new.positions ≡ []) }
 /// ```
@@ -65,7 +65,7 @@ fn run_stage<F: Font, L: Lookups>(
     lookups: &L,
     buffer: &mut Buffer,
 ) -> Result<(), CallError> {
-    apply_lookups(lookups, stage_lookups(stage, plan.lookups), buffer)?;
+    apply_lookups(lookups, lookups_of_stage(stage, plan.lookups), buffer)?;
     match stage.pause {
         Some(pause) => pause_with_spans(pause, plan.plan, font, buffer),
         None => Ok(()),
@@ -74,7 +74,7 @@ fn run_stage<F: Font, L: Lookups>(
 
 // The lookups of a stage, as far as the list goes.
 #[inline]
-fn stage_lookups(stage: Stage, list: &[StageLookup]) -> &[StageLookup] {
+fn lookups_of_stage(stage: Stage, list: &[StageLookup]) -> &[StageLookup] {
     let end = stage.end.min(list.len());
     let start = stage.start.min(end);
     &list[start..end]
