@@ -188,6 +188,10 @@ mod generated {
     pub(crate) mod shapers_normalize;
     pub(crate) mod shapers_plan;
     #[cfg(feature = "tables")]
+    pub(crate) mod shapers_pipeline;
+    #[cfg(feature = "tables")]
+    pub(crate) mod shapers_plan;
+    #[cfg(feature = "tables")]
     pub(crate) mod shapers_prepare;
     pub(crate) mod shapers_spans;
     pub(crate) mod shapers_stretch;
@@ -204,6 +208,8 @@ pub mod categories;
 pub mod flags;
 pub mod font;
 pub mod map;
+#[cfg(feature = "tables")]
+pub mod ot_shape;
 pub mod ot_shape_normalize;
 pub mod ot_shape_plan;
 #[cfg(feature = "tables")]
