@@ -42,8 +42,8 @@ impl Arguments {
         self.flags.iter().any(|other| other == flag)
     }
 
-    /// The script that `--script` names, or that of a text; `--direction ltr` and `rtl` choose another
-    /// direction.
+    /// The script that `--script` names, or that of a text; `--direction ltr` and `rtl` choose
+    /// another direction.
     ///
     /// # Errors
     ///

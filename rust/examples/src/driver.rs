@@ -1,5 +1,5 @@
-//! From a text to its glyphs: a plan for a script and a font, the trait of the font's lookups, and the
-//! steps of shaping in HarfBuzz's order. Each step that `sengadlit` has is called.
+//! From a text to its glyphs: a plan for a script and a font, the trait of the font's lookups, and
+//! the steps of shaping in HarfBuzz's order. Each step that `sengadlit` has is called.
 //!
 //! Left out are features that a user chooses, fractions, vertical text, the table `kern`, and marks
 //! placed without GPOS.
@@ -25,8 +25,8 @@ use sengadlit::{
 };
 use std::ops::Range;
 
-/// A lookup of a stage, and how it applies: to glyphs that have a bit of the mask; whether joiners are
-/// passed over by themselves; whether it stays in its syllable.
+/// A lookup of a stage, and how it applies: to glyphs that have a bit of the mask; whether joiners
+/// are passed over by themselves; whether it stays in its syllable.
 #[derive(Clone, Copy, Debug, Default, PartialEq, Eq)]
 pub struct StageLookup {
     pub index: u16,
@@ -80,8 +80,8 @@ pub trait Lookups {
     fn finish_positions(&self, buffer: &mut Buffer);
 }
 
-/// What the hooks leave open: where a text may be broken, when marks are ordered, and which consonants
-/// may be the base in Indic. By default as in HarfBuzz.
+/// What the hooks leave open: where a text may be broken, when marks are ordered, and which
+/// consonants may be the base in Indic. By default as in HarfBuzz.
 #[derive(Clone, Copy, Debug)]
 pub struct Settings {
     pub break_flags: BreakFlags,
@@ -171,45 +171,51 @@ impl ShapePlan {
         settings: Settings,
     ) -> Result<Self, PlanError> {
         let found = lookups.script(TableIndex::GSUB);
-        let chosen = found.map(|script| script.tag);
-        let shaper = Shaper::for_script(script, direction, chosen);
+        let shaper = Shaper::for_script(script, direction, found.map(|script| script.tag));
         let requests = all_requests(font, script, direction, shaper);
         let (wanted, pauses) = join_requests(&requests.map_err(|_| PlanError::Memory)?);
         let (features, global_mask) = give_bits(wanted, lookups);
-
-        let of_stage = |stage| lookups_of_stage(found, &features, Some(stage));
         let stages: Vec<_> = (0..=pauses.len())
-            .map(|stage| (of_stage(stage), pauses.get(stage).copied().flatten()))
+            .map(|stage| {
+                let pause = pauses.get(stage).copied().flatten();
+                (lookups_of_stage(found, &features, Some(stage)), pause)
+            })
             .collect();
-        let (ranges, numbers) = numbers_of(&stages);
         let maps: Vec<FeatureMap> = features.iter().map(Feature::as_map).collect();
-        let one_mask = |tag: &[u8; 4]| {
-            maps.iter().find(|feature| feature.tag == Tag(*tag)).map_or(0, |feature| feature.mask)
-        };
+        let (ranges, numbers) = numbers_of(&stages);
         let builder = Plan::builder().script(script).features(&maps).stages(&ranges);
-        let builder = builder.lookups(&numbers).global_mask(global_mask).chosen_script(chosen);
+        let builder = builder.lookups(&numbers).global_mask(global_mask);
+        let builder = builder.chosen_script(found.map(|script| script.tag));
         let builder = builder.found_script(found.is_some_and(|script| script.is_found));
-        let builder = builder.has_gpos_mark(one_mask(b"mark") != 0);
+        let builder = builder.has_gpos_mark(mask_of(&maps, b"mark") != 0);
         let builder = builder.break_flags(settings.break_flags).base_search(settings.base_search);
         let plan = match shaper {
             Some(shaper) => builder.build_for(shaper)?,
             None => builder.build()?,
         };
         let positions = lookups.script(TableIndex::GPOS);
-        let applies = |gpos: &ScriptFeatures| {
-            shaper.and_then(Shaper::gpos_tag).is_none_or(|tag| tag == gpos.tag)
-        };
         Ok(ShapePlan {
             shaper,
             plan,
             direction,
             stages,
             positions: lookups_of_stage(positions, &features, None),
-            rtlm_mask: one_mask(b"rtlm"),
-            applies_gpos: positions.is_some_and(applies),
+            rtlm_mask: mask_of(&maps, b"rtlm"),
+            applies_gpos: positions.is_some_and(|script| serves(script, shaper)),
             rounds: settings.rounds,
         })
     }
+}
+
+// The bit of a feature's value 1, or 0 where the font lacks it.
+fn mask_of(features: &[FeatureMap], tag: &[u8; 4]) -> u32 {
+    let mut features = features.iter();
+    features.find(|feature| feature.tag == Tag(*tag)).map_or(0, |feature| feature.mask)
+}
+
+// Whether the shaper takes GPOS for this script.
+fn serves(script: &ScriptFeatures, shaper: Option<Shaper>) -> bool {
+    shaper.and_then(Shaper::gpos_tag).is_none_or(|tag| tag == script.tag)
 }
 
 fn all_requests<F: Font>(
@@ -372,8 +378,8 @@ fn numbers_of(stages: &[(Vec<StageLookup>, Option<Pause>)]) -> (Vec<Range<usize>
 ///
 /// # Errors
 ///
-/// Those of the steps: the text gets too long, or memory is refused. What the steps before have made
-/// of the text is then in the buffer.
+/// Those of the steps: the text gets too long, or memory is refused. What the steps before have
+/// made of the text is then in the buffer.
 pub fn shape<F, T, L>(
     plan: &ShapePlan,
     font: &F,
@@ -558,8 +564,8 @@ fn remove_ignorables(buffer: &mut Buffer) {
     buffer.truncate(kept);
 }
 
-// The glyphs of a cluster have the same flags. Where a tatweel may be inserted, a line may be broken
-// only after shaping anew.
+// The glyphs of a cluster have the same flags. Where a tatweel may be inserted, a line may be
+// broken only after shaping anew.
 fn spread_flags(buffer: &mut Buffer) {
     use glyph_flag::{SAFE_TO_INSERT_TATWEEL, UNSAFE_TO_BREAK, UNSAFE_TO_CONCAT};
     let mut wanted = UNSAFE_TO_BREAK;

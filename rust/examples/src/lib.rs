@@ -1,5 +1,5 @@
-//! Real fonts, shaped with `sengadlit`: a small GSUB and GPOS over read-fonts, a driver of all steps,
-//! and outlines.
+//! Real fonts, shaped with `sengadlit`: a small GSUB and GPOS over read-fonts, a driver of all
+//! steps, and outlines.
 #![forbid(unsafe_code)]
 
 pub mod arguments;

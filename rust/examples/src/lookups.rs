@@ -16,8 +16,9 @@ pub use layout::Layout;
 
 use crate::driver::{Lookups, ScriptFeatures, StageLookup};
 use layout::number;
-use notes::{GlyphClass, Notes};
+use notes::Notes;
 use pass::Pass;
+use read_fonts::tables::gdef::GlyphClassDef as GlyphClass;
 use sengadlit::map::TableIndex;
 use sengadlit::{Buffer, GeneralCategory, GlyphInfo, ShaperError};
 
@@ -45,13 +46,13 @@ impl Lookups for Layout<'_> {
 
     fn substitute(&self, lookup: &StageLookup, buffer: &mut Buffer) -> Result<(), ShaperError> {
         let mut text = buffer.copy()?;
-        Pass::run(self, TableIndex::GSUB, lookup, &mut text)?;
+        Pass::new(self, TableIndex::GSUB, *lookup, &mut text).run()?;
         *buffer = text;
         Ok(())
     }
 
     fn position(&self, lookup: &StageLookup, buffer: &mut Buffer) -> Result<(), ShaperError> {
-        Pass::run(self, TableIndex::GPOS, lookup, buffer)
+        Pass::new(self, TableIndex::GPOS, *lookup, buffer).run()
     }
 
     fn is_mark(&self, glyph: &GlyphInfo) -> bool {

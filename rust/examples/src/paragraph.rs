@@ -31,8 +31,8 @@ pub enum Breaks {
     Anywhere,
 }
 
-/// Breaks a paragraph into lines of at most this width, in units of the font; a single cluster may be
-/// wider.
+/// Breaks a paragraph into lines of at most this width, in units of the font; a single cluster may
+/// be wider.
 ///
 /// # Errors
 ///

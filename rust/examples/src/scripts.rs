@@ -2,8 +2,8 @@
 
 use sengadlit::{Direction, Script};
 
-/// Blocks of Unicode: the first and the last character, the script, and whether it runs from right to
-/// left.
+/// Blocks of Unicode: the first and the last character, the script, and whether it runs from right
+/// to left.
 const BLOCKS: [(u32, u32, &[u8; 4], bool); 20] = [
     (0x0041, 0x024F, b"Latn", false),
     (0x0591, 0x05F4, b"Hebr", true),

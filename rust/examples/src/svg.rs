@@ -89,7 +89,8 @@ impl<'a> Drawing<'a> {
         let pixels = |units: i32| units * PIXELS_PER_EM / self.units_per_em;
         let mut picture = format!(
             "<svg xmlns=\"http://www.w3.org/2000/svg\" width=\"{}\" height=\"{}\" \
-             viewBox=\"0 0 {} {height}\">\n<rect width=\"100%\" height=\"100%\" fill=\"#fff\"/>\n<defs>\n",
+             viewBox=\"0 0 {} {height}\">\n\
+             <rect width=\"100%\" height=\"100%\" fill=\"#fff\"/>\n<defs>\n",
             pixels(self.width),
             pixels(height),
             self.width,

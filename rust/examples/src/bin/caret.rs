@@ -1,7 +1,7 @@
-//! `caret FONT TEXT`: where a caret stands as it moves through a text of one script, from its start to
-//! its end: the place in the text, by bytes, and how far from the left edge, in units of the font. It
-//! stops between clusters; and within one whose graphemes are drawn as one glyph, a ligature, by
-//! GDEF's carets or else at equal distances.
+//! `caret FONT TEXT`: where a caret stands as it moves through a text of one script, from its start
+//! to its end: the place in the text, by bytes, and how far from the left edge, in units of the
+//! font. It stops between clusters; and within one whose graphemes are drawn as one glyph, a
+//! ligature, by GDEF's carets or else at equal distances.
 //!
 //!     --svg FILE        draws the text with a stroke for each place
 //!     --script CODE, --direction ltr|rtl   as for `shape`
@@ -40,7 +40,8 @@ fn main() -> Result<(), Box<dyn Error>> {
     Ok(())
 }
 
-// A cluster without a width, such as the second glyph of a ligature of two, is one with that before it.
+// A cluster without a width, such as the second glyph of a ligature of two, is one with that before
+// it.
 fn join_narrow(clusters: Vec<Cluster>, direction: Direction) -> Vec<Cluster> {
     let mut joined: Vec<Cluster> = vec![];
     for cluster in clusters {

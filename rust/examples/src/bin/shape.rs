@@ -1,6 +1,6 @@
-//! `shape FONT TEXT`: the glyphs of a text, one per line, from left to right, as hb-shape writes them:
-//! NUMBER=CLUSTER@X,Y+ADVANCE#FLAGS, of which `@` and `#` are left out where they are nothing. A
-//! cluster is the place of a byte of the text.
+//! `shape FONT TEXT`: the glyphs of a text, one per line, from left to right, as hb-shape writes
+//! them: NUMBER=CLUSTER@X,Y+ADVANCE#FLAGS, of which `@` and `#` are left out where they are
+//! nothing. A cluster is the place of a byte of the text.
 //!
 //!     --svg FILE        also draws them
 //!     --lines FILE      shapes each line of the file instead, and prints each on a line

@@ -1,6 +1,6 @@
 //! `wrap FONT EMS TEXT`: breaks a paragraph of one script into lines of at most so many ems. It is
-//! shaped once, and at the ends of lines again only where a flag says so; a line of output tells how
-//! many of a line's clusters were, and whether the line is as if it had been shaped alone.
+//! shaped once, and at the ends of lines again only where a flag says so; a line of output tells
+//! how many of a line's clusters were, and whether the line is as if it had been shaped alone.
 //!
 //!     --anywhere        breaks between any two clusters, not only behind spaces
 //!     --svg FILE        draws the lines

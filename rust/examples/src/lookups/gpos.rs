@@ -1,12 +1,11 @@
 //! Positions: single, pair, cursive, marks to bases, ligatures and marks, contexts.
 
 use super::notes::Notes;
-use super::pass::{Pass, Side, Sight};
+use super::pass::{Pass, Side, first_of};
 use super::rules::{chained_rules, rules};
 use read_fonts::tables::gpos::{
     AnchorTable, CursivePosFormat1, MarkArray, MarkBasePosFormat1, MarkLigPosFormat1,
-    MarkMarkPosFormat1, PairPos, PairPosFormat1, PositionSubtables, SinglePos, ValueFormat,
-    ValueRecord,
+    MarkMarkPosFormat1, PairPos, PositionSubtables, SinglePos, ValueRecord,
 };
 use read_fonts::tables::layout::LookupFlag;
 use read_fonts::types::GlyphId16;
@@ -22,29 +21,23 @@ impl<'a> Pass<'_, 'a> {
         let first = self.glyph(at);
         match subtables {
             P::Single(tables) => {
-                let value = tables.iter().flatten().find_map(|table| single(&table, first))?;
+                let value = first_of(tables.iter(), |table| single(&table, first))?;
                 self.add(at, &value);
                 Some(at + 1)
             }
-            P::Pair(tables) => tables.iter().flatten().find_map(|table| self.pair(&table, at)),
-            P::Cursive(tables) => {
-                tables.iter().flatten().find_map(|table| self.cursive(&table, at))
-            }
-            P::MarkToBase(tables) => {
-                tables.iter().flatten().find_map(|table| self.mark_to_base(&table, at))
-            }
+            P::Pair(tables) => first_of(tables.iter(), |table| self.pair(&table, at)),
+            P::Cursive(tables) => first_of(tables.iter(), |table| self.cursive(&table, at)),
+            P::MarkToBase(tables) => first_of(tables.iter(), |table| self.mark_to_base(&table, at)),
             P::MarkToLig(tables) => {
-                tables.iter().flatten().find_map(|table| self.mark_to_ligature(&table, at))
+                first_of(tables.iter(), |table| self.mark_to_ligature(&table, at))
             }
-            P::MarkToMark(tables) => {
-                tables.iter().flatten().find_map(|table| self.mark_to_mark(&table, at))
+            P::MarkToMark(tables) => first_of(tables.iter(), |table| self.mark_to_mark(&table, at)),
+            P::Contextual(tables) => {
+                first_of(tables.iter(), |table| self.apply_rules(rules(&table, first), at))
             }
-            P::Contextual(tables) => tables.iter().flatten().find_map(|table| {
-                rules(&table, first)?.find_map(|rule| self.apply_rule(&rule, at))
-            }),
-            P::ChainContextual(tables) => tables.iter().flatten().find_map(|table| {
-                chained_rules(&table, first)?.find_map(|rule| self.apply_rule(&rule, at))
-            }),
+            P::ChainContextual(tables) => {
+                first_of(tables.iter(), |table| self.apply_rules(chained_rules(&table, first), at))
+            }
             P::EmptyExtension => None,
         }
     }
@@ -68,52 +61,35 @@ impl<'a> Pass<'_, 'a> {
         (x, y, advance) != (0, 0, 0)
     }
 
+    // A second glyph that has values of its own begins no pair.
     fn pair(&mut self, table: &PairPos<'a>, at: usize) -> Option<usize> {
         let first = self.glyph(at);
-        match table {
+        let index = match table {
+            PairPos::Format1(table) => table.coverage().ok()?.get(first)?,
+            PairPos::Format2(table) => table.coverage().ok()?.get(first)?,
+        };
+        let place = self.find(Side::Input, 0, at + 1..self.buffer.len(), None)?;
+        let second = self.glyph(place);
+        let (a, b) = match table {
             PairPos::Format1(table) => {
-                let index = table.coverage().ok()?.get(first)?;
-                let second = self.next(at)?;
-                let (a, b) = pair_of_glyphs(table, index, self.glyph(second))?;
-                Some(self.add_pair(at, second, &a, &b, table.value_format2()))
+                let pairs = table.pair_sets().get(usize::from(index)).ok()?.pair_value_records();
+                let pair = pairs.iter().flatten().find(|pair| pair.second_glyph() == second)?;
+                (pair.value_record1().clone(), pair.value_record2().clone())
             }
             PairPos::Format2(table) => {
-                table.coverage().ok()?.get(first)?;
-                let second = self.next(at)?;
                 let row = table.class_def1().ok()?.get(first);
-                let column = table.class_def2().ok()?.get(self.glyph(second));
+                let column = table.class_def2().ok()?.get(second);
                 let row = table.class1_records().get(usize::from(row)).ok()?;
                 let pair = row.class2_records().get(usize::from(column)).ok()?;
-                let (a, b) = (pair.value_record1(), pair.value_record2());
-                Some(self.add_pair(at, second, a, b, table.value_format2()))
+                (pair.value_record1().clone(), pair.value_record2().clone())
             }
+        };
+        let has_values = self.add(at, &a) | self.add(place, &b);
+        let end = if table.value_format2().is_empty() { place } else { place + 1 };
+        if has_values || end > place {
+            self.flag_unsafe_to_break(at, end + 1);
         }
-    }
-
-    // The next glyph that the lookup sees.
-    fn next(&self, at: usize) -> Option<usize> {
-        self.find(Side::Input, 0, at + 1..self.buffer.len(), None)
-    }
-
-    // A second glyph that has values of its own begins no pair.
-    fn add_pair(
-        &mut self,
-        first: usize,
-        second: usize,
-        a: &ValueRecord,
-        b: &ValueRecord,
-        format: ValueFormat,
-    ) -> usize {
-        let has_first = self.add(first, a);
-        let has_second = self.add(second, b);
-        if has_first || has_second {
-            self.flag_unsafe_to_break(first, second + 1);
-        }
-        if format.is_empty() {
-            return second;
-        }
-        self.flag_unsafe_to_break(first, second + 2);
-        second + 1
+        Some(end)
     }
 
     // Joins a glyph's entry to the exit of the one before it.
@@ -177,28 +153,28 @@ impl<'a> Pass<'_, 'a> {
         }
     }
 
-    // The glyph that a mark is attached to: the nearest before it that is no mark. Of the glyphs that
-    // one became it is the first, unless the table has the other.
+    // The glyph that a mark is attached to: the nearest before it that is no mark. Of the glyphs
+    // that one became it is the first, unless the table has the other.
     fn base_of(&self, mark: usize, is_base: impl Fn(usize) -> bool) -> Option<usize> {
         (0..mark).rev().find(|at| {
             let glyph = &self.buffer.glyphs()[*at];
-            let is_seen = !Notes::of(glyph).is_mark()
-                && self.sight(Side::Input, glyph, 0, None) == Sight::Match;
-            is_seen && is_base(*at)
+            let is_seen = self.sight(Side::Input, glyph, 0, None) == Some(true);
+            !Notes::of(glyph).is_mark() && is_seen && is_base(*at)
         })
     }
 
     fn is_first_of_many(&self, at: usize) -> bool {
-        let glyphs = self.buffer.glyphs();
-        let glyph = glyphs[at];
-        if !glyph.marks.is_multiplied() || glyph.lig_comp == 0 || at == 0 {
-            return true;
-        }
-        let before = glyphs[at - 1];
-        Notes::of(&before).is_mark()
-            || !before.marks.is_multiplied()
-            || Notes::of(&before).ligature != Notes::of(&glyph).ligature
-            || before.lig_comp + 1 != glyph.lig_comp
+        let glyph = self.buffer.get(at);
+        let goes_on = |at: usize| {
+            let (before, notes) = (self.buffer.get(at), self.notes(at));
+            let is_part = !notes.is_mark() && before.marks.is_multiplied();
+            is_part
+                && notes.ligature == Notes::of(&glyph).ligature
+                && before.lig_comp + 1 == glyph.lig_comp
+        };
+        !glyph.marks.is_multiplied()
+            || glyph.lig_comp == 0
+            || !at.checked_sub(1).is_some_and(goes_on)
     }
 
     fn mark_to_base(&mut self, table: &MarkBasePosFormat1<'a>, at: usize) -> Option<usize> {
@@ -221,19 +197,15 @@ impl<'a> Pass<'_, 'a> {
         let ligatures = table.ligature_array().ok()?;
         let ligature = ligatures.ligature_attaches().get(usize::from(index)).ok()?;
         let count = usize::from(ligature.component_count());
+        let number = self.notes(base).ligature;
         let component = match usize::from(self.buffer.get(at).lig_comp) {
-            component @ 1.. if self.is_of_ligature(at, base) => component.min(count),
+            at_most @ 1.. if number != 0 && number == self.notes(at).ligature => at_most.min(count),
             _ => count,
         };
         let (class, mark) = mark_anchor(&table.mark_array().ok()?, mark)?;
         let record = ligature.component_records().get(component.checked_sub(1)?).ok()?;
         let anchor = record.ligature_anchors(ligature.offset_data()).get(class)?.ok()?;
         Some(self.attach_mark_at(at, base, point(&anchor), mark))
-    }
-
-    fn is_of_ligature(&self, mark: usize, base: usize) -> bool {
-        let ligature = self.notes(base).ligature;
-        ligature != 0 && ligature == self.notes(mark).ligature
     }
 
     fn mark_to_mark(&mut self, table: &MarkMarkPosFormat1<'a>, at: usize) -> Option<usize> {
@@ -259,7 +231,8 @@ impl<'a> Pass<'_, 'a> {
         before
     }
 
-    // Whether two marks are of the same base, or of the same component; a ligature of marks is of any.
+    // Whether two marks are of the same base, or of the same component; a ligature of marks is of
+    // any.
     fn are_beside(&self, mark: usize, other: usize) -> bool {
         let (a, b) = (self.notes(mark).ligature, self.notes(other).ligature);
         let component = |at| self.buffer.get(at).lig_comp;
@@ -306,29 +279,6 @@ fn single(table: &SinglePos<'_>, glyph: GlyphId16) -> Option<ValueRecord> {
             table.value_records().get(usize::from(index)).ok()
         }
     }
-}
-
-// The values of a pair; the list is in the order of the second glyphs.
-fn pair_of_glyphs(
-    table: &PairPosFormat1<'_>,
-    first: u16,
-    second: GlyphId16,
-) -> Option<(ValueRecord, ValueRecord)> {
-    let set = table.pair_sets().get(usize::from(first)).ok()?;
-    let pairs = set.pair_value_records();
-    let (mut low, mut high) = (0, pairs.len());
-    while low < high {
-        let middle = low + (high - low) / 2;
-        let pair = pairs.get(middle).ok()?;
-        match pair.second_glyph().cmp(&second) {
-            std::cmp::Ordering::Less => low = middle + 1,
-            std::cmp::Ordering::Greater => high = middle,
-            std::cmp::Ordering::Equal => {
-                return Some((pair.value_record1().clone(), pair.value_record2().clone()));
-            }
-        }
-    }
-    None
 }
 
 /// Moves each glyph that is attached with the one that it is attached to.

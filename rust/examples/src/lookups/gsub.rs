@@ -1,10 +1,11 @@
 //! Substitutions: single, multiple, alternate, ligatures, contexts.
 
-use super::layout::{Flag, Layout};
-use super::notes::{GlyphClass, Notes};
-use super::pass::Pass;
+use super::layout::Layout;
+use super::notes::Notes;
+use super::pass::{Pass, first_of};
 use super::rules::{Pattern, chained_rules, rules};
 use crate::driver::StageLookup;
+use read_fonts::tables::gdef::GlyphClassDef as GlyphClass;
 use read_fonts::tables::gsub::{LigatureSubstFormat1, SingleSubst, SubstitutionSubtables};
 use read_fonts::types::GlyphId16;
 use sengadlit::buffer::GlyphMarks;
@@ -23,7 +24,7 @@ impl Layout<'_> {
         let mut text: Buffer = glyphs.iter().map(as_glyph).collect();
         let Some((subtables, _)) = self.lookup(TableIndex::GSUB, index) else { return false };
         let lookup = StageLookup { index, mask: u32::MAX, ..StageLookup::default() };
-        let mut pass = Pass::new(self, TableIndex::GSUB, lookup, Flag::default(), &mut text);
+        let mut pass = Pass::new(self, TableIndex::GSUB, lookup, &mut text);
         pass.trial = Some(zero_context);
         !glyphs.is_empty() && pass.apply(&subtables, 0).is_some()
     }
@@ -41,19 +42,19 @@ impl<'a> Pass<'_, 'a> {
         let is_for_one = self.trial.is_none() || self.buffer.len() == 1;
         match subtables {
             S::Single(tables) if is_for_one => {
-                let to = tables.iter().flatten().find_map(|table| single(&table, first))?;
+                let to = first_of(tables.iter(), |table| single(&table, first))?;
                 self.replace(at, to, None);
                 Some(at + 1)
             }
             S::Multiple(tables) if is_for_one => {
-                let sequence = tables.iter().flatten().find_map(|table| {
+                let sequence = first_of(tables.iter(), |table| {
                     table.sequences().get(table.coverage().ok()?.get(first)?.into()).ok()
                 })?;
                 let to = sequence.substitute_glyph_ids().iter().map(|glyph| glyph.get());
                 self.multiply(at, &to.collect::<Vec<_>>())
             }
             S::Alternate(tables) if is_for_one => {
-                let set = tables.iter().flatten().find_map(|table| {
+                let set = first_of(tables.iter(), |table| {
                     table.alternate_sets().get(table.coverage().ok()?.get(first)?.into()).ok()
                 })?;
                 // the feature's value chooses, from 1
@@ -63,15 +64,13 @@ impl<'a> Pass<'_, 'a> {
                 self.replace(at, to, None);
                 Some(at + 1)
             }
-            S::Ligature(tables) => {
-                tables.iter().flatten().find_map(|table| self.find_ligature(&table, at))
+            S::Ligature(tables) => first_of(tables.iter(), |table| self.find_ligature(&table, at)),
+            S::Contextual(tables) => {
+                first_of(tables.iter(), |table| self.apply_rules(rules(&table, first), at))
             }
-            S::Contextual(tables) => tables.iter().flatten().find_map(|table| {
-                rules(&table, first)?.find_map(|rule| self.apply_rule(&rule, at))
-            }),
-            S::ChainContextual(tables) => tables.iter().flatten().find_map(|table| {
-                chained_rules(&table, first)?.find_map(|rule| self.apply_rule(&rule, at))
-            }),
+            S::ChainContextual(tables) => {
+                first_of(tables.iter(), |table| self.apply_rules(chained_rules(&table, first), at))
+            }
             _ => None,
         }
     }
@@ -86,20 +85,13 @@ impl<'a> Pass<'_, 'a> {
         });
     }
 
-    // Puts glyphs in for one.
+    // Puts glyphs in for one. Of two or more each is a copy of it with its number among them,
+    // unless it belongs to a ligature.
     fn multiply(&mut self, at: usize, to: &[GlyphId16]) -> Option<usize> {
-        match to {
-            [] => self.delete(at),
-            [one] => self.replace(at, *one, None),
-            _ => self.spread(at, to)?,
-        }
-        Some(at + to.len())
-    }
-
-    // Puts two glyphs or more in for one, each a copy of it with its number among them, unless it
-    // belongs to a ligature.
-    fn spread(&mut self, at: usize, to: &[GlyphId16]) -> Option<()> {
-        let added = to.len() - 1;
+        let Some(added) = to.len().checked_sub(1) else {
+            self.delete(at);
+            return Some(at);
+        };
         if let Err(refused) = self.buffer.grow(added) {
             self.refused = Some(refused);
             return None;
@@ -110,18 +102,17 @@ impl<'a> Pass<'_, 'a> {
             glyphs[at + 1..at + 1 + added].fill(one);
         });
         let was_ligature = self.notes(at).class == GlyphClass::Ligature;
+        let class = (added > 0 && was_ligature).then_some(GlyphClass::Base);
         for (number, to) in to.iter().enumerate() {
-            let place = at + number;
-            self.change(place, |glyph, notes| {
-                glyph.marks.insert(GlyphMarks::MULTIPLIED);
-                if notes.ligature == 0 {
-                    notes.components = 0;
-                    glyph.lig_comp = number as u8 & 15;
+            self.replace(at + number, *to, class);
+            self.change(at + number, |glyph, notes| {
+                glyph.marks.set_multiplied(added > 0 || glyph.marks.is_multiplied());
+                if added > 0 && notes.ligature == 0 {
+                    (notes.components, glyph.lig_comp) = (0, number as u8 & 15);
                 }
             });
-            self.replace(place, *to, was_ligature.then_some(GlyphClass::Base));
         }
-        Some(())
+        Some(at + to.len())
     }
 
     // Takes a glyph out, but not its place in the text.
@@ -160,46 +151,35 @@ impl<'a> Pass<'_, 'a> {
         })
     }
 
-    // Puts a ligature in for the glyphs at these places. One of marks alone, or of a base and marks, is
-    // no ligature to the marks beside it.
+    // Puts a ligature in for the glyphs at these places. One of marks alone, or of a base and
+    // marks, is none to the marks beside it.
     fn ligate(&mut self, places: &[usize], to: GlyphId16) {
-        let (at, end) = (places[0], places[places.len() - 1] + 1);
-        self.buffer.merge_clusters(at, end);
+        let at = places[0];
+        self.buffer.merge_clusters(at, places[places.len() - 1] + 1);
         let rest_are_marks = places[1..].iter().all(|place| self.notes(*place).is_mark());
         let first = self.notes(at).class;
         let is_of_marks = rest_are_marks && first == GlyphClass::Mark;
         let takes_marks = !is_of_marks && !(rest_are_marks && first == GlyphClass::Base);
         let number = if takes_marks { self.free_number(at) } else { 0 };
-
-        let counts = places.iter().map(|place| self.notes(*place).component_count());
-        let count = counts.fold(0, u8::saturating_add);
-        let last = self.attach_marks_between(places, takes_marks.then_some(number));
-        if !is_of_marks {
-            self.attach_marks_behind(end, number, last);
-        }
-        if takes_marks {
-            self.become_ligature(at, number, count);
-        }
+        let components = self.attach_marks(places, number, is_of_marks);
         self.replace(at, to, takes_marks.then_some(GlyphClass::Ligature));
-        self.change(at, |glyph, _| {
+        self.change(at, |glyph, notes| {
             glyph.marks.insert(GlyphMarks::LIGATED);
             glyph.marks.remove(GlyphMarks::MULTIPLIED);
+            if takes_marks {
+                (notes.ligature, notes.components, glyph.lig_comp) = (number, components, 0);
+                if glyph.general_category == GeneralCategory::Mn {
+                    glyph.general_category = GeneralCategory::Lo;
+                }
+            }
         });
         for place in places[1..].iter().rev() {
             self.remove(*place);
         }
     }
 
-    fn become_ligature(&mut self, at: usize, number: u8, count: u8) {
-        self.change(at, |glyph, notes| {
-            (notes.ligature, notes.components, glyph.lig_comp) = (number, count, 0);
-            if glyph.general_category == GeneralCategory::Mn {
-                glyph.general_category = GeneralCategory::Lo;
-            }
-        });
-    }
-
-    // A number for a ligature: one that no glyph has, or else that the ligatures beside it don't have.
+    // A number for a ligature: one that no glyph has, or else that the ligatures beside it don't
+    // have.
     fn free_number(&self, at: usize) -> u8 {
         let of = |glyph: &GlyphInfo| Some(Notes::of(glyph).ligature).filter(|number| *number != 0);
         let (before, behind) = self.buffer.glyphs().split_at(at);
@@ -209,57 +189,34 @@ impl<'a> Pass<'_, 'a> {
         (1..=7).find(is_free).or_else(|| (1..=7).find(is_free_beside)).unwrap_or(1)
     }
 
-    // The marks between the glyphs that become a ligature then belong to it, by the components before
-    // them. Returns the components up to the last of these glyphs.
-    fn attach_marks_between(&mut self, places: &[usize], number: Option<u8>) -> Components {
-        let mut before = Components::default().with(self.notes(places[0]));
-        for at in places[0] + 1..=places[places.len() - 1] {
-            match number {
-                _ if places.binary_search(&at).is_ok() => before = before.with(self.notes(at)),
-                Some(number) => self.attach_mark(at, number, before),
-                None => {}
+    // The marks between the glyphs that become a ligature then belong to it, if it has a number, by
+    // the components before them; so do those behind it that belonged to its last glyph. Returns
+    // how many components it has.
+    fn attach_marks(&mut self, places: &[usize], number: u8, is_of_marks: bool) -> u8 {
+        let (mut all, mut last) = (0_u8, Notes::default());
+        for at in places[0]..self.buffer.len() {
+            let notes = self.notes(at);
+            if places.binary_search(&at).is_ok() {
+                (all, last) = (all.saturating_add(notes.component_count()), notes);
+                continue;
             }
-        }
-        before
-    }
-
-    // So do the marks behind it that belonged to its last glyph.
-    fn attach_marks_behind(&mut self, end: usize, number: u8, last: Components) {
-        for at in end..self.buffer.len() {
-            let is_of_last = last.ligature != 0 && self.notes(at).ligature == last.ligature;
-            if !is_of_last || self.buffer.get(at).lig_comp == 0 {
+            let component = self.buffer.get(at).lig_comp;
+            let was_of_last =
+                last.ligature != 0 && notes.ligature == last.ligature && component != 0;
+            let is_behind = at > places[places.len() - 1];
+            if is_behind && (is_of_marks || !was_of_last) {
                 break;
             }
-            self.attach_mark(at, number, last);
+            if is_behind || number != 0 {
+                let of_last = last.component_count();
+                let inside = if component == 0 { of_last } else { component.min(of_last) };
+                self.change(at, |glyph, notes| {
+                    glyph.lig_comp = (all - of_last + inside) & 15;
+                    (notes.ligature, notes.components) = (number, 0);
+                });
+            }
         }
-    }
-
-    fn attach_mark(&mut self, at: usize, number: u8, before: Components) {
-        self.change(at, |glyph, notes| {
-            let component = match glyph.lig_comp {
-                0 => before.of_last,
-                component => component.min(before.of_last),
-            };
-            glyph.lig_comp = (before.of_all - before.of_last + component) & 15;
-            (notes.ligature, notes.components) = (number, 0);
-        });
-    }
-}
-
-// The components in front of a mark in a ligature: how many there are, how many are of the glyph right
-// before it, and that glyph's own ligature.
-#[derive(Clone, Copy, Default)]
-struct Components {
-    of_all: u8,
-    of_last: u8,
-    ligature: u8,
-}
-
-impl Components {
-    fn with(self, notes: Notes) -> Self {
-        let of_last = notes.component_count();
-        let of_all = self.of_all.saturating_add(of_last);
-        Components { of_all, of_last, ligature: notes.ligature }
+        all
     }
 }
 

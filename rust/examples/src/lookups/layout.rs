@@ -1,13 +1,11 @@
 //! The tables of a font for one script: its features, and which glyphs a lookup ignores.
 
-use super::notes::{GlyphClass, Notes};
+use super::notes::Notes;
 use crate::driver::ScriptFeatures;
-use read_fonts::tables::gdef::Gdef;
+use read_fonts::tables::gdef::{Gdef, GlyphClassDef as GlyphClass};
 use read_fonts::tables::gpos::{Gpos, PositionSubtables};
 use read_fonts::tables::gsub::{Gsub, SubstitutionSubtables};
-use read_fonts::tables::layout::{
-    ClassDef, CoverageTable, FeatureList, LookupFlag, ScriptList, ScriptTags,
-};
+use read_fonts::tables::layout::{CoverageTable, FeatureList, LookupFlag, ScriptList, ScriptTags};
 use read_fonts::types::GlyphId16;
 use read_fonts::{FontRef, ReadError, TableProvider};
 use sengadlit::map::TableIndex;
@@ -54,8 +52,6 @@ pub struct Layout<'a> {
     gsub: Option<Gsub<'a>>,
     gpos: Option<Gpos<'a>>,
     gdef: Option<Gdef<'a>>,
-    classes: Option<ClassDef<'a>>,
-    mark_classes: Option<ClassDef<'a>>,
     pub(super) substitutions: Option<ScriptFeatures>,
     pub(super) positions: Option<ScriptFeatures>,
 }
@@ -70,8 +66,6 @@ impl<'a> Layout<'a> {
             positions: gpos
                 .as_ref()
                 .and_then(|table| features_of(table.script_list(), table.feature_list(), script)),
-            classes: gdef.as_ref().and_then(|gdef| gdef.glyph_class_def()?.ok()),
-            mark_classes: gdef.as_ref().and_then(|gdef| gdef.mark_attach_class_def()?.ok()),
             gsub,
             gpos,
             gdef,
@@ -80,7 +74,8 @@ impl<'a> Layout<'a> {
 
     /// The class of a glyph, if the font has classes.
     pub fn class(&self, glyph: GlyphId16) -> Option<GlyphClass> {
-        Some(GlyphClass::from_number(self.classes.as_ref()?.get(glyph)))
+        let classes = self.gdef.as_ref()?.glyph_class_def()?.ok()?;
+        Some(GlyphClass::new(classes.get(glyph)))
     }
 
     /// A lookup: its subtables, and which glyphs it ignores.
@@ -115,10 +110,12 @@ impl<'a> Layout<'a> {
                 !flag.marks.as_ref().is_some_and(|marks| marks.get(mark).is_some())
             }
             GlyphClass::Mark => {
-                let class = self.mark_classes.as_ref().map_or(0, |classes| classes.get(mark));
+                let classes =
+                    self.gdef.as_ref().and_then(|gdef| gdef.mark_attach_class_def()?.ok());
+                let class = classes.map_or(0, |classes| classes.get(mark));
                 flag.bits.mark_attachment_class().is_some_and(|wanted| wanted != class)
             }
-            GlyphClass::None | GlyphClass::Component => false,
+            GlyphClass::Unknown | GlyphClass::Component => false,
         }
     }
 }

@@ -1,36 +1,19 @@
-//! What the lookups keep with each glyph, in [`GlyphInfo::var`], which the hooks carry along and never
-//! read.
+//! What the lookups keep with each glyph, in [`GlyphInfo::var`], which the hooks carry along and
+//! never read.
 
+use read_fonts::tables::gdef::GlyphClassDef as GlyphClass;
 use sengadlit::GlyphInfo;
-
-/// The class of a glyph, by GDEF's numbers.
-#[derive(Clone, Copy, Debug, Default, PartialEq, Eq)]
-pub enum GlyphClass {
-    #[default]
-    None,
-    Base,
-    Ligature,
-    Mark,
-    Component,
-}
-
-impl GlyphClass {
-    /// The class by its number; of one that is none, no class.
-    pub fn from_number(number: u16) -> Self {
-        let classes = [Self::None, Self::Base, Self::Ligature, Self::Mark, Self::Component];
-        classes.get(usize::from(number)).copied().unwrap_or_default()
-    }
-}
 
 /// What is kept with a glyph. A ligature and the marks between its components have the same number.
 #[derive(Clone, Copy, Debug, Default, PartialEq, Eq)]
 pub struct Notes {
+    /// By GDEF, or as lookups left it.
     pub class: GlyphClass,
     /// The number of the ligature that the glyph is, or that it stands in as a mark, from 1 to 7; 0
     /// for none. Its component is [`GlyphInfo::lig_comp`], counted from 1.
     pub ligature: u8,
-    /// How many components the glyph was made of, if a lookup made a ligature of it, at most 15; else
-    /// 0.
+    /// How many components the glyph was made of, if a lookup made a ligature of it, at most 15;
+    /// else 0.
     pub components: u8,
     /// Whether the glyph is attached as a mark, by anchors, or in a cursive line.
     pub is_attached_mark: bool,
@@ -42,7 +25,7 @@ impl Notes {
     pub fn of(glyph: &GlyphInfo) -> Self {
         let [class, made, low, high] = glyph.var.to_le_bytes();
         Notes {
-            class: GlyphClass::from_number(u16::from(class & 7)),
+            class: GlyphClass::new(u16::from(class & 7)),
             ligature: class >> 4,
             components: made & 15,
             is_attached_mark: made & 16 != 0,

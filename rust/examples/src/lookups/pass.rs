@@ -3,8 +3,9 @@
 
 use super::layout::{Flag, Layout, Subtables, number};
 use super::notes::Notes;
-use super::rules::{Pattern, Rule};
+use super::rules::{Pattern, Rule, Rules};
 use crate::driver::StageLookup;
+use read_fonts::ReadError;
 use read_fonts::types::GlyphId16;
 use sengadlit::map::TableIndex;
 use sengadlit::ot_shape_normalize::HIDDEN;
@@ -27,8 +28,8 @@ pub struct Pass<'p, 'a> {
     pub lookup: StageLookup,
     /// Of the lookup that applies now.
     pub flag: Flag<'a>,
-    /// Whether the lookup is only tried, on the whole text, and then whether contexts must be empty;
-    /// they aren't looked at.
+    /// Whether the lookup is only tried, on the whole text, and then whether contexts must be
+    /// empty; they aren't looked at.
     pub trial: Option<bool>,
     /// Why a glyph couldn't be added.
     pub refused: Option<ShaperError>,
@@ -44,47 +45,42 @@ pub enum Side {
     Context,
 }
 
-/// What a search does at a glyph.
-#[derive(Clone, Copy, PartialEq, Eq)]
-pub enum Sight {
-    Match,
-    Skip,
-    Stop,
+/// What the first of these tables gives that gives something.
+pub fn first_of<T, R>(
+    tables: impl Iterator<Item = Result<T, ReadError>>,
+    apply: impl FnMut(T) -> Option<R>,
+) -> Option<R> {
+    tables.flatten().find_map(apply)
 }
 
 /// What a search finds: any glyph that isn't skipped, or one that passes a test.
 pub type Test<'t> = Option<&'t dyn Fn(GlyphId16) -> bool>;
 
 impl<'p, 'a> Pass<'p, 'a> {
-    /// A lookup that is to be applied to a text.
+    /// A lookup that is to be applied to a text, and ignores nothing yet.
     pub fn new(
         layout: &'p Layout<'a>,
         table: TableIndex,
         lookup: StageLookup,
-        flag: Flag<'a>,
         buffer: &'p mut Buffer,
     ) -> Self {
-        let (depth, calls) = (MAX_DEPTH, MAX_CALLS);
+        let (flag, depth, calls) = (Flag::default(), MAX_DEPTH, MAX_CALLS);
         Pass { layout, buffer, table, lookup, flag, trial: None, refused: None, depth, calls }
     }
 
-    /// Applies a lookup to a text, from its first glyph to its last.
-    pub fn run(
-        layout: &'p Layout<'a>,
-        table: TableIndex,
-        lookup: &StageLookup,
-        buffer: &'p mut Buffer,
-    ) -> Result<(), ShaperError> {
-        let Some((subtables, flag)) = layout.lookup(table, lookup.index) else { return Ok(()) };
-        let mut pass = Pass::new(layout, table, *lookup, flag, buffer);
+    /// Applies the lookup to the text, from its first glyph to its last.
+    pub fn run(mut self) -> Result<(), ShaperError> {
+        let found = self.layout.lookup(self.table, self.lookup.index);
+        let Some((subtables, flag)) = found else { return Ok(()) };
+        self.flag = flag;
         let mut at = 0;
-        while at < pass.buffer.len() {
-            let glyph = pass.buffer.get(at);
-            let is_seen = glyph.mask & lookup.mask != 0 && !pass.is_ignored(&glyph);
-            let next = if is_seen { pass.apply(&subtables, at) } else { None };
+        while at < self.buffer.len() {
+            let glyph = self.buffer.get(at);
+            let is_seen = glyph.mask & self.lookup.mask != 0 && !self.is_ignored(&glyph);
+            let next = if is_seen { self.apply(&subtables, at) } else { None };
             at = next.unwrap_or(at + 1);
         }
-        pass.refused.map_or(Ok(()), Err)
+        self.refused.map_or(Ok(()), Err)
     }
 
     /// Applies the first subtable that fits, and returns the place behind what it did.
@@ -95,8 +91,8 @@ impl<'p, 'a> Pass<'p, 'a> {
         }
     }
 
-    // Applies a lookup that a rule calls. Its first glyph is there already: neither its mask nor the
-    // lookup's flag is looked at.
+    // Applies a lookup that a rule calls. Its first glyph is there already: neither its mask nor
+    // the lookup's flag is looked at.
     fn call(&mut self, index: u16, at: usize) -> Option<usize> {
         if self.depth == 0 || self.calls == 0 {
             return None;
@@ -131,18 +127,20 @@ impl<'p, 'a> Pass<'p, 'a> {
         self.layout.is_ignored(&self.flag, glyph)
     }
 
-    /// What a search does at a glyph that the lookup's flag lets it see. `syllable` is 0 for a search
-    /// that leaves the syllable.
-    pub fn sight(&self, side: Side, glyph: &GlyphInfo, syllable: u8, test: Test<'_>) -> Sight {
+    /// Whether a glyph that the lookup's flag lets a search see is found, or ends it; `None` where
+    /// the search goes on. `syllable` is 0 for a search that leaves the syllable.
+    pub fn sight(
+        &self,
+        side: Side,
+        glyph: &GlyphInfo,
+        syllable: u8,
+        test: Test<'_>,
+    ) -> Option<bool> {
         let may_skip = self.may_skip(side, glyph);
         let is_on = side == Side::Context || glyph.mask & self.lookup.mask != 0;
         let is_inside = syllable == 0 || glyph.syllable == syllable;
         let fits = is_on && is_inside && test.map_or(!may_skip, |test| test(number(glyph)));
-        match (fits, may_skip) {
-            (true, _) => Sight::Match,
-            (false, true) => Sight::Skip,
-            (false, false) => Sight::Stop,
-        }
+        (fits || !may_skip).then_some(fits)
     }
 
     // Whether a search may go on over a glyph, since it isn't drawn.
@@ -173,19 +171,16 @@ impl<'p, 'a> Pass<'p, 'a> {
         mut places: impl Iterator<Item = usize>,
         test: Test<'_>,
     ) -> Option<usize> {
-        places.find_map(|place| {
+        let (place, is_found) = places.find_map(|place| {
             let glyph = &self.buffer.glyphs()[place];
-            match self.sight(side, glyph, syllable, test) {
-                _ if self.is_ignored(glyph) => None,
-                Sight::Match => Some(Some(place)),
-                Sight::Skip => None,
-                Sight::Stop => Some(None),
-            }
-        })?
+            let sight = self.sight(side, glyph, syllable, test);
+            Some((place, sight.filter(|_| !self.is_ignored(glyph))?))
+        })?;
+        is_found.then_some(place)
     }
 
-    /// The places of an input: `at`, and those of the pattern behind it. Marks of different components
-    /// of a ligature are no input.
+    /// The places of an input: `at`, and those of the pattern behind it. Marks of different
+    /// components of a ligature are no input.
     pub fn find_input(&self, at: usize, pattern: &Pattern<'_>) -> Option<Vec<usize>> {
         if pattern.len() >= MAX_INPUT {
             return None;
@@ -203,9 +198,9 @@ impl<'p, 'a> Pass<'p, 'a> {
         Some(places)
     }
 
-    // Whether two glyphs may be of one input: both are marks of the same component of a ligature, or
-    // the second is no mark of a ligature, but for one that the first is. Marks of a ligature that the
-    // lookup ignores are free.
+    // Whether two glyphs may be of one input: both are marks of the same component of a ligature,
+    // or the second is no mark of a ligature, but for one that the first is. Marks of a ligature
+    // that the lookup ignores are free.
     fn are_of_one_ligature(&self, first: usize, second: usize) -> bool {
         let component = |at: usize| self.buffer.glyphs()[at].lig_comp;
         let (ligature, other) = (self.notes(first).ligature, self.notes(second).ligature);
@@ -221,8 +216,13 @@ impl<'p, 'a> Pass<'p, 'a> {
         base.is_some_and(|base| self.is_ignored(&self.buffer.get(base)))
     }
 
-    /// Applies the lookups of a rule where it fits, and returns the place behind its input.
-    pub fn apply_rule(&mut self, rule: &Rule<'_>, at: usize) -> Option<usize> {
+    /// Applies the first of these rules that fits.
+    pub fn apply_rules(&mut self, rules: Rules<'a>, at: usize) -> Option<usize> {
+        rules?.find_map(|rule| self.apply_rule(&rule, at))
+    }
+
+    // Applies the lookups of a rule where it fits, and returns the place behind its input.
+    fn apply_rule(&mut self, rule: &Rule<'_>, at: usize) -> Option<usize> {
         let has_context = rule.before.len() + rule.behind.len() > 0;
         let len = self.buffer.len();
         if self.trial.is_some_and(|alone| rule.input.len() + 1 < len || alone && has_context) {
@@ -246,8 +246,8 @@ impl<'p, 'a> Pass<'p, 'a> {
         Some(self.call_lookups(rule, places, end))
     }
 
-    // What a called lookup adds or removes moves the places behind it: glyphs that it adds are places
-    // of the input, and as many places of it are gone as glyphs.
+    // What a called lookup adds or removes moves the places behind it: glyphs that it adds are
+    // places of the input, and as many places of it are gone as glyphs.
     fn call_lookups(&mut self, rule: &Rule<'_>, mut places: Vec<usize>, mut end: usize) -> usize {
         for record in rule.lookups {
             let sequence = usize::from(record.sequence_index());
@@ -270,8 +270,8 @@ impl<'p, 'a> Pass<'p, 'a> {
         end
     }
 
-    /// Flags a stretch unsafe to break; it may end beyond the text. Like HarfBuzz's, one of more than
-    /// 255 glyphs isn't flagged.
+    /// Flags a stretch unsafe to break; it may end beyond the text. Like HarfBuzz's, one of more
+    /// than 255 glyphs isn't flagged.
     pub fn flag_unsafe_to_break(&mut self, start: usize, end: usize) {
         let end = end.min(self.buffer.len());
         if end - start <= 255 {

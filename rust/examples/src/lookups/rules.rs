@@ -6,8 +6,8 @@ use read_fonts::tables::layout::{
 };
 use read_fonts::types::{BigEndian, GlyphId16};
 
-/// So many glyphs: by their numbers; by their classes, which are 0 where none are defined; by the sets
-/// from a place of a list on that each is in.
+/// So many glyphs: by their numbers; by their classes, which are 0 where none are defined; by the
+/// sets from a place of a list on that each is in.
 pub enum Pattern<'a> {
     Glyphs(&'a [BigEndian<GlyphId16>]),
     Classes(&'a [BigEndian<u16>], Option<ClassDef<'a>>),
@@ -39,8 +39,8 @@ fn class_of(classes: &Option<ClassDef<'_>>, glyph: GlyphId16) -> u16 {
     classes.as_ref().map_or(0, |classes| classes.get(glyph))
 }
 
-/// A rule whose first glyph fits: the glyphs before it, counted backwards, the rest of the input, and
-/// the glyphs behind that.
+/// A rule whose first glyph fits: the glyphs before it, counted backwards, the rest of the input,
+/// and the glyphs behind that.
 pub struct Rule<'a> {
     pub before: Pattern<'a>,
     pub input: Pattern<'a>,
@@ -49,7 +49,7 @@ pub struct Rule<'a> {
 }
 
 /// The rules of a context for a first glyph.
-type Rules<'a> = Option<Box<dyn Iterator<Item = Rule<'a>> + 'a>>;
+pub type Rules<'a> = Option<Box<dyn Iterator<Item = Rule<'a>> + 'a>>;
 
 pub fn rules<'a>(context: &SequenceContext<'a>, first: GlyphId16) -> Rules<'a> {
     let no_context = |input, lookups| {
