@@ -41,7 +41,7 @@ mod parts;
 pub mod shadow;
 
 #[cfg(not(feature = "shadow"))]
-use self as hooks;
+use super::ot_shaper_proved as hooks;
 #[cfg(not(feature = "shadow"))]
 pub use parts::names;
 use parts::{Codepoint, FontRef, Info, Ucd};
