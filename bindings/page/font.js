@@ -4,7 +4,7 @@
 // The most characters that are drawn with a font.
 const MOST_DRAWN = 500;
 
-let [fonts, metrics, outlines] = [null, null, new Map()];
+let [fonts, loading, metrics, outlines] = [null, null, null, new Map()];
 
 // ---- The font ----
 
@@ -22,7 +22,7 @@ async function loadFonts() {
 async function takeFont(file) {
   if (!file) return;
   try {
-    fonts ??= await loadFonts();
+    fonts = await (loading ??= loadFonts());
     fonts.write(new Uint8Array(await file.arrayBuffer()), fonts.calls.font_room);
     metrics = fonts.ask("name");
     outlines = new Map();

@@ -1,5 +1,5 @@
 #!/usr/bin/env python3
-"""Takes a picture of the page: picture.py PAGE FILE. The last step of a Khmer word, and a glyph that it moved."""
+"""Takes a picture of the page: picture.py PAGE FILE. A Khmer word, and the last step that it takes."""
 
 import pathlib
 import sys
@@ -12,14 +12,13 @@ from chromium import Page  # noqa: E402
 
 WORD = "\u1781\u17d2\u1798\u17c2\u179a"
 WIDTH = 760
-# The page's head, the last step and the glyph that was chosen, without what is between.
+# The text and the last step, without what is between and below.
 CHOOSE = """
-for (const element of [...by('form').children].slice(1)) element.hidden = true;
-for (const step of [...by('steps').children].slice(0, -1)) step.hidden = true;
-for (const id of ['legend', 'with-font']) by(id).hidden = true;
-by('steps').lastChild.querySelector('.row g').dispatchEvent(new MouseEvent('click', { bubbles: true }));
-document.documentElement.style.width = '%dpx';
-""" % WIDTH
+const between = [...by('form').children].slice(1);
+const steps = [...by('steps').children].slice(0, -1);
+for (const element of [...between, ...steps, by('legend'), by('with-font')]) element.style.display = 'none';
+by('text').rows = 1;
+"""
 
 
 def main(path, file):
