@@ -9,7 +9,7 @@ const LONG_ROW = 10000;
 const COLUMNS = ["glyph", "cluster", "mask", "syllable", "category", "auxiliary", "class", "advance", "offset"];
 const FIELDS = ["script", "direction", "level"];
 const FLAGS = ["f20", "f40", "f80"];
-const OPTIONS = ["sound", "always", "gposmark"];
+const OPTIONS = ["sound", "always", "gposmark", "beginning"];
 
 let hooks = null;
 let shown = null;

@@ -108,8 +108,10 @@ class Tests:
         table = [line for line in (TOP / "README.md").read_text("utf-8").splitlines() if "`bindings/fault " in line]
         options = self.page.run("[...by('example').options].filter((it) => it.parentNode.label?.startsWith('Faults')).map((it) => it.value)")
         assert len(options) == len(table) == 6, (options, table)
-        for value in options:
+        for value, row in zip(options, table):
             self.page.run(f"by('example').value = {js(value)}; by('example').dispatchEvent(new Event('change'))")
+            text = self.page.run("by('text').value")
+            assert {chr(int(number, 16)) for number in re.findall(r"\b[0-9A-F]{4}\b", row)} <= set(text), (row, text)
             assert self.page.run("document.querySelectorAll('.step .drawn').length") > 1
 
     def test_the_address_holds_the_text(self):

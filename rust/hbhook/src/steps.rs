@@ -42,6 +42,8 @@ pub struct Choices {
     pub has_all_rounds: bool,
     /// Whether the font places marks by GPOS.
     pub has_gpos_mark: bool,
+    /// Whether the text is the beginning of one, before which a mark gets a dotted circle.
+    pub is_beginning: bool,
 }
 
 /// A step: what was done, and the glyphs that it left.
@@ -81,7 +83,7 @@ pub struct Steps {
 }
 
 impl Steps {
-    /// The steps of a text: Unicode's properties, graphemes, direction, the hook before
+    /// The steps of a text: Unicode's properties, a circle in front, graphemes, direction, the hook before
     /// normalization, normalization for a font that has every character, masks, syllables and their
     /// reorderings. `None` where no script with hooks is chosen, or known of the text. More than
     /// [`MOST_SHOWN`] characters are cut off.
@@ -186,7 +188,11 @@ fn walk_text(
         walk.carry_out(line)?;
     }
     walk.carry_out(&line_of_text(text))?;
-    for call in [Call::Properties, Call::Graphemes, Call::Direction] {
+    walk.call(Call::Properties, prepared)?;
+    if choices.is_beginning {
+        walk.call(Call::FirstCircle, prepared)?;
+    }
+    for call in [Call::Graphemes, Call::Direction] {
         walk.call(call, prepared)?;
     }
     if matches!(route.shaper, Shaper::Indic | Shaper::Universal) {

@@ -82,6 +82,7 @@ fn text_answer(request: &str) -> String {
         is_sound: has("sound"),
         has_all_rounds: has("always"),
         has_gpos_mark: has("gposmark"),
+        is_beginning: has("beginning"),
     };
     match Steps::of_text(text, &choices) {
         Some(steps) => steps_answer(steps, text.chars().count()),

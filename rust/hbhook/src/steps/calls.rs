@@ -4,8 +4,8 @@ use super::{Choices, Direction, Rounds, Route, Script, Shaper, ShaperError};
 use sengadlit::buffer::Buffer;
 use sengadlit::ot_shape_normalize::{NormalizeFont, NormalizeSettings, ot_shape_normalize};
 use sengadlit::ot_shape_prepare::{
-    CharRotation, ensure_native_direction, form_clusters, preprocess_text_vowel_constraints,
-    rotate_chars, set_unicode_properties,
+    BEGINNING_OF_TEXT, CharRotation, ensure_native_direction, form_clusters, insert_dotted_circle,
+    preprocess_text_vowel_constraints, rotate_chars, set_unicode_properties,
 };
 use sengadlit::unicode::{UnicodeTables, general_category};
 use sengadlit::{Font, GeneralCategory, GlyphId, Plan, Tag};
@@ -14,6 +14,7 @@ use sengadlit::{Font, GeneralCategory, GlyphId, Plan, Tag};
 #[derive(Clone, Copy)]
 pub(super) enum Call {
     Properties,
+    FirstCircle,
     Graphemes,
     Direction,
     Vowels,
@@ -26,6 +27,7 @@ impl Call {
     pub(super) fn name(self) -> &'static str {
         match self {
             Call::Properties => "set_unicode_properties",
+            Call::FirstCircle => "insert_dotted_circle",
             Call::Graphemes => "form_clusters",
             Call::Direction => "ensure_native_direction",
             Call::Vowels => "preprocess_text_vowel_constraints",
@@ -38,6 +40,7 @@ impl Call {
     pub(super) fn subject(self) -> (&'static str, &'static str) {
         match self {
             Call::Properties => ("shapers_prepare", "GlyphProperties"),
+            Call::FirstCircle => ("shapers_prepare", "FirstCircle"),
             Call::Graphemes => ("shapers_prepare", "Graphemes"),
             Call::Direction => ("shapers_prepare", "NativeDirection"),
             Call::Vowels => ("shapers_prepare", "Vowels"),
@@ -50,6 +53,7 @@ impl Call {
     pub(super) fn run(self, prepared: &Prepared, buffer: &mut Buffer) -> Result<(), ShaperError> {
         match self {
             Call::Properties => set_unicode_properties(&UnicodeTables, buffer),
+            Call::FirstCircle => insert_first_circle(buffer)?,
             Call::Graphemes => form_clusters(buffer),
             Call::Direction => ensure_native_direction(buffer),
             Call::Vowels => preprocess_text_vowel_constraints(buffer)?,
@@ -65,6 +69,15 @@ impl Call {
         }
         Ok(())
     }
+}
+
+// Lines can't set the flag of a beginning, so it is set for the call alone.
+fn insert_first_circle(buffer: &mut Buffer) -> Result<(), ShaperError> {
+    let flags = buffer.flags();
+    buffer.set_flags(flags | BEGINNING_OF_TEXT);
+    let inserted = insert_dotted_circle(&UnicodeTables, &WholeFont, buffer);
+    buffer.set_flags(flags);
+    inserted
 }
 
 /// What the calls read besides the buffer.

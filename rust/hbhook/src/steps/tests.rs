@@ -76,6 +76,23 @@ fn a_text_takes_the_steps_of_its_shaper() {
 }
 
 #[test]
+fn a_mark_at_the_beginning_gets_a_circle() {
+    let choices = Choices {
+        is_beginning: true,
+        ..Choices::default()
+    };
+    let steps = Steps::of_text("\u{17C1}\u{1780}", &choices).unwrap();
+    let circle = &steps.steps[2];
+    assert_eq!(circle.heads, ["insert_dotted_circle"]);
+    let numbers: Vec<u32> = circle.glyphs.iter().map(|it| it.glyph_id).collect();
+    assert_eq!(numbers, [0x25CC, 0x17C1, 0x1780]);
+    assert_ne!(
+        steps_of("\u{17C1}").steps[2].heads,
+        ["insert_dotted_circle"]
+    );
+}
+
+#[test]
 fn the_style_is_that_of_drawn_pages() {
     let style = drawing_style();
     assert!(style.trim_start().starts_with(":root{") && style.contains("\n.row{"));
