@@ -112,10 +112,10 @@ function showWithFont() {
     const [stock, proved] = [placed(ask("shape", "stock", text)), placed(ask("shape", "proved", text))];
     const width = Math.max(widthOf(stock), widthOf(proved));
     const lines = [{ glyphs: stock, others: proved, colour: "stock" }, { glyphs: proved, others: stock, colour: "proved" }];
-    const differ = withoutTwin(stock, proved).size + withoutTwin(proved, stock).size;
+    const differ = Math.max(withoutTwin(stock, proved).size, withoutTwin(proved, stock).size);
     by("outlines").append(
       told("HarfRust", stock), drawn(lines.slice(0, 1), width), told("With the hooks", proved), drawn(lines.slice(1), width),
-      made("p", { id: "differ" }, differ ? `${differ} glyphs differ; one over the other:` : "Both have the same glyphs at the same places."));
+      made("p", { id: "differ" }, differ ? `Glyphs that differ: ${differ}. One line over the other:` : "Both have the same glyphs at the same places."));
     if (differ) by("outlines").append(drawn(lines, width));
     showWidth(text, widthOf(proved));
   } catch (error) {

@@ -247,10 +247,10 @@ class Tests:
         """Behind a TAB the sign has another form without the hooks: both lines, and one over the other, are drawn."""
         self.choose_font(self.fonts / "NotoSansBengali-Regular.ttf")
         self.type("\t\u0995\u09c7")
-        assert self.page.run("by('differ').textContent") == "2 glyphs differ; one over the other:"
+        assert self.page.run("by('differ').textContent") == "Glyphs that differ: 1. One line over the other:"
         assert self.page.run("document.querySelectorAll('#outlines svg').length") == 3
         for which in ("stock", "proved"):
-            assert self.page.run(f"document.querySelectorAll('#outlines .{which}').length") == 2, which
+            assert self.page.run(f"document.querySelectorAll('#outlines .{which}').length") == 2, which  # alone, and one over the other
         self.type("\u0995\u09c7")
         assert self.page.run("by('differ').textContent") == "Both have the same glyphs at the same places."
 

@@ -4,11 +4,14 @@
 //!
 //! | kind | lines | answer |
 //! |---|---|---|
-//! | `name` | | units per em, ascent and descent of the font; null where it can't be read |
-//! | `shape` | `stock` or `proved`, script and direction (or nothing), level, flags, and the text to the end | the glyphs |
-//! | `broken` | as `shape`, with a width before the text, which is broken where no flag forbids it | for each piece its glyphs in the whole, and alone |
+//! | `name` | | units per em, ascent and descent of the font |
+//! | `shape` | `stock` or `proved`, script, direction, level, flags, the text | the glyphs |
+//! | `broken` | the same with a width before the text | for each piece its glyphs in the whole, and alone |
 //! | `words` | `stock` or `proved`, a text a line | the numbers of the glyphs of each |
 //! | `outline` | numbers of glyphs | the path of each, in SVG |
+//!
+//! Script and direction may be empty, and are then the text's own. What can't be read has the answer
+//! null. A line is broken where no flag forbids it.
 
 mod breaking;
 mod json;

@@ -6,9 +6,12 @@
 //! |---|---|---|
 //! | `scripts` | | the codes of the scripts |
 //! | `style` | | the style of what is drawn |
-//! | `text` | script (or nothing), direction (`ltr`, `rtl` or nothing), level, flags, words of options, and the text to the end | the steps |
-//! | `lines` | the lines of docs/HBHOOK.md, to the end | the steps |
+//! | `text` | script, direction (`ltr`, `rtl`), level, flags, options, the text | the steps |
+//! | `lines` | the lines of docs/HBHOOK.md | the steps |
 //! | `glyph` | step, place | the fields of a glyph of the last steps, and what moved it |
+//!
+//! Script and direction may be empty, and are then the text's own. Options are words: `sound`,
+//! `always`, `gposmark`, `beginning`. What can't be read has the answer null.
 
 mod json;
 
