@@ -147,6 +147,11 @@ class Tests:
         self.page.key("Tab")
         self.page.key("Enter")
         assert self.page.run("document.activeElement.closest('details')?.open === true")
+        for _ in range(20):
+            self.page.key("Tab")
+            if self.page.run("document.activeElement.id") == "font":
+                return
+        raise AssertionError("no font can be chosen")
 
     def test_a_glyph_tells_what_moved_it(self):
         self.type("\u0d9a\u0dd9")
