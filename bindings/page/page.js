@@ -197,8 +197,8 @@ function showGlyph(box) {
   const list = made("dl", {}, ...fields.flatMap(([name, value]) => [made("dt", {}, name), made("dd", {}, made("bdi", {}, value))]));
   const panel = made("div", { class: "glyph", role: "status" }, list);
   if (!moves.length) panel.append(made("p", {}, "Nothing so far has moved it."));
-  for (const [by, from, to] of moves) {
-    const step = shown.steps[by];
+  for (const [mover, from, to] of moves) {
+    const step = shown.steps[mover];
     panel.append(made("p", {}, made("code", {}, step.heads[0]), ` moved it from place ${from} to place ${to}.`));
     if (step.subject) panel.append(definition(step.subject));
   }

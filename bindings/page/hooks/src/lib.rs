@@ -147,7 +147,7 @@ mod tests {
         assert!(answer.contains("\"script\":\"Sinh\""), "{answer}");
         assert!(answer.contains("\"heads\":[\"run pause reorder_use\"]"), "{answer}");
         assert!(answer_to("glyph\n0\n0").contains("[\"glyph\",\"0D9A \u{0D9A}\"]"));
-        assert!(answer_to("glyph\n9\n0").contains("\"fields\":[]"));
+        assert!(answer_to("glyph\n99\n0").contains("\"fields\":[]"));
     }
 
     #[test]
