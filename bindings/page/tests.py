@@ -225,6 +225,11 @@ class Tests:
             assert "ended:" not in self.note(), (name, self.note())
             self.type("\u0e14\u0e33")
             assert "0E33 became 0E4D" in " ".join(self.told()), (name, self.told())
+        began = time.monotonic()
+        self.page.run(f"({LINES})({js('set shaper khmer' + chr(10) + 'text ' + chr(0x1780) * 2000)} + '\\nrun masks'.repeat(1500))", 10)
+        assert "more than 50000 glyphs together" in self.note() and time.monotonic() - began < 10, self.note()
+        self.type("\u0e14\u0e33")
+        assert "0E33 became 0E4D" in " ".join(self.told()), self.told()
         return f"the slowest took {slowest:.1f} s"
 
     def test_lines_end_where_one_is_rejected(self):

@@ -22,6 +22,9 @@ use walk::Walk;
 /// The most characters that [`Steps::of_text`] takes of a text, and the most glyphs of a row.
 pub const MOST_SHOWN: usize = 2_000;
 
+// The most glyphs that all steps have together: a text of MOST_SHOWN characters takes twelve steps.
+const MOST_IN_ALL: usize = 50_000;
+
 // The glyph flag of a glyph before which a line may not break.
 const UNSAFE_TO_BREAK: u32 = 1;
 

@@ -163,6 +163,14 @@ fn lines_end_where_one_is_rejected() {
     let long = "text ".to_owned() + &["41"; MOST_SHOWN + 1].join(" ");
     let ended = Steps::of_lines(&long).ended.unwrap();
     assert_eq!(ended, "line 1: 2001 glyphs; no more than 2000 are drawn");
+    let many = "set shaper khmer\ntext ".to_owned() + &"\u{1780}".repeat(MOST_SHOWN);
+    let steps = Steps::of_lines(&(many + &"\nrun masks".repeat(30)));
+    assert_eq!(steps.steps.len(), 25);
+    let ended = steps.ended.unwrap();
+    assert_eq!(
+        ended,
+        "line 27: the steps have more than 50000 glyphs together"
+    );
 }
 
 #[test]

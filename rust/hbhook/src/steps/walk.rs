@@ -4,7 +4,7 @@ use super::calls::{Call, Prepared};
 use super::glyph::Names;
 use super::subjects::subject_of;
 use super::told::told;
-use super::{MOST_SHOWN, ShaperError, Step, Steps};
+use super::{MOST_IN_ALL, MOST_SHOWN, ShaperError, Step, Steps};
 use crate::explained::explain_end;
 use crate::generated::hbhook_boxes::{Legend, Numbers};
 use crate::generated::hbhook_commands::{Fault, LineFault, LineKind, kind_of_line, print_buffer};
@@ -20,6 +20,8 @@ pub(super) struct Walk {
     numbers: Numbers,
     legend: Legend,
     steps: Vec<Step>,
+    // How many glyphs the steps have together.
+    glyphs: usize,
     // The lines that wrote to the buffer since the last step.
     written: Vec<String>,
 }
@@ -32,6 +34,7 @@ impl Walk {
             numbers: Numbers::new(Global),
             legend: Legend::new(Global),
             steps: Vec::new(),
+            glyphs: 0,
             written: Vec::new(),
         }
     }
@@ -46,7 +49,9 @@ impl Walk {
                     let told = explain_end(lines.as_bytes(), status, false);
                     told.unwrap_or_else(|| format!("line {}: {}", i + 1, reason(fault)))
                 }
-                Stop::TooMany(count) => format!("line {}: {}", i + 1, too_many(count)),
+                Stop::TooMany(_) | Stop::TooManySteps => {
+                    format!("line {}: {}", i + 1, fault.told())
+                }
             })?;
         }
         self.show_written().map_err(|fault| fault.told())
@@ -146,8 +151,9 @@ impl Walk {
 
     fn check_length(&self) -> Result<(), Stop> {
         match self.session.buffer.len() {
-            0..=MOST_SHOWN => Ok(()),
-            count => Err(Stop::TooMany(count)),
+            count if count > MOST_SHOWN => Err(Stop::TooMany(count)),
+            count if self.glyphs + count > MOST_IN_ALL => Err(Stop::TooManySteps),
+            _ => Ok(()),
         }
     }
 
@@ -169,6 +175,7 @@ impl Walk {
         } else {
             told(row.before, row.glyphs, row.origins)
         };
+        self.glyphs += row.glyphs.len();
         self.steps.push(Step {
             heads,
             answers: answers.lines().map(String::from).collect(),
@@ -192,6 +199,7 @@ impl Walk {
 enum Stop {
     Line(LineFault),
     TooMany(usize),
+    TooManySteps,
 }
 
 impl<T: Into<LineFault>> From<T> for Stop {
@@ -204,7 +212,10 @@ impl Stop {
     fn told(&self) -> String {
         match self {
             Stop::Line(fault) => reason(*fault),
-            Stop::TooMany(count) => too_many(*count),
+            Stop::TooMany(count) => {
+                format!("{count} glyphs; no more than {MOST_SHOWN} are drawn")
+            }
+            Stop::TooManySteps => format!("the steps have more than {MOST_IN_ALL} glyphs together"),
         }
     }
 }
@@ -216,8 +227,4 @@ fn reason(fault: LineFault) -> String {
         LineFault::Unreadable(expected) => format!("expected {expected}"),
         LineFault::Refused(refusal) => format!("refused: {refusal}"),
     }
-}
-
-fn too_many(count: usize) -> String {
-    format!("{count} glyphs; no more than {MOST_SHOWN} are drawn")
 }
