@@ -10,11 +10,12 @@ import mir_rust
 import trust_forms
 
 KIT_LIBRARIES = ["core", "std", "std_alloc", "std_heap", "libc", "arrayvec", "bitflags", "thiserror"]
-# What the driver has of its own for three traits: what stands for the trait, the trait, and the type in the copy.
+# What the driver has of its own for four traits: what stands for the trait, the trait, and the type in the copy.
 DRIVERS = [
     ("driver::Font", "shapers_base::font::hb_font_t", "Font", "LotFont"),
     ("driver::Tables", "shapers_base::font::Tables", "Tables", "LotTables"),
     ("driver::Context", "shapers_normal::ot_shape_normalize::context::NormalizeContext", "NormalizeContext", "LotContext"),
+    ("driver::Properties", "shapers_prepare::ot_shape_prepare::unicode::UnicodeProperties", "UnicodeProperties", "LotProperties"),
 ]
 SEED = ("Int", 64)
 # The machines that find syllables: a function for every machine is compared with each of them.
@@ -35,7 +36,7 @@ STANDARD = PRIMITIVE | set("Vec Option Result Range ArrayVec Global AllocError S
 # Types that the eraser deletes, which have no words: a count whose parts are all 0 counts nothing.
 ERASED = {"shapers_spans::reads::Reads"}
 # Types that harness.rs draws by hand.
-BY_HAND = set("Span GlyphInfo Buffer Script Tag Map Plan LotFont LotTables LotContext".split())
+BY_HAND = set("Span GlyphInfo Buffer Script Tag Map Plan LotFont LotTables LotContext LotProperties".split())
 # The words with which a result begins that says that memory was refused, by the type of the error.
 MEMORY = {"ShaperError": [1, 0], "CallError": [1, 1, 0], "AllocError": [1]}
 # What stands for a type parameter, by its bound. (An unbounded F is a font in each of its impls.)
@@ -82,7 +83,7 @@ def machines_of(program, name):
 
 
 def instance_of(program, name, machine):
-    """A function with the driver's font, tables and context, or this machine, for its type parameters."""
+    """A function with the driver's font, tables, context and properties, or this machine, for its type parameters."""
     generics = program.functions[name]["generics"]
     types, dicts = [None] * len(generics["types"]), []
     for bound in generics["bounds"]:
@@ -164,7 +165,7 @@ def words_of_type(program, kind, name):
 
 
 def given_functions(program):
-    """The methods of the driver's font, tables and context, by words."""
+    """The methods of the driver's font, tables, context and properties, by words."""
     for number, (given, trait, _, _) in enumerate(DRIVERS):
         for i, name in enumerate(program.given[given]):
             of = {"Trait": [trait, i]}

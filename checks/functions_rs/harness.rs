@@ -17,6 +17,7 @@ use std::vec;
 use std::vec::Vec;
 pub use crate::spans::{Indic, Khmer, Myanmar, Universal};
 use crate::ot_shape_normalize::NormalizeContext;
+use crate::ot_shape_prepare::UnicodeProperties;
 use crate::plan::NormalizationMode;
 use twice::lots::mixed;
 pub use twice::words::COPY;
@@ -547,6 +548,18 @@ impl Draw for LotContext {
     fn draw(choices: &mut Choices) -> Self { LotContext(choices.below(1 << 32)) }
 }
 
+/// Properties of characters whose answers are drawn.
+#[derive(Clone, Copy, Debug)]
+pub struct LotProperties(pub u64);
+
+impl Dump for LotProperties {
+    fn dump(&self, words: &mut Vec<u64>) { words.push(self.0); }
+}
+
+impl Draw for LotProperties {
+    fn draw(choices: &mut Choices) -> Self { LotProperties(choices.below(1 << 32)) }
+}
+
 /// An answer to a question, for which what the driver takes of memory doesn't count.
 fn answer(of: u64, method: u64, seed: u64, parts: &[&dyn Dump]) -> Vec<u64> {
     let was_on = COPY.watch(false);
@@ -639,6 +652,24 @@ impl NormalizeContext for LotContext {
             glyphs[start..end].reverse();
         }
     }
+}
+
+impl UnicodeProperties for LotProperties {
+    fn general_category(&self, c: u32) -> GeneralCategory { GeneralCategory::ALL[answer(3, 0, self.0, &[&c])[0] as usize] }
+
+    fn modified_combining_class(&self, c: u32) -> u8 { answer(3, 1, self.0, &[&c])[0] as u8 }
+
+    fn is_default_ignorable(&self, c: u32) -> bool { answer(3, 2, self.0, &[&c])[0] == 1 }
+
+    fn is_extended_pictographic(&self, c: u32) -> bool { answer(3, 3, self.0, &[&c])[0] == 1 }
+
+    fn mirrored(&self, c: u32) -> Option<u32> { optional_number(&answer(3, 4, self.0, &[&c])) }
+
+    fn vertical_form(&self, c: u32) -> Option<u32> { optional_number(&answer(3, 5, self.0, &[&c])) }
+}
+
+fn optional_number(answer: &[u64]) -> Option<u32> {
+    (answer[0] == 1).then(|| answer[1] as u32)
 }
 
 fn optional_glyph(answer: &[u64]) -> Option<GlyphId> {

@@ -1,5 +1,5 @@
-//! A font, tables and a context of normalization, whose answers are drawn from a seed and the question, the
-//! same in both crates.
+//! A font, tables, a context of normalization and properties of characters, whose answers are drawn from a
+//! seed and the question, the same in both crates.
 
 /// Mixes the bits of a number.
 pub fn mixed(number: u64) -> u64 {
@@ -8,8 +8,8 @@ pub fn mixed(number: u64) -> u64 {
     number ^ number >> 31
 }
 
-/// The words of an answer, by the trait (0 a font, 1 tables, 2 a context), the place of the method in it, the
-/// seed and the words of the question.
+/// The words of an answer, by the trait (0 a font, 1 tables, 2 a context, 3 properties), the place of the method
+/// in it, the seed and the words of the question.
 pub fn answer(of: u64, method: u64, seed: u64, question: &[u64]) -> Vec<u64> {
     let question = match (of, method) {
         // whether there is a glyph is known from the glyph
@@ -51,6 +51,13 @@ pub fn answer(of: u64, method: u64, seed: u64, question: &[u64]) -> Vec<u64> {
         (2, 8) => vec![u64::from(lot % 5 == 0)],
         (2, 9) => answer(0, 0, seed, &[0x2_0000]),
         (2, 10) => vec![lot & 1],
-        _ => unreachable!("a font, tables, and a context"),
+        (3, 0) => answer(1, 1, seed, question),
+        (3, 1) => answer(2, 7, seed, question),
+        (3, 2) => answer(2, 8, seed, question),
+        (3, 3) => vec![u64::from(lot % 4 == 0)],
+        // (another character, mirrored or upright)
+        (3, 4 | 5) if lot % 2 == 0 => vec![0],
+        (3, 4 | 5) => vec![1, (first + 1 + lot % 3) & 0xFFFF_FFFF],
+        _ => unreachable!("a font, tables, a context, and properties"),
     }
 }
