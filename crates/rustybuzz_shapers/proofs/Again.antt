@@ -1,23 +1,31 @@
 -- What changes nothing when it is done again at once.
-use Rattle.std.proofs.Common.{◌≡◌, ℕ, suc, ◌+◌, Bool, true, false, ◌||◌, cond, List, [], ◌∷◌, ◌++◌, length, map, take, drop, refl, sym, ap, subst, ◌∙◌, arith}
+use Rattle.std.proofs.Common.{◌≡◌, ℕ, suc, ◌+◌, Bool, true, false, ◌||◌, ◌==◌, cond, List, [], ◌∷◌, ◌++◌, length, map, take, drop, refl, sym, ap, subst, ◌∙◌, arith}
 use Rattle.std.specs.List.{AllByRecursion, flat_map, list_any, prefix_len}
-use Rattle.std.proofs.lemmas.List.{length-append, take-append-drop}
+use Rattle.std.specs.Prelude.{slice_index}
+use Rattle.std.proofs.lemmas.List.{length-append, length-map, map-append, take-append-drop}
 use Rattle.std.proofs.lemmas.List.Elements.{All-from_recursion, recursion_from_All}
 use Rattle.std.proofs.lemmas.Nat.{and_assoc}
 use Rattle.shapers_base.specs.declared.plan.pause.Pause.TheVariants.{SetupSyllablesIndic, SetupSyllablesKhmer, SetupSyllablesMyanmar, SetupSyllablesUse, InitialReordering, ReorderKhmer, ReorderMyanmar, ReorderUse, FinalReordering, RecordStch, RecordRphf, RecordPref, SyllabicClearVar, ClearSubstitutionFlags, ArabicFallbackShape}
+use Rattle.shapers_buffer.proofs.MaskBits.{or_twice}
 use Rattle.shapers_buffer.specs.Buffer.{Buffer}
+use Rattle.shapers_buffer.specs.Clusters.{least}
+use Rattle.shapers_buffer.specs.Glyph.{clusters}
+use Rattle.shapers_buffer.specs.GlyphFlags.{flagged, with_bits, with_bits_off}
+use Rattle.shapers_buffer.specs.declared.buffer.syllables.Span.{Span}
 use Rattle.shapers_buffer.specs.declared.buffer.glyph.hb_glyph_info_t.{hb_glyph_info_t}
 use Rattle.shapers_buffer.specs.Marks.{is_multiplied, is_substituted}
-use Rattle.shapers_buffer.specs.Syllables.{in_syllable, syllables}
-use Rattle.shapers_base.specs.Masks.{has_bits}
+use Rattle.shapers_buffer.specs.Syllables.{in_syllable, span_bytes, syllables, with_bytes}
+use Rattle.shapers_base.specs.Masks.{has_bits, masks_kept, with_numbered_mask}
 use Rattle.shapers_stretch.specs.Recorded.{has_stch, recorded, tile_action, with_tiles}
 use Rattle.shapers_syllabic.specs.Characters.{with_category, with_category_and_position}
-use Rattle.shapers_syllabic.specs.Syllabic.{unsubstituted}
+use Rattle.shapers_syllabic.specs.Syllabic.{unsafe_syllables, unsubstituted}
+use Rattle.shapers_syllabic.specs.Borders.{spans_set_up}
 use Rattle.shapers_syllabic.proofs.Borders.{OfByte, syllables-mapped}
+use Rattle.shapers_syllabic.proofs.CircleLaws.{joined-syllables}
 use Rattle.shapers_universal.specs.PlanData.{rphf_of}
 use Rattle.shapers_universal.specs.UniversalSyllables.{first_recorded, in_category, rphf_recorded}
 use Rattle.shapers_universal.specs.declared.ot_shaper_use.category.TheConstants.{R, VPre}
-use Rattle.rustybuzz_shapers.specs.Again.{CategoriesOnce, RecordsOnce}
+use Rattle.rustybuzz_shapers.specs.Again.{MasksOnce, PausesOnce}
 use Rattle.rustybuzz_shapers.specs.declared.shaper.hb_ot_shaper_t.TheVariants.{Arabic, Hangul, Hebrew, Indic, Khmer, Myanmar, MyanmarZawgyi, Thai, Universal}
 
 -- a change of each glyph
@@ -171,32 +179,99 @@ leading_once mask (g ∷ gs) =
 rphf_bytewise : (mask : ℕ) → Bytewise (rphf_recorded mask)
 rphf_bytewise mask = record { keeps = leading_keeps mask; long = leading_long mask; once = leading_once mask }
 
-pub records_once : RecordsOnce
-records_once RecordStch plan font spans old mid new only first second = stretches_once (has_stch plan.plan_data) old mid new first second
-records_once RecordRphf plan font spans old mid new only first second =
+-- THE SET-UP by spans
+flagged_keeps : (m byte : ℕ) (gs : List hb_glyph_info_t) → AllByRecursion (λ g. g.syllable ≡ byte) gs → AllByRecursion (λ g. g.syllable ≡ byte) (map (with_bits_off 3 m) gs)
+flagged_keeps m byte [] own = tt
+flagged_keeps m byte (g ∷ gs) own = (elim (g.cluster == m) as (λ b. (cond b g (with_bits 3 g)).syllable ≡ byte) [ true ↦ own.0 | false ↦ own.0 ], flagged_keeps m byte gs own.1)
+
+same_field : (read : hb_glyph_info_t → ℕ) → ((g : hb_glyph_info_t) → read (with_bits 3 g) ≡ read g) → (m : ℕ) (gs : List hb_glyph_info_t) → map read (map (with_bits_off 3 m) gs) ≡ map read gs
+same_field read same m [] = refl
+same_field read same m (g ∷ gs) = ap (λ n. n ∷ map read (map (with_bits_off 3 m) gs)) (elim (g.cluster == m) as (λ b. read (cond b g (with_bits 3 g)) ≡ read g) [ true ↦ refl | false ↦ same g ]) ∙ ap (λ ns. read g ∷ ns) (same_field read same m gs)
+
+bits_once : (m : ℕ) (g : hb_glyph_info_t) (b : Bool) → (g.cluster == m) ≡ b → with_bits_off 3 m (with_bits_off 3 m g) ≡ with_bits_off 3 m g
+bits_once m g true is = let one : with_bits_off 3 m g ≡ g = ap (λ b. cond b g (with_bits 3 g)) is in ap (with_bits_off 3 m) one
+bits_once m g false is =
+    let one : with_bits_off 3 m g ≡ with_bits 3 g = ap (λ b. cond b g (with_bits 3 g)) is in
+    ap (with_bits_off 3 m) one
+    ∙ ap (λ b. cond b (with_bits 3 g) (with_bits 3 (with_bits 3 g))) is
+    ∙ ap (λ (n : ℕ). let h : hb_glyph_info_t = record g { mask = n } in h) (or_twice g.mask 3)
+    ∙ sym one
+
+flagged_once : (gs : List hb_glyph_info_t) → flagged 3 (flagged 3 gs) ≡ flagged 3 gs
+flagged_once gs =
+    let m = least (clusters gs) in
+    ap (λ n. map (with_bits_off 3 n) (map (with_bits_off 3 m) gs)) (ap least (same_field (λ g. g.cluster) (λ g. refl) m gs))
+    ∙ each_once (with_bits_off 3 m) (λ g. bits_once m g (g.cluster == m) refl) gs
+
+flagged_bytewise : Bytewise (flagged 3)
+flagged_bytewise = record { keeps = λ byte gs own. flagged_keeps (least (clusters gs)) byte gs own; long = λ gs. length-map gs (with_bits_off 3 (least (clusters gs))); once = flagged_once }
+
+-- glyphs that have these bytes already
+abbrev HaveBytes : List ℕ → List ℕ → Type 0
+HaveBytes [] bs = Unit {0}
+HaveBytes (s ∷ ss) [] = Unit {0}
+HaveBytes (s ∷ ss) (b ∷ bs) = (s ≡ b) × HaveBytes ss bs
+
+bytes_given : (gs : List hb_glyph_info_t) (bs : List ℕ) → HaveBytes (map (λ g. g.syllable) (with_bytes gs bs)) bs
+bytes_given [] bs = tt
+bytes_given (g ∷ gs) [] = tt
+bytes_given (g ∷ gs) (b ∷ bs) = (refl, bytes_given gs bs)
+
+bytes_stay : (gs : List hb_glyph_info_t) (bs : List ℕ) → HaveBytes (map (λ g. g.syllable) gs) bs → with_bytes gs bs ≡ gs
+bytes_stay [] bs own = refl
+bytes_stay (g ∷ gs) [] own = refl
+bytes_stay (g ∷ gs) (b ∷ bs) own = ap (λ (n : ℕ). let h : hb_glyph_info_t = record g { syllable = n } in h ∷ with_bytes gs bs) (sym own.0) ∙ ap (λ hs. g ∷ hs) (bytes_stay gs bs own.1)
+
+pieces_bytes : (pieces : List (List hb_glyph_info_t)) → map (λ g. g.syllable) (flat_map (flagged 3) pieces) ≡ map (λ g. g.syllable) (flat_map (λ p. p) pieces)
+pieces_bytes [] = refl
+pieces_bytes (p ∷ ps) =
+    map-append (λ (g : hb_glyph_info_t). g.syllable) (flagged 3 p) (flat_map (flagged 3) ps)
+    ∙ ap (λ ns. ns ++ map (λ g. g.syllable) (flat_map (flagged 3) ps)) (same_field (λ g. g.syllable) (λ g. refl) (least (clusters p)) p)
+    ∙ ap (λ ns. map (λ g. g.syllable) p ++ ns) (pieces_bytes ps)
+    ∙ sym (map-append (λ (g : hb_glyph_info_t). g.syllable) p (flat_map (λ q. q) ps))
+
+spans_once : (bs : List ℕ) (gs : List hb_glyph_info_t) → unsafe_syllables (with_bytes (unsafe_syllables (with_bytes gs bs)) bs) ≡ unsafe_syllables (with_bytes gs bs)
+spans_once bs gs =
+    let xs = with_bytes gs bs in
+    let bytes : map (λ g. g.syllable) (unsafe_syllables xs) ≡ map (λ g. g.syllable) xs = pieces_bytes (syllables xs) ∙ ap (map (λ g. g.syllable)) (joined-syllables xs) in
+    ap unsafe_syllables (bytes_stay (unsafe_syllables xs) bs (subst (λ ss. HaveBytes ss bs) (sym bytes) (bytes_given gs bs))) ∙ syllables_once (flagged 3) flagged_bytewise xs
+
+set_up_once : (spans : List Span) (kind : ℕ) (old mid new : Buffer) → mid ≡ spans_set_up spans kind old → new ≡ spans_set_up spans kind mid → new ≡ mid
+set_up_once spans kind old mid new first second =
+    let bs = span_bytes 0 spans in
+    let any = list_any (λ (span : Span). span.kind == kind) spans in
+    second
+    ∙ ap (spans_set_up spans kind) first
+    ∙ ap (λ gs. let b : Buffer = record old { glyphs = gs; broken = any || (any || old.broken) } in b) (spans_once bs old.glyphs)
+    ∙ ap (λ s. let b : Buffer = record old { glyphs = unsafe_syllables (with_bytes old.glyphs bs); broken = s } in b) (marked_once any old.broken)
+    ∙ sym first
+
+pub pauses_once : PausesOnce
+pauses_once RecordStch plan font spans old mid new only first second = stretches_once (has_stch plan.plan_data) old mid new first second
+pauses_once RecordRphf plan font spans old mid new only first second =
     let f = rphf_recorded (rphf_of plan.plan_data) in
     glyphs_once (λ gs. flat_map f (syllables gs)) (syllables_once f (rphf_bytewise (rphf_of plan.plan_data))) old mid new first second
-records_once RecordPref plan font spans old mid new only first second = glyphs_once (λ gs. flat_map (first_recorded VPre) (syllables gs)) (syllables_once (first_recorded VPre) (pref_bytewise VPre)) old mid new first second
-records_once SyllabicClearVar plan font spans old mid new only first second = glyphs_once (map (in_syllable 0)) (each_once (in_syllable 0) (λ g. refl)) old mid new first second
-records_once ClearSubstitutionFlags plan font spans old mid new only first second = glyphs_once (map unsubstituted) (each_once unsubstituted (λ g. ap (λ (n : ℕ). let h : hb_glyph_info_t = record g { marks = record { 0 = n } } in h) (and_assoc 254 g.marks.0 254))) old mid new first second
-records_once ArabicFallbackShape plan font spans old mid new only first second = second
-records_once SetupSyllablesIndic plan font spans old mid new only first second = absurd cc
-records_once SetupSyllablesKhmer plan font spans old mid new only first second = absurd cc
-records_once SetupSyllablesMyanmar plan font spans old mid new only first second = absurd cc
-records_once SetupSyllablesUse plan font spans old mid new only first second = absurd cc
-records_once InitialReordering plan font spans old mid new only first second = absurd cc
-records_once ReorderKhmer plan font spans old mid new only first second = absurd cc
-records_once ReorderMyanmar plan font spans old mid new only first second = absurd cc
-records_once ReorderUse plan font spans old mid new only first second = absurd cc
-records_once FinalReordering plan font spans old mid new only first second = absurd cc
+pauses_once RecordPref plan font spans old mid new only first second = glyphs_once (λ gs. flat_map (first_recorded VPre) (syllables gs)) (syllables_once (first_recorded VPre) (pref_bytewise VPre)) old mid new first second
+pauses_once SyllabicClearVar plan font spans old mid new only first second = glyphs_once (map (in_syllable 0)) (each_once (in_syllable 0) (λ g. refl)) old mid new first second
+pauses_once ClearSubstitutionFlags plan font spans old mid new only first second = glyphs_once (map unsubstituted) (each_once unsubstituted (λ g. ap (λ (n : ℕ). let h : hb_glyph_info_t = record g { marks = record { 0 = n } } in h) (and_assoc 254 g.marks.0 254))) old mid new first second
+pauses_once ArabicFallbackShape plan font spans old mid new only first second = second
+pauses_once SetupSyllablesIndic plan font spans old mid new only first second = set_up_once spans 4 old mid new first second
+pauses_once SetupSyllablesKhmer plan font spans old mid new only first second = set_up_once spans 1 old mid new first second
+pauses_once SetupSyllablesMyanmar plan font spans old mid new only first second = set_up_once spans 2 old mid new first second
+pauses_once SetupSyllablesUse plan font spans old mid new only first second = absurd cc
+pauses_once InitialReordering plan font spans old mid new only first second = absurd cc
+pauses_once ReorderKhmer plan font spans old mid new only first second = absurd cc
+pauses_once ReorderMyanmar plan font spans old mid new only first second = absurd cc
+pauses_once ReorderUse plan font spans old mid new only first second = absurd cc
+pauses_once FinalReordering plan font spans old mid new only first second = absurd cc
 
-pub categories_once : CategoriesOnce
-categories_once Indic plan tables old mid new only first second = glyphs_once (map (with_category_and_position tables)) (each_once (with_category_and_position tables) (λ g. refl)) old mid new first second
-categories_once Khmer plan tables old mid new only first second = glyphs_once (map (with_category tables)) (each_once (with_category tables) (λ g. refl)) old mid new first second
-categories_once Myanmar plan tables old mid new only first second = glyphs_once (map (with_category tables)) (each_once (with_category tables) (λ g. refl)) old mid new first second
-categories_once Hebrew plan tables old mid new only first second = second.1
-categories_once MyanmarZawgyi plan tables old mid new only first second = second.1
-categories_once Thai plan tables old mid new only first second = second.1
-categories_once Arabic plan tables old mid new only first second = absurd cc
-categories_once Hangul plan tables old mid new only first second = absurd cc
-categories_once Universal plan tables old mid new only first second = absurd cc
+pub masks_once : MasksOnce
+masks_once Indic plan tables old mid new only first second = glyphs_once (map (with_category_and_position tables)) (each_once (with_category_and_position tables) (λ g. refl)) old mid new first second
+masks_once Khmer plan tables old mid new only first second = glyphs_once (map (with_category tables)) (each_once (with_category tables) (λ g. refl)) old mid new first second
+masks_once Myanmar plan tables old mid new only first second = glyphs_once (map (with_category tables)) (each_once (with_category tables) (λ g. refl)) old mid new first second
+masks_once Hebrew plan tables old mid new only first second = second.1
+masks_once MyanmarZawgyi plan tables old mid new only first second = second.1
+masks_once Thai plan tables old mid new only first second = second.1
+masks_once Arabic plan tables old mid new only first second = absurd cc
+masks_once Hangul plan tables old mid new only first second = glyphs_once (map (with_numbered_mask (masks_kept plan.plan_data))) (each_once (with_numbered_mask (masks_kept plan.plan_data)) (λ g. ap (λ (m : ℕ). let h : hb_glyph_info_t = record g { mask = m } in h) (or_twice g.mask (slice_index (masks_kept plan.plan_data) g.auxiliary)))) old mid new first second
+masks_once Universal plan tables old mid new only first second = absurd cc

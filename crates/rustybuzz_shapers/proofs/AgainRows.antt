@@ -1,4 +1,4 @@
--- Done again at once, these hooks change the text once more: the smallest texts.
+-- Done again at once, these hooks and pauses change the text once more: small texts.
 use Rattle.std.specs.Prelude.{◌≡◌, ℕ, ◌==◌, false, true, pos, Some, None, List, [], ◌∷◌, map, refl, if◌then◌else◌}
 use Rattle.std.specs.List.{list_any}
 use Rattle.shapers_arabic.specs.Marks.{marks_reordered}
@@ -8,6 +8,7 @@ use Rattle.shapers_buffer.specs.declared.buffer.level.BufferClusterLevel.TheVari
 use Rattle.shapers_buffer.specs.Glyph.{characters, default_glyph}
 use Rattle.shapers_clusters.specs.Steps.{run_step}
 use Rattle.shapers_hangul.specs.Hangul.{preprocessed}
+use Rattle.shapers_universal.specs.Universal.{universal_order}
 use Rattle.shapers_text.specs.Hebrew.{hebrew_mark_step}
 use Rattle.shapers_text.specs.ThaiForms.{preprocessed_text}
 
@@ -68,3 +69,14 @@ arabic_marks = refl
 
 arabic_marks_again : characters (marks_reordered 0 2 (marks_reordered 0 2 modifiers_turned)) ≡ 0x0655 ∷ 0x0654 ∷ []
 arabic_marks_again = refl
+
+-- The universal shaper: of two vowels before the base, the last comes first each time. Categories:
+-- base 1, vowel before the base 22
+abbrev base_and_vowels : List hb_glyph_info_t
+base_and_vowels = record default_glyph { glyph_id = 0; syllable = 0x12; category = 1 } ∷ record default_glyph { glyph_id = 1; syllable = 0x12; category = 22 } ∷ record default_glyph { glyph_id = 2; syllable = 0x12; category = 22 } ∷ []
+
+two_vowels : characters (universal_order base_and_vowels) ≡ 2 ∷ 1 ∷ 0 ∷ []
+two_vowels = refl
+
+two_vowels_again : characters (universal_order (universal_order base_and_vowels)) ≡ 1 ∷ 2 ∷ 0 ∷ []
+two_vowels_again = refl

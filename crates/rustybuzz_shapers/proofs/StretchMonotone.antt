@@ -2,7 +2,7 @@
 use Rattle.std.proofs.Common.{ℕ, zero, suc, ◌≤◌, ◌≡◌, ◌==◌, Bool, true, false, cond, not, List, [], ◌∷◌, ◌++◌, ℤ, ◌-ℤ◌, length, map, take, drop, replicate, reverse, inl, inr, refl, sym, ap, subst, ◌∙◌, arith}
 use Rattle.std.specs.List.{AllByRecursion, AllPairs, flat_map, zip}
 use Rattle.std.proofs.lemmas.Bool.{cases_Bool}
-use Rattle.std.proofs.lemmas.List.{append-nil, append_assoc, length-map, map-append, reverse-append, reverse-reverse, take-append-drop, take_at}
+use Rattle.std.proofs.lemmas.List.{append-nil, append_assoc, length-map, map-append, reverse-append, take-append-drop, take_at}
 use Rattle.std.proofs.lemmas.List.Concat.{flat_map-append}
 use Rattle.std.proofs.lemmas.Simd.{map-map}
 use Rattle.shapers_base.specs.Font.{Font}
@@ -12,7 +12,7 @@ use Rattle.shapers_buffer.specs.Clusters.{least}
 use Rattle.shapers_buffer.specs.declared.buffer.glyph.GlyphPosition.{GlyphPosition}
 use Rattle.shapers_buffer.specs.declared.buffer.glyph.hb_glyph_info_t.{hb_glyph_info_t}
 use Rattle.shapers_buffer.specs.Glyph.{clusters}
-use Rattle.shapers_buffer.specs.GlyphFlags.{with_bits, with_bits_off}
+use Rattle.shapers_buffer.specs.GlyphFlags.{with_bits}
 use Rattle.shapers_buffer.specs.Lists.{each_after}
 use Rattle.shapers_buffer.proofs.MappedLists.{map-reverse}
 use Rattle.shapers_stretch.specs.Cells.{Cell, before_tiles, before_word, glyphs_of, parts_of_text, repeats, tiles_of, word_of}

@@ -186,6 +186,11 @@ mod generated {
     pub(crate) mod shapers_normal;
     #[cfg(feature = "tables")]
     pub(crate) mod shapers_normalize;
+    pub(crate) mod shapers_plan;
+    #[cfg(feature = "tables")]
+    pub(crate) mod shapers_pipeline;
+    #[cfg(feature = "tables")]
+    pub(crate) mod shapers_plan;
     #[cfg(feature = "tables")]
     pub(crate) mod shapers_prepare;
     pub(crate) mod shapers_spans;
@@ -203,7 +208,10 @@ pub mod categories;
 pub mod flags;
 pub mod font;
 pub mod map;
+#[cfg(feature = "tables")]
+pub mod ot_shape;
 pub mod ot_shape_normalize;
+pub mod ot_shape_plan;
 #[cfg(feature = "tables")]
 pub mod ot_shape_prepare;
 pub mod ot_shaper_arabic;

@@ -1,5 +1,5 @@
 //! The headline, its law of widths, the cut between spans, and the law of breaks.
-ghost use Rattle.rustybuzz_shapers.specs.Again.{CategoriesOnce, RecordsOnce};
+ghost use Rattle.rustybuzz_shapers.specs.Again.{MasksOnce, PausesOnce};
 ghost use Rattle.rustybuzz_shapers.specs.Apart.{HalvesStayApart, HooksMakeNoCluster, PausesMakeNoCluster};
 ghost use Rattle.rustybuzz_shapers.specs.Breaks.{TextsBreakAsFlagged};
 ghost use Rattle.rustybuzz_shapers.specs.Lengths.{PausesGrow, PreprocessingGrows};
@@ -135,11 +135,12 @@ pub fn apart_law()
     ensures halves { HalvesStayApart }
 {}
 
-/// What changes nothing when it is done again at once: the pauses that record, or clear, what a
-/// lookup did; and where setting masks gives glyphs their categories alone, setting them.
+/// What changes nothing when it is done again at once: the pauses that set syllables by spans alone,
+/// and those that record what a lookup did, or clear it; setting masks, but for Arabic and the
+/// universal shaper.
 pub fn again_law()
-    ensures records { RecordsOnce }
-    ensures categories { CategoriesOnce }
+    ensures pauses { PausesOnce }
+    ensures masks { MasksOnce }
 {}
 
 /// A Thai or Lao text cut before a glyph that is no above-base mark and no SARA AM (where private use

@@ -1,0 +1,72 @@
+-- The features of fractions. Masks: 0x10 of fractions, 0x20 of numerators, 0x40 of denominators; flags: 1 and 2.
+use Rattle.std.specs.Prelude.{◌≡◌, ◌==◌, ◌||◌, ℕ, List, [], ◌∷◌, map, suc, refl, if◌then◌else◌}
+use Rattle.shapers_buffer.specs.declared.buffer.category.hb_unicode_general_category_t.TheVariants.{Lo, Nd}
+use Rattle.shapers_buffer.specs.declared.buffer.glyph.hb_glyph_info_t.{hb_glyph_info_t}
+use Rattle.shapers_buffer.specs.declared.buffer.level.Direction.{Direction}
+use Rattle.shapers_buffer.specs.declared.buffer.level.Direction.TheVariants.{Invalid, LeftToRight, RightToLeft, TopToBottom, BottomToTop}
+use Rattle.shapers_buffer.specs.Buffer.{Buffer, new_buffer}
+use Rattle.shapers_buffer.specs.Glyph.{default_glyph}
+use Rattle.shapers_plan.specs.declared.ot_shape_plan.DriverMasks.{DriverMasks}
+use Rattle.shapers_pipeline.specs.Fractions.{fractions_set}
+
+abbrev fraction_features : ℕ → ℕ → ℕ → DriverMasks
+fraction_features frac numr dnom = record { frac = frac; numr = numr; dnom = dnom; rtlm = 0x80; vert = 0 }
+
+-- characters, whose clusters rise; 1, 2 and 3 are decimal numbers
+abbrev text_from : ℕ → List ℕ → List hb_glyph_info_t
+text_from k [] = []
+text_from k (c ∷ cs) = (record default_glyph {
+  glyph_id = c;
+  cluster = k;
+  general_category = if c == 0x31 || c == 0x32 || c == 0x33 then Nd else Lo;
+}) ∷ text_from (suc k) cs
+
+abbrev buffer : Direction → ℕ → List ℕ → Buffer
+buffer direction flags cs = record (new_buffer 9) {
+  glyphs = text_from 0 cs;
+  direction = direction;
+  flags = record { 0 = flags };
+}
+
+abbrev masks : DriverMasks → Buffer → List ℕ
+masks m b = map (λ g. g.mask) (fractions_set m b)
+
+abbrev whole : DriverMasks
+whole = fraction_features 0x10 0x20 0x40
+
+abbrev one_23rd : List ℕ
+one_23rd = 0x61 ∷ 0x31 ∷ 0x2044 ∷ 0x32 ∷ 0x33 ∷ 0x62 ∷ []
+
+-- a1⁄23b by direction: the numerator stands first where the text runs forward
+forward : map (λ d. masks whole (buffer d 0 one_23rd)) (LeftToRight ∷ TopToBottom ∷ [])
+    ≡ (0 ∷ 0x30 ∷ 0x13 ∷ 0x53 ∷ 0x53 ∷ 0 ∷ []) ∷ (0 ∷ 0x30 ∷ 0x13 ∷ 0x53 ∷ 0x53 ∷ 0 ∷ []) ∷ []
+forward = refl
+
+backward : map (λ d. masks whole (buffer d 0 one_23rd)) (RightToLeft ∷ BottomToTop ∷ Invalid ∷ [])
+    ≡ (0 ∷ 0x50 ∷ 0x13 ∷ 0x33 ∷ 0x33 ∷ 0 ∷ []) ∷ (0 ∷ 0x50 ∷ 0x13 ∷ 0x33 ∷ 0x33 ∷ 0 ∷ [])
+    ∷ (0 ∷ 0x50 ∷ 0x13 ∷ 0x33 ∷ 0x33 ∷ 0 ∷ []) ∷ []
+backward = refl
+
+-- 1⁄2⁄3: the 2 is of both
+in_a_row : masks whole (buffer LeftToRight 0 (0x31 ∷ 0x2044 ∷ 0x32 ∷ 0x2044 ∷ 0x33 ∷ [])) ≡ 0x30 ∷ 0x13 ∷ 0x73 ∷ 0x13 ∷ 0x53 ∷ []
+in_a_row = refl
+
+-- numbers on one side alone: the slash, where flags of concatenation are wanted
+lacking_left : map (λ flags. masks whole (buffer LeftToRight flags (0x61 ∷ 0x2044 ∷ 0x31 ∷ []))) (0 ∷ 0x40 ∷ [])
+    ≡ (0 ∷ 0 ∷ 0 ∷ []) ∷ (0 ∷ 2 ∷ 0 ∷ []) ∷ []
+lacking_left = refl
+
+lacking_right : map (λ flags. masks whole (buffer LeftToRight flags (0x31 ∷ 0x2044 ∷ []))) (0 ∷ 0x40 ∷ []) ≡ (0 ∷ 0 ∷ []) ∷ (0 ∷ 2 ∷ []) ∷ []
+lacking_right = refl
+
+slash_only : masks whole (buffer LeftToRight 0x40 (0x2044 ∷ [])) ≡ 2 ∷ []
+slash_only = refl
+
+-- fonts: halves alone are enough together, and neither by itself; no feature, no flag
+halves : masks (fraction_features 0 0x20 0x40) (buffer LeftToRight 0 (0x31 ∷ 0x2044 ∷ 0x32 ∷ [])) ≡ 0x20 ∷ 0x03 ∷ 0x43 ∷ []
+halves = refl
+
+one_half : map (λ m. masks m (buffer LeftToRight 0x40 (0x31 ∷ 0x2044 ∷ 0x32 ∷ [])))
+    (fraction_features 0 0x20 0 ∷ fraction_features 0 0 0x40 ∷ fraction_features 0 0 0 ∷ [])
+    ≡ (0 ∷ 0 ∷ 0 ∷ []) ∷ (0 ∷ 0 ∷ 0 ∷ []) ∷ (0 ∷ 0 ∷ 0 ∷ []) ∷ []
+one_half = refl

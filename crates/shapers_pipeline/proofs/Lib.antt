@@ -1,0 +1,7 @@
+mod Directed
+mod FractionRows
+mod Growing
+mod HookResults
+mod MaskRows
+mod Pausing
+mod PreparedRows

@@ -1,0 +1,51 @@
+-- Stages of lookups, each with a pause behind it.
+use Rattle.std.specs.Prelude.{◌≡◌, ◌≤◌, ◌-◌, ◌⊎◌, true, List, [], ◌∷◌, All, drop, fold, take}
+use Rattle.shapers_base.specs.declared.plan.pause.Pause.{Pause}
+use Rattle.shapers_base.specs.declared.plan.pause.Pause.TheVariants.{SetupSyllablesIndic, SetupSyllablesKhmer, SetupSyllablesMyanmar, SetupSyllablesUse}
+use Rattle.shapers_buffer.specs.Buffer.{Buffer}
+use Rattle.shapers_buffer.specs.Clusters.{merges}
+use Rattle.shapers_buffer.specs.Glyph.{clusters}
+use Rattle.shapers_buffer.specs.declared.buffer.glyph.hb_glyph_info_t.{hb_glyph_info_t}
+use Rattle.shapers_buffer.specs.declared.buffer.syllables.Span.{Span}
+use Rattle.shapers_clusters.specs.Cuts.{IsMonotone}
+use Rattle.shapers_syllabic.specs.CircleLaws.{NoNewCluster}
+use Rattle.shapers_spans.specs.Cuts.{AreSpansOf}
+use Rattle.shapers_spans.specs.Indic.{indic_grammar}
+use Rattle.shapers_spans.specs.Khmer.{khmer_grammar}
+use Rattle.shapers_spans.specs.Myanmar.{myanmar_grammar}
+use Rattle.shapers_spans.specs.Universal.{universal_grammar}
+use Rattle.shapers_plan.specs.declared.ot_map.lookups.Stage.{Stage}
+use Rattle.shapers_plan.specs.declared.ot_map.lookups.StageLookup.{StageLookup}
+
+-- What a lookup keeps of a text without positions: everything but its glyphs; each cluster is one
+-- that the text had, and at the levels that merge clusters still rise, or fall; glyph numbers are
+-- those of a font.
+pub record LookupKeeps (old new : Buffer) : Type 0 where
+  pub others : new ≡ record old { glyphs = new.glyphs }
+  pub old_clusters : NoNewCluster old.glyphs new.glyphs
+  pub monotone : merges old.level ≡ true → IsMonotone (clusters old.glyphs) →
+      IsMonotone (clusters new.glyphs)
+  pub numbers : All (λ (g : hb_glyph_info_t). g.glyph_id ≤ 65535) old.glyphs →
+      All (λ (g : hb_glyph_info_t). g.glyph_id ≤ 65535) new.glyphs
+
+-- what these lookups make of a text, one after another
+abbrev pub looked_up : (StageLookup → Buffer → Buffer) → List StageLookup → Buffer → Buffer
+looked_up substituted list b = fold (λ text lookup. substituted lookup text) b list
+
+-- a text after the first of these lookups, up to the one that refused
+abbrev pub StoppedIn : (StageLookup → Buffer → Buffer) → List StageLookup → Buffer → Buffer → Type 0
+StoppedIn substituted [] old new = ⊥
+StoppedIn substituted (x ∷ xs) old new =
+    (new ≡ old) ⊎ StoppedIn substituted xs (substituted x old) new
+
+-- the lookups of a stage, as far as the list goes
+abbrev pub lookups_of_stage : Stage → List StageLookup → List StageLookup
+lookups_of_stage s list = take (s.end - s.start) (drop s.start list)
+
+-- the spans that a pause takes: those of its grammar, if it writes syllables
+abbrev pub FoundSpans : Pause → List hb_glyph_info_t → List Span → Type 0
+FoundSpans SetupSyllablesIndic gs spans = AreSpansOf indic_grammar gs spans
+FoundSpans SetupSyllablesKhmer gs spans = AreSpansOf khmer_grammar gs spans
+FoundSpans SetupSyllablesMyanmar gs spans = AreSpansOf myanmar_grammar gs spans
+FoundSpans SetupSyllablesUse gs spans = AreSpansOf universal_grammar gs spans
+FoundSpans _ gs spans = spans ≡ []

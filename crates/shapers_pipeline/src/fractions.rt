@@ -1,0 +1,242 @@
+//! The features of fractions.
+ghost use Rattle.std.specs.Prelude.{◌≡◌, ◌<◌, ◌≤◌, ◌+◌, length, map};
+ghost use Rattle.shapers_buffer.specs.Buffer.{flags_concat, has_flag};
+ghost use Rattle.std.specs.List.{prefix_len};
+ghost use Rattle.shapers_buffer.specs.Clusters.{with_stretch};
+ghost use Rattle.shapers_buffer.specs.GlyphFlags.{with_bits};
+ghost use Rattle.shapers_pipeline.specs.Fractions.{fraction_around, fraction_marked, fractions_around, fractions_set, has_fractions, is_decimal_glyph, is_fraction_slash, decimals_before, decimals_behind, runs_forward, slash_alone, slash_masks};
+
+use shapers_base::buffer::{
+    BufferFlags, Direction, GlyphChange, GlyphWalk, change_each_in, hb_buffer_t, hb_glyph_info_t,
+    hb_unicode_general_category_t, unsafe_to_break_in, unsafe_to_concat_in,
+};
+use shapers_plan::ot_shape_plan::DriverMasks;
+
+// The character that parts a fraction.
+const FRACTION_SLASH: u32 = 0x2044;
+
+// The masks before the slash of a fraction, of the slash, and behind it, in the order of the text.
+#[derive(Clone, Copy)]
+pub(crate) struct SlashMasks {
+    pub(crate) before: u32,
+    pub(crate) slash: u32,
+    pub(crate) behind: u32,
+}
+
+// Sets the features of the fractions of a text.
+pub(crate) fn set_fractions(masks: &DriverMasks, buffer: &mut hb_buffer_t)
+    ensures { let text = fractions_set masks.now buffer.old in
+        buffer.new ≡ record buffer.old { glyphs = text } }
+{
+    if !has_fractions(masks) {
+        return;
+    }
+    let masks = slash_masks(buffer.direction(), masks);
+    let flags = buffer.flags();
+    buffer.walk(&mut FractionWalk { masks, flags });
+}
+
+// Whether the font has features for fractions.
+#[inline]
+fn has_fractions(masks: &DriverMasks) -> bool
+    ensures { result ≡ has_fractions masks.now }
+{
+    masks.frac != 0 || (masks.numr != 0 && masks.dnom != 0)
+}
+
+// Numerators stand first where the text runs forward.
+#[inline]
+fn slash_masks(direction: Direction, masks: &DriverMasks) -> SlashMasks
+    ensures { result ≡ slash_masks direction masks.now }
+{
+    let numerators = masks.numr | masks.frac;
+    let denominators = masks.frac | masks.dnom;
+    let (before, behind) = if runs_forward(direction) {
+        (numerators, denominators)
+    } else {
+        (denominators, numerators)
+    };
+    SlashMasks {
+        before,
+        slash: masks.frac,
+        behind,
+    }
+}
+
+#[inline]
+fn runs_forward(direction: Direction) -> bool
+    ensures { result ≡ runs_forward direction }
+{
+    matches!(direction, Direction::LeftToRight | Direction::TopToBottom)
+}
+
+// The walk over the slashes of a text.
+#[derive(Clone, Copy)]
+struct FractionWalk {
+    masks: SlashMasks,
+    flags: BufferFlags,
+}
+
+impl GlyphWalk for FractionWalk {
+    ghost use Rattle.std.specs.Prelude.{⊤, ◌≡◌, length};
+    ghost use Rattle.shapers_buffer.specs.Buffer.{flags_concat, has_flag};
+    ghost use Rattle.shapers_pipeline.specs.Fractions.{fractions_around};
+
+    ghost can_walk = { λ w gs. ⊤ };
+
+    ghost walks = { λ v w gs hs. hs ≡ fractions_around v.masks (has_flag flags_concat v.flags)
+        (length gs) gs };
+
+    #[inline]
+    fn walk(&mut self, glyphs: &mut [hb_glyph_info_t]) {
+        set_fractions_in(self.masks, self.flags, glyphs);
+    }
+}
+
+// Sets the features of each fraction.
+fn set_fractions_in(masks: SlashMasks, flags: BufferFlags, glyphs: &mut [hb_glyph_info_t])
+    ensures { let concat = has_flag flags_concat flags in
+        glyphs.new ≡ fractions_around masks concat (length glyphs.old) glyphs.old }
+{
+    for i in 0..glyphs.len() {
+        set_fraction(masks, flags, i, glyphs);
+    }
+}
+
+// Sets the features of the fraction whose slash stands at place `i`, if one does.
+#[inline]
+fn set_fraction(masks: SlashMasks, flags: BufferFlags, i: usize, glyphs: &mut [hb_glyph_info_t])
+    requires { i < length glyphs.old }
+    ensures { let concat = has_flag flags_concat flags in
+        glyphs.new ≡ fraction_around masks concat i glyphs.old }
+{
+    if !is_fraction_slash(&glyphs[i]) {
+        return;
+    }
+    let before = decimals_before(i, glyphs);
+    let behind = decimals_behind(i, glyphs);
+    if before == 0 || behind == 0 {
+        flag_slash(flags, i, before, behind, glyphs);
+    } else {
+        mark_fraction(masks, i, before, behind, glyphs);
+    }
+}
+
+// How many decimal numbers stand right before place `i`.
+#[inline]
+fn decimals_before(i: usize, glyphs: &[hb_glyph_info_t]) -> usize
+    requires { i ≤ length glyphs.now }
+    ensures count { result ≡ decimals_before i glyphs.now }
+    ensures few { result ≤ i }
+{
+    glyphs[..i]
+        .iter()
+        .rev()
+        .take_while(|glyph| is_decimal_glyph(glyph))
+        .count()
+}
+
+// How many decimal numbers stand right behind place `i`.
+#[inline]
+fn decimals_behind(i: usize, glyphs: &[hb_glyph_info_t]) -> usize
+    requires { i < length glyphs.now }
+    ensures count { result ≡ decimals_behind i glyphs.now }
+    ensures few { i + 1 + result ≤ length glyphs.now }
+{
+    decimals_in_front(&glyphs[i + 1..])
+}
+
+// How many of the first glyphs are decimal numbers.
+#[inline]
+fn decimals_in_front(glyphs: &[hb_glyph_info_t]) -> usize
+    ensures count { result ≡ prefix_len is_decimal_glyph glyphs.now }
+    ensures few { result ≤ length glyphs.now }
+{
+    glyphs
+        .iter()
+        .take_while(|glyph| is_decimal_glyph(glyph))
+        .count()
+}
+
+#[inline]
+fn is_fraction_slash(glyph: &hb_glyph_info_t) -> bool
+    ensures { result ≡ is_fraction_slash glyph.now }
+{
+    glyph.glyph_id == FRACTION_SLASH
+}
+
+#[inline]
+fn is_decimal_glyph(glyph: &hb_glyph_info_t) -> bool
+    ensures { result ≡ is_decimal_glyph glyph.now }
+{
+    matches!(glyph.general_category, hb_unicode_general_category_t::Nd)
+}
+
+// Flags a slash that lacks numbers on one side.
+#[inline]
+fn flag_slash(
+    flags: BufferFlags,
+    i: usize,
+    before: usize,
+    behind: usize,
+    glyphs: &mut [hb_glyph_info_t],
+)
+    requires { i < length glyphs.old }
+    ensures { let concat = has_flag flags_concat flags in
+        glyphs.new ≡ slash_alone concat i before behind glyphs.old }
+{
+    if before == 0 {
+        unsafe_to_concat_in(flags, glyphs, i, i + 1);
+    }
+    if behind == 0 {
+        unsafe_to_concat_in(flags, glyphs, i, i + 1);
+    }
+}
+
+// Gives the numbers of a fraction and its slash their features; nothing may be broken in it.
+#[inline]
+fn mark_fraction(
+    masks: SlashMasks,
+    i: usize,
+    before: usize,
+    behind: usize,
+    glyphs: &mut [hb_glyph_info_t],
+)
+    requires first { before ≤ i }
+    requires last { i + 1 + behind ≤ length glyphs.old }
+    ensures { glyphs.new ≡ fraction_marked masks i before behind glyphs.old }
+{
+    let start = i - before;
+    let end = i + 1 + behind;
+    unsafe_to_break_in(glyphs, start, end);
+    add_bits(masks.before, start, i, glyphs);
+    add_bits(masks.slash, i, i + 1, glyphs);
+    add_bits(masks.behind, i + 1, end, glyphs);
+}
+
+// Gives the glyphs from `start` to `end` mask bits besides their own.
+#[inline]
+fn add_bits(bits: u32, start: usize, end: usize, glyphs: &mut [hb_glyph_info_t])
+    requires in_order { start ≤ end }
+    requires in_range { end ≤ length glyphs.old }
+    ensures { glyphs.new ≡ with_stretch start end (map (with_bits bits)) glyphs.old }
+{
+    change_each_in(&mut glyphs[start..end], &AddBits { bits });
+}
+
+// Mask bits for one glyph, besides its own.
+#[derive(Clone, Copy)]
+struct AddBits {
+    bits: u32,
+}
+
+impl GlyphChange for AddBits {
+    ghost use Rattle.shapers_buffer.specs.GlyphFlags.{with_bits};
+
+    ghost changed = { λ change g. with_bits change.bits g };
+
+    #[inline]
+    fn change(&self, glyph: &mut hb_glyph_info_t) {
+        glyph.mask |= self.bits;
+    }
+}

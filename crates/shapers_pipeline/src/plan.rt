@@ -1,0 +1,30 @@
+//! What is decided for a text before it is seen.
+
+use rustybuzz_shapers::shaper::hb_ot_shaper_t;
+use shapers_base::plan::hb_ot_shape_plan_t;
+use shapers_plan::ot_map::{Stage, StageLookup};
+use shapers_plan::ot_shape_plan::{DriverMasks, UserRange};
+
+/// What is decided for a text before it is seen, as far as its preparation reads it.
+#[derive(Clone, Copy, Debug)]
+pub struct TextPlan<'a> {
+    /// The shaper of the text's script; None for one that needs none.
+    pub shaper: Option<hb_ot_shaper_t>,
+    /// The plan that its hooks read.
+    pub plan: &'a hb_ot_shape_plan_t,
+    /// The masks of the features that are turned on glyph by glyph.
+    pub masks: DriverMasks,
+    /// The caller's features in ranges, the later ones over the earlier.
+    pub ranges: &'a [UserRange],
+}
+
+/// The same as far as the stages of lookups read it.
+#[derive(Clone, Copy, Debug)]
+pub struct StagePlan<'a> {
+    /// The plan that the shaper's hooks read.
+    pub plan: &'a hb_ot_shape_plan_t,
+    /// The stages, each a range of the list of lookups.
+    pub stages: &'a [Stage],
+    /// The lookups of all stages.
+    pub lookups: &'a [StageLookup],
+}

@@ -1,0 +1,159 @@
+//! A text before the font's lookups, from characters to glyphs.
+ghost use Rattle.std.specs.Prelude.{◌≡◌, [], IfErr, OnOk, map};
+ghost use Rattle.shapers_prepare.specs.GlyphProperties.{properties_set};
+ghost use Rattle.shapers_prepare.specs.Graphemes.{clusters_formed};
+ghost use Rattle.shapers_prepare.specs.NativeDirection.{in_native_direction};
+ghost use Rattle.shapers_buffer.specs.Buffer.{Buffer};
+ghost use Rattle.shapers_pipeline.specs.Masks.{with_mask_alone};
+ghost use Rattle.shapers_pipeline.specs.Prepared.{growths, growths_from, normalized_from, preparation, rotation_to, text_normalized, text_prepared};
+ghost use Rattle.shapers_pipeline.specs.Refusals.{AllHadRoom, IsPrepared, IsStopped, OneRefused};
+
+use crate::fractions::set_fractions;
+use crate::masks::{initialize_masks, map_glyphs, set_features};
+use crate::plan::TextPlan;
+use crate::preprocessing::{plan_fits, preprocess_text, setup_masks};
+use rustybuzz_shapers::shaper::checked::{CallError, Condition};
+use rustybuzz_shapers::shaper::lacks_positions;
+use shapers_base::buffer::{Direction, ShaperError, hb_buffer_t};
+use shapers_normalize::{NormalizeFont, NormalizeSettings, NormalizeTables, ot_shape_normalize};
+use shapers_plan::ot_shape_plan::DriverMasks;
+use shapers_prepare::ot_shape_prepare::{
+    CharRotation, UnicodeProperties, ensure_native_direction, form_clusters, insert_dotted_circle,
+    rotate_chars, set_unicode_properties,
+};
+
+/// Does all that comes before the font's lookups, in HarfBuzz's order: the features of the whole
+/// text and the properties of its characters are set, a circle comes before a first mark, graphemes
+/// form clusters, the text turns to its own direction, its shaper rewrites it, characters rotate,
+/// the text is normalized, fractions, the shaper and the caller's features in ranges set masks, and
+/// each character becomes its glyph.
+///
+/// # Errors
+///
+/// `Condition`: `Positions` and `PlanData`, and nothing has changed then; `Glyphs` where a number
+/// isn't a character's, and the text is normalized then. `Refused` with `TooLong` and `Memory`: the
+/// text is as it was before the step that wanted more room.
+pub fn prepare_text<F: NormalizeFont, T: NormalizeTables + UnicodeProperties>(
+    plan: &TextPlan,
+    settings: &NormalizeSettings,
+    font: &F,
+    tables: &T,
+    buffer: &mut hb_buffer_t,
+) -> Result<(), CallError>
+    ensures ok { let p = preparation plan.now settings.now (F.font font.now) (F.variants font.now)
+        (T.properties tables.now) (T.tables tables.now) (T.texts tables.now) in
+        OnOk result (buffer.new ≡ text_prepared p buffer.old) }
+    ensures met { let p = preparation plan.now settings.now (F.font font.now) (F.variants font.now)
+        (T.properties tables.now) (T.tables tables.now) (T.texts tables.now) in
+        OnOk result (IsPrepared p buffer.old) }
+    ensures err { let p = preparation plan.now settings.now (F.font font.now) (F.variants font.now)
+        (T.properties tables.now) (T.tables tables.now) (T.texts tables.now) in
+        IfErr result (λ e. IsStopped p buffer.old buffer.new e) }
+    ensures positions { OnOk result (buffer.new.positions ≡ []) }
+{
+    if !lacks_positions(buffer) {
+        return Err(CallError::Condition(Condition::Positions));
+    }
+    if !plan_fits(plan.shaper, plan.plan) {
+        return Err(CallError::Condition(Condition::PlanData));
+    }
+    normalize_text(plan, settings, font, tables, buffer)?;
+    set_fractions(&plan.masks, buffer);
+    setup_masks(plan.shaper, plan.plan, font, tables, buffer)?;
+    set_features(plan.ranges, buffer);
+    map_glyphs(buffer);
+    Ok(())
+}
+
+// Does all up to normalization, which ends it.
+fn normalize_text<F: NormalizeFont, T: NormalizeTables + UnicodeProperties>(
+    plan: &TextPlan,
+    settings: &NormalizeSettings,
+    font: &F,
+    tables: &T,
+    buffer: &mut hb_buffer_t,
+) -> Result<(), ShaperError>
+    requires { buffer.old.positions ≡ [] }
+    ensures ok { let p = preparation plan.now settings.now (F.font font.now) (F.variants font.now)
+        (T.properties tables.now) (T.tables tables.now) (T.texts tables.now) in
+        OnOk result (buffer.new ≡ text_normalized p buffer.old) }
+    ensures room { let p = preparation plan.now settings.now (F.font font.now) (F.variants font.now)
+        (T.properties tables.now) (T.tables tables.now) (T.texts tables.now) in
+        OnOk result (AllHadRoom buffer.old.max_len (growths p buffer.old)) }
+    ensures err { let p = preparation plan.now settings.now (F.font font.now) (F.variants font.now)
+        (T.properties tables.now) (T.tables tables.now) (T.texts tables.now) in
+        IfErr result (λ e. OneRefused buffer.old.max_len (growths p buffer.old) e buffer.new) }
+    ensures positions { OnOk result (buffer.new.positions ≡ []) }
+{
+    let direction = buffer.direction();
+    begin_text(plan, tables, buffer);
+    insert_dotted_circle(tables, font, buffer)?;
+    direct_text(buffer);
+    normalize_directed(plan, settings, font, tables, direction, buffer)
+}
+
+// The same from a text in its own direction on, for a caller who wants this one.
+fn normalize_directed<F: NormalizeFont, T: NormalizeTables + UnicodeProperties>(
+    plan: &TextPlan,
+    settings: &NormalizeSettings,
+    font: &F,
+    tables: &T,
+    direction: Direction,
+    buffer: &mut hb_buffer_t,
+) -> Result<(), ShaperError>
+    requires { buffer.old.positions ≡ [] }
+    ensures ok { let p = preparation plan.now settings.now (F.font font.now) (F.variants font.now)
+        (T.properties tables.now) (T.tables tables.now) (T.texts tables.now) in
+        OnOk result (buffer.new ≡ normalized_from p direction buffer.old) }
+    ensures room { let p = preparation plan.now settings.now (F.font font.now) (F.variants font.now)
+        (T.properties tables.now) (T.tables tables.now) (T.texts tables.now) in
+        OnOk result (AllHadRoom buffer.old.max_len (growths_from p direction buffer.old)) }
+    ensures err { let p = preparation plan.now settings.now (F.font font.now) (F.variants font.now)
+        (T.properties tables.now) (T.tables tables.now) (T.texts tables.now) in
+        let growths = growths_from p direction buffer.old in
+        IfErr result (λ e. OneRefused buffer.old.max_len growths e buffer.new) }
+    ensures positions { OnOk result (buffer.new.positions ≡ []) }
+{
+    preprocess_text(plan.shaper, plan.plan, font, buffer)?;
+    rotate_chars(tables, font, &rotation_to(&plan.masks, direction), buffer);
+    ot_shape_normalize(plan.shaper, plan.plan, font, tables, settings, buffer)
+}
+
+// What characters are rotated by, where the caller wants this direction.
+#[inline]
+fn rotation_to(masks: &DriverMasks, direction: Direction) -> CharRotation
+    ensures { result ≡ rotation_to masks.now direction }
+{
+    CharRotation {
+        direction,
+        rtlm_mask: masks.rtlm,
+        has_vert: masks.vert != 0,
+    }
+}
+
+// Sets the features of the whole text and the properties of its characters.
+#[inline]
+fn begin_text<T: UnicodeProperties>(plan: &TextPlan, tables: &T, buffer: &mut hb_buffer_t)
+    ensures { let global = plan.now.plan.now.ot_map.global in
+        let masked = map (with_mask_alone global) buffer.old.glyphs in
+        let text = properties_set (T.properties tables.now) masked in
+        buffer.new ≡ record buffer.old { glyphs = text } }
+{
+    initialize_masks(plan.plan.ot_map.get_global_mask(), buffer);
+    set_unicode_properties(tables, buffer);
+}
+
+// Forms the clusters of the graphemes, and turns the text to its own direction.
+#[tactic(auto, using(crate::proofs::Directed::positions_stay, crate::proofs::Directed::limit_stays))]
+fn direct_text(buffer: &mut hb_buffer_t)
+    requires { buffer.old.positions ≡ [] }
+    ensures text { let formed : Buffer = record buffer.old {
+      glyphs = clusters_formed buffer.old.level buffer.old.glyphs;
+    } in
+        buffer.new ≡ in_native_direction formed }
+    ensures positions { buffer.new.positions ≡ [] }
+    ensures limit { buffer.new.max_len ≡ buffer.old.max_len }
+{
+    form_clusters(buffer);
+    ensure_native_direction(buffer);
+}

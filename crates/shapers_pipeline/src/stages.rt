@@ -1,0 +1,109 @@
+//! The stages of a plan: the lookups of each, and what the shaper does behind them.
+ghost use Rattle.std.specs.Prelude.{◌≡◌, [], OnErr, OnOk};
+ghost use Rattle.shapers_pipeline.specs.Lookups.{lookups_of_stage};
+ghost use Rattle.shapers_pipeline.specs.Stages.{PauseRun, StageRun, StageStopped, StagesRun, StagesStopped, Substitution};
+
+use crate::lookups::{Lookups, apply_lookups, found_spans};
+use crate::plan::StagePlan;
+use rustybuzz_shapers::shaper::checked::{CallError, checked_run_pause};
+use shapers_base::buffer::hb_buffer_t;
+use shapers_base::font::hb_font_t;
+use shapers_base::plan::{Pause, hb_ot_shape_plan_t};
+use shapers_plan::ot_map::{Stage, StageLookup};
+
+/// Runs the stages of a plan over a text of glyphs without positions: the lookups of each, one
+/// after another, and then what the shaper does behind the stage. Syllables are found by the
+/// shaper's grammar where a pause writes them.
+///
+/// # Errors
+///
+/// A condition of a pause that isn't met, or the refusal of a lookup or a pause. The buffer is as
+/// it was before that one.
+pub fn run_stages<F: hb_font_t, L: Lookups>(
+    plan: &StagePlan,
+    font: &F,
+    lookups: &L,
+    buffer: &mut hb_buffer_t,
+) -> Result<(), CallError>
+    requires { buffer.old.positions ≡ [] }
+    ensures ok { let r : Substitution = record {
+      plan = plan.now.plan.now;
+      font = F.font font.now;
+      substituted = L.substituted lookups.now;
+      list = plan.now.lookups.now;
+    } in
+        OnOk result (StagesRun r plan.now.stages.now buffer.old buffer.new) }
+    ensures err { let r : Substitution = record {
+      plan = plan.now.plan.now;
+      font = F.font font.now;
+      substituted = L.substituted lookups.now;
+      list = plan.now.lookups.now;
+    } in
+        OnErr result (StagesStopped r plan.now.stages.now buffer.old buffer.new) }
+    ensures positions { OnOk result (buffer.new.positions ≡ []) }
+{
+    for stage in plan.stages {
+        run_stage(plan, *stage, font, lookups, buffer)?;
+    }
+    Ok(())
+}
+
+// Runs one stage.
+fn run_stage<F: hb_font_t, L: Lookups>(
+    plan: &StagePlan,
+    stage: Stage,
+    font: &F,
+    lookups: &L,
+    buffer: &mut hb_buffer_t,
+) -> Result<(), CallError>
+    requires { buffer.old.positions ≡ [] }
+    ensures ok { let r : Substitution = record {
+      plan = plan.now.plan.now;
+      font = F.font font.now;
+      substituted = L.substituted lookups.now;
+      list = plan.now.lookups.now;
+    } in
+        OnOk result (StageRun r stage buffer.old buffer.new) }
+    ensures err { let r : Substitution = record {
+      plan = plan.now.plan.now;
+      font = F.font font.now;
+      substituted = L.substituted lookups.now;
+      list = plan.now.lookups.now;
+    } in
+        OnErr result (StageStopped r stage buffer.old buffer.new) }
+    ensures positions { OnOk result (buffer.new.positions ≡ []) }
+{
+    apply_lookups(lookups, lookups_of_stage(stage, plan.lookups), buffer)?;
+    match stage.pause {
+        Some(pause) => pause_with_spans(pause, plan.plan, font, buffer),
+        None => Ok(()),
+    }
+}
+
+// The lookups of a stage, as far as the list goes.
+#[inline]
+fn lookups_of_stage(stage: Stage, list: &[StageLookup]) -> &[StageLookup]
+    ensures { result.now ≡ lookups_of_stage stage list.now }
+{
+    let end = stage.end.min(list.len());
+    let start = stage.start.min(end);
+    &list[start..end]
+}
+
+// Runs a pause, whose spans are found by its grammar.
+#[tactic(auto, using(crate::proofs::Pausing::pause_positions))]
+fn pause_with_spans<F: hb_font_t>(
+    pause: Pause,
+    plan: &hb_ot_shape_plan_t,
+    font: &F,
+    buffer: &mut hb_buffer_t,
+) -> Result<(), CallError>
+    requires { buffer.old.positions ≡ [] }
+    ensures ok { OnOk result (PauseRun pause plan.now (F.font font.now) buffer.old buffer.new) }
+    ensures err { OnErr result (buffer.new ≡ buffer.old) }
+    ensures positions { OnOk result (buffer.new.positions ≡ []) }
+{
+    let spans = found_spans(pause, buffer.glyphs(), buffer.alloc())?;
+    checked_run_pause(pause, plan, font, spans.as_slice(), buffer)?;
+    Ok(())
+}

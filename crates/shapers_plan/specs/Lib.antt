@@ -1,0 +1,10 @@
+pub mod FontFeatures
+pub mod ShapePlan
+pub mod Ordered
+pub mod Requests
+pub mod Masks
+pub mod Stages
+pub mod Collecting
+pub mod Compiling
+pub mod Planning
+pub mod Ranges

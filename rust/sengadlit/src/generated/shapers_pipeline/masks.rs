@@ -1,0 +1,72 @@
+// Generated from crates/shapers_pipeline/src/masks.rt by rust/erase; edit the source.
+
+//! The masks that the plan gives a text, besides those of its shaper.
+
+use crate::generated::shapers_base::buffer::{Buffer, GlyphChange, GlyphInfo};
+use crate::generated::shapers_plan::ot_shape_plan::UserRange;
+
+// Gives each glyph the features that hold for the whole text, and no others.
+pub(crate) fn initialize_masks(mask: u32, buffer: &mut Buffer) {
+    let end = buffer.len();
+    buffer.change_each(0, end, &MaskAlone { mask });
+}
+
+// The mask of one glyph.
+#[derive(Clone, Copy)]
+struct MaskAlone {
+    mask: u32,
+}
+
+impl GlyphChange for MaskAlone {
+    #[inline]
+    fn change(&self, glyph: &mut GlyphInfo) {
+        glyph.mask = self.mask;
+    }
+}
+
+// Sets the caller's features in their ranges, the later ones over the earlier.
+pub(crate) fn set_features(features: &[UserRange], buffer: &mut Buffer) {
+    let end = buffer.len();
+    buffer.change_each(0, end, &Features { features });
+}
+
+// The features of one glyph.
+#[derive(Clone, Copy)]
+struct Features<'a> {
+    features: &'a [UserRange],
+}
+
+impl<'a> GlyphChange for Features<'a> {
+    #[inline]
+    fn change(&self, glyph: &mut GlyphInfo) {
+        for feature in self.features {
+            set_feature(*feature, glyph);
+        }
+    }
+}
+
+// Sets a feature where the glyph is in its range.
+#[inline]
+fn set_feature(feature: UserRange, glyph: &mut GlyphInfo) {
+    if feature.start <= glyph.cluster && glyph.cluster < feature.end {
+        glyph.mask = (glyph.mask & !feature.mask) | (feature.value & feature.mask);
+    }
+}
+
+// Each character becomes the glyph that normalization kept beside it.
+pub(crate) fn map_glyphs(buffer: &mut Buffer) {
+    let end = buffer.len();
+    buffer.change_each(0, end, &AsGlyph);
+}
+
+// The glyph of one character.
+#[derive(Clone, Copy)]
+struct AsGlyph;
+
+impl GlyphChange for AsGlyph {
+    #[inline]
+    fn change(&self, glyph: &mut GlyphInfo) {
+        glyph.glyph_id = glyph.var;
+        glyph.var = 0;
+    }
+}

@@ -1,0 +1,17 @@
+// Generated from crates/shapers_pipeline/src/lib.rt by rust/erase; edit the source.
+
+//! From a text to glyphs: all that comes before the font's lookups as one call, and the stages of
+//! lookups with what the shaper does behind them.
+
+mod fractions;
+mod lookups;
+mod masks;
+mod plan;
+mod prepare;
+mod preprocessing;
+mod stages;
+
+pub use lookups::Lookups;
+pub use plan::{StagePlan, TextPlan};
+pub use prepare::prepare_text;
+pub use stages::run_stages;

@@ -1,0 +1,125 @@
+// Generated from crates/shapers_pipeline/src/prepare.rt by rust/erase; edit the source.
+
+//! A text before the font's lookups, from characters to glyphs.
+
+use crate::generated::rustybuzz_shapers::shaper::checked::{CallError, Condition};
+use crate::generated::rustybuzz_shapers::shaper::lacks_positions;
+use crate::generated::shapers_base::buffer::{Buffer, Direction, ShaperError};
+use crate::generated::shapers_normalize::{
+    NormalizeFont, NormalizeSettings, NormalizeTables, ot_shape_normalize,
+};
+use crate::generated::shapers_pipeline::fractions::set_fractions;
+use crate::generated::shapers_pipeline::masks::{initialize_masks, map_glyphs, set_features};
+use crate::generated::shapers_pipeline::plan::TextPlan;
+use crate::generated::shapers_pipeline::preprocessing::{plan_fits, preprocess_text, setup_masks};
+use crate::generated::shapers_plan::ot_shape_plan::DriverMasks;
+use crate::generated::shapers_prepare::ot_shape_prepare::{
+    CharRotation, UnicodeProperties, ensure_native_direction, form_clusters, insert_dotted_circle,
+    rotate_chars, set_unicode_properties,
+};
+
+/// Does all that comes before the font's lookups, in HarfBuzz's order: the features of the whole
+/// text and the properties of its characters are set, a circle comes before a first mark, graphemes
+/// form clusters, the text turns to its own direction, its shaper rewrites it, characters rotate,
+/// the text is normalized, fractions, the shaper and the caller's features in ranges set masks, and
+/// each character becomes its glyph.
+///
+/// # Errors
+///
+/// `Condition`: `Positions` and `PlanData`, and nothing has changed then; `Glyphs` where a number
+/// isn't a character's, and the text is normalized then. `Refused` with `TooLong` and `Memory`: the
+/// text is as it was before the step that wanted more room.
+///
+/// <details><summary>Contract</summary>
+///
+/// # Contract
+///
+/// ```text
+/// ensures ok { let p = preparation plan.now settings.now (F.font font.now) (F.variants font.now)
+///     (T.properties tables.now) (T.tables tables.now) (T.texts tables.now) in
+///     OnOk result (buffer.new ≡ text_prepared p buffer.old) }
+/// ensures met { let p = preparation plan.now settings.now (F.font font.now) (F.variants font.now)
+///     (T.properties tables.now) (T.tables tables.now) (T.texts tables.now) in
+///     OnOk result (IsPrepared p buffer.old) }
+/// ensures err { let p = preparation plan.now settings.now (F.font font.now) (F.variants font.now)
+///     (T.properties tables.now) (T.tables tables.now) (T.texts tables.now) in
+///     IfErr result (λ e. IsStopped p buffer.old buffer.new e) }
+/// ensures positions { OnOk result (buffer.new.positions ≡ []) }
+/// ```
+///
+/// - `preparation`, `text_prepared`: `crates/shapers_pipeline/specs/Prepared.antt`
+/// - `IsPrepared`, `IsStopped`: `crates/shapers_pipeline/specs/Refusals.antt`
+///
+/// </details>
+pub fn prepare_text<F: NormalizeFont, T: NormalizeTables + UnicodeProperties>(
+    plan: &TextPlan,
+    settings: &NormalizeSettings,
+    font: &F,
+    tables: &T,
+    buffer: &mut Buffer,
+) -> Result<(), CallError> {
+    if !lacks_positions(buffer) {
+        return Err(CallError::Condition(Condition::Positions));
+    }
+    if !plan_fits(plan.shaper, plan.plan) {
+        return Err(CallError::Condition(Condition::PlanData));
+    }
+    normalize_text(plan, settings, font, tables, buffer)?;
+    set_fractions(&plan.masks, buffer);
+    setup_masks(plan.shaper, plan.plan, font, tables, buffer)?;
+    set_features(plan.ranges, buffer);
+    map_glyphs(buffer);
+    Ok(())
+}
+
+// Does all up to normalization, which ends it.
+fn normalize_text<F: NormalizeFont, T: NormalizeTables + UnicodeProperties>(
+    plan: &TextPlan,
+    settings: &NormalizeSettings,
+    font: &F,
+    tables: &T,
+    buffer: &mut Buffer,
+) -> Result<(), ShaperError> {
+    let direction = buffer.direction();
+    begin_text(plan, tables, buffer);
+    insert_dotted_circle(tables, font, buffer)?;
+    direct_text(buffer);
+    normalize_directed(plan, settings, font, tables, direction, buffer)
+}
+
+// The same from a text in its own direction on, for a caller who wants this one.
+fn normalize_directed<F: NormalizeFont, T: NormalizeTables + UnicodeProperties>(
+    plan: &TextPlan,
+    settings: &NormalizeSettings,
+    font: &F,
+    tables: &T,
+    direction: Direction,
+    buffer: &mut Buffer,
+) -> Result<(), ShaperError> {
+    preprocess_text(plan.shaper, plan.plan, font, buffer)?;
+    rotate_chars(tables, font, &rotation_to(&plan.masks, direction), buffer);
+    ot_shape_normalize(plan.shaper, plan.plan, font, tables, settings, buffer)
+}
+
+// What characters are rotated by, where the caller wants this direction.
+#[inline]
+fn rotation_to(masks: &DriverMasks, direction: Direction) -> CharRotation {
+    CharRotation {
+        direction,
+        rtlm_mask: masks.rtlm,
+        has_vert: masks.vert != 0,
+    }
+}
+
+// Sets the features of the whole text and the properties of its characters.
+#[inline]
+fn begin_text<T: UnicodeProperties>(plan: &TextPlan, tables: &T, buffer: &mut Buffer) {
+    initialize_masks(plan.plan.ot_map.get_global_mask(), buffer);
+    set_unicode_properties(tables, buffer);
+}
+
+// Forms the clusters of the graphemes, and turns the text to its own direction.
+fn direct_text(buffer: &mut Buffer) {
+    form_clusters(buffer);
+    ensure_native_direction(buffer);
+}

@@ -1,0 +1,93 @@
+// Generated from crates/shapers_pipeline/src/stages.rt by rust/erase; edit the source.
+
+//! The stages of a plan: the lookups of each, and what the shaper does behind them.
+
+use crate::generated::rustybuzz_shapers::shaper::checked::{CallError, checked_run_pause};
+use crate::generated::shapers_base::buffer::Buffer;
+use crate::generated::shapers_base::font::Font;
+use crate::generated::shapers_base::plan::{Pause, Plan};
+use crate::generated::shapers_pipeline::lookups::{Lookups, apply_lookups, found_spans};
+use crate::generated::shapers_pipeline::plan::StagePlan;
+use crate::generated::shapers_plan::ot_map::{Stage, StageLookup};
+
+/// Runs the stages of a plan over a text of glyphs without positions: the lookups of each, one
+/// after another, and then what the shaper does behind the stage. Syllables are found by the
+/// shaper's grammar where a pause writes them.
+///
+/// # Errors
+///
+/// A condition of a pause that isn't met, or the refusal of a lookup or a pause. The buffer is as
+/// it was before that one.
+///
+/// <details><summary>Contract</summary>
+///
+/// # Contract
+///
+/// ```text
+/// requires { buffer.old.positions ≡ [] }
+/// ensures ok { let r : Substitution = record {
+///   plan = plan.now.plan.now;
+///   font = F.font font.now;
+///   substituted = L.substituted lookups.now;
+///   list = plan.now.lookups.now;
+/// } in
+///     OnOk result (StagesRun r plan.now.stages.now buffer.old buffer.new) }
+/// ensures err { let r : Substitution = record {
+///   plan = plan.now.plan.now;
+///   font = F.font font.now;
+///   substituted = L.substituted lookups.now;
+///   list = plan.now.lookups.now;
+/// } in
+///     OnErr result (StagesStopped r plan.now.stages.now buffer.old buffer.new) }
+/// ensures positions { OnOk result (buffer.new.positions ≡ []) }
+/// ```
+///
+/// - `StagesRun`, `StagesStopped`, `Substitution`: `crates/shapers_pipeline/specs/Stages.antt`
+///
+/// </details>
+pub fn run_stages<F: Font, L: Lookups>(
+    plan: &StagePlan,
+    font: &F,
+    lookups: &L,
+    buffer: &mut Buffer,
+) -> Result<(), CallError> {
+    for stage in plan.stages {
+        run_stage(plan, *stage, font, lookups, buffer)?;
+    }
+    Ok(())
+}
+
+// Runs one stage.
+fn run_stage<F: Font, L: Lookups>(
+    plan: &StagePlan,
+    stage: Stage,
+    font: &F,
+    lookups: &L,
+    buffer: &mut Buffer,
+) -> Result<(), CallError> {
+    apply_lookups(lookups, lookups_of_stage(stage, plan.lookups), buffer)?;
+    match stage.pause {
+        Some(pause) => pause_with_spans(pause, plan.plan, font, buffer),
+        None => Ok(()),
+    }
+}
+
+// The lookups of a stage, as far as the list goes.
+#[inline]
+fn lookups_of_stage(stage: Stage, list: &[StageLookup]) -> &[StageLookup] {
+    let end = stage.end.min(list.len());
+    let start = stage.start.min(end);
+    &list[start..end]
+}
+
+// Runs a pause, whose spans are found by its grammar.
+fn pause_with_spans<F: Font>(
+    pause: Pause,
+    plan: &Plan,
+    font: &F,
+    buffer: &mut Buffer,
+) -> Result<(), CallError> {
+    let spans = found_spans(pause, buffer.glyphs(), buffer.alloc())?;
+    checked_run_pause(pause, plan, font, spans.as_slice(), buffer)?;
+    Ok(())
+}

@@ -1,0 +1,74 @@
+// Generated from crates/shapers_plan/src/ot_shape_plan/making.rt by rust/erase; edit the source.
+
+//! The parts of a plan that its map gives.
+
+use crate::support::prelude::*;
+
+use super::collecting::is_for_all;
+use super::{DriverMasks, UserFeature, UserRange};
+use crate::generated::rustybuzz_shapers::shaper::Shaper;
+use crate::generated::shapers_base::buffer::{Script, ShaperError, Tag};
+use crate::generated::shapers_base::map::Map;
+use crate::generated::shapers_base::plan::Plan;
+use crate::generated::shapers_plan::ot_map::MappedFeature;
+use crate::support::alloc::Global;
+
+/// The masks of the features that the driver turns on.
+pub(super) fn driver_masks(map: &Map) -> DriverMasks {
+    DriverMasks {
+        frac: map.get_1_mask(Tag(*b"frac")),
+        numr: map.get_1_mask(Tag(*b"numr")),
+        dnom: map.get_1_mask(Tag(*b"dnom")),
+        rtlm: map.get_1_mask(Tag(*b"rtlm")),
+        vert: map.get_1_mask(Tag(*b"vert")),
+    }
+}
+
+/// The plan that the shaper's hooks read, with the data that it keeps.
+pub(super) fn hooks_plan(shaper: Option<Shaper>, script: Option<Script>, map: Map) -> Plan {
+    let has_mark = map.get_1_mask(Tag(*b"mark")) != 0;
+    let mut plan = Plan::new(script, map);
+    plan.has_gpos_mark = has_mark;
+    match shaper {
+        Some(shaper) => shaper.with_data(plan),
+        None => plan,
+    }
+}
+
+/// What the user's features do to ranges of the text.
+///
+/// # Errors
+///
+/// `Memory`.
+pub(super) fn user_ranges(
+    alloc: Global,
+    features: &[MappedFeature],
+    users: &[UserFeature],
+) -> Result<Vec<UserRange>, ShaperError> {
+    let mut list = Vec::new(alloc);
+    for user in users {
+        if let Some(range) = range_of_user(features, user) {
+            list.push(range).map_err(|_| ShaperError::Memory)?;
+        }
+    }
+    Ok(list)
+}
+
+// What a feature of the user's does to a range.
+fn range_of_user(features: &[MappedFeature], user: &UserFeature) -> Option<UserRange> {
+    if is_for_all(user) {
+        return None;
+    }
+    let feature = feature_of(features, user.tag)?;
+    Some(UserRange {
+        mask: feature.mask,
+        value: feature.value_in(user.value),
+        start: user.start,
+        end: user.end,
+    })
+}
+
+// The feature by this tag.
+fn feature_of(features: &[MappedFeature], tag: Tag) -> Option<MappedFeature> {
+    features.iter().copied().find(|feature| feature.tag == tag)
+}
