@@ -159,7 +159,8 @@ impl<'a> Pass<'_, 'a> {
         let rest_are_marks = places[1..].iter().all(|place| self.notes(*place).is_mark());
         let first = self.notes(at).class;
         let is_of_marks = rest_are_marks && first == GlyphClass::Mark;
-        let takes_marks = !is_of_marks && !(rest_are_marks && first == GlyphClass::Base);
+        let is_base = rest_are_marks && first == GlyphClass::Base;
+        let takes_marks = !is_of_marks && !is_base;
         let number = if takes_marks { self.free_number(at) } else { 0 };
         let components = self.attach_marks(places, number, is_of_marks);
         self.replace(at, to, takes_marks.then_some(GlyphClass::Ligature));

@@ -107,7 +107,7 @@ impl<'a> Layout<'a> {
             GlyphClass::Ligature => has(LookupFlag::IGNORE_LIGATURES),
             GlyphClass::Mark if has(LookupFlag::IGNORE_MARKS) => true,
             GlyphClass::Mark if has(LookupFlag::USE_MARK_FILTERING_SET) => {
-                !flag.marks.as_ref().is_some_and(|marks| marks.get(mark).is_some())
+                flag.marks.as_ref().is_none_or(|marks| marks.get(mark).is_none())
             }
             GlyphClass::Mark => {
                 let classes =
