@@ -186,10 +186,8 @@ mod generated {
     pub(crate) mod shapers_normal;
     #[cfg(feature = "tables")]
     pub(crate) mod shapers_normalize;
-    pub(crate) mod shapers_plan;
     #[cfg(feature = "tables")]
     pub(crate) mod shapers_pipeline;
-    #[cfg(feature = "tables")]
     pub(crate) mod shapers_plan;
     #[cfg(feature = "tables")]
     pub(crate) mod shapers_prepare;
