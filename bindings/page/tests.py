@@ -120,8 +120,9 @@ class Tests:
         address = self.page.run("location.hash")
         before = self.page.run("by('steps').textContent")
         self.page.call("Page.navigate", url=self.url + "#text=x")
+        self.page.wait("by('text').value === 'x' && by('steps').textContent === ''")
         self.page.call("Page.navigate", url=self.url + address)
-        self.page.wait("by('steps')?.textContent.length > 100")
+        self.page.wait("by('steps').textContent.length > 100")
         assert self.page.run("by('text').value") == "\u0d9a\u0dd9 #&=+%"
         assert self.page.run("by('sound').checked")
         assert self.page.run("by('steps').textContent") == before
