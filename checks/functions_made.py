@@ -32,6 +32,8 @@ PRELUDE = {"PartialEq", "Default", "PartialOrd"}
 
 PRIMITIVE = set("u8 u16 u32 u64 u128 usize i32 i64 i128 bool char str".split())
 STANDARD = PRIMITIVE | set("Vec Option Result Range ArrayVec Global AllocError String static Category Position".split())
+# Types that the eraser deletes, which have no words: a count whose parts are all 0 counts nothing.
+ERASED = {"shapers_spans::reads::Reads"}
 # Types that harness.rs draws by hand.
 BY_HAND = set("Span GlyphInfo Buffer Script Tag Map Plan LotFont LotTables LotContext".split())
 # The words with which a result begins that says that memory was refused, by the type of the error.
@@ -129,6 +131,8 @@ def words_of(program):
 
 def words_of_type(program, kind, name):
     how, parts = program.shape(kind)
+    if kind[1] in ERASED:
+        return "core::mem::zeroed()", ""
     if kind[1] == "&[]":
         return f"let (f0, f1) = load_list(words); {name} {{ f0, f1 }}", "dump_list(self.f0, self.f1, words)"
     if kind[1] == "std_alloc::vec::Vec":

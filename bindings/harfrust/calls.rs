@@ -3,6 +3,9 @@
 /// The cluster levels.
 pub const LEVELS: [&str; 4] = ["MonotoneGraphemes", "MonotoneCharacters", "Characters", "Graphemes"];
 
+/// Whether texts are prepared and normalized by the hooks' crate.
+pub const NORMALIZES: bool = true;
+
 /// The reasons of bindings/harfrust/reasons.
 pub const REASONS: &[&str] = &[
     "merge-flags",
@@ -14,16 +17,48 @@ pub const REASONS: &[&str] = &[
     "continuation",
     "yiddish-yod-yod",
     "dotted-circles",
+    "ignorable-180f",
+    "turned-jamo",
 ];
 
 macro_rules! calls {
     ($module:ident, $harfrust:ident) => {
         pub mod $module {
-            use crate::{caught, parts, serialized, Glyph, Setting, Shaped, FEATURES};
+            use crate::{caught, made_up, parts, serialized, Glyph, Setting, Shaped, FEATURES};
+            use $harfrust::font::{BuiltinFontFuncs, FontFuncs};
             use $harfrust::{
-                BufferClusterLevel, BufferFlags, Direction, Feature, FontRef, GlyphBuffer, GlyphFlags, Script,
+                BufferClusterLevel, BufferFlags, Direction, Feature, FontRef, GlyphBuffer, GlyphFlags, GlyphId, Script,
                 SerializeFlags, ShapeOptions, ShapePlan, ShaperData, Tag, UnicodeBuffer,
             };
+
+            /// The made-up font of a text, whose glyphs for characters begin at a number.
+            struct MadeUp {
+                text: u32,
+                first: u32,
+            }
+
+            impl FontFuncs for MadeUp {
+                fn nominal_glyph(&mut self, _: &BuiltinFontFuncs, c: u32) -> Option<GlyphId> {
+                    made_up(self.text, c, 0).map(|number| GlyphId::new(self.first + number))
+                }
+
+                fn variant_glyph(&mut self, _: &BuiltinFontFuncs, c: u32, selector: u32) -> Option<GlyphId> {
+                    made_up(self.text, c, selector).map(GlyphId::new)
+                }
+            }
+
+            /// Settings for a text whose font is made up: a direction, flags, a glyph for selectors.
+            fn vary(number: u32, buffer: &mut UnicodeBuffer) {
+                let directions =
+                    [Direction::LeftToRight, Direction::RightToLeft, Direction::TopToBottom, Direction::BottomToTop];
+                if let Some(direction) = directions.get(number as usize / 5 % 8) {
+                    buffer.set_direction(*direction);
+                }
+                buffer.set_flags(BufferFlags::from_bits_retain([0, 1, 0x40, 0x11][number as usize / 40 % 4]));
+                if number / 160 % 4 == 0 {
+                    buffer.set_not_found_variation_selector_glyph(3);
+                }
+            }
 
             const LEVELS: [BufferClusterLevel; 4] = [
                 BufferClusterLevel::MonotoneGraphemes,
@@ -74,6 +109,10 @@ macro_rules! calls {
                 let shape = |text: &&str| {
                     let mut buffer = UnicodeBuffer::new();
                     fill(&mut buffer, text, setting);
+                    let number = text.chars().fold(0, |sum: u32, c| sum.wrapping_mul(31) ^ c as u32);
+                    if setting.made_up.is_some() {
+                        vary(number, &mut buffer);
+                    }
                     let (direction, script) = (buffer.direction(), buffer.script());
                     if !plans.iter().any(|plan| plan.0 == direction && plan.1 == script) {
                         plans.push((
@@ -83,7 +122,11 @@ macro_rules! calls {
                         ));
                     }
                     let plan = plans.iter().find(|plan| plan.0 == direction && plan.1 == script).map(|plan| &plan.2);
-                    let options = ShapeOptions::new().plan(plan).features(&features).scale(setting.scale);
+                    let mut font = MadeUp { text: number, first: setting.made_up.unwrap_or(0) };
+                    let mut options = ShapeOptions::new().plan(plan).features(&features).scale(setting.scale);
+                    if setting.made_up.is_some() {
+                        options = options.font_funcs(Some(&mut font));
+                    }
                     caught(|| glyphs(&shaper.shape(buffer, options)))
                 };
                 texts.iter().map(shape).collect()
@@ -123,6 +166,22 @@ macro_rules! calls {
                     let glyphs = shaper.shape(buffer, ShapeOptions::new().plan(plan));
                     sum += glyphs.glyph_infos().iter().map(|glyph| u64::from(glyph.glyph_id)).sum::<u64>();
                     buffer = glyphs.clear();
+                }
+                sum
+            }
+
+            /// The same with a new buffer and a new plan for each text, as usvg calls.
+            pub fn shape_times_anew(font: &[u8], texts: &[&str], times: usize) -> u64 {
+                let font = FontRef::new(font).expect("a font");
+                let data = ShaperData::new(&font);
+                let shaper = data.shaper(&font).build();
+                let mut sum = 0;
+                for text in (0..times).flat_map(|_| texts) {
+                    let mut buffer = UnicodeBuffer::new();
+                    buffer.push_str(text);
+                    buffer.guess_segment_properties();
+                    let glyphs = shaper.shape(buffer, ShapeOptions::new());
+                    sum += glyphs.glyph_infos().iter().map(|glyph| u64::from(glyph.glyph_id)).sum::<u64>();
                 }
                 sum
             }

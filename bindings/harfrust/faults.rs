@@ -11,6 +11,7 @@ const NOTO: &str = "truetype/noto";
 const CHARACTERS: usize = 2;
 const GRAPHEMES: usize = 3;
 const DO_NOT_INSERT_DOTTED_CIRCLE: u32 = 0x10;
+const NORMALIZE_ALWAYS: u32 = 0x100;
 
 fn level(level: usize) -> Setting {
     Setting { level, ..Setting::default() }
@@ -197,4 +198,62 @@ fn a_hangul_tone_without_advance() {
     let [stock, proved] = both(&font("truetype/nanum/NanumGothic.ttf"), "0020 302E", Setting::default());
     assert_eq!(stock, "[gid1=0+280|gid0=0@-610,0+0|gid8639=0@-609,0+0]");
     assert_eq!(proved, stock);
+}
+
+// ---- Before the lookups ----
+
+/// FREE VARIATION SELECTOR FOUR is default ignorable in Unicode, as the other three are; harfrust
+/// draws it, if only as a box. HarfBuzz 6.0.0 does as harfrust does.
+#[test]
+fn the_fourth_selector_of_mongolian_is_drawn() {
+    let [stock, proved] = both(&noto("NotoSansMongolian"), "1820 180F", Setting::default());
+    assert_eq!(stock, "[u1820=0+929|.notdef=0+600]");
+    assert_eq!(proved, "[u1820=0+929|space=0+0]");
+}
+
+/// A letter that comes apart in a text without marks stays apart in both, and not in a longer text;
+/// with the flag NORMALIZE_ALWAYS it is one glyph in each text.
+#[test]
+fn a_letter_alone_stays_apart() {
+    let glyphs = |code_points, flags| {
+        let setting = Setting { flags, ..Setting::default() };
+        both_glyphs(&noto("NotoSansMyanmar"), code_points, setting).map(|shaped| shaped.glyphs().len())
+    };
+    assert_eq!(glyphs("1026", 0), [2, 2]);
+    assert_eq!(glyphs("1026", NORMALIZE_ALWAYS), [2, 1]);
+    let [longer, alone] = [glyphs("1026 1000 1036", 0), glyphs("1000 1036", 0)];
+    assert_eq!((longer[0] - alone[0], longer[1] - alone[1]), (1, 1));
+}
+
+/// At level MonotoneCharacters jamo that are composed merge, and not with the hooks, which are called
+/// at level Characters there: otherwise tones would merge. It shows where clusters run backward, in a
+/// text that is turned, as some made-up texts are.
+#[test]
+fn composed_jamo_of_a_turned_text_merge() {
+    let setting = Setting { level: 1, made_up: Some(0), ..Setting::default() };
+    let nanum = font("truetype/nanum/NanumGothic.ttf");
+    let syllables = (0xAC00_u32..0xAC00 + 28 * 40).step_by(28);
+    let both = syllables.map(|syllable| both_glyphs(&nanum, &format!("11A8 {syllable:X}"), setting));
+    let differ: Vec<_> = both.filter(|[stock, proved]| stock != proved).collect();
+    let clusters = |shaped: &Shaped| shaped.glyphs().iter().map(|glyph| glyph.cluster).collect::<Vec<_>>();
+    assert!(!differ.is_empty());
+    assert!(differ.iter().all(|[stock, proved]| clusters(stock) == [0] && clusters(proved) == [3]));
+}
+
+/// Glyph numbers that don't fit 16 bits are those of the font, with hyphens and spaces that it lacks.
+#[test]
+fn numbers_above_65535_stay() {
+    let latin = noto("NotoSans");
+    let setting = Setting { made_up: Some(70_000), ..Setting::default() };
+    let mut large = 0;
+    for first in 'A'..='z' {
+        for rest in ["e\u{301}\u{323}", "\u{2011}\u{2003}", "\u{1EAD}\u{A0}-", "\u{E0}\u{327}x"] {
+            let text = format!("{first}{rest}");
+            let [stock, proved] =
+                [stock::shape_texts, proved::shape_texts].map(|shape| shape(&latin, &[&text], &setting).remove(0));
+            assert!(stock == proved, "{text:?}: {stock} {proved}");
+            large += proved.glyphs().iter().filter(|glyph| glyph.number > 70_000).count();
+        }
+    }
+    assert!(large > 500, "{large}");
 }

@@ -1,18 +1,21 @@
-//! What HarfRust has otherwise than rustybuzz: its types, its font, its tables, its cluster levels.
+//! What HarfRust has otherwise than rustybuzz: its types, its font, its cluster levels, and that syllables are found here.
 
 use sengadlit::font::{Wide, WideGlyphs};
-use sengadlit::{BufferClusterLevel, GeneralCategory, JoiningType, Pause, Shaper, Tables, Tag};
+use sengadlit::spans::setup_syllables_found;
+use sengadlit::{Buffer, BufferClusterLevel, Pause, Plan, Shaper, Tag};
 
 use crate::hb::buffer::*;
 use crate::hb::font_funcs::FontFuncsDispatch;
 use crate::hb::ot_layout::LayoutTable;
 use crate::hb::ot_layout_gsubgpos::WouldApplyContext;
-use crate::hb::unicode::CharExt;
 use crate::hb::{hb_tag_t, script, Script};
 use crate::{BufferFlags, GlyphId};
 
+mod text;
+
 pub use crate::hb::buffer::GlyphInfo as Info;
 pub use crate::hb::unicode::Codepoint;
+pub use text::{data_without_shaper, may_turn, prepare};
 
 // ---- Fonts ----
 
@@ -54,45 +57,8 @@ impl WideGlyphs for FontFuncsDispatch<'_, '_> {
 
 // ---- Tables ----
 
-/// HarfRust's tables of Unicode.
-pub struct Ucd;
-
-impl Tables for Ucd {
-    fn joining_type(&self, c: char) -> JoiningType {
-        use crate::hb::ot_shaper_arabic::hb_arabic_joining_type_t as Theirs;
-        match crate::hb::ot_shaper_arabic_table::joining_type(c.into()) {
-            Theirs::U => JoiningType::U,
-            Theirs::L => JoiningType::L,
-            Theirs::R => JoiningType::R,
-            Theirs::D => JoiningType::D,
-            Theirs::GroupAlaph => JoiningType::GroupAlaph,
-            Theirs::GroupDalathRish => JoiningType::GroupDalathRish,
-            Theirs::T => JoiningType::T,
-            Theirs::X => JoiningType::X,
-        }
-    }
-
-    fn general_category(&self, c: char) -> GeneralCategory {
-        super::CATEGORIES[usize::from(u32::from(c).general_category().to_u8() & 31)]
-    }
-
-    fn indic_categories(&self, c: u32) -> (u8, u8) {
-        crate::hb::ot_shaper_indic_table::get_categories(c)
-    }
-
-    fn use_category(&self, c: u32) -> u8 {
-        crate::hb::ot_shaper_use_table::hb_use_get_category(c as usize)
-    }
-
-    fn compose(&self, a: char, b: char) -> Option<char> {
-        crate::hb::unicode::compose(a.into(), b.into()).and_then(character)
-    }
-
-    fn decompose(&self, ab: char) -> Option<(char, char)> {
-        let (a, b) = crate::hb::unicode::decompose(ab.into())?;
-        Some((character(a)?, character(b)?))
-    }
-}
+/// Unicode's tables.
+pub use sengadlit::unicode::UnicodeTables as Ucd;
 
 /// What is no character has no parts and is part of none.
 pub fn character(c: Codepoint) -> Option<char> {
@@ -143,6 +109,28 @@ pub fn reserve_syllables(pause: Pause, buffer: &mut hb_buffer_t) {
     }
 }
 
+// ---- Syllables ----
+
+/// No machine of the host's is needed.
+pub fn find_syllables(_: Pause, _: &mut hb_buffer_t) {}
+
+/// Finds the syllables of a text and sets them up. Returns whether the pause does so.
+pub fn set_up(pause: Pause, plan: &Plan, text: &mut Buffer) -> bool {
+    setup_syllables_found(pause, plan, text)
+}
+
+pub fn set_up_universal(plan: &Plan, buffer: &mut hb_buffer_t) {
+    super::on_masks(buffer, |text| {
+        setup_syllables_found(Pause::SetupSyllablesUse, plan, text);
+    });
+}
+
+/// Vowels are parted before (`text.rs`); in the shadow, where this is called, as the host does.
+pub fn part_vowels(_buffer: &mut hb_buffer_t) {
+    #[cfg(feature = "shadow")]
+    crate::hb::ot_shaper_vowel_constraints::preprocess_text_vowel_constraints(_buffer);
+}
+
 // ---- Settings ----
 
 pub fn tag_of(tag: hb_tag_t) -> Tag {
@@ -176,50 +164,6 @@ pub fn cluster_level(level: hb_buffer_cluster_level_t, script: Option<Script>) -
         HB_BUFFER_CLUSTER_LEVEL_MONOTONE_CHARACTERS => BufferClusterLevel::MonotoneCharacters,
         HB_BUFFER_CLUSTER_LEVEL_GRAPHEMES if !is_hangul && !is_thai => BufferClusterLevel::Characters,
         _ => BufferClusterLevel::MonotoneGraphemes,
-    }
-}
-
-// ---- Names of the nine files that tables and machines use ----
-
-#[cfg(not(feature = "shadow"))]
-pub mod names {
-    pub mod ot_shaper_arabic {
-        pub use sengadlit::JoiningType as hb_arabic_joining_type_t;
-    }
-
-    pub mod ot_shaper_indic {
-        pub use sengadlit::plan::ot_position_t;
-        pub mod ot_category_t {
-            pub use sengadlit::plan::ot_category_t::*;
-            /// Newer than rustybuzz 0.20.1.
-            pub const OT_SMPst: u8 = 57;
-        }
-    }
-
-    pub mod ot_shaper_use {
-        pub mod category {
-            pub use sengadlit::ot_shaper_use::category::*;
-            /// Newer than rustybuzz 0.20.1.
-            pub const RK: u8 = 56;
-        }
-    }
-
-    impl super::Info {
-        pub(crate) fn indic_category(&self) -> u8 {
-            self.ot_shaper_var_u8_category()
-        }
-
-        pub(crate) fn khmer_category(&self) -> u8 {
-            self.ot_shaper_var_u8_category()
-        }
-
-        pub(crate) fn myanmar_category(&self) -> u8 {
-            self.ot_shaper_var_u8_category()
-        }
-
-        pub(crate) fn use_category(&self) -> u8 {
-            self.ot_shaper_var_u8_category()
-        }
     }
 }
 

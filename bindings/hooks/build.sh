@@ -107,7 +107,7 @@ copy_stock() {
 copy_proved() {
     glue=$made/new/src/hb/ot_shaper_proved
     copy_crate && python3 "$hooks/edit.py" "$here/edits" "$made/new" &&
-        mkdir "$glue" && cp "$hooks/shaper.rs" "$glue.rs" && cp "$here/parts.rs" "$hooks/shadow.rs" "$glue" &&
+        mkdir "$glue" && cp "$hooks/shaper.rs" "$glue.rs" && cp -r "$here"/parts* "$hooks/shadow.rs" "$glue" &&
         put "$made/new" "$made/proved"
 }
 

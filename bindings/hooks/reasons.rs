@@ -8,6 +8,7 @@ use std::vec::Vec;
 std::thread_local! {
     static IN_FORCE: RefCell<Vec<&'static str>> = const { RefCell::new(Vec::new()) };
     static IN_HOOK: Cell<bool> = const { Cell::new(false) };
+    static IN_STEP: Cell<bool> = const { Cell::new(false) };
 }
 
 /// Puts these reasons in force, and no others.
@@ -26,6 +27,21 @@ pub(crate) fn holds(reason: &str) -> bool {
 /// Whether a reason is in force, and a hook or a pause runs: for what lookups call, too.
 pub(crate) fn holds_in_hook(reason: &str) -> bool {
     IN_HOOK.get() && holds(reason)
+}
+
+/// Whether a reason is in force, and a hook, a pause or another step before the lookups runs.
+#[allow(dead_code)]
+pub(crate) fn holds_in_step(reason: &str) -> bool {
+    (IN_HOOK.get() || IN_STEP.get()) && holds(reason)
+}
+
+/// Runs a step that prepares or normalizes a text.
+#[allow(dead_code)]
+pub(crate) fn run_step<T>(step: impl FnOnce() -> T) -> T {
+    IN_STEP.set(true);
+    let result = step();
+    IN_STEP.set(false);
+    result
 }
 
 /// Runs a hook or a pause.

@@ -9,6 +9,8 @@ use alloc::vec::Vec;
 use core::any::Any;
 use std::sync::{Mutex, PoisonError};
 
+use sengadlit::ot_shaper_syllabic::use_syllable;
+
 use super::*;
 
 pub(super) use super::{collect_features, override_features};
@@ -74,8 +76,8 @@ fn count(shaper: usize, hook: &'static str, fields: u32, example: impl FnOnce() 
     }
 }
 
-const NAMES: [&str; 9] =
-    ["arabic", "hangul", "hebrew", "indic", "khmer", "myanmar", "myanmar-zawgyi", "thai", "universal"];
+const NAMES: [&str; 10] =
+    ["arabic", "hangul", "hebrew", "indic", "khmer", "myanmar", "myanmar-zawgyi", "thai", "universal", "none"];
 
 /// The host's own shapers.
 const STOCK: [&hb_ot_shaper_t; 9] = [
@@ -94,7 +96,7 @@ const STOCK: [&hb_ot_shaper_t; 9] = [
 
 /// What a hook reads and writes of a buffer.
 #[derive(Clone)]
-struct Snapshot {
+pub(super) struct Snapshot {
     infos: Vec<Info>,
     positions: Vec<GlyphPosition>,
     len: usize,
@@ -105,7 +107,7 @@ struct Snapshot {
 }
 
 impl Snapshot {
-    fn of(buffer: &hb_buffer_t) -> Self {
+    pub(super) fn of(buffer: &hb_buffer_t) -> Self {
         Snapshot {
             infos: buffer.info.clone(),
             positions: buffer.pos.clone(),
@@ -117,7 +119,7 @@ impl Snapshot {
         }
     }
 
-    fn put_back(&self, buffer: &mut hb_buffer_t) {
+    pub(super) fn put_back(&self, buffer: &mut hb_buffer_t) {
         buffer.info.clone_from(&self.infos);
         buffer.pos.clone_from(&self.positions);
         buffer.len = self.len;
@@ -188,13 +190,24 @@ fn both<A: PartialEq>(
     before.put_back(buffer);
     let answer = run(buffer, false);
     settle(buffer);
+    compare(shaper, hook, &[before, by_stock], buffer, [&stock_answer, &answer]);
+    answer
+}
+
+/// Counts what differs between the buffer as the host's own made it, of these two, and as it is now, and between answers.
+pub(super) fn compare<A: PartialEq>(
+    shaper: usize,
+    hook: &'static str,
+    [before, by_stock]: &[Snapshot; 2],
+    buffer: &hb_buffer_t,
+    answers: [A; 2],
+) {
     let by_proved = Snapshot::of(buffer);
-    let fields = by_stock.compare(&by_proved) | u32::from(answer != stock_answer) << 11;
+    let fields = by_stock.compare(&by_proved) | u32::from(answers[0] != answers[1]) << 11;
     count(shaper, hook, fields, || {
         let setting = format!("level {:?} flags {:x}", buffer.cluster_level, buffer.flags.bits());
         format!("{setting}\n  before {}\n  stock  {}\n  proved {}", before.show(), by_stock.show(), by_proved.show())
     });
-    answer
 }
 
 // ---- Plans ----
@@ -213,7 +226,7 @@ pub fn create_data<const S: usize>(plan: &hb_ot_shape_plan_t) -> Box<dyn Any + S
 
 /// What is kept of this type.
 pub fn kept<T: 'static>(data: &(dyn Any + Send + Sync)) -> Option<&T> {
-    let kept: &Kept = data.downcast_ref()?;
+    let Some(kept) = data.downcast_ref::<Kept>() else { return data.downcast_ref() };
     let of_stock = || kept.stock.as_ref()?.downcast_ref();
     kept.proved.downcast_ref().or_else(of_stock).or_else(|| data.downcast_ref())
 }

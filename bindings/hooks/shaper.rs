@@ -16,10 +16,7 @@ use core::ops::Range;
 use sengadlit::alloc::Global;
 use sengadlit::buffer::GlyphMarks;
 use sengadlit::font::FeaturesOnly;
-use sengadlit::ot_shaper_syllabic::{
-    clear_syllables_in, indic_syllable, khmer_syllable, myanmar_syllable, set_categories_and_positions_in,
-    set_categories_in, set_up_by_bytes, use_syllable,
-};
+use sengadlit::ot_shaper_syllabic::{clear_syllables_in, set_categories_and_positions_in, set_categories_in};
 use sengadlit::plan::{BaseSearch, NormalizationMode, ZeroWidthMarks};
 use sengadlit::shaper::{pause_may_change, Hook};
 use sengadlit::{
@@ -36,14 +33,12 @@ use super::ot_shape_normalize::*;
 use super::ot_shape_plan::hb_ot_shape_plan_t;
 use super::ot_shaper::*;
 
-mod parts;
+pub mod parts;
 #[cfg(feature = "shadow")]
 pub mod shadow;
 
 #[cfg(not(feature = "shadow"))]
-use self as hooks;
-#[cfg(not(feature = "shadow"))]
-pub use parts::names;
+use super::ot_shaper_proved as hooks;
 use parts::{Codepoint, FontRef, Info, Ucd};
 #[cfg(feature = "shadow")]
 use shadow as hooks;
@@ -83,26 +78,27 @@ fn request(planner: &mut hb_ot_shape_planner_t, wanted: &Planner) {
     }
 }
 
-fn create_data<const S: usize>(plan: &hb_ot_shape_plan_t) -> Box<dyn Any + Send + Sync> {
+fn create_data<const S: usize>(from: &hb_ot_shape_plan_t) -> Box<dyn Any + Send + Sync> {
     const GSUB: TableIndex = TableIndex::GSUB;
-    let map = &plan.ot_map;
+    let map = &from.ot_map;
     let features: Vec<_> =
         map.features_of(GSUB).map(|(tag, mask, stage)| FeatureMap::new(parts::tag_of(tag), mask, stage)).collect();
     let stages: Vec<_> = (0..map.stages(GSUB).len()).map(|stage| map.stage_lookup_range(GSUB, stage)).collect();
     let lookups: Vec<_> =
         (0..stages.last().map_or(0, |last| last.end)).map(|place| map.lookup(GSUB, place).index).collect();
     let made = Plan::builder()
-        .script(script_of(plan.script))
+        .script(script_of(from.script))
         .features(&features)
         .stages(&stages)
         .lookups(&lookups)
         .global_mask(map.get_global_mask())
         .chosen_script(map.chosen_script(GSUB).map(parts::tag_of))
         .found_script(map.found_script(GSUB))
-        .has_gpos_mark(plan.has_gpos_mark)
+        .has_gpos_mark(from.has_gpos_mark)
         .base_search(BaseSearch::AllConsonants)
         .build_for(Shaper::ALL[S]);
-    Box::new(made.expect("stages are ranges, and masks touch no glyph flag"))
+    let plan = made.expect("stages are ranges, and masks touch no glyph flag");
+    Box::new(ShaperPlan { shaper: Some(Shaper::ALL[S]), plan, may_turn: parts::may_turn(from) })
 }
 
 /// What a plan keeps of this type.
@@ -111,8 +107,15 @@ pub fn kept<T: 'static>(data: &(dyn Any + Send + Sync)) -> Option<&T> {
     data.downcast_ref()
 }
 
+/// What a plan keeps: its shaper, what the hooks read, and whether the host's texts may be turned.
+pub struct ShaperPlan {
+    shaper: Option<Shaper>,
+    plan: Plan,
+    may_turn: bool,
+}
+
 fn plan_of(plan: &hb_ot_shape_plan_t) -> &Plan {
-    plan.data::<Plan>()
+    &plan.data::<ShaperPlan>().plan
 }
 
 // ---- Glyphs ----
@@ -171,6 +174,8 @@ fn position_of(position: &GlyphPosition) -> Position {
 #[derive(Default)]
 pub struct Work {
     text: Option<Box<Buffer>>,
+    /// A part of a text that comes apart, for its room.
+    part: Option<Box<Buffer>>,
     /// Whether the text is newer than the host's buffer.
     is_newer: bool,
 }
@@ -255,7 +260,7 @@ fn on_text<T>(
     }
 }
 
-/// Calls a hook that changes masks, categories and auxiliary bytes alone, and reads no marks.
+/// Calls a hook that changes masks, syllables, categories and auxiliary bytes alone, and reads no marks.
 fn on_masks(buffer: &mut hb_buffer_t, hook: impl FnOnce(&mut Buffer)) {
     let Ok(text) = load(buffer, 0..buffer.len, bare_glyph_of) else {
         buffer.successful = false;
@@ -266,8 +271,12 @@ fn on_masks(buffer: &mut hb_buffer_t, hook: impl FnOnce(&mut Buffer)) {
     for (info, glyph) in buffer.info.iter_mut().zip(buffer.work.text().glyphs()) {
         info.mask = glyph.mask;
         masks |= glyph.mask;
+        info.set_syllable(glyph.syllable);
         info.set_ot_shaper_var_u8_category(glyph.category);
         info.set_ot_shaper_var_u8_auxiliary(glyph.auxiliary);
+    }
+    if buffer.work.text().has_broken_syllable() {
+        buffer.scratch_flags |= HAS_BROKEN_SYLLABLE;
     }
     parts::note_masks(masks, buffer);
 }
@@ -301,8 +310,11 @@ fn direction_of(direction: super::Direction) -> Direction {
 fn preprocess_text<const S: usize>(plan: &hb_ot_shape_plan_t, font: FontRef, buffer: &mut hb_buffer_t) {
     let shaper = Shaper::ALL[S];
     if matches!(shaper, Shaper::Indic | Shaper::Universal) {
-        super::ot_shaper_vowel_constraints::preprocess_text_vowel_constraints(buffer);
-    } else if may_rewrite(shaper, plan_of(plan), font, &buffer.info[..buffer.len]) {
+        parts::part_vowels(buffer);
+        return;
+    }
+    let characters = buffer.info[..buffer.len].iter().map(|info| info.glyph_id);
+    if may_rewrite(shaper, plan_of(plan), characters, |c| font.has_glyph(c)) {
         on_text(buffer, 0..buffer.len, |text| {
             exchange_flags(text);
             shaper.preprocess_text(plan_of(plan), &parts::font(font), text)?;
@@ -323,15 +335,19 @@ fn exchange_flags(text: &mut Buffer) {
 
 /// Whether preprocessing may change a text. It leaves Thai without SARA AM where GSUB has the script, and Hangul of
 /// syllables that the font has.
-fn may_rewrite(shaper: Shaper, plan: &Plan, font: FontRef, infos: &[Info]) -> bool {
-    let mut characters = infos.iter().map(|info| info.glyph_id);
+fn may_rewrite(
+    shaper: Shaper,
+    plan: &Plan,
+    mut characters: impl Iterator<Item = u32>,
+    mut has_glyph: impl FnMut(u32) -> bool,
+) -> bool {
     match shaper {
         Shaper::Thai if plan.ot_map.found_script(sengadlit::map::TableIndex::GSUB) => {
             characters.any(|c| matches!(c, 0x0E33 | 0x0EB3))
         }
         Shaper::Hangul => characters.any(|c| match c {
             0x1100..=0x11FF | 0x302E..=0x302F | 0xA960..=0xA97F | 0xD7B0..=0xD7FF => true,
-            0xAC00..=0xD7A3 => !font.has_glyph(c),
+            0xAC00..=0xD7A3 => !has_glyph(c),
             _ => false,
         }),
         _ => true,
@@ -482,10 +498,12 @@ fn pause<const P: usize>(plan: &hb_ot_shape_plan_t, font: FontRef, buffer: &mut 
         return false;
     }
     if pause == Pause::SetupSyllablesUse {
-        set_up_universal(plan, buffer);
+        // lookups follow, so that masks alone are copied
+        settle(buffer);
+        parts::set_up_universal(plan, buffer);
         return false;
     }
-    find_syllables(pause, buffer);
+    parts::find_syllables(pause, buffer);
     let loaded = if buffer.work.is_newer { Ok(buffer.work.text()) } else { load(buffer, 0..buffer.len, glyph_of) };
     let done = loaded.and_then(|text| run(pause, plan, font, text));
     buffer.work.is_newer |= done.is_ok();
@@ -497,39 +515,12 @@ fn pause<const P: usize>(plan: &hb_ot_shape_plan_t, font: FontRef, buffer: &mut 
     wants_circles
 }
 
-/// Does what the pause does on the text, whose syllables the host's machine has found.
+/// Does what the pause does on the text.
 fn run(pause: Pause, plan: &Plan, font: FontRef, text: &mut Buffer) -> Result<bool, ShaperError> {
-    match pause {
-        Pause::SetupSyllablesIndic => set_up_by_bytes(indic_syllable::BROKEN_CLUSTER, text),
-        Pause::SetupSyllablesKhmer => set_up_by_bytes(khmer_syllable::BROKEN_CLUSTER, text),
-        Pause::SetupSyllablesMyanmar => set_up_by_bytes(myanmar_syllable::BROKEN_CLUSTER, text),
-        _ => return run_pause(pause, plan, &parts::font(font), &[], text),
+    if parts::set_up(pause, plan, text) {
+        return Ok(false);
     }
-    Ok(false)
-}
-
-/// Lets the host's machine find the syllables of a text that is to be set up.
-fn find_syllables(pause: Pause, buffer: &mut hb_buffer_t) {
-    let find: fn(&mut hb_buffer_t) = match pause {
-        Pause::SetupSyllablesIndic => super::ot_shaper_indic_machine::find_syllables_indic,
-        Pause::SetupSyllablesKhmer => super::ot_shaper_khmer_machine::find_syllables_khmer,
-        Pause::SetupSyllablesMyanmar => super::ot_shaper_myanmar_machine::find_syllables_myanmar,
-        _ => return,
-    };
-    settle(buffer);
-    find(buffer);
-}
-
-/// The universal machine's kinds are one more than those of the hooks; what it passes over at the front has no byte,
-/// and stays in its order. Lookups follow, so that masks alone are copied.
-fn set_up_universal(plan: &Plan, buffer: &mut hb_buffer_t) {
-    settle(buffer);
-    super::ot_shaper_use_machine::find_syllables(buffer);
-    for info in &mut buffer.info[..buffer.len] {
-        let byte = info.syllable().checked_sub(1);
-        info.set_syllable(byte.unwrap_or(use_syllable::NUMERAL_CLUSTER));
-    }
-    on_masks(buffer, |text| ot_shaper_use::setup_syllables_use_by_bytes(plan, text));
+    run_pause(pause, plan, &parts::font(font), &[], text)
 }
 
 /// Whether a pause may change the text, by its contract.

@@ -3,6 +3,9 @@
 /// The cluster levels.
 pub const LEVELS: [&str; 3] = ["MonotoneGraphemes", "MonotoneCharacters", "Characters"];
 
+/// Whether texts are prepared and normalized by the hooks' crate.
+pub const NORMALIZES: bool = false;
+
 /// The reasons of bindings/rustybuzz/reasons.
 pub const REASONS: &[&str] = &[
     "merge-flags",
@@ -135,6 +138,20 @@ macro_rules! calls {
                     let glyphs = shape_with_plan(&face, &plan.2, buffer);
                     sum += glyphs.glyph_infos().iter().map(|glyph| u64::from(glyph.glyph_id)).sum::<u64>();
                     buffer = glyphs.clear();
+                }
+                sum
+            }
+
+            /// The same with a new buffer and a new plan for each text, as usvg calls.
+            pub fn shape_times_anew(font: &[u8], texts: &[&str], times: usize) -> u64 {
+                let face = Face::from_slice(font, 0).expect("a font");
+                let mut sum = 0;
+                for text in (0..times).flat_map(|_| texts) {
+                    let mut buffer = UnicodeBuffer::new();
+                    buffer.push_str(text);
+                    buffer.guess_segment_properties();
+                    let glyphs = shape(&face, &[], buffer);
+                    sum += glyphs.glyph_infos().iter().map(|glyph| u64::from(glyph.glyph_id)).sum::<u64>();
                 }
                 sum
             }

@@ -3,12 +3,16 @@
 use core::ops::Deref;
 
 use sengadlit::font::{Glyphs, GlyphsOnly};
-use sengadlit::{BufferClusterLevel, GeneralCategory, GlyphId, JoiningType, Pause, Shaper, Tables, Tag};
+use sengadlit::ot_shaper_syllabic::{indic_syllable, khmer_syllable, myanmar_syllable, set_up_by_bytes, use_syllable};
+use sengadlit::{
+    ot_shaper_use, Buffer, BufferClusterLevel, GeneralCategory, GlyphId, JoiningType, Pause, Plan, Shaper, Tables, Tag,
+};
 
 use crate::hb::buffer::*;
 use crate::hb::face::hb_font_t;
 use crate::hb::ot_layout::*;
 use crate::hb::ot_layout_gsubgpos::{WouldApply, WouldApplyContext};
+use crate::hb::ot_shape_plan::hb_ot_shape_plan_t;
 use crate::hb::unicode::{CharExt, GeneralCategoryExt};
 use crate::hb::{hb_tag_t, Script};
 use crate::BufferFlags;
@@ -16,6 +20,11 @@ use crate::BufferFlags;
 pub use crate::hb::buffer::hb_glyph_info_t as Info;
 
 pub type Codepoint = char;
+
+/// A text is turned by rustybuzz itself.
+pub fn may_turn(_: &hb_ot_shape_plan_t) -> bool {
+    false
+}
 
 // ---- Fonts ----
 
@@ -142,6 +151,47 @@ pub fn clear_substituted(info: &mut Info) {
 
 /// No bytes are reserved here.
 pub fn reserve_syllables(_: Pause, _: &mut hb_buffer_t) {}
+
+// ---- Syllables ----
+
+/// Lets the host's machine find the syllables of a text that is to be set up.
+pub fn find_syllables(pause: Pause, buffer: &mut hb_buffer_t) {
+    let find: fn(&mut hb_buffer_t) = match pause {
+        Pause::SetupSyllablesIndic => crate::hb::ot_shaper_indic_machine::find_syllables_indic,
+        Pause::SetupSyllablesKhmer => crate::hb::ot_shaper_khmer_machine::find_syllables_khmer,
+        Pause::SetupSyllablesMyanmar => crate::hb::ot_shaper_myanmar_machine::find_syllables_myanmar,
+        _ => return,
+    };
+    super::settle(buffer);
+    find(buffer);
+}
+
+/// Sets the syllables up that the machine has found. Returns whether the pause does so.
+pub fn set_up(pause: Pause, _: &Plan, text: &mut Buffer) -> bool {
+    match pause {
+        Pause::SetupSyllablesIndic => set_up_by_bytes(indic_syllable::BROKEN_CLUSTER, text),
+        Pause::SetupSyllablesKhmer => set_up_by_bytes(khmer_syllable::BROKEN_CLUSTER, text),
+        Pause::SetupSyllablesMyanmar => set_up_by_bytes(myanmar_syllable::BROKEN_CLUSTER, text),
+        _ => return false,
+    }
+    true
+}
+
+/// The universal machine's kinds are one more than those of the hooks; what it passes over at the front has no byte,
+/// and stays in its order.
+pub fn set_up_universal(plan: &Plan, buffer: &mut hb_buffer_t) {
+    crate::hb::ot_shaper_use_machine::find_syllables(buffer);
+    for info in &mut buffer.info[..buffer.len] {
+        let byte = info.syllable().checked_sub(1);
+        info.set_syllable(byte.unwrap_or(use_syllable::NUMERAL_CLUSTER));
+    }
+    super::on_masks(buffer, |text| ot_shaper_use::setup_syllables_use_by_bytes(plan, text));
+}
+
+/// The vowel constraints of Indic and the universal shaper.
+pub fn part_vowels(buffer: &mut hb_buffer_t) {
+    crate::hb::ot_shaper_vowel_constraints::preprocess_text_vowel_constraints(buffer);
+}
 
 // ---- Settings ----
 

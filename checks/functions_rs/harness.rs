@@ -672,8 +672,8 @@ whole! {
 
 /// How many calls give all arguments of these numbers; 0 where that is too many.
 pub fn count_of(counts: &[u64]) -> u64 {
-    let count: u64 = counts.iter().product();
-    if count <= 1 << 21 { count } else { 0 }
+    let count = counts.iter().try_fold(1_u64, |count, of| count.checked_mul(*of));
+    count.filter(|count| *count <= 1 << 21).unwrap_or(0)
 }
 
 /// The next argument of a call for each that there is, or one that is drawn.

@@ -11,7 +11,7 @@
 //! passed, M failed': M outputs differ without a reason. With the feature `shadow` the proved crate
 //! runs both versions of each hook on each call, and the fields that differ are told.
 
-use programs::{proved, put_in_force, reasons, stock, Setting, Shaped, LEVELS, REASONS};
+use programs::{proved, put_in_force, reasons, stock, Setting, Shaped, LEVELS, NORMALIZES, REASONS};
 use std::collections::BTreeMap;
 use std::fs;
 use std::path::{Path, PathBuf};
@@ -31,6 +31,9 @@ const VARIANTS: [(u32, bool, bool); 6] = [
     (0x10, false, true),
     (0x83, true, true),
 ];
+
+/// The script whose texts are shaped with made-up glyphs, so that characters come apart.
+const STRINGS: &str = "Random strings";
 
 struct Options {
     texts: PathBuf,
@@ -239,8 +242,10 @@ fn compare_script(script: &Script, show: usize) -> Tally {
     for path in &script.fonts {
         let font = fs::read(path).unwrap_or_else(|error| panic!("{}: {error}", path.display()));
         for level in 0..LEVELS.len() {
-            for (flags, contexts, features) in VARIANTS {
-                let setting = Setting { level, flags, contexts, features, scale: None };
+            let made_up = (script.name == STRINGS).then_some(0);
+            let variants = if made_up.is_some() { &VARIANTS[..1] } else { &VARIANTS };
+            for &(flags, contexts, features) in variants {
+                let setting = Setting { level, flags, contexts, features, scale: None, made_up };
                 compare(script, path, &font, &setting, show, &mut tally);
             }
         }
@@ -255,16 +260,21 @@ fn lines(path: &Path, every: usize) -> Vec<String> {
 
 fn scripts(options: &Options) -> Vec<Script> {
     let mut scripts = Vec::new();
-    for line in lines(&options.texts.join("scripts"), 1) {
+    let mut listed = lines(&options.texts.join("scripts"), 1);
+    if NORMALIZES {
+        listed.extend(lines(&options.texts.join("normalized"), 1));
+    }
+    for line in listed {
         let mut fields = line.split('\t');
         let name = fields.next().expect("a name").to_string();
         if options.script.as_ref().is_some_and(|wanted| *wanted != name) {
             continue;
         }
         let read = |kind: &str| lines(&options.texts.join(format!("{name}.{kind}")), options.every);
-        let mut texts = read("real");
+        let is_random = name == STRINGS;
+        let mut texts = if is_random { Vec::new() } else { read("real") };
         let real = texts.len();
-        for kind in ["torn", "random", "long"] {
+        for kind in if is_random { &["random"][..] } else { &["torn", "random", "long"] } {
             texts.extend(read(kind));
         }
         scripts.push(Script { fonts: fields.map(|font| options.root.join(font)).collect(), texts, real, name });

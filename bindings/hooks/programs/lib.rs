@@ -8,7 +8,7 @@ pub mod fonts;
 
 #[macro_use]
 mod calls;
-pub use calls::{LEVELS, REASONS};
+pub use calls::{LEVELS, NORMALIZES, REASONS};
 
 calls!(stock, stock);
 calls!(proved, proved);
@@ -31,6 +31,21 @@ pub struct Setting {
     pub features: bool,
     /// The scale, where a crate has one.
     pub scale: Option<i32>,
+    /// The number from which the glyphs of a made-up font are counted ([`made_up`]), where a crate
+    /// takes such a font. The text's direction and flags are made up with it.
+    pub made_up: Option<u32>,
+}
+
+/// The made-up glyph of a character, or of a character and a selector, for a text of this number: a
+/// text's font lacks none, a 16th, a quarter, a half or nearly all of its characters.
+pub fn made_up(text: u32, character: u32, selector: u32) -> Option<u32> {
+    let mixed = |number: u32| {
+        let mixed = number.wrapping_mul(0x9E37_79B1) ^ character.wrapping_mul(0x85EB_CA77) ^ selector;
+        let mixed = (mixed ^ mixed >> 15).wrapping_mul(0x2C1B_3C6D);
+        mixed ^ mixed >> 13
+    };
+    let lacks = [0, 1, 4, 8, 15][text as usize % 5];
+    (mixed(text) % 16 >= lacks).then(|| mixed(7) % 60000 + 1)
 }
 
 /// The features of [`Setting::features`]: tag, value, first and last cluster.

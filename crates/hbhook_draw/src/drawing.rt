@@ -142,28 +142,16 @@ impl Drawing {
     }
 }
 
-// Draws the buffer, with lines to its glyphs from where they stood: from left to right, but a text
-// from right to left in that direction, until it has positions: then its glyphs stand in the order
-// of the line. Where a hook changed the buffer, its glyphs are also there as text.
-fn draw_row<'a>(
+/// Draws the buffer, with lines to its glyphs from where they stood. Where a hook changed the buffer,
+/// its glyphs are also there as text.
+pub(crate) fn draw_row<'a>(
     page: &mut String,
     legend: &mut Legend,
     session: &'a Session,
     numbers: &'a Numbers,
     origins: &'a Origins,
 ) -> Result<(), AllocError> {
-    let is_rtl = matches!(session.buffer.direction(), Direction::RightToLeft);
-    let mut row = Row {
-        alloc: session.buffer.alloc(),
-        glyphs: session.buffer.glyphs(),
-        positions: session.buffer.positions(),
-        before: origins.before.as_slice(),
-        origins: origins.places.as_slice(),
-        shaper: session.shaper_name(),
-        features: session.features(),
-        numbers,
-        is_rtl: is_rtl && session.buffer.positions_len() == 0,
-    };
+    let mut row = row_of(session, numbers, origins);
     if row.glyphs.is_empty() {
         return write_note(page, "The buffer is empty.");
     }
@@ -176,6 +164,27 @@ fn draw_row<'a>(
     legend.add(&row)?;
     draw_boxes(page, &row)?;
     draw_positions(page, &row, session.font())
+}
+
+/// The buffer as a row: from left to right, but a text from right to left in that direction, until
+/// it has positions: then its glyphs stand in the order of the line.
+pub(crate) fn row_of<'a>(
+    session: &'a Session,
+    numbers: &'a Numbers,
+    origins: &'a Origins,
+) -> Row<'a> {
+    let is_rtl = matches!(session.buffer.direction(), Direction::RightToLeft);
+    Row {
+        alloc: session.buffer.alloc(),
+        glyphs: session.buffer.glyphs(),
+        positions: session.buffer.positions(),
+        before: origins.before.as_slice(),
+        origins: origins.places.as_slice(),
+        shaper: session.shaper_name(),
+        features: session.features(),
+        numbers,
+        is_rtl: is_rtl && session.buffer.positions_len() == 0,
+    }
 }
 
 // The characters of a text, as the buffer has them.

@@ -2,8 +2,8 @@
 //! of boxes, one per glyph, for the text and after each hook.
 #![tactic(auto)]
 
-mod drawing;
-mod origins;
+pub(crate) mod drawing;
+pub(crate) mod origins;
 
 ghost use Rattle.std.specs.Prelude.{◌≤◌};
 

@@ -28,17 +28,26 @@ impl Origins {
 #[derive(Drop)]
 pub(crate) struct Traced {
     before: Vec<hb_glyph_info_t>,
-    after: hb_buffer_t,
+    pub after: hb_buffer_t,
 }
 
 impl Traced {
+    /// The glyphs of a buffer, and a copy of it in which each glyph has its place for its cluster.
+    pub(crate) fn labelled(buffer: &hb_buffer_t) -> Result<Self, AllocError> {
+        let before = Vec::from_slice(buffer.alloc(), buffer.glyphs())?;
+        let after = labelled(buffer)?;
+        Ok(Traced { before, after })
+    }
+
     /// Carries out the line of a hook on a copy of the buffer in which each glyph has its place for
     /// its cluster. At the level of characters clusters only move: so what is left of them tells
     /// where each glyph came from. The session stays as it was. Of what ends the line only `Memory`
     /// ends this; the rest ends the line again when it is carried out itself.
     pub(crate) fn new(session: &mut Session, line: &[u8]) -> Result<Self, AllocError> {
-        let before = Vec::from_slice(session.buffer.alloc(), session.buffer.glyphs())?;
-        let labelled = labelled(&session.buffer)?;
+        let Traced {
+            before,
+            after: labelled,
+        } = Traced::labelled(&session.buffer)?;
         let buffer = mem::replace(&mut session.buffer, labelled);
         let carried_out = session.carry_out(line);
         drop(session.take_answers());

@@ -1,18 +1,35 @@
+mod Again
+mod AgainRows
+mod Apart
 mod Breaks
 mod CheckedRows
 mod Cuts
 mod Edited
 mod FlagLaws
+mod HangulHalves
+mod HangulItems
+mod HangulLong
+mod HangulMonotone
 mod Headline
 mod HookRows
+mod IndicHalves
+mod LengthRows
+mod Lengths
+mod LineAdvances
 mod PauseLaws
 mod PauseRows
 mod PauseStays
 mod RecordRows
 mod StandingRows
+mod StretchMonotone
 mod Regrouped
 mod Together
 mod TogetherRows
+mod TextCutRows
+mod TextCuts
+mod ThaiClusterHalves
+mod ThaiHalves
+mod ThaiMonotone
 -- lemmas to cite, of the crates below, under their names
 pub use Rattle.shapers_clusters.proofs as clusters
 pub use Rattle.shapers_syllabic.proofs as syllabic

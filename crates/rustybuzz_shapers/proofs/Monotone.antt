@@ -1,6 +1,6 @@
 -- What keeps clusters rising, or falling.
 use Rattle.std.proofs.Common.{ℕ, zero, suc, ◌<◌, ◌≤◌, ◌≡◌, true, List, [], ◌∷◌, ◌++◌, length, take, drop, get_or, refl, sym, ap, subst, ◌∙◌, arith, inl, inr, ⊎_elim, Some}
-use Rattle.std.specs.List.{AllByRecursion, AllPairs, AllZip, flat_map}
+use Rattle.std.specs.List.{AllByRecursion, AllPairs, flat_map}
 use Rattle.std.proofs.lemmas.Bool.{cases_lt, cond_both}
 use Rattle.shapers_buffer.specs.declared.buffer.glyph.hb_glyph_info_t.{hb_glyph_info_t}
 use Rattle.shapers_buffer.specs.declared.buffer.level.BufferClusterLevel.{BufferClusterLevel}
@@ -16,8 +16,13 @@ use Rattle.shapers_syllabic.specs.declared.ot_shaper_syllabic.circles.DottedCirc
 use Rattle.shapers_syllabic.proofs.CircleLaws.{joined-syllables}
 use Rattle.rustybuzz_shapers.specs.Pauses.{by_khmer, by_myanmar, by_universal}
 use Rattle.shapers_clusters.specs.Cuts.{ExactCuts, IsFalling, IsRising}
-use Rattle.shapers_clusters.specs.FlagLaw.{FlagsAdded, OnlyFlagsAdded}
-use Rattle.rustybuzz_shapers.specs.Monotone.{StaysMonotone, CirclesStayMonotone, ExactCutsStayMonotone, PausesStayMonotone}
+use Rattle.shapers_clusters.specs.FlagLaw.{OnlyFlagsAdded}
+use Rattle.shapers_arabic.specs.Marks.{text_step, without_class}
+use Rattle.shapers_buffer.specs.Buffer.{Buffer}
+use Rattle.shapers_clusters.specs.Flags.{whole}
+use Rattle.shapers_text.specs.Hebrew.{hebrew_mark_step}
+use Rattle.rustybuzz_shapers.specs.Monotone.{StaysMonotone, CirclesStayMonotone, ExactCutsStayMonotone, MarksStayMonotone, PausesStayMonotone}
+use Rattle.rustybuzz_shapers.specs.declared.shaper.hb_ot_shaper_t.TheVariants.{Arabic, Hangul, Hebrew, Indic, Khmer, Myanmar, MyanmarZawgyi, Thai, Universal}
 
 -- what stands at a place doesn't depend on what stands at none
 at_place : (xs : List ℕ) (i : ℕ) (d : ℕ) → i < length xs → get_or xs i d ≡ get_or xs i 0
@@ -71,22 +76,36 @@ exact_cuts_stay_monotone cs sts after x = (rising_after cs sts after x, falling_
 pub same_monotone : (cs js : List ℕ) → js ≡ cs → StaysMonotone cs js
 same_monotone cs js e = (λ h. subst IsRising (sym e) h, λ h. subst IsFalling (sym e) h)
 
-pub flags_monotone : (gs ms : List hb_glyph_info_t) → OnlyFlagsAdded gs ms → StaysMonotone (clusters gs) (clusters ms)
-flags_monotone gs ms h = same_monotone (clusters gs) (clusters ms) (same gs ms h)
-  where
-    same : (gs ms : List hb_glyph_info_t) → AllZip FlagsAdded gs ms → clusters ms ≡ clusters gs
-    same [] [] h = refl
-    same [] (m ∷ ms) h = absurd h
-    same (g ∷ gs) [] h = absurd h
-    same (g ∷ gs) (m ∷ ms) h = ap (λ (c : ℕ). c ∷ clusters ms) h.0.same ∙ ap (λ (cs : List ℕ). g.cluster ∷ cs) (same gs ms h.1)
+pub unchanged_monotone : (old new : Buffer) → new ≡ old → StaysMonotone (clusters old.glyphs) (clusters new.glyphs)
+unchanged_monotone old new is = same_monotone (clusters old.glyphs) (clusters new.glyphs) (ap (λ (b : Buffer). clusters b.glyphs) is)
 
--- a reordering that merges before it moves
-pub merged_monotone : (level : BufferClusterLevel) (steps : List Step) (gs ms : List hb_glyph_info_t) → merges level ≡ true → ReorderedHold carried level steps gs ms → StaysMonotone (clusters gs) (clusters ms)
-merged_monotone level steps gs ms m h =
+pub same_clusters : (gs ms : List hb_glyph_info_t) → OnlyFlagsAdded gs ms → clusters ms ≡ clusters gs
+same_clusters [] [] h = refl
+same_clusters [] (m ∷ ms) h = absurd h
+same_clusters (g ∷ gs) [] h = absurd h
+same_clusters (g ∷ gs) (m ∷ ms) h = ap (λ (c : ℕ). c ∷ clusters ms) h.0.same ∙ ap (λ (cs : List ℕ). g.cluster ∷ cs) (same_clusters gs ms h.1)
+
+pub flags_monotone : (gs ms : List hb_glyph_info_t) → OnlyFlagsAdded gs ms → StaysMonotone (clusters gs) (clusters ms)
+flags_monotone gs ms h = same_monotone (clusters gs) (clusters ms) (same_clusters gs ms h)
+
+-- a reordering that merges before it moves, through any view
+pub merged_monotone : (view : hb_glyph_info_t → hb_glyph_info_t) (level : BufferClusterLevel) (steps : List Step) (gs ms : List hb_glyph_info_t) → merges level ≡ true → ReorderedHold view level steps gs ms → StaysMonotone (clusters gs) (clusters ms)
+merged_monotone view level steps gs ms m h =
     let x = h.in_clusters.where_merging m in (
       λ up. rising_after (clusters gs) (all_first steps) (clusters ms) (x.exact (inl up)) up,
       λ down. falling_after (clusters gs) (all_first steps) (clusters ms) (x.exact (inr down)) down,
     )
+
+pub marks_stay_monotone : MarksStayMonotone
+marks_stay_monotone Arabic start end old new m k = merged_monotone without_class old.level (text_step start end old.glyphs ∷ []) old.glyphs new.glyphs m k
+marks_stay_monotone Hebrew start end old new m k = merged_monotone whole old.level (hebrew_mark_step start end old.glyphs ∷ []) old.glyphs new.glyphs m k
+marks_stay_monotone Hangul start end old new m k = unchanged_monotone old new k.1
+marks_stay_monotone Indic start end old new m k = unchanged_monotone old new k.1
+marks_stay_monotone Khmer start end old new m k = unchanged_monotone old new k.1
+marks_stay_monotone Myanmar start end old new m k = unchanged_monotone old new k.1
+marks_stay_monotone MyanmarZawgyi start end old new m k = unchanged_monotone old new k.1
+marks_stay_monotone Thai start end old new m k = unchanged_monotone old new k.1
+marks_stay_monotone Universal start end old new m k = unchanged_monotone old new k.1
 
 pub pauses_stay_monotone : PausesStayMonotone
 pauses_stay_monotone SetupSyllablesIndic plan font spans old new i m k = same_monotone (clusters old.glyphs) (clusters new.glyphs) k.1
@@ -97,13 +116,13 @@ pauses_stay_monotone InitialReordering plan font spans old new i m k = absurd (c
 pauses_stay_monotone FinalReordering plan font spans old new i m k = absurd (cc)
 pauses_stay_monotone ReorderKhmer plan font spans old new i m k =
     let opened = circled (by_khmer plan font old).circles old.glyphs in
-    merged_monotone old.level (text_steps (by_khmer plan font old).steps (order_view opened)) opened new.glyphs m k.1.1.0
+    merged_monotone carried old.level (text_steps (by_khmer plan font old).steps (order_view opened)) opened new.glyphs m k.1.1.0
 pauses_stay_monotone ReorderMyanmar plan font spans old new i m k =
     let opened = circled (by_myanmar font old).circles old.glyphs in
-    merged_monotone old.level (text_steps (by_myanmar font old).steps (order_view opened)) opened new.glyphs m k.1.1
+    merged_monotone carried old.level (text_steps (by_myanmar font old).steps (order_view opened)) opened new.glyphs m k.1.1
 pauses_stay_monotone ReorderUse plan font spans old new i m k =
     let opened = circled (by_universal font old).circles old.glyphs in
-    merged_monotone old.level (text_steps (by_universal font old).steps (order_view opened)) opened new.glyphs m k.1.1
+    merged_monotone carried old.level (text_steps (by_universal font old).steps (order_view opened)) opened new.glyphs m k.1.1
 pauses_stay_monotone RecordStch plan font spans old new i m k = flags_monotone old.glyphs new.glyphs k
 pauses_stay_monotone RecordRphf plan font spans old new i m k = flags_monotone old.glyphs new.glyphs k
 pauses_stay_monotone RecordPref plan font spans old new i m k = flags_monotone old.glyphs new.glyphs k
@@ -114,11 +133,11 @@ pauses_stay_monotone ArabicFallbackShape plan font spans old new i m k = flags_m
 -- circles
 
 -- each stands so to all behind it
-abbrev Ordered : (ℕ → ℕ → Type 0) → List ℕ → Type 0
+abbrev pub Ordered : (ℕ → ℕ → Type 0) → List ℕ → Type 0
 Ordered R [] = Unit {0}
 Ordered R (x ∷ xs) = AllByRecursion (R x) xs × Ordered R xs
 
-all_from : (P : ℕ → Type 0) (xs : List ℕ) → ((j : ℕ) → j < length xs → P (get_or xs j 0)) → AllByRecursion P xs
+pub all_from : (P : ℕ → Type 0) (xs : List ℕ) → ((j : ℕ) → j < length xs → P (get_or xs j 0)) → AllByRecursion P xs
 all_from P [] h = tt
 all_from P (x ∷ xs) h = (h 0 (omega arith), all_from P xs (λ j l. h (suc j) (omega (arith, l))))
 
@@ -127,14 +146,14 @@ all_at P [] j d h l = absurd (omega arith)
 all_at P (x ∷ xs) zero d h l = h.0
 all_at P (x ∷ xs) (suc j) d h l = all_at P xs j d h.1 (omega (arith, l))
 
-from_pairs : (R : ℕ → ℕ → Type 0) (xs : List ℕ) → AllPairs R xs → Ordered R xs
+pub from_pairs : (R : ℕ → ℕ → Type 0) (xs : List ℕ) → AllPairs R xs → Ordered R xs
 from_pairs R [] h = tt
 from_pairs R (x ∷ xs) h = (
   all_from (R x) xs (λ j l. h 0 (suc j) 0 (omega arith) (omega (arith, l))),
   from_pairs R xs (λ i j d l m. h (suc i) (suc j) d (omega (arith, l)) (omega (arith, m))),
 )
 
-to_pairs : (R : ℕ → ℕ → Type 0) (xs : List ℕ) → Ordered R xs → AllPairs R xs
+pub to_pairs : (R : ℕ → ℕ → Type 0) (xs : List ℕ) → Ordered R xs → AllPairs R xs
 to_pairs R [] h i j d l m = absurd (omega arith)
 to_pairs R (x ∷ xs) h zero zero d l m = absurd (omega arith)
 to_pairs R (x ∷ xs) h zero (suc j) d l m = all_at (R x) xs j d h.0 (omega (arith, m))

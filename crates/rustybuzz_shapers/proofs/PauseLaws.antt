@@ -1,23 +1,36 @@
 -- What every reordering keeps, from what it does.
-use Rattle.std.proofs.Common.{Bool}
+use Rattle.std.proofs.Common.{Bool, ◌++◌, map, ap, ◌∙◌}
 use Rattle.std.specs.Prelude.{Err, Ok, OnOk, Result}
+use Rattle.std.proofs.lemmas.List.{map-append}
 use Rattle.shapers_buffer.specs.declared.buffer.refusal.ShaperError.{ShaperError}
 use Rattle.shapers_buffer.specs.Buffer.{Buffer}
+use Rattle.shapers_syllabic.specs.Borders.{unnumbered}
 use Rattle.shapers_syllabic.specs.Circles.{circled}
-use Rattle.shapers_syllabic.specs.ReorderingLaws.{ReadsNoSerials, ReorderLaws}
+use Rattle.shapers_syllabic.specs.ReorderingLaws.{PauseCutsAtBorders, ReadsNoSerials, ReorderLaws, paused_carried}
 use Rattle.shapers_syllabic.proofs.CircleLaws.{no_new_cluster}
 use Rattle.shapers_syllabic.proofs.HiddenCuts.{cuts_with_serials}
 use Rattle.shapers_syllabic.proofs.ReorderingCuts.{cuts_at_borders}
 use Rattle.shapers_syllabic.proofs.ReorderingLaws.{text_reordered}
-use Rattle.rustybuzz_shapers.specs.Pauses.{Reordered, Reordering, ReorderingKeeps}
+use Rattle.shapers_syllabic.proofs.Serials.{serials_dont_count}
+use Rattle.rustybuzz_shapers.specs.Pauses.{CarriedAtBorders, Reordered, Reordering, ReorderingKeeps}
+
+carried_at_borders : (r : Reordering) (old new : Buffer) → ReadsNoSerials r.order r.steps → PauseCutsAtBorders r.circles r.order r.steps old new → CarriedAtBorders r old new
+carried_at_borders r old new reads cuts gs hs xs ys text border one two none =
+    let made = paused_carried r.circles r.steps old.level in
+    ap (map unnumbered) ((cuts gs hs text border).moved none)
+    ∙ map-append unnumbered (made gs) (made hs)
+    ∙ ap (λ zs. zs ++ map unnumbered (made hs)) (serials_dont_count r.circles r.order r.steps old.level gs xs reads one).moved
+    ∙ ap (λ zs. map unnumbered (made xs) ++ zs) (serials_dont_count r.circles r.order r.steps old.level hs ys reads two).moved
 
 reordering_keeps : (r : Reordering) (old new : Buffer) → ReorderLaws r.order r.steps → ReadsNoSerials r.order r.steps → Reordered r old new → ReorderingKeeps r old new
 reordering_keeps r old new laws reads done =
     let opened : Buffer = record old { glyphs = circled r.circles old.glyphs } in
     let text = text_reordered r.order r.steps opened new laws done in
+    let cuts = cuts_at_borders r.circles r.order r.steps old new laws done in
     record {
-      cuts = cuts_at_borders r.circles r.order r.steps old new laws done;
+      cuts = cuts;
       renumbered = cuts_with_serials r.circles r.order r.steps old new laws reads done;
+      flags_joined = carried_at_borders r old new reads cuts;
       text = text;
       old_clusters = no_new_cluster r.circles old.glyphs new.glyphs text.glyphs.in_clusters.old_clusters;
     }

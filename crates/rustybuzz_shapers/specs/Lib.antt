@@ -1,15 +1,19 @@
+pub mod Again
+pub mod Apart
 pub mod Breaks
 pub mod Checked
 pub mod Cuts
 pub mod Edited
 pub mod Headline
 pub mod Hooks
+pub mod Lengths
 pub mod Pauses
 pub mod Records
 pub mod Standing
 pub mod Regrouped
 pub mod Monotone
 pub mod Stretched
+pub mod TextCuts
 pub mod Together
 -- the words of each crate below, under its name
 pub use Rattle.shapers_buffer.specs as buffer

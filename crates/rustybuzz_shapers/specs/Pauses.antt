@@ -1,9 +1,10 @@
 -- What each pause does to the buffer.
 use Rattle.std.specs.Option.{option_and_then}
-use Rattle.std.specs.Prelude.{◌≡◌, ◌==◌, Bool, true, false, not, List, [], ◌∷◌, All, map, length, Option, None, Some, unwrap_or, Result, IsOk}
+use Rattle.std.specs.Prelude.{◌≡◌, ◌==◌, Bool, true, false, not, List, [], ◌∷◌, ◌++◌, All, map, length, Option, None, Some, unwrap_or, Result, IsOk}
 use Rattle.shapers_arabic.specs.PlanData.{IsArabic}
 use Rattle.shapers_buffer.specs.Glyph.{clusters, order_view}
 use Rattle.shapers_buffer.specs.declared.buffer.glyph.hb_glyph_info_t.{hb_glyph_info_t}
+use Rattle.shapers_clusters.specs.Cuts.{ShareNone}
 use Rattle.shapers_clusters.specs.FlagLaw.{OnlyFlagsAdded}
 use Rattle.shapers_clusters.specs.Laws.{ReorderedHold}
 use Rattle.shapers_clusters.specs.Steps.{Step}
@@ -19,11 +20,11 @@ use Rattle.shapers_khmer.specs.KhmerMovers.{ordered_by_movers, steps_by_movers}
 use Rattle.shapers_khmer.specs.Plan.{is_khmer_data}
 use Rattle.shapers_myanmar.specs.Myanmar.{myanmar_circles, myanmar_order, myanmar_steps}
 use Rattle.shapers_stretch.specs.Recorded.{has_stch, tiles_recorded}
-use Rattle.shapers_syllabic.specs.Borders.{SetUpCutsAtSpans, spans_set_up, unnumbered}
+use Rattle.shapers_syllabic.specs.Borders.{MeetAtBorder, SameButSerials, SetUpCutsAtSpans, spans_set_up, unnumbered}
 use Rattle.shapers_syllabic.specs.CircleLaws.{NoNewCluster}
 use Rattle.shapers_syllabic.specs.Circles.{circled}
 use Rattle.shapers_syllabic.specs.Reordering.{PauseLinked, PauseReordered, SyllableReordered, carried, script_circles, text_steps}
-use Rattle.shapers_syllabic.specs.ReorderingLaws.{PauseCutsAtBorders, TextReordered, paused_clusters, paused_order}
+use Rattle.shapers_syllabic.specs.ReorderingLaws.{PauseCutsAtBorders, TextReordered, paused_carried, paused_clusters, paused_order}
 use Rattle.shapers_syllabic.specs.SpanCuts.{CutsAtBorders}
 use Rattle.shapers_syllabic.specs.declared.ot_shaper_syllabic.circles.DottedCircles.{DottedCircles}
 use Rattle.shapers_syllabic.specs.declared.ot_shaper_syllabic.kinds.indic_syllable.TheConstants as indic_syllable
@@ -199,14 +200,27 @@ PauseStays pause plan =
     (font : Font) (spans : List Span) (old new : Buffer) →
     Paused pause plan font spans old new → new ≡ old
 
+-- Where halves of a text meet at a border of syllables and share no cluster, what is carried along,
+-- clusters and glyph flags among it, is that of the halves joined, whose bytes may have other
+-- serials, but for serials.
+abbrev pub CarriedAtBorders : Reordering → Buffer → Buffer → Type 0
+CarriedAtBorders r old new = (gs hs xs ys : List hb_glyph_info_t) →
+    old.glyphs ≡ gs ++ hs → MeetAtBorder gs hs → SameButSerials gs xs → SameButSerials hs ys →
+    ShareNone gs hs →
+    map unnumbered (map carried new.glyphs)
+    ≡ map unnumbered (paused_carried r.circles r.steps old.level xs)
+    ++ map unnumbered (paused_carried r.circles r.steps old.level ys)
+
 -- What every reordering keeps. A text cut at any border of syllables gives the halves' results
--- joined; where the bytes of the halves have other serials, but for serials. No glyph is lost, no
--- cluster rises, glyph flags stay unless it fell, and what shared a cluster still does: the laws of
--- steps, from after circles on. Every cluster is one that the text had before its circles.
+-- joined; where the bytes of the halves have other serials, but for serials; where they share no
+-- cluster, glyph flags too. No glyph is lost, no cluster rises, glyph flags stay unless it fell,
+-- and what shared a cluster still does: the laws of steps, from after circles on. Every cluster is
+-- one that the text had before its circles.
 pub record ReorderingKeeps (r : Reordering) (old new : Buffer) : Type 0 where
   pub cuts : PauseCutsAtBorders r.circles r.order r.steps old new
   pub renumbered : CutsAtBorders unnumbered (paused_order r.circles r.order)
       (paused_clusters r.circles r.steps old.level) old.glyphs new.glyphs
+  pub flags_joined : CarriedAtBorders r old new
   pub text : TextReordered r.steps (record old { glyphs = circled r.circles old.glyphs }) new
   pub old_clusters : NoNewCluster old.glyphs new.glyphs
 

@@ -1,9 +1,11 @@
 -- The third part of the headline: how many glyphs postprocessing adds, and how wide a mark that
 -- stretches is laid.
-use Rattle.std.specs.Prelude.{◌≡◌, ℕ, true, length}
+use Rattle.std.specs.Prelude.{◌≡◌, ◌+ℤ◌, ℕ, ℤ, List, true, length, map}
 use Rattle.shapers_buffer.specs.Buffer.{Buffer}
 use Rattle.shapers_base.specs.declared.plan.hb_ot_shape_plan_t.{hb_ot_shape_plan_t}
 use Rattle.shapers_base.specs.Font.{Font}
+use Rattle.shapers_stretch.specs.Cells.{Cell, parts_of_text, tiles_of}
+use Rattle.shapers_stretch.specs.Measure.{total}
 use Rattle.shapers_stretch.specs.Recorded.{start_of}
 use Rattle.shapers_stretch.specs.Stretch.{cells_in_order, copies_in, laying}
 use Rattle.shapers_stretch.specs.StretchLaws.{TextIsLaid}
@@ -26,3 +28,19 @@ StretchesCover = (plan : hb_ot_shape_plan_t) (font : Font) (old new : Buffer) �
     (length new.positions ≡ length new.glyphs)
     × TextIsLaid (laying font (start_of plan.plan_data) old) (cells_in_order old)
     (cells_in_order new)
+
+-- the advance of some cells, and of the tiles at the ends of a text's parts
+abbrev pub advance_of : List Cell → ℤ
+advance_of cs = total (map (λ c. c.1.x_advance) cs)
+
+abbrev pub tiles_advance : List Cell → ℤ
+tiles_advance cs = total (map (λ part. advance_of (tiles_of part)) (parts_of_text cs))
+
+-- The advance of the line: that before, less that of the tiles, since their copies have none. So
+-- the copies, however many, make no line longer.
+abbrev pub LineAdvances : Type 0
+LineAdvances = (plan : hb_ot_shape_plan_t) (font : Font) (old new : Buffer) →
+    old.stch ≡ true → length old.positions ≡ length old.glyphs →
+    Postprocessed Arabic plan font old new →
+    total (map (λ p. p.x_advance) new.positions) +ℤ tiles_advance (cells_in_order old)
+    ≡ total (map (λ p. p.x_advance) old.positions)

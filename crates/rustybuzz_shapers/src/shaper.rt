@@ -21,8 +21,8 @@ mod pauses;
 
 pub use conditions::{has_positions, kinds_fit, lacks_positions, pause_fits};
 pub use laws::{
-    breaks_law, cuts_at_borders_law, headline, monotone_law, stretches_cover_law,
-    syllables_regrouped_law,
+    again_law, apart_law, breaks_law, cuts_at_borders_law, headline, lengths_law, monotone_law,
+    stretches_cover_law, syllables_regrouped_law, text_cuts_law,
 };
 pub use pauses::{pause_may_change, run_pause};
 use shapers_arabic::ot_shaper_arabic;
@@ -123,8 +123,31 @@ pub const THAI_SHAPER: hb_ot_shaper_t = hb_ot_shaper_t::Thai;
 pub const UNIVERSAL_SHAPER: hb_ot_shaper_t = hb_ot_shaper_t::Universal;
 
 impl hb_ot_shaper_t {
-    ghost use Rattle.std.specs.Prelude.{◌+◌};
+    ghost use Rattle.std.specs.Prelude.{◌+◌, ◌*◌, ◌-◌, ◌^◌, min};
+    ghost use Rattle.rustybuzz_shapers.specs.Lengths.{PausesHaveRoom, PreprocessingHasRoom, growth};
     ghost use Rattle.rustybuzz_shapers.specs.Stretched.{glyphs_added};
+
+    /// For how many glyphs a text of so many needs room, whatever preprocessing or a pause of the shaper
+    /// makes of it: with this `max_len` neither refuses with `TooLong`. At most the greatest number.
+    #[inline]
+    pub const fn length_bound(self, len: usize) -> usize
+        ensures bound { result ≡ min (len * growth self) (2 ^ 64 - 1) }
+        ensures preprocessing { PreprocessingHasRoom }
+        ensures pauses { PausesHaveRoom }
+    {
+        len.saturating_mul(self.growth())
+    }
+
+    // How many times as long a text gets at most.
+    const fn growth(self) -> usize
+        ensures { result ≡ growth self }
+    {
+        match self {
+            Self::Hangul => 3,
+            Self::Indic | Self::Khmer | Self::Myanmar | Self::Thai | Self::Universal => 2,
+            Self::Arabic | Self::Hebrew | Self::MyanmarZawgyi => 1,
+        }
+    }
 
     /// Whether the shaper has a hook. Where it lacks one, the hook's method returns None and
     /// changes nothing.

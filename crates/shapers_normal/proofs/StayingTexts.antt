@@ -1,13 +1,12 @@
 -- A text of which nothing comes apart.
-use Rattle.std.proofs.Common.{◌≡◌, ◌+◌, ◌-◌, ◌&&◌, ◌||◌, ℕ, zero, suc, Bool, true, false, not, cond, eqb, List, [], ◌∷◌, ◌++◌, length, map, take, drop, get_or, refl, sym, ap, ◌∙◌, subst, arith}
+use Rattle.std.proofs.Common.{◌≡◌, ◌+◌, ◌-◌, ◌&&◌, ◌||◌, ℕ, zero, suc, Bool, true, false, not, cond, eqb, List, [], ◌∷◌, ◌++◌, length, map, get_or, refl, sym, ap, ◌∙◌, subst, arith}
 use Rattle.std.specs.List.{AllByRecursion, flat_map, fold, list_all, list_any, range_with_len}
 use Rattle.std.specs.Prelude.{is_some}
 use Rattle.std.proofs.lemmas.Bool.{and_parts, false≢true, or_parts}
 use Rattle.std.proofs.lemmas.Bool.Decides.{nat_tests}
-use Rattle.std.proofs.lemmas.List.{append-nil, drop_all, length-map, map-append, take_all}
+use Rattle.std.proofs.lemmas.List.{length-map, map-append}
 use Rattle.shapers_buffer.specs.declared.buffer.glyph.hb_glyph_info_t.{hb_glyph_info_t}
 use Rattle.shapers_buffer.specs.declared.buffer.level.BufferClusterLevel.{BufferClusterLevel}
-use Rattle.shapers_buffer.specs.Clusters.{with_stretch}
 use Rattle.shapers_buffer.specs.Glyph.{default_glyph}
 use Rattle.shapers_normal.specs.Context.{Context}
 use Rattle.shapers_normal.specs.Decomposition.{apart_way, becomes, cluster_becomes, cluster_stays, first_round, image, mark_clusters, stays_together, text_decomposed, with_own_glyph, written_as}
@@ -93,15 +92,8 @@ round_own context level gs stays =
     ∙ ap (map (with_own_glyph context)) (together_cut is_mark_glyph gs)
 
 -- the first round, as the code writes it
-pub staying_round : (context : Context) (level : BufferClusterLevel) (gs : List hb_glyph_info_t) → stays_together context gs ≡ true → with_stretch 0 (length gs) (map (with_own_glyph context)) gs ≡ first_round context level gs
-staying_round context level gs stays =
-    let same : length gs - 0 ≡ length gs = omega arith in
-    let new = map (with_own_glyph context) gs in
-    ap (λ n. map (with_own_glyph context) (take n gs) ++ drop (length gs) gs) same
-    ∙ ap (λ xs. map (with_own_glyph context) xs ++ drop (length gs) gs) (take_all (length gs) gs (omega arith))
-    ∙ ap (λ xs. new ++ xs) (drop_all (length gs) gs (omega arith))
-    ∙ append-nil new
-    ∙ sym (round_own context level gs stays)
+pub staying_round : (context : Context) (level : BufferClusterLevel) (gs : List hb_glyph_info_t) → stays_together context gs ≡ true → map (with_own_glyph context) gs ≡ first_round context level gs
+staying_round context level gs stays = sym (round_own context level gs stays)
 
 pub staying_length : (context : Context) (level : BufferClusterLevel) (gs : List hb_glyph_info_t) → stays_together context gs ≡ true → length (first_round context level gs) ≡ length gs
 staying_length context level gs stays = ap length (round_own context level gs stays) ∙ length-map gs (with_own_glyph context)

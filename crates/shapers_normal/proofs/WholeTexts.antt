@@ -1,15 +1,14 @@
 -- A text without marks that the font has gets its glyphs and nothing else.
-use Rattle.std.proofs.Common.{◌≡◌, ◌+◌, ◌-◌, ◌&&◌, ℕ, zero, suc, Bool, true, false, not, cond, eqb, nat_lt, nat_le, List, [], ◌∷◌, ◌++◌, length, map, take, drop, get_or, Option, None, Some, refl, sym, ap, ◌∙◌, subst, arith}
+use Rattle.std.proofs.Common.{◌≡◌, ◌+◌, ◌-◌, ◌&&◌, ℕ, zero, suc, Bool, true, false, not, cond, eqb, nat_lt, nat_le, List, [], ◌∷◌, ◌++◌, length, map, get_or, Option, None, Some, refl, sym, ap, ◌∙◌, subst, arith}
 use Rattle.std.specs.List.{AllByRecursion, flat_map, fold, list_all, list_any, range_with_len}
 use Rattle.std.specs.Option.{option_map_or}
 use Rattle.std.specs.Prelude.{is_some}
 use Rattle.std.proofs.lemmas.Bool.{and_parts, false≢true, or_parts}
 use Rattle.std.proofs.lemmas.Bool.Decides.{nat_tests}
-use Rattle.std.proofs.lemmas.List.{append-nil, drop_all, length-map, take_all}
+use Rattle.std.proofs.lemmas.List.{length-map}
 use Rattle.shapers_base.specs.declared.font.GlyphId.{GlyphId}
 use Rattle.shapers_buffer.specs.declared.buffer.glyph.hb_glyph_info_t.{hb_glyph_info_t}
 use Rattle.shapers_buffer.specs.declared.buffer.level.BufferClusterLevel.{BufferClusterLevel}
-use Rattle.shapers_buffer.specs.Clusters.{with_stretch}
 use Rattle.shapers_buffer.specs.Glyph.{default_glyph}
 use Rattle.shapers_normal.specs.Context.{Context, has_glyph}
 use Rattle.shapers_normal.specs.Decomposition.{apart_in, becomes, cluster_becomes, first_round, is_short_alone, is_whole, mark_clusters, stays_alone, text_decomposed, without_glyph, written_as}
@@ -90,16 +89,10 @@ first_by context level gs short all =
     ∙ all_become context gs short all
 
 -- the first round, as the code writes it
-pub whole_round : (context : Context) (level : BufferClusterLevel) (gs : List hb_glyph_info_t) → is_whole context gs ≡ true → with_stretch 0 (length gs) (map (with_number context)) gs ≡ first_round context level gs
+pub whole_round : (context : Context) (level : BufferClusterLevel) (gs : List hb_glyph_info_t) → is_whole context gs ≡ true → map (with_number context) gs ≡ first_round context level gs
 whole_round context level gs whole =
     let parts = and_parts (is_short_alone context.mode) (list_all (stays_alone context) gs) whole in
-    let same : length gs - 0 ≡ length gs = omega arith in
-    let new = map (with_number context) gs in
-    ap (λ n. map (with_number context) (take n gs) ++ drop (length gs) gs) same
-    ∙ ap (λ xs. map (with_number context) xs ++ drop (length gs) gs) (take_all (length gs) gs (omega arith))
-    ∙ ap (λ xs. new ++ xs) (drop_all (length gs) gs (omega arith))
-    ∙ append-nil new
-    ∙ sym (first_by context level gs parts.0 (all_stay context gs parts.1))
+    sym (first_by context level gs parts.0 (all_stay context gs parts.1))
 
 pub whole_length : (context : Context) (level : BufferClusterLevel) (gs : List hb_glyph_info_t) → is_whole context gs ≡ true → length (first_round context level gs) ≡ length gs
 whole_length context level gs whole =

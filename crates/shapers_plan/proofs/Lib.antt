@@ -3,3 +3,7 @@ pub mod Requesting
 pub mod MaskLemmas
 pub mod StageLemmas
 pub mod PlanLemmas
+mod RequestRows
+mod MaskRows
+mod StageRows
+mod CollectingRows

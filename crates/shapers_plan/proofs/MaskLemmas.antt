@@ -1,12 +1,12 @@
 -- No bits that are given are among the glyph flags.
-use Rattle.std.proofs.Common.{◌≡◌, ◌≤◌, ◌+◌, ◌*◌, ◌%◌, ◌^◌, ◌-◌, ◌==◌, IsTrue, Bool, true, false, List, [], ◌∷◌, ℕ, ap, arith}
+use Rattle.std.proofs.Common.{◌≡◌, ◌≤◌, ◌+◌, ◌%◌, ◌^◌, ◌-◌, Bool, true, false, List, [], ◌∷◌, ℕ, arith}
 use Rattle.std.specs.Prelude.{if◌then◌else◌}
 use Rattle.std.proofs.lemmas.Grind.{common_steps}
 use Rattle.std.proofs.lemmas.Nat.{pow-add}
 use Rattle.std.proofs.Math.Nat.{mul-mod_right}
 use Rattle.shapers_plan.specs.FontFeatures.{FontTables}
 use Rattle.shapers_plan.specs.Compiling.{are_off_flags}
-use Rattle.shapers_plan.specs.Masks.{bits_of, is_mapped, is_whole, mapped_at, mapped_from}
+use Rattle.shapers_plan.specs.Masks.{bit_count, is_on_everywhere, mapped_from}
 use Rattle.shapers_plan.specs.declared.ot_map.requests.FeatureInfo.{FeatureInfo}
 
 power-off-flags : (n : ℕ) → 3 ≤ n → 2 ^ n % 8 ≡ 0
@@ -21,7 +21,7 @@ one-off-flags false n h = power-off-flags n h
 pub mapped-off-flags : (tables : FontTables) (next : ℕ) (infos : List FeatureInfo) → 3 ≤ next → are_off_flags (mapped_from tables next infos) ≡ true
 mapped-off-flags tables next [] h = grind (arith, common_steps)
 mapped-off-flags tables next (info ∷ infos) h =
-    let own = one-off-flags (is_whole info) next h in
-    let behind = mapped-off-flags tables (next + bits_of info) infos (omega arith) in
+    let own = one-off-flags (is_on_everywhere info) next h in
+    let behind = mapped-off-flags tables (next + bit_count info) infos (omega arith) in
     let without = mapped-off-flags tables next infos h in
     grind (arith, common_steps, own, behind, without)

@@ -1,5 +1,5 @@
 -- A plan is that of its requests where each part is.
-use Rattle.std.proofs.Common.{◌≡◌, List, refl}
+use Rattle.std.proofs.Common.{◌≡◌, List}
 use Rattle.std.specs.Prelude.{Option}
 use Rattle.std.specs.List.{filter_map}
 use Rattle.shapers_buffer.specs.declared.buffer.level.Direction.{Direction}

@@ -1,5 +1,5 @@
 -- Each stage is a range of the list of lookups.
-use Rattle.std.proofs.Common.{◌≡◌, ◌≤◌, ◌+◌, Bool, true, IsTrue, List, [], ◌∷◌, ℕ, length, map, arith}
+use Rattle.std.proofs.Common.{◌≡◌, ◌≤◌, ◌+◌, true, IsTrue, List, [], ◌∷◌, ℕ, length, map, arith}
 use Rattle.std.specs.Prelude.{Option}
 use Rattle.std.specs.List.{list_all}
 use Rattle.std.proofs.lemmas.Grind.{common_steps}

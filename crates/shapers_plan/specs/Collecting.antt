@@ -1,6 +1,6 @@
 -- What is requested of a font for a text (HarfBuzz, hb-ot-shape.cc).
-use Rattle.std.specs.Prelude.{ℕ, ◌==◌, Bool, true, false, ◌&&◌, List, [], ◌∷◌, ◌++◌, map, Option, None, Some, bit_or, codes, if◌then◌else◌}
-use Rattle.std.specs.Option.{option_map_or, option_and_then}
+use Rattle.std.specs.Prelude.{◌==◌, Bool, ◌&&◌, List, [], ◌∷◌, ◌++◌, map, Option, None, Some, option_map, bit_or, codes, if◌then◌else◌}
+use Rattle.std.specs.Option.{option_map_or}
 use Rattle.shapers_buffer.specs.declared.buffer.level.Direction.{Direction}
 use Rattle.shapers_buffer.specs.declared.buffer.level.Direction.TheVariants.{LeftToRight, RightToLeft}
 use Rattle.shapers_buffer.specs.declared.buffer.tag.Script.{Script}
@@ -9,7 +9,7 @@ use Rattle.shapers_base.specs.declared.map.TheConstants.{F_GLOBAL, F_HAS_FALLBAC
 use Rattle.shapers_base.specs.declared.plan.planner.Request.{Request}
 use Rattle.shapers_base.specs.declared.plan.planner.Request.TheVariants.{Feature}
 use Rattle.shapers_base.specs.Planner.{added, bare_pause, enabled}
-use Rattle.shapers_choice.specs.Choice.{shaper_for}
+use Rattle.shapers_choice.specs.Choice.{is_horizontal, shaper_for}
 use Rattle.shapers_choice.specs.declared.ScriptShaper.{ScriptShaper}
 use Rattle.shapers_choice.specs.declared.ScriptShaper.TheVariants as choices
 use Rattle.rustybuzz_shapers.specs.declared.shaper.hb_ot_shaper_t.{hb_ot_shaper_t}
@@ -19,22 +19,22 @@ use Rattle.shapers_plan.specs.declared.ot_map.masks.TheConstants.{F_GLOBAL_SEARC
 use Rattle.shapers_plan.specs.declared.ot_shape_plan.user.UserFeature.{UserFeature}
 
 -- the shaper of a choice
-abbrev pub chosen : ScriptShaper → hb_ot_shaper_t
-chosen choices.Arabic = shapers.Arabic
-chosen choices.Hangul = shapers.Hangul
-chosen choices.Hebrew = shapers.Hebrew
-chosen choices.Indic = shapers.Indic
-chosen choices.Khmer = shapers.Khmer
-chosen choices.Myanmar = shapers.Myanmar
-chosen choices.MyanmarZawgyi = shapers.MyanmarZawgyi
-chosen choices.Thai = shapers.Thai
-chosen choices.Universal = shapers.Universal
+abbrev pub shaper_of_choice : ScriptShaper → hb_ot_shaper_t
+shaper_of_choice choices.Arabic = shapers.Arabic
+shaper_of_choice choices.Hangul = shapers.Hangul
+shaper_of_choice choices.Hebrew = shapers.Hebrew
+shaper_of_choice choices.Indic = shapers.Indic
+shaper_of_choice choices.Khmer = shapers.Khmer
+shaper_of_choice choices.Myanmar = shapers.Myanmar
+shaper_of_choice choices.MyanmarZawgyi = shapers.MyanmarZawgyi
+shaper_of_choice choices.Thai = shapers.Thai
+shaper_of_choice choices.Universal = shapers.Universal
 
 -- the shaper of a text, if its script is known and takes one
 abbrev pub text_shaper : Option Script → Direction → Option hb_tag_t → Option hb_ot_shaper_t
 text_shaper None direction found = None
 text_shaper (Some script) direction found =
-    option_map_or (λ choice. Some (chosen choice)) (shaper_for script direction found) None
+    option_map shaper_of_choice (shaper_for script direction found)
 
 -- forms for the direction; mirrored ones from right to left are turned on by glyph
 abbrev pub directed : Direction → List Request
@@ -55,12 +55,6 @@ abbrev pub horizontal : List Request
 horizontal = map (enabled F_NONE) ("calt" ∷ "clig" ∷ "curs" ∷ "dist" ∷ [])
     ++ enabled F_HAS_FALLBACK "kern" ∷ map (enabled F_NONE) ("liga" ∷ "rclt" ∷ [])
 
--- whether lines of text are horizontal
-abbrev pub is_horizontal : Direction → Bool
-is_horizontal LeftToRight = true
-is_horizontal RightToLeft = true
-is_horizontal _ = false
-
 -- those of the text's lines; forms for vertical text may be any script's
 abbrev pub along_lines : Direction → List Request
 along_lines direction =
@@ -80,17 +74,18 @@ abbrev pub is_for_all : UserFeature → Bool
 is_for_all user = user.start == 0 && user.end == 0xFFFFFFFF
 
 -- the user's features
-abbrev pub asked_by : UserFeature → Request
-asked_by user = Feature user.tag (if is_for_all user then F_GLOBAL else F_NONE) user.value
+abbrev pub request_of_user : UserFeature → Request
+request_of_user user = Feature user.tag (if is_for_all user then F_GLOBAL else F_NONE) user.value
 
 -- the shaper's lists, empty without one
-abbrev pub listed : (hb_ot_shaper_t → Option (List Request)) → Option hb_ot_shaper_t → List Request
-listed list shaper = option_map_or (λ s. option_map_or (λ rs. rs) (list s) []) shaper []
+abbrev pub shaper_list : (hb_ot_shaper_t → Option (List Request)) → Option hb_ot_shaper_t →
+    List Request
+shaper_list list shaper = option_map_or (λ s. option_map_or (λ rs. rs) (list s) []) shaper []
 
 -- all that is requested: for every text, by the shaper (for a font with rclt or without), for every
 -- text again, by the user, and what the shaper has the last word on
 abbrev pub requests_for : Option hb_ot_shaper_t → Option Script → Direction → Bool →
     List UserFeature → List Request
 requests_for shaper script direction has_rclt users = before_shaper direction
-    ++ listed (λ s. collected s script has_rclt) shaper
-    ++ behind_shaper direction ++ map asked_by users ++ listed overridden shaper
+    ++ shaper_list (λ s. collected s script has_rclt) shaper
+    ++ behind_shaper direction ++ map request_of_user users ++ shaper_list overridden shaper

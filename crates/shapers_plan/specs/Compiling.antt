@@ -1,5 +1,5 @@
 -- What a list of requests makes of a font (HarfBuzz, hb-ot-map.cc).
-use Rattle.std.specs.Prelude.{ℕ, ◌%◌, ◌==◌, Bool, true, List, map, Option, None}
+use Rattle.std.specs.Prelude.{ℕ, ◌%◌, ◌==◌, Bool, true, List, map, None}
 use Rattle.std.specs.List.{list_all}
 use Rattle.std.specs.declared.ops.Range.{Range}
 use Rattle.shapers_base.specs.Map.{Map}
@@ -8,7 +8,7 @@ use Rattle.shapers_base.specs.declared.map.feature_map_t.{feature_map_t}
 use Rattle.shapers_base.specs.declared.plan.planner.Request.{Request}
 use Rattle.shapers_plan.specs.FontFeatures.{FontTables}
 use Rattle.shapers_plan.specs.Masks.{global_mask, mapped}
-use Rattle.shapers_plan.specs.Requests.{merged}
+use Rattle.shapers_plan.specs.Requests.{joined_by_tag}
 use Rattle.shapers_plan.specs.Stages.{lookup_number, lookups_from, required_stage, stage_ends, stage_lookups, stages_from, substitutions}
 use Rattle.shapers_plan.specs.declared.ot_map.lookups.Stage.{Stage}
 use Rattle.shapers_plan.specs.declared.ot_map.lookups.StageLookup.{StageLookup}
@@ -16,12 +16,12 @@ use Rattle.shapers_plan.specs.declared.ot_map.masks.MappedFeature.{MappedFeature
 
 -- the features with their bits
 abbrev pub features_for : FontTables → List Request → List MappedFeature
-features_for tables rs = mapped tables (merged rs)
+features_for tables rs = mapped tables (joined_by_tag rs)
 
 -- the lookups of a stage of substitutions
 abbrev pub substitutions_for : FontTables → List Request → ℕ → List StageLookup
 substitutions_for tables rs number =
-    substitutions tables (features_for tables rs) (required_stage tables (merged rs)) number
+    substitutions tables (features_for tables rs) (required_stage tables (joined_by_tag rs)) number
 
 -- the stages of substitutions, and their lookups
 abbrev pub stages_for : FontTables → List Request → List Stage

@@ -5,7 +5,7 @@ use Rattle.shapers_base.specs.declared.map.TableIndex.{TableIndex}
 use Rattle.shapers_base.specs.declared.map.TableIndex.TheVariants.{GSUB, GPOS}
 use Rattle.shapers_buffer.specs.declared.buffer.tag.hb_tag_t.{hb_tag_t}
 use Rattle.shapers_plan.specs.FontFeatures.{FontTables}
-use Rattle.shapers_plan.specs.Requests.{has_flag}
+use Rattle.shapers_plan.specs.Requests.{has_feature_flag}
 use Rattle.shapers_plan.specs.declared.ot_map.masks.TheConstants.{F_GLOBAL_SEARCH}
 use Rattle.shapers_plan.specs.declared.ot_map.masks.MappedFeature.{MappedFeature}
 use Rattle.shapers_plan.specs.declared.ot_map.requests.FeatureInfo.{FeatureInfo}
@@ -23,12 +23,13 @@ abbrev pub max_bits : ℕ
 max_bits = 8
 
 -- whether a feature is on for the whole text, and has no other value anywhere
-abbrev pub is_whole : FeatureInfo → Bool
-is_whole info = info.is_global && info.max_value == 1
+abbrev pub is_on_everywhere : FeatureInfo → Bool
+is_on_everywhere info = info.is_global && info.max_value == 1
 
 -- how many bits of its own a feature takes: as many as its greatest value has
-abbrev pub bits_of : FeatureInfo → ℕ
-bits_of info = if is_whole info then 0 else min max_bits (32 - leading_zeros w32 info.max_value)
+abbrev pub bit_count : FeatureInfo → ℕ
+bit_count info = if is_on_everywhere info then 0
+    else min max_bits (32 - leading_zeros w32 info.max_value)
 
 -- whether the chosen script has a feature
 abbrev pub in_script : FontTables → hb_tag_t → Bool
@@ -38,7 +39,7 @@ in_script tables tag = is_some (tables.lookups GSUB tag) || is_some (tables.look
 abbrev pub lookups_of : FontTables → TableIndex → hb_tag_t → ℕ → Option (List ℕ)
 lookups_of tables table tag flags =
     if in_script tables tag then tables.lookups table tag
-    else if has_flag flags F_GLOBAL_SEARCH then tables.anywhere table tag
+    else if has_feature_flag flags F_GLOBAL_SEARCH then tables.anywhere table tag
     else None
 
 -- whether the font has a feature, or something stands in for it
@@ -48,16 +49,16 @@ is_served tables info = is_some (lookups_of tables GSUB info.tag info.flags)
 
 -- whether a feature is on, its bits fit below the highest from this one on, and it is served
 abbrev pub is_mapped : FontTables → ℕ → FeatureInfo → Bool
-is_mapped tables next info = nat_lt 0 info.max_value && nat_lt (next + bits_of info) global_bit
+is_mapped tables next info = nat_lt 0 info.max_value && nat_lt (next + bit_count info) global_bit
     && is_served tables info
 
 -- a feature with its bits, from this one on
-abbrev pub mapped_at : ℕ → FeatureInfo → MappedFeature
-mapped_at next info = record {
+abbrev pub feature_at_bit : ℕ → FeatureInfo → MappedFeature
+feature_at_bit next info = record {
   tag = info.tag;
   flags = info.flags;
-  mask = if is_whole info then 2 ^ global_bit else 2 ^ (next + bits_of info) - 2 ^ next;
-  one_mask = if is_whole info then 2 ^ global_bit else 2 ^ next;
+  mask = if is_on_everywhere info then 2 ^ global_bit else 2 ^ (next + bit_count info) - 2 ^ next;
+  one_mask = if is_on_everywhere info then 2 ^ global_bit else 2 ^ next;
   default_value = info.default_value;
   stage = info.stage;
 }
@@ -67,7 +68,7 @@ abbrev pub mapped_from : FontTables → ℕ → List FeatureInfo → List Mapped
 mapped_from tables next [] = []
 mapped_from tables next (info ∷ infos) =
     if is_mapped tables next info
-    then mapped_at next info ∷ mapped_from tables (next + bits_of info) infos
+    then feature_at_bit next info ∷ mapped_from tables (next + bit_count info) infos
     else mapped_from tables next infos
 
 abbrev pub mapped : FontTables → List FeatureInfo → List MappedFeature
@@ -80,4 +81,5 @@ value_in feature value = bit_and (value * feature.one_mask % 2 ^ 32) feature.mas
 -- the mask of a glyph that no range of the user's reaches
 abbrev pub global_mask : List MappedFeature → ℕ
 global_mask features =
-    fold (λ mask feature. bit_or mask (value_in feature feature.default_value)) (2 ^ global_bit) features
+    fold (λ mask feature. bit_or mask (value_in feature feature.default_value)) (2 ^ global_bit)
+    features

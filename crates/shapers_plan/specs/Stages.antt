@@ -1,9 +1,9 @@
 -- The lookups of a font in stages (HarfBuzz, hb-ot-map.cc).
-use Rattle.std.specs.Prelude.{ℕ, ◌+◌, ◌==◌, nat_eq, nat_lt, Bool, true, false, not, ◌&&◌, List, [], ◌∷◌, ◌++◌, find, filter, length, map, Option, None, Some, unwrap_or, bit_or, if◌then◌else◌}
-use Rattle.std.specs.List.{filter_map, flat_map, range_with_len}
+use Rattle.std.specs.Prelude.{ℕ, ◌+◌, ◌==◌, nat_lt, Bool, true, false, not, ◌&&◌, List, [], ◌∷◌, ◌++◌, find, filter, length, map, Option, None, Some, unwrap_or, bit_or, if◌then◌else◌}
+use Rattle.std.specs.List.{flat_map, range_with_len}
 use Rattle.std.specs.Option.{option_map_or}
 use Rattle.shapers_base.specs.declared.map.TableIndex.{TableIndex}
-use Rattle.shapers_base.specs.declared.map.TableIndex.TheVariants.{GSUB, GPOS}
+use Rattle.shapers_base.specs.declared.map.TableIndex.TheVariants.{GSUB}
 use Rattle.shapers_base.specs.declared.map.TheConstants.{F_MANUAL_ZWNJ, F_MANUAL_ZWJ, F_PER_SYLLABLE}
 use Rattle.shapers_base.specs.declared.plan.pause.Pause as pauses
 use Rattle.shapers_base.specs.declared.plan.planner.Request.{Request}
@@ -12,8 +12,8 @@ use Rattle.shapers_base.specs.Map.{same_tag}
 use Rattle.shapers_buffer.specs.declared.buffer.tag.hb_tag_t.{hb_tag_t}
 use Rattle.shapers_plan.specs.FontFeatures.{FontTables}
 use Rattle.shapers_plan.specs.Masks.{lookups_of}
-use Rattle.shapers_plan.specs.Ordered.{put_all}
-use Rattle.shapers_plan.specs.Requests.{has_flag}
+use Rattle.shapers_plan.specs.Ordered.{put_all_in_order}
+use Rattle.shapers_plan.specs.Requests.{has_feature_flag}
 use Rattle.shapers_plan.specs.declared.ot_map.lookups.Stage.{Stage}
 use Rattle.shapers_plan.specs.declared.ot_map.lookups.StageLookup.{StageLookup}
 use Rattle.shapers_plan.specs.declared.ot_map.masks.MappedFeature.{MappedFeature}
@@ -24,7 +24,8 @@ use Rattle.shapers_plan.specs.declared.ot_map.requests.FeatureInfo.{FeatureInfo}
 abbrev pub lookup_number : StageLookup → ℕ
 lookup_number lookup = lookup.index
 
--- a lookup that two features have: it applies where either does, and passes over joiners where both do
+-- a lookup that two features have: it applies where either does, and passes over joiners where both
+-- do
 abbrev pub joined_lookups : StageLookup → StageLookup → StageLookup
 joined_lookups first other = record first {
   mask = bit_or first.mask other.mask;
@@ -37,10 +38,10 @@ abbrev pub applied_by : MappedFeature → StageLookup
 applied_by feature = record {
   index = 0;
   mask = feature.mask;
-  auto_zwnj = not (has_flag feature.flags F_MANUAL_ZWNJ);
-  auto_zwj = not (has_flag feature.flags F_MANUAL_ZWJ);
-  random = has_flag feature.flags F_RANDOM;
-  per_syllable = has_flag feature.flags F_PER_SYLLABLE;
+  auto_zwnj = not (has_feature_flag feature.flags F_MANUAL_ZWNJ);
+  auto_zwj = not (has_feature_flag feature.flags F_MANUAL_ZWJ);
+  random = has_feature_flag feature.flags F_RANDOM;
+  per_syllable = has_feature_flag feature.flags F_PER_SYLLABLE;
 }
 
 -- how those of the feature apply that the script requires
@@ -71,7 +72,8 @@ is_of_stage stage feature = option_map_or (λ n. feature.stage == n) stage true
 -- come first where the stage is theirs
 abbrev pub stage_lookups : FontTables → TableIndex → List MappedFeature → Bool → Option ℕ →
     List StageLookup
-stage_lookups tables table features is_required stage = put_all lookup_number joined_lookups []
+stage_lookups tables table features is_required stage =
+    put_all_in_order lookup_number joined_lookups []
     ((if is_required then lookups_like applied_always (tables.required_lookups table) else [])
     ++ flat_map (feature_lookups tables table) (filter (is_of_stage stage) features))
 

@@ -5,7 +5,8 @@
 //! [`run_lines`] prints the glyphs that are left, [`explain_lines`] also what was expected of a
 //! rejected line, and [`draw_lines`] writes a page of HTML that shows what each hook did.
 //! [`explain_end`] names the field of a rejected line, and [`without_table`] the characters of the
-//! texts that no `table` line is about. [`lines_of_word`] makes the lines that a word takes.
+//! texts that no `table` line is about. [`lines_of_word`] makes the lines that a word takes, and
+//! [`Steps`] has what the page of bindings/page shows.
 //!
 //! ```
 //! use sengadlit::alloc::Global;
@@ -34,10 +35,12 @@ mod generated {
     pub(crate) mod hbhook_lines;
 }
 mod explained;
+mod steps;
 mod support;
 mod word;
 
 pub use explained::{explain_end, without_table};
 pub use generated::hbhook_draw::draw_lines;
 pub use generated::hbhook_lines::{explain_lines, run_lines};
-pub use word::lines_of_word;
+pub use steps::{Choices, MOST_SHOWN, Step, Steps, drawing_style};
+pub use word::{lines_of_word, scripts_with_hooks};

@@ -5,7 +5,7 @@ mod collecting;
 pub mod collections;
 pub mod io;
 mod messages;
-mod string;
+pub mod string;
 
 pub mod alloc {
     //! The allocator that calls are handed, and what they return where it has no memory.

@@ -54,8 +54,11 @@ const SCRIPTS: [(char, char, [u8; 4]); 44] = [
     ('\u{1E900}', '\u{1E95F}', *b"Adlm"),
 ];
 
+/// The line of the hook before normalization.
+pub(crate) const PREPROCESS: &str = "run preprocess";
+
 /// The scripts of these whose text runs from right to left.
-const FROM_RIGHT: [&[u8; 4]; 6] = [b"Hebr", b"Arab", b"Syrc", b"Nkoo", b"Mand", b"Adlm"];
+pub(crate) const FROM_RIGHT: [&[u8; 4]; 6] = [b"Hebr", b"Arab", b"Syrc", b"Nkoo", b"Mand", b"Adlm"];
 
 /// The lines that run the hooks of a word's script over it, in the order of a pipeline: what comes
 /// before normalization, masks, and the pauses that set syllables up and reorder them. The features
@@ -73,38 +76,80 @@ const FROM_RIGHT: [&[u8; 4]; 6] = [b"Hebr", b"Arab", b"Syrc", b"Nkoo", b"Mand", 
 /// ```
 #[must_use]
 pub fn lines_of_word(word: &str) -> Option<String> {
-    let code = word.chars().find_map(script_of)?;
-    let script = Script(code);
-    let shaper = Shaper::for_script(script, Direction::LeftToRight, None)?;
+    let route = Route::of(script_of_word(word)?)?;
+    let text = line_of_text(&with_parts(route.shaper, route.script, word));
+    let lines = [route.settings, vec![text], route.hooks].concat();
+    Some(lines.join("\n") + "\n")
+}
+
+/// The codes of the scripts that [`lines_of_word`] knows, each once.
+#[must_use]
+pub fn scripts_with_hooks() -> Vec<[u8; 4]> {
+    let mut codes: Vec<[u8; 4]> = SCRIPTS.iter().map(|row| row.2).collect();
+    codes.sort_unstable();
+    codes.dedup();
+    codes
+}
+
+/// The way of a script's text through its hooks: the shaper, and the lines before and behind the
+/// line of the text.
+pub(crate) struct Route {
+    pub(crate) script: Script,
+    pub(crate) shaper: Shaper,
+    pub(crate) settings: Vec<String>,
+    pub(crate) hooks: Vec<String>,
+}
+
+impl Route {
+    /// The way of the script of this code, if it has hooks.
+    pub(crate) fn of(code: [u8; 4]) -> Option<Self> {
+        let script = Script(code);
+        let shaper = Shaper::for_script(script, Direction::LeftToRight, None)?;
+        let planned = Planned::of(shaper, script)?;
+        Some(Route {
+            script,
+            shaper,
+            settings: settings_of(shaper, code, &planned.features),
+            hooks: hooks_of(shaper, &planned.pauses),
+        })
+    }
+}
+
+/// The script of the first character that is of one with a shaper.
+pub(crate) fn script_of_word(word: &str) -> Option<[u8; 4]> {
+    word.chars().find_map(script_of)
+}
+
+// The lines that set a script up: its shaper and direction, and a mask for each of these features.
+fn settings_of(shaper: Shaper, code: [u8; 4], features: &[Tag]) -> Vec<String> {
     let mut lines = vec!["set tables unicode".into()];
     lines.push(format!("set shaper {}", name_of(shaper)));
     lines.push(format!("set script {}", String::from_utf8_lossy(&code)));
     if FROM_RIGHT.contains(&&code) {
         lines.push("set direction rtl".into());
     }
-    let planned = Planned::of(shaper, script)?;
-    let masks = planned.features.iter().zip(4..32);
+    let masks = features.iter().zip(4..32);
     lines.extend(masks.map(|(tag, bit)| {
         let tag = String::from_utf8_lossy(&tag.0);
         format!("mask {tag} {:x}", 1u32 << bit)
     }));
-    lines.push(line_of_text(&with_parts(shaper, script, word)));
+    lines
+}
+
+// The lines of a shaper's hooks and of these pauses, in the order of a pipeline.
+fn hooks_of(shaper: Shaper, pauses: &[&str]) -> Vec<String> {
+    let mut lines = Vec::new();
     if matches!(shaper, Shaper::Thai | Shaper::Hangul) {
-        lines.push("run preprocess".into());
+        lines.push(PREPROCESS.into());
     }
     if shaper.has_hook(sengadlit::shaper::Hook::SetupMasks) {
         lines.push("run masks".into());
     }
-    if !planned.pauses.is_empty() {
+    if !pauses.is_empty() {
         lines.push("spans found".into());
     }
-    lines.extend(
-        planned
-            .pauses
-            .iter()
-            .map(|name| format!("run pause {name}")),
-    );
-    Some(lines.join("\n") + "\n")
+    lines.extend(pauses.iter().map(|name| format!("run pause {name}")));
+    lines
 }
 
 fn script_of(character: char) -> Option<[u8; 4]> {
@@ -211,8 +256,8 @@ fn push_parts(shaper: Shaper, plan: &Plan, character: char, parts: &mut String) 
     }
 }
 
-// The line of a text: characters of ASCII by their numbers, and others as they are.
-fn line_of_text(text: &str) -> String {
+/// The line of a text: characters of ASCII by their numbers, and others as they are.
+pub(crate) fn line_of_text(text: &str) -> String {
     let mut line = String::from("text ");
     for character in text.chars() {
         if character.is_ascii() || character.is_whitespace() || character.is_control() {

@@ -18,9 +18,12 @@
 
    Callbacks run on the thread of the call, before it returns. They return the same result for the same arguments
    throughout a call; if one doesn't, the result is unspecified or SENGADLIT_INTERNAL, and memory stays sound all the same.
-   A callback has to return: no C++ exception and no longjmp may leave it. It must not pass the buffer of the call to any
-   function of this library, nor touch its glyphs or positions, nor drop the last reference to the plan of the call. It may
-   use other buffers and plans. */
+   A callback may use other buffers and plans. The buffer of its call is rejected by every function: those that return a
+   status return SENGADLIT_IN_CALL, those that return a pointer null, and the others do nothing, except that
+   sengadlit_buffer_destroy takes effect when the call ends, and sengadlit_buffer_get_error works. A callback must not touch
+   the glyphs or positions of that buffer by pointers from before, nor drop the last reference to the plan of the call.
+   A C++ exception that leaves a callback ends the program, with a message on stderr. A jump (longjmp) may leave one; memory
+   that the call took isn't freed then, and its buffer is in that call for good: see sengadlit_buffer_abandon. */
 #ifndef SENGADLIT_H
 #define SENGADLIT_H
 
@@ -30,23 +33,6 @@
 #ifdef __cplusplus
 extern "C" {
 #endif
-
-/* ---- Version ---- */
-
-#define SENGADLIT_VERSION_MAJOR 0
-#define SENGADLIT_VERSION_MINOR 1
-#define SENGADLIT_VERSION_MICRO 0
-#define SENGADLIT_VERSION_STRING "0.1.0"
-
-/* Whether this header is of the given version or a later one. */
-#define SENGADLIT_VERSION_ATLEAST(major, minor, micro) \
-    ((major) * 10000 + (minor) * 100 + (micro) <= \
-     SENGADLIT_VERSION_MAJOR * 10000 + SENGADLIT_VERSION_MINOR * 100 + SENGADLIT_VERSION_MICRO)
-
-/* The version of the library that runs, which may be later than the header's. Each pointer may be null. */
-void sengadlit_version(unsigned int *major, unsigned int *minor, unsigned int *micro);
-/* The same as text, "0.1.0". The text is the library's and stays. */
-const char *sengadlit_version_string(void);
 
 /* ---- Common types ---- */
 
@@ -70,6 +56,25 @@ typedef enum sengadlit_direction_t {
 /* Frees what user data points to. */
 typedef void (*sengadlit_destroy_func_t)(void *user_data);
 
+/* ---- Version ---- */
+
+#define SENGADLIT_VERSION_MAJOR 0
+#define SENGADLIT_VERSION_MINOR 1
+#define SENGADLIT_VERSION_MICRO 0
+#define SENGADLIT_VERSION_STRING "0.1.0"
+
+/* Whether this header is of the given version or a later one. */
+#define SENGADLIT_VERSION_ATLEAST(major, minor, micro) \
+    ((major) * 10000 + (minor) * 100 + (micro) <= \
+     SENGADLIT_VERSION_MAJOR * 10000 + SENGADLIT_VERSION_MINOR * 100 + SENGADLIT_VERSION_MICRO)
+
+/* Whether the library that runs is of the given version or a later one. */
+sengadlit_bool_t sengadlit_version_atleast(unsigned int major, unsigned int minor, unsigned int micro);
+/* The version of the library that runs, which may be later than the header's. Each pointer may be null. */
+void sengadlit_version(unsigned int *major, unsigned int *minor, unsigned int *micro);
+/* The same as text, "0.1.0". The text is the library's and stays. */
+const char *sengadlit_version_string(void);
+
 /* ---- Errors ---- */
 
 /* How a call ended. */
@@ -86,6 +91,8 @@ typedef enum sengadlit_status_t {
     SENGADLIT_INTERNAL = 9,          /* A fault of the library, or of a callback whose result changed: the buffer of
                                         the call is empty, with its properties, and may be used again. A message went to
                                         stderr, or where sengadlit_set_message_func says. */
+    SENGADLIT_IN_CALL = 10,          /* Another call has the buffer: this one was made by a callback of it, or a jump left
+                                        it. */
     SENGADLIT_STATUS_MAX_VALUE = 0x7FFFFFFF
 } sengadlit_status_t;
 
@@ -229,6 +236,141 @@ enum {
     SENGADLIT_JOINING_TYPE_X = 8             /* T for categories Mn, Me and Cf, else U. */
 };
 
+/* Categories and positions. The numbers are those of HarfBuzz 13.0.0 by HarfRust 0.12.0, which follows it: ot_category_t,
+   ot_position_t, and the machine of the universal shaper. HarfBuzz 6.0.0 has fewer of them (no SMPST, no RK), numbered alike. */
+enum {
+    SENGADLIT_INDIC_CATEGORY_X = 0,              /* Another character. */
+    SENGADLIT_INDIC_CATEGORY_C = 1,              /* Consonant. */
+    SENGADLIT_INDIC_CATEGORY_V = 2,              /* Independent vowel. */
+    SENGADLIT_INDIC_CATEGORY_N = 3,              /* Nukta. */
+    SENGADLIT_INDIC_CATEGORY_H = 4,              /* Halant. */
+    SENGADLIT_INDIC_CATEGORY_ZWNJ = 5,
+    SENGADLIT_INDIC_CATEGORY_ZWJ = 6,
+    SENGADLIT_INDIC_CATEGORY_M = 7,              /* Matra. */
+    SENGADLIT_INDIC_CATEGORY_SM = 8,             /* Syllable modifier. */
+    SENGADLIT_INDIC_CATEGORY_A = 9,              /* Vedic accent. */
+    SENGADLIT_INDIC_CATEGORY_PLACEHOLDER = 10,
+    SENGADLIT_INDIC_CATEGORY_DOTTEDCIRCLE = 11,
+    SENGADLIT_INDIC_CATEGORY_RS = 12,            /* Register shifter. */
+    SENGADLIT_INDIC_CATEGORY_MPST = 13,          /* Matra behind post-base consonants. */
+    SENGADLIT_INDIC_CATEGORY_REPHA = 14,         /* Reph with a character of its own. */
+    SENGADLIT_INDIC_CATEGORY_RA = 15,            /* The letter that becomes a reph. */
+    SENGADLIT_INDIC_CATEGORY_CM = 16,            /* Medial consonant. */
+    SENGADLIT_INDIC_CATEGORY_SYMBOL = 17,
+    SENGADLIT_INDIC_CATEGORY_CS = 18,            /* Consonant with a stacker. */
+    SENGADLIT_INDIC_CATEGORY_SMPST = 57          /* Syllable modifier behind others. */
+};
+enum {
+    SENGADLIT_KHMER_CATEGORY_X = 0,
+    SENGADLIT_KHMER_CATEGORY_C = 1,
+    SENGADLIT_KHMER_CATEGORY_V = 2,
+    SENGADLIT_KHMER_CATEGORY_H = 4,              /* Coeng. */
+    SENGADLIT_KHMER_CATEGORY_ZWNJ = 5,
+    SENGADLIT_KHMER_CATEGORY_ZWJ = 6,
+    SENGADLIT_KHMER_CATEGORY_PLACEHOLDER = 10,
+    SENGADLIT_KHMER_CATEGORY_DOTTEDCIRCLE = 11,
+    SENGADLIT_KHMER_CATEGORY_RA = 15,            /* Ro. */
+    SENGADLIT_KHMER_CATEGORY_VABV = 20,          /* Vowel above the base. */
+    SENGADLIT_KHMER_CATEGORY_VBLW = 21,          /* Below it. */
+    SENGADLIT_KHMER_CATEGORY_VPRE = 22,          /* Before it. */
+    SENGADLIT_KHMER_CATEGORY_VPST = 23,          /* Behind it. */
+    SENGADLIT_KHMER_CATEGORY_ROBATIC = 25,
+    SENGADLIT_KHMER_CATEGORY_XGROUP = 26,        /* Sign that follows a base or a vowel. */
+    SENGADLIT_KHMER_CATEGORY_YGROUP = 27         /* Sign that closes a syllable. */
+};
+enum {
+    SENGADLIT_MYANMAR_CATEGORY_X = 0,
+    SENGADLIT_MYANMAR_CATEGORY_C = 1,
+    SENGADLIT_MYANMAR_CATEGORY_IV = 2,           /* Independent vowel. */
+    SENGADLIT_MYANMAR_CATEGORY_DB = 3,           /* Dot below: N of Indic. */
+    SENGADLIT_MYANMAR_CATEGORY_H = 4,            /* Virama. */
+    SENGADLIT_MYANMAR_CATEGORY_ZWNJ = 5,
+    SENGADLIT_MYANMAR_CATEGORY_ZWJ = 6,
+    SENGADLIT_MYANMAR_CATEGORY_SM = 8,           /* Visarga and tones of Shan. */
+    SENGADLIT_MYANMAR_CATEGORY_A = 9,            /* Anusvara. */
+    SENGADLIT_MYANMAR_CATEGORY_GB = 10,          /* Generic base: PLACEHOLDER of Indic. */
+    SENGADLIT_MYANMAR_CATEGORY_DOTTEDCIRCLE = 11,
+    SENGADLIT_MYANMAR_CATEGORY_RA = 15,          /* Letter of a Kinzi. */
+    SENGADLIT_MYANMAR_CATEGORY_CS = 18,
+    SENGADLIT_MYANMAR_CATEGORY_VABV = 20,
+    SENGADLIT_MYANMAR_CATEGORY_VBLW = 21,
+    SENGADLIT_MYANMAR_CATEGORY_VPRE = 22,
+    SENGADLIT_MYANMAR_CATEGORY_VPST = 23,
+    SENGADLIT_MYANMAR_CATEGORY_AS = 32,          /* Asat. */
+    SENGADLIT_MYANMAR_CATEGORY_MH = 35,          /* Medial Ha. */
+    SENGADLIT_MYANMAR_CATEGORY_MR = 36,          /* Medial Ra. */
+    SENGADLIT_MYANMAR_CATEGORY_MW = 37,          /* Medial Wa. */
+    SENGADLIT_MYANMAR_CATEGORY_MY = 38,          /* Medial Ya. */
+    SENGADLIT_MYANMAR_CATEGORY_PT = 39,          /* Tone of Pwo and other languages. */
+    SENGADLIT_MYANMAR_CATEGORY_VS = 40,          /* Variation selector. */
+    SENGADLIT_MYANMAR_CATEGORY_ML = 41,          /* Medial La of Mon. */
+    SENGADLIT_MYANMAR_CATEGORY_SMPST = 57
+};
+enum {
+    SENGADLIT_USE_CATEGORY_O = 0,                /* Another character. */
+    SENGADLIT_USE_CATEGORY_B = 1,                /* Base. */
+    SENGADLIT_USE_CATEGORY_N = 4,                /* Number that is a base. */
+    SENGADLIT_USE_CATEGORY_GB = 5,               /* Generic base. */
+    SENGADLIT_USE_CATEGORY_CGJ = 6,              /* Combining grapheme joiner. */
+    SENGADLIT_USE_CATEGORY_SUB = 11,             /* Consonant below the base. */
+    SENGADLIT_USE_CATEGORY_H = 12,               /* Halant. */
+    SENGADLIT_USE_CATEGORY_HN = 13,              /* Halant of numbers. */
+    SENGADLIT_USE_CATEGORY_ZWNJ = 14,
+    SENGADLIT_USE_CATEGORY_WJ = 16,              /* Word joiner. */
+    SENGADLIT_USE_CATEGORY_R = 18,               /* Repha. */
+    SENGADLIT_USE_CATEGORY_VPRE = 22,            /* Vowels: before the base. */
+    SENGADLIT_USE_CATEGORY_VMPRE = 23,           /* Vowel modifiers: before the base. */
+    SENGADLIT_USE_CATEGORY_FABV = 24,            /* Final consonants: above, below, behind. */
+    SENGADLIT_USE_CATEGORY_FBLW = 25,
+    SENGADLIT_USE_CATEGORY_FPST = 26,
+    SENGADLIT_USE_CATEGORY_MABV = 27,            /* Medial consonants: above, below, behind, before. */
+    SENGADLIT_USE_CATEGORY_MBLW = 28,
+    SENGADLIT_USE_CATEGORY_MPST = 29,
+    SENGADLIT_USE_CATEGORY_MPRE = 30,
+    SENGADLIT_USE_CATEGORY_CMABV = 31,           /* Consonant modifiers: above, below. */
+    SENGADLIT_USE_CATEGORY_CMBLW = 32,
+    SENGADLIT_USE_CATEGORY_VABV = 33,            /* Vowels: above, below, behind. */
+    SENGADLIT_USE_CATEGORY_VBLW = 34,
+    SENGADLIT_USE_CATEGORY_VPST = 35,
+    SENGADLIT_USE_CATEGORY_VMABV = 37,           /* Vowel modifiers: above, below, behind. */
+    SENGADLIT_USE_CATEGORY_VMBLW = 38,
+    SENGADLIT_USE_CATEGORY_VMPST = 39,
+    SENGADLIT_USE_CATEGORY_SMABV = 41,           /* Marks of symbols: above, below. */
+    SENGADLIT_USE_CATEGORY_SMBLW = 42,
+    SENGADLIT_USE_CATEGORY_CS = 43,              /* Consonant with a stacker. */
+    SENGADLIT_USE_CATEGORY_IS = 44,              /* Stacker that isn't seen. */
+    SENGADLIT_USE_CATEGORY_FMABV = 45,           /* Modifiers of finals: above, below, behind. */
+    SENGADLIT_USE_CATEGORY_FMBLW = 46,
+    SENGADLIT_USE_CATEGORY_FMPST = 47,
+    SENGADLIT_USE_CATEGORY_SK = 48,              /* Sakot. */
+    SENGADLIT_USE_CATEGORY_G = 49,               /* Hieroglyph. */
+    SENGADLIT_USE_CATEGORY_J = 50,               /* Joiner of hieroglyphs. */
+    SENGADLIT_USE_CATEGORY_SB = 51,              /* Sign that begins a segment of hieroglyphs. */
+    SENGADLIT_USE_CATEGORY_SE = 52,              /* One that ends it. */
+    SENGADLIT_USE_CATEGORY_HVM = 53,             /* Halant or vowel modifier. */
+    SENGADLIT_USE_CATEGORY_HM = 54,              /* Modifier of hieroglyphs. */
+    SENGADLIT_USE_CATEGORY_HR = 55,              /* Mirror of hieroglyphs. */
+    SENGADLIT_USE_CATEGORY_RK = 56               /* Reordering killer. */
+};
+/* The places in a syllable, in the order in which Indic sorts by them. */
+enum {
+    SENGADLIT_INDIC_POSITION_START = 0,
+    SENGADLIT_INDIC_POSITION_RA_TO_BECOME_REPH = 1,
+    SENGADLIT_INDIC_POSITION_PRE_M = 2,          /* M: matras. */
+    SENGADLIT_INDIC_POSITION_PRE_C = 3,          /* C: consonants. */
+    SENGADLIT_INDIC_POSITION_BASE_C = 4,
+    SENGADLIT_INDIC_POSITION_AFTER_MAIN = 5,     /* Behind the base. */
+    SENGADLIT_INDIC_POSITION_ABOVE_C = 6,
+    SENGADLIT_INDIC_POSITION_BEFORE_SUB = 7,     /* SUB: consonants below the base. */
+    SENGADLIT_INDIC_POSITION_BELOW_C = 8,
+    SENGADLIT_INDIC_POSITION_AFTER_SUB = 9,
+    SENGADLIT_INDIC_POSITION_BEFORE_POST = 10,   /* POST: consonants behind the base. */
+    SENGADLIT_INDIC_POSITION_POST_C = 11,
+    SENGADLIT_INDIC_POSITION_AFTER_POST = 12,
+    SENGADLIT_INDIC_POSITION_SMVD = 13,          /* Syllable modifiers and Vedic signs. */
+    SENGADLIT_INDIC_POSITION_END = 14
+};
+
 /* The Unicode Character Database and the shapers' tables. A function that no call uses may be null. Where a call takes null
    tables, they are the library's own, of Unicode 17.0. */
 typedef struct sengadlit_tables_funcs_t {
@@ -236,10 +378,10 @@ typedef struct sengadlit_tables_funcs_t {
     uint8_t (*joining_type)(void *user_data, uint32_t unicode);
     /* SENGADLIT_UNICODE_GENERAL_CATEGORY_..; any other number counts as UNASSIGNED. */
     uint8_t (*general_category)(void *user_data, uint32_t unicode);
-    /* For Indic, Khmer and Myanmar: the category, and 256 times the position, as hb_indic_get_categories. The hooks take
-       any number; one that HarfBuzz doesn't use is a category that no rule names. */
+    /* For Indic, Khmer and Myanmar: SENGADLIT_.._CATEGORY_.., and 256 times SENGADLIT_INDIC_POSITION_.., as
+       hb_indic_get_categories. The hooks take any number; one without a name here is a category that no rule names. */
     uint16_t (*indic_categories)(void *user_data, uint32_t unicode);
-    /* For the universal shaper: as hb_use_get_category. The hooks take any number. */
+    /* For the universal shaper: SENGADLIT_USE_CATEGORY_.., as hb_use_get_category. The hooks take any number. */
     uint8_t (*use_category)(void *user_data, uint32_t unicode);
     /* Canonical composition and decomposition into two, as hb_unicode_compose and hb_unicode_decompose. What isn't a
        Unicode scalar value counts as none. */
@@ -327,7 +469,7 @@ typedef struct sengadlit_stage_t {
 typedef struct sengadlit_plan_input_t {
     sengadlit_tag_t script;          /* Of the text; 0 if it isn't known. */
     sengadlit_tag_t chosen_script;   /* The script tag that GSUB was found to offer, as hb_ot_map_t::chosen_script; or 0. */
-    sengadlit_bool_t found_script;   /* Whether that is one of the script's own tags. */
+    sengadlit_bool_t found_script;   /* Whether that is one of the script's own tags; read for Thai alone. */
     sengadlit_bool_t has_gpos_mark;  /* Whether GPOS has the feature `mark`: read by Hebrew's compose. */
     sengadlit_bool_t centres_stretch; /* Whether the tiles of stretched marks are centred; else as rustybuzz lays them. */
     sengadlit_bool_t sound_breaks;   /* Whether joining flags each place where a broken text would be shaped otherwise. */
@@ -433,7 +575,8 @@ enum {
 typedef struct sengadlit_glyph_info_t {
     uint32_t codepoint;              /* A character before the font's mapping, a glyph number after it. */
     uint32_t cluster;                /* The place in the text that it leads back to. */
-    uint32_t mask;                   /* The features that are on, and glyph flags. */
+    uint32_t mask;                   /* The features that are on, and glyph flags. Before sengadlit_setup_masks: the plan's
+                                        global_mask, to which the hooks add bits of features. */
     uint32_t var;                    /* The caller's own: no hook reads it. */
     uint8_t syllable;                /* A serial in the high four bits, the kind in the low four; 0 in no syllable. */
     uint8_t category;                /* ot_shaper_var_u8_category of HarfBuzz. */
@@ -443,6 +586,10 @@ typedef struct sengadlit_glyph_info_t {
     uint8_t lig_comp;                /* As _hb_glyph_info_get_lig_comp: 0 to 15. */
     uint8_t marks;                   /* SENGADLIT_GLYPH_MARK_.. */
 } sengadlit_glyph_info_t;
+
+/* The modified combining class of a character in Unicode 17.0, which HarfBuzz sorts marks by: general ones are Unicode's, and
+   those of Hebrew, Arabic, Telugu, Thai, Lao and Tibetan are others. 0 for what is no character. */
+uint8_t sengadlit_modified_combining_class(uint32_t unicode);
 
 /* Where a glyph is drawn and how far it moves the pen, in font units: as hb_glyph_position_t, without its `var`. */
 typedef struct sengadlit_glyph_position_t {
@@ -484,6 +631,18 @@ typedef struct sengadlit_buffer_t sengadlit_buffer_t;
 sengadlit_buffer_t *sengadlit_buffer_create(void);
 /* `buffer` may be null. */
 void sengadlit_buffer_destroy(sengadlit_buffer_t *buffer);
+/* After a jump (longjmp) out of a callback, which leaves the call on the buffer for good: the buffer may only be destroyed, and
+   every other function rejects it still. Memory that the call could have in use isn't freed by either: that of the buffer, and
+   what the call itself took. It does nothing for null, for a buffer in no call, and where the callback returns after all. */
+void sengadlit_buffer_abandon(sengadlit_buffer_t *buffer);
+
+/* Makes the buffer ready for another text, as hb_buffer_clear_contents: glyphs, positions, contexts and the state go, script
+   and direction become those of a new buffer; cluster_level, flags and max_length stay, and so does memory. Without it a state
+   stays as the text before left it: after one with a broken syllable, reorderings look for a dotted circle in each text.
+   `buffer` may be null. */
+void sengadlit_buffer_clear_contents(sengadlit_buffer_t *buffer);
+/* The same, and all properties become those of a new buffer. */
+void sengadlit_buffer_reset(sengadlit_buffer_t *buffer);
 
 /* Gives the text this length and returns its glyphs: those that were there stay as they are, new ones are all zero, and
    there are no positions. The pointer holds until the buffer is passed to another function, sengadlit_buffer_get_error,
@@ -525,9 +684,9 @@ sengadlit_status_t sengadlit_buffer_set_properties(sengadlit_buffer_t *buffer, c
 sengadlit_status_t sengadlit_buffer_set_context(sengadlit_buffer_t *buffer, const uint32_t *before, unsigned int before_length,
                                                 const uint32_t *after, unsigned int after_length);
 
-/* What one hook leaves for a later one, as HarfBuzz's scratch flags. It stays until it is set again. */
+/* What one hook leaves for a later one, as HarfBuzz's scratch flags. It stays until it is set or the buffer cleared. */
 enum {
-    SENGADLIT_BUFFER_STATE_HAS_BROKEN_SYLLABLE = 0x01, /* Set by the set-ups, read by the reorderings. */
+    SENGADLIT_BUFFER_STATE_HAS_BROKEN_SYLLABLE = 0x01, /* Set by the set-ups, read by the reorderings; none clears it. */
     SENGADLIT_BUFFER_STATE_HAS_STCH = 0x02             /* Set by RECORD_STCH, read by postprocess_glyphs. */
 };
 /* Other bits are ignored, and so is a null buffer. */
@@ -543,20 +702,63 @@ void sengadlit_buffer_get_error(const sengadlit_buffer_t *buffer, sengadlit_erro
 
 /* All of them: ARGUMENT for PLAN, POSITIONS and GENERAL_CATEGORY besides what each lists, and for a null buffer. An
    argument is rejected before ABSENT is returned. TOO_LONG: the text is longer than max_length already. MEMORY only where
-   listed. Where glyphs merge or move, or text may not be broken any more, `cluster` and the glyph flags of `mask` are
-   read and written besides what each lists. */
+   listed. IN_CALL.
 
-/* Thai: SARA AM is taken apart; and for a plan without found_script the forms of the Private Use Area, which call
-   nominal_glyph. Hangul: jamo are composed and syllables decomposed as the font has them, and tones reordered, which calls
-   nominal_glyph and glyph_h_advance. Indic and universal: nothing changes, and `vowel_constraints`, which may be null, is
-   set to 1: the caller has to run the vowel constraints. It is set to 0 otherwise, unless the call fails.
-   Reads codepoint; writes codepoint, Thai general_category and SENGADLIT_GLYPH_MARK_CONTINUATION, Hangul auxiliary; adds,
-   removes and moves glyphs. `font` may be null where it isn't called. ARGUMENT: FONT. TOO_LONG, MEMORY. */
+   The list says for each shaper, or pause, which fields of a glyph are read -> written; (joins) stands for scripts whose
+   letters join (sengadlit_plan_data_t). Besides, `cluster` and the glyph flags of `mask` are read and written where glyphs
+   merge or move, or text may not be broken any more. Bits of features are or-ed to those of `mask`, but that
+   INITIAL_REORDERING takes `half` from consonants before a ZWNJ, and SETUP_SYLLABLES_USE replaces isol, init, medi and fina
+   where letters don't join.
+
+   preprocess_text THAI: codepoint -> codepoint general_category marks
+   preprocess_text HANGUL: codepoint -> codepoint auxiliary
+   preprocess_text INDIC: - -> -
+   preprocess_text UNIVERSAL: - -> -
+   reorder_marks ARABIC: codepoint modified_combining_class -> modified_combining_class
+   reorder_marks HEBREW: modified_combining_class -> -
+   setup_masks ARABIC: codepoint general_category -> auxiliary mask
+   setup_masks HANGUL: auxiliary -> mask
+   setup_masks INDIC: codepoint -> category auxiliary
+   setup_masks KHMER: codepoint -> category
+   setup_masks MYANMAR: codepoint -> category
+   setup_masks UNIVERSAL: codepoint -> category
+   setup_masks UNIVERSAL(joins): codepoint general_category -> category auxiliary mask
+   spans INDIC: category -> -
+   spans KHMER: category -> -
+   spans MYANMAR: category -> -
+   spans UNIVERSAL: category general_category -> -
+   run_pause SETUP_SYLLABLES_INDIC: - -> syllable
+   run_pause SETUP_SYLLABLES_KHMER: - -> syllable
+   run_pause SETUP_SYLLABLES_MYANMAR: - -> syllable
+   run_pause SETUP_SYLLABLES_USE: category -> syllable mask
+   run_pause SETUP_SYLLABLES_USE(joins): category -> syllable mask
+   run_pause INITIAL_REORDERING: codepoint syllable category auxiliary marks -> mask auxiliary
+   run_pause REORDER_KHMER: syllable category -> mask
+   run_pause REORDER_MYANMAR: syllable category marks -> auxiliary
+   run_pause REORDER_USE: syllable category marks lig_comp -> -
+   run_pause FINAL_REORDERING: codepoint mask syllable category auxiliary general_category marks -> mask category auxiliary marks
+   run_pause RECORD_STCH: marks lig_comp -> auxiliary
+   run_pause RECORD_RPHF: mask syllable marks -> category
+   run_pause RECORD_PREF: syllable marks -> category
+   run_pause SYLLABIC_CLEAR_VAR: - -> syllable
+   run_pause CLEAR_SUBSTITUTION_FLAGS: marks -> marks
+   run_pause ARABIC_FALLBACK_SHAPE: - -> -
+   postprocess_glyphs ARABIC: codepoint auxiliary general_category marks -> -
+*/
+
+/* Thai: SARA AM is taken apart, of `marks` SENGADLIT_GLYPH_MARK_CONTINUATION is written; and for a plan of the script Thai
+   without found_script marks take the forms of the Private Use Area, which calls nominal_glyph. Hangul: jamo are composed and
+   syllables decomposed as the font has them, and tones reordered, which calls nominal_glyph and glyph_h_advance. Both add,
+   remove and move glyphs. Indic and universal: nothing changes, and `vowel_constraints`, which may be null, is set to 1: the
+   caller has to part vowels from signs with which they would look like another vowel, by dotted circles unless
+   DO_NOT_INSERT_DOTTED_CIRCLE is set, as hb_preprocess_text_vowel_constraints. It is set to 0 otherwise, unless the call
+   fails. `font` may be null where it isn't called. ARGUMENT: FONT. TOO_LONG, MEMORY. */
 sengadlit_status_t sengadlit_preprocess_text(const sengadlit_plan_t *plan, const sengadlit_font_t *font,
                                              sengadlit_buffer_t *buffer, sengadlit_bool_t *vowel_constraints);
 
-/* Whether the shaper composes two characters, or decomposes one: DONE, and what they make is written; NOT_FOUND; or ABSENT,
-   where Unicode's own composition holds. Calls compose (and for Indic, Khmer and universal general_category), or decompose.
+/* Whether the shaper composes two characters, or decomposes one. DONE: compose has written the character to `ab`, decompose
+   the two to `a` and `b`, of which `b` is 0 where the character is another one alone. NOT_FOUND, or ABSENT, where Unicode's own
+   composition holds: nothing was written. Calls compose (and for Indic, Khmer and universal general_category), or decompose.
    `tables` may be null.
    `error` may be null; it is written where anything else is returned. ARGUMENT: PLAN, TABLES, RESULT, or CODEPOINT, which
    isn't a scalar value. */
@@ -565,22 +767,22 @@ sengadlit_status_t sengadlit_decompose(const sengadlit_plan_t *plan, const senga
 sengadlit_status_t sengadlit_compose(const sengadlit_plan_t *plan, const sengadlit_tables_t *tables, uint32_t a, uint32_t b,
                                      uint32_t *ab, sengadlit_error_t *error);
 
-/* Reorders the marks from place `start` to before `end` (Arabic, Hebrew). Reads modified_combining_class, moves glyphs;
-   Arabic also reads codepoint and writes modified_combining_class. ARGUMENT: RANGE, which for Arabic is of at most 32
+/* Reorders the marks from place `start` to before `end` (Arabic, Hebrew). To be called in normalization, when characters are
+   decomposed and before they are composed again, for each run of characters whose modified_combining_class isn't 0, after they
+   were sorted by it; HarfBuzz leaves runs of more than 32 as they are. ARGUMENT: RANGE, which for Arabic is of at most 32
    places. */
 sengadlit_status_t sengadlit_reorder_marks(const sengadlit_plan_t *plan, sengadlit_buffer_t *buffer, unsigned int start,
                                            unsigned int end);
 
-/* Indic, Khmer, Myanmar: reads codepoint; writes category, and Indic and Myanmar auxiliary; calls indic_categories.
-   Universal: reads codepoint; writes category; calls use_category. Arabic, and universal where letters join: reads codepoint,
-   general_category, the properties and the context; writes auxiliary and mask; calls joining_type and general_category, the
-   latter for the context. Hangul: reads auxiliary; writes mask. `tables` may be null.
+/* Sets categories, Indic's positions (auxiliary), joining forms (auxiliary) and the masks of features that some glyphs alone
+   take. Indic, Khmer and Myanmar call indic_categories, universal use_category. Arabic, and universal where letters join: reads
+   the properties and the context, too; calls joining_type, and general_category for the context. `tables` may be null.
    ARGUMENT: TABLES; CODEPOINT: where letters join, not a scalar value. */
 sengadlit_status_t sengadlit_setup_masks(const sengadlit_plan_t *plan, const sengadlit_tables_t *tables,
                                          sengadlit_buffer_t *buffer);
 
-/* The kinds of syllables, as HarfBuzz's machines have them but for Myanmar's: its number of a kind becomes ours by
-   SENGADLIT_MYANMAR_SYLLABLE_FROM_HARFBUZZ, since its machine has no punctuation clusters any more. */
+/* The kinds of syllables, as the machines of HarfBuzz 6.0.0 and 12.3.2 number them but for Myanmar's: its number of a kind
+   becomes ours by SENGADLIT_MYANMAR_SYLLABLE_FROM_HARFBUZZ, since its machine has no punctuation clusters any more. */
 enum {
     SENGADLIT_INDIC_SYLLABLE_CONSONANT = 0,
     SENGADLIT_INDIC_SYLLABLE_VOWEL = 1,
@@ -620,24 +822,21 @@ typedef struct sengadlit_span_t {
 } sengadlit_span_t;
 
 /* The syllables of the text by the grammar of Indic, Khmer, Myanmar or universal, for the pause that sets them up: in order,
-   they cover the text; there are none for other shapers. Through `length`, which may be null, how many. Reads category, as
-   sengadlit_setup_masks writes it, and universal general_category. The pointer isn't null where there are none, and holds
-   until this function is called again with the buffer, or the buffer is destroyed. Null is returned for ARGUMENT: SHAPER,
-   GENERAL_CATEGORY, and for a null buffer; TOO_LONG; and MEMORY, where the buffer never had so many syllables. */
+   they cover the text; there are none for other shapers. Through `length`, which may be null, how many. They are told by
+   category, as sengadlit_setup_masks writes it. The pointer isn't null where there are none, and holds until this function is
+   called again with the buffer, or the buffer is destroyed. Null is returned for ARGUMENT: SHAPER, GENERAL_CATEGORY, and for a
+   null buffer; TOO_LONG; IN_CALL; and MEMORY, where the buffer never had so many syllables. */
 const sengadlit_span_t *sengadlit_spans(sengadlit_shaper_t shaper, sengadlit_buffer_t *buffer, unsigned int *length);
 
 /* Does what a shaper does between two stages of GSUB.
-   SETUP_SYLLABLES_..: reads the spans, which cover the text in its order; writes syllable and, if one is of the kind of
-   broken ones, the state HAS_BROKEN_SYLLABLE. Universal also reads category and writes mask. SPANS_DONT_COVER.
+   SETUP_SYLLABLES_..: reads the spans, which cover the text in its order; sets the state HAS_BROKEN_SYLLABLE if one is of the
+   kind of broken ones, and doesn't clear it. SPANS_DONT_COVER.
    INITIAL_REORDERING, REORDER_..: moves glyphs, and adds dotted circles where the state has HAS_BROKEN_SYLLABLE and the
-   properties allow it. Reads syllable, category, and INITIAL_REORDERING codepoint, auxiliary, marks, REORDER_USE marks,
-   lig_comp; writes mask, and INITIAL_REORDERING and REORDER_MYANMAR auxiliary. Calls nominal_glyph, and INITIAL_REORDERING
-   would_substitute too. MEMORY and TOO_LONG, of circles; UNKNOWN_SYLLABLE, but for REORDER_USE.
-   FINAL_REORDERING: moves glyphs; reads codepoint, syllable, category, auxiliary, general_category, marks; writes mask,
-   category, auxiliary, marks. Calls nominal_glyph.
-   RECORD_STCH: reads marks, lig_comp; writes auxiliary, the state HAS_STCH. RECORD_RPHF, RECORD_PREF: read syllable, marks,
-   and RECORD_RPHF mask; write category. SYLLABIC_CLEAR_VAR: writes 0 into syllable. CLEAR_SUBSTITUTION_FLAGS: clears
-   SENGADLIT_GLYPH_MARK_SUBSTITUTED. ARABIC_FALLBACK_SHAPE: nothing.
+   properties allow it. Calls nominal_glyph, and INITIAL_REORDERING would_substitute too. Of `marks` REORDER_MYANMAR reads
+   SENGADLIT_GLYPH_MARK_LIGATED alone. MEMORY and TOO_LONG, of circles; UNKNOWN_SYLLABLE, but for REORDER_USE.
+   FINAL_REORDERING: moves glyphs. Calls nominal_glyph.
+   RECORD_STCH: sets the state HAS_STCH. SYLLABIC_CLEAR_VAR: writes 0. CLEAR_SUBSTITUTION_FLAGS: of `marks`
+   SENGADLIT_GLYPH_MARK_SUBSTITUTED is cleared.
    `font` may be null where it isn't called, `spans` for all but the set-ups of a text that isn't empty. `circles`, which may
    be null, is set to whether dotted circles were wanted and the font has one, unless the call fails.
    ARGUMENT: PAUSE, FONT, SPANS; CODEPOINT (INITIAL_REORDERING): above 65535. */
@@ -650,10 +849,11 @@ sengadlit_status_t sengadlit_run_pause(const sengadlit_plan_t *plan, sengadlit_p
 sengadlit_status_t sengadlit_setup_syllables_found(const sengadlit_plan_t *plan, sengadlit_pause_t pause,
                                                    sengadlit_buffer_t *buffer);
 
-/* After positioning: where the state has HAS_STCH, stretches marks over the words beside them (Arabic). Reads auxiliary,
-   codepoint, general_category, marks, all of the positions; adds glyphs with their positions, writes x_advance, x_offset,
-   cluster and mask. Calls glyph_h_advance. ARGUMENT: FONT; CODEPOINT: above 65535; POSITIONS: there are none for a text
-   that isn't empty. STRETCH_OVERFLOW, TOO_LONG, MEMORY. */
+/* After positioning: where the state has HAS_STCH, stretches marks over the words beside them (Arabic). Wants the glyphs in
+   visual order, from left to right, as HarfBuzz calls it, which has reversed a text of direction RTL by then: in the order of
+   the text a mark stands before its word, and nothing is stretched. Reads all of the positions; adds glyphs with their
+   positions, writes x_advance and x_offset. Calls glyph_h_advance. ARGUMENT: FONT; CODEPOINT: above 65535; POSITIONS: there
+   are none for a text that isn't empty. STRETCH_OVERFLOW, TOO_LONG, MEMORY. */
 sengadlit_status_t sengadlit_postprocess_glyphs(const sengadlit_plan_t *plan, const sengadlit_font_t *font,
                                                 sengadlit_buffer_t *buffer);
 

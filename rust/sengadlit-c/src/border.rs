@@ -2,12 +2,13 @@
 //!
 //! What C promises, and each SAFETY line leans on: a pointer that isn't null is aligned and points to what its type says,
 //! for the length that stands beside it, and lasts through the call; objects came from this library and weren't destroyed;
-//! no other thread uses the buffer; callbacks are functions of the declared types, which return.
+//! no other thread uses the buffer; callbacks are functions of the declared types.
 #![allow(unsafe_code)]
 
 mod buffers;
 pub mod callbacks;
 pub mod glyphs;
+mod handle;
 mod hook_calls;
 mod messages;
 mod names;
@@ -16,10 +17,12 @@ pub mod plans;
 use crate::encodings::Unit;
 use crate::status::{Argument, Error};
 use core::ffi::c_int;
-use core::mem::MaybeUninit;
+use core::mem::{MaybeUninit, forget};
 use core::slice;
 use std::alloc::{Layout, alloc};
+use std::io::{self, Write as _};
 use std::panic::{AssertUnwindSafe, catch_unwind};
+use std::process::abort;
 
 /// Where C wants a result written; none where the pointer is null.
 type Out<'a, T> = Option<&'a mut MaybeUninit<T>>;
@@ -85,6 +88,26 @@ fn boxed<T>(thing: T) -> Option<Box<T>> {
     unsafe {
         place.write(thing);
         Some(Box::from_raw(place))
+    }
+}
+
+/// Calls a function of C's, and ends the program where an exception leaves it: no frame of this library is unwound by one.
+#[inline]
+fn call_back<A>(callback: impl FnOnce() -> A) -> A {
+    let returns = Returns;
+    let answer = callback();
+    forget(returns);
+    answer
+}
+
+/// What is forgotten when a callback has returned.
+struct Returns;
+
+impl Drop for Returns {
+    #[cold]
+    fn drop(&mut self) {
+        let _ = writeln!(io::stderr(), "sengadlit: an exception left a callback");
+        abort();
     }
 }
 

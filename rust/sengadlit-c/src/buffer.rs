@@ -1,5 +1,5 @@
-//! The buffer of C: a text, its positions, and why the last call failed.
-use crate::border::glyphs::{Takes, Text};
+//! The buffer of C: a text and its positions.
+use crate::border::glyphs::{MAX_LENGTH, Takes, Text};
 use crate::encodings::{Unit, characters, first, last};
 use crate::layout::{Glyph, Properties};
 use crate::numbers;
@@ -13,15 +13,13 @@ use sengadlit::buffer::{
 };
 use sengadlit::unicode::UnicodeTables;
 
-/// `sengadlit_buffer_t`.
+/// What a `sengadlit_buffer_t` holds.
 pub struct Buffer {
     pub text: Text,
     // One per glyph, or none.
     positions: List<GlyphPosition>,
     // What was found last; it is kept for its room.
     spans: List<Span>,
-    /// Why the last call that failed did.
-    pub error: Error,
 }
 
 impl Buffer {
@@ -31,7 +29,6 @@ impl Buffer {
             text: Text::new(),
             positions: List::new(Global),
             spans: List::new(Global),
-            error: Error::NONE,
         }
     }
 
@@ -40,6 +37,18 @@ impl Buffer {
     pub fn recover(&mut self) {
         self.text.recover();
         self.positions = List::new(Global);
+    }
+
+    /// Removes the text, and what was said of it.
+    pub fn clear(&mut self) {
+        self.text.clear();
+        self.positions.clear();
+    }
+
+    /// The same, and takes the properties of a new buffer.
+    pub fn reset(&mut self) {
+        self.clear();
+        self.text.set_properties(&BufferSettings::new(MAX_LENGTH));
     }
 
     /// Keeps so many glyphs, or adds default ones; no position stays.

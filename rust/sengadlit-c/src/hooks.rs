@@ -31,7 +31,7 @@ pub fn preprocess_text(
     buffer: &mut Buffer,
 ) -> Result<(Status, bool), Error> {
     let asks = match plan.shaper {
-        Shaper::Thai => FONT_NOMINAL,
+        Shaper::Thai if plan.wants_forms() => FONT_NOMINAL,
         Shaper::Hangul => FONT_NOMINAL | FONT_ADVANCE,
         _ => 0,
     };

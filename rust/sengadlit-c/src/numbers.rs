@@ -96,3 +96,74 @@ pub fn hooks(shaper: Shaper) -> u32 {
     let there = HOOKS.iter().filter(|(hook, _)| shaper.has_hook(*hook));
     there.fold(0, |bits, (_, bit)| bits | bit)
 }
+
+#[cfg(test)]
+mod tests {
+    use sengadlit::categories::{indic, khmer, myanmar, position, universal};
+
+    macro_rules! numbers {
+        ($module:ident: $($name:ident)*) => {
+            [$((stringify!($name), $module::$name)),*]
+        };
+    }
+
+    /// The header's enumerators with this prefix are these numbers.
+    fn are_in_header<const N: usize>(prefix: &str, mut numbers: [(&str, u8); N]) {
+        let header = include_str!("../include/sengadlit.h");
+        let lines = header
+            .lines()
+            .filter_map(|line| line.trim().strip_prefix(prefix));
+        let number = |line: &'static str| -> Option<(&str, u8)> {
+            let (name, number) = line.split_once(" = ")?;
+            let digits = number.split([',', ' ']).next()?;
+            Some((name, digits.parse().ok()?))
+        };
+        numbers.sort_by_key(|(_, number)| *number);
+        let found: Vec<_> = lines.filter_map(number).collect();
+        let wanted: Vec<_> = numbers
+            .iter()
+            .map(|(name, number)| (name.to_uppercase(), *number))
+            .collect();
+        assert!(
+            wanted
+                .iter()
+                .map(|(name, number)| (name.as_str(), *number))
+                .eq(found),
+            "{prefix}"
+        );
+    }
+
+    #[test]
+    fn categories_are_the_crates() {
+        are_in_header(
+            "SENGADLIT_INDIC_CATEGORY_",
+            numbers!(indic: X C V N H ZWNJ ZWJ M SM A PLACEHOLDER
+            DOTTEDCIRCLE RS MPst Repha Ra CM Symbol CS SMPst),
+        );
+        are_in_header(
+            "SENGADLIT_KHMER_CATEGORY_",
+            numbers!(khmer: X C V H ZWNJ ZWJ PLACEHOLDER DOTTEDCIRCLE Ra
+            VAbv VBlw VPre VPst Robatic Xgroup Ygroup),
+        );
+        are_in_header(
+            "SENGADLIT_MYANMAR_CATEGORY_",
+            numbers!(myanmar: X C IV DB H ZWNJ ZWJ SM A GB DOTTEDCIRCLE Ra
+            CS VAbv VBlw VPre VPst As MH MR MW MY PT VS ML SMPst),
+        );
+        are_in_header(
+            "SENGADLIT_USE_CATEGORY_",
+            numbers!(universal: O B N GB CGJ SUB H HN ZWNJ WJ R VPre VMPre FAbv
+            FBlw FPst MAbv MBlw MPst MPre CMAbv CMBlw VAbv VBlw VPst VMAbv VMBlw VMPst SMAbv SMBlw CS IS FMAbv FMBlw
+            FMPst Sk G J SB SE HVM HM HR RK),
+        );
+    }
+
+    #[test]
+    fn positions_are_the_crates() {
+        are_in_header(
+            "SENGADLIT_INDIC_POSITION_",
+            numbers!(position: START RA_TO_BECOME_REPH PRE_M PRE_C BASE_C
+            AFTER_MAIN ABOVE_C BEFORE_SUB BELOW_C AFTER_SUB BEFORE_POST POST_C AFTER_POST SMVD END),
+        );
+    }
+}

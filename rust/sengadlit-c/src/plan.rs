@@ -7,8 +7,9 @@ use core::ops::Range;
 use core::sync::atomic::AtomicUsize;
 use sengadlit::alloc::{AllocError, Global, Vec as List};
 use sengadlit::buffer::ShaperError;
-use sengadlit::map::{FeatureMap, Map};
+use sengadlit::map::{FeatureMap, Map, TableIndex};
 use sengadlit::plan::{ArabicPlan, BaseSearch, BreakFlags, Plan as Inner, StretchStart};
+use sengadlit::script::THAI;
 use sengadlit::shaper::Shaper;
 
 /// The bits of a mask that are glyph flags.
@@ -134,6 +135,12 @@ fn put_masks(data: &mut Data, masks: &[u32]) {
 }
 
 impl Plan {
+    /// Whether Thai takes the forms of the Private Use Area.
+    pub fn wants_forms(&self) -> bool {
+        let found_script = self.inner.ot_map.found_script(TableIndex::GSUB);
+        self.inner.script == Some(THAI) && !found_script
+    }
+
     /// Whether letters join.
     #[inline]
     pub fn joins(&self) -> bool {

@@ -27,6 +27,7 @@ named_numbers! {
     StretchOverflow = c"SENGADLIT_STRETCH_OVERFLOW",
     NotFound = c"SENGADLIT_NOT_FOUND",
     Internal = c"SENGADLIT_INTERNAL",
+    InCall = c"SENGADLIT_IN_CALL",
 }
 
 named_numbers! {
@@ -72,6 +73,8 @@ impl Error {
     pub const MEMORY: Self = Error::of(Status::Memory);
     /// A panic was caught.
     pub const INTERNAL: Self = Error::of(Status::Internal);
+    /// A call has the buffer.
+    pub const IN_CALL: Self = Error::of(Status::InCall);
 
     const fn of(status: Status) -> Self {
         Error {

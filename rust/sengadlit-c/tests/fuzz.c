@@ -383,9 +383,27 @@ static void call_others(sengadlit_plan_t *plan)
     (void)sengadlit_compose(plan, next() == 1 ? NULL : &tables, b, a, &c, NULL);
     (void)sengadlit_decompose(plan, next() == 1 ? NULL : &tables, next() & 1 ? a : b, &c, &d, NULL);
     (void)sengadlit_shaper_for_script(scripts[place], (sengadlit_direction_t)(next() % 9), next() == 1 ? a : 0, &found);
+    (void)sengadlit_modified_combining_class(a);
+    (void)sengadlit_version_atleast(a, b, 0);
     (void)sengadlit_status_name((sengadlit_status_t)a);
     (void)sengadlit_argument_name((sengadlit_argument_t)(a % 32));
     sengadlit_plan_destroy(sengadlit_plan_reference(plan));
+}
+
+/* Another text, in a buffer that may have been cleared. */
+static void begin_another(sengadlit_buffer_t *buffer)
+{
+    unsigned int length;
+
+    switch (next() % 4) {
+    case 0: sengadlit_buffer_clear_contents(buffer); break;
+    case 1: sengadlit_buffer_reset(buffer); break;
+    default: write_text(buffer); return;
+    }
+    (void)sengadlit_buffer_get_glyph_infos(buffer, &length);
+    if (length != 0 || sengadlit_buffer_get_state(buffer) != 0) abort();
+    write_settings(buffer);
+    write_text(buffer);
 }
 
 int LLVMFuzzerTestOneInput(const uint8_t *data, size_t size)
@@ -405,7 +423,7 @@ int LLVMFuzzerTestOneInput(const uint8_t *data, size_t size)
     write_settings(buffer);
     write_text(buffer);
     for (unsigned int i = 0; i < CALLS && left != 0; i++) {
-        if (next() % 16 == 1) write_text(buffer);
+        if (next() % 16 == 1) begin_another(buffer);
         make_call(plan, buffer);
     }
     sengadlit_buffer_destroy(buffer);

@@ -2,6 +2,7 @@
    is 'N passed, M failed'. */
 #include "world.h"
 
+#include <limits.h>
 #include <stdio.h>
 #include <stdlib.h>
 #include <string.h>
@@ -117,8 +118,13 @@ static void names_and_versions(void)
     sengadlit_version(NULL, NULL, NULL);
     check("the version", strcmp(sengadlit_version_string(), SENGADLIT_VERSION_STRING) == 0);
     check("a later version", SENGADLIT_VERSION_ATLEAST(0, 1, 0) && !SENGADLIT_VERSION_ATLEAST(99, 0, 0));
+    check("this version", sengadlit_version_atleast(major, minor, micro) == 1 && sengadlit_version_atleast(0, 0, UINT_MAX) == 1);
+    check("a later micro", !sengadlit_version_atleast(major, minor, micro + 1));
+    check("a later minor", !sengadlit_version_atleast(major, minor + 1, 0));
+    check("a later major", !sengadlit_version_atleast(major + 1, 0, 0));
     check("a status", strcmp(sengadlit_status_name(SENGADLIT_INTERNAL), "SENGADLIT_INTERNAL") == 0);
-    check("no status", strcmp(sengadlit_status_name((sengadlit_status_t)10), "unknown") == 0);
+    check("the last status", strcmp(sengadlit_status_name(SENGADLIT_IN_CALL), "SENGADLIT_IN_CALL") == 0);
+    check("no status", strcmp(sengadlit_status_name((sengadlit_status_t)11), "unknown") == 0);
     check("an argument", strcmp(sengadlit_argument_name(SENGADLIT_ARGUMENT_TEXT), "SENGADLIT_ARGUMENT_TEXT") == 0);
     check("no argument", strcmp(sengadlit_argument_name((sengadlit_argument_t)22), "unknown") == 0);
 }
@@ -364,6 +370,9 @@ static void buffers_that_are_none(void)
     expect("properties of no buffer", sengadlit_buffer_set_properties(NULL, &world.properties), SENGADLIT_ARGUMENT);
     expect("a context of no buffer", sengadlit_buffer_set_context(NULL, characters, 1, NULL, 0), SENGADLIT_ARGUMENT);
     sengadlit_buffer_set_state(NULL, 1);
+    sengadlit_buffer_abandon(NULL);
+    sengadlit_buffer_clear_contents(NULL);
+    sengadlit_buffer_reset(NULL);
     check("a state of no buffer", sengadlit_buffer_get_state(NULL) == 0);
     sengadlit_buffer_get_error(NULL, &error);
     expect_error("an error of no buffer", error, SENGADLIT_DONE, SENGADLIT_ARGUMENT_NONE, 0);
@@ -432,6 +441,69 @@ static void contexts_that_are_none(void)
     expect("no context", sengadlit_buffer_set_context(world.buffer, NULL, 0, NULL, 0), SENGADLIT_DONE);
 }
 
+/* Clearing, and resetting. */
+static void expect_empty(const char *what)
+{
+    unsigned int length = UNTOUCHED;
+
+    check(what, sengadlit_buffer_get_state(world.buffer) == 0);
+    check(what, sengadlit_buffer_get_glyph_infos(world.buffer, &length) != NULL && length == 0);
+    check(what, sengadlit_buffer_get_glyph_positions(world.buffer, &length) != NULL && length == 0);
+    check(what, sengadlit_buffer_set_length(world.buffer, 1) != NULL && glyphs()->codepoint == 0);
+    glyphs()->codepoint = 0x0628;
+    expect(what, masks(), SENGADLIT_DONE);
+    check("alone, since the context is gone", glyphs()->mask == 0x10);
+}
+
+/* BEH, which joins on both sides, between two others, and all else that a buffer holds. */
+static void begin_full(void)
+{
+    static const uint32_t letter[] = {0x0628};
+
+    begin_arabic();
+    world.properties.direction = SENGADLIT_DIRECTION_RTL;
+    limit_length(1);
+    (void)sengadlit_buffer_set_context(world.buffer, letter, 1, letter, 1);
+    sengadlit_buffer_set_state(world.buffer, ~0u);
+    glyphs()[0].general_category = 255;
+    (void)sengadlit_buffer_get_glyph_positions(world.buffer, NULL);
+}
+
+static void buffers_made_empty(void)
+{
+    begin_full();
+    sengadlit_buffer_clear_contents(world.buffer);
+    expect_empty("cleared");
+    check("the greatest length stays", sengadlit_buffer_set_length(world.buffer, 2) != NULL);
+    expect("the greatest length stays", masks(), SENGADLIT_TOO_LONG);
+    begin_full();
+    sengadlit_buffer_reset(world.buffer);
+    expect_empty("reset");
+    check("any length", sengadlit_buffer_set_length(world.buffer, 2) != NULL);
+    expect("any length", masks(), SENGADLIT_DONE);
+}
+
+/* A broken syllable leaves its state to the next text, unless the buffer is cleared. */
+static void texts_after_a_broken_one(void)
+{
+    static const sengadlit_span_t broken[] = {{1, SENGADLIT_KHMER_SYLLABLE_BROKEN}}, whole[] = {{1, 0}};
+    sengadlit_bool_t circles = UNTOUCHED;
+
+    for (int clears = 0; clears < 2; clears++) {
+        begin_khmer();
+        world.answers.glyph_of_circle = 7;
+        check("a text", sengadlit_buffer_set_length(world.buffer, 1) != NULL);
+        expect("broken", set_up(SENGADLIT_PAUSE_SETUP_SYLLABLES_KHMER, broken, 1), SENGADLIT_DONE);
+        if (clears) sengadlit_buffer_clear_contents(world.buffer);
+        check("another", sengadlit_buffer_set_length(world.buffer, 1) != NULL);
+        expect("whole", set_up(SENGADLIT_PAUSE_SETUP_SYLLABLES_KHMER, whole, 1), SENGADLIT_DONE);
+        expect("reordered",
+               sengadlit_run_pause(world.plan, SENGADLIT_PAUSE_REORDER_KHMER, &world.font, NULL, 0, world.buffer, &circles),
+               SENGADLIT_DONE);
+        check("circles", circles == !clears);
+    }
+}
+
 /* ---- What all hooks refuse ---- */
 
 static void every_hook_refuses(const char *what, sengadlit_argument_t argument, unsigned int index)
@@ -484,6 +556,23 @@ static void texts_that_are_long(void)
 }
 
 /* ---- Hooks on characters ---- */
+
+/* Thai takes the forms of the Private Use Area of the font only if GSUB doesn't have the script, and Lao never. */
+static void fonts_that_are_not_called(void)
+{
+    sengadlit_plan_input_t input = {0};
+
+    begin_world(SENGADLIT_SHAPER_THAI, SENGADLIT_TAG('L', 'a', 'o', 'o'), 0x0E81, 3);
+    expect("Lao without a font", sengadlit_preprocess_text(world.plan, NULL, world.buffer, NULL), SENGADLIT_DONE);
+    begin_thai();
+    sengadlit_plan_destroy(world.plan);
+    input.script = THAI;
+    input.found_script = 1;
+    world.plan = sengadlit_plan_create(SENGADLIT_SHAPER_THAI, &input, NULL);
+    glyphs()[1].codepoint = 0x0E33;
+    expect("Thai of GSUB without a font", sengadlit_preprocess_text(world.plan, NULL, world.buffer, NULL), SENGADLIT_DONE);
+    check("SARA AM is taken apart", glyphs()[1].codepoint == 0x0E4D && glyphs()[2].codepoint == 0x0E32);
+}
 
 static void fonts_that_are_none(void)
 {
@@ -787,9 +876,12 @@ int main(void)
     lengths_and_positions();
     properties_that_are_none();
     contexts_that_are_none();
+    buffers_made_empty();
+    texts_after_a_broken_one();
     texts_that_are_none();
     plans_that_are_none();
     texts_that_are_long();
+    fonts_that_are_not_called();
     fonts_that_are_none();
     pairs_of_wrong_arguments();
     compositions();

@@ -109,7 +109,6 @@ static sengadlit_plan_t *create_plan(sengadlit_shaper_t shaper, sengadlit_tag_t 
     sengadlit_plan_input_t input = {0};
 
     input.script = script;
-    input.found_script = 1;
     input.features = features;
     input.features_length = 4;
     input.stages = stages;

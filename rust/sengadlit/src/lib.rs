@@ -43,15 +43,20 @@
 //! 2. *Text*: [`Shaper::for_script`] chooses the shaper. [`Buffer`] takes the characters, their
 //!    clusters and general categories, `Buffer::from_text` a text with all that Unicode says of it.
 //!    [`preprocess_text`] rewrites them.
-//! 3. *Normalization*: [`decompose`], [`compose`], and [`reorder_marks`] for each run of marks;
+//! 3. *Normalization*: [`decompose`], [`compose`], and between them [`reorder_marks`] for each run of
+//!    characters with a combining class, once it is sorted by it;
 //!    [`normalization_preference`] says how.
-//! 4. [`setup_masks`] sets each character's category and the features that it takes. Then
+//! 4. [`setup_masks`] sets each character's category ([`categories`]) and the features that it takes,
+//!    whose bits it adds to the mask. Then
 //!    characters become glyphs.
 //! 5. *Lookups*, stage by stage. Between two stages [`run_pause`] runs the pauses that the planner
 //!    has there: syllables are set up from [`Span`]s (or as they are found, by
 //!    [`spans::setup_syllables_found`]), reordered, recorded.
 //! 6. *Positioning*: [`zero_width_marks`], [`fallback_position`] and [`gpos_tag`] say how. Then
-//!    [`postprocess_glyphs`] stretches marks over their words.
+//!    [`postprocess_glyphs`] stretches each mark over the word before it in the buffer, which has
+//!    visual order by then: a text from right to left is reversed.
+//!
+//! [`Buffer::clear`] makes the buffer ready for another text.
 //!
 //! A Khmer word between steps 4 and 5:
 //!
@@ -183,7 +188,6 @@ mod generated {
     pub(crate) mod shapers_normalize;
     #[cfg(feature = "tables")]
     pub(crate) mod shapers_pipeline;
-    #[cfg(feature = "tables")]
     pub(crate) mod shapers_plan;
     #[cfg(feature = "tables")]
     pub(crate) mod shapers_prepare;
@@ -198,12 +202,14 @@ mod generated {
 
 pub mod alloc;
 pub mod buffer;
+pub mod categories;
 pub mod flags;
 pub mod font;
 pub mod map;
 #[cfg(feature = "tables")]
 pub mod ot_shape;
 pub mod ot_shape_normalize;
+pub mod ot_shape_plan;
 #[cfg(feature = "tables")]
 pub mod ot_shape_prepare;
 pub mod ot_shaper_arabic;

@@ -1,7 +1,7 @@
 //! Texts into buffers, and glyphs out of them.
 
 use crate::alloc::{Global, Vec};
-use crate::buffer::{Buffer, GeneralCategory, GlyphInfo, GlyphPosition, ShaperError};
+use crate::buffer::{Buffer, Direction, GeneralCategory, GlyphInfo, GlyphPosition, ShaperError};
 use crate::font::Tables;
 use core::fmt;
 use core::slice;
@@ -65,6 +65,19 @@ impl Buffer {
     /// it, and in Indic where a word begins. Glyphs that are no characters stay as they are.
     pub fn set_general_categories<T: Tables>(&mut self, tables: &T) {
         self.with_glyphs_mut(|glyphs| set_categories(tables, glyphs));
+    }
+
+    /// Makes the buffer ready for another text: glyphs, positions and contexts go, script and
+    /// direction are those of a new buffer, and no syllable is broken and no mark stretched any more.
+    /// Cluster level, flags, `max_len` and memory stay, as in HarfBuzz's `hb_buffer_clear_contents`.
+    pub fn clear(&mut self) {
+        self.truncate(0);
+        self.set_pre_context(&[]);
+        self.set_post_context(&[]);
+        self.set_script(None);
+        self.set_direction(Direction::LeftToRight);
+        self.set_has_broken_syllable(false);
+        self.set_has_stch(false);
     }
 
     /// Sets the text before the buffer's, of which the last five characters are kept, and the text

@@ -314,9 +314,9 @@ fn is_normalized(answers: usize, buffer: &mut Buffer) -> bool {
     caught(|| normalize(&context, Rounds::Always, buffer).unwrap()).is_ok()
 }
 
-#[test]
-fn normalization_leaves_no_half_made_buffer() {
-    let mut text = text_of(&[0x1EBF, 0x323, 0x65, 0x301, 0x323, 0x34F, 0xEA, 0xE9], 100);
+/// A text of Latin letters and marks.
+fn latin_text(characters: &[u32]) -> Buffer {
+    let mut text = text_of(characters, 100);
     text.with_glyphs_mut(|glyphs| {
         for glyph in glyphs
             .iter_mut()
@@ -326,20 +326,102 @@ fn normalization_leaves_no_half_made_buffer() {
             glyph.modified_combining_class = if glyph.glyph_id == 0x323 { 220 } else { 230 };
         }
     });
-    let mut whole = copy_of(&text);
-    assert!(is_normalized(usize::MAX, &mut whole));
+    text
+}
+
+/// Makes a call that panics at each question in turn, and returns how often the buffer was as
+/// before, and how often empty.
+fn left_by(text: &Buffer, make: impl Fn(usize, &mut Buffer) -> bool) -> [usize; 2] {
+    let mut whole = copy_of(text);
+    assert!(make(usize::MAX, &mut whole));
     let mut kinds = [0, 0];
     for answers in 0.. {
-        let mut left = copy_of(&text);
-        if is_normalized(answers, &mut left) {
+        let mut left = copy_of(text);
+        if make(answers, &mut left) {
             break;
         }
         kinds[usize::from(left.is_empty())] += 1;
         if !left.is_empty() {
-            assert_eq!(Contents::with_places(&left), Contents::with_places(&text));
-            assert!(is_normalized(usize::MAX, &mut left));
+            assert_eq!(Contents::with_places(&left), Contents::with_places(text));
+            assert!(make(usize::MAX, &mut left));
             assert_eq!(Contents::of(&left), Contents::of(&whole));
         }
     }
-    assert!(kinds.iter().all(|count| *count > 5), "{kinds:?}");
+    kinds
+}
+
+#[test]
+fn normalization_leaves_no_half_made_buffer() {
+    // letters that come apart; letters alone, which stay; letters with marks that stay
+    let apart = latin_text(&[0x1EBF, 0x323, 0x65, 0x301, 0x323, 0x34F, 0xEA, 0xE9]);
+    let alone = latin_text(&[0x61, 0x62, 0x63, 0x64, 0x65, 0x66, 0x67, 0x68]);
+    let staying = latin_text(&[0x61, 0x323, 0x62, 0x323, 0x63, 0x323, 0x64, 0x323]);
+    for text in [apart, alone, staying] {
+        let kinds = left_by(&text, is_normalized);
+        assert!(kinds.iter().all(|count| *count > 5), "{kinds:?}");
+    }
+}
+
+#[cfg(feature = "tables")]
+mod preparing {
+    use super::*;
+    use sengadlit::buffer::Direction;
+    use sengadlit::ot_shape_prepare::{
+        CharRotation, UnicodeProperties, rotate_chars, set_unicode_properties,
+    };
+    use sengadlit::unicode::UnicodeTables;
+
+    impl UnicodeProperties for Panicking<'_, UnicodeTables> {
+        fn general_category(&self, c: u32) -> GeneralCategory {
+            self.ask(|tables| UnicodeProperties::general_category(tables, c))
+        }
+
+        fn modified_combining_class(&self, c: u32) -> u8 {
+            self.ask(|tables| tables.modified_combining_class(c))
+        }
+
+        fn is_default_ignorable(&self, c: u32) -> bool {
+            self.ask(|tables| tables.is_default_ignorable(c))
+        }
+
+        fn is_extended_pictographic(&self, c: u32) -> bool {
+            self.ask(|tables| tables.is_extended_pictographic(c))
+        }
+
+        fn mirrored(&self, c: u32) -> Option<u32> {
+            self.ask(|tables| tables.mirrored(c))
+        }
+
+        fn vertical_form(&self, c: u32) -> Option<u32> {
+            self.ask(|tables| tables.vertical_form(c))
+        }
+    }
+
+    fn panicking<A>(asked: A, left: &Cell<usize>) -> Panicking<'_, A> {
+        Panicking { asked, left }
+    }
+
+    #[test]
+    fn properties_and_rotation_leave_no_half_made_buffer() {
+        let text = latin_text(&[0x28, 0x65, 0x301, 0x29, 0x2026, 0x3C]);
+        let properties = left_by(&text, |answers, buffer| {
+            let left = &Cell::new(answers);
+            caught(|| set_unicode_properties(&panicking(UnicodeTables, left), buffer)).is_ok()
+        });
+        let mut kinds = vec![properties];
+        for direction in [Direction::RightToLeft, Direction::TopToBottom] {
+            let rotation = CharRotation {
+                direction,
+                rtlm_mask: 1 << 8,
+                has_vert: false,
+            };
+            kinds.push(left_by(&text, |answers, buffer| {
+                let left = &Cell::new(answers);
+                let unicode = panicking(UnicodeTables, left);
+                let font = panicking(LotFont(Steady(1)), left);
+                caught(|| rotate_chars(&unicode, &font, &rotation, buffer)).is_ok()
+            }));
+        }
+        assert!(kinds.iter().all(|[_, empty]| *empty > 5), "{kinds:?}");
+    }
 }

@@ -1,5 +1,8 @@
 //! The headline, its law of widths, the cut between spans, and the law of breaks.
+ghost use Rattle.rustybuzz_shapers.specs.Again.{MasksOnce, PausesOnce};
+ghost use Rattle.rustybuzz_shapers.specs.Apart.{HalvesStayApart, HooksMakeNoCluster, PausesMakeNoCluster};
 ghost use Rattle.rustybuzz_shapers.specs.Breaks.{TextsBreakAsFlagged};
+ghost use Rattle.rustybuzz_shapers.specs.Lengths.{PausesGrow, PreprocessingGrows};
 ghost use Rattle.rustybuzz_shapers.specs.Edited.{TextsStayNear};
 ghost use Rattle.rustybuzz_shapers.specs.Together.{TextsConcatenate};
 ghost use Rattle.shapers_arabic.specs.Breaks.{AsCodeLaw, ExactLaw};
@@ -7,11 +10,12 @@ ghost use Rattle.shapers_arabic.specs.Concatenation.{ConcatenationLaw};
 ghost use Rattle.shapers_arabic.specs.Edits.{EditsStayNear};
 ghost use Rattle.rustybuzz_shapers.specs.Cuts.{IndicIsCutAfterBoth, IsCut, UniversalIsCut};
 ghost use Rattle.rustybuzz_shapers.specs.Headline.{ActionsByRule};
-ghost use Rattle.rustybuzz_shapers.specs.Monotone.{CirclesStayMonotone, ExactCutsStayMonotone, PausesStayMonotone};
+ghost use Rattle.rustybuzz_shapers.specs.Monotone.{CirclesStayMonotone, ExactCutsStayMonotone, HangulStaysMonotone, IndicKeepsHalves, MarksStayMonotone, MasksStayMonotone, PausesStayMonotone, StretchStaysMonotone, ThaiStaysMonotone};
 ghost use Rattle.rustybuzz_shapers.specs.Pauses.{by_initial, by_khmer, by_myanmar};
 ghost use Rattle.shapers_base.specs.declared.plan.pause.Pause.TheVariants.{SetupSyllablesIndic, SetupSyllablesKhmer, SetupSyllablesMyanmar, InitialReordering, ReorderKhmer, ReorderMyanmar};
 ghost use Rattle.rustybuzz_shapers.specs.Regrouped.{SyllablesRegrouped};
-ghost use Rattle.rustybuzz_shapers.specs.Stretched.{StretchesCover};
+ghost use Rattle.rustybuzz_shapers.specs.TextCuts.{HangulCuts, ThaiCuts};
+ghost use Rattle.rustybuzz_shapers.specs.Stretched.{LineAdvances, StretchesCover};
 
 use shapers_arabic::ot_shaper_arabic::{
     joining_breaks_law, joining_concatenation_law, joining_edits_law,
@@ -65,9 +69,10 @@ pub fn breaks_law()
 /// What postprocessing makes of an Arabic text is its parts, one after another, each with its run
 /// of tiles laid: as wide as the numbers of the run say, and where the repeating tiles have a width
 /// and fit into what the fixed ones leave, as the word, or wider by less than one unit for each
-/// added copy.
+/// added copy. The line gets narrower by the tiles alone, since their copies have no advance.
 pub fn stretches_cover_law()
-    ensures { StretchesCover }
+    ensures cover { StretchesCover }
+    ensures line { LineAdvances }
 {}
 
 /// For each shaper of syllables a set-up and the reorderings that run directly after it, cut between
@@ -97,11 +102,51 @@ pub fn syllables_regrouped_law()
     ensures { SyllablesRegrouped }
 {}
 
-/// Clusters that rise along the text before rise after it, and those that fall fall: at the levels
-/// that merge, after every pause but the reorderings of Indic, of the text with the circles that the
-/// pause opens; and circles leave them so, where no syllable opens with two rephas.
+/// Clusters that rise along the text before rise after it, and those that fall fall, at the levels
+/// that merge: after each hook, and after every pause but the reorderings of Indic, of the text with
+/// the circles that the pause opens; and circles leave them so, where no syllable opens with two
+/// rephas. The reorderings of Indic leave them so across the borders of syllables: halves that share
+/// no cluster keep to their own.
 pub fn monotone_law()
     ensures pauses { PausesStayMonotone }
+    ensures thai { ThaiStaysMonotone }
+    ensures hangul { HangulStaysMonotone }
+    ensures stretch { StretchStaysMonotone }
+    ensures marks { MarksStayMonotone }
+    ensures masks { MasksStayMonotone }
+    ensures indic { IndicKeepsHalves }
     ensures circles { CirclesStayMonotone }
     ensures exact { ExactCutsStayMonotone }
+{}
+
+/// How long a text gets: by preprocessing for Thai and Lao one longer for each SARA AM, for Hangul at
+/// most three times as long; by a pause one longer for each broken syllable, where circles are
+/// opened. `hb_ot_shaper_t::length_bound` is room enough.
+pub fn lengths_law()
+    ensures preprocessing { PreprocessingGrows }
+    ensures pauses { PausesGrow }
+{}
+
+/// What hooks and pauses make of two halves of a text that share no cluster shares none, since none
+/// of them makes a cluster.
+pub fn apart_law()
+    ensures hooks { HooksMakeNoCluster }
+    ensures pauses { PausesMakeNoCluster }
+    ensures halves { HalvesStayApart }
+{}
+
+/// What changes nothing when it is done again at once: the pauses that set syllables by spans alone,
+/// and those that record what a lookup did, or clear it; setting masks, but for Arabic and the
+/// universal shaper.
+pub fn again_law()
+    ensures pauses { PausesOnce }
+    ensures masks { MasksOnce }
+{}
+
+/// A Thai or Lao text cut before a glyph that is no above-base mark and no SARA AM (where private use
+/// forms follow, before no mark either) is preprocessed as its halves are, one after the other; so is
+/// a Hangul text that is cut between two items. Clusters too where the halves share none.
+pub fn text_cuts_law()
+    ensures thai { ThaiCuts }
+    ensures hangul { HangulCuts }
 {}

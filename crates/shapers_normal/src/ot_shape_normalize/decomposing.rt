@@ -22,6 +22,7 @@ use shapers_base::buffer::{
 };
 use shapers_base::font::GlyphId;
 use shapers_base::plan::NormalizationMode;
+use std::mem;
 
 /// How many steps a character comes apart in at most: Unicode's longest canonical decomposition
 /// takes three.
@@ -60,19 +61,33 @@ pub fn decompose<C: NormalizeContext>(
     ensures in_place { stays_together (C.context context.now) buffer.old.glyphs ≡ true → IsOk result }
     ensures err { OnErr result (buffer.new ≡ buffer.old) }
 {
+    // so that a return without a rewrite keeps the promise on lengths, too
+    prove!(buffer.len() <= buffer.max_len());
     if is_whole(context, buffer.glyphs()) {
-        let len = buffer.len();
-        buffer.change_each(0, len, &Numbering { context });
+        change_all(buffer, &Numbering { context });
         return Ok(());
     }
     if stays_together(context, buffer.glyphs()) {
-        let len = buffer.len();
-        buffer.change_each(0, len, &Settling { context });
+        change_all(buffer, &Settling { context });
         return Ok(());
     }
     let len = measure(context, buffer.glyphs(), buffer.max_len())?;
     let level = buffer.cluster_level();
     buffer.rewrite(len, &Decomposing { context, level })
+}
+
+// Changes each glyph where it stands. A context that panics leaves the empty buffer, and no text of
+// which some glyphs have changed.
+#[inline]
+fn change_all<G: GlyphChange>(buffer: &mut hb_buffer_t, change: &G)
+    ensures { let text = map (G.changed change.now) buffer.old.glyphs in
+        buffer.new ≡ record buffer.old { glyphs = text } }
+{
+    let empty = hb_buffer_t::new(buffer.alloc(), buffer.max_len());
+    let mut text = mem::replace(buffer, empty);
+    let len = text.len();
+    text.change_each(0, len, change);
+    *buffer = text;
 }
 
 // Whether a text gets its glyphs and nothing else: no glyph is a mark, the font has each character,

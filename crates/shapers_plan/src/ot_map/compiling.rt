@@ -8,7 +8,7 @@ ghost use Rattle.shapers_plan.specs.Stages.{lookup_number};
 use super::FontFeatures;
 use super::lookups::{Stage, StageLookup, Stages, collect_stages, required_stage, stage_lookups};
 use super::masks::{MappedFeature, global_mask, mapped};
-use super::requests::merged;
+use super::requests::joined_by_tag;
 use shapers_base::buffer::ShaperError;
 use shapers_base::map::{TableIndex, feature_map_t, hb_ot_map_t};
 use shapers_base::plan::Request;
@@ -54,7 +54,7 @@ impl CompiledMap {
         ensures fit { IfOk result (λ it. IsTrue (stages_fit it.stages.items it.lookups.items)) }
         ensures refusal { IsOkUnless result Memory }
     {
-        let infos = merged(alloc, requests)?;
+        let infos = joined_by_tag(alloc, requests)?;
         let features = mapped(alloc, font, infos.as_slice())?;
         let required = required_stage(font, infos.as_slice());
         let found = collect_stages(alloc, font, features.as_slice(), required, requests)?;

@@ -2,12 +2,12 @@
 ghost use Rattle.std.specs.Prelude.{◌≡◌, ◌+◌, ◌++◌, ◌∷◌, [], find, length, IfOk, IsOkUnless, None, OnOk};
 ghost use Rattle.shapers_base.specs.declared.map.TableIndex.TheVariants.{GSUB};
 ghost use Rattle.shapers_buffer.specs.declared.buffer.refusal.ShaperError.TheVariants.{Memory};
-ghost use Rattle.shapers_plan.specs.Ordered.{put_all};
+ghost use Rattle.shapers_plan.specs.Ordered.{put_all_in_order};
 ghost use Rattle.shapers_plan.specs.Stages.{applied_by, feature_lookups, is_of_stage, is_requested, joined_lookups, lookup_number, lookups_from, lookups_like, required_stage, stage_ends, stage_lookups, stages_from, substitutions};
 
 use super::FontFeatures;
 use super::masks::{F_RANDOM, MappedFeature, lookups_of};
-use super::ordered::{Numbered, put};
+use super::ordered::{Numbered, put_in_order};
 use super::requests::FeatureInfo;
 use shapers_base::buffer::{ShaperError, hb_tag_t};
 use shapers_base::map::{F_MANUAL_ZWJ, F_MANUAL_ZWNJ, F_PER_SYLLABLE, TableIndex};
@@ -98,7 +98,8 @@ fn add_lookups(
     indices: &[u16],
 ) -> Result<(), ShaperError>
     ensures ok { let more = lookups_like like indices.now in
-        OnOk result (list.new.items ≡ put_all lookup_number joined_lookups list.old.items more) }
+        let whole = put_all_in_order lookup_number joined_lookups list.old.items more in
+        OnOk result (list.new.items ≡ whole) }
     ensures refusal { IsOkUnless result Memory }
 {
     for index in indices {
@@ -110,7 +111,7 @@ fn add_lookups(
             random: like.random,
             per_syllable: like.per_syllable,
         };
-        put(list, lookup)?;
+        put_in_order(list, lookup)?;
     }
     Ok(())
 }
@@ -123,7 +124,8 @@ fn add_feature<L: FontFeatures>(
     feature: &MappedFeature,
 ) -> Result<(), ShaperError>
     ensures ok { let more = feature_lookups (L.tables font.now) table feature.now in
-        OnOk result (list.new.items ≡ put_all lookup_number joined_lookups list.old.items more) }
+        let whole = put_all_in_order lookup_number joined_lookups list.old.items more in
+        OnOk result (list.new.items ≡ whole) }
     ensures refusal { IsOkUnless result Memory }
 {
     match lookups_of(font, table, feature.tag, feature.flags) {
@@ -156,7 +158,8 @@ pub(super) fn stage_lookups<L: FontFeatures>(
     is_required: bool,
     stage: Option<usize>,
 ) -> Result<Vec<StageLookup>, ShaperError>
-    ensures ok { let lookups = stage_lookups (L.tables font.now) table features.now is_required stage in
+    ensures ok { let tables = L.tables font.now in
+        let lookups = stage_lookups tables table features.now is_required stage in
         IfOk result (λ list. list.items ≡ lookups) }
     ensures refusal { IsOkUnless result Memory }
 {
@@ -207,9 +210,11 @@ pub(super) struct Stages {
 impl Stages {
     // Adds a stage up to this pause.
     fn push(&mut self, lookups: &[StageLookup], pause: Option<Pause>) -> Result<(), ShaperError>
-        ensures lookups { OnOk result (self.new.lookups.items ≡ self.old.lookups.items ++ lookups.now) }
+        ensures lookups { let list = self.old.lookups.items ++ lookups.now in
+            OnOk result (self.new.lookups.items ≡ list) }
         ensures stages { let start = length self.old.lookups.items in
-            let stage : Stage = record { start = start; end = start + length lookups.now; pause = pause } in
+            let end = start + length lookups.now in
+            let stage : Stage = record { start = start; end = end; pause = pause } in
             OnOk result (self.new.stages.items ≡ self.old.stages.items ++ stage ∷ []) }
         ensures refusal { IsOkUnless result Memory }
     {

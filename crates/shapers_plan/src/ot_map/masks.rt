@@ -2,7 +2,7 @@
 ghost use Rattle.std.specs.Prelude.{◌≡◌, ◌+◌, ◌<◌, ◌≤◌, IfOk, IsOkUnless, IsTrue, is_some, option_map};
 ghost use Rattle.shapers_plan.specs.Compiling.{are_off_flags};
 ghost use Rattle.shapers_buffer.specs.declared.buffer.refusal.ShaperError.TheVariants.{Memory};
-ghost use Rattle.shapers_plan.specs.Masks.{bits_of, global_mask, in_script, is_served, is_whole, lookups_of, mapped, mapped_at, value_in};
+ghost use Rattle.shapers_plan.specs.Masks.{bit_count, global_mask, in_script, is_served, is_on_everywhere, lookups_of, mapped, feature_at_bit, value_in};
 
 use super::FontFeatures;
 use super::requests::FeatureInfo;
@@ -42,10 +42,10 @@ pub(crate) struct MappedFeature {
 impl MappedFeature {
     // A feature with so many bits, from this one on.
     fn new(info: &FeatureInfo, next_bit: u32) -> Self
-        requires { next_bit + bits_of info.now < 31 }
-        ensures { result ≡ mapped_at next_bit info.now }
+        requires { next_bit + bit_count info.now < 31 }
+        ensures { result ≡ feature_at_bit next_bit info.now }
     {
-        let (mask, one_mask) = if is_whole(info) {
+        let (mask, one_mask) = if is_on_everywhere(info) {
             (1 << GLOBAL_BIT, 1 << GLOBAL_BIT)
         } else {
             let one_mask = 1u32 << next_bit;
@@ -70,18 +70,18 @@ impl MappedFeature {
 }
 
 // Whether a feature is on for the whole text, and has no other value anywhere.
-fn is_whole(info: &FeatureInfo) -> bool
-    ensures { result ≡ is_whole info.now }
+fn is_on_everywhere(info: &FeatureInfo) -> bool
+    ensures { result ≡ is_on_everywhere info.now }
 {
     info.is_global && info.max_value == 1
 }
 
 // How many bits of its own a feature takes.
 fn count_bits(info: &FeatureInfo) -> u32
-    ensures bits { result ≡ bits_of info.now }
+    ensures bits { result ≡ bit_count info.now }
     ensures few { result ≤ 8 }
 {
-    if is_whole(info) {
+    if is_on_everywhere(info) {
         return 0;
     }
     MAX_BITS.min(32 - info.max_value.leading_zeros())

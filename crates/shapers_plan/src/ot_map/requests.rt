@@ -1,9 +1,9 @@
 //! Requests for features, joined by tag.
 ghost use Rattle.std.specs.Prelude.{◌≡◌, IfOk, IsOkUnless};
 ghost use Rattle.shapers_buffer.specs.declared.buffer.refusal.ShaperError.TheVariants.{Memory};
-ghost use Rattle.shapers_plan.specs.Requests.{info_of, merged};
+ghost use Rattle.shapers_plan.specs.Requests.{info_of, joined_by_tag};
 
-use super::ordered::{Numbered, put};
+use super::ordered::{Numbered, put_in_order};
 use shapers_base::buffer::{ShaperError, hb_tag_t};
 use shapers_base::map::{F_GLOBAL, F_HAS_FALLBACK};
 use shapers_base::plan::Request;
@@ -82,8 +82,11 @@ impl Numbered for FeatureInfo {
 /// # Errors
 ///
 /// `Memory`.
-pub(super) fn merged(alloc: Global, requests: &[Request]) -> Result<Vec<FeatureInfo>, ShaperError>
-    ensures ok { IfOk result (λ infos. infos.items ≡ merged requests.now) }
+pub(super) fn joined_by_tag(
+    alloc: Global,
+    requests: &[Request],
+) -> Result<Vec<FeatureInfo>, ShaperError>
+    ensures ok { IfOk result (λ infos. infos.items ≡ joined_by_tag requests.now) }
     ensures refusal { IsOkUnless result Memory }
 {
     let mut infos = Vec::new(alloc);
@@ -91,7 +94,7 @@ pub(super) fn merged(alloc: Global, requests: &[Request]) -> Result<Vec<FeatureI
     for request in requests {
         match *request {
             Request::Feature(tag, flags, value) => {
-                put(&mut infos, FeatureInfo::new(tag, flags, value, stage))?;
+                put_in_order(&mut infos, FeatureInfo::new(tag, flags, value, stage))?;
             }
             Request::Pause(_) => stage += 1,
         }

@@ -1,9 +1,10 @@
 //! What is requested of a font for a text.
-ghost use Rattle.std.specs.Prelude.{◌≡◌, ◌++◌, IfOk, IsOkUnless, OnOk, map};
+ghost use Rattle.std.specs.Prelude.{◌≡◌, IfOk, IsOkUnless, OnOk, map};
 ghost use Rattle.shapers_arabic.specs.Requests.{rclt};
 ghost use Rattle.shapers_base.specs.Planner.{with_requests};
 ghost use Rattle.shapers_buffer.specs.declared.buffer.refusal.ShaperError.TheVariants.{Memory};
-ghost use Rattle.shapers_plan.specs.Collecting.{along_lines, asked_by, before_shaper, behind_shaper, chosen, is_for_all, is_horizontal, requests_for, text_shaper};
+ghost use Rattle.shapers_choice.specs.Choice.{is_horizontal};
+ghost use Rattle.shapers_plan.specs.Collecting.{along_lines, request_of_user, before_shaper, behind_shaper, shaper_of_choice, is_for_all, requests_for, text_shaper};
 
 use super::UserFeature;
 use crate::ot_map::{F_GLOBAL_SEARCH, F_RANDOM};
@@ -81,12 +82,12 @@ pub(super) fn text_shaper(
     ensures { result ≡ text_shaper script direction found }
 {
     let choice = shaper_for_script(script?, direction, found)?;
-    Some(chosen(choice))
+    Some(shaper_of_choice(choice))
 }
 
 // The shaper of a choice.
-fn chosen(choice: ScriptShaper) -> hb_ot_shaper_t
-    ensures { result ≡ chosen choice }
+fn shaper_of_choice(choice: ScriptShaper) -> hb_ot_shaper_t
+    ensures { result ≡ shaper_of_choice choice }
 {
     match choice {
         ScriptShaper::Arabic => hb_ot_shaper_t::Arabic,
@@ -186,7 +187,8 @@ fn collect_users(
     users: &[UserFeature],
     planner: &mut hb_ot_shape_planner_t,
 ) -> Result<(), ShaperError>
-    ensures ok { OnOk result (planner.new ≡ with_requests (map asked_by users.now) planner.old) }
+    ensures ok { let requests = map request_of_user users.now in
+        OnOk result (planner.new ≡ with_requests requests planner.old) }
     ensures refusal { IsOkUnless result Memory }
 {
     for user in users {

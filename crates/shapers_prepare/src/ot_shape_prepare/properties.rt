@@ -8,6 +8,7 @@ ghost use Rattle.shapers_prepare.specs.PropertyWalk.{goes_on_behind, then_open};
 use super::unicode::UnicodeProperties;
 use shapers_base::buffer::{GlyphMarks, GlyphWalk, hb_buffer_t, hb_glyph_info_t};
 use shapers_normal::ot_shape_normalize::HIDDEN;
+use std::mem;
 
 // ZWJ, which joins pictographs.
 const ZERO_WIDTH_JOINER: u32 = 0x200D;
@@ -21,7 +22,11 @@ pub fn set_unicode_properties<U: UnicodeProperties>(unicode: &U, buffer: &mut hb
     ensures { let text = properties_set (U.properties unicode.now) buffer.old.glyphs in
         buffer.new ≡ record buffer.old { glyphs = text } }
 {
-    buffer.walk(&mut PropertyWalk { unicode });
+    // (properties that panic leave the empty buffer, and no text with some of them)
+    let empty = hb_buffer_t::new(buffer.alloc(), buffer.max_len());
+    let mut text = mem::replace(buffer, empty);
+    text.walk(&mut PropertyWalk { unicode });
+    *buffer = text;
 }
 
 // The walk that sets the properties of a text.

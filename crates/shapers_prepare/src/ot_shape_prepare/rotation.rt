@@ -5,6 +5,7 @@ ghost use Rattle.shapers_prepare.specs.Rotation.{mirrored_glyph, rotated_glyph, 
 use super::unicode::UnicodeProperties;
 use shapers_base::buffer::{Direction, GlyphChange, hb_buffer_t, hb_glyph_info_t};
 use shapers_base::font::hb_font_t;
+use std::mem;
 
 /// What characters are rotated by: the direction that the caller wants of the text, and of the plan
 /// the mask of the feature that mirrors (`rtlm`) and whether the font has a feature for vertical
@@ -33,17 +34,18 @@ pub fn rotate_chars<U: UnicodeProperties, F: hb_font_t>(
         let text = map (rotated_glyph p (F.font face.now) rotation.now) buffer.old.glyphs in
         buffer.new ≡ record buffer.old { glyphs = text } }
 {
-    let end = buffer.len();
     let rotation = *rotation;
-    buffer.change_each(
-        0,
-        end,
-        &Rotating {
-            unicode,
-            face,
-            rotation,
-        },
-    );
+    let rotating = Rotating {
+        unicode,
+        face,
+        rotation,
+    };
+    // (a font that panics leaves the empty buffer, and no text with some characters rotated)
+    let empty = hb_buffer_t::new(buffer.alloc(), buffer.max_len());
+    let mut text = mem::replace(buffer, empty);
+    let len = text.len();
+    text.change_each(0, len, &rotating);
+    *buffer = text;
 }
 
 // The change of one glyph.

@@ -1,95 +1,102 @@
 //! Buffers.
-use super::{Out, array, boxed, put, text};
+use super::handle::Pointer;
+use super::{Out, array, put, text};
 use crate::buffer::Buffer;
 use crate::encodings::Unit;
 use crate::layout::{Glyph, Properties};
 use crate::status::{Argument, Error, Status};
 use core::ffi::{c_char, c_int, c_uint};
 use core::ops::Range;
-use core::ptr::null_mut;
 use sengadlit::buffer::GlyphPosition;
 
 #[unsafe(no_mangle)]
-pub extern "C" fn sengadlit_buffer_create() -> Option<Box<Buffer>> {
-    boxed(Buffer::new())
+pub extern "C" fn sengadlit_buffer_create() -> Pointer {
+    Pointer::create()
 }
 
 #[unsafe(no_mangle)]
-pub extern "C" fn sengadlit_buffer_destroy(_buffer: Option<Box<Buffer>>) {}
-
-// What a call returns; why it failed stays in the buffer.
-fn ended(buffer: &mut Buffer, ended: Result<(), Error>) -> Status {
-    match ended {
-        Ok(()) => Status::Done,
-        Err(error) => {
-            buffer.error = error;
-            error.status
-        }
-    }
+pub extern "C" fn sengadlit_buffer_destroy(buffer: Pointer) {
+    buffer.destroy();
 }
 
 #[unsafe(no_mangle)]
-pub extern "C" fn sengadlit_buffer_set_length(
-    buffer: Option<&mut Buffer>,
-    length: c_uint,
-) -> *mut Glyph {
-    let Some(buffer) = buffer else {
-        return null_mut();
-    };
-    match buffer.set_length(length as usize) {
-        Ok(()) => buffer.text.place(),
-        Err(error) => {
-            buffer.error = error;
-            null_mut()
-        }
-    }
+pub extern "C" fn sengadlit_buffer_abandon(buffer: Pointer) {
+    buffer.abandon();
+}
+
+#[unsafe(no_mangle)]
+pub extern "C" fn sengadlit_buffer_clear_contents(buffer: Pointer) {
+    buffer.call(
+        |_| (),
+        |buffer| {
+            buffer.clear();
+            Ok(())
+        },
+    );
+}
+
+#[unsafe(no_mangle)]
+pub extern "C" fn sengadlit_buffer_reset(buffer: Pointer) {
+    buffer.call(
+        |_| (),
+        |buffer| {
+            buffer.reset();
+            Ok(())
+        },
+    );
+}
+
+#[unsafe(no_mangle)]
+pub extern "C" fn sengadlit_buffer_set_length(buffer: Pointer, length: c_uint) -> *mut Glyph {
+    buffer.call_for_place(|buffer| {
+        buffer.set_length(length as usize)?;
+        Ok(buffer.text.place())
+    })
 }
 
 #[unsafe(no_mangle)]
 pub extern "C" fn sengadlit_buffer_get_glyph_infos(
-    buffer: Option<&mut Buffer>,
+    buffer: Pointer,
     length: Out<'_, c_uint>,
 ) -> *mut Glyph {
-    let Some(buffer) = buffer else {
-        return null_mut();
-    };
-    put(length, buffer.text.len() as c_uint);
-    buffer.text.place()
+    buffer.call_for_place(|buffer| {
+        put(length, buffer.text.len() as c_uint);
+        Ok(buffer.text.place())
+    })
 }
 
 #[unsafe(no_mangle)]
 pub extern "C" fn sengadlit_buffer_get_glyph_positions(
-    buffer: Option<&mut Buffer>,
+    buffer: Pointer,
     length: Out<'_, c_uint>,
 ) -> *mut GlyphPosition {
-    let Some(buffer) = buffer else {
-        return null_mut();
-    };
-    match buffer.positions() {
-        Ok(positions) => {
-            put(length, positions.len() as c_uint);
-            positions.as_mut_ptr()
-        }
-        Err(_) => {
-            buffer.error = Error::MEMORY;
-            null_mut()
-        }
-    }
+    buffer.call_for_place(|buffer| {
+        let positions = buffer.positions().map_err(|_| Error::MEMORY)?;
+        put(length, positions.len() as c_uint);
+        Ok(positions.as_mut_ptr())
+    })
+}
+
+// A call that fails or is done.
+fn done(buffer: Pointer, call: impl FnOnce(&mut Buffer) -> Result<(), Error>) -> Status {
+    buffer.call(
+        |status| status,
+        |buffer| {
+            call(buffer)?;
+            Ok(Status::Done)
+        },
+    )
 }
 
 #[unsafe(no_mangle)]
 pub extern "C" fn sengadlit_buffer_set_properties(
-    buffer: Option<&mut Buffer>,
+    buffer: Pointer,
     properties: Option<&Properties>,
 ) -> Status {
-    let Some(buffer) = buffer else {
-        return Status::Argument;
-    };
-    let taken = match properties {
+    done(buffer, |buffer| match properties {
         Some(properties) => buffer.set_properties(properties),
         None => Err(Error::argument(Argument::Properties)),
-    };
-    ended(buffer, taken)
+    })
 }
 
 /// # Safety
@@ -97,24 +104,20 @@ pub extern "C" fn sengadlit_buffer_set_properties(
 /// The arrays have the lengths beside them.
 #[unsafe(no_mangle)]
 pub unsafe extern "C" fn sengadlit_buffer_set_context(
-    buffer: Option<&mut Buffer>,
+    buffer: Pointer,
     before: *const u32,
     before_length: c_uint,
     after: *const u32,
     after_length: c_uint,
 ) -> Status {
-    let Some(buffer) = buffer else {
-        return Status::Argument;
-    };
     // SAFETY: an array of C's with its length.
     let before = unsafe { array(before, before_length) };
     // SAFETY: an array of C's with its length.
     let after = unsafe { array(after, after_length) };
-    let taken = match (before, after) {
+    done(buffer, |buffer| match (before, after) {
         (Some(before), Some(after)) => buffer.set_context(before, after),
         _ => Err(Error::argument(Argument::Context)),
-    };
-    ended(buffer, taken)
+    })
 }
 
 // The item of a text of so many units that begins at a place and has a length, with -1 all that is left.
@@ -136,22 +139,18 @@ fn item(text_length: usize, offset: c_uint, length: c_int) -> Result<Range<usize
 //
 // The text has the length beside it, or ends with a zero.
 unsafe fn add<U: Unit>(
-    buffer: Option<&mut Buffer>,
+    buffer: Pointer,
     first: *const U,
     text_length: c_int,
     item_offset: c_uint,
     item_length: c_int,
 ) -> Status {
-    let Some(buffer) = buffer else {
-        return Status::Argument;
-    };
-    // SAFETY: a text of C's with its length, or one that ends with a zero.
-    let units = unsafe { text(first, text_length) };
-    let added = units.and_then(|units| {
+    done(buffer, |buffer| {
+        // SAFETY: a text of C's with its length, or one that ends with a zero.
+        let units = unsafe { text(first, text_length) }?;
         let item = item(units.len(), item_offset, item_length)?;
         buffer.add(units, item)
-    });
-    ended(buffer, added)
+    })
 }
 
 /// # Safety
@@ -159,7 +158,7 @@ unsafe fn add<U: Unit>(
 /// The text has the length beside it, or ends with a zero.
 #[unsafe(no_mangle)]
 pub unsafe extern "C" fn sengadlit_buffer_add_utf8(
-    buffer: Option<&mut Buffer>,
+    buffer: Pointer,
     text: *const c_char,
     text_length: c_int,
     item_offset: c_uint,
@@ -182,7 +181,7 @@ pub unsafe extern "C" fn sengadlit_buffer_add_utf8(
 /// The text has the length beside it, or ends with a zero.
 #[unsafe(no_mangle)]
 pub unsafe extern "C" fn sengadlit_buffer_add_utf16(
-    buffer: Option<&mut Buffer>,
+    buffer: Pointer,
     text: *const u16,
     text_length: c_int,
     item_offset: c_uint,
@@ -197,7 +196,7 @@ pub unsafe extern "C" fn sengadlit_buffer_add_utf16(
 /// The text has the length beside it, or ends with a zero.
 #[unsafe(no_mangle)]
 pub unsafe extern "C" fn sengadlit_buffer_add_utf32(
-    buffer: Option<&mut Buffer>,
+    buffer: Pointer,
     text: *const u32,
     text_length: c_int,
     item_offset: c_uint,
@@ -208,18 +207,22 @@ pub unsafe extern "C" fn sengadlit_buffer_add_utf32(
 }
 
 #[unsafe(no_mangle)]
-pub extern "C" fn sengadlit_buffer_set_state(buffer: Option<&mut Buffer>, state: c_uint) {
-    if let Some(buffer) = buffer {
-        buffer.set_state(state);
-    }
+pub extern "C" fn sengadlit_buffer_set_state(buffer: Pointer, state: c_uint) {
+    buffer.call(
+        |_| (),
+        |buffer| {
+            buffer.set_state(state);
+            Ok(())
+        },
+    );
 }
 
 #[unsafe(no_mangle)]
-pub extern "C" fn sengadlit_buffer_get_state(buffer: Option<&Buffer>) -> c_uint {
-    buffer.map_or(0, Buffer::state)
+pub extern "C" fn sengadlit_buffer_get_state(buffer: Pointer) -> c_uint {
+    buffer.call(|_| 0, |buffer| Ok(buffer.state()))
 }
 
 #[unsafe(no_mangle)]
-pub extern "C" fn sengadlit_buffer_get_error(buffer: Option<&Buffer>, error: Out<'_, Error>) {
-    put(error, buffer.map_or(Error::NONE, |buffer| buffer.error));
+pub extern "C" fn sengadlit_buffer_get_error(buffer: Pointer, error: Out<'_, Error>) {
+    put(error, buffer.error());
 }

@@ -1,4 +1,5 @@
 //! The functions of a font and of tables, as the traits of `sengadlit`.
+use super::call_back;
 use super::plans::UserData;
 use crate::layout::Bool;
 use crate::numbers;
@@ -12,12 +13,12 @@ use sengadlit::unicode::UnicodeTables;
 /// `sengadlit_font_funcs_t`.
 #[repr(C)]
 pub struct FontFuncs {
-    pub nominal_glyph: Option<unsafe extern "C" fn(UserData, u32, *mut u32) -> Bool>,
-    pub glyph_h_advance: Option<unsafe extern "C" fn(UserData, u32) -> i32>,
+    pub nominal_glyph: Option<unsafe extern "C-unwind" fn(UserData, u32, *mut u32) -> Bool>,
+    pub glyph_h_advance: Option<unsafe extern "C-unwind" fn(UserData, u32) -> i32>,
     pub would_substitute: Option<
-        unsafe extern "C" fn(UserData, *const u16, c_uint, *const u32, c_uint, Bool) -> Bool,
+        unsafe extern "C-unwind" fn(UserData, *const u16, c_uint, *const u32, c_uint, Bool) -> Bool,
     >,
-    pub has_feature: Option<unsafe extern "C" fn(UserData, u32) -> Bool>,
+    pub has_feature: Option<unsafe extern "C-unwind" fn(UserData, u32) -> Bool>,
 }
 
 /// `sengadlit_font_t`.
@@ -30,12 +31,12 @@ pub struct Font<'a> {
 /// `sengadlit_tables_funcs_t`.
 #[repr(C)]
 pub struct TablesFuncs {
-    pub joining_type: Option<unsafe extern "C" fn(UserData, u32) -> u8>,
-    pub general_category: Option<unsafe extern "C" fn(UserData, u32) -> u8>,
-    pub indic_categories: Option<unsafe extern "C" fn(UserData, u32) -> u16>,
-    pub use_category: Option<unsafe extern "C" fn(UserData, u32) -> u8>,
-    pub compose: Option<unsafe extern "C" fn(UserData, u32, u32, *mut u32) -> Bool>,
-    pub decompose: Option<unsafe extern "C" fn(UserData, u32, *mut u32, *mut u32) -> Bool>,
+    pub joining_type: Option<unsafe extern "C-unwind" fn(UserData, u32) -> u8>,
+    pub general_category: Option<unsafe extern "C-unwind" fn(UserData, u32) -> u8>,
+    pub indic_categories: Option<unsafe extern "C-unwind" fn(UserData, u32) -> u16>,
+    pub use_category: Option<unsafe extern "C-unwind" fn(UserData, u32) -> u8>,
+    pub compose: Option<unsafe extern "C-unwind" fn(UserData, u32, u32, *mut u32) -> Bool>,
+    pub decompose: Option<unsafe extern "C-unwind" fn(UserData, u32, *mut u32, *mut u32) -> Bool>,
 }
 
 /// `sengadlit_tables_t`.
@@ -48,8 +49,8 @@ pub struct Tables<'a> {
 /// `sengadlit_map_funcs_t`.
 #[repr(C)]
 pub struct MapFuncs {
-    pub add_feature: Option<unsafe extern "C" fn(UserData, u32, u32, u32)>,
-    pub add_gsub_pause: Option<unsafe extern "C" fn(UserData, u32)>,
+    pub add_feature: Option<unsafe extern "C-unwind" fn(UserData, u32, u32, u32)>,
+    pub add_gsub_pause: Option<unsafe extern "C-unwind" fn(UserData, u32)>,
 }
 
 /// `sengadlit_map_t`.
@@ -168,7 +169,7 @@ impl AnswersFont for Asked<'_, FontFuncs> {
         let nominal = self.funcs.nominal_glyph?;
         let mut glyph = 0;
         // SAFETY: a callback of C, with what it is given and room for a glyph.
-        let has = unsafe { nominal(self.user_data, c, &mut glyph) };
+        let has = call_back(|| unsafe { nominal(self.user_data, c, &mut glyph) });
         let glyph = u16::try_from(glyph).ok()?;
         (has != 0).then_some(GlyphId(glyph))
     }
@@ -179,7 +180,7 @@ impl AnswersFont for Asked<'_, FontFuncs> {
             return 0;
         };
         // SAFETY: a callback of C, with what it is given.
-        unsafe { advance(self.user_data, u32::from(glyph.0)) }
+        call_back(|| unsafe { advance(self.user_data, u32::from(glyph.0)) })
     }
 
     #[inline]
@@ -204,7 +205,7 @@ impl AnswersFont for Asked<'_, FontFuncs> {
         let (glyphs, glyphs_length) = (wide.as_ptr(), wide.len() as c_uint);
         let (user_data, zero_context) = (self.user_data, Bool::from(zero_context));
         // SAFETY: a callback of C, with what it is given, and arrays of the lengths beside them.
-        let does = unsafe {
+        let does = call_back(|| unsafe {
             would(
                 user_data,
                 lookups,
@@ -213,7 +214,7 @@ impl AnswersFont for Asked<'_, FontFuncs> {
                 glyphs_length,
                 zero_context,
             )
-        };
+        });
         does != 0
     }
 
@@ -222,7 +223,7 @@ impl AnswersFont for Asked<'_, FontFuncs> {
             return false;
         };
         // SAFETY: a callback of C, with what it is given.
-        let has = unsafe { has(self.user_data, numbers::tag_number(tag)) };
+        let has = call_back(|| unsafe { has(self.user_data, numbers::tag_number(tag)) });
         has != 0
     }
 }
@@ -282,7 +283,7 @@ impl AnswersTables for Asked<'_, TablesFuncs> {
             return JoiningType::U;
         };
         // SAFETY: a callback of C, with what it is given.
-        numbers::joining_type(unsafe { of(self.user_data, u32::from(c)) })
+        numbers::joining_type(call_back(|| unsafe { of(self.user_data, u32::from(c)) }))
     }
 
     #[inline]
@@ -291,7 +292,7 @@ impl AnswersTables for Asked<'_, TablesFuncs> {
             return GeneralCategory::Cn;
         };
         // SAFETY: a callback of C, with what it is given.
-        numbers::general_category(unsafe { of(self.user_data, u32::from(c)) })
+        numbers::general_category(call_back(|| unsafe { of(self.user_data, u32::from(c)) }))
     }
 
     #[inline]
@@ -300,7 +301,7 @@ impl AnswersTables for Asked<'_, TablesFuncs> {
             return (0, 0);
         };
         // SAFETY: a callback of C, with what it is given.
-        let both = unsafe { of(self.user_data, c) };
+        let both = call_back(|| unsafe { of(self.user_data, c) });
         let [category, position] = both.to_le_bytes();
         (category, position)
     }
@@ -311,14 +312,14 @@ impl AnswersTables for Asked<'_, TablesFuncs> {
             return 0;
         };
         // SAFETY: a callback of C, with what it is given.
-        unsafe { of(self.user_data, c) }
+        call_back(|| unsafe { of(self.user_data, c) })
     }
 
     fn compose(&self, a: char, b: char) -> Option<char> {
         let compose = self.funcs.compose?;
         let mut ab = 0;
         // SAFETY: a callback of C, with what it is given and room for a character.
-        let does = unsafe { compose(self.user_data, u32::from(a), u32::from(b), &mut ab) };
+        let does = call_back(|| unsafe { compose(self.user_data, a.into(), b.into(), &mut ab) });
         if does == 0 { None } else { char::from_u32(ab) }
     }
 
@@ -326,7 +327,8 @@ impl AnswersTables for Asked<'_, TablesFuncs> {
         let decompose = self.funcs.decompose?;
         let (mut a, mut b) = (0, 0);
         // SAFETY: a callback of C, with what it is given and room for two characters.
-        let does = unsafe { decompose(self.user_data, u32::from(ab), &mut a, &mut b) };
+        let does =
+            call_back(|| unsafe { decompose(self.user_data, u32::from(ab), &mut a, &mut b) });
         if does == 0 {
             None
         } else {

@@ -12,7 +12,7 @@ use std::vec::Vec;
 const CATEGORIES: u32 = GeneralCategory::ALL.len() as u32;
 
 /// The greatest length of a text for which none is set.
-const MAX_LENGTH: usize = u32::MAX as usize;
+pub const MAX_LENGTH: usize = u32::MAX as usize;
 
 /// The codepoints that a hook takes.
 #[derive(Clone, Copy)]
@@ -68,6 +68,11 @@ impl Text {
             ..self.inner.settings()
         });
         *self = Text::of(inner, self.max_length);
+    }
+
+    /// Removes the glyphs, and what was said of the text.
+    pub fn clear(&mut self) {
+        self.inner.clear();
     }
 
     /// The number of glyphs.

@@ -1,5 +1,6 @@
 //! The hooks.
 use super::callbacks::{Font, Tables};
+use super::handle::Pointer;
 use super::{Out, array, guarded, put};
 use crate::buffer::Buffer;
 use crate::layout::Bool;
@@ -10,37 +11,27 @@ use core::ffi::c_uint;
 use core::ptr::null;
 use sengadlit::buffer::Span;
 
-// Runs a hook. Why it fails stays in the buffer, which a panic leaves empty.
+// Runs a hook.
 #[inline]
 fn on_buffer(
     plan: Option<&Plan>,
-    buffer: Option<&mut Buffer>,
+    buffer: Pointer,
     hook: impl FnOnce(&Plan, &mut Buffer) -> Result<Status, Error>,
 ) -> Status {
-    let Some(buffer) = buffer else {
-        return Status::Argument;
-    };
-    let ended = match plan {
-        Some(plan) => guarded(|| hook(plan, buffer)),
-        None => Err(Error::argument(Argument::Plan)),
-    };
-    ended.unwrap_or_else(|error| failed(buffer, error))
-}
-
-#[cold]
-fn failed(buffer: &mut Buffer, error: Error) -> Status {
-    if error.status == Status::Internal {
-        buffer.recover();
-    }
-    buffer.error = error;
-    error.status
+    buffer.call(
+        |status| status,
+        |buffer| {
+            let plan = plan.ok_or_else(|| Error::argument(Argument::Plan))?;
+            guarded(|| hook(plan, buffer))
+        },
+    )
 }
 
 #[unsafe(no_mangle)]
 pub extern "C" fn sengadlit_preprocess_text(
     plan: Option<&Plan>,
     font: Option<&Font<'_>>,
-    buffer: Option<&mut Buffer>,
+    buffer: Pointer,
     vowel_constraints: Out<'_, Bool>,
 ) -> Status {
     on_buffer(plan, buffer, |plan, buffer| {
@@ -111,7 +102,7 @@ pub extern "C" fn sengadlit_compose(
 #[unsafe(no_mangle)]
 pub extern "C" fn sengadlit_reorder_marks(
     plan: Option<&Plan>,
-    buffer: Option<&mut Buffer>,
+    buffer: Pointer,
     start: c_uint,
     end: c_uint,
 ) -> Status {
@@ -124,7 +115,7 @@ pub extern "C" fn sengadlit_reorder_marks(
 pub extern "C" fn sengadlit_setup_masks(
     plan: Option<&Plan>,
     tables: Option<&Tables<'_>>,
-    buffer: Option<&mut Buffer>,
+    buffer: Pointer,
 ) -> Status {
     on_buffer(plan, buffer, |plan, buffer| {
         hooks::setup_masks(plan, tables, buffer)
@@ -141,7 +132,7 @@ pub unsafe extern "C" fn sengadlit_run_pause(
     font: Option<&Font<'_>>,
     spans: *const Span,
     spans_length: c_uint,
-    buffer: Option<&mut Buffer>,
+    buffer: Pointer,
     circles: Out<'_, Bool>,
 ) -> Status {
     on_buffer(plan, buffer, |plan, buffer| {
@@ -157,34 +148,26 @@ pub unsafe extern "C" fn sengadlit_run_pause(
 #[unsafe(no_mangle)]
 pub extern "C" fn sengadlit_spans(
     shaper: u32,
-    buffer: Option<&mut Buffer>,
+    buffer: Pointer,
     length: Out<'_, c_uint>,
 ) -> *const Span {
-    let Some(buffer) = buffer else {
-        return null();
-    };
-    let found = guarded(|| {
-        let shaper = numbers::shaper(shaper).ok_or_else(|| Error::argument(Argument::Shaper))?;
-        let spans = buffer.find_spans(shaper)?;
-        Ok((spans.as_ptr(), spans.len()))
-    });
-    match found {
-        Ok((first, count)) => {
-            put(length, count as c_uint);
-            first
-        }
-        Err(error) => {
-            failed(buffer, error);
-            null()
-        }
-    }
+    buffer.call(
+        |_| null(),
+        |buffer| {
+            let shaper =
+                numbers::shaper(shaper).ok_or_else(|| Error::argument(Argument::Shaper))?;
+            let spans = guarded(|| buffer.find_spans(shaper))?;
+            put(length, spans.len() as c_uint);
+            Ok(spans.as_ptr())
+        },
+    )
 }
 
 #[unsafe(no_mangle)]
 pub extern "C" fn sengadlit_setup_syllables_found(
     plan: Option<&Plan>,
     pause: u32,
-    buffer: Option<&mut Buffer>,
+    buffer: Pointer,
 ) -> Status {
     on_buffer(plan, buffer, |plan, buffer| {
         hooks::setup_syllables_found(plan, pause, buffer)
@@ -195,7 +178,7 @@ pub extern "C" fn sengadlit_setup_syllables_found(
 pub extern "C" fn sengadlit_postprocess_glyphs(
     plan: Option<&Plan>,
     font: Option<&Font<'_>>,
-    buffer: Option<&mut Buffer>,
+    buffer: Pointer,
 ) -> Status {
     on_buffer(plan, buffer, |plan, buffer| {
         hooks::postprocess_glyphs(plan, font, buffer)

@@ -1,4 +1,5 @@
 //! Messages on internal errors.
+use super::call_back;
 use super::plans::UserData;
 use core::ffi::c_char;
 use core::fmt::{self, Write as _};
@@ -7,7 +8,7 @@ use std::panic::{self, PanicHookInfo};
 use std::sync::{Once, PoisonError, RwLock};
 
 /// `sengadlit_message_func_t`.
-type MessageFunc = unsafe extern "C" fn(*const c_char, UserData);
+type MessageFunc = unsafe extern "C-unwind" fn(*const c_char, UserData);
 
 /// Who takes messages.
 #[derive(Clone, Copy)]
@@ -66,7 +67,7 @@ fn report(panic: &PanicHookInfo<'_>) {
     // (a message that is cut is a message)
     let _ = write!(text, "{panic}");
     // SAFETY: the function is C's, of this type; the text ends with a zero byte and lasts through the call.
-    unsafe { func(text.bytes.as_ptr().cast(), user_data) }
+    call_back(|| unsafe { func(text.bytes.as_ptr().cast(), user_data) });
 }
 
 #[unsafe(no_mangle)]

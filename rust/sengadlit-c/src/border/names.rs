@@ -1,7 +1,9 @@
-//! Versions and names.
+//! Versions and names, and what Unicode says of a character.
 use super::{Out, put};
+use crate::layout::Bool;
 use crate::status::{ARGUMENT_NAMES, STATUS_NAMES};
 use core::ffi::{CStr, c_char, c_uint};
+use sengadlit::unicode::modified_combining_class;
 
 const VERSION: &CStr =
     match CStr::from_bytes_with_nul(concat!(env!("CARGO_PKG_VERSION"), "\0").as_bytes()) {
@@ -17,15 +19,24 @@ const fn number(digits: &str) -> c_uint {
     }
 }
 
+const MAJOR: c_uint = number(env!("CARGO_PKG_VERSION_MAJOR"));
+const MINOR: c_uint = number(env!("CARGO_PKG_VERSION_MINOR"));
+const MICRO: c_uint = number(env!("CARGO_PKG_VERSION_PATCH"));
+
 #[unsafe(no_mangle)]
 pub extern "C" fn sengadlit_version(
     major: Out<'_, c_uint>,
     minor: Out<'_, c_uint>,
     micro: Out<'_, c_uint>,
 ) {
-    put(major, const { number(env!("CARGO_PKG_VERSION_MAJOR")) });
-    put(minor, const { number(env!("CARGO_PKG_VERSION_MINOR")) });
-    put(micro, const { number(env!("CARGO_PKG_VERSION_PATCH")) });
+    put(major, MAJOR);
+    put(minor, MINOR);
+    put(micro, MICRO);
+}
+
+#[unsafe(no_mangle)]
+pub extern "C" fn sengadlit_version_atleast(major: c_uint, minor: c_uint, micro: c_uint) -> Bool {
+    Bool::from((major, minor, micro) <= (MAJOR, MINOR, MICRO))
 }
 
 #[unsafe(no_mangle)]
@@ -47,4 +58,9 @@ pub extern "C" fn sengadlit_status_name(status: u32) -> *const c_char {
 #[unsafe(no_mangle)]
 pub extern "C" fn sengadlit_argument_name(argument: u32) -> *const c_char {
     name_of(ARGUMENT_NAMES, argument)
+}
+
+#[unsafe(no_mangle)]
+pub extern "C" fn sengadlit_modified_combining_class(unicode: u32) -> u8 {
+    char::from_u32(unicode).map_or(0, modified_combining_class)
 }

@@ -1,6 +1,6 @@
 //! Shapers, their features, and plans.
 use super::callbacks::{Font, Map, MapFuncs};
-use super::{Out, array, boxed, guarded, put};
+use super::{Out, array, boxed, call_back, guarded, put};
 use crate::layout::{Bool, Constants, Data, Feature, Stage};
 use crate::plan::{self, Plan};
 use crate::status::{Argument, Error, Status};
@@ -58,8 +58,8 @@ pub extern "C" fn sengadlit_shaper_for_script(
 
 /// Both functions of a map, with what they are given.
 struct Told {
-    add_feature: unsafe extern "C" fn(UserData, u32, u32, u32),
-    add_gsub_pause: unsafe extern "C" fn(UserData, u32),
+    add_feature: unsafe extern "C-unwind" fn(UserData, u32, u32, u32),
+    add_gsub_pause: unsafe extern "C-unwind" fn(UserData, u32),
     user_data: UserData,
 }
 
@@ -82,14 +82,14 @@ impl Told {
     fn tell(&self, request: &Request) {
         match *request {
             Request::Feature(tag, flags, value) => {
+                let tag = numbers::tag_number(tag);
                 // SAFETY: a callback of C, with what it is given.
-                unsafe {
-                    (self.add_feature)(self.user_data, numbers::tag_number(tag), flags, value)
-                }
+                call_back(|| unsafe { (self.add_feature)(self.user_data, tag, flags, value) });
             }
             Request::Pause(pause) => {
+                let pause = numbers::pause_number(pause);
                 // SAFETY: a callback of C, with what it is given.
-                unsafe { (self.add_gsub_pause)(self.user_data, numbers::pause_number(pause)) }
+                call_back(|| unsafe { (self.add_gsub_pause)(self.user_data, pause) });
             }
         }
     }
@@ -148,14 +148,14 @@ pub extern "C" fn sengadlit_override_features(
 #[derive(Clone, Copy)]
 pub struct Kept {
     pub user_data: UserData,
-    pub destroy: Option<unsafe extern "C" fn(UserData)>,
+    pub destroy: Option<unsafe extern "C-unwind" fn(UserData)>,
 }
 
 impl Kept {
     fn destroy(self) {
         if let Some(destroy) = self.destroy {
             // SAFETY: a callback of C, with what it is given, called once.
-            unsafe { destroy(self.user_data) }
+            call_back(|| unsafe { destroy(self.user_data) });
         }
     }
 }

@@ -1,5 +1,5 @@
 use super::*;
-use crate::buffer::{BufferClusterLevel, Direction};
+use crate::buffer::{BufferClusterLevel, BufferFlags, Direction, Script};
 use crate::plan::{Category, JoiningType, Position};
 use std::string::ToString;
 use std::vec::Vec as List;
@@ -130,4 +130,22 @@ fn contexts_are_kept_as_far_as_five_characters() {
 #[test]
 fn categories_are_shown_by_their_names() {
     assert_eq!(GeneralCategory::Lo.to_string(), "Lo");
+}
+
+#[test]
+fn a_cleared_buffer_is_a_new_one_but_for_level_flags_and_limit() {
+    let mut buffer = Buffer::new(Global, 7);
+    buffer.set_cluster_level(BufferClusterLevel::Characters);
+    buffer.set_flags(BufferFlags::DO_NOT_INSERT_DOTTED_CIRCLE);
+    let mut full = Buffer::new(Global, 7);
+    full.set_settings(&buffer.settings());
+    full.push_str("\u{0E01}").unwrap();
+    full.set_contexts("\u{0E02}", "\u{0E03}");
+    full.set_script(Some(Script(*b"Thai")));
+    full.set_direction(Direction::RightToLeft);
+    full.set_has_broken_syllable(true);
+    full.set_has_stch(true);
+    full.clear();
+    assert!(full.is_empty());
+    assert_eq!(full.settings(), buffer.settings());
 }

@@ -3,8 +3,8 @@
 //! Draws what hooks do: carries out the lines of the program, and writes a page of HTML with a row
 //! of boxes, one per glyph, for the text and after each hook.
 
-mod drawing;
-mod origins;
+pub(crate) mod drawing;
+pub(crate) mod origins;
 
 use crate::generated::hbhook_boxes::Ended;
 use crate::generated::hbhook_commands::{Fault, lines_of, read_input, report, write_text};

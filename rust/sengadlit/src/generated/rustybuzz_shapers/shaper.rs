@@ -113,6 +113,36 @@ pub const THAI_SHAPER: Shaper = Shaper::Thai;
 pub const UNIVERSAL_SHAPER: Shaper = Shaper::Universal;
 
 impl Shaper {
+    /// For how many glyphs a text of so many needs room, whatever preprocessing or a pause of the shaper
+    /// makes of it: with this `max_len` neither refuses with `TooLong`. At most the greatest number.
+    ///
+    /// <details><summary>Contract</summary>
+    ///
+    /// # Contract
+    ///
+    /// ```text
+    /// ensures bound { result ≡ min (len * growth self) (2 ^ 64 - 1) }
+    /// ensures preprocessing { PreprocessingHasRoom }
+    /// ensures pauses { PausesHaveRoom }
+    /// ```
+    ///
+    /// - `PausesHaveRoom`, `PreprocessingHasRoom`, `growth`: `crates/rustybuzz_shapers/specs/Lengths.antt`
+    ///
+    /// </details>
+    #[inline]
+    pub const fn length_bound(self, len: usize) -> usize {
+        len.saturating_mul(self.growth())
+    }
+
+    // How many times as long a text gets at most.
+    const fn growth(self) -> usize {
+        match self {
+            Self::Hangul => 3,
+            Self::Indic | Self::Khmer | Self::Myanmar | Self::Thai | Self::Universal => 2,
+            Self::Arabic | Self::Hebrew | Self::MyanmarZawgyi => 1,
+        }
+    }
+
     /// Whether the shaper has a hook. Where it lacks one, the hook's method returns None and
     /// changes nothing.
     ///

@@ -1,6 +1,6 @@
 // Generated from crates/shapers_plan/src/lib.rt by rust/erase; edit the source.
 
-//! What a text's shaping takes of a font: features requested and merged, the bits of their masks,
+//! What a text's shaping takes of a font: features requested and joined, the bits of their masks,
 //! the stages of their lookups, and the plan of a script's shaper over them.
 
 pub mod ot_map;

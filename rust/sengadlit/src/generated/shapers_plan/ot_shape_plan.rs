@@ -50,7 +50,7 @@ pub struct ShapePlan {
 
 impl ShapePlan {
     /// The plan of a text of this script and direction in a font, with the user's features. The
-    /// shaper follows from the script by which the font's features were found. (HarfBuzz's planner.)
+    /// shaper follows from the script by which the font's features were found (HarfBuzz's planner).
     ///
     /// # Errors
     ///

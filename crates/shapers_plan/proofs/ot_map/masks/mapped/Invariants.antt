@@ -1,4 +1,4 @@
-use Rattle.std.proofs.Common.{◌≡◌, ◌≤◌, ◌<◌, ◌++◌, drop}
+use Rattle.std.proofs.Common.{◌≡◌, ◌<◌, ◌++◌, drop}
 use Rattle.shapers_plan.specs.Masks.{mapped, mapped_from}
 use Rattle.shapers_plan.proofs.ot_map.masks.mapped.Given as goal
 

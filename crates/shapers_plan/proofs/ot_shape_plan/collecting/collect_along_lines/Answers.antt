@@ -1,7 +1,8 @@
 use Rattle.std.proofs.Common.{◌≡◌, ◌∙◌, Bool, true, [], ◌∷◌, ap, sym}
 use Rattle.std.specs.Prelude.{if◌then◌else◌}
 use Rattle.shapers_base.specs.Planner.{enabled, with_requests}
-use Rattle.shapers_plan.specs.Collecting.{horizontal, is_horizontal}
+use Rattle.shapers_choice.specs.Choice.{is_horizontal}
+use Rattle.shapers_plan.specs.Collecting.{horizontal}
 use Rattle.shapers_plan.specs.declared.ot_map.masks.TheConstants.{F_GLOBAL_SEARCH}
 use Rattle.shapers_plan.proofs.ot_shape_plan.collecting.collect_along_lines.Goals as goal
 

@@ -1,4 +1,4 @@
-use Rattle.std.proofs.Common.{◌≡◌, ◌∙◌, ap}
+use Rattle.std.proofs.Common.{◌∙◌, ap}
 use Rattle.shapers_base.specs.Planner.{with_requests}
 use Rattle.shapers_plan.specs.Collecting.{along_lines, of_every_text}
 use Rattle.shapers_plan.proofs.Requesting.{with_requests-twice}

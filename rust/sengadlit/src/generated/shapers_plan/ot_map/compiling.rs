@@ -7,7 +7,7 @@ use crate::support::prelude::*;
 use super::FontFeatures;
 use super::lookups::{Stage, StageLookup, Stages, collect_stages, required_stage, stage_lookups};
 use super::masks::{MappedFeature, global_mask, mapped};
-use super::requests::merged;
+use super::requests::joined_by_tag;
 use crate::generated::shapers_base::buffer::ShaperError;
 use crate::generated::shapers_base::map::{FeatureMap, Map, TableIndex};
 use crate::generated::shapers_base::plan::Request;
@@ -39,7 +39,7 @@ impl CompiledMap {
         font: &L,
         requests: &[Request],
     ) -> Result<Self, ShaperError> {
-        let infos = merged(alloc, requests)?;
+        let infos = joined_by_tag(alloc, requests)?;
         let features = mapped(alloc, font, infos.as_slice())?;
         let required = required_stage(font, infos.as_slice());
         let found = collect_stages(alloc, font, features.as_slice(), required, requests)?;

@@ -6,7 +6,7 @@ use crate::support::prelude::*;
 
 use super::FontFeatures;
 use super::masks::{F_RANDOM, MappedFeature, lookups_of};
-use super::ordered::{Numbered, put};
+use super::ordered::{Numbered, put_in_order};
 use super::requests::FeatureInfo;
 use crate::generated::shapers_base::buffer::{ShaperError, Tag};
 use crate::generated::shapers_base::map::{
@@ -99,7 +99,7 @@ fn add_lookups(
             random: like.random,
             per_syllable: like.per_syllable,
         };
-        put(list, lookup)?;
+        put_in_order(list, lookup)?;
     }
     Ok(())
 }

@@ -42,7 +42,7 @@ pub(crate) struct MappedFeature {
 impl MappedFeature {
     // A feature with so many bits, from this one on.
     fn new(info: &FeatureInfo, next_bit: u32) -> Self {
-        let (mask, one_mask) = if is_whole(info) {
+        let (mask, one_mask) = if is_on_everywhere(info) {
             (1 << GLOBAL_BIT, 1 << GLOBAL_BIT)
         } else {
             let one_mask = 1u32 << next_bit;
@@ -65,13 +65,13 @@ impl MappedFeature {
 }
 
 // Whether a feature is on for the whole text, and has no other value anywhere.
-fn is_whole(info: &FeatureInfo) -> bool {
+fn is_on_everywhere(info: &FeatureInfo) -> bool {
     info.is_global && info.max_value == 1
 }
 
 // How many bits of its own a feature takes.
 fn count_bits(info: &FeatureInfo) -> u32 {
-    if is_whole(info) {
+    if is_on_everywhere(info) {
         return 0;
     }
     MAX_BITS.min(32 - info.max_value.leading_zeros())

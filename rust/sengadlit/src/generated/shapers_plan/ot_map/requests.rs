@@ -4,7 +4,7 @@
 
 use crate::support::prelude::*;
 
-use super::ordered::{Numbered, put};
+use super::ordered::{Numbered, put_in_order};
 use crate::generated::shapers_base::buffer::{ShaperError, Tag};
 use crate::generated::shapers_base::map::{F_GLOBAL, F_HAS_FALLBACK};
 use crate::generated::shapers_base::plan::Request;
@@ -75,13 +75,16 @@ impl Numbered for FeatureInfo {
 /// # Errors
 ///
 /// `Memory`.
-pub(super) fn merged(alloc: Global, requests: &[Request]) -> Result<Vec<FeatureInfo>, ShaperError> {
+pub(super) fn joined_by_tag(
+    alloc: Global,
+    requests: &[Request],
+) -> Result<Vec<FeatureInfo>, ShaperError> {
     let mut infos = Vec::new(alloc);
     let mut stage = 0;
     for request in requests {
         match *request {
             Request::Feature(tag, flags, value) => {
-                put(&mut infos, FeatureInfo::new(tag, flags, value, stage))?;
+                put_in_order(&mut infos, FeatureInfo::new(tag, flags, value, stage))?;
             }
             Request::Pause(_) => stage += 1,
         }

@@ -76,11 +76,11 @@ pub(super) fn text_shaper(
     found: Option<Tag>,
 ) -> Option<Shaper> {
     let choice = shaper_for_script(script?, direction, found)?;
-    Some(chosen(choice))
+    Some(shaper_of_choice(choice))
 }
 
 // The shaper of a choice.
-fn chosen(choice: ScriptShaper) -> Shaper {
+fn shaper_of_choice(choice: ScriptShaper) -> Shaper {
     match choice {
         ScriptShaper::Arabic => Shaper::Arabic,
         ScriptShaper::Hangul => Shaper::Hangul,

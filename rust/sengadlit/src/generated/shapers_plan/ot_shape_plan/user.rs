@@ -2,7 +2,7 @@
 
 use crate::generated::shapers_base::buffer::Tag;
 
-/// A feature that the user asks for, from one cluster up to another.
+/// A feature that the user requests, from one cluster up to another.
 #[derive(Clone, Copy, Debug, PartialEq, Eq)]
 pub struct UserFeature {
     /// The feature's tag.
@@ -15,8 +15,8 @@ pub struct UserFeature {
     pub end: u32,
 }
 
-/// What a user's feature becomes where it doesn't hold for the whole text: in glyphs of the clusters
-/// from `start` up to `end` the bits of `mask` become those of `value`.
+/// What a user's feature becomes where it doesn't hold for the whole text: in glyphs of the
+/// clusters from `start` up to `end` the bits of `mask` become those of `value`.
 #[derive(Clone, Copy, Debug, PartialEq, Eq)]
 pub struct UserRange {
     /// The bits of the feature.

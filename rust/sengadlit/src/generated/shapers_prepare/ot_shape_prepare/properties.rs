@@ -5,6 +5,7 @@
 use super::unicode::UnicodeProperties;
 use crate::generated::shapers_base::buffer::{Buffer, GlyphInfo, GlyphMarks, GlyphWalk};
 use crate::generated::shapers_normal::ot_shape_normalize::HIDDEN;
+use core::mem;
 
 // ZWJ, which joins pictographs.
 const ZERO_WIDTH_JOINER: u32 = 0x200D;
@@ -28,7 +29,11 @@ const ZERO_WIDTH_JOINER: u32 = 0x200D;
 ///
 /// </details>
 pub fn set_unicode_properties<U: UnicodeProperties>(unicode: &U, buffer: &mut Buffer) {
-    buffer.walk(&mut PropertyWalk { unicode });
+    // (properties that panic leave the empty buffer, and no text with some of them)
+    let empty = Buffer::new(buffer.alloc(), buffer.max_len());
+    let mut text = mem::replace(buffer, empty);
+    text.walk(&mut PropertyWalk { unicode });
+    *buffer = text;
 }
 
 // The walk that sets the properties of a text.

@@ -5,6 +5,7 @@
 use super::unicode::UnicodeProperties;
 use crate::generated::shapers_base::buffer::{Buffer, Direction, GlyphChange, GlyphInfo};
 use crate::generated::shapers_base::font::Font;
+use core::mem;
 
 /// What characters are rotated by: the direction that the caller wants of the text, and of the plan
 /// the mask of the feature that mirrors (`rtlm`) and whether the font has a feature for vertical
@@ -43,17 +44,18 @@ pub fn rotate_chars<U: UnicodeProperties, F: Font>(
     rotation: &CharRotation,
     buffer: &mut Buffer,
 ) {
-    let end = buffer.len();
     let rotation = *rotation;
-    buffer.change_each(
-        0,
-        end,
-        &Rotating {
-            unicode,
-            face,
-            rotation,
-        },
-    );
+    let rotating = Rotating {
+        unicode,
+        face,
+        rotation,
+    };
+    // (a font that panics leaves the empty buffer, and no text with some characters rotated)
+    let empty = Buffer::new(buffer.alloc(), buffer.max_len());
+    let mut text = mem::replace(buffer, empty);
+    let len = text.len();
+    text.change_each(0, len, &rotating);
+    *buffer = text;
 }
 
 // The change of one glyph.

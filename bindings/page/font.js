@@ -1,0 +1,160 @@
+"use strict";
+// The text with a font: shaped by HarfRust as it is and with the hooks, and broken where flags allow it.
+
+// The most characters that are drawn with a font.
+const MOST_DRAWN = 500;
+
+let [fonts, loading, metrics, outlines] = [null, null, null, new Map()];
+
+// ---- The font ----
+
+// The module of fonts, which is loaded with the first font.
+async function loadFonts() {
+  await new Promise((resolve, reject) => {
+    const script = made("script", { src: "fonts.js" });
+    script.addEventListener("load", resolve);
+    script.addEventListener("error", () => reject(new Error("fonts.js isn't beside this page")));
+    document.head.append(script);
+  });
+  return Module.load(FONTS);
+}
+
+async function takeFont(file) {
+  if (!file) return;
+  try {
+    fonts = await (loading ??= loadFonts());
+    fonts.write(new Uint8Array(await file.arrayBuffer()), fonts.calls.font_room);
+    metrics = fonts.ask("name");
+    outlines = new Map();
+    by("font-note").textContent = metrics ? `${file.name}, ${metrics.units} units per em.` : `${file.name} can't be read as a font.`;
+  } catch (error) {
+    metrics = null;
+    by("font-note").textContent = `${file.name}: ${error.message}`;
+  }
+  showWithFont();
+}
+
+// ---- Shaping ----
+
+// Asks for glyphs of a text, which are null where there are none.
+function ask(kind, which, ...rest) {
+  const flags = flagsBy((id) => ({ f20: 0x10, f40: 0x40, f80: 0x80 })[id]);
+  const setting = FIELDS.map((id) => by(id).value);
+  return fonts.ask([kind, which, ...setting, flags, ...rest].join("\n")) ?? [];
+}
+
+// The glyphs with the places where they are drawn.
+function placed(glyphs) {
+  let pen = 0;
+  for (const glyph of glyphs) {
+    glyph.at = `${pen + glyph.x} ${-glyph.y}`;
+    pen += glyph.advance;
+  }
+  return glyphs;
+}
+
+const widthOf = (glyphs) => glyphs.reduce((sum, glyph) => sum + glyph.advance, 0);
+
+// ---- Drawing ----
+
+function loadOutlines(glyphs) {
+  const missing = [...new Set(glyphs.map((glyph) => glyph.number))].filter((number) => !outlines.has(number));
+  if (missing.length) fonts.ask(`outline\n${missing.join(" ")}`).forEach((path, i) => outlines.set(missing[i], path));
+}
+
+// Of these glyphs those that the others don't have at the same place.
+function withoutTwin(glyphs, others) {
+  const left = new Map();
+  const key = (glyph) => `${glyph.number} ${glyph.at}`;
+  for (const other of others) left.set(key(other), (left.get(key(other)) ?? 0) + 1);
+  return new Set(glyphs.filter((glyph) => {
+    const count = left.get(key(glyph)) ?? 0;
+    left.set(key(glyph), count - 1);
+    return count <= 0;
+  }));
+}
+
+function svg(name, attributes) {
+  const element = document.createElementNS("http://www.w3.org/2000/svg", name);
+  for (const [key, value] of Object.entries(attributes)) element.setAttribute(key, value);
+  return element;
+}
+
+// A drawing of lines, one over the other: glyphs without a twin in their line's colour.
+function drawn(lines, width) {
+  const margin = metrics.units / 4;
+  const [top, height] = [-Math.max(metrics.ascent, metrics.units) - margin, metrics.ascent - metrics.descent + 3 * margin];
+  const box = [-margin, top, width + 2 * margin, height];
+  const picture = svg("svg", { class: "outline", viewBox: box.join(" "), role: "img", "aria-label": "Outlines" });
+  picture.style.maxWidth = `${(box[2] / metrics.units) * 60}px`;
+  for (const { glyphs, others, colour } of lines) {
+    loadOutlines(glyphs);
+    const alone = withoutTwin(glyphs, others);
+    for (const glyph of glyphs) {
+      const attributes = { class: alone.has(glyph) ? colour : "same", transform: `translate(${glyph.at})` };
+      picture.append(svg("path", { ...attributes, d: outlines.get(glyph.number) }));
+    }
+  }
+  return picture;
+}
+
+function told(name, glyphs) {
+  return made("p", {}, made("b", {}, name), " ", made("code", {}, glyphs.map((glyph) => glyph.number).join(" ")));
+}
+
+// Both lines, each alone and one over the other.
+function showWithFont() {
+  by("outlines").replaceChildren();
+  by("broken").hidden = true;
+  const text = [...by("text").value].slice(0, MOST_DRAWN).join("").toWellFormed();
+  if (!metrics || text === "") return;
+  try {
+    const [stock, proved] = [placed(ask("shape", "stock", text)), placed(ask("shape", "proved", text))];
+    const width = Math.max(widthOf(stock), widthOf(proved));
+    const lines = [{ glyphs: stock, others: proved, colour: "stock" }, { glyphs: proved, others: stock, colour: "proved" }];
+    const differ = Math.max(withoutTwin(stock, proved).size, withoutTwin(proved, stock).size);
+    by("outlines").append(
+      told("HarfRust", stock), drawn(lines.slice(0, 1), width), told("With the hooks", proved), drawn(lines.slice(1), width),
+      made("p", { id: "differ" }, differ ? `Glyphs that differ: ${differ}. One line over the other:` : "Both have the same glyphs at the same places."));
+    if (differ) by("outlines").append(drawn(lines, width));
+    showWidth(text, widthOf(proved));
+  } catch (error) {
+    by("outlines").append(`The program ended: ${error.message}`);
+  }
+}
+
+// ---- A broken line ----
+
+function showWidth(text, width) {
+  by("width").max = width;
+  by("width").value = Math.round(width / 2);
+  by("broken").hidden = false;
+  by("broken").text = text;
+  showPieces();
+}
+
+// Each piece as it stands in the whole, and shaped alone.
+function showPieces() {
+  by("width-told").textContent = by("width").value;
+  const pieces = ask("broken", "proved", by("width").value, by("broken").text);
+  by("pieces").replaceChildren(...pieces.map(({ whole, alone }) => {
+    const [one, other] = [placed(whole), placed(alone)];
+    const width = Math.max(widthOf(one), widthOf(other));
+    const same = withoutTwin(one, other).size + withoutTwin(other, one).size === 0;
+    return made("div", { class: "piece" },
+      made("p", {}, `In the whole, and alone: ${same ? "the same" : "they differ"}.`),
+      drawn([{ glyphs: one, others: other, colour: "stock" }], width),
+      drawn([{ glyphs: other, others: one, colour: "proved" }], width));
+  }));
+}
+
+by("width").addEventListener("input", showPieces);
+by("font").addEventListener("change", () => takeFont(by("font").files[0]));
+document.addEventListener("shown", showWithFont);
+for (const kind of ["dragover", "dragleave", "drop"]) {
+  window.addEventListener(kind, (event) => {
+    event.preventDefault();
+    by("drop").classList.toggle("over", kind === "dragover");
+    if (kind === "drop") takeFont(event.dataTransfer.files[0]);
+  });
+}

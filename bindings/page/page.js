@@ -1,0 +1,288 @@
+"use strict";
+// The hooks at work: asks the module for the steps of what is typed, and shows them.
+
+// The most characters that the fields and the address keep.
+const MOST_KEPT = 20000;
+const MOST_IN_ADDRESS = 2000;
+// From how many characters of the table on a row is drawn when it comes into sight.
+const LONG_ROW = 10000;
+const COLUMNS = ["glyph", "cluster", "mask", "syllable", "category", "auxiliary", "class", "advance", "offset"];
+const FIELDS = ["script", "direction", "level"];
+const FLAGS = ["f20", "f40", "f80"];
+const OPTIONS = ["sound", "always", "gposmark", "beginning"];
+
+let hooks = null;
+let shown = null;
+
+// ---- What is asked ----
+
+// The sum of the flags that are set, by their numbers.
+function flagsBy(number) {
+  return FLAGS.filter((id) => by(id).checked).reduce((sum, id) => sum + number(id), 0).toString(16);
+}
+
+function textRequest(text) {
+  const flags = flagsBy((id) => parseInt(id.slice(1), 16));
+  const options = OPTIONS.filter((id) => by(id).checked).join(" ");
+  const fields = FIELDS.map((id) => by(id).value);
+  return ["text", ...fields, flags, options, text].join("\n");
+}
+
+// Cuts a field off that would be too long to lay out, and says so.
+function keepShort(field) {
+  const length = field.value.length;
+  if (length <= MOST_KEPT) return "";
+  field.value = field.value.slice(0, MOST_KEPT).toWellFormed();
+  return `Too long: of ${length} code units the first ${MOST_KEPT} are kept. `;
+}
+
+const isOfLines = () => by("by-lines").open && by("lines").value !== "";
+
+// Asks, and shows the answer; the time that this took is in the page, for its test.
+function run() {
+  const began = performance.now();
+  const cut = keepShort(by("text")) + keepShort(by("lines"));
+  const text = by("text").value;
+  try {
+    shown = hooks.ask(isOfLines() ? "lines\n" + by("lines").value : textRequest(text));
+    show(text, cut);
+  } catch (error) {
+    shown = null;
+    by("note").textContent = `${cut}The program ended: ${error.message}`;
+  }
+  keepAddress();
+  document.body.dataset.took = performance.now() - began;
+  document.dispatchEvent(new Event("shown"));
+}
+
+// ---- The address ----
+
+function parameters() {
+  const kept = new URLSearchParams();
+  if (isOfLines()) {
+    kept.set("lines", by("lines").value.slice(0, MOST_IN_ADDRESS).toWellFormed());
+    return kept;
+  }
+  kept.set("text", by("text").value.slice(0, MOST_IN_ADDRESS).toWellFormed());
+  for (const id of FIELDS) if (by(id).value && by(id).value !== "0") kept.set(id, by(id).value);
+  const chosen = [...FLAGS, ...OPTIONS].filter((id) => by(id).checked);
+  if (chosen.length) kept.set("with", chosen.join(" "));
+  return kept;
+}
+
+function keepAddress() {
+  history.replaceState(null, "", "#" + parameters());
+}
+
+// Fills the fields from what stands behind #.
+function readAddress(kept) {
+  by("by-lines").open = kept.has("lines");
+  by("lines").value = kept.get("lines") ?? "";
+  by("text").value = kept.get("text") ?? "";
+  for (const id of FIELDS) by(id).value = kept.get(id) ?? (id === "level" ? "0" : "");
+  const chosen = (kept.get("with") ?? "").split(" ");
+  for (const id of [...FLAGS, ...OPTIONS]) by(id).checked = chosen.includes(id);
+}
+
+// ---- What is shown ----
+
+function show(text, cut) {
+  by("note").textContent = cut + note(text);
+  by("breaks").replaceChildren(...(shown?.pieces.length ? breaks(shown.pieces) : []));
+  by("steps").replaceChildren(...(shown?.steps ?? []).map(stepElement));
+  by("legend").innerHTML = shown?.legend ?? "";
+}
+
+function note(text) {
+  if (!shown) return text === "" ? "Type a text." : "No script with hooks is known of this text; choose one.";
+  const parts = [];
+  if (!isOfLines() && !text.isWellFormed()) parts.push("Unpaired surrogates are shaped as FFFD.");
+  if (shown.script && shown.length > shown.most)
+    parts.push(`Of ${shown.length} characters no more than the first ${shown.most} are drawn.`);
+  if (shown.script) parts.push(`Script: ${scriptName(shown.script)}.`);
+  if (shown.ended) parts.push(`Ended at ${shown.ended}.`);
+  return parts.join(" ");
+}
+
+function scriptName(code) {
+  const name = new Intl.DisplayNames("en", { type: "script" }).of(code);
+  return name === code ? code : `${name} (${code})`;
+}
+
+// The text with a bar where no flag forbids a line break.
+function breaks(pieces) {
+  const bar = () => made("span", { class: "may" }, "|");
+  return ["No flag forbids a line break at ", bar(), ": ", made("bdi", {}, ...pieces.flatMap((piece, i) => (i ? [bar(), piece] : [piece])))];
+}
+
+function stepElement(step, number) {
+  const element = made("section", { class: "step", "data-step": number });
+  const heads = step.heads.slice(0, 6).map((head) => made("div", {}, made("code", {}, made("bdi", {}, head.slice(0, 120)))));
+  element.append(made("h2", {}, ...heads), made("p", { class: "told" }, step.told));
+  for (const answer of step.answers) element.append(made("p", { class: "answer" }, "answered ", made("code", {}, answer)));
+  if (step.told !== "Nothing changed." || number === 0) element.append(drawing(step));
+  element.append(tableElement(step));
+  if (step.subject) element.append(folded("Definition", definition(step.subject)));
+  return element;
+}
+
+// A row, drawn at once if it is short, and else when it comes into sight.
+function drawing(step) {
+  const element = made("div", { class: "drawn" });
+  if (step.printed.length < LONG_ROW) {
+    draw(element, step);
+  } else {
+    element.classList.add("waiting");
+    element.step = step;
+    watcher.observe(element);
+  }
+  return element;
+}
+
+const watcher = new IntersectionObserver((seen) => {
+  for (const { target } of seen.filter((entry) => entry.isIntersecting)) {
+    watcher.unobserve(target);
+    target.classList.remove("waiting");
+    draw(target, target.step);
+  }
+});
+
+// Draws a row as `--draw` does, in HTML in which every text is escaped. Each box becomes a button.
+function draw(element, step) {
+  element.innerHTML = step.drawn;
+  const numbers = step.printed.split("\n").map((line) => line.split(" ", 1)[0]);
+  boxes(element).forEach((box, place) => {
+    box.setAttribute("role", "button");
+    box.setAttribute("tabindex", place === 0 ? 0 : -1);
+    box.setAttribute("aria-label", `glyph ${place}: ${numbers[place]}`);
+  });
+}
+
+function boxes(element) {
+  return [...element.querySelectorAll(".row g")];
+}
+
+const folded = (name, element) => made("details", {}, made("summary", {}, name), element);
+
+// The glyphs as the program prints them, one row each.
+function tableElement(step) {
+  const rows = step.printed.split("\n").filter((line) => line !== "");
+  const count = rows.length ? rows[0].split(" ").length : 0;
+  const head = made("tr", {}, ...COLUMNS.slice(0, count).map((name) => made("th", { scope: "col" }, name)));
+  const cells = (line) => made("tr", {}, ...line.split(" ").map((cell) => made("td", {}, cell)));
+  const table = made("table", {}, made("thead", {}, head), made("tbody"));
+  const details = folded("Table", made("div", { class: "table", tabindex: 0, role: "group", "aria-label": "Table" }, table));
+  details.addEventListener("toggle", () => {
+    if (details.open && !table.tBodies[0].rows.length) table.tBodies[0].append(...rows.map(cells));
+  });
+  return details;
+}
+
+// An entry of docs/DEFINITIONS.md.
+function definition([part, entry]) {
+  const text = TEXTS.definitions.split(`\n## \`${part}\`\n`)[1]?.split("\n## ")[0] ?? "";
+  const found = text.split("\n\n").find((block) => block.trimStart().startsWith(`**${entry}**`)) ?? "";
+  const body = found.slice(found.indexOf(":\n") + 2).replaceAll("\n", " ");
+  return made("p", { class: "definition" }, made("b", {}, `${part}, ${entry}`), "\n", body);
+}
+
+// ---- A glyph ----
+
+// Shows all fields of a glyph below its row, and what moved it.
+function showGlyph(box) {
+  const element = box.closest(".step");
+  const number = Number(element.dataset.step);
+  const place = boxes(element).indexOf(box);
+  const { fields, moves } = hooks.ask(`glyph\n${number}\n${place}`);
+  const list = made("dl", {}, ...fields.flatMap(([name, value]) => [made("dt", {}, name), made("dd", {}, made("bdi", {}, value))]));
+  const panel = made("div", { class: "glyph", role: "status" }, list);
+  if (!moves.length) panel.append(made("p", {}, "Nothing so far has moved it."));
+  for (const [mover, from, to] of moves) {
+    const step = shown.steps[mover];
+    panel.append(made("p", {}, made("code", {}, step.heads[0]), ` moved it from place ${from} to place ${to}.`));
+    if (step.subject) panel.append(definition(step.subject));
+  }
+  document.querySelector(".glyph")?.remove();
+  box.closest(".drawn").after(panel);
+}
+
+// Moves the focus along the boxes of a row.
+function walkRow(box, key) {
+  const row = boxes(box.closest(".step"));
+  const isRtl = box.closest(".rtl") !== null;
+  const step = { ArrowRight: isRtl ? -1 : 1, ArrowLeft: isRtl ? 1 : -1 }[key];
+  const next = { Home: row[0], End: row.at(-1) }[key] ?? row[row.indexOf(box) + step];
+  if (!next) return;
+  box.setAttribute("tabindex", -1);
+  next.setAttribute("tabindex", 0);
+  next.focus();
+}
+
+function boxOf(event) {
+  const box = event.target.closest?.("g[role=button]");
+  return box && by("steps").contains(box) ? box : null;
+}
+
+by("steps").addEventListener("click", (event) => {
+  if (boxOf(event)) showGlyph(boxOf(event));
+});
+by("steps").addEventListener("keydown", (event) => {
+  const box = boxOf(event);
+  if (!box || event.altKey || event.ctrlKey || event.metaKey) return;
+  if (event.key === "Enter" || event.key === " ") showGlyph(box);
+  else if (["ArrowRight", "ArrowLeft", "Home", "End"].includes(event.key)) walkRow(box, event.key);
+  else return;
+  event.preventDefault();
+});
+
+// ---- Examples ----
+
+// The text of code points, each with how often it comes (0915 0951*256), or the text itself.
+function exampleText(text) {
+  if (!/^[0-9A-F* ]+$/.test(text)) return text;
+  const items = text.split(" ").map((item) => item.split("*"));
+  return items.map(([number, times]) => String.fromCodePoint(parseInt(number, 16)).repeat(times ?? 1)).join("");
+}
+
+function addExamples() {
+  const groups = { "Faults of the README": [], "A word of each script": [], "Lines": [] };
+  for (const line of TEXTS.examples.trim().split("\n")) {
+    const [name, chosen, text] = line.split("\t");
+    const kept = new URLSearchParams(chosen);
+    kept.set("text", exampleText(text));
+    groups[name.length === 4 ? "A word of each script" : "Faults of the README"].push([name.length === 4 ? scriptName(name) : name, kept]);
+  }
+  for (const [name, lines] of Object.entries(TEXTS.lines)) groups.Lines.push([name, new URLSearchParams({ lines })]);
+  for (const [label, examples] of Object.entries(groups)) {
+    const options = examples.map(([name, kept]) => made("option", { value: kept }, name));
+    by("example").append(made("optgroup", { label }, ...options));
+  }
+}
+
+// ---- The start ----
+
+async function start() {
+  hooks = await Module.load(HOOKS);
+  document.head.prepend(made("style", {}, hooks.ask("style")));
+  for (const code of hooks.ask("scripts")) by("script").append(made("option", { value: code }, scriptName(code)));
+  addExamples();
+  readAddress(new URLSearchParams(location.hash.slice(1)));
+  by("form").addEventListener("submit", (event) => event.preventDefault());
+  for (const id of ["text", ...FIELDS, ...FLAGS, ...OPTIONS]) by(id).addEventListener("input", () => {
+    by("by-lines").open = false;
+    run();
+  });
+  by("lines").addEventListener("input", run);
+  by("example").addEventListener("change", () => {
+    readAddress(new URLSearchParams(by("example").value));
+    run();
+  });
+  window.addEventListener("hashchange", () => {
+    readAddress(new URLSearchParams(location.hash.slice(1)));
+    run();
+  });
+  run();
+  document.body.dataset.ready = "yes";
+}
+
+start();

@@ -1,0 +1,317 @@
+#!/usr/bin/env python3
+"""Tests of the page in headless Chromium: tests.py FOLDER PROGRAM ROOT. PROGRAM answers as the module of fonts does, and ROOT
+has Debian's fonts and word lists, unpacked. The last line is 'N passed, M failed'."""
+
+import json
+import pathlib
+import re
+import subprocess
+import sys
+import tempfile
+import time
+import traceback
+import urllib.parse
+
+sys.dont_write_bytecode = True
+sys.path.insert(1, str(pathlib.Path(__file__).resolve().parent.parent))
+from chromium import Failed, Page  # noqa: E402
+from words import hunspell, is_in, spread  # noqa: E402
+
+TOP = pathlib.Path(__file__).resolve().parent.parent.parent
+ROWS = ["arabic", "hangul", "hebrew", "indic", "indic_initial", "indic_final", "khmer", "myanmar", "stretch", "thai", "universal"]
+
+TYPE = "(id, text) => { by(id).value = text; by(id).dispatchEvent(new Event('input', { bubbles: true })); }"
+LINES = "(text) => { by('by-lines').open = true; (%s)('lines', text); }" % TYPE
+# What the last step's table has, in the lines of the program, behind what hooks answered.
+TABLE = """(() => {
+  const steps = [...document.querySelectorAll('.step')];
+  const answers = steps.flatMap((step) => [...step.querySelectorAll('.answer code')]);
+  const details = steps.at(-1)?.querySelector('details:has(table)');
+  if (!details) return answers.map((code) => code.textContent);
+  details.open = true;
+  details.dispatchEvent(new Event('toggle'));
+  const rows = [...details.querySelectorAll('tbody tr')];
+  const cells = (row) => [...row.cells].map((cell) => cell.textContent).join(' ');
+  return [...answers.map((code) => code.textContent), ...rows.map(cells)];
+})()"""
+
+
+def js(text):
+    """A text as an expression of JavaScript; a lone surrogate stays one."""
+    return '"' + "".join(f"\\u{unit:04x}" for unit in units(text)) + '"'
+
+
+def units(text):
+    encoded = text.encode("utf-16-le", "surrogatepass")
+    return [int.from_bytes(encoded[i : i + 2], "little") for i in range(0, len(encoded), 2)]
+
+
+def rows_of(path):
+    """The worked rows of a file: lines, and what they print; rows that end in a fault apart."""
+    for block in path.read_text("utf-8").split("\n\n"):
+        lines = [line for line in block.split("\n") if line and not line.startswith("#")]
+        script = [line[1:].removeprefix(" ") for line in lines if line.startswith(">")]
+        if script and not any(line.startswith("!") for line in lines):
+            yield "\n".join(script), [line for line in lines if not line.startswith(">")]
+
+
+class Tests:
+    def __init__(self, folder, program, root, scratch):
+        self.program, self.root = program, root
+        self.fonts = pathlib.Path(root) / "usr/share/fonts/truetype/noto"
+        self.url = (pathlib.Path(folder).resolve() / "index.html").as_uri()
+        self.scratch = scratch
+        self.page = Page("chromium", scratch / "profile", self.url)
+
+    def type(self, text):
+        self.page.run(f"({TYPE})('text', {js(text)})")
+
+    def note(self):
+        return self.page.run("by('note').textContent")
+
+    def told(self):
+        return self.page.run("[...document.querySelectorAll('.step .told')].map((told) => told.textContent)")
+
+    def choose_font(self, path):
+        self.page.run("by('font-note').textContent = ''")
+        self.page.set_files("#font", [str(path)])
+        self.page.wait("by('font-note').textContent !== ''")
+
+    # ---- What the tests are ----
+
+    def test_worked_rows(self):
+        """Each worked row of a script's hook, typed as lines, leaves the glyphs of the row."""
+        count = 0
+        for name in ROWS:
+            for lines, printed in rows_of(TOP / f"crates/hbhook_rows/data/{name}.rows"):
+                shown = self.page.run(f"(({LINES})({js(lines)}), {TABLE})")
+                if any(line.startswith("run ") for line in lines.split("\n")):
+                    assert shown == printed, f"{name}:\n{lines}\nshown {shown}\nnot {printed}"
+                    count += 1
+        assert count > 300, count
+        return f"{count} rows"
+
+    def test_a_word_is_answered_within_a_tenth_of_a_second(self):
+        slowest = 0
+        for line in (TOP / "bindings/page/examples.txt").read_text("utf-8").splitlines():
+            name, _, text = line.split("\t")
+            if len(name) == 4:
+                self.type(text)
+                assert re.search(rf"Script: (.*\()?{name}\)?\.", self.note()), (name, self.note())
+                took = float(self.page.run("document.body.dataset.took"))
+                slowest = max(slowest, took)
+        assert slowest < 100, f"{slowest} ms"
+        return f"the slowest of a word of each script took {slowest:.0f} ms"
+
+    def test_the_faults_of_the_readme(self):
+        """Each example is one of the table's texts, and is shown."""
+        table = [line for line in (TOP / "README.md").read_text("utf-8").splitlines() if "`bindings/fault " in line]
+        options = self.page.run("[...by('example').options].filter((it) => it.parentNode.label?.startsWith('Faults')).map((it) => it.value)")
+        assert len(options) == len(table) == 6, (options, table)
+        for value, row in zip(options, table):
+            self.page.run(f"by('example').value = {js(value)}; by('example').dispatchEvent(new Event('change'))")
+            text = self.page.run("by('text').value")
+            assert {chr(int(number, 16)) for number in re.findall(r"\b[0-9A-F]{4}\b", row)} <= set(text), (row, text)
+            assert self.page.run("document.querySelectorAll('.step .drawn').length") > 1
+
+    def test_the_address_holds_the_text(self):
+        self.type("\u0d9a\u0dd9 #&=+%")
+        self.page.run("by('sound').click()")
+        address = self.page.run("location.hash")
+        before = self.page.run("by('steps').textContent")
+        self.page.call("Page.navigate", url=self.url + "#text=x")
+        self.page.call("Page.navigate", url=self.url + address)
+        self.page.wait("by('steps')?.textContent.length > 100")
+        assert self.page.run("by('text').value") == "\u0d9a\u0dd9 #&=+%"
+        assert self.page.run("by('sound').checked")
+        assert self.page.run("by('steps').textContent") == before
+
+    def test_keys_alone(self):
+        """Tab reaches the text, a box and a table; Enter shows the glyph, arrows walk along the row."""
+        self.page.open(self.url + "?keys")
+        seen = []
+        for _ in range(80):
+            self.page.key("Tab")
+            seen.append(self.page.run("document.activeElement.id || document.activeElement.getAttribute('role') || document.activeElement.tagName"))
+            if seen[-1] == "text":
+                self.page.type("\u0d9a\u0dd9")
+            if seen[-1] == "button" and self.page.run("document.activeElement.closest('.step') === by('steps').lastChild"):
+                break
+        ids = self.page.run("[...by('form').querySelectorAll('[id]')].map((it) => it.id).filter((id) => id !== 'by-lines' && id !== 'lines')")
+        assert set(ids) <= set(seen), set(ids) - set(seen)
+        self.page.key("Enter")
+        assert "0DD9" in self.page.run("document.querySelector('.glyph').textContent")
+        self.page.key("ArrowRight")
+        self.page.key(" ")
+        assert "0D9A" in self.page.run("document.querySelector('.glyph').textContent")
+        self.page.key("Tab")
+        self.page.key("Enter")
+        assert self.page.run("document.activeElement.closest('details')?.open === true")
+        for _ in range(20):
+            self.page.key("Tab")
+            if self.page.run("document.activeElement.id") == "font":
+                return
+        raise AssertionError("no font can be chosen")
+
+    def test_a_glyph_tells_what_moved_it(self):
+        self.type("\u0d9a\u0dd9")
+        self.page.run("by('steps').lastChild.querySelector('.row g').dispatchEvent(new MouseEvent('click', { bubbles: true }))")
+        glyph = self.page.run("document.querySelector('.glyph').innerText")
+        definition = (TOP / "docs/DEFINITIONS.md").read_text("utf-8").split("## `shapers_universal`")[1]
+        definition = definition.split("\n**Universal** ")[1].split(":\n")[1].split("\n\n")[0]
+        assert "run pause reorder_use moved it from place 1 to place 0." in glyph, glyph
+        assert definition.replace("\n", " ") in glyph.replace("\n", " "), glyph
+
+    def test_360_pixels(self):
+        """No bar at the width of a small telephone, with anything open."""
+        self.page.resize(360, 700)
+        for text in ("\u1797\u17b6\u179f\u17b6\u1781\u17d2\u1798\u17c2\u179a", "\u0e19\u0e49\u0e33" * 30, "\u0915" + "\u0951" * 256):
+            self.type(text)
+            self.page.run("document.querySelectorAll('details').forEach((it) => { it.open = true; })")
+            time.sleep(0.1)
+            self.page.run("by('steps').lastChild.querySelector('g')?.dispatchEvent(new MouseEvent('click', { bubbles: true }))")
+            width = self.page.run("document.documentElement.scrollWidth")
+            assert width <= 360, f"{text[:8]}: {width}"
+        self.page.call("Emulation.clearDeviceMetricsOverride")
+
+    def test_no_markup(self):
+        """Markup in a text or in lines stays text."""
+        for text in ("\u0e01<img src=x onerror=window.hit=1><script>window.hit=1</script>", "\u0e01\"><svg onload=window.hit=1>&lt;b&gt;"):
+            elements = "document.querySelectorAll('main img, main script, main b, main [onload], main [onerror]').length"
+            self.type(text)
+            before = self.page.run("document.querySelectorAll('main b').length")
+            assert self.page.run(elements) == before
+            self.page.run(f"({LINES})({js('text ' + text + chr(10) + 'run ' + text)})")
+            assert self.page.run("document.querySelectorAll('main img, main script, main [onload], main [onerror]').length") == 0
+        self.page.open(self.url + "#" + urllib.parse.urlencode({"text": "<img src=x onerror=window.hit=1>", "script": "\"><img src=x>"}))
+        assert self.page.run("document.querySelectorAll('main img').length") == 0
+        assert self.page.run("window.hit === undefined")
+
+    def test_more_than_are_drawn(self):
+        self.type("\u0e01" * 2001)
+        assert "Of 2001 characters no more than the first 2000 are drawn." in self.note(), self.note()
+        self.page.run("by('steps').firstChild.scrollIntoView()")
+        self.page.wait("by('steps').firstChild.querySelectorAll('.row g').length === 2000")
+        self.type("\u0e01" * 2000)
+        assert "no more than" not in self.note(), self.note()
+
+    def test_hostile_texts(self):
+        """Each is answered, or told too long, within ten seconds, and the page takes input afterwards."""
+        slowest = 0
+        texts = {
+            "a million letters": "\u0628" * 1_000_000, "a million marks": "\u0915" + "\u0951" * 999_999,
+            "a million joiners": "\u200d" * 1_000_000, "a million pairs of surrogates": "\U0001e900" * 1_000_000,
+            "unpaired surrogates": "\u0628\ud800\udc00\udc00\ud800", "only unpaired": "\ud800" * 2000, "only joiners": "\u200d\u200c" * 500,
+            "controls": "".join(map(chr, range(0x20))) + "\u0e01", "noncharacters": "\u0628\ufffe\uffff\ufdd0\U0010ffff",
+            "2,000 marks": "\u0915" + "\u0951" * 1999, "2,000 left vowels": "\u1780" + "\u17c1" * 1999,
+            "2,000 jamo": "\u1112\u1161\u11ab" * 666,
+        }
+        for name, text in texts.items():
+            began = time.monotonic()
+            repeat = len(text) >= 1_000_000
+            unit = text[-1] if repeat else text
+            value = f"{js(text[0])} + {js(unit)}.repeat({len(text) - 1})" if repeat else js(text)
+            try:
+                self.page.run(f"({TYPE})('text', {value})", 10)
+                # (a frame that is drawn tells that the page is laid out)
+                self.page.run("new Promise((done) => requestAnimationFrame(() => setTimeout(done)))", 10)
+            except Failed as fault:
+                raise Failed(f"{name}: {fault}") from fault
+            slowest = max(slowest, time.monotonic() - began)
+            assert time.monotonic() - began < 10, name
+            assert self.note() != "", name
+            if repeat:
+                assert "Too long" in self.note(), (name, self.note())
+            assert "ended:" not in self.note(), (name, self.note())
+            self.type("\u0e14\u0e33")
+            assert "0E33 became 0E4D" in " ".join(self.told()), (name, self.told())
+        began = time.monotonic()
+        self.page.run(f"({LINES})({js('set shaper khmer' + chr(10) + 'text ' + chr(0x1780) * 2000)} + '\\nrun masks'.repeat(1500))", 10)
+        assert "more than 50000 glyphs together" in self.note() and time.monotonic() - began < 10, self.note()
+        self.type("\u0e14\u0e33")
+        assert "0E33 became 0E4D" in " ".join(self.told()), self.told()
+        return f"the slowest took {slowest:.1f} s"
+
+    def test_lines_end_where_one_is_rejected(self):
+        self.page.run(f"({LINES})({js('set shaper thai' + chr(10) + 'text 0E14 0E33' + chr(10) + 'run nothing')})")
+        assert "Ended at line 3: field 2, `nothing`: expected" in self.note(), self.note()
+
+    def test_fonts_shape_as_natively(self):
+        """Two fonts are dropped: 1,000 words have the numbers of glyphs that the native programs give."""
+        count = 0
+        for name, block, font in (("hi_IN", (0x900, 0x97F), "NotoSansDevanagari-Regular.ttf"), ("fa", (0x620, 0x6FF), "NotoNaskhArabic-Regular.ttf")):
+            words = spread(sorted({word for word in hunspell(self.root, name) if is_in(word, [block])}), 500)
+            self.page.set_files("#font", [str(self.fonts / font)])
+            drop = "(() => { const moved = new DataTransfer(); moved.items.add(by('font').files[0]); by('font-note').textContent = '';"
+            self.page.run(drop + "window.dispatchEvent(new DragEvent('drop', { dataTransfer: moved, bubbles: true, cancelable: true })); })()")
+            self.page.wait("by('font-note').textContent !== ''")
+            assert font in self.page.run("by('font-note').textContent")
+            for which in ("stock", "proved"):
+                request = f"words\n{which}\n" + "\n".join(words)
+                native = subprocess.run([self.program, str(self.fonts / font)], input=request, capture_output=True, text=True, check=True)
+                assert self.page.run(f"fonts.ask({js(request)})") == json.loads(native.stdout), (font, which)
+            count += len(words)
+        assert count == 1000, count
+
+    def test_a_fault_is_seen(self):
+        """Behind a TAB the sign has another form without the hooks: both lines, and one over the other, are drawn."""
+        self.choose_font(self.fonts / "NotoSansBengali-Regular.ttf")
+        self.type("\t\u0995\u09c7")
+        assert self.page.run("by('differ').textContent") == "Glyphs that differ: 1. One line over the other:"
+        assert self.page.run("document.querySelectorAll('#outlines svg').length") == 3
+        for which in ("stock", "proved"):
+            assert self.page.run(f"document.querySelectorAll('#outlines .{which}').length") == 2, which  # alone, and one over the other
+        self.type("\u0995\u09c7")
+        assert self.page.run("by('differ').textContent") == "Both have the same glyphs at the same places."
+
+    def test_pieces_of_a_broken_line(self):
+        """At whatever width, a piece that no flag forbids is drawn alone as it is in the whole."""
+        for font, text in (("NotoSansSyriac-Regular.ttf", "\u0715\u0710\u0712 \u0715\u0710"), ("NotoNaskhArabic-Regular.ttf", "\u0627\u0644\u0639\u0631\u0628\u064a\u0629 \u0628\u0628")):
+            self.choose_font(self.fonts / font)
+            self.type(text)
+            most, counts = int(self.page.run("by('width').max")), set()
+            for width in range(1, most + 1, max(1, most // 20)):
+                self.page.run(f"by('width').value = {width}; by('width').dispatchEvent(new Event('input'))")
+                told = self.page.run("[...document.querySelectorAll('.piece p')].map((it) => it.textContent)")
+                assert told and all("the same" in line for line in told), (font, width, told)
+                counts.add(len(told))
+            assert len(counts) > 1, (font, counts)
+
+    def test_what_is_no_font(self):
+        self.choose_font(TOP / "README.md")
+        assert self.page.run("by('font-note').textContent") == "README.md can't be read as a font."
+        self.type("\u0628")
+        assert self.page.run("by('outlines').textContent") == ""
+
+    def test_nothing_is_fetched(self):
+        """Whatever the tests before did, the browser loaded the folder's files alone, and reported no fault."""
+        asked = {event["params"]["request"]["url"] for event in self.page.events if event.get("method") == "Network.requestWillBeSent"}
+        strange = [url for url in asked if not url.startswith((self.url.rsplit("/", 1)[0] + "/", "data:", "blob:"))]
+        assert not strange, strange
+        assert not list(self.page.faults()), list(self.page.faults())
+
+
+def main(folder, program, root):
+    passed = failed = 0
+    with tempfile.TemporaryDirectory() as scratch:
+        tests = Tests(folder, program, root, pathlib.Path(scratch))
+        try:
+            for name in [name for name in vars(Tests) if name.startswith("test_")]:
+                try:
+                    told = getattr(tests, name)()
+                    passed += 1
+                    print(f"ok: {name[5:].replace('_', ' ')}{': ' + told if told else ''}", flush=True)
+                except (AssertionError, Failed, StopIteration) as fault:
+                    failed += 1
+                    print(f"FAILED: {name}: {fault}", flush=True)
+                    traceback.print_exc(limit=1)
+        finally:
+            tests.page.close()
+    print(f"{passed} passed, {failed} failed")
+    return 1 if failed else 0
+
+
+if __name__ == "__main__":
+    if len(sys.argv) != 4:
+        sys.exit(__doc__)
+    sys.exit(main(*sys.argv[1:]))

@@ -1,0 +1,67 @@
+-- Preprocessing of a text cut in two.
+use Rattle.std.proofs.Common.{ℕ, ◌≡◌, Bool, true, false, List, [], ◌∷◌, ◌++◌, refl, sym, ap, ◌∙◌}
+use Rattle.std.proofs.lemmas.List.{append-nil}
+use Rattle.shapers_base.specs.Font.{has_nominal}
+use Rattle.shapers_buffer.specs.Buffer.{Buffer}
+use Rattle.shapers_buffer.specs.declared.buffer.glyph.hb_glyph_info_t.{hb_glyph_info_t}
+use Rattle.shapers_buffer.specs.declared.buffer.level.BufferClusterLevel.{BufferClusterLevel}
+use Rattle.shapers_buffer.specs.Glyph.{clusters, order_view}
+use Rattle.shapers_hangul.specs.Hangul.{allows_circles, preprocessed}
+use Rattle.shapers_text.specs.ThaiForms.{asks_for_forms, preprocessed_text}
+use Rattle.rustybuzz_shapers.specs.TextCuts.{HangulCuts, OpensFreely, PreprocessedHalves, ThaiCuts}
+use Rattle.rustybuzz_shapers.proofs.HangulHalves.{hangul_clusters_halves, hangul_order_halves}
+use Rattle.rustybuzz_shapers.proofs.ThaiClusterHalves.{thai_clusters_halves}
+use Rattle.rustybuzz_shapers.proofs.ThaiHalves.{thai_order_halves}
+
+nothing_made : (forms : Bool) (has : ℕ → Bool) (level : BufferClusterLevel) → preprocessed_text forms has level [] ≡ []
+nothing_made true has level = refl
+nothing_made false has level = refl
+
+made_halves : (forms : Bool) (has : ℕ → Bool) (level : BufferClusterLevel) (gs hs : List hb_glyph_info_t) → OpensFreely forms hs → PreprocessedHalves gs hs (preprocessed_text forms has level gs) (preprocessed_text forms has level hs) (preprocessed_text forms has level (gs ++ hs))
+made_halves forms has level gs [] free =
+    let made = preprocessed_text forms has level in
+    let whole : made (gs ++ []) ≡ made gs = ap made (append-nil gs) in
+    record {
+      order = ap order_view whole ∙ sym (append-nil (order_view (made gs))) ∙ ap (λ xs. order_view (made gs) ++ order_view xs) (sym (nothing_made forms has level));
+      in_clusters = λ none. ap clusters whole ∙ sym (append-nil (clusters (made gs))) ∙ ap (λ xs. clusters (made gs) ++ clusters xs) (sym (nothing_made forms has level));
+    }
+made_halves forms has level gs (h ∷ hs) free = record {
+  order = thai_order_halves forms has level gs h hs free.0 free.1.0 free.1.1;
+  in_clusters = λ none. thai_clusters_halves forms has level gs h hs free.0 free.1.0 none;
+}
+
+pub thai_cuts : ThaiCuts
+thai_cuts plan font gs hs old one two new free first second whole =
+    let forms = asks_for_forms plan in
+    let has = has_nominal font in
+    let made = made_halves forms has old.level gs hs free in
+    let glyphs = λ (b : Buffer). b.glyphs in
+    record {
+      order =
+          ap (λ b. order_view (glyphs b)) whole
+          ∙ made.order
+          ∙ ap (λ b. order_view (glyphs b) ++ order_view (preprocessed_text forms has old.level hs)) (sym first)
+          ∙ ap (λ b. order_view one.glyphs ++ order_view (glyphs b)) (sym second);
+      in_clusters = λ none.
+          ap (λ b. clusters (glyphs b)) whole
+          ∙ made.in_clusters none
+          ∙ ap (λ b. clusters (glyphs b) ++ clusters (preprocessed_text forms has old.level hs)) (sym first)
+          ∙ ap (λ b. clusters one.glyphs ++ clusters (glyphs b)) (sym second);
+    }
+
+pub hangul_cuts : HangulCuts
+hangul_cuts plan font gs hs old one two new between first second whole =
+    let circles = allows_circles old in
+    let glyphs = λ (b : Buffer). b.glyphs in
+    record {
+      order =
+          ap (λ b. order_view (glyphs b)) whole
+          ∙ hangul_order_halves font circles old.level gs hs between
+          ∙ ap (λ b. order_view (glyphs b) ++ order_view (preprocessed font circles old.level hs)) (sym first)
+          ∙ ap (λ b. order_view one.glyphs ++ order_view (glyphs b)) (sym second);
+      in_clusters = λ none.
+          ap (λ b. clusters (glyphs b)) whole
+          ∙ hangul_clusters_halves font circles old.level gs hs between none
+          ∙ ap (λ b. clusters (glyphs b) ++ clusters (preprocessed font circles old.level hs)) (sym first)
+          ∙ ap (λ b. clusters one.glyphs ++ clusters (glyphs b)) (sym second);
+    }

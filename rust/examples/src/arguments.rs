@@ -1,0 +1,63 @@
+//! The arguments of the programs: options, and words without a name.
+
+use crate::scripts::script_of;
+use sengadlit::{Direction, Script};
+use std::collections::HashMap;
+use std::error::Error;
+
+/// Options that take a value, flags that don't, and the rest in order.
+pub struct Arguments {
+    options: HashMap<String, String>,
+    flags: Vec<String>,
+    pub rest: Vec<String>,
+}
+
+impl Arguments {
+    /// Reads the program's arguments, of which `with_value` names the options that take a value.
+    ///
+    /// # Errors
+    ///
+    /// The value of an option is missing.
+    pub fn read(with_value: &[&str]) -> Result<Self, Box<dyn Error>> {
+        let (mut options, mut flags, mut rest) = (HashMap::new(), vec![], vec![]);
+        let mut arguments = std::env::args().skip(1);
+        while let Some(argument) = arguments.next() {
+            if with_value.contains(&argument.as_str()) {
+                let value = arguments.next().ok_or(format!("{argument} has no value"))?;
+                options.insert(argument, value);
+            } else if argument.starts_with("--") {
+                flags.push(argument);
+            } else {
+                rest.push(argument);
+            }
+        }
+        Ok(Arguments { options, flags, rest })
+    }
+
+    pub fn option(&self, name: &str) -> Option<&str> {
+        self.options.get(name).map(String::as_str)
+    }
+
+    pub fn has(&self, flag: &str) -> bool {
+        self.flags.iter().any(|other| other == flag)
+    }
+
+    /// The script that `--script` names, or that of a text; `--direction ltr` and `rtl` choose
+    /// another direction.
+    ///
+    /// # Errors
+    ///
+    /// The text has no letter of a script that is known, and no script is named.
+    pub fn script(&self, text: &str) -> Result<(Script, Direction), Box<dyn Error>> {
+        let (script, direction) = match self.option("--script") {
+            Some(code) => (Script(code.as_bytes().try_into()?), Direction::LeftToRight),
+            None => script_of(text).ok_or("--script names the text's script, such as Khmr")?,
+        };
+        match self.option("--direction") {
+            Some("rtl") => Ok((script, Direction::RightToLeft)),
+            Some("ltr") => Ok((script, Direction::LeftToRight)),
+            Some(other) => Err(format!("--direction is ltr or rtl, not {other}").into()),
+            None => Ok((script, direction)),
+        }
+    }
+}

@@ -1,0 +1,65 @@
+//! A small GSUB and GPOS, over the tables that read-fonts parses: single, multiple, alternate and
+//! ligature substitutions; single, pair and cursive positions, marks on bases, ligatures and marks;
+//! contexts and chained contexts of all formats.
+//!
+//! Left out are reverse chains, random alternates, language systems but the default one, feature
+//! variations, devices and variations of positions, vertical text, and the flag `unsafe to concat`.
+
+mod gpos;
+mod gsub;
+mod layout;
+mod notes;
+mod pass;
+mod rules;
+
+pub use layout::Layout;
+
+use crate::driver::{Lookups, ScriptFeatures, StageLookup};
+use layout::number;
+use notes::Notes;
+use pass::Pass;
+use read_fonts::tables::gdef::GlyphClassDef as GlyphClass;
+use sengadlit::map::TableIndex;
+use sengadlit::{Buffer, GeneralCategory, GlyphInfo, ShaperError};
+
+impl Lookups for Layout<'_> {
+    fn script(&self, table: TableIndex) -> Option<&ScriptFeatures> {
+        match table {
+            TableIndex::GSUB => self.substitutions.as_ref(),
+            TableIndex::GPOS => self.positions.as_ref(),
+        }
+    }
+
+    // Of a font without classes nonspacing marks are marks, and all else is a base.
+    fn start(&self, buffer: &mut Buffer) {
+        let guess = |glyph: &GlyphInfo| match glyph.general_category {
+            GeneralCategory::Mn if !glyph.marks.is_ignorable() => GlyphClass::Mark,
+            _ => GlyphClass::Base,
+        };
+        buffer.with_glyphs_mut(|glyphs| {
+            for glyph in glyphs {
+                let class = self.class(number(glyph)).unwrap_or_else(|| guess(glyph));
+                Notes { class, ..Notes::default() }.keep(glyph);
+            }
+        });
+    }
+
+    fn substitute(&self, lookup: &StageLookup, buffer: &mut Buffer) -> Result<(), ShaperError> {
+        let mut text = buffer.copy()?;
+        Pass::new(self, TableIndex::GSUB, *lookup, &mut text).run()?;
+        *buffer = text;
+        Ok(())
+    }
+
+    fn position(&self, lookup: &StageLookup, buffer: &mut Buffer) -> Result<(), ShaperError> {
+        Pass::new(self, TableIndex::GPOS, *lookup, buffer).run()
+    }
+
+    fn is_mark(&self, glyph: &GlyphInfo) -> bool {
+        Notes::of(glyph).is_mark()
+    }
+
+    fn finish_positions(&self, buffer: &mut Buffer) {
+        gpos::finish_offsets(buffer);
+    }
+}

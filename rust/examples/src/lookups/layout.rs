@@ -1,0 +1,126 @@
+//! The tables of a font for one script: its features, and which glyphs a lookup ignores.
+
+use super::notes::Notes;
+use crate::driver::ScriptFeatures;
+use read_fonts::tables::gdef::{Gdef, GlyphClassDef as GlyphClass};
+use read_fonts::tables::gpos::{Gpos, PositionSubtables};
+use read_fonts::tables::gsub::{Gsub, SubstitutionSubtables};
+use read_fonts::tables::layout::{CoverageTable, FeatureList, LookupFlag, ScriptList, ScriptTags};
+use read_fonts::types::GlyphId16;
+use read_fonts::{FontRef, ReadError, TableProvider};
+use sengadlit::map::TableIndex;
+use sengadlit::{GlyphInfo, Script, Tag};
+
+// What a table has for a script, of its default language.
+fn features_of(
+    scripts: Result<ScriptList<'_>, ReadError>,
+    features: Result<FeatureList<'_>, ReadError>,
+    script: Script,
+) -> Option<ScriptFeatures> {
+    let (scripts, list) = (scripts.ok()?, features.ok()?);
+    let selected =
+        scripts.select(&ScriptTags::from_unicode(read_fonts::types::Tag::new(&script.0)))?;
+    let feature = |index: u16| {
+        let feature = list.get(index).ok()?;
+        let lookups = feature.element.lookup_list_indices().iter().map(|index| index.get());
+        Some((Tag(feature.tag.to_be_bytes()), lookups.collect()))
+    };
+    let (mut features, mut required) = (vec![], None);
+    if let Some(Ok(system)) = scripts.get(selected.index).ok()?.element.default_lang_sys() {
+        let indices = system.feature_indices().iter();
+        features = indices.filter_map(|index| feature(index.get())).collect();
+        required = feature(system.required_feature_index());
+    }
+    let tag = Tag(selected.tag.to_be_bytes());
+    Some(ScriptFeatures { tag, is_found: !selected.is_fallback, features, required })
+}
+
+pub enum Subtables<'a> {
+    Substitution(SubstitutionSubtables<'a>),
+    Position(PositionSubtables<'a>),
+}
+
+/// Which glyphs a lookup ignores: by its flag, and by its set of marks that it sees.
+#[derive(Clone, Default)]
+pub struct Flag<'a> {
+    pub bits: LookupFlag,
+    marks: Option<CoverageTable<'a>>,
+}
+
+/// The tables of a font, for one script.
+pub struct Layout<'a> {
+    gsub: Option<Gsub<'a>>,
+    gpos: Option<Gpos<'a>>,
+    gdef: Option<Gdef<'a>>,
+    pub(super) substitutions: Option<ScriptFeatures>,
+    pub(super) positions: Option<ScriptFeatures>,
+}
+
+impl<'a> Layout<'a> {
+    pub fn new(font: &FontRef<'a>, script: Script) -> Self {
+        let (gsub, gpos, gdef) = (font.gsub().ok(), font.gpos().ok(), font.gdef().ok());
+        Layout {
+            substitutions: gsub
+                .as_ref()
+                .and_then(|table| features_of(table.script_list(), table.feature_list(), script)),
+            positions: gpos
+                .as_ref()
+                .and_then(|table| features_of(table.script_list(), table.feature_list(), script)),
+            gsub,
+            gpos,
+            gdef,
+        }
+    }
+
+    /// The class of a glyph, if the font has classes.
+    pub fn class(&self, glyph: GlyphId16) -> Option<GlyphClass> {
+        let classes = self.gdef.as_ref()?.glyph_class_def()?.ok()?;
+        Some(GlyphClass::new(classes.get(glyph)))
+    }
+
+    /// A lookup: its subtables, and which glyphs it ignores.
+    pub fn lookup(&self, table: TableIndex, index: u16) -> Option<(Subtables<'a>, Flag<'a>)> {
+        let index = usize::from(index);
+        let (subtables, bits, set) = match table {
+            TableIndex::GSUB => {
+                let lookup = self.gsub.as_ref()?.lookup_list().ok()?.lookups().get(index).ok()?;
+                let subtables = Subtables::Substitution(lookup.subtables().ok()?);
+                (subtables, lookup.lookup_flag(), lookup.mark_filtering_set())
+            }
+            TableIndex::GPOS => {
+                let lookup = self.gpos.as_ref()?.lookup_list().ok()?.lookups().get(index).ok()?;
+                let subtables = Subtables::Position(lookup.subtables().ok()?);
+                (subtables, lookup.lookup_flag(), lookup.mark_filtering_set())
+            }
+        };
+        let sets = self.gdef.as_ref().and_then(|gdef| gdef.mark_glyph_sets_def()?.ok());
+        let marks = sets.zip(set).and_then(|(sets, set)| sets.coverages().get(set.into()).ok());
+        Some((subtables, Flag { bits, marks }))
+    }
+
+    /// Whether a lookup ignores a glyph. Of marks a set that it sees goes before a class.
+    pub fn is_ignored(&self, flag: &Flag<'_>, glyph: &GlyphInfo) -> bool {
+        let has = |bit| flag.bits.contains(bit);
+        let mark = number(glyph);
+        match Notes::of(glyph).class {
+            GlyphClass::Base => has(LookupFlag::IGNORE_BASE_GLYPHS),
+            GlyphClass::Ligature => has(LookupFlag::IGNORE_LIGATURES),
+            GlyphClass::Mark if has(LookupFlag::IGNORE_MARKS) => true,
+            GlyphClass::Mark if has(LookupFlag::USE_MARK_FILTERING_SET) => {
+                !flag.marks.as_ref().is_some_and(|marks| marks.get(mark).is_some())
+            }
+            GlyphClass::Mark => {
+                let classes =
+                    self.gdef.as_ref().and_then(|gdef| gdef.mark_attach_class_def()?.ok());
+                let class = classes.map_or(0, |classes| classes.get(mark));
+                flag.bits.mark_attachment_class().is_some_and(|wanted| wanted != class)
+            }
+            GlyphClass::Unknown | GlyphClass::Component => false,
+        }
+    }
+}
+
+/// The number of a glyph, which fits two bytes.
+pub fn number(glyph: &GlyphInfo) -> GlyphId16 {
+    GlyphId16::new(glyph.glyph_id as u16)
+}

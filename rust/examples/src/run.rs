@@ -1,0 +1,112 @@
+//! A text of one script, shaped: its clusters in the order of the text, and any part of it shaped
+//! again alone.
+
+use crate::driver::{Settings, ShapePlan, shape};
+use crate::font::OpenType;
+use sengadlit::buffer::glyph_flag;
+use sengadlit::ot_shape_normalize::Rounds;
+use sengadlit::ot_shape_prepare::set_unicode_properties;
+use sengadlit::plan::BreakFlags;
+use sengadlit::unicode::UnicodeTables;
+use sengadlit::{Buffer, Direction, GlyphInfo, GlyphPosition, Script};
+use std::error::Error;
+use std::ops::Range;
+
+/// Glyphs that have been shaped together, from left to right, each with its position.
+pub type Glyphs = Vec<(GlyphInfo, GlyphPosition)>;
+
+/// The glyphs of a stretch of the text that no caret and no line goes through.
+#[derive(Clone, Debug)]
+pub struct Cluster {
+    /// Bytes of the text.
+    pub text: Range<usize>,
+    pub glyphs: Glyphs,
+    /// Whether both sides are shaped again, if a line is broken before it.
+    pub is_unsafe_to_break: bool,
+    /// Whether it was, for a line.
+    pub is_shaped_again: bool,
+}
+
+impl Cluster {
+    /// How far it moves the pen.
+    pub fn advance(&self) -> i32 {
+        self.glyphs.iter().map(|(_, position)| position.x_advance).sum()
+    }
+}
+
+/// A font and a plan, which shape texts of a script. Where a line may be broken is flagged soundly:
+/// where no flag is, the halves shaped alone are the whole.
+pub struct Shaping<'f, 'a> {
+    pub font: &'f OpenType<'a>,
+    plan: ShapePlan,
+    pub direction: Direction,
+}
+
+impl<'f, 'a> Shaping<'f, 'a> {
+    /// # Errors
+    ///
+    /// Memory is refused.
+    pub fn new(
+        font: &'f OpenType<'a>,
+        script: Script,
+        direction: Direction,
+    ) -> Result<Self, Box<dyn Error>> {
+        let settings = Settings {
+            break_flags: BreakFlags::Sound,
+            rounds: Rounds::Always,
+            ..Settings::default()
+        };
+        let plan = ShapePlan::new(font, &font.layout, script, direction, settings)?;
+        Ok(Shaping { font, plan, direction })
+    }
+
+    /// The clusters of a part of a text, shaped alone, in the order of the text.
+    ///
+    /// # Errors
+    ///
+    /// Those of [`shape`].
+    pub fn clusters(&self, text: &str, part: Range<usize>) -> Result<Vec<Cluster>, Box<dyn Error>> {
+        let mut buffer = Buffer::default();
+        buffer.push_str(&text[part.clone()])?;
+        shape(&self.plan, self.font, &UnicodeTables, &self.font.layout, &mut buffer)?;
+        let glyphs: Glyphs =
+            buffer.iter().copied().zip(buffer.positions().iter().copied()).collect();
+        let mut clusters: Vec<Cluster> = glyphs
+            .chunk_by(|a, b| a.0.cluster == b.0.cluster)
+            .map(|glyphs| Cluster {
+                text: part.start + glyphs[0].0.cluster as usize..part.end,
+                glyphs: glyphs.to_vec(),
+                is_unsafe_to_break: glyphs[0].0.mask & glyph_flag::UNSAFE_TO_BREAK != 0,
+                is_shaped_again: false,
+            })
+            .collect();
+        if self.direction == Direction::RightToLeft {
+            clusters.reverse();
+        }
+        for next in 1..clusters.len() {
+            clusters[next - 1].text.end = clusters[next].text.start;
+        }
+        Ok(clusters)
+    }
+
+    /// Clusters in the order in which they are drawn, from left to right.
+    pub fn visual<'c>(&self, clusters: &'c [Cluster]) -> Vec<&'c Cluster> {
+        match self.direction {
+            Direction::RightToLeft => clusters.iter().rev().collect(),
+            _ => clusters.iter().collect(),
+        }
+    }
+}
+
+/// Where the graphemes of a text begin, by its bytes.
+///
+/// # Errors
+///
+/// The text is too long for a buffer, or memory is refused.
+pub fn graphemes(text: &str) -> Result<Vec<usize>, Box<dyn Error>> {
+    let mut buffer = Buffer::default();
+    buffer.push_str(text)?;
+    set_unicode_properties(&UnicodeTables, &mut buffer);
+    let begins = buffer.iter().filter(|glyph| !glyph.marks.is_continuation());
+    Ok(begins.map(|glyph| glyph.cluster as usize).collect())
+}

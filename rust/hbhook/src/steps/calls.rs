@@ -1,0 +1,159 @@
+//! The steps of a text that aren't lines: what comes before the hooks, and normalization.
+
+use super::{Choices, Direction, Rounds, Route, Script, Shaper, ShaperError};
+use sengadlit::buffer::Buffer;
+use sengadlit::ot_shape_normalize::{NormalizeFont, NormalizeSettings, ot_shape_normalize};
+use sengadlit::ot_shape_prepare::{
+    BEGINNING_OF_TEXT, CharRotation, ensure_native_direction, form_clusters, insert_dotted_circle,
+    preprocess_text_vowel_constraints, rotate_chars, set_unicode_properties,
+};
+use sengadlit::unicode::{UnicodeTables, general_category};
+use sengadlit::{Font, GeneralCategory, GlyphId, Plan, Tag};
+
+/// A step that the crate has and no line.
+#[derive(Clone, Copy)]
+pub(super) enum Call {
+    Properties,
+    FirstCircle,
+    Graphemes,
+    Direction,
+    Vowels,
+    Rotation,
+    Normalization,
+}
+
+impl Call {
+    /// What the crate calls it.
+    pub(super) fn name(self) -> &'static str {
+        match self {
+            Call::Properties => "set_unicode_properties",
+            Call::FirstCircle => "insert_dotted_circle",
+            Call::Graphemes => "form_clusters",
+            Call::Direction => "ensure_native_direction",
+            Call::Vowels => "preprocess_text_vowel_constraints",
+            Call::Rotation => "rotate_chars",
+            Call::Normalization => "ot_shape_normalize",
+        }
+    }
+
+    /// Where docs/DEFINITIONS.md defines it.
+    pub(super) fn subject(self) -> (&'static str, &'static str) {
+        match self {
+            Call::Properties => ("shapers_prepare", "GlyphProperties"),
+            Call::FirstCircle => ("shapers_prepare", "FirstCircle"),
+            Call::Graphemes => ("shapers_prepare", "Graphemes"),
+            Call::Direction => ("shapers_prepare", "NativeDirection"),
+            Call::Vowels => ("shapers_prepare", "Vowels"),
+            Call::Rotation => ("shapers_prepare", "Rotation"),
+            Call::Normalization => ("shapers_normal", "Normalization"),
+        }
+    }
+
+    /// Makes the call, on a buffer without positions.
+    pub(super) fn run(self, prepared: &Prepared, buffer: &mut Buffer) -> Result<(), ShaperError> {
+        match self {
+            Call::Properties => set_unicode_properties(&UnicodeTables, buffer),
+            Call::FirstCircle => insert_first_circle(buffer)?,
+            Call::Graphemes => form_clusters(buffer),
+            Call::Direction => ensure_native_direction(buffer),
+            Call::Vowels => preprocess_text_vowel_constraints(buffer)?,
+            Call::Rotation => rotate_chars(&UnicodeTables, &WholeFont, &prepared.rotation, buffer),
+            Call::Normalization => ot_shape_normalize(
+                Some(prepared.shaper),
+                &prepared.plan,
+                &WholeFont,
+                &UnicodeTables,
+                &prepared.settings,
+                buffer,
+            )?,
+        }
+        Ok(())
+    }
+}
+
+// Lines can't set the flag of a beginning, so it is set for the call alone.
+fn insert_first_circle(buffer: &mut Buffer) -> Result<(), ShaperError> {
+    let flags = buffer.flags();
+    buffer.set_flags(flags | BEGINNING_OF_TEXT);
+    let inserted = insert_dotted_circle(&UnicodeTables, &WholeFont, buffer);
+    buffer.set_flags(flags);
+    inserted
+}
+
+/// What the calls read besides the buffer.
+pub(super) struct Prepared {
+    shaper: Shaper,
+    plan: Plan,
+    rotation: CharRotation,
+    settings: NormalizeSettings,
+}
+
+impl Prepared {
+    /// What they read for a script and what is chosen; `None` without memory.
+    pub(super) fn of(route: &Route, choices: &Choices) -> Option<Self> {
+        let Route { script, shaper, .. } = *route;
+        let plan = Plan::builder()
+            .script(script)
+            .has_gpos_mark(choices.has_gpos_mark)
+            .build_for(shaper)
+            .ok()?;
+        let is_rtl = choices.is_rtl.unwrap_or_else(|| runs_from_right(script));
+        let direction = if is_rtl {
+            Direction::RightToLeft
+        } else {
+            Direction::LeftToRight
+        };
+        let rounds = if choices.has_all_rounds {
+            Rounds::Always
+        } else {
+            Rounds::default()
+        };
+        Some(Prepared {
+            shaper,
+            plan,
+            rotation: CharRotation {
+                direction,
+                rtlm_mask: 0,
+                has_vert: false,
+            },
+            settings: NormalizeSettings {
+                rounds,
+                ..NormalizeSettings::default()
+            },
+        })
+    }
+}
+
+// Whether a script's text runs from right to left.
+fn runs_from_right(script: Script) -> bool {
+    crate::word::FROM_RIGHT.contains(&&script.0)
+}
+
+// A font that has every character but those of private use. The numbers of its glyphs aren't read.
+struct WholeFont;
+
+impl Font for WholeFont {
+    fn get_nominal_glyph(&self, c: u32) -> Option<GlyphId> {
+        let category = general_category(char::from_u32(c)?);
+        let is_assigned = !matches!(category, GeneralCategory::Cn | GeneralCategory::Co);
+        is_assigned.then_some(GlyphId(1))
+    }
+
+    fn glyph_h_advance(&self, _glyph: GlyphId) -> i32 {
+        0
+    }
+
+    fn would_apply(&self, _lookup: u16, _glyphs: &[GlyphId], _zero_context: bool) -> bool {
+        false
+    }
+
+    fn has_feature(&self, _tag: Tag) -> bool {
+        false
+    }
+}
+
+impl NormalizeFont for WholeFont {
+    fn get_variation_glyph(&self, _c: u32, _selector: u32) -> Option<GlyphId> {
+        None
+    }
+}

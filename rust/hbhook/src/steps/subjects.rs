@@ -1,0 +1,65 @@
+//! Where docs/DEFINITIONS.md defines what a line runs.
+
+use crate::generated::hbhook_commands::ShaperName;
+
+/// The crate and the entry of a line of this shaper, if it runs a hook or a pause.
+pub(super) fn subject_of(line: &str, shaper: ShaperName) -> Option<(&'static str, &'static str)> {
+    let mut fields = line.strip_prefix("run ")?.split(' ');
+    match fields.next()? {
+        "pause" => subject_of_pause(fields.next()?),
+        "preprocess" => match shaper {
+            ShaperName::Thai => Some(("shapers_text", "Thai")),
+            ShaperName::Hangul => Some(("shapers_hangul", "Hangul")),
+            _ => None,
+        },
+        "masks" => subject_of_masks(shaper),
+        "marks" => match shaper {
+            ShaperName::Hebrew => Some(("shapers_text", "Hebrew")),
+            ShaperName::Arabic => Some(("shapers_arabic", "Marks")),
+            _ => None,
+        },
+        "compose" | "decompose" => match shaper {
+            ShaperName::Hebrew => Some(("shapers_text", "Hebrew")),
+            ShaperName::Indic => Some(("shapers_indic", "Characters")),
+            ShaperName::Khmer => Some(("shapers_khmer", "Khmer")),
+            ShaperName::Universal => Some(("shapers_syllabic", "Characters")),
+            _ => None,
+        },
+        "postprocess" => Some(("shapers_stretch", "Stretch")),
+        _ => None,
+    }
+}
+
+// By shaper, what sets masks.
+fn subject_of_masks(shaper: ShaperName) -> Option<(&'static str, &'static str)> {
+    match shaper {
+        ShaperName::Arabic => Some(("shapers_arabic", "Joining")),
+        ShaperName::Hangul => Some(("shapers_hangul", "Masks")),
+        ShaperName::Indic | ShaperName::Khmer | ShaperName::Myanmar => {
+            Some(("shapers_syllabic", "Characters"))
+        }
+        ShaperName::Universal => Some(("shapers_universal", "UniversalMasks")),
+        ShaperName::Hebrew | ShaperName::Thai | ShaperName::Zawgyi => None,
+    }
+}
+
+// By name, what a pause does.
+fn subject_of_pause(name: &str) -> Option<(&'static str, &'static str)> {
+    match name {
+        "setup_syllables_indic"
+        | "setup_syllables_khmer"
+        | "setup_syllables_myanmar"
+        | "syllabic_clear_var"
+        | "clear_substitution_flags" => Some(("shapers_syllabic", "Syllabic")),
+        "setup_syllables_use" | "record_rphf" | "record_pref" => {
+            Some(("shapers_universal", "UniversalSyllables"))
+        }
+        "reorder_khmer" => Some(("shapers_khmer", "Khmer")),
+        "reorder_myanmar" => Some(("shapers_myanmar", "Myanmar")),
+        "reorder_use" => Some(("shapers_universal", "Universal")),
+        "initial_reordering" => Some(("shapers_indic_initial", "InitialReordering")),
+        "final_reordering" => Some(("shapers_indic_final", "FinalReordering")),
+        "record_stch" => Some(("shapers_stretch", "Recorded")),
+        _ => None,
+    }
+}

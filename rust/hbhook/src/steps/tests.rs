@@ -1,0 +1,207 @@
+use super::told::{moved_places, told};
+use super::*;
+use std::collections::BTreeSet;
+use std::fs;
+use std::path::Path;
+
+fn steps_of(text: &str) -> Steps {
+    Steps::of_text(text, &Choices::default()).unwrap()
+}
+
+fn glyph(number: u32, cluster: u32) -> GlyphInfo {
+    GlyphInfo {
+        glyph_id: number,
+        cluster,
+        ..GlyphInfo::DEFAULT
+    }
+}
+
+#[test]
+fn the_fewest_places_moved() {
+    assert_eq!(moved_places(&[]), BTreeSet::new());
+    assert_eq!(moved_places(&[0, 0, 1, 3]), BTreeSet::new());
+    assert_eq!(moved_places(&[3, 0, 1, 2]), BTreeSet::from([0]));
+    assert_eq!(moved_places(&[1, 2, 3, 0]), BTreeSet::from([3]));
+    assert_eq!(moved_places(&[2, 1, 0]).len(), 2);
+}
+
+#[test]
+fn a_step_is_told_in_sentences() {
+    let before = [glyph(0x41, 0), glyph(0x42, 1), glyph(0x43, 2)];
+    assert_eq!(told(&before, &before, &[0, 1, 2]), "Nothing changed.");
+    let after = [glyph(0x43, 0), glyph(0x41, 0), glyph(0x42, 0)];
+    assert_eq!(
+        told(&before, &after, &[2, 0, 1]),
+        "0043 moved from place 2 to place 0; clusters 0, 1, 2 merged into 0."
+    );
+    let after = [glyph(0x41, 0), glyph(0x44, 0), glyph(0x45, 1)];
+    assert_eq!(
+        told(&before, &after, &[0, 0, 1]),
+        "0041 became 0044; 0042 became 0045; 0044 came in; 0043 went into another."
+    );
+    assert_eq!(told(&before, &after[..1], &[]), "3 glyphs became 1.");
+}
+
+#[test]
+fn a_text_takes_the_steps_of_its_shaper() {
+    let heads = |text| -> Vec<String> {
+        let steps = steps_of(text).steps;
+        steps.into_iter().flat_map(|step| step.heads).collect()
+    };
+    let before = [
+        "set_unicode_properties",
+        "form_clusters",
+        "ensure_native_direction",
+    ];
+    let between = ["rotate_chars", "ot_shape_normalize"];
+    let thai = heads("\u{0E14}\u{0E33}");
+    assert_eq!(thai[1..4], before);
+    assert_eq!(thai[4], "run preprocess");
+    assert_eq!(thai[5..], between);
+    let khmer = heads("\u{1780}\u{17C1}");
+    assert_eq!(khmer[1..4], before);
+    assert_eq!(khmer[4..6], between);
+    assert_eq!(
+        khmer[6..],
+        [
+            "run masks",
+            "run pause setup_syllables_khmer",
+            "run pause reorder_khmer"
+        ]
+    );
+    assert_eq!(
+        heads("\u{0905}\u{0906}")[4],
+        "preprocess_text_vowel_constraints"
+    );
+}
+
+#[test]
+fn a_mark_at_the_beginning_gets_a_circle() {
+    let choices = Choices {
+        is_beginning: true,
+        ..Choices::default()
+    };
+    let steps = Steps::of_text("\u{17C1}\u{1780}", &choices).unwrap();
+    let circle = &steps.steps[2];
+    assert_eq!(circle.heads, ["insert_dotted_circle"]);
+    let numbers: Vec<u32> = circle.glyphs.iter().map(|it| it.glyph_id).collect();
+    assert_eq!(numbers, [0x25CC, 0x17C1, 0x1780]);
+    assert_ne!(
+        steps_of("\u{17C1}").steps[2].heads,
+        ["insert_dotted_circle"]
+    );
+}
+
+#[test]
+fn the_style_is_that_of_drawn_pages() {
+    let style = drawing_style();
+    assert!(style.trim_start().starts_with(":root{") && style.contains("\n.row{"));
+    assert!(!style.contains('<'));
+}
+
+#[test]
+fn other_texts_have_no_steps() {
+    for text in ["", "word", " "] {
+        assert!(Steps::of_text(text, &Choices::default()).is_none());
+    }
+}
+
+#[test]
+fn normalization_takes_a_vowel_apart() {
+    // Tamil O is E and AA; E then goes before the letter
+    let steps = steps_of("\u{0B95}\u{0BCA}");
+    let numbers = |step: &Step| -> Vec<u32> { step.glyphs.iter().map(|it| it.glyph_id).collect() };
+    let normalized = &steps.steps[6];
+    assert_eq!(normalized.heads, ["ot_shape_normalize"]);
+    assert_eq!(numbers(normalized), [0x0B95, 0x0BC6, 0x0BBE]);
+    assert_eq!(normalized.origins, [0, 1, 1]);
+    assert_eq!(
+        numbers(steps.steps.last().unwrap()),
+        [0x0BC6, 0x0B95, 0x0BBE]
+    );
+}
+
+#[test]
+fn the_moves_of_a_glyph_lead_to_the_text() {
+    let steps = steps_of("\u{0D9A}\u{0DD9}");
+    let last = steps.steps.len() - 1;
+    assert_eq!(steps.moves(last, 0), [(last, 1, 0)]);
+    assert_eq!(steps.moves(last, 1), []);
+    assert_eq!(steps.moves(last + 1, 9), []);
+    let fields = steps.fields(last, 0);
+    assert_eq!(fields[0], ("glyph", "0DD9 \u{0DD9}".into()));
+    assert_eq!(
+        fields[5].1,
+        "22: VPre, a vowel before the base, which goes to the front"
+    );
+    assert!(steps.fields(last, 2).is_empty());
+}
+
+#[test]
+fn a_line_may_not_break_where_the_last_step_flags_it() {
+    let steps = steps_of("\u{0628}\u{0628} \u{0628}");
+    assert_eq!(steps.pieces(), ["\u{0628}\u{0628}", " ", "\u{0628}"]);
+    // a grapheme is one cluster, inside of which no line breaks
+    assert_eq!(
+        steps_of("\u{0E14}\u{0E48}\u{0E14}").pieces(),
+        ["\u{0E14}\u{0E48}", "\u{0E14}"]
+    );
+    assert!(Steps::of_lines("text 0E14").pieces().is_empty());
+}
+
+#[test]
+fn lines_end_where_one_is_rejected() {
+    let steps = Steps::of_lines("set shaper thai\ntext 0E14 0E33\nrun preprocess\nrun nothing");
+    assert_eq!(steps.steps.len(), 2);
+    assert_eq!(steps.steps[0].heads, ["text 0E14 0E33"]);
+    assert!(
+        steps
+            .ended
+            .unwrap()
+            .starts_with("line 4: field 2, `nothing`")
+    );
+    let long = "text ".to_owned() + &["41"; MOST_SHOWN + 1].join(" ");
+    let ended = Steps::of_lines(&long).ended.unwrap();
+    assert_eq!(ended, "line 1: 2001 glyphs; no more than 2000 are drawn");
+    let many = "set shaper khmer\ntext ".to_owned() + &"\u{1780}".repeat(MOST_SHOWN);
+    let steps = Steps::of_lines(&(many + &"\nrun masks".repeat(30)));
+    assert_eq!(steps.steps.len(), 25);
+    let ended = steps.ended.unwrap();
+    assert_eq!(
+        ended,
+        "line 27: the steps have more than 50000 glyphs together"
+    );
+}
+
+#[test]
+fn a_long_text_is_cut_off() {
+    let steps = steps_of(&"\u{0E01}".repeat(MOST_SHOWN + 1));
+    assert_eq!(steps.steps[0].glyphs.len(), MOST_SHOWN);
+    assert_eq!(steps.ended, None);
+}
+
+// The entries of docs/DEFINITIONS.md that a page shows beside its steps.
+#[test]
+fn each_step_has_its_definition() {
+    let path = Path::new(env!("CARGO_MANIFEST_DIR")).join("../../docs/DEFINITIONS.md");
+    let page = fs::read_to_string(path).unwrap();
+    for code in crate::scripts_with_hooks() {
+        let choices = Choices {
+            script: Some(code),
+            ..Choices::default()
+        };
+        for step in Steps::of_text("\u{25CC}", &choices)
+            .unwrap()
+            .steps
+            .iter()
+            .skip(1)
+        {
+            let Some((part, entry)) = step.subject else {
+                panic!("{:?} has no definition", step.heads);
+            };
+            let (_, part) = page.split_once(&format!("\n## `{part}`\n")).unwrap();
+            let part = part.split("\n## ").next().unwrap();
+            assert!(part.contains(&format!("\n**{entry}** ")), "{entry}");
+        }
+    }
+}

@@ -1,0 +1,216 @@
+//! Buffers as C has them. A call has its buffer alone: whoever passes it to another call meanwhile, from a callback, is refused.
+use crate::buffer::Buffer;
+use crate::status::{Error, Status};
+use core::cell::{Cell, UnsafeCell};
+use core::ptr::{NonNull, null_mut};
+
+/// Who has a buffer.
+#[derive(Clone, Copy, PartialEq, Eq)]
+enum State {
+    /// C.
+    Free,
+    /// A call, or one that a jump left: it doesn't end.
+    InCall,
+    /// The same, and C says that a jump left it.
+    Abandoned,
+    /// The same, and C has destroyed the buffer: it is freed when the call ends.
+    Destroyed,
+}
+
+/// `sengadlit_buffer_t`.
+pub struct Handle {
+    state: Cell<State>,
+    error: Cell<Error>,
+    // While a call has it, this is that call's alone.
+    buffer: UnsafeCell<Buffer>,
+}
+
+/// A pointer of C's to a buffer, or null.
+#[repr(transparent)]
+#[derive(Clone, Copy)]
+pub struct Pointer(*mut Handle);
+
+impl Pointer {
+    /// A new buffer; null where memory is refused.
+    pub fn create() -> Self {
+        let handle = super::boxed(Handle {
+            state: Cell::new(State::Free),
+            error: Cell::new(Error::NONE),
+            buffer: UnsafeCell::new(Buffer::new()),
+        });
+        Pointer(handle.map_or(null_mut(), Box::into_raw))
+    }
+
+    #[inline]
+    fn handle<'a>(self) -> Option<&'a Handle> {
+        // SAFETY: the pointer is null or a buffer of this library, which isn't freed before this call ends.
+        unsafe { self.0.as_ref() }
+    }
+
+    /// Frees the buffer, or leaves that to the call that has it.
+    pub fn destroy(self) {
+        let Some(handle) = self.handle() else { return };
+        if handle.state.replace(State::Destroyed) == State::Free {
+            // SAFETY: it came from `create`, and neither C nor a call has it any more.
+            drop(unsafe { Box::from_raw(self.0) });
+        }
+    }
+
+    /// Notes that a jump left the call that has the buffer. Nothing of it is freed: the compiler may have kept parts of it in
+    /// registers while the callback ran, so what memory holds may be older than what the call freed.
+    pub fn abandon(self) {
+        if let Some(handle) = self.handle() {
+            if handle.state.get() == State::InCall {
+                handle.state.set(State::Abandoned);
+            }
+        }
+    }
+
+    /// Why the last call that failed did.
+    pub fn error(self) -> Error {
+        self.handle()
+            .map_or(Error::NONE, |handle| handle.error.get())
+    }
+
+    /// Makes a call, which has the buffer until it ends. Where it fails, the error stays in the buffer, which an internal one
+    /// leaves empty, and `refused` makes the result of the status.
+    #[inline]
+    pub fn call<A>(
+        self,
+        refused: impl FnOnce(Status) -> A,
+        call: impl FnOnce(&mut Buffer) -> Result<A, Error>,
+    ) -> A {
+        let Some(handle) = NonNull::new(self.0) else {
+            return refused(Status::Argument);
+        };
+        match Call::begin(handle) {
+            Ok(mut begun) => {
+                let ended = call(begun.buffer());
+                ended.unwrap_or_else(|error| refused(begun.fail(error)))
+            }
+            Err(status) => refused(status),
+        }
+    }
+
+    /// The same for a call that returns a place: null where it fails.
+    #[inline]
+    pub fn call_for_place<T>(
+        self,
+        call: impl FnOnce(&mut Buffer) -> Result<*mut T, Error>,
+    ) -> *mut T {
+        self.call(|_| null_mut(), call)
+    }
+}
+
+/// A call that has a buffer, until this is dropped.
+struct Call(NonNull<Handle>);
+
+impl Call {
+    #[inline]
+    fn begin(place: NonNull<Handle>) -> Result<Self, Status> {
+        // SAFETY: a buffer of this library, which isn't freed before this call ends.
+        let handle = unsafe { place.as_ref() };
+        if handle.state.get() != State::Free {
+            handle.error.set(Error::IN_CALL);
+            return Err(Error::IN_CALL.status);
+        }
+        handle.state.set(State::InCall);
+        Ok(Call(place))
+    }
+
+    #[inline]
+    fn handle(&self) -> &Handle {
+        // SAFETY: while this call has the buffer, it isn't freed.
+        unsafe { self.0.as_ref() }
+    }
+
+    #[inline]
+    fn buffer(&mut self) -> &mut Buffer {
+        // SAFETY: the state was `Free`, and until this call ends no other begins.
+        unsafe { &mut *self.handle().buffer.get() }
+    }
+
+    #[cold]
+    fn fail(&mut self, error: Error) -> Status {
+        if error.status == Status::Internal {
+            self.buffer().recover();
+        }
+        self.handle().error.set(error);
+        error.status
+    }
+}
+
+impl Drop for Call {
+    #[inline]
+    fn drop(&mut self) {
+        if self.handle().state.replace(State::Free) == State::Destroyed {
+            // SAFETY: it came from `create`, C has destroyed it, and the call that had it ends here.
+            drop(unsafe { Box::from_raw(self.0.as_ptr()) });
+        }
+    }
+}
+
+#[cfg(test)]
+mod tests {
+    use super::Pointer;
+    use crate::status::Status;
+
+    fn length(buffer: Pointer) -> Result<usize, Status> {
+        buffer.call(Err, |inner| Ok(Ok(inner.text.len())))
+    }
+
+    #[test]
+    fn a_call_has_its_buffer_alone() {
+        let buffer = Pointer::create();
+        let ended = buffer.call(Err, |_| Ok(length(buffer)));
+        assert_eq!(ended, Err(Status::InCall));
+        assert_eq!(buffer.error().status, Status::InCall);
+        assert_eq!(length(buffer), Ok(0));
+        buffer.destroy();
+    }
+
+    #[test]
+    fn a_buffer_that_is_destroyed_lasts_until_its_call_ends() {
+        let buffer = Pointer::create();
+        let ended = buffer.call(Err, |inner| {
+            buffer.destroy();
+            buffer.destroy();
+            inner.set_length(1)?;
+            Ok(Ok(inner.text.len()))
+        });
+        assert_eq!(ended, Ok(1));
+    }
+
+    #[test]
+    fn a_call_that_ends_after_all_gives_its_buffer_back() {
+        let buffer = Pointer::create();
+        let ended = buffer.call(Err, |_| {
+            buffer.abandon();
+            Ok(length(buffer))
+        });
+        assert_eq!(ended, Err(Status::InCall));
+        buffer.abandon();
+        assert_eq!(length(buffer), Ok(0));
+        buffer.destroy();
+    }
+
+    #[test]
+    fn an_abandoned_buffer_is_refused_and_stays() {
+        let buffer = Pointer::create();
+        let ended = buffer.call(Err, |_| {
+            buffer.abandon();
+            buffer.destroy();
+            Ok(length(buffer))
+        });
+        assert_eq!(ended, Err(Status::InCall));
+    }
+
+    #[test]
+    fn null_is_no_buffer() {
+        let none = Pointer(core::ptr::null_mut());
+        assert_eq!(length(none), Err(Status::Argument));
+        assert_eq!(none.error().status, Status::Done);
+        none.abandon();
+        none.destroy();
+    }
+}
