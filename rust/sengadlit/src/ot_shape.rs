@@ -1,10 +1,12 @@
-//! From a text to glyphs, in the order of HarfBuzz's hb-ot-shape: [`prepare_text`] does all that comes
-//! before the font's lookups, and [`run_stages`] runs a caller's [`Lookups`], with what the shaper does
-//! behind each stage.
+//! From a text to glyphs, in the order of HarfBuzz's hb-ot-shape: [`prepare_text`] does all that
+//! comes before the font's lookups, and [`run_stages`] runs a caller's [`Lookups`], with what the
+//! shaper does behind each stage. Both read the fields of a
+//! [`ShapePlan`](crate::ot_shape_plan::ShapePlan).
 //!
 //! ```
-//! use sengadlit::ot_shape::{DriverMasks, TextPlan, prepare_text};
+//! use sengadlit::ot_shape::{TextPlan, prepare_text};
 //! use sengadlit::ot_shape_normalize::{NormalizeFont, NormalizeSettings};
+//! use sengadlit::ot_shape_plan::DriverMasks;
 //! use sengadlit::unicode::UnicodeTables;
 //! use sengadlit::{Buffer, Font, GlyphId, Plan, Tag};
 //!
@@ -42,10 +44,4 @@
 
 pub use crate::generated::shapers_pipeline::{
     Lookups, StagePlan, TextPlan, prepare_text, run_stages,
-};
-pub use crate::generated::shapers_plan::ot_map::{
-    F_GLOBAL_SEARCH, F_RANDOM, FontFeatures, Stage, StageLookup,
-};
-pub use crate::generated::shapers_plan::ot_shape_plan::{
-    DriverMasks, ShapePlan, UserFeature, UserRange,
 };
