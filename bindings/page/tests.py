@@ -122,10 +122,8 @@ class Tests:
         self.page.call("Page.navigate", url=self.url + "#text=x")
         self.page.wait("by('text').value === 'x' && by('steps').textContent === ''")
         self.page.call("Page.navigate", url=self.url + address)
-        self.page.wait("by('steps').textContent.length > 100")
-        assert self.page.run("by('text').value") == "\u0d9a\u0dd9 #&=+%"
-        assert self.page.run("by('sound').checked")
-        assert self.page.run("by('steps').textContent") == before
+        text = js("\u0d9a\u0dd9 #&=+%")
+        self.page.wait(f"by('text').value === {text} && by('sound').checked && by('steps').textContent === {js(before)}", 10)
 
     def test_keys_alone(self):
         """Tab reaches the text, a box and a table; Enter shows the glyph, arrows walk along the row."""
@@ -305,7 +303,7 @@ def main(folder, program, root):
                 except (AssertionError, Failed, StopIteration) as fault:
                     failed += 1
                     print(f"FAILED: {name}: {fault}", flush=True)
-                    traceback.print_exc(limit=1)
+                    traceback.print_exc(limit=-2)
         finally:
             tests.page.close()
     print(f"{passed} passed, {failed} failed")
