@@ -5,3 +5,4 @@ mod HookResults
 mod MaskRows
 mod Pausing
 mod PreparedRows
+pub mod Substituting

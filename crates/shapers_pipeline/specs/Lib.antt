@@ -5,3 +5,4 @@ pub mod Prepared
 pub mod Refusals
 pub mod ShaperSteps
 pub mod Stages
+pub mod Substituted

@@ -10,8 +10,10 @@ mod plan;
 mod prepare;
 mod preprocessing;
 mod stages;
+mod substitution;
 
 pub use lookups::Lookups;
 pub use plan::{StagePlan, TextPlan};
 pub use prepare::prepare_text;
 pub use stages::run_stages;
+pub use substitution::substitute_text;

@@ -1,0 +1,24 @@
+-- A plan's parts, as its readers return them, are those that its value has.
+use Rattle.std.proofs.Common.{◌≡◌, ◌∙◌, ◌⊎◌, ap, inr, subst, List, Result, Ok, Err, IfErr, OnErr}
+use Rattle.shapers_buffer.specs.Buffer.{Buffer}
+use Rattle.shapers_plan.specs.declared.ot_map.lookups.Stage.{Stage}
+use Rattle.shapers_pipeline.specs.Stages.{StagesRun, StagesStopped, Substitution}
+
+-- a function of four equal things
+pub four : {A B C D R : Type 0} (f : A → B → C → D → R) {a x : A} {b y : B} {c z : C} {d w : D} → a ≡ x → b ≡ y → c ≡ z → d ≡ w → f a b c d ≡ f x y z w
+four f {a} {x} {b} {y} {c} {z} {d} {w} p q r s =
+    ap (λ v. f v b c d) p ∙ ap (λ v. f x v c d) q ∙ ap (λ v. f x y v d) r ∙ ap (λ v. f x y z v) s
+
+-- what stages do, for an equal list of stages that read equal things, from an equal text
+pub run_alike : {r s : Substitution} {ss ts : List Stage} {old mid : Buffer} (new : Buffer) → r ≡ s → ss ≡ ts → old ≡ mid → StagesRun r ss old new → StagesRun s ts mid new
+run_alike {r} {s} {ss} {ts} {old} {mid} new p q e run =
+    subst (λ b. StagesRun s ts b new) e (subst (λ xs. StagesRun s xs old new) q (subst (λ v. StagesRun v ss old new) p run))
+
+pub stopped_alike : {r s : Substitution} {ss ts : List Stage} {old mid : Buffer} (new : Buffer) → r ≡ s → ss ≡ ts → old ≡ mid → StagesStopped r ss old new → StagesStopped s ts mid new
+stopped_alike {r} {s} {ss} {ts} {old} {mid} new p q e stopped =
+    subst (λ b. StagesStopped s ts b new) e (subst (λ xs. StagesStopped s xs old new) q (subst (λ v. StagesStopped v ss old new) p stopped))
+
+-- an error of the stages, as the second of two ways to stop
+pub as_stopped : {T E P Q : Type 0} (R : E → Type 0) (r : Result T E) → (P → Q) → OnErr r P → IfErr r (λ e. R e ⊎ Q)
+as_stopped R (Ok x) f h = tt
+as_stopped R (Err e) f h = inr (f h)
