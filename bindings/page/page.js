@@ -71,7 +71,8 @@ function parameters() {
 }
 
 function keepAddress() {
-  history.replaceState(null, "", "#" + parameters());
+  clearTimeout(keepAddress.waiting); // (browsers refuse many changes of the address in a short time)
+  keepAddress.waiting = setTimeout(() => history.replaceState(null, "", "#" + parameters()), 300);
 }
 
 // Fills the fields from what stands behind #.
@@ -277,8 +278,8 @@ async function start() {
     readAddress(new URLSearchParams(by("example").value));
     run();
   });
-  window.addEventListener("hashchange", () => {
-    readAddress(new URLSearchParams(location.hash.slice(1)));
+  window.addEventListener("hashchange", (event) => {
+    readAddress(new URLSearchParams(new URL(event.newURL).hash.slice(1)));
     run();
   });
   run();

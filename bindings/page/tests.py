@@ -117,6 +117,7 @@ class Tests:
     def test_the_address_holds_the_text(self):
         self.type("\u0d9a\u0dd9 #&=+%")
         self.page.run("by('sound').click()")
+        self.page.wait("location.hash.includes('sound') && new URLSearchParams(location.hash.slice(1)).get('text') === by('text').value")
         address = self.page.run("location.hash")
         before = self.page.run("by('steps').textContent")
         self.page.call("Page.navigate", url=self.url + "#text=x")
