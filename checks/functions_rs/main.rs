@@ -2,7 +2,7 @@
 //! times in both crates. Tells each difference, with its arguments made small, and how many calls there were.
 //!
 //! A call that takes memory is made again in each crate with one of its requests refused. Refused memory is
-//! told by calls whose request was refused, and by no other.
+//! returned by calls whose request was refused, and by no other.
 
 use copy::harness::{Choices, Function, functions};
 use std::collections::HashMap;

@@ -822,7 +822,7 @@ typedef struct sengadlit_span_t {
 } sengadlit_span_t;
 
 /* The syllables of the text by the grammar of Indic, Khmer, Myanmar or universal, for the pause that sets them up: in order,
-   they cover the text; there are none for other shapers. Through `length`, which may be null, how many. They are told by
+   they cover the text; there are none for other shapers. `length` gets their number, unless it is null. They are found by
    category, as sengadlit_setup_masks writes it. The pointer isn't null where there are none, and holds until this function is
    called again with the buffer, or the buffer is destroyed. Null is returned for ARGUMENT: SHAPER, GENERAL_CATEGORY, and for a
    null buffer; TOO_LONG; IN_CALL; and MEMORY, where the buffer never had so many syllables. */

@@ -1,4 +1,4 @@
-//! Buffers as C has them. A call has its buffer alone: whoever passes it to another call meanwhile, from a callback, is refused.
+//! Buffers as C has them. While a call has a buffer, other calls with it, from a callback, are rejected.
 use crate::buffer::Buffer;
 use crate::status::{Error, Status};
 use core::cell::{Cell, UnsafeCell};
