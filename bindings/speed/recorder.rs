@@ -157,7 +157,7 @@ pub struct Recorded<'f, 'a> {
     face: &'f Face<'a>,
     calls: Vec<Call>,
     stock: hb_ot_shape_plan_t,
-    proved: hb_ot_shape_plan_t,
+    plan: Plan,
 }
 
 /// rustybuzz's buffer.
@@ -184,14 +184,18 @@ pub fn record<'f, 'a>(face: &'f Face<'a>, text: &str, script: Option<[u8; 4]>) -
     buffer.guess_segment_properties();
     let plan =
         |buffer: &UnicodeBuffer| hb_ot_shape_plan_t::new(face, buffer.direction(), Some(buffer.script()), None, &[]);
-    let (mut stock, proved) = (plan(&buffer), plan(&buffer));
+    let (mut stock, hooked) = (plan(&buffer), plan(&buffer));
     CALLS.with_borrow_mut(Vec::clear);
-    crate::shape_with_plan(face, &proved, buffer);
+    crate::shape_with_plan(face, &hooked, buffer);
     let calls = CALLS.take();
-    if let Some(call) = calls.first() {
-        stock.data = STOCK[call.shaper].create_data.map(|create_data| create_data(&stock));
-    }
-    Recorded { face, calls, stock, proved }
+    let plan = match calls.first() {
+        Some(call) => {
+            stock.data = STOCK[call.shaper].create_data.map(|create_data| create_data(&stock));
+            Lists::of(&stock).plan(Shaper::ALL[call.shaper])
+        }
+        None => Plan::builder().build().expect("a plan"),
+    };
+    Recorded { face, calls, stock, plan }
 }
 
 impl Call {
@@ -377,17 +381,11 @@ impl<'f, 'a> Recorded<'f, 'a> {
     /// The same, uncounted.
     #[inline(never)]
     pub fn warm_ours(&self, call: &Call, OurBuffer(text): &mut OurBuffer) {
-        let (plan, shaper, font) = (plan_of(&self.proved), Shaper::ALL[call.shaper], parts::font(self.face));
+        let (plan, shaper) = (&self.plan, Shaper::ALL[call.shaper]);
         match call.hook {
-            Hook::PreprocessText => {
-                shaper.preprocess_text(plan, &font, text).expect("there is memory");
-            }
-            Hook::SetupMasks => {
-                shaper.setup_masks(plan, &font, &UnicodeTables, text);
-            }
-            Hook::PostprocessGlyphs => {
-                shaper.postprocess_glyphs(plan, &font, text).expect("there is memory");
-            }
+            Hook::PreprocessText => preprocess_ours(shaper, plan, self.face, text),
+            Hook::SetupMasks => masks_ours(shaper, plan, self.face, text),
+            Hook::PostprocessGlyphs => postprocess_ours(shaper, plan, self.face, text),
             Hook::ReorderMarks => {
                 for run in &call.marks {
                     shaper.reorder_marks(plan, text, run.start, run.end);
@@ -398,12 +396,8 @@ impl<'f, 'a> Recorded<'f, 'a> {
                 | Pause::SetupSyllablesKhmer
                 | Pause::SetupSyllablesMyanmar
                 | Pause::SetupSyllablesUse),
-            ) => {
-                setup_syllables_found(pause, plan, text);
-            }
-            Hook::Pause(pause) => {
-                black_box(run_pause(pause, plan, &font, &[], text).expect("there is memory"));
-            }
+            ) => set_up_ours(pause, plan, text),
+            Hook::Pause(pause) => pause_ours(pause, plan, self.face, text),
         }
     }
 
@@ -440,39 +434,87 @@ impl<'f, 'a> Recorded<'f, 'a> {
     #[inline(never)]
     pub fn plan_ours(&self, lists: &Lists) -> bool {
         let Some(call) = self.calls.first() else { return false };
-        let made = Plan::builder()
-            .script(lists.script)
-            .features(&lists.features)
-            .stages(&lists.stages)
-            .lookups(&lists.lookups)
-            .global_mask(lists.global_mask)
-            .base_search(BaseSearch::AllConsonants)
-            .build_for(Shaper::ALL[call.shaper]);
-        black_box(made).is_ok()
+        black_box(lists.plan(Shaper::ALL[call.shaper]));
+        true
     }
 
     /// The lists that the crate's plan is made of.
     pub fn lists(&self) -> Lists {
-        const GSUB: TableIndex = TableIndex::GSUB;
-        let map = &self.stock.ot_map;
-        let stages: Vec<_> = (0..map.stages(GSUB).len()).map(|stage| map.stage_lookup_range(GSUB, stage)).collect();
-        let features = map.features_of(GSUB).map(|(tag, mask, stage)| FeatureMap::new(parts::tag_of(tag), mask, stage));
-        Lists {
-            script: script_of(self.stock.script),
-            features: features.collect(),
-            lookups: (0..stages.last().map_or(0, |last| last.end)).map(|at| map.lookup(GSUB, at).index).collect(),
-            global_mask: map.get_global_mask(),
-            stages,
-        }
+        Lists::of(&self.stock)
     }
 }
 
+// ---- The crate's hooks, each a function of its own as rustybuzz's are ----
+
+#[inline(never)]
+fn preprocess_ours(shaper: Shaper, plan: &Plan, face: &Face, text: &mut Buffer) {
+    shaper.preprocess_text(plan, &parts::font(face), text).expect("there is memory");
+}
+
+#[inline(never)]
+fn masks_ours(shaper: Shaper, plan: &Plan, face: &Face, text: &mut Buffer) {
+    shaper.setup_masks(plan, &parts::font(face), &UnicodeTables, text);
+}
+
+#[inline(never)]
+fn postprocess_ours(shaper: Shaper, plan: &Plan, face: &Face, text: &mut Buffer) {
+    shaper.postprocess_glyphs(plan, &parts::font(face), text).expect("there is memory");
+}
+
+#[inline(never)]
+fn set_up_ours(pause: Pause, plan: &Plan, text: &mut Buffer) {
+    setup_syllables_found(pause, plan, text);
+}
+
+#[inline(never)]
+fn pause_ours(pause: Pause, plan: &Plan, face: &Face, text: &mut Buffer) {
+    black_box(run_pause(pause, plan, &parts::font(face), &[], text).is_ok());
+}
+
+/// What the crate's plan is made of.
 pub struct Lists {
     script: Option<Script>,
     features: Vec<FeatureMap>,
     stages: Vec<Range<usize>>,
     lookups: Vec<u16>,
     global_mask: u32,
+    chosen_script: Option<Tag>,
+    found_script: bool,
+    has_gpos_mark: bool,
+}
+
+impl Lists {
+    fn of(from: &hb_ot_shape_plan_t) -> Lists {
+        const GSUB: TableIndex = TableIndex::GSUB;
+        let map = &from.ot_map;
+        let stages: Vec<_> = (0..map.stages(GSUB).len()).map(|stage| map.stage_lookup_range(GSUB, stage)).collect();
+        let features = map.features_of(GSUB).map(|(tag, mask, stage)| FeatureMap::new(parts::tag_of(tag), mask, stage));
+        Lists {
+            script: script_of(from.script),
+            features: features.collect(),
+            lookups: (0..stages.last().map_or(0, |last| last.end)).map(|at| map.lookup(GSUB, at).index).collect(),
+            global_mask: map.get_global_mask(),
+            chosen_script: map.chosen_script(GSUB).map(parts::tag_of),
+            found_script: map.found_script(GSUB),
+            has_gpos_mark: from.has_gpos_mark,
+            stages,
+        }
+    }
+
+    fn plan(&self, shaper: Shaper) -> Plan {
+        let made = Plan::builder()
+            .script(self.script)
+            .features(&self.features)
+            .stages(&self.stages)
+            .lookups(&self.lookups)
+            .global_mask(self.global_mask)
+            .chosen_script(self.chosen_script)
+            .found_script(self.found_script)
+            .has_gpos_mark(self.has_gpos_mark)
+            .base_search(BaseSearch::AllConsonants)
+            .build_for(shaper);
+        made.expect("stages are ranges, and masks touch no glyph flag")
+    }
 }
 
 /// Bytes that a glyph takes in rustybuzz's buffer and in ours: its own, with its position, and with all lists that a hook
