@@ -7,4 +7,5 @@ pub mod OneGlyph
 pub mod PositionSteps
 pub mod RemovalLaws
 pub mod RemovalSteps
+mod SpaceRows
 mod WidthRows

@@ -7,6 +7,7 @@ mod hiding;
 mod ignorables;
 mod laws;
 mod positions;
+mod spaces;
 mod widths;
 
 pub use advances::set_advances;
@@ -14,4 +15,5 @@ pub use flags::propagate_flags;
 pub use hiding::hide_default_ignorables;
 pub use ignorables::DefaultIgnorables;
 pub use laws::{flags_law, removal_law};
+pub use spaces::{SpaceFont, set_space_widths};
 pub use widths::{GlyphClasses, zero_mark_widths, zero_width_default_ignorables};
