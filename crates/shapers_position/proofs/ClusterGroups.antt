@@ -1,11 +1,11 @@
 -- A text, cluster after cluster.
-use Rattle.std.proofs.Common.{◌≡◌, ◌+◌, ◌-◌, ◌<◌, ◌≤◌, ℕ, suc, Bool, true, false, cond, List, [], ◌∷◌, ◌++◌, length, map, take, drop, refl, sym, ap, ◌∙◌, arith}
+use Rattle.std.proofs.Common.{◌≡◌, ◌+◌, ◌-◌, ◌<◌, ◌≤◌, ℕ, suc, Bool, true, false, cond, List, [], ◌∷◌, ◌++◌, length, take, drop, refl, sym, ap, ◌∙◌, arith}
 use Rattle.std.specs.List.{flat_map, prefix_len}
 use Rattle.std.proofs.lemmas.Bool.{eqb-true}
 use Rattle.std.proofs.lemmas.List.{append_assoc, drop-drop, drop_at, length-append, length-drop, length-map, length-take-le, take_at}
 use Rattle.shapers_buffer.specs.declared.buffer.flags.BufferFlags.{BufferFlags}
 use Rattle.shapers_buffer.specs.declared.buffer.glyph.hb_glyph_info_t.{hb_glyph_info_t}
-use Rattle.shapers_buffer.specs.Clusters.{first_cluster, has_cluster, stretch_of, with_stretch}
+use Rattle.shapers_buffer.specs.Clusters.{first_cluster, has_cluster, with_stretch}
 use Rattle.shapers_position.specs.ClusterFlags.{cluster_groups, flags_propagated, flags_shared, with_first}
 
 -- the first group is the longest run of the first cluster

@@ -1,23 +1,22 @@
 -- The laws of flags that clusters share, group after group.
-use Rattle.std.proofs.Common.{◌≡◌, ◌≢◌, ℕ, zero, suc, ◌+◌, ◌-◌, ◌%◌, ◌<◌, ◌≤◌, ◌==◌, max, Bool, true, false, ◌||◌, ◌&&◌, cond, List, [], ◌∷◌, ◌++◌, get_or, length, map, take, drop, inl, inr, refl, sym, ap, subst, ◌∙◌, arith}
+use Rattle.std.proofs.Common.{◌≡◌, ◌≢◌, ℕ, zero, suc, ◌+◌, ◌-◌, ◌%◌, ◌<◌, ◌≤◌, ◌==◌, max, Bool, true, false, ◌||◌, ◌&&◌, cond, List, [], ◌∷◌, ◌++◌, get_or, length, map, take, drop, refl, sym, ap, subst, ◌∙◌, arith}
 use Rattle.std.specs.Int.Bits.{bit_or, or_self}
 use Rattle.std.specs.Prelude.{fold}
 use Rattle.std.specs.List.{AllByRecursion, list_any, prefix_len}
-use Rattle.std.proofs.lemmas.Bool.{and_left, both_ways, cases_Bool, cases_eq, cases_lt, eq-eqb, eqb-false, eqb-true, false_from_ne_true, ne_eqb}
-use Rattle.std.proofs.lemmas.List.{drop_at, get_or-map, length-drop, length-map, length-take-le, map-append, take-append-drop, take_at}
-use Rattle.std.proofs.lemmas.List.Elements.{All-from_get_or, All-from_recursion}
-use Rattle.std.proofs.lemmas.List.Folds.{list_any-append, list_any_at, list_any_none}
+use Rattle.std.proofs.lemmas.Bool.{eqb-true}
+use Rattle.std.proofs.lemmas.List.{drop_at, length-drop, length-map, length-take-le, map-append, take-append-drop, take_at}
+use Rattle.std.proofs.lemmas.List.Folds.{list_any-append}
 use Rattle.std.proofs.lemmas.List.Sums.{prefix_len-le-length}
 use Rattle.shapers_buffer.specs.declared.buffer.flags.BufferFlags.{BufferFlags}
 use Rattle.shapers_buffer.specs.declared.buffer.glyph.hb_glyph_info_t.{hb_glyph_info_t}
 use Rattle.shapers_buffer.specs.Buffer.{flags_tatweel, has_flag}
 use Rattle.shapers_buffer.specs.Clusters.{has_cluster}
-use Rattle.shapers_buffer.specs.Glyph.{clusters, default_glyph, plain}
-use Rattle.shapers_buffer.proofs.MappedLists.{all-append, map-hidden, prefix_len-map}
+use Rattle.shapers_buffer.specs.Glyph.{clusters}
+use Rattle.shapers_buffer.proofs.MappedLists.{map-hidden, prefix_len-map}
 use Rattle.shapers_clusters.specs.Breaks.{IsClear, greater, is_unsafe}
 use Rattle.shapers_position.specs.ClusterFlags.{flags_kept, flags_of, flags_propagated, flags_shared, with_flags}
 use Rattle.shapers_position.proofs.ClusterGroups.{opens_with_group}
-use Rattle.shapers_position.proofs.FlagSets.{flags_put, flags_small, flags_unsafe, kept_again, kept_one, kept_small, kept_unsafe, one_low, put_twice, unsafe_flags, unsafe_low, unsafe_put, view_put}
+use Rattle.shapers_position.proofs.FlagSets.{flags_put, flags_small, flags_unsafe, kept_again, kept_small, kept_unsafe, put_twice, unsafe_flags, unsafe_put}
 use Rattle.std.specs.List.{flat_map}
 
 -- how many of the glyphs behind g are in its cluster
@@ -49,17 +48,17 @@ opens wanted g gs = ap (flat_map (flags_shared wanted)) (opens_with_group g gs)
 pub map-propagated : {X : Type 0} (f : hb_glyph_info_t → X) → ((k : ℕ) (g : hb_glyph_info_t) → k < 8 → f (with_flags k g) ≡ f g) → (wanted : BufferFlags) (gs : List hb_glyph_info_t) → map f (flags_propagated wanted gs) ≡ map f gs
 map-propagated f keeps wanted gs =
     by_groups (λ gs. map f (flags_propagated wanted gs) ≡ map f gs) refl (λ g gs behind.
-        let k = more g gs in
-        let j = opening_flags wanted g gs in
-        let small = opening_small wanted g gs in
-        ap (map f) (opens wanted g gs)
-        ∙ ap (λ x. x ∷ map f (map (with_flags j) (take k gs) ++ flags_propagated wanted (drop k gs))) (keeps j g small)
-        ∙ ap (λ xs. f g ∷ xs)
-        (map-append f (map (with_flags j) (take k gs)) (flags_propagated wanted (drop k gs))
-        ∙ ap (λ xs. xs ++ map f (flags_propagated wanted (drop k gs))) (map-hidden f (with_flags j) (λ g. keeps j g small) (take k gs))
-        ∙ ap (λ xs. map f (take k gs) ++ xs) behind
-        ∙ sym (map-append f (take k gs) (drop k gs))
-        ∙ ap (map f) (take-append-drop k gs)))
+    let k = more g gs in
+    let j = opening_flags wanted g gs in
+    let small = opening_small wanted g gs in
+    ap (map f) (opens wanted g gs)
+    ∙ ap (λ x. x ∷ map f (map (with_flags j) (take k gs) ++ flags_propagated wanted (drop k gs))) (keeps j g small)
+    ∙ ap (λ xs. f g ∷ xs)
+    (map-append f (map (with_flags j) (take k gs)) (flags_propagated wanted (drop k gs))
+    ∙ ap (λ xs. xs ++ map f (flags_propagated wanted (drop k gs))) (map-hidden f (with_flags j) (λ g. keeps j g small) (take k gs))
+    ∙ ap (λ xs. map f (take k gs) ++ xs) behind
+    ∙ sym (map-append f (take k gs) (drop k gs))
+    ∙ ap (map f) (take-append-drop k gs)))
     (length gs) gs (omega arith)
 
 pub clusters-propagated : (wanted : BufferFlags) (gs : List hb_glyph_info_t) → clusters (flags_propagated wanted gs) ≡ clusters gs
@@ -102,28 +101,28 @@ more_same wanted g gs =
 pub again : (wanted : BufferFlags) → has_flag flags_tatweel wanted ≡ false → (gs : List hb_glyph_info_t) → flags_propagated wanted (flags_propagated wanted gs) ≡ flags_propagated wanted gs
 again wanted unasked gs =
     by_groups (λ gs. flags_propagated wanted (flags_propagated wanted gs) ≡ flags_propagated wanted gs) refl (λ g gs last.
-        let k = more g gs in
-        let j = opening_flags wanted g gs in
-        let small = opening_small wanted g gs in
-        let front = map (with_flags j) (take k gs) in
-        let rest = flags_propagated wanted (drop k gs) in
-        let s = with_flags j g in
-        let long : length front ≡ k = length-map (take k gs) (with_flags j) ∙ length-take-le k gs (prefix_len-le-length (has_cluster g.cluster) gs) in
-        let firsts : take (more s (front ++ rest)) (front ++ rest) ≡ front = ap (λ n. take n (front ++ rest)) (more_same wanted g gs) ∙ take_at front rest k long in
-        let lasts : drop (more s (front ++ rest)) (front ++ rest) ≡ rest = ap (λ n. drop n (front ++ rest)) (more_same wanted g gs) ∙ drop_at front rest k long in
-        let flags : opening_flags wanted s (front ++ rest) ≡ j =
-        ap (λ xs. flags_kept wanted (flags_of (s ∷ xs))) firsts
-        ∙ ap (flags_kept wanted) (flags_of_shared j g (take k gs) small)
-        ∙ kept_again wanted unasked (flags_of (g ∷ take k gs)) (flags_small (g ∷ take k gs)) in
-        ap (flags_propagated wanted) (opens wanted g gs)
-        ∙ opens wanted s (front ++ rest)
-        ∙ ap (λ n. with_flags n s ∷ (map (with_flags n) (take (more s (front ++ rest)) (front ++ rest)) ++ flags_propagated wanted (drop (more s (front ++ rest)) (front ++ rest)))) flags
-        ∙ ap (λ xs. with_flags j s ∷ (map (with_flags j) xs ++ flags_propagated wanted (drop (more s (front ++ rest)) (front ++ rest)))) firsts
-        ∙ ap (λ xs. with_flags j s ∷ (map (with_flags j) front ++ flags_propagated wanted xs)) lasts
-        ∙ ap (λ x. x ∷ (map (with_flags j) front ++ flags_propagated wanted rest)) (put_twice j g small)
-        ∙ ap (λ xs. s ∷ (xs ++ flags_propagated wanted rest)) (map-hidden (with_flags j) (with_flags j) (λ g. put_twice j g small) (take k gs))
-        ∙ ap (λ xs. s ∷ (front ++ xs)) last
-        ∙ sym (opens wanted g gs))
+    let k = more g gs in
+    let j = opening_flags wanted g gs in
+    let small = opening_small wanted g gs in
+    let front = map (with_flags j) (take k gs) in
+    let rest = flags_propagated wanted (drop k gs) in
+    let s = with_flags j g in
+    let long : length front ≡ k = length-map (take k gs) (with_flags j) ∙ length-take-le k gs (prefix_len-le-length (has_cluster g.cluster) gs) in
+    let firsts : take (more s (front ++ rest)) (front ++ rest) ≡ front = ap (λ n. take n (front ++ rest)) (more_same wanted g gs) ∙ take_at front rest k long in
+    let lasts : drop (more s (front ++ rest)) (front ++ rest) ≡ rest = ap (λ n. drop n (front ++ rest)) (more_same wanted g gs) ∙ drop_at front rest k long in
+    let flags : opening_flags wanted s (front ++ rest) ≡ j =
+    ap (λ xs. flags_kept wanted (flags_of (s ∷ xs))) firsts
+    ∙ ap (flags_kept wanted) (flags_of_shared j g (take k gs) small)
+    ∙ kept_again wanted unasked (flags_of (g ∷ take k gs)) (flags_small (g ∷ take k gs)) in
+    ap (flags_propagated wanted) (opens wanted g gs)
+    ∙ opens wanted s (front ++ rest)
+    ∙ ap (λ n. with_flags n s ∷ (map (with_flags n) (take (more s (front ++ rest)) (front ++ rest)) ++ flags_propagated wanted (drop (more s (front ++ rest)) (front ++ rest)))) flags
+    ∙ ap (λ xs. with_flags j s ∷ (map (with_flags j) xs ++ flags_propagated wanted (drop (more s (front ++ rest)) (front ++ rest)))) firsts
+    ∙ ap (λ xs. with_flags j s ∷ (map (with_flags j) front ++ flags_propagated wanted xs)) lasts
+    ∙ ap (λ x. x ∷ (map (with_flags j) front ++ flags_propagated wanted rest)) (put_twice j g small)
+    ∙ ap (λ xs. s ∷ (xs ++ flags_propagated wanted rest)) (map-hidden (with_flags j) (with_flags j) (λ g. put_twice j g small) (take k gs))
+    ∙ ap (λ xs. s ∷ (front ++ xs)) last
+    ∙ sym (opens wanted g gs))
     (length gs) gs (omega arith)
 
 -- ---- whether a glyph of a cluster is unsafe
@@ -180,22 +179,22 @@ shared_is j c (g ∷ gs) all = (all.0, shared_is j c gs all.1)
 any_kept : (wanted : BufferFlags) (c : ℕ) (gs : List hb_glyph_info_t) → list_any (unsafe_at c) (flags_propagated wanted gs) ≡ list_any (unsafe_at c) gs
 any_kept wanted c gs =
     by_groups (λ gs. list_any (unsafe_at c) (flags_propagated wanted gs) ≡ list_any (unsafe_at c) gs) refl (λ g gs last.
-        let k = more g gs in
-        let j = opening_flags wanted g gs in
-        let d = g.cluster in
-        let group = g ∷ take k gs in
-        let rest = drop k gs in
-        let all : AllByRecursion (λ h. h.cluster ≡ d) group = (refl, run_is d gs) in
-        let here : list_any (unsafe_at c) (map (with_flags j) group) ≡ list_any (unsafe_at c) group =
-        any_at c d (map (with_flags j) group) (shared_is j d group all)
-        ∙ ap (λ b. d == c && b) (any_shared j g (take k gs) (opening_small wanted g gs) ∙ kept_unsafe wanted (flags_of group) (flags_small group) ∙ flags_unsafe group)
-        ∙ sym (any_at c d group all) in
-        ap (list_any (unsafe_at c)) (opens wanted g gs)
-        ∙ list_any-append (unsafe_at c) (map (with_flags j) group) (flags_propagated wanted rest)
-        ∙ ap (λ b. b || list_any (unsafe_at c) (flags_propagated wanted rest)) here
-        ∙ ap (λ b. list_any (unsafe_at c) group || b) last
-        ∙ sym (list_any-append (unsafe_at c) group rest)
-        ∙ ap (λ xs. list_any (unsafe_at c) (g ∷ xs)) (take-append-drop k gs))
+    let k = more g gs in
+    let j = opening_flags wanted g gs in
+    let d = g.cluster in
+    let group = g ∷ take k gs in
+    let rest = drop k gs in
+    let all : AllByRecursion (λ h. h.cluster ≡ d) group = (refl, run_is d gs) in
+    let here : list_any (unsafe_at c) (map (with_flags j) group) ≡ list_any (unsafe_at c) group =
+    any_at c d (map (with_flags j) group) (shared_is j d group all)
+    ∙ ap (λ b. d == c && b) (any_shared j g (take k gs) (opening_small wanted g gs) ∙ kept_unsafe wanted (flags_of group) (flags_small group) ∙ flags_unsafe group)
+    ∙ sym (any_at c d group all) in
+    ap (list_any (unsafe_at c)) (opens wanted g gs)
+    ∙ list_any-append (unsafe_at c) (map (with_flags j) group) (flags_propagated wanted rest)
+    ∙ ap (λ b. b || list_any (unsafe_at c) (flags_propagated wanted rest)) here
+    ∙ ap (λ b. list_any (unsafe_at c) group || b) last
+    ∙ sym (list_any-append (unsafe_at c) group rest)
+    ∙ ap (λ xs. list_any (unsafe_at c) (g ∷ xs)) (take-append-drop k gs))
     (length gs) gs (omega arith)
 
 -- a place is clear after it as before

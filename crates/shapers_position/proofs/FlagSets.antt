@@ -1,6 +1,6 @@
 -- Sets of the three flags, each looked at; and the flags that glyphs are given.
-use Rattle.std.proofs.Common.{◌≡◌, ℕ, zero, suc, ◌+◌, ◌-◌, ◌/◌, ◌%◌, ◌^◌, ◌<◌, ◌==◌, Bool, true, false, ◌||◌, cond, List, [], ◌∷◌, map, refl, sym, ap, ◌∙◌, arith}
-use Rattle.std.specs.Int.Bits.{bit_or, or_self}
+use Rattle.std.proofs.Common.{◌≡◌, ℕ, zero, suc, ◌/◌, ◌%◌, ◌<◌, ◌==◌, Bool, true, false, ◌||◌, cond, List, [], ◌∷◌, refl, sym, ap, ◌∙◌, arith}
+use Rattle.std.specs.Int.Bits.{bit_or}
 use Rattle.std.specs.Prelude.{bit_and, fold}
 use Rattle.std.specs.List.{list_any}
 use Rattle.std.proofs.Math.Bool.{or-false, or_assoc}
@@ -103,12 +103,11 @@ gathered : (a : ℕ) (gs : List hb_glyph_info_t) → a < 8 → (fold (λ f (g : 
 gathered a [] small = (small, sym (or-false (unsafe_flags a)))
 gathered a (g ∷ gs) small =
     let b = bit_or a (g.mask % 8) in
-    let rest = gathered b gs (or_lt 3 a (g.mask % 8) small (low g.mask)) in
-    (
+    let rest = gathered b gs (or_lt 3 a (g.mask % 8) small (low g.mask)) in (
       rest.0,
       rest.1
-      ∙ ap (λ x. x || list_any is_unsafe gs) (or_by a small (g.mask % 8) (low g.mask) ∙ ap (λ x. unsafe_flags a || x) (unsafe_low g.mask))
-      ∙ or_assoc (unsafe_flags a) (is_unsafe g) (list_any is_unsafe gs)
+          ∙ ap (λ x. x || list_any is_unsafe gs) (or_by a small (g.mask % 8) (low g.mask) ∙ ap (λ x. unsafe_flags a || x) (unsafe_low g.mask))
+          ∙ or_assoc (unsafe_flags a) (is_unsafe g) (list_any is_unsafe gs),
     )
 
 pub flags_small : (gs : List hb_glyph_info_t) → flags_of gs < 8

@@ -1,5 +1,5 @@
 -- One glyph of a cluster tells of all, and one flag of a glyph.
-use Rattle.std.proofs.Common.{◌≡◌, ◌≢◌, ◌↔◌, ℕ, zero, suc, ◌+◌, ◌-◌, ◌%◌, ◌<◌, ◌≤◌, ◌==◌, max, Bool, true, false, ◌&&◌, cond, List, [], ◌∷◌, ◌++◌, get_or, length, map, take, drop, inl, inr, refl, sym, ap, subst, ◌∙◌, arith}
+use Rattle.std.proofs.Common.{◌≡◌, ◌≢◌, ◌↔◌, ℕ, zero, suc, ◌+◌, ◌-◌, ◌%◌, ◌<◌, ◌≤◌, ◌==◌, Bool, true, false, cond, List, [], ◌∷◌, ◌++◌, get_or, length, map, take, drop, inl, inr, refl, sym, ap, subst, ◌∙◌, arith}
 use Rattle.std.specs.List.{AllByRecursion, list_any, prefix_len}
 use Rattle.std.proofs.lemmas.Bool.{and_from, and_left, and_right, both_ways, cases_eq, cases_lt, eq-eqb, eqb-false, false_from_ne_true, ne_eqb}
 use Rattle.std.proofs.lemmas.List.{get_or-map, length-map}
@@ -7,11 +7,10 @@ use Rattle.std.proofs.lemmas.List.Elements.{All-from_get_or, All-from_recursion}
 use Rattle.std.proofs.lemmas.List.Folds.{list_any_at, list_any_none}
 use Rattle.shapers_buffer.specs.declared.buffer.flags.BufferFlags.{BufferFlags}
 use Rattle.shapers_buffer.specs.declared.buffer.glyph.hb_glyph_info_t.{hb_glyph_info_t}
-use Rattle.shapers_buffer.specs.Buffer.{flags_tatweel, has_flag}
 use Rattle.shapers_buffer.specs.Clusters.{has_cluster}
 use Rattle.shapers_buffer.specs.Glyph.{clusters, default_glyph, plain}
 use Rattle.shapers_buffer.proofs.MappedLists.{all-append}
-use Rattle.shapers_clusters.specs.Breaks.{IsClear, greater, is_unsafe}
+use Rattle.shapers_clusters.specs.Breaks.{greater, is_unsafe}
 use Rattle.shapers_clusters.specs.Cuts.{IsFalling, IsRising}
 use Rattle.shapers_clusters.specs.Flags.{bit_at}
 use Rattle.shapers_position.specs.ClusterFlags.{flags_of, flags_propagated, with_flags}
@@ -54,11 +53,11 @@ alike_group j c g (x ∷ gs) hs small is all other rest = ((λ e. flags_put j g 
 alike : (wanted : BufferFlags) (gs : List hb_glyph_info_t) → Alike (flags_propagated wanted gs)
 alike wanted gs =
     by_groups (λ gs. Alike (flags_propagated wanted gs)) tt (λ g gs last.
-        let k = more g gs in
-        let j = opening_flags wanted g gs in
-        let P : List hb_glyph_info_t → Type 0 = Alike in
-        subst P (sym (opens wanted g gs))
-        (alike_group j g.cluster g (take k gs) (flags_propagated wanted (drop k gs)) (opening_small wanted g gs) refl (run_is g.cluster gs) (elsewhere_still wanted g.cluster (drop k gs) (behind_run g.cluster gs)) last))
+    let k = more g gs in
+    let j = opening_flags wanted g gs in
+    let P : List hb_glyph_info_t → Type 0 = Alike in
+    subst P (sym (opens wanted g gs))
+    (alike_group j g.cluster g (take k gs) (flags_propagated wanted (drop k gs)) (opening_small wanted g gs) refl (run_is g.cluster gs) (elsewhere_still wanted g.cluster (drop k gs) (behind_run g.cluster gs)) last))
     (length gs) gs (omega arith)
 
 alike_at : (gs : List hb_glyph_info_t) → Alike gs → (p : ℕ) → suc p < length gs → get_or (clusters gs) p 0 ≡ get_or (clusters gs) (suc p) 0 → get_or (glyph_flags gs) p 0 ≡ get_or (glyph_flags gs) (suc p) 0
@@ -114,8 +113,7 @@ unsafe_alike ms p q pl ql e =
 -- a glyph of cluster c stands at place p, and all of that cluster have its flags: it tells whether one is unsafe
 tells_at : (ms : List hb_glyph_info_t) (c p : ℕ) → p < length ms → get_or (clusters ms) p 0 ≡ c → ((q : ℕ) → q < length ms → get_or (clusters ms) q 0 ≡ c → get_or (glyph_flags ms) q 0 ≡ get_or (glyph_flags ms) p 0) → (list_any (unsafe_at c) ms ≡ false) ↔ (is_unsafe (get_or ms p default_glyph) ≡ false)
 tells_at ms c p within is all =
-    let cluster : (q : ℕ) → q < length ms → get_or (clusters ms) q 0 ≡ (get_or ms q default_glyph).cluster = λ q l. get_or-map (λ (g : hb_glyph_info_t). g.cluster) ms q default_glyph 0 l in
-    (
+    let cluster : (q : ℕ) → q < length ms → get_or (clusters ms) q 0 ≡ (get_or ms q default_glyph).cluster = λ q l. get_or-map (λ (g : hb_glyph_info_t). g.cluster) ms q default_glyph 0 l in (
       (λ none. false_from_ne_true (is_unsafe (get_or ms p default_glyph)) (λ yes. both_ways (list_any (unsafe_at c) ms) none (list_any_at (unsafe_at c) ms p default_glyph within (and_from _ _ (eq-eqb (get_or ms p default_glyph).cluster c (sym (cluster p within) ∙ is)) yes)))),
       (λ safe. list_any_none (unsafe_at c) ms (All-from_get_or (λ g. unsafe_at c g ≡ false) ms default_glyph (λ q l. elim (cases_eq (get_or ms q default_glyph).cluster c) [
         | inl e ↦ and_right _ _ (unsafe_alike ms p q within l (all q l (cluster q l ∙ e)) ∙ safe)
@@ -136,9 +134,9 @@ tells_rising ms p a rises some within differ =
           let there : p + (q - p) ≡ q = omega arith in
           let P : ℕ → Type 0 = λ n. get_or (glyph_flags ms) n 0 ≡ get_or (glyph_flags ms) p 0 in
           subst P there (same_along ms a p (q - p) (omega arith) (λ k few.
-              let up = rising_to cs rises p (p + k) (omega arith) (omega (arith, long)) in
-              let down = rising_to cs rises (p + k) q (omega arith) (omega (arith, long)) in
-              omega (arith, up, down, e, top))))
+          let up = rising_to cs rises p (p + k) (omega arith) (omega (arith, long)) in
+          let down = rising_to cs rises (p + k) q (omega arith) (omega (arith, long)) in
+          omega (arith, up, down, e, top))))
     ])
 
 tells_falling : (ms : List hb_glyph_info_t) (p : ℕ) → Alike ms → IsFalling (clusters ms) → 0 < p → p < length ms → get_or (clusters ms) (p - 1) 0 ≢ get_or (clusters ms) p 0 → (list_any (unsafe_at (greater ms p)) ms ≡ false) ↔ (is_unsafe (get_or ms (p - 1) default_glyph) ≡ false)
@@ -154,9 +152,9 @@ tells_falling ms p a falls some within differ =
           let there : q + (p - 1 - q) ≡ p - 1 = omega arith in
           let P : ℕ → Type 0 = λ n. get_or (glyph_flags ms) q 0 ≡ get_or (glyph_flags ms) n 0 in
           subst P there (sym (same_along ms a q (p - 1 - q) (omega arith) (λ k few.
-              let up = falling_to cs falls q (q + k) (omega arith) (omega (arith, long)) in
-              let down = falling_to cs falls (q + k) (p - 1) (omega arith) (omega (arith, long)) in
-              omega (arith, up, down, e, top)))))
+          let up = falling_to cs falls q (q + k) (omega arith) (omega (arith, long)) in
+          let down = falling_to cs falls (q + k) (p - 1) (omega arith) (omega (arith, long)) in
+          omega (arith, up, down, e, top)))))
     ])
 
 pub one_glyph_tells : OneGlyphTells
@@ -164,8 +162,7 @@ one_glyph_tells wanted gs p some within differ =
     let ms = flags_propagated wanted gs in
     let same = clusters-propagated wanted gs in
     let inside : p < length ms = omega (arith, length-propagated wanted gs) in
-    let apart : get_or (clusters ms) (p - 1) 0 ≢ get_or (clusters ms) p 0 = subst (λ cs. get_or cs (p - 1) 0 ≢ get_or cs p 0) (sym same) differ in
-    (
+    let apart : get_or (clusters ms) (p - 1) 0 ≢ get_or (clusters ms) p 0 = subst (λ cs. get_or cs (p - 1) 0 ≢ get_or cs p 0) (sym same) differ in (
       (λ rises. let tells = tells_rising ms p (alike wanted gs) (subst IsRising (sym same) rises) some inside apart in (
         (λ clear. tells.0 (clear_to wanted gs p clear).unflagged),
         (λ safe. clear_from wanted gs p (record { differ = apart; unflagged = tells.1 safe })),
@@ -189,10 +186,10 @@ pub one_flag_tells : OneFlagTells
 one_flag_tells wanted gs asked =
     All-from_recursion ToldByOne (flags_propagated wanted gs)
     (by_groups (λ gs. AllByRecursion ToldByOne (flags_propagated wanted gs)) tt (λ g gs last.
-        let k = more g gs in
-        let j = opening_flags wanted g gs in
-        let group = g ∷ take k gs in
-        let P : List hb_glyph_info_t → Type 0 = AllByRecursion ToldByOne in
-        subst P (sym (opens wanted g gs))
-        (all-append ToldByOne (map (with_flags j) group) (flags_propagated wanted (drop k gs)) (told j group (opening_small wanted g gs) (kept_one wanted asked (flags_of group) (flags_small group))) last))
+    let k = more g gs in
+    let j = opening_flags wanted g gs in
+    let group = g ∷ take k gs in
+    let P : List hb_glyph_info_t → Type 0 = AllByRecursion ToldByOne in
+    subst P (sym (opens wanted g gs))
+    (all-append ToldByOne (map (with_flags j) group) (flags_propagated wanted (drop k gs)) (told j group (opening_small wanted g gs) (kept_one wanted asked (flags_of group) (flags_small group))) last))
     (length gs) gs (omega arith))

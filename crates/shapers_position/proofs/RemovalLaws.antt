@@ -1,15 +1,18 @@
--- The laws of ignorable glyphs that go.
-use Rattle.std.proofs.Common.{◌≡◌, ◌+◌, ◌-◌, ◌/◌, ◌%◌, ◌<◌, ◌≤◌, ℕ, min, Bool, true, false, ◌||◌, ◌&&◌, cond, List, [], ◌∷◌, ◌++◌, inl, inr, length, map, take, drop, refl, sym, ap, subst, ◌∙◌, arith}
+-- The laws of ignorable glyphs that go or are drawn by another one, and of positions.
+use Rattle.std.proofs.lemmas.Slice.Zip.{get_or-zip, length-zip}
+use Rattle.std.proofs.Common.{◌≡◌, ◌+◌, ◌-◌, ◌/◌, ◌%◌, ◌<◌, ◌≤◌, ℕ, suc, min, Bool, true, false, ◌&&◌, cond, get_or, List, [], ◌∷◌, ◌++◌, inl, inr, length, map, refl, sym, ap, subst, ◌∙◌, arith}
 use Rattle.std.specs.Prelude.{filter, nat_lt, not}
-use Rattle.std.specs.List.{AllPairs, Contains, list_any, prefix_len}
+use Rattle.std.specs.List.{AllPairs, Contains, list_any, prefix_len, zip}
 use Rattle.std.proofs.lemmas.Bool.{or_parts}
 use Rattle.std.proofs.lemmas.Bool.Decides.{nat_tests}
-use Rattle.std.proofs.lemmas.List.{append-nil, append_assoc, length-map, map-append, take-append-drop}
+use Rattle.std.proofs.lemmas.List.{append-nil, append_assoc, get_or-map, length-map, map-append, take-append-drop}
 use Rattle.std.proofs.lemmas.List.Elements.{All-contains_itself}
+use Rattle.shapers_base.specs.declared.font.GlyphId.{GlyphId}
+use Rattle.shapers_buffer.specs.declared.buffer.glyph.GlyphPosition.{GlyphPosition}
 use Rattle.shapers_buffer.specs.declared.buffer.glyph.hb_glyph_info_t.{hb_glyph_info_t}
 use Rattle.shapers_buffer.specs.declared.buffer.level.BufferClusterLevel.{BufferClusterLevel}
 use Rattle.shapers_buffer.specs.Clusters.{has_cluster, last_cluster, merge, merged, merges}
-use Rattle.shapers_buffer.specs.Glyph.{clusters, order_view, plain, without_flags}
+use Rattle.shapers_buffer.specs.Glyph.{clusters, default_glyph, default_position, order_view, plain, without_flags}
 use Rattle.shapers_buffer.specs.Lists.{before_last_run, last_run}
 use Rattle.shapers_buffer.proofs.MappedLists.{map-hidden}
 use Rattle.shapers_clusters.specs.Cuts.{IsFalling, IsMonotone, IsRising}
@@ -20,8 +23,8 @@ use Rattle.shapers_clusters.proofs.Halves.{Each}
 use Rattle.shapers_clusters.proofs.Merging.{order_view-merge, without_flags-twice}
 use Rattle.shapers_normal.proofs.Beside.{all_of, each-append, each-merge, each_of}
 use Rattle.shapers_normal.proofs.Pairs.{Cross, Pairs, each_as, from_pairs, pairs-append, pairs-cross, pairs-first, pairs-last, to_pairs}
-use Rattle.shapers_position.specs.Ignorables.{covering, goes_on, in_place_of, is_default_ignorable, is_kept, removed, removed_behind}
-use Rattle.shapers_position.specs.Laws.{RemovalLaw}
+use Rattle.shapers_position.specs.Ignorables.{covering, drawn_by, goes_on, in_place_of, is_default_ignorable, is_kept, positions_kept, removed, removed_behind}
+use Rattle.shapers_position.specs.Laws.{DrawnLaw, PositionsLaw, RemovalLaw, numbered}
 
 -- a list in what stands before its last run, and that
 run_apart : {X : Type 0} (test : X → Bool) (xs : List X) → before_last_run test xs ++ last_run test xs ≡ xs
@@ -177,6 +180,45 @@ short_merge level e gs short =
     let few : nat_lt (e - 0) 2 ≡ true = grind (arith, nat_tests) in
     ap (λ b. cond (merges level && not b) (merged 0 e gs) gs) few ∙ short_by (merges level) gs (merged 0 e gs)
 
+-- ---- positions, and glyphs that are drawn by another one
+
+as_many : (gs : List hb_glyph_info_t) (ps : List GlyphPosition) → length ps ≡ length gs →
+    length (positions_kept gs ps) ≡ length (filter is_kept gs)
+as_many [] ps same = refl
+as_many (g ∷ gs) [] same = absurd (omega arith)
+as_many (g ∷ gs) (p ∷ ps) same =
+    let cells = filter (λ (c : hb_glyph_info_t × GlyphPosition). is_kept c.0) (zip gs ps) in
+    let one : hb_glyph_info_t × GlyphPosition → GlyphPosition = λ c. c.1 in
+    elim (is_kept g)
+    as (λ b. length (map one (cond b ((g, p) ∷ cells) cells))
+    ≡ length (cond b (g ∷ filter is_kept gs) (filter is_kept gs))) [
+      | true ↦ ap suc (as_many gs ps (omega arith))
+      | false ↦ as_many gs ps (omega arith)
+    ]
+
+by_length : (gs hs : List hb_glyph_info_t) → order_view gs ≡ order_view hs → length hs ≡ length gs
+by_length gs hs same = sym (sym (length-map gs plain) ∙ ap length same ∙ length-map hs plain)
+
+drawn_number : (glyph : GlyphId) (n : ℕ) (g : hb_glyph_info_t) → numbered n (drawn_by glyph g) ≡ numbered n g
+drawn_number glyph n g =
+    elim (is_default_ignorable g)
+    as (λ b. numbered n (cond b (let r : hb_glyph_info_t = record g { glyph_id = glyph.0 } in r) g) ≡ numbered n g)
+    [ true ↦ refl | false ↦ refl ]
+
+pub drawn_keep : DrawnLaw
+drawn_keep glyph n gs = map-hidden (numbered n) (drawn_by glyph) (drawn_number glyph n) gs
+
+pub changed_by_glyphs : PositionsLaw
+changed_by_glyphs f gs ps same =
+    let one : hb_glyph_info_t × GlyphPosition → GlyphPosition = λ c. f c.0 c.1 in
+    record {
+      same_length = length-map (zip gs ps) one ∙ (let n = length-zip gs ps in omega (arith, n, same));
+      each = λ i inside.
+          get_or-map one (zip gs ps) i (default_glyph, default_position) default_position
+          (omega (arith, length-zip gs ps, same))
+          ∙ ap one (get_or-zip gs ps i (default_glyph, default_position) inside (omega (arith, same)));
+    }
+
 -- ---- all
 
 abbrev opening_end : List hb_glyph_info_t → ℕ
@@ -198,8 +240,10 @@ ignorables_are_removed level gs =
     let e = opening_end gs in
     let ms = merge level 0 e gs in
     let P : ℕ → Type 0 = Contains (clusters gs) in
+    let view = view_removed [] ms ∙ ap (filter is_kept) (order_view-merge level 0 e gs) ∙ filter_view gs in
     record {
-      same_view = view_removed [] ms ∙ ap (filter is_kept) (order_view-merge level 0 e gs) ∙ filter_view gs;
+      same_view = view;
+      paired = λ ps same. as_many gs ps same ∙ by_length (removed level gs) (filter is_kept gs) view;
       old_clusters = all_of P (removed level gs) (each_removed P [] ms tt (each-merge P level 0 e gs (omega arith) (each_of P gs (All-contains_itself (clusters gs)))));
       monotone = monotone_removed level gs;
       none = λ none. ap (removed_behind []) (short_merge level e gs (omega (arith, none_opens gs none))) ∙ none_goes [] gs none;

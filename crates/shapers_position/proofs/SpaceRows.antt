@@ -1,13 +1,12 @@
 -- The widths of spaces, computed: each kind, and fonts that lack what some are as wide as.
-use Rattle.std.specs.Prelude.{◌≡◌, ◌==◌, ◌+◌, ℕ, ℤ, pos, negsuc, neg_ℤ, Bool, true, false, List, [], ◌∷◌, map, Option, None, Some, refl, if◌then◌else◌}
+use Rattle.std.specs.Prelude.{◌≡◌, ◌==◌, ◌+◌, ℕ, pos, neg_ℤ, true, false, List, [], ◌∷◌, map, None, Some, refl, if◌then◌else◌}
 use Rattle.std.specs.List.{list_any}
-use Rattle.shapers_base.specs.declared.font.GlyphId.{GlyphId}
 use Rattle.shapers_base.specs.Font.{Font}
 use Rattle.shapers_buffer.specs.declared.buffer.category.hb_unicode_general_category_t.TheVariants.{Lo, Zs}
 use Rattle.shapers_buffer.specs.declared.buffer.glyph.GlyphPosition.{GlyphPosition}
 use Rattle.shapers_buffer.specs.declared.buffer.glyph.hb_glyph_info_t.{hb_glyph_info_t}
 use Rattle.shapers_buffer.specs.Glyph.{default_glyph}
-use Rattle.shapers_position.specs.Spaces.{digits, first_advance, is_space_glyph, part_of_em, space_placed, space_width, stops}
+use Rattle.shapers_position.specs.Spaces.{digits, is_space_glyph, part_of_em, space_placed, space_width, stops}
 
 -- a font that has these characters, each ten units wider than its number
 abbrev font : List ℕ → Font

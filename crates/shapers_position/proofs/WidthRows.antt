@@ -1,6 +1,5 @@
 -- Advances and widths, computed: a position with all fields set, marks and ignorable glyphs.
 use Rattle.std.specs.Prelude.{◌≡◌, ℕ, ℤ, pos, negsuc, neg_ℤ, ◌==◌, Bool, true, false, List, [], ◌∷◌, map, None, refl}
-use Rattle.shapers_base.specs.declared.font.GlyphId.{GlyphId}
 use Rattle.shapers_base.specs.Font.{Font}
 use Rattle.shapers_buffer.specs.declared.buffer.glyph.GlyphPosition.{GlyphPosition}
 use Rattle.shapers_buffer.specs.declared.buffer.glyph.hb_glyph_info_t.{hb_glyph_info_t}

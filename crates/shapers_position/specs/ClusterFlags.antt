@@ -1,6 +1,6 @@
 -- The glyph flags of whole clusters: bit 1 unsafe to break, 2 unsafe to concatenate, 4 safe to
 -- insert a tatweel (HarfBuzz's hb_propagate_flags).
-use Rattle.std.specs.Prelude.{ℕ, ◌%◌, ◌-◌, ◌==◌, bit_and, bit_or, List, [], ◌∷◌, fold, map, if◌then◌else◌}
+use Rattle.std.specs.Prelude.{ℕ, ◌%◌, ◌==◌, bit_and, bit_or, List, [], ◌∷◌, fold, map, if◌then◌else◌}
 use Rattle.std.specs.List.{flat_map}
 use Rattle.shapers_buffer.specs.declared.buffer.flags.BufferFlags.{BufferFlags}
 use Rattle.shapers_buffer.specs.declared.buffer.glyph.hb_glyph_info_t.{hb_glyph_info_t}

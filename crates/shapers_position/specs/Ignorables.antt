@@ -1,7 +1,7 @@
 -- Glyphs of characters that need not be drawn (Default_Ignorable_Code_Point): without a width,
 -- drawn by an invisible glyph, or gone.
 use Rattle.std.specs.Prelude.{ℕ, ◌+◌, ◌==◌, ◌%◌, min, nat_lt, pos, bit_and, bit_or, Bool, false, not, ◌&&◌, List, [], ◌∷◌, ◌++◌, length, map, filter, Option, None, Some, if◌then◌else◌}
-use Rattle.std.specs.List.{list_any, prefix_len, zip}
+use Rattle.std.specs.List.{prefix_len, zip}
 use Rattle.shapers_base.specs.declared.font.GlyphId.{GlyphId}
 use Rattle.shapers_buffer.specs.declared.buffer.glyph.GlyphPosition.{GlyphPosition}
 use Rattle.shapers_buffer.specs.declared.buffer.glyph.hb_glyph_info_t.{hb_glyph_info_t}

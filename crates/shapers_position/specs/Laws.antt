@@ -1,20 +1,28 @@
--- Laws of glyph flags that clusters share, and of ignorable glyphs that are hidden or go.
-use Rattle.std.specs.Prelude.{ℕ, suc, ◌≡◌, ◌≢◌, ◌↔◌, ◌<◌, ◌-◌, ◌==◌, ◌%◌, Bool, true, false, List, map, filter, get_or, length, slice_index}
+-- Laws of positions, of ignorable glyphs that are hidden or go, and of glyph flags that clusters
+-- share.
+use Rattle.std.specs.Prelude.{ℕ, suc, ◌≡◌, ◌≢◌, ◌↔◌, ◌<◌, ◌-◌, ◌==◌, ◌%◌, true, false, List, map, filter, get_or, length, slice_index}
 use Rattle.std.specs.List.{All, Contains, list_any}
+use Rattle.shapers_base.specs.declared.font.GlyphId.{GlyphId}
 use Rattle.shapers_buffer.specs.declared.buffer.flags.BufferFlags.{BufferFlags}
+use Rattle.shapers_buffer.specs.declared.buffer.glyph.GlyphPosition.{GlyphPosition}
 use Rattle.shapers_buffer.specs.declared.buffer.glyph.hb_glyph_info_t.{hb_glyph_info_t}
 use Rattle.shapers_buffer.specs.declared.buffer.level.BufferClusterLevel.{BufferClusterLevel}
 use Rattle.shapers_buffer.specs.Buffer.{flags_tatweel, has_flag}
-use Rattle.shapers_buffer.specs.Glyph.{clusters, default_glyph, order_view}
+use Rattle.shapers_buffer.specs.Glyph.{clusters, default_glyph, default_position, order_view}
 use Rattle.shapers_clusters.specs.Breaks.{IsClear, is_unsafe}
 use Rattle.shapers_clusters.specs.Cuts.{IsFalling, IsMonotone, IsRising}
 use Rattle.shapers_clusters.specs.Flags.{bit_at}
 use Rattle.shapers_position.specs.ClusterFlags.{flags_propagated}
-use Rattle.shapers_position.specs.Ignorables.{is_default_ignorable, is_kept, removed}
+use Rattle.shapers_position.specs.Ignorables.{drawn_by, is_default_ignorable, is_kept, positions_kept, removed}
+use Rattle.shapers_position.specs.Widths.{positions_changed}
 
 -- the glyph flags of each glyph
 abbrev pub glyph_flags : List hb_glyph_info_t → List ℕ
 glyph_flags gs = map (λ g. g.mask % 8) gs
+
+-- the glyph with this number
+abbrev pub numbered : ℕ → hb_glyph_info_t → hb_glyph_info_t
+numbered n g = record g { glyph_id = n }
 
 -- What sharing the flags makes of the glyphs gs: ms. Nothing but glyph flags changes. Neighbours of
 -- one cluster have the same flags. A second time changes nothing, unless tatweels are wanted: one
@@ -51,11 +59,30 @@ OneFlagTells = (wanted : BufferFlags) (gs : List hb_glyph_info_t) →
     has_flag flags_tatweel wanted ≡ true →
     All (λ g. is_unsafe g ≡ (bit_at 0 g.mask == 1)) (flags_propagated wanted gs)
 
+-- Each position is changed by its own glyph, and there are as many.
+pub record ChangedByGlyphs (f : hb_glyph_info_t → GlyphPosition → GlyphPosition)
+    (gs : List hb_glyph_info_t) (ps qs : List GlyphPosition) : Type 0 where
+  pub same_length : length qs ≡ length ps
+  pub each : (i : ℕ) → i < length gs →
+      get_or qs i default_position ≡ f (get_or gs i default_glyph) (get_or ps i default_position)
+
+abbrev pub PositionsLaw : Type 0
+PositionsLaw = (f : hb_glyph_info_t → GlyphPosition → GlyphPosition)
+    (gs : List hb_glyph_info_t) (ps : List GlyphPosition) → length ps ≡ length gs →
+    ChangedByGlyphs f gs ps (positions_changed f gs ps)
+
+-- A glyph that is drawn by another one keeps all but its number.
+abbrev pub DrawnLaw : Type 0
+DrawnLaw = (glyph : GlyphId) (n : ℕ) (gs : List hb_glyph_info_t) →
+    map (numbered n) (map (drawn_by glyph) gs) ≡ map (numbered n) gs
+
 -- What taking the ignorable glyphs out of gs leaves: ms. The others stay in their order, with all
--- but cluster and glyph flags. Every cluster is one that was there. Clusters that rise, or fall,
--- still do. Without an ignorable glyph nothing changes.
+-- but cluster and glyph flags, and with their positions. Every cluster is one that was there.
+-- Clusters that rise, or fall, still do. Without an ignorable glyph nothing changes.
 pub record IgnorablesAreRemoved (gs ms : List hb_glyph_info_t) : Type 0 where
   pub same_view : order_view ms ≡ order_view (filter is_kept gs)
+  pub paired : (ps : List GlyphPosition) → length ps ≡ length gs →
+      length (positions_kept gs ps) ≡ length ms
   pub old_clusters : All (Contains (clusters gs)) (clusters ms)
   pub monotone : IsMonotone (clusters gs) → IsMonotone (clusters ms)
   pub none : list_any is_default_ignorable gs ≡ false → ms ≡ gs

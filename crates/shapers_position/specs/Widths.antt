@@ -1,5 +1,5 @@
 -- Advances by the font, and marks that don't move the pen.
-use Rattle.std.specs.Prelude.{ℕ, min, ℤ, pos, ◌-ℤ◌, Bool, List, map, if◌then◌else◌}
+use Rattle.std.specs.Prelude.{min, ℤ, pos, ◌-ℤ◌, Bool, List, map, if◌then◌else◌}
 use Rattle.std.specs.List.{zip}
 use Rattle.std.specs.Int.{saturate_to_bits}
 use Rattle.shapers_base.specs.declared.font.GlyphId.{GlyphId}

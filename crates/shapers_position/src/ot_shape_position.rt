@@ -14,6 +14,6 @@ pub use advances::set_advances;
 pub use flags::propagate_flags;
 pub use hiding::hide_default_ignorables;
 pub use ignorables::DefaultIgnorables;
-pub use laws::{flags_law, removal_law};
+pub use laws::{flags_law, hiding_law, positions_law};
 pub use spaces::{SpaceFont, set_space_widths};
 pub use widths::{GlyphClasses, zero_mark_widths, zero_width_default_ignorables};

@@ -6,9 +6,8 @@ ghost use Rattle.shapers_buffer.specs.Clusters.{first_cluster, has_cluster, with
 ghost use Rattle.shapers_position.specs.ClusterFlags.{flags_kept, flags_of, flags_propagated, flags_shared, joins_settled, with_flags};
 
 use bitflags::Flags;
-use shapers_base::buffer::{BufferFlags, GlyphWalk, glyph_flag, hb_buffer_t, hb_glyph_info_t};
-
 use glyph_flag::{SAFE_TO_INSERT_TATWEEL, UNSAFE_TO_BREAK, UNSAFE_TO_CONCAT};
+use shapers_base::buffer::{BufferFlags, GlyphWalk, glyph_flag, hb_buffer_t, hb_glyph_info_t};
 
 /// Gives all glyphs of a cluster the flags that one of them has, so that a line breaker may read
 /// any. `UNSAFE_TO_CONCAT` is kept where the buffer wants it. Where it wants tatweels, a cluster that

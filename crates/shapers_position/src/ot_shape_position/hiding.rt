@@ -7,8 +7,8 @@ ghost use Rattle.shapers_position.specs.Ignorables.{covering, drawn_by, goes_on,
 
 use super::ignorables::{DefaultIgnorables, is_default_ignorable};
 use shapers_base::buffer::{
-    BufferClusterLevel, GlyphChange, GlyphPosition, GlyphWalk, PositionedWalk,
-    hb_buffer_t, hb_glyph_info_t, merge_clusters_in,
+    BufferClusterLevel, GlyphChange, GlyphPosition, GlyphWalk, PositionedWalk, hb_buffer_t,
+    hb_glyph_info_t, merge_clusters_in,
 };
 use shapers_base::font::{GlyphId, hb_font_t};
 

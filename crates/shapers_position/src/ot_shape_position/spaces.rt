@@ -23,8 +23,11 @@ pub trait SpaceFont: hb_font_t {
 
 // The kinds of spaces that are no part of an em, by HarfBuzz's numbers.
 const SPACE_4_EM_18: u8 = 17;
+
 const SPACE_FIGURE: u8 = 19;
+
 const SPACE_PUNCTUATION: u8 = 20;
+
 const SPACE_NARROW: u8 = 21;
 
 // What a figure space is as wide as, in the order in which it is looked for.

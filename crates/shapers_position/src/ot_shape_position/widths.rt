@@ -32,7 +32,7 @@ pub fn zero_mark_widths<C: GlyphClasses>(
 )
     ensures { let is_mark = C.marks classes.now in
         let zeroed =
-            marks_zeroed is_mark adjust_offsets buffer.old.glyphs buffer.old.positions in
+        marks_zeroed is_mark adjust_offsets buffer.old.glyphs buffer.old.positions in
         buffer.new ≡ record buffer.old { positions = zeroed } }
 {
     // (classes that panic leave the empty buffer, and no text with some of its marks changed)
@@ -91,7 +91,7 @@ fn zero_advance(position: &mut GlyphPosition)
 /// without positions keeps none. (HarfBuzz's `hb_ot_zero_width_default_ignorables`.)
 pub fn zero_width_default_ignorables(ignorables: DefaultIgnorables, buffer: &mut hb_buffer_t)
     ensures { let zeroed = ignorables_zeroed
-            ignorables buffer.old.direction buffer.old.glyphs buffer.old.positions in
+        ignorables buffer.old.direction buffer.old.glyphs buffer.old.positions in
         buffer.new ≡ record buffer.old { positions = zeroed } }
 {
     match ignorables {

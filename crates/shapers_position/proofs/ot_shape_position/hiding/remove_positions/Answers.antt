@@ -1,5 +1,5 @@
 -- The next position, of a glyph that stays or goes.
-use Rattle.std.proofs.Common.{◌≡◌, ◌≤◌, ◌+◌, ◌++◌, ◌∙◌, drop, false, get_or, length, refl, sym, take, true, ap, arith}
+use Rattle.std.proofs.Common.{◌≡◌, ◌+◌, ◌++◌, ◌∙◌, drop, false, get_or, length, refl, sym, take, true, ap, arith}
 use Rattle.shapers_buffer.specs.Glyph.{default_glyph}
 use Rattle.shapers_position.specs.Ignorables.{is_default_ignorable, positions_kept}
 use Rattle.shapers_position.proofs.PositionSteps.{moved_goes, moved_stays}
