@@ -1,0 +1,5 @@
+pub mod ClusterFlags
+pub mod Ignorables
+pub mod Laws
+pub mod Spaces
+pub mod Widths

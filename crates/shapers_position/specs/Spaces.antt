@@ -1,0 +1,53 @@
+-- The widths of spaces that the font lacks, for which another glyph is drawn (HarfBuzz's
+-- _hb_ot_shape_fallback_spaces). Normalization leaves the kind of each in its combining class.
+use Rattle.std.specs.Prelude.{ℕ, ◌+◌, ◌*◌, ◌/◌, ◌==◌, nat_le, ℤ, pos, int_div, Bool, not, ◌&&◌, ◌||◌, List, [], ◌∷◌, if◌then◌else◌}
+use Rattle.std.specs.Option.{option_map_or}
+use Rattle.shapers_base.specs.Font.{Font}
+use Rattle.shapers_buffer.specs.declared.buffer.glyph.GlyphPosition.{GlyphPosition}
+use Rattle.shapers_buffer.specs.declared.buffer.glyph.hb_glyph_info_t.{hb_glyph_info_t}
+use Rattle.shapers_buffer.specs.Marks.{is_ligated}
+use Rattle.shapers_normal.specs.Decomposition.{is_space_separator}
+
+-- the advance of the first of these characters that the font has, or else this one
+abbrev pub first_advance : Font → List ℕ → ℤ → ℤ
+first_advance font [] else_advance = else_advance
+first_advance font (c ∷ cs) else_advance =
+    option_map_or (λ glyph. font.advance glyph) (font.nominal c) (first_advance font cs else_advance)
+
+-- the digits, and the stops that a space of punctuation is as wide as
+abbrev pub digits : List ℕ
+digits =
+    0x30 ∷ 0x31 ∷ 0x32 ∷ 0x33 ∷ 0x34 ∷ 0x35 ∷ 0x36 ∷ 0x37 ∷ 0x38 ∷ 0x39 ∷ []
+
+abbrev pub stops : List ℕ
+stops = 0x2E ∷ 0x2C ∷ []
+
+-- kinds that are a part of an em: the number says which
+abbrev pub is_part_of_em : ℕ → Bool
+is_part_of_em kind = nat_le 1 kind && nat_le kind 6 || kind == 16
+
+-- that part, to the nearest unit
+abbrev pub part_of_em : ℕ → ℕ → ℤ
+part_of_em em kind = pos ((em + kind / 2) / kind)
+
+-- The width of a space of a kind, by HarfBuzz's numbers, in a font with so many units in its em,
+-- where its glyph has this advance: a part of an em, four eighteenths of one (17), a digit's (19),
+-- a stop's (20), half of its glyph's (21). The others are as wide as their glyph.
+abbrev pub space_width : Font → ℕ → ℕ → ℤ → ℤ
+space_width font em kind advance =
+    if is_part_of_em kind then part_of_em em kind
+    else if kind == 17 then pos (em * 4 / 18)
+    else if kind == 19 then first_advance font digits advance
+    else if kind == 20 then first_advance font stops advance
+    else if kind == 21 then int_div advance (pos 2) else advance
+
+-- a space that no lookup put in for several glyphs
+abbrev pub is_space_glyph : hb_glyph_info_t → Bool
+is_space_glyph g = is_space_separator g.general_category && not (is_ligated g.marks)
+
+abbrev pub space_placed : Font → ℕ → hb_glyph_info_t → GlyphPosition → GlyphPosition
+space_placed font em g p =
+    let placed : GlyphPosition = record p {
+      x_advance = space_width font em g.modified_combining_class p.x_advance;
+    } in
+    if is_space_glyph g then placed else p
