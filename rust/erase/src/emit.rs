@@ -1,5 +1,6 @@
 //! The text of an erased file.
 
+use crate::added::added;
 use crate::file::File;
 use crate::table::{all, get};
 use crate::token::is_part;
@@ -8,9 +9,11 @@ use crate::token::is_part;
 /// and at a name that the table doesn't know or that it gives to something else.
 pub fn emit(file: &File) -> Result<String, String> {
     let mut body = String::new();
+    let added = added(file);
     for (i, token) in file.tokens.iter().enumerate() {
         check(file, i)?;
-        body = body + &token.lead + &renamed(file, i)?.unwrap_or_else(|| token.text.clone());
+        let text = renamed(file, i)?.unwrap_or_else(|| token.text.clone());
+        body = body + &token.lead + added.get(&i).map_or("", String::as_str) + &text;
     }
     let is_inner = |line: &&str| line.starts_with("//!");
     let inner: String = body.trim().split_inclusive('\n').take_while(is_inner).collect();

@@ -145,6 +145,7 @@ extern crate alloc as rust_alloc;
 extern crate std;
 
 mod builder;
+mod copies;
 mod fonts;
 mod references;
 mod support;

@@ -40,7 +40,7 @@ pub use pauses::{pause_may_change, run_pause};
 /// | [`reorder_marks`](Self::reorder_marks) | yes | - | yes | - | - | - | - | - | - |
 /// | [`setup_masks`](Self::setup_masks) | yes | yes | - | yes | yes | yes | - | - | yes |
 /// | [`postprocess_glyphs`](Self::postprocess_glyphs) | yes | - | - | - | - | - | - | - | - |
-#[derive(Clone, Copy, Debug, PartialEq, Eq)]
+#[derive(Clone, Copy, Debug, PartialEq, Eq, Hash, PartialOrd, Ord)]
 pub enum Shaper {
     /// Arabic, Syriac and the scripts that join like them.
     Arabic,
@@ -63,7 +63,7 @@ pub enum Shaper {
 }
 
 /// A hook of a shaper, by its method.
-#[derive(Clone, Copy, Debug, PartialEq, Eq)]
+#[derive(Clone, Copy, Debug, PartialEq, Eq, Hash, PartialOrd, Ord)]
 pub enum Hook {
     /// `collect_features`.
     CollectFeatures,

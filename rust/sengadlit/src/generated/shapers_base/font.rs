@@ -8,7 +8,7 @@ use crate::generated::shapers_base::plan::{Category, JoiningType, Position};
 
 /// A glyph of a font, by its number, in two bytes.
 #[repr(transparent)]
-#[derive(Clone, Copy, Debug, PartialEq, Eq)]
+#[derive(Clone, Copy, Debug, PartialEq, Eq, Hash, PartialOrd, Ord)]
 pub struct GlyphId(pub u16);
 
 /// A font, as far as the shapers read it.

@@ -24,7 +24,7 @@ pub const F_MANUAL_JOINERS: u32 = F_MANUAL_ZWNJ | F_MANUAL_ZWJ;
 pub const F_PER_SYLLABLE: u32 = 64;
 
 /// One of the two tables of a font that features stand in.
-#[derive(Clone, Copy, Debug, PartialEq, Eq)]
+#[derive(Clone, Copy, Debug, PartialEq, Eq, Hash)]
 pub enum TableIndex {
     /// The table of substitutions.
     GSUB,
@@ -33,7 +33,7 @@ pub enum TableIndex {
 }
 
 /// A feature of the map.
-#[derive(Clone, Copy, Debug, PartialEq, Eq)]
+#[derive(Clone, Copy, Debug, PartialEq, Eq, Hash)]
 pub struct FeatureMap {
     /// The tag of the feature.
     pub tag: Tag,
@@ -44,14 +44,14 @@ pub struct FeatureMap {
 }
 
 /// The map that the font's GSUB table and the wanted features make.
-#[derive(Debug)]
+#[derive(Debug, PartialEq, Eq)]
 pub struct Map {
-    features: Vec<FeatureMap>,
-    stages: Vec<Range<usize>>,
-    lookups: Vec<u16>,
-    global_mask: u32,
-    chosen_script: Option<Tag>,
-    found_script: bool,
+    pub(crate) features: Vec<FeatureMap>,
+    pub(crate) stages: Vec<Range<usize>>,
+    pub(crate) lookups: Vec<u16>,
+    pub(crate) global_mask: u32,
+    pub(crate) chosen_script: Option<Tag>,
+    pub(crate) found_script: bool,
 }
 
 impl Map {

@@ -41,7 +41,7 @@ pub type Category = u8;
 pub type Position = u8;
 
 /// What a shaper does to a text of one script. A later version may add fields.
-#[derive(Debug)]
+#[derive(Debug, PartialEq, Eq)]
 #[non_exhaustive]
 pub struct Plan {
     /// The script of the text, where it is known.
@@ -91,7 +91,7 @@ impl Plan {
 }
 
 /// What a shaper keeps in the plan.
-#[derive(Debug, PartialEq, Eq)]
+#[derive(Debug, PartialEq, Eq, Hash, Clone)]
 pub enum PlanData {
     /// Nothing.
     None,
@@ -215,7 +215,7 @@ impl PlanData {
 }
 
 /// What `preprocess_text` left to its caller.
-#[derive(Clone, Copy, Debug, PartialEq, Eq)]
+#[derive(Clone, Copy, Debug, PartialEq, Eq, Hash)]
 pub enum Preprocess {
     /// Nothing: the text is rewritten.
     Done,

@@ -11,7 +11,7 @@ use crate::generated::shapers_normalize::context::ShaperContext;
 use crate::generated::shapers_normalize::tables::{NormalizeFont, NormalizeTables};
 
 /// The caller's settings.
-#[derive(Clone, Copy, Debug, PartialEq, Eq, Default)]
+#[derive(Clone, Copy, Debug, PartialEq, Eq, Default, Hash)]
 pub struct NormalizeSettings {
     /// When marks are ordered and composed.
     pub rounds: Rounds,

@@ -11,7 +11,7 @@ use crate::generated::shapers_base::font::{Font, Tables};
 use crate::generated::shapers_base::plan::{Pause, Plan, Preprocess};
 
 /// A condition that a hook or pause requires of its caller.
-#[derive(Clone, Copy, Debug, PartialEq, Eq)]
+#[derive(Clone, Copy, Debug, PartialEq, Eq, Hash, PartialOrd, Ord)]
 pub enum Condition {
     /// Before positioning there are no positions; for `postprocess_glyphs` there is one per glyph.
     Positions,
@@ -29,7 +29,7 @@ pub enum Condition {
 }
 
 /// Why a checked call did nothing. The buffer is unchanged.
-#[derive(Clone, Copy, Debug, PartialEq, Eq)]
+#[derive(Clone, Copy, Debug, PartialEq, Eq, Hash)]
 pub enum CallError {
     /// A condition isn't met: the first one, in the order of `Condition`.
     Condition(Condition),

@@ -9,7 +9,7 @@ use crate::generated::shapers_base::plan::pause::Pause;
 use crate::support::alloc::Global;
 
 /// A request of a shaper to the map.
-#[derive(Clone, Copy, Debug, PartialEq, Eq)]
+#[derive(Clone, Copy, Debug, PartialEq, Eq, Hash)]
 pub enum Request {
     /// A feature, with flags and a value; 0 turns it off.
     Feature(Tag, u32, u32),
@@ -26,10 +26,10 @@ impl Default for Request {
 }
 
 /// Collects what a shaper requests of the map for one script.
-#[derive(Debug)]
+#[derive(Debug, PartialEq, Eq)]
 pub struct Planner {
-    script: Option<Script>,
-    requests: Vec<Request>,
+    pub(crate) script: Option<Script>,
+    pub(crate) requests: Vec<Request>,
 }
 
 impl Planner {

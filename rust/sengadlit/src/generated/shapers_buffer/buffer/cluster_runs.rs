@@ -9,7 +9,7 @@ use super::{Buffer, BufferClusterLevel};
 
 /// Glyphs that merges have put into one cluster, which isn't written yet: where they start, the
 /// place behind them, and their cluster.
-#[derive(Clone, Copy, Debug)]
+#[derive(Clone, Copy, Debug, PartialEq, Eq)]
 pub struct ClusterRun {
     start: usize,
     end: usize,

@@ -154,7 +154,7 @@ impl Buffer {
         self.max_len = settings.max_len;
         mem::swap(&mut self.info, glyphs);
         mem::swap(&mut self.pos, positions);
-        self.set_settings(settings);
+        self.set_settings_within(settings);
         Ok(())
     }
 }

@@ -4,7 +4,7 @@ use crate::support::bitflags::{Flag, Flags, bitflag_items};
 
 /// What the caller wants of the shapers; the numbers are this crate's own.
 #[repr(transparent)]
-#[derive(Clone, Copy, Debug, PartialEq, Eq)]
+#[derive(Clone, Copy, Debug, PartialEq, Eq, Hash)]
 pub struct BufferFlags(pub u32);
 
 bitflag_items! {

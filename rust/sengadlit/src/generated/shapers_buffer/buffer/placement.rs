@@ -13,7 +13,7 @@ use super::refusal::ShaperError;
 use crate::support::alloc::Global;
 
 /// The old places of the glyphs of one syllable, in the forms that text has.
-#[derive(Clone, Copy, Debug, PartialEq, Eq)]
+#[derive(Clone, Copy, Debug, PartialEq, Eq, Hash)]
 pub enum Placement {
     /// Each glyph stays in its place.
     Stays,

@@ -3,7 +3,7 @@
 use crate::support::alloc::AllocError;
 
 /// Why a call refused. After a refusal what it was given is unchanged.
-#[derive(Clone, Copy, Debug, PartialEq, Eq)]
+#[derive(Clone, Copy, Debug, PartialEq, Eq, Hash)]
 pub enum ShaperError {
     /// A growth was refused.
     Memory,

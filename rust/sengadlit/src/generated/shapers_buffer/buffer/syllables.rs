@@ -8,7 +8,7 @@ use super::{Buffer, ShaperError};
 /// A syllable as the script's grammar found it: its number of glyphs, and its kind, at most 15. C's
 /// layout.
 #[repr(C)]
-#[derive(Clone, Copy, Debug, PartialEq, Eq)]
+#[derive(Clone, Copy, Debug, PartialEq, Eq, Hash)]
 pub struct Span {
     /// How many glyphs it covers.
     pub len: usize,

@@ -14,7 +14,7 @@ use crate::generated::shapers_base::plan::NormalizationMode;
 use core::mem;
 
 /// When marks are ordered and composed.
-#[derive(Clone, Copy, Debug, PartialEq, Eq, Default)]
+#[derive(Clone, Copy, Debug, PartialEq, Eq, Default, Hash)]
 pub enum Rounds {
     /// Where the text has a mark behind its first place, as the code of HarfBuzz has it: a letter
     /// that comes apart in a text without marks stays apart.

@@ -51,7 +51,7 @@ pub fn preprocess_text_vowel_constraints(buffer: &mut Buffer) -> Result<(), Shap
 }
 
 /// A script that has such vowels.
-#[derive(Clone, Copy, Debug, PartialEq, Eq)]
+#[derive(Clone, Copy, Debug, PartialEq, Eq, Hash)]
 pub(super) enum VowelScript {
     Devanagari,
     Bengali,

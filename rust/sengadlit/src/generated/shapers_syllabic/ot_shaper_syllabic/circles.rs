@@ -12,7 +12,7 @@ const DOTTED_CIRCLE: u32 = 0x25CC;
 
 /// The dotted circles of a shaper: in syllables of the broken kind, with a category and a position,
 /// behind the leading glyphs of the repha category where there is one.
-#[derive(Clone, Copy, Debug, PartialEq, Eq)]
+#[derive(Clone, Copy, Debug, PartialEq, Eq, Hash)]
 pub struct ScriptCircles {
     /// The kind of the syllables that get one.
     pub broken_kind: u8,
