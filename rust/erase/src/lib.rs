@@ -8,6 +8,7 @@
 
 mod added;
 mod contract;
+pub mod docs;
 mod emit;
 mod file;
 mod ghost;

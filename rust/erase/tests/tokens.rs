@@ -394,6 +394,22 @@ fn the_specifications_that_the_documentation_names_are_files() {
     assert!(count > 100, "{count} lines");
 }
 
+#[test]
+fn what_docs_txt_says_stands_before_its_function() {
+    let lines = |text: &str| -> String {
+        let line = |line: &str| format!("/// {line}").trim_end().to_string() + "\n";
+        text.lines().map(line).collect()
+    };
+    assert!(erase::docs::all().count() > 30);
+    for (name, text) in erase::docs::all() {
+        let folder = format!("generated/{}/", name.split("::").next().unwrap());
+        let function = format!("fn {}", name.rsplit("::").next().unwrap());
+        let has = |text_of: &String| text_of.contains(&lines(text)) && text_of.contains(&function);
+        let mut outputs = OUTPUTS.iter().filter(|(path, _)| path.contains(&folder));
+        assert!(outputs.any(|(_, output)| has(output)), "{name} of docs.txt is no function");
+    }
+}
+
 // Fails where a planted change of a file is explained.
 fn expect_found(case: &Case, planted: &[String]) {
     assert_ne!(runs(case, planted), Ok(listed(case)), "{}", case.path);

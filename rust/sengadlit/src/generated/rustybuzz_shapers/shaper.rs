@@ -383,6 +383,10 @@ impl Shaper {
     /// `TooLong` where the buffer would be longer than `max_len`, `Memory` where memory is
     /// refused; nothing has changed then.
     ///
+    /// # Panics
+    ///
+    /// May panic, or rewrite the text in an unspecified way, where the buffer has positions.
+    ///
     /// <details><summary>Contract</summary>
     ///
     /// # Contract
@@ -433,6 +437,11 @@ impl Shaper {
     ///
     /// `StretchOverflow` where a number or an offset doesn't fit 32 bits; `TooLong` and
     /// `Memory`. Nothing has changed then.
+    ///
+    /// # Panics
+    ///
+    /// May panic, or move glyphs in an unspecified way, where the buffer doesn't have one position per glyph. For Arabic it
+    /// panics where the plan has no data of Arabic, or a stretched word has a glyph number above 65535.
     ///
     /// <details><summary>Contract</summary>
     ///
@@ -556,6 +565,11 @@ impl Shaper {
     /// Myanmar categories alone, for the universal shaper these and, where letters join, Arabic's
     /// forms. It can't refuse and takes no memory.
     ///
+    /// # Panics
+    ///
+    /// For Arabic, Hangul and universal: where the plan has no data of the shaper. For Arabic, and for universal where
+    /// letters join: where a glyph is no character.
+    ///
     /// <details><summary>Contract</summary>
     ///
     /// # Contract
@@ -613,6 +627,11 @@ impl Shaper {
     /// Reorders the marks from `start` to `end`: for Hebrew, at the first three neighbours of its
     /// classes, the last two merge and change places; for Arabic, over at most 32 places, marks
     /// that modify a letter come to the front. It can't refuse and takes no memory.
+    ///
+    /// # Panics
+    ///
+    /// Where `start` is above `end`, or `end` above the length; for Arabic it may panic, too, where there are more than 32
+    /// places. (The shapers that lack the hook don't look at them.)
     ///
     /// <details><summary>Contract</summary>
     ///

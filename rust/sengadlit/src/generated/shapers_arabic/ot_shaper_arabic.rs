@@ -119,6 +119,10 @@ fn joining_requests(flags: u32) -> [Request; 14] {
 /// and the glyph flags of joining; a text that is cut acts as the whole where the halves see their
 /// neighbours. It can't refuse and takes no memory.
 ///
+/// # Panics
+///
+/// Where a glyph is no character.
+///
 /// <details><summary>Contract</summary>
 ///
 /// # Contract

@@ -113,6 +113,10 @@ pub fn preprocess_text<F: Font>(
 /// `TooLong` where the buffer would be longer than `max_len`, `Memory` where memory is refused;
 /// nothing has changed then.
 ///
+/// # Panics
+///
+/// Where the font does.
+///
 /// <details><summary>Contract</summary>
 ///
 /// # Contract

@@ -33,6 +33,10 @@ pub struct NormalizeSettings {
 /// `TooLong` where the text taken apart is longer than the buffer may be, and `Memory`; nothing
 /// has changed then. (HarfBuzz's normalizer; Unicode Standard Annex 15.)
 ///
+/// # Panics
+///
+/// Where the font or the tables do. May panic, or leave an unspecified text, where the buffer has positions.
+///
 /// <details><summary>Contract</summary>
 ///
 /// # Contract

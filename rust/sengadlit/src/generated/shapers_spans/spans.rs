@@ -12,6 +12,10 @@ use crate::support::alloc::Global;
 /// The syllables of the glyphs, by a machine. They cover the glyphs, and their kinds fit a syllable
 /// byte. The only refusal is `Memory`.
 ///
+/// # Errors
+///
+/// `Memory`.
+///
 /// <details><summary>Contract</summary>
 ///
 /// # Contract
@@ -48,6 +52,10 @@ fn push_lead(lead: usize, kind: u8, spans: &mut Vec<Span>) -> Result<(), ShaperE
 
 /// Fills the list with the syllables of the glyphs, by a machine. A list that has room for them
 /// takes no memory. The only refusal is `Memory`.
+///
+/// # Errors
+///
+/// `Memory`; the list then holds the syllables that it had room for.
 ///
 /// <details><summary>Contract</summary>
 ///

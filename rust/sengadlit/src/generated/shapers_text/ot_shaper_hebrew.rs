@@ -45,6 +45,10 @@ pub fn reorder_marks(_plan: &Plan, buffer: &mut Buffer, start: usize, end: usize
 /// `reorder_marks` of glyphs in a slice, whose clusters merge at this level. Returns whether marks
 /// changed places: where it returns false nothing changed.
 ///
+/// # Panics
+///
+/// Where `start` is above `end`, or `end` above the number of glyphs.
+///
 /// <details><summary>Contract</summary>
 ///
 /// # Contract

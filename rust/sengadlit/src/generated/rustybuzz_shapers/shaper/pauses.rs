@@ -29,6 +29,11 @@ use core::mem;
 /// `SpansDontCover` of a pause that sets syllables; `UnknownSyllable`, `TooLong` and `Memory`
 /// of one that reorders. Nothing has changed then.
 ///
+/// # Panics
+///
+/// Where the plan has no data of the shaper that the pause belongs to. May panic, or rewrite the text in an unspecified
+/// way, where the buffer has positions or the kind of a span is above 15.
+///
 /// <details><summary>Contract</summary>
 ///
 /// # Contract
@@ -93,6 +98,10 @@ pub fn run_pause<F: Font>(
 /// Whether the pause can change a buffer under this plan. False for the pauses that do nothing under
 /// it, whatever the buffer: fallback shaping, tiles where the font stretches no marks, and the
 /// record of `rphf` where the plan has no mask for it.
+///
+/// # Panics
+///
+/// Where the plan has no data of the shaper that the pause belongs to.
 ///
 /// <details><summary>Contract</summary>
 ///

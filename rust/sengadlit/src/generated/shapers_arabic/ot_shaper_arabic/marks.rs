@@ -63,6 +63,10 @@ impl GlyphWalk for MarkOrder {
 /// `reorder_marks` of glyphs in a slice, whose clusters merge at this level. Returns whether one of
 /// the marks modifies a letter: where it returns false nothing changed.
 ///
+/// # Panics
+///
+/// Where `start` is above `end`, or `end` above the number of glyphs.
+///
 /// <details><summary>Contract</summary>
 ///
 /// # Contract

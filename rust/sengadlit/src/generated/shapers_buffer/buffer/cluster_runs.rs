@@ -30,6 +30,10 @@ impl Buffer {
     /// cluster. Where they start in the run nothing is written and only what is new is read, else
     /// the run is written and another begins. Returns the run that is to be written then.
     ///
+    /// # Panics
+    ///
+    /// Where `s` is above `e`, or `e` above the length; and where the run passes the end of the buffer.
+    ///
     /// <details><summary>Contract</summary>
     ///
     /// # Contract
@@ -55,6 +59,10 @@ impl Buffer {
     }
 
     /// Puts the glyphs of a run into its cluster.
+    ///
+    /// # Panics
+    ///
+    /// Where the run passes the end of the buffer.
     ///
     /// <details><summary>Contract</summary>
     ///

@@ -53,6 +53,10 @@ impl Buffer {
 
     /// Lists that the glyph of place `place` is to come to `i`. Panics if `i` is beyond the buffer.
     ///
+    /// # Panics
+    ///
+    /// Where `i` is no place of the buffer.
+    ///
     /// <details><summary>Contract</summary>
     ///
     /// # Contract
@@ -90,6 +94,10 @@ impl Buffer {
 
     /// Gives each place from `start` to `end` the glyph of the place that the placement says for it;
     /// it says each of these places once. Positions stay. It takes no memory.
+    ///
+    /// # Panics
+    ///
+    /// Where `start` is above `end`, or `end` above the length; where a stretch or a listed place lies beyond the buffer.
     ///
     /// <details><summary>Contract</summary>
     ///

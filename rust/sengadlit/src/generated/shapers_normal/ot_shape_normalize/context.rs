@@ -162,6 +162,11 @@ pub trait NormalizeContext {
     /// Orders the marks from `start` to `end`, at most 32 that are sorted by class, as the shaper
     /// wants them. What stands behind them keeps its classes.
     ///
+    /// # Panics
+    ///
+    /// May panic where `start` isn't below `end`, `end` is above the number of glyphs, or there are more than 32 marks:
+    /// [`normalize`](crate::ot_shape_normalize::normalize) never makes such a call.
+    ///
     /// <details><summary>Contract</summary>
     ///
     /// # Contract

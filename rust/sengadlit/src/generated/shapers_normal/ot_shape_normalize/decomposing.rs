@@ -43,6 +43,14 @@ type Parts = ArrayVec<u32, MAX_PARTS>;
 /// stays; the font's glyph for a character and a selector stands for both. Refuses by the number of
 /// glyphs, and then nothing has changed. A text of which nothing comes apart takes no memory.
 ///
+/// # Errors
+///
+/// `TooLong` where the text taken apart is longer than the buffer may be, and `Memory`; nothing has changed then.
+///
+/// # Panics
+///
+/// Where the context does. May panic, or leave an unspecified text, where the buffer has positions.
+///
 /// <details><summary>Contract</summary>
 ///
 /// # Contract

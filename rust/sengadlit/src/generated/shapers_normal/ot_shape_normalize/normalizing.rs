@@ -29,6 +29,14 @@ pub enum Rounds {
 /// character's glyph. Refuses where the text taken apart is longer than the buffer may be, and then
 /// nothing has changed. (Unicode Standard Annex 15; HarfBuzz's order of rounds.)
 ///
+/// # Errors
+///
+/// `TooLong` where the text taken apart is longer than the buffer may be, and `Memory`; nothing has changed then.
+///
+/// # Panics
+///
+/// Where the context does. May panic, or leave an unspecified text, where the buffer has positions.
+///
 /// <details><summary>Contract</summary>
 ///
 /// # Contract

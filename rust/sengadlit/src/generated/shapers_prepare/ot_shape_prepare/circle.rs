@@ -26,6 +26,10 @@ const DOTTED_CIRCLE: u32 = 0x25CC;
 /// `TooLong` where the buffer would be longer than `max_len`, `Memory` where memory is refused;
 /// nothing has changed then.
 ///
+/// # Panics
+///
+/// Where the font does.
+///
 /// <details><summary>Contract</summary>
 ///
 /// # Contract

@@ -53,6 +53,10 @@ struct Places {
 /// `TooLong` where the buffer would be longer than `max_len`, `Memory` where memory is refused;
 /// nothing has changed then.
 ///
+/// # Panics
+///
+/// Where the font does. May panic, or leave an unspecified text, where the buffer has positions.
+///
 /// <details><summary>Contract</summary>
 ///
 /// # Contract

@@ -20,6 +20,10 @@ use crate::generated::shapers_syllabic::ot_shaper_syllabic::{set_up_by_bytes, se
 ///
 /// `SpansDontCover`; nothing has changed then.
 ///
+/// # Panics
+///
+/// Where the plan has no data of the universal shaper.
+///
 /// <details><summary>Contract</summary>
 ///
 /// # Contract
@@ -60,6 +64,10 @@ pub fn setup_syllables_use(
 
 /// Sets up a text whose glyphs have their syllable bytes already, with the flags, marks and masks
 /// of [`setup_syllables_use`]. It takes no memory and leaves the clusters as they are.
+///
+/// # Panics
+///
+/// Where the plan has no data of the universal shaper.
 ///
 /// <details><summary>Contract</summary>
 ///
