@@ -2,6 +2,7 @@
 
 use crate::added::added;
 use crate::file::File;
+use crate::links::{has_links, with_links};
 use crate::table::{all, get};
 use crate::token::is_part;
 
@@ -10,10 +11,12 @@ use crate::token::is_part;
 pub fn emit(file: &File) -> Result<String, String> {
     let mut body = String::new();
     let added = added(file);
+    let has_links = has_links(file.path.split('/').nth(1).unwrap_or(""));
     for (i, token) in file.tokens.iter().enumerate() {
         check(file, i)?;
         let text = renamed(file, i)?.unwrap_or_else(|| token.text.clone());
-        body = body + &token.lead + added.get(&i).map_or("", String::as_str) + &text;
+        let lead = if has_links { with_links(&token.lead) } else { token.lead.clone() };
+        body = body + &lead + added.get(&i).map_or("", String::as_str) + &text;
     }
     let is_inner = |line: &&str| line.starts_with("//!");
     let inner: String = body.trim().split_inclusive('\n').take_while(is_inner).collect();

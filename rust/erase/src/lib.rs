@@ -13,6 +13,7 @@ mod emit;
 mod file;
 mod ghost;
 mod laws;
+mod links;
 pub mod table;
 pub mod token;
 

@@ -147,7 +147,9 @@ extern crate std;
 mod builder;
 mod copies;
 mod fonts;
+mod numbers;
 mod references;
+mod substituting;
 mod support;
 mod text;
 mod values;
@@ -236,6 +238,7 @@ pub use buffer::{
 };
 pub use font::{Font, GlyphId, Tables};
 pub use map::{FeatureMap, Map};
+pub use numbers::UnknownNumber;
 pub use plan::{JoiningType, Pause, Plan, PlanData, Planner, Preprocess, Request};
 pub use shaper::{Shaper, run_pause};
 

@@ -27,7 +27,7 @@ use core::mem;
 pub use pauses::{pause_may_change, run_pause};
 
 /// A script shaper. Where it lacks a hook, a dash here, the method returns `None` and changes nothing;
-/// `has_hook` is this table. What runs between two stages of lookups is a [`Pause`].
+/// [`has_hook`] is this table. What runs between two stages of lookups is a [`Pause`].
 ///
 /// | hook | Arabic | Hangul | Hebrew | Indic | Khmer | Myanmar | Zawgyi | Thai | universal |
 /// |---|---|---|---|---|---|---|---|---|---|
@@ -40,6 +40,8 @@ pub use pauses::{pause_may_change, run_pause};
 /// | [`reorder_marks`](Self::reorder_marks) | yes | - | yes | - | - | - | - | - | - |
 /// | [`setup_masks`](Self::setup_masks) | yes | yes | - | yes | yes | yes | - | - | yes |
 /// | [`postprocess_glyphs`](Self::postprocess_glyphs) | yes | - | - | - | - | - | - | - | - |
+///
+/// [`has_hook`]: crate::Shaper::has_hook
 #[derive(Clone, Copy, Debug, PartialEq, Eq, Hash, PartialOrd, Ord)]
 pub enum Shaper {
     /// Arabic, Syriac and the scripts that join like them.
@@ -65,23 +67,37 @@ pub enum Shaper {
 /// A hook of a shaper, by its method.
 #[derive(Clone, Copy, Debug, PartialEq, Eq, Hash, PartialOrd, Ord)]
 pub enum Hook {
-    /// `collect_features`.
+    /// [`collect_features`].
+    ///
+    /// [`collect_features`]: crate::Shaper::collect_features
     CollectFeatures,
-    /// `override_features`.
+    /// [`override_features`].
+    ///
+    /// [`override_features`]: crate::Shaper::override_features
     OverrideFeatures,
-    /// `create_data`.
+    /// [`create_data`].
+    ///
+    /// [`create_data`]: crate::Shaper::create_data
     CreateData,
-    /// `preprocess_text`.
+    /// [`preprocess_text`].
+    ///
+    /// [`preprocess_text`]: crate::Shaper::preprocess_text
     PreprocessText,
-    /// `postprocess_glyphs`.
+    /// [`postprocess_glyphs`].
+    ///
+    /// [`postprocess_glyphs`]: crate::Shaper::postprocess_glyphs
     PostprocessGlyphs,
     /// `compose`.
     Compose,
     /// `decompose`.
     Decompose,
-    /// `setup_masks`.
+    /// [`setup_masks`].
+    ///
+    /// [`setup_masks`]: crate::Shaper::setup_masks
     SetupMasks,
-    /// `reorder_marks`.
+    /// [`reorder_marks`].
+    ///
+    /// [`reorder_marks`]: crate::Shaper::reorder_marks
     ReorderMarks,
 }
 
@@ -114,7 +130,7 @@ pub const UNIVERSAL_SHAPER: Shaper = Shaper::Universal;
 
 impl Shaper {
     /// For how many glyphs a text of so many needs room, whatever preprocessing or a pause of the shaper
-    /// makes of it: with this `max_len` neither refuses with `TooLong`. At most the greatest number.
+    /// makes of it: with this [`max_len`] neither refuses with [`TooLong`]. At most the greatest number.
     ///
     /// <details><summary>Contract</summary>
     ///
@@ -129,6 +145,9 @@ impl Shaper {
     /// - `PausesHaveRoom`, `PreprocessingHasRoom`, `growth`: `crates/rustybuzz_shapers/specs/Lengths.antt`
     ///
     /// </details>
+    ///
+    /// [`TooLong`]: crate::ShaperError::TooLong
+    /// [`max_len`]: crate::Buffer::max_len
     #[inline]
     pub const fn length_bound(self, len: usize) -> usize {
         len.saturating_mul(self.growth())
@@ -274,7 +293,7 @@ impl Shaper {
     ///
     /// # Errors
     ///
-    /// `Memory`; the planner is as it was then.
+    /// [`Memory`]; the planner is as it was then.
     ///
     /// <details><summary>Contract</summary>
     ///
@@ -296,6 +315,8 @@ impl Shaper {
     /// - `rclt`: `crates/shapers_arabic/specs/Requests.antt`
     ///
     /// </details>
+    ///
+    /// [`Memory`]: crate::ShaperError::Memory
     pub fn collect_features<F: Font>(
         self,
         face: &F,
@@ -317,7 +338,7 @@ impl Shaper {
     ///
     /// # Errors
     ///
-    /// `Memory`; the planner is as it was then.
+    /// [`Memory`]; the planner is as it was then.
     ///
     /// <details><summary>Contract</summary>
     ///
@@ -336,6 +357,8 @@ impl Shaper {
     /// - `has_hook`: `crates/rustybuzz_shapers/specs/Standing.antt`
     ///
     /// </details>
+    ///
+    /// [`Memory`]: crate::ShaperError::Memory
     pub fn override_features(self, planner: &mut Planner) -> Result<Option<()>, ShaperError> {
         match self {
             Self::Hangul => Ok(Some(ot_shaper_hangul::override_features(planner)?)),
@@ -380,7 +403,7 @@ impl Shaper {
     ///
     /// # Errors
     ///
-    /// `TooLong` where the buffer would be longer than `max_len`, `Memory` where memory is
+    /// [`TooLong`] where the buffer would be longer than [`max_len`], [`Memory`] where memory is
     /// refused; nothing has changed then.
     ///
     /// # Panics
@@ -407,6 +430,10 @@ impl Shaper {
     /// - `has_hook`: `crates/rustybuzz_shapers/specs/Standing.antt`
     ///
     /// </details>
+    ///
+    /// [`Memory`]: crate::ShaperError::Memory
+    /// [`TooLong`]: crate::ShaperError::TooLong
+    /// [`max_len`]: crate::Buffer::max_len
     #[inline]
     pub fn preprocess_text<F: Font>(
         self,
@@ -435,8 +462,8 @@ impl Shaper {
     ///
     /// # Errors
     ///
-    /// `StretchOverflow` where a number or an offset doesn't fit 32 bits; `TooLong` and
-    /// `Memory`. Nothing has changed then.
+    /// [`StretchOverflow`] where a number or an offset doesn't fit 32 bits; [`TooLong`] and
+    /// [`Memory`]. Nothing has changed then.
     ///
     /// # Panics
     ///
@@ -467,6 +494,10 @@ impl Shaper {
     /// - `glyphs_added`: `crates/rustybuzz_shapers/specs/Stretched.antt`
     ///
     /// </details>
+    ///
+    /// [`Memory`]: crate::ShaperError::Memory
+    /// [`StretchOverflow`]: crate::ShaperError::StretchOverflow
+    /// [`TooLong`]: crate::ShaperError::TooLong
     #[inline]
     pub fn postprocess_glyphs<F: Font>(
         self,

@@ -72,7 +72,7 @@ pub trait Font {
     /// </details>
     fn would_apply(&self, lookup: u16, glyphs: &[GlyphId], zero_context: bool) -> bool;
 
-    /// Whether one of these lookups would apply to exactly these glyphs. This calls `would_apply`
+    /// Whether one of these lookups would apply to exactly these glyphs. This calls [`would_apply`]
     /// for each up to the first that would; an impl overrides it where it knows that at once.
     ///
     /// <details><summary>Contract</summary>
@@ -86,6 +86,8 @@ pub trait Font {
     /// - `would_one`: `crates/shapers_base/specs/Map.antt`
     ///
     /// </details>
+    ///
+    /// [`would_apply`]: crate::Font::would_apply
     #[inline]
     fn would_apply_any(&self, lookups: &[u16], glyphs: &[GlyphId], zero_context: bool) -> bool {
         lookups

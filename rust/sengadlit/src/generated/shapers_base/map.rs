@@ -98,12 +98,12 @@ impl Map {
         })
     }
 
-    /// A map of copies of these, by the same rule as `new`. The only refusal is `Memory`, and none
+    /// A map of copies of these, by the same rule as `new`. The only refusal is [`Memory`], and none
     /// comes where they can't be a map's.
     ///
     /// # Errors
     ///
-    /// `Memory`.
+    /// [`Memory`].
     ///
     /// <details><summary>Contract</summary>
     ///
@@ -134,6 +134,8 @@ impl Map {
     /// - `Map`, `can_be_map`: `crates/shapers_base/specs/Map.antt`
     ///
     /// </details>
+    ///
+    /// [`Memory`]: crate::ShaperError::Memory
     pub fn from_slices(
         alloc: Global,
         features: &[FeatureMap],

@@ -34,10 +34,14 @@ pub use planner::{Planner, Request};
 pub use record::{NormalizationMode, ZeroWidthMarks};
 pub use universal::UniversalPlan;
 
-/// The category of a character among those of `ot_category_t` or of the universal shaper.
+/// The category of a character among those of [`ot_category_t`] or of the universal shaper.
+///
+/// [`ot_category_t`]: crate::plan::ot_category_t
 pub type Category = u8;
 
-/// The position of a glyph in its syllable, among those of `ot_position_t`.
+/// The position of a glyph in its syllable, among those of [`ot_position_t`].
+///
+/// [`ot_position_t`]: crate::plan::ot_position_t
 pub type Position = u8;
 
 /// What a shaper does to a text of one script. A later version may add fields.
@@ -214,7 +218,9 @@ impl PlanData {
     }
 }
 
-/// What `preprocess_text` left to its caller.
+/// What [`preprocess_text`] left to its caller.
+///
+/// [`preprocess_text`]: crate::Shaper::preprocess_text
 #[derive(Clone, Copy, Debug, PartialEq, Eq, Hash)]
 pub enum Preprocess {
     /// Nothing: the text is rewritten.

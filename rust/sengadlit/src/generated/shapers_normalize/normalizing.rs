@@ -25,12 +25,12 @@ pub struct NormalizeSettings {
 
 /// Normalizes a text without positions, whose glyphs are characters with their properties, for a
 /// shaper with its plan, a font and Unicode's tables: by the shaper's own `decompose`, `compose`
-/// and `reorder_marks`, and where it lacks one by the tables. `var` is then the number of each
+/// and [`reorder_marks`], and where it lacks one by the tables. `var` is then the number of each
 /// character's glyph. None stands for the shaper of a script that needs none.
 ///
 /// # Errors
 ///
-/// `TooLong` where the text taken apart is longer than the buffer may be, and `Memory`; nothing
+/// [`TooLong`] where the text taken apart is longer than the buffer may be, and [`Memory`]; nothing
 /// has changed then. (HarfBuzz's normalizer; Unicode Standard Annex 15.)
 ///
 /// # Panics
@@ -63,6 +63,10 @@ pub struct NormalizeSettings {
 /// - `shaper_context`: `crates/shapers_normalize/specs/ByShaper.antt`
 ///
 /// </details>
+///
+/// [`Memory`]: crate::ShaperError::Memory
+/// [`TooLong`]: crate::ShaperError::TooLong
+/// [`reorder_marks`]: crate::Shaper::reorder_marks
 pub fn ot_shape_normalize<F: NormalizeFont, T: NormalizeTables>(
     shaper: Option<Shaper>,
     plan: &Plan,

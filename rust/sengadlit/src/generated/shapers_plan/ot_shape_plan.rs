@@ -54,7 +54,7 @@ impl ShapePlan {
     ///
     /// # Errors
     ///
-    /// `Memory`.
+    /// [`Memory`].
     ///
     /// <details><summary>Contract</summary>
     ///
@@ -71,6 +71,8 @@ impl ShapePlan {
     /// - `text_plan`: `crates/shapers_plan/specs/Planning.antt`
     ///
     /// </details>
+    ///
+    /// [`Memory`]: crate::ShaperError::Memory
     pub fn new<F: Font, L: FontFeatures>(
         alloc: Global,
         script: Option<Script>,

@@ -19,14 +19,14 @@ use core::mem;
 
 /// Does what a shaper does between two stages of substitution, and returns whether dotted circles
 /// were wanted. Spans are read by the pauses that set syllables alone: those refuse with
-/// `SpansDontCover` where a span is empty or they don't add up. Reorderings refuse unknown kinds of
+/// [`SpansDontCover`] where a span is empty or they don't add up. Reorderings refuse unknown kinds of
 /// syllables, but for the universal shaper's, and then as circles do. A refused pause leaves the
 /// buffer as it was. A reordering leaves the placement list empty, so that each place reads 0; the
 /// other pauses leave it as it was.
 ///
 /// # Errors
 ///
-/// `SpansDontCover` of a pause that sets syllables; `UnknownSyllable`, `TooLong` and `Memory`
+/// [`SpansDontCover`] of a pause that sets syllables; [`UnknownSyllable`], [`TooLong`] and [`Memory`]
 /// of one that reorders. Nothing has changed then.
 ///
 /// # Panics
@@ -55,6 +55,11 @@ use core::mem;
 /// - `PauseFits`, `PauseKeeps`, `Paused`, `RefusesPause`, `pause_circles`: `crates/rustybuzz_shapers/specs/Pauses.antt`
 ///
 /// </details>
+///
+/// [`Memory`]: crate::ShaperError::Memory
+/// [`SpansDontCover`]: crate::ShaperError::SpansDontCover
+/// [`TooLong`]: crate::ShaperError::TooLong
+/// [`UnknownSyllable`]: crate::ShaperError::UnknownSyllable
 pub fn run_pause<F: Font>(
     pause: Pause,
     plan: &Plan,

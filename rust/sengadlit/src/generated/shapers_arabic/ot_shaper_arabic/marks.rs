@@ -60,7 +60,7 @@ impl GlyphWalk for MarkOrder {
     }
 }
 
-/// `reorder_marks` of glyphs in a slice, whose clusters merge at this level. Returns whether one of
+/// [`reorder_marks`] of glyphs in a slice, whose clusters merge at this level. Returns whether one of
 /// the marks modifies a letter: where it returns false nothing changed.
 ///
 /// # Panics
@@ -86,6 +86,8 @@ impl GlyphWalk for MarkOrder {
 /// - `stretch_of`: `crates/shapers_buffer/specs/Clusters.antt`
 ///
 /// </details>
+///
+/// [`reorder_marks`]: crate::Shaper::reorder_marks
 pub fn reorder_marks_in(
     level: BufferClusterLevel,
     glyphs: &mut [GlyphInfo],

@@ -175,6 +175,8 @@ pub struct IndicPlan {
     pub pstf: IndicWouldSubstituteFeature,
     /// The question whether it joins a consonant with a Ra below it, by `vatu`.
     pub vatu: IndicWouldSubstituteFeature,
-    /// The masks of the shaper's features, by `indic_feature`; 0 for those of the whole text.
+    /// The masks of the shaper's features, by [`indic_feature`]; 0 for those of the whole text.
+    ///
+    /// [`indic_feature`]: crate::ot_shaper_indic::indic_feature
     pub mask_array: [u32; 17],
 }

@@ -82,7 +82,7 @@ impl Buffer {
     }
 }
 
-/// Merges over glyphs in a slice, as `Buffer::merge_run`.
+/// Merges over glyphs in a slice, as [`Buffer::merge_run`].
 ///
 /// <details><summary>Contract</summary>
 ///
@@ -100,6 +100,8 @@ impl Buffer {
 /// - `merge`, `merged`: `crates/shapers_buffer/specs/Clusters.antt`
 ///
 /// </details>
+///
+/// [`Buffer::merge_run`]: crate::Buffer::merge_run
 #[inline]
 pub fn merge_run_in(
     level: BufferClusterLevel,

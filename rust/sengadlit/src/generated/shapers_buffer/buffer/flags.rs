@@ -11,10 +11,14 @@ bitflag_items! {
     impl BufferFlags: u32 {
         /// Broken syllables get no dotted circle.
         const DO_NOT_INSERT_DOTTED_CIRCLE = 0x20;
-        /// The glyph flag `UNSAFE_TO_CONCAT` is wanted.
-        const PRODUCE_UNSAFE_TO_CONCAT = 0x40;
-        /// The glyph flag `SAFE_TO_INSERT_TATWEEL` is wanted.
-        const PRODUCE_SAFE_TO_INSERT_TATWEEL = 0x80;
+        /// The glyph flag [`UNSAFE_TO_CONCAT`] is wanted.
+        ///
+/// [`UNSAFE_TO_CONCAT`]: crate::buffer::glyph_flag::UNSAFE_TO_CONCAT
+const PRODUCE_UNSAFE_TO_CONCAT = 0x40;
+        /// The glyph flag [`SAFE_TO_INSERT_TATWEEL`] is wanted.
+        ///
+/// [`SAFE_TO_INSERT_TATWEEL`]: crate::buffer::glyph_flag::SAFE_TO_INSERT_TATWEEL
+const PRODUCE_SAFE_TO_INSERT_TATWEEL = 0x80;
     }
 }
 

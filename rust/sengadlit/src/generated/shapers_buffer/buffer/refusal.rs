@@ -7,7 +7,9 @@ use crate::support::alloc::AllocError;
 pub enum ShaperError {
     /// A growth was refused.
     Memory,
-    /// The result would be longer than `max_len`.
+    /// The result would be longer than [`max_len`].
+    ///
+    /// [`max_len`]: crate::Buffer::max_len
     TooLong,
     /// A syllable is of unknown kind: the first place of the first one.
     UnknownSyllable(usize),

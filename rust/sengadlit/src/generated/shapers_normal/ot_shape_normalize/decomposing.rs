@@ -45,7 +45,7 @@ type Parts = ArrayVec<u32, MAX_PARTS>;
 ///
 /// # Errors
 ///
-/// `TooLong` where the text taken apart is longer than the buffer may be, and `Memory`; nothing has changed then.
+/// [`TooLong`] where the text taken apart is longer than the buffer may be, and [`Memory`]; nothing has changed then.
 ///
 /// # Panics
 ///
@@ -70,6 +70,9 @@ type Parts = ArrayVec<u32, MAX_PARTS>;
 /// - `first_round`, `is_whole`, `stays_together`: `crates/shapers_normal/specs/Decomposition.antt`
 ///
 /// </details>
+///
+/// [`Memory`]: crate::ShaperError::Memory
+/// [`TooLong`]: crate::ShaperError::TooLong
 pub fn decompose<C: NormalizeContext>(context: &C, buffer: &mut Buffer) -> Result<(), ShaperError> {
     if is_whole(context, buffer.glyphs()) {
         change_all(buffer, &Numbering { context });

@@ -31,7 +31,7 @@ pub enum Rounds {
 ///
 /// # Errors
 ///
-/// `TooLong` where the text taken apart is longer than the buffer may be, and `Memory`; nothing has changed then.
+/// [`TooLong`] where the text taken apart is longer than the buffer may be, and [`Memory`]; nothing has changed then.
 ///
 /// # Panics
 ///
@@ -56,6 +56,9 @@ pub enum Rounds {
 /// - `normalized`: `crates/shapers_normal/specs/Normalization.antt`
 ///
 /// </details>
+///
+/// [`Memory`]: crate::ShaperError::Memory
+/// [`TooLong`]: crate::ShaperError::TooLong
 pub fn normalize<C: NormalizeContext>(
     context: &C,
     rounds: Rounds,

@@ -130,7 +130,9 @@ fn is_of_stage(feature: &MappedFeature, stage: Option<usize>) -> bool {
 ///
 /// # Errors
 ///
-/// `Memory`.
+/// [`Memory`].
+///
+/// [`Memory`]: crate::ShaperError::Memory
 pub(super) fn stage_lookups<L: FontFeatures>(
     alloc: Global,
     font: &L,
@@ -194,7 +196,9 @@ impl Stages {
 ///
 /// # Errors
 ///
-/// `Memory`.
+/// [`Memory`].
+///
+/// [`Memory`]: crate::ShaperError::Memory
 pub(super) fn collect_stages<L: FontFeatures>(
     alloc: Global,
     font: &L,

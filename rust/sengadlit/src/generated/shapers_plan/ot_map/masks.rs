@@ -111,7 +111,9 @@ fn is_served<L: FontFeatures>(font: &L, info: &FeatureInfo) -> bool {
 ///
 /// # Errors
 ///
-/// `Memory`.
+/// [`Memory`].
+///
+/// [`Memory`]: crate::ShaperError::Memory
 pub(super) fn mapped<L: FontFeatures>(
     alloc: Global,
     font: &L,

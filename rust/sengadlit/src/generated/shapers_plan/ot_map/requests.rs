@@ -74,7 +74,9 @@ impl Numbered for FeatureInfo {
 ///
 /// # Errors
 ///
-/// `Memory`.
+/// [`Memory`].
+///
+/// [`Memory`]: crate::ShaperError::Memory
 pub(super) fn joined_by_tag(
     alloc: Global,
     requests: &[Request],

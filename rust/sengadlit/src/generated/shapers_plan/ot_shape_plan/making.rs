@@ -39,7 +39,9 @@ pub(super) fn hooks_plan(shaper: Option<Shaper>, script: Option<Script>, map: Ma
 ///
 /// # Errors
 ///
-/// `Memory`.
+/// [`Memory`].
+///
+/// [`Memory`]: crate::ShaperError::Memory
 pub(super) fn user_ranges(
     alloc: Global,
     features: &[MappedFeature],

@@ -23,7 +23,7 @@ const DOTTED_CIRCLE: u32 = 0x25CC;
 ///
 /// # Errors
 ///
-/// `TooLong` where the buffer would be longer than `max_len`, `Memory` where memory is refused;
+/// [`TooLong`] where the buffer would be longer than [`max_len`], [`Memory`] where memory is refused;
 /// nothing has changed then.
 ///
 /// # Panics
@@ -47,6 +47,10 @@ const DOTTED_CIRCLE: u32 = 0x25CC;
 /// - `vowels_parted`: `crates/shapers_prepare/specs/Vowels.antt`
 ///
 /// </details>
+///
+/// [`Memory`]: crate::ShaperError::Memory
+/// [`TooLong`]: crate::ShaperError::TooLong
+/// [`max_len`]: crate::Buffer::max_len
 pub fn preprocess_text_vowel_constraints(buffer: &mut Buffer) -> Result<(), ShaperError> {
     match vowel_script_of(buffer) {
         None => Ok(()),

@@ -45,12 +45,12 @@ struct Places {
 /// Gives each broken syllable a dotted circle, behind its leading glyphs of the repha category
 /// where one is given, else in front. Returns false, with nothing changed, where no syllable is
 /// broken, the caller forbids circles or the font has none. Without its circles the text is what it
-/// was. Refuses with `TooLong` where the text
-/// would be longer than `max_len`, and with `Memory`; where no circle opens it takes none.
+/// was. Refuses with [`TooLong`] where the text
+/// would be longer than [`max_len`], and with [`Memory`]; where no circle opens it takes none.
 ///
 /// # Errors
 ///
-/// `TooLong` where the buffer would be longer than `max_len`, `Memory` where memory is refused;
+/// [`TooLong`] where the buffer would be longer than [`max_len`], [`Memory`] where memory is refused;
 /// nothing has changed then.
 ///
 /// # Panics
@@ -93,6 +93,10 @@ struct Places {
 /// - `circled`, `circles_for`: `crates/shapers_syllabic/specs/Circles.antt`
 ///
 /// </details>
+///
+/// [`Memory`]: crate::ShaperError::Memory
+/// [`TooLong`]: crate::ShaperError::TooLong
+/// [`max_len`]: crate::Buffer::max_len
 pub fn insert_dotted_circles<F: Font>(
     face: &F,
     buffer: &mut Buffer,
@@ -112,8 +116,8 @@ pub fn insert_dotted_circles<F: Font>(
 
 impl ScriptCircles {
     /// Gives each broken syllable its dotted circle. Returns false, with nothing changed, where no
-    /// syllable is broken, the caller forbids circles or the font has none. Refuses with `TooLong`
-    /// where the text would be longer than `max_len`, and with `Memory`, but not where no circle
+    /// syllable is broken, the caller forbids circles or the font has none. Refuses with [`TooLong`]
+    /// where the text would be longer than [`max_len`], and with [`Memory`], but not where no circle
     /// opens; a refusal changes nothing.
     ///
     /// <details><summary>Contract</summary>
@@ -143,6 +147,10 @@ impl ScriptCircles {
     /// - `script_circles`: `crates/shapers_syllabic/specs/Reordering.antt`
     ///
     /// </details>
+    ///
+    /// [`Memory`]: crate::ShaperError::Memory
+    /// [`TooLong`]: crate::ShaperError::TooLong
+    /// [`max_len`]: crate::Buffer::max_len
     pub fn insert<F: Font>(&self, face: &F, buffer: &mut Buffer) -> Result<bool, ShaperError> {
         match self.circles_for(face, buffer) {
             None => Ok(false),

@@ -26,12 +26,12 @@ pub trait MayChange {
 /// contracts `takes` is what is required of these numbers, `may_refuse` whether there may be no
 /// memory, and `relation` the buffer before and after, clusters and glyph flags among it.
 pub trait Reorder: MayChange {
-    /// Reorders the syllable from `start` to `end`. Only an order that may refuse returns `Memory`,
+    /// Reorders the syllable from `start` to `end`. Only an order that may refuse returns [`Memory`],
     /// and then nothing is said of the buffer.
     ///
     /// # Errors
     ///
-    /// `Memory`, where the order takes memory; nothing is said of the buffer then.
+    /// [`Memory`], where the order takes memory; nothing is said of the buffer then.
     ///
     /// # Panics
     ///
@@ -55,6 +55,8 @@ pub trait Reorder: MayChange {
     /// - `RefusesIf`, `glyph_numbers`: `crates/shapers_syllabic/specs/Reordering.antt`
     ///
     /// </details>
+    ///
+    /// [`Memory`]: crate::ShaperError::Memory
     fn reorder(&self, buffer: &mut Buffer, start: usize, end: usize) -> Result<(), ShaperError>;
 }
 
