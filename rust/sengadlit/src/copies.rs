@@ -131,7 +131,7 @@ mod tests {
         let plan = Plan::builder()
             .script(Script(*b"Khmr"))
             .features(&features)
-            .stages(&[0..2])
+            .stages(&[0..1, 1..2])
             .lookups(&[14, 15])
             .global_mask(0x100)
             .build_for(Shaper::Khmer)

@@ -50,15 +50,16 @@ impl Buffer {
             } else {
                 glyphs[range.start..].rotate_left(range.len() - numbers.len());
             }
-            for (place, (glyph, number)) in
-                glyphs[range.start..].iter_mut().zip(numbers).enumerate()
+            let places = (0_u8..16).cycle();
+            for ((glyph, number), place) in
+                glyphs[range.start..].iter_mut().zip(numbers).zip(places)
             {
                 *glyph = first;
                 glyph.glyph_id = *number;
                 glyph.marks.insert(GlyphMarks::SUBSTITUTED);
                 if is_multiplied {
                     glyph.marks.insert(GlyphMarks::MULTIPLIED);
-                    glyph.lig_comp = (place & 15) as u8;
+                    glyph.lig_comp = place;
                 }
             }
         });
