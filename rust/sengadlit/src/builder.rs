@@ -67,7 +67,7 @@ impl Plan {
     /// let plan = Plan::from_requests(Shaper::Khmer, script::KHMER, planner.requests(), &Khmer)?;
     ///
     /// let mask = plan.plan_data.khmer().map(|kept| kept.mask_array[0]);
-    /// assert_eq!(mask, Some(plan.ot_map.get_1_mask(Tag(*b"pref"))));
+    /// assert_eq!(mask, Some(plan.ot_map.one_mask(Tag(*b"pref"))));
     /// assert_ne!(mask, Some(0));
     /// # Ok::<(), sengadlit::ShaperError>(())
     /// ```
@@ -83,7 +83,7 @@ impl Plan {
     ) -> Result<Self, ShaperError> {
         let compiled = CompiledMap::new(Global, features, requests)?;
         let mut plan = Plan::new(script.into(), compiled.map);
-        plan.has_gpos_mark = plan.ot_map.get_1_mask(Tag(*b"mark")) != 0;
+        plan.has_gpos_mark = plan.ot_map.one_mask(Tag(*b"mark")) != 0;
         Ok(match shaper.into() {
             Some(shaper) => shaper.with_data(plan),
             None => plan,
@@ -103,7 +103,7 @@ impl Plan {
 ///     .stages(&[0..2])
 ///     .lookups(&[14, 15])
 ///     .build_for(Shaper::Khmer)?;
-/// assert_eq!(plan.ot_map.get_1_mask(Tag(*b"pref")), 0x10);
+/// assert_eq!(plan.ot_map.one_mask(Tag(*b"pref")), 0x10);
 /// # Ok::<(), sengadlit::plan::PlanError>(())
 /// ```
 #[must_use = "a builder makes nothing until it is built"]
@@ -347,11 +347,11 @@ mod tests {
         assert_eq!(plan.break_flags, BreakFlags::Sound);
         assert_eq!(plan.base_search, BaseSearch::AllConsonants);
         assert_eq!(plan.plan_data, PlanData::None);
-        assert_eq!(plan.ot_map.get_1_mask(PREF.tag), 0x10);
-        assert_eq!(plan.ot_map.get_feature_stage(table, PREF.tag), Some(1));
+        assert_eq!(plan.ot_map.one_mask(PREF.tag), 0x10);
+        assert_eq!(plan.ot_map.stage_of(table, PREF.tag), Some(1));
         assert_eq!(plan.ot_map.stage_lookup_range(table, 1), 0..2);
         assert_eq!(plan.ot_map.lookups(&(0..2)), [14, 15]);
-        assert_eq!(plan.ot_map.get_global_mask(), 0x100);
+        assert_eq!(plan.ot_map.global_bits(), 0x100);
         assert_eq!(plan.ot_map.chosen_script(table), Some(Tag(*b"khmr")));
         assert!(plan.ot_map.found_script(table));
     }
@@ -392,13 +392,13 @@ mod tests {
         let requests = [feature(b"pref", F_NONE), pause, feature(b"abvs", F_GLOBAL)];
         let plan = Plan::from_requests(Shaper::Khmer, Script(*b"Khmr"), &requests, &Khmer).unwrap();
         let (map, gsub) = (&plan.ot_map, TableIndex::GSUB);
-        assert_eq!(map.get_global_mask(), 1 << 31);
-        assert_eq!(map.get_1_mask(Tag(*b"abvs")), 1 << 31);
-        let pref = map.get_1_mask(Tag(*b"pref"));
+        assert_eq!(map.global_bits(), 1 << 31);
+        assert_eq!(map.one_mask(Tag(*b"abvs")), 1 << 31);
+        let pref = map.one_mask(Tag(*b"pref"));
         assert!(pref.is_power_of_two() && pref > 4 && pref != 1 << 31);
         assert_eq!(plan.plan_data.khmer().unwrap().mask_array[0], pref);
         for (stage, tag) in [(0, b"pref"), (1, b"abvs")] {
-            assert_eq!(map.get_feature_stage(gsub, Tag(*tag)), Some(stage));
+            assert_eq!(map.stage_of(gsub, Tag(*tag)), Some(stage));
             assert_eq!(map.lookups(&map.stage_lookup_range(gsub, stage)), [3, 9]);
         }
         assert!(!plan.has_gpos_mark);
@@ -419,8 +419,8 @@ mod tests {
         let map = &plan.ot_map;
         for tag in [b"pref", b"blwf", b"abvf", b"pstf", b"cfar"] {
             assert_eq!(
-                map.get_1_mask(Tag(*tag)) == 0,
-                whole.plan().ot_map.get_1_mask(Tag(*tag)) == 0
+                map.one_mask(Tag(*tag)) == 0,
+                whole.plan().ot_map.one_mask(Tag(*tag)) == 0
             );
         }
     }
@@ -432,7 +432,7 @@ mod tests {
         assert_eq!(plan.stretch_start, StretchStart::AsCode);
         assert_eq!(plan.break_flags, BreakFlags::AsCode);
         assert_eq!(plan.base_search, BaseSearch::WithoutMedials);
-        assert_eq!(plan.ot_map.get_global_mask(), 0);
+        assert_eq!(plan.ot_map.global_bits(), 0);
     }
 
     #[test]

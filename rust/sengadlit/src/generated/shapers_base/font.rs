@@ -24,7 +24,7 @@ pub trait Font {
     /// ```
     ///
     /// </details>
-    fn get_nominal_glyph(&self, c: u32) -> Option<GlyphId>;
+    fn nominal_glyph(&self, c: u32) -> Option<GlyphId>;
 
     /// Whether the font has a nominal glyph for a character. An impl overrides this where it knows
     /// without making the glyph.
@@ -42,7 +42,7 @@ pub trait Font {
     /// </details>
     #[inline]
     fn has_glyph(&self, c: u32) -> bool {
-        self.get_nominal_glyph(c).is_some()
+        self.nominal_glyph(c).is_some()
     }
 
     /// How far a glyph moves the pen, in font units.

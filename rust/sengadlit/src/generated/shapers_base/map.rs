@@ -173,7 +173,7 @@ impl Map {
     ///
     /// </details>
     #[inline]
-    pub fn get_1_mask(&self, tag: Tag) -> u32 {
+    pub fn one_mask(&self, tag: Tag) -> u32 {
         match first_feature(self.features.as_slice(), tag) {
             Some(feature) => feature.mask,
             None => 0,
@@ -194,7 +194,7 @@ impl Map {
     ///
     /// </details>
     #[inline]
-    pub fn get_feature_stage(&self, table_index: TableIndex, tag: Tag) -> Option<usize> {
+    pub fn stage_of(&self, table_index: TableIndex, tag: Tag) -> Option<usize> {
         match table_index {
             TableIndex::GSUB => Some(first_feature(self.features.as_slice(), tag)?.stage),
             TableIndex::GPOS => None,
@@ -320,7 +320,7 @@ impl Map {
     ///
     /// </details>
     #[inline]
-    pub fn get_global_mask(&self) -> u32 {
+    pub fn global_bits(&self) -> u32 {
         self.global_mask
     }
 }

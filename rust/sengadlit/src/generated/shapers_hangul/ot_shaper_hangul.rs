@@ -178,9 +178,9 @@ pub fn create_data(plan: &Plan) -> PlanData {
     PlanData::Hangul(HangulPlan {
         mask_array: [
             0,
-            plan.ot_map.get_1_mask(Tag(*b"ljmo")),
-            plan.ot_map.get_1_mask(Tag(*b"vjmo")),
-            plan.ot_map.get_1_mask(Tag(*b"tjmo")),
+            plan.ot_map.one_mask(Tag(*b"ljmo")),
+            plan.ot_map.one_mask(Tag(*b"vjmo")),
+            plan.ot_map.one_mask(Tag(*b"tjmo")),
         ],
     })
 }

@@ -106,11 +106,11 @@ pub fn create_data(plan: &Plan) -> PlanData {
     let map = &plan.ot_map;
     PlanData::Khmer(KhmerPlan {
         mask_array: [
-            map.get_1_mask(Tag(*b"pref")),
-            map.get_1_mask(Tag(*b"blwf")),
-            map.get_1_mask(Tag(*b"abvf")),
-            map.get_1_mask(Tag(*b"pstf")),
-            map.get_1_mask(Tag(*b"cfar")),
+            map.one_mask(Tag(*b"pref")),
+            map.one_mask(Tag(*b"blwf")),
+            map.one_mask(Tag(*b"abvf")),
+            map.one_mask(Tag(*b"pstf")),
+            map.one_mask(Tag(*b"cfar")),
             0,
             0,
             0,

@@ -118,7 +118,7 @@ fn rotation_to(masks: &DriverMasks, direction: Direction) -> CharRotation {
 // Sets the features of the whole text and the properties of its characters.
 #[inline]
 fn begin_text<T: UnicodeProperties>(plan: &TextPlan, tables: &T, buffer: &mut Buffer) {
-    initialize_masks(plan.plan.ot_map.get_global_mask(), buffer);
+    initialize_masks(plan.plan.ot_map.global_bits(), buffer);
     set_unicode_properties(tables, buffer);
 }
 

@@ -11,6 +11,7 @@ use crate::generated::shapers_base::font::{Font, Tables};
 use crate::generated::shapers_base::plan::{Pause, Plan, Preprocess};
 
 /// A condition that a hook or pause requires of its caller.
+#[non_exhaustive]
 #[derive(Clone, Copy, Debug, PartialEq, Eq, Hash, PartialOrd, Ord)]
 pub enum Condition {
     /// Before positioning there are no positions; for [`postprocess_glyphs`] there is one per glyph.

@@ -93,7 +93,7 @@ impl IndicWouldSubstituteFeature {
     /// </details>
     #[inline]
     pub fn new(map: &Map, feature_tag: Tag, zero_context: bool) -> Self {
-        let lookups = match map.get_feature_stage(TableIndex::GSUB, feature_tag) {
+        let lookups = match map.stage_of(TableIndex::GSUB, feature_tag) {
             Some(stage) => map.stage_lookup_range(TableIndex::GSUB, stage),
             None => 0..0,
         };

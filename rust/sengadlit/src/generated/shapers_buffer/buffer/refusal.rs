@@ -3,6 +3,7 @@
 use crate::support::alloc::AllocError;
 
 /// Why a call refused. After a refusal what it was given is unchanged.
+#[non_exhaustive]
 #[derive(Clone, Copy, Debug, PartialEq, Eq, Hash)]
 pub enum ShaperError {
     /// A growth was refused.

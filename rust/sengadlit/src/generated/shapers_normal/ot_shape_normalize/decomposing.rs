@@ -433,7 +433,7 @@ fn then_come_off(image: Parts, off: u32) -> Parts {
 // The number of a character's glyph, 0 where the font has none.
 #[inline]
 fn number_of<C: NormalizeContext>(context: &C, c: u32) -> u16 {
-    match context.get_nominal_glyph(c) {
+    match context.nominal_glyph(c) {
         Some(glyph) => glyph.0,
         None => 0,
     }
@@ -442,7 +442,7 @@ fn number_of<C: NormalizeContext>(context: &C, c: u32) -> u16 {
 // A character that stays, with its glyph.
 #[inline]
 fn settled<C: NormalizeContext>(context: &C, glyph: GlyphInfo) -> GlyphInfo {
-    match context.get_nominal_glyph(glyph.glyph_id) {
+    match context.nominal_glyph(glyph.glyph_id) {
         Some(own) => GlyphInfo {
             var: u32::from(own.0),
             ..glyph
@@ -480,7 +480,7 @@ fn drawn_space<C: NormalizeContext>(context: &C, glyph: &GlyphInfo) -> Option<(u
         return None;
     }
     let kind = space_kind(glyph.glyph_id)?;
-    let drawn = match context.get_nominal_glyph(0x20) {
+    let drawn = match context.nominal_glyph(0x20) {
         Some(space) => space,
         None => context.invisible_glyph()?,
     };

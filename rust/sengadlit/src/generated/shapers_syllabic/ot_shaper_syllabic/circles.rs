@@ -169,7 +169,7 @@ impl ScriptCircles {
         if forbidden || !buffer.has_broken_syllable() {
             return None;
         }
-        match face.get_nominal_glyph(DOTTED_CIRCLE) {
+        match face.nominal_glyph(DOTTED_CIRCLE) {
             None => None,
             Some(glyph) => {
                 let circle = GlyphInfo {
