@@ -26,8 +26,8 @@ pub fn font<'f, 'a, 'u>(font: FontRef<'f, 'a, 'u>) -> Wide<FontRef<'f, 'a, 'u>> 
 }
 
 impl WideGlyphs for FontFuncsDispatch<'_, '_> {
-    fn get_nominal_glyph(&mut self, c: u32) -> Option<u32> {
-        self.nominal_glyph(c).map(GlyphId::to_u32)
+    fn nominal_glyph(&mut self, c: u32) -> Option<u32> {
+        FontFuncsDispatch::nominal_glyph(self, c).map(GlyphId::to_u32)
     }
 
     fn has_glyph(&mut self, c: u32) -> bool {

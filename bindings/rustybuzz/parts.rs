@@ -35,7 +35,7 @@ pub fn font<'f, 'a>(font: FontRef<'f, 'a>) -> GlyphsOnly<FontRef<'f, 'a>> {
 }
 
 impl Glyphs for hb_font_t<'_> {
-    fn get_nominal_glyph(&self, c: u32) -> Option<GlyphId> {
+    fn nominal_glyph(&self, c: u32) -> Option<GlyphId> {
         hb_font_t::get_nominal_glyph(self, c).map(|glyph| GlyphId(glyph.0))
     }
 

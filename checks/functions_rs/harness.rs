@@ -580,7 +580,7 @@ fn optional_char(answer: &[u64]) -> Option<char> {
 }
 
 impl Font for LotFont {
-    fn get_nominal_glyph(&self, c: u32) -> Option<GlyphId> {
+    fn nominal_glyph(&self, c: u32) -> Option<GlyphId> {
         let answer = answer(0, 0, self.0, &[&c]);
         (answer[0] == 1).then(|| GlyphId(answer[1] as u16))
     }
@@ -631,9 +631,9 @@ impl NormalizeContext for LotContext {
         (answer[0] == 1).then(|| answer[1] as u32)
     }
 
-    fn get_nominal_glyph(&self, c: u32) -> Option<GlyphId> { optional_glyph(&answer(2, 3, self.0, &[&c])) }
+    fn nominal_glyph(&self, c: u32) -> Option<GlyphId> { optional_glyph(&answer(2, 3, self.0, &[&c])) }
 
-    fn get_variation_glyph(&self, c: u32, selector: u32) -> Option<GlyphId> {
+    fn variation_glyph(&self, c: u32, selector: u32) -> Option<GlyphId> {
         optional_glyph(&answer(2, 4, self.0, &[&c, &selector]))
     }
 

@@ -601,12 +601,12 @@ impl NormalizeContext for Context<'_, '_, '_, '_> {
     }
 
     #[inline]
-    fn get_nominal_glyph(&self, c: u32) -> Option<GlyphId> {
+    fn nominal_glyph(&self, c: u32) -> Option<GlyphId> {
         let number = self.font.borrow_mut().nominal_glyph(c)?.to_u32();
         Some(narrow(number).unwrap_or(GlyphId(u16::MAX)))
     }
 
-    fn get_variation_glyph(&self, c: u32, selector: u32) -> Option<GlyphId> {
+    fn variation_glyph(&self, c: u32, selector: u32) -> Option<GlyphId> {
         narrow(self.font.borrow_mut().variant_glyph(c, selector)?.to_u32())
     }
 

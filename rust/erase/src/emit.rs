@@ -1,6 +1,8 @@
 //! The text of an erased file.
 
+use crate::added::added;
 use crate::file::File;
+use crate::links::{has_links, with_links};
 use crate::table::{all, get};
 use crate::token::is_part;
 
@@ -8,9 +10,13 @@ use crate::token::is_part;
 /// and at a name that the table doesn't know or that it gives to something else.
 pub fn emit(file: &File) -> Result<String, String> {
     let mut body = String::new();
+    let added = added(file);
+    let has_links = has_links(file.path.split('/').nth(1).unwrap_or(""));
     for (i, token) in file.tokens.iter().enumerate() {
         check(file, i)?;
-        body = body + &token.lead + &renamed(file, i)?.unwrap_or_else(|| token.text.clone());
+        let text = renamed(file, i)?.unwrap_or_else(|| token.text.clone());
+        let lead = if has_links { with_links(&token.lead) } else { token.lead.clone() };
+        body = body + &lead + added.get(&i).map_or("", String::as_str) + &text;
     }
     let is_inner = |line: &&str| line.starts_with("//!");
     let inner: String = body.trim().split_inclusive('\n').take_while(is_inner).collect();

@@ -2,6 +2,7 @@
 //! What has an unknown form stays here, and the eraser stops at it when it writes the file.
 
 use crate::contract::{documentation, is_public};
+use crate::docs;
 use crate::file::File;
 use crate::table::{all, get};
 
@@ -50,16 +51,18 @@ fn define(file: &mut File, import: &str) {
     }
 }
 
-// Cuts the clauses of a function; a public one keeps them as documentation.
+// Cuts the clauses of a function; a public one keeps them as documentation, behind what docs.txt says.
 fn erase_clauses(file: &mut File, function: usize) {
     let clause = |i: usize| {
         let open = (i + 1..=i + 2).find(|open| file.text(*open) == "{")?;
         get("clause", file.text(i)).map(|_| i..=file.partner(open))
     };
     let clauses: Vec<_> = (function..file.tokens.len()).filter_map(clause).collect();
-    if !clauses.is_empty() && is_public(file, function) {
-        let (start, docs) = (file.start(function), documentation(file, &clauses));
-        file.tokens[start].lead += &docs;
+    if is_public(file, function) {
+        let contract =
+            if clauses.is_empty() { String::new() } else { documentation(file, &clauses) };
+        let (start, docs) = (file.start(function), docs::lines(file, function));
+        file.tokens[start].lead += &(docs + &contract);
     }
     clauses.into_iter().rev().for_each(|clause| file.cut_item(clause));
 }

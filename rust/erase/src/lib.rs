@@ -1,15 +1,19 @@
 //! Makes plain Rust of the proved sources in crates/: cuts contracts and ghost items, renames by one
 //! table, and keeps the contracts of public functions as documentation.
 //!
-//! It writes no code of its own but one `use` line, and stops at anything that it doesn't know.
+//! It writes no code of its own but one `use` line, and of each item what the table says: derives,
+//! attributes, and who sees it. It stops at anything that it doesn't know.
 
 #![forbid(unsafe_code)]
 
+mod added;
 mod contract;
+pub mod docs;
 mod emit;
 mod file;
 mod ghost;
 mod laws;
+mod links;
 pub mod table;
 pub mod token;
 

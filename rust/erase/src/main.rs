@@ -1,5 +1,5 @@
-//! `erase` makes the generated trees anew; `erase --check` prints each file that isn't up to date. Both
-//! run at the top of the repository.
+//! `erase` makes the generated trees anew, and the copies of files in packages; `erase --check` prints
+//! each file that isn't up to date. Both run at the top of the repository.
 
 #![forbid(unsafe_code)]
 
@@ -34,6 +34,7 @@ fn make(top: &Path) -> Result<(), Box<dyn Error>> {
         fs::create_dir_all(path.parent().unwrap_or(top))?;
         fs::write(path, text)?;
     }
+    copies().try_for_each(|(from, to)| fs::write(top.join(to), from))?;
     let roots = outputs.keys().filter(|path| path.ends_with("/mod.rs")).map(|path| top.join(path));
     match Command::new("rustfmt").args(["--edition", "2024"]).args(roots).status()?.success() {
         true => Ok(()),
@@ -47,7 +48,14 @@ fn check() -> Result<Vec<PathBuf>, Box<dyn Error>> {
     make(scratch)?;
     let (made, committed) = (files_below(scratch)?, files_below(Path::new(""))?);
     let paths: BTreeSet<PathBuf> = made.keys().chain(committed.keys()).cloned().collect();
-    Ok(paths.into_iter().filter(|path| made.get(path) != committed.get(path)).collect())
+    let stale = copies().filter(|(from, to)| fs::read(to).ok().as_ref() != Some(from));
+    let differs = |path: &PathBuf| made.get(path) != committed.get(path);
+    Ok(paths.into_iter().filter(differs).chain(stale.map(|(_, to)| to.into())).collect())
+}
+
+// The files of the repository that a package has too, with their paths there: what no link may be.
+fn copies() -> impl Iterator<Item = (Vec<u8>, &'static str)> {
+    table::all("copied").filter_map(|(from, to)| Some((fs::read(from).ok()?, to)))
 }
 
 // The words of a text's comments and its tokens, without commas before closing brackets.

@@ -110,6 +110,7 @@ fn check_tells_what_differs() {
     let scratch = Scratch::new("command");
     let top = &scratch.0;
     copy_sources(top);
+    fs::write(top.join("CHANGELOG.md"), "# Changes\n").unwrap();
     assert!(run(top, &[]).status.success());
     let tag = "rust/sengadlit/src/generated/shapers_buffer/buffer/tag.rs";
     let text = fs::read_to_string(top.join(tag)).unwrap();
@@ -119,7 +120,9 @@ fn check_tells_what_differs() {
     let stale = "rust/hbhook/src/generated/stale/old.rs";
     fs::create_dir_all(top.join(stale).parent().unwrap()).unwrap();
     fs::write(top.join(stale), "").unwrap();
-    assert_eq!(different(top), Some(format!("{stale}\n{tag}\n")));
+    let copy = "rust/sengadlit/CHANGELOG.md";
+    fs::write(top.join("CHANGELOG.md"), "# Other changes\n").unwrap();
+    assert_eq!(different(top), Some(format!("{stale}\n{tag}\n{copy}\n")));
     assert!(run(top, &[]).status.success());
     assert_eq!(different(top), None);
     assert!(!top.join(stale).exists());

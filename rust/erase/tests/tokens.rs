@@ -3,7 +3,7 @@
 //! functions and the bound `Drop`. All that is left stands in the generated file, comments apart, in
 //! its order, names replaced by the table, but for names in imports, empty modules, and the runs of
 //! tokens that are listed in runs.txt; and besides it there is at most the one `use` line of the
-//! prelude.
+//! prelude, and of items the derives, attributes and visibility that the table gives them.
 
 use erase::erase;
 use erase::table::{all, get};
@@ -33,7 +33,7 @@ static CASES: LazyLock<Vec<Case>> = LazyLock::new(|| {
     let mut cases: Vec<Case> = OUTPUTS.iter().map(|(path, text)| case(path, text)).collect();
     let laws = laws();
     for case in &mut cases {
-        case.source = without_items(&case.source, &laws);
+        case.source = with_added(&without_items(&case.source, &laws));
     }
     cases
 });
@@ -178,6 +178,64 @@ fn without_items(tokens: &[String], laws: &[String]) -> Vec<String> {
         }
     }
     kept
+}
+
+// The name of the struct or enum whose attributes, or the item itself, stand at the start.
+fn type_at(mut tokens: &[String]) -> Option<&str> {
+    loop {
+        match tokens.first()?.as_str() {
+            "#" => tokens = &tokens[len_to(tokens, &["]"])..],
+            "pub" if is(tokens, 1, "(") => tokens = &tokens[1 + len_to(&tokens[1..], &[")"])..],
+            "pub" => tokens = &tokens[1..],
+            "struct" | "enum" => return Some(&tokens[1]),
+            _ => return None,
+        }
+    }
+}
+
+// The tokens with the derives, attributes and visibility that the table gives.
+fn with_added(tokens: &[String]) -> Vec<String> {
+    let (mut out, mut i): (Vec<String>, usize) = (Vec::new(), 0);
+    while i < tokens.len() {
+        let rest = &tokens[i..];
+        let begins = !is(&out, out.len().wrapping_sub(1), "pub")
+            && !is(&out, out.len().wrapping_sub(1), "]");
+        let name = type_at(rest).filter(|_| begins || is(rest, 0, "#"));
+        let mark = name.filter(|_| begins).and_then(|name| get("marked", name));
+        out.extend(mark.iter().flat_map(|mark| code(&format!("#[{mark}]"))));
+        let len = match (name, rest[0].as_str()) {
+            (Some(name), "#") if is(rest, 2, "derive") => {
+                let len = len_to(rest, &["]"]);
+                let hash = rest[..len].iter().any(|token| token == "Eq").then_some("Hash");
+                let names = hash.into_iter().chain(get("derives", name));
+                let list: String = names.map(|names| format!(",{names}")).collect();
+                out.extend_from_slice(&rest[..len - 2]);
+                out.extend(code(&list));
+                out.extend_from_slice(&rest[len - 2..len]);
+                len
+            }
+            (_, "struct") if get("open", &rest[1]).is_some() => {
+                let len = len_to(rest, &["}"]);
+                for (j, token) in rest[..len].iter().enumerate() {
+                    let is_field =
+                        is(rest, j + 1, ":") && ["{", ","].contains(&rest[j - 1].as_str());
+                    out.extend(is_field.then(|| code("pub(crate)")).unwrap_or_default());
+                    out.push(token.clone());
+                }
+                len
+            }
+            (_, "pub") if is(rest, 1, "fn") && get("inner", &rest[2]).is_some() => {
+                out.extend(code("pub(crate)"));
+                1
+            }
+            (_, token) => {
+                out.push(token.to_string());
+                1
+            }
+        };
+        i += len;
+    }
+    out
 }
 
 // What a word of a source may stand as, the longest first.
@@ -334,6 +392,22 @@ fn the_specifications_that_the_documentation_names_are_files() {
         }
     }
     assert!(count > 100, "{count} lines");
+}
+
+#[test]
+fn what_docs_txt_says_stands_before_its_function() {
+    let lines = |text: &str| -> String {
+        let line = |line: &str| format!("/// {line}").trim_end().to_string() + "\n";
+        text.lines().map(line).collect()
+    };
+    assert!(erase::docs::all().count() > 30);
+    for (name, text) in erase::docs::all() {
+        let folder = format!("generated/{}/", name.split("::").next().unwrap());
+        let function = format!("fn {}", name.rsplit("::").next().unwrap());
+        let has = |text_of: &String| text_of.contains(&lines(text)) && text_of.contains(&function);
+        let mut outputs = OUTPUTS.iter().filter(|(path, _)| path.contains(&folder));
+        assert!(outputs.any(|(_, output)| has(output)), "{name} of docs.txt is no function");
+    }
 }
 
 // Fails where a planted change of a file is explained.

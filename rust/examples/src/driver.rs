@@ -424,7 +424,7 @@ where
 {
     buffer.set_script(plan.plan.script);
     buffer.set_direction(plan.direction);
-    let global_mask = plan.plan.ot_map.get_global_mask();
+    let global_mask = plan.plan.ot_map.global_bits();
     each(buffer, |glyph| glyph.mask = global_mask);
     set_unicode_properties(tables, buffer);
     insert_dotted_circle(tables, font, buffer)?;
@@ -537,7 +537,7 @@ fn clear_ignorables(buffer: &mut Buffer) {
 
 // What isn't drawn becomes a space without width or, in a font without spaces, goes.
 fn hide_ignorables<F: Font>(font: &F, buffer: &mut Buffer) {
-    match font.get_nominal_glyph(0x20) {
+    match font.nominal_glyph(0x20) {
         Some(space) => each(buffer, |glyph| {
             if is_hidden(glyph) {
                 glyph.glyph_id = space.0.into();

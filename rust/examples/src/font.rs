@@ -69,7 +69,7 @@ fn drawn(glyph: read_fonts::types::GlyphId) -> Option<GlyphId> {
 }
 
 impl Font for OpenType<'_> {
-    fn get_nominal_glyph(&self, c: u32) -> Option<GlyphId> {
+    fn nominal_glyph(&self, c: u32) -> Option<GlyphId> {
         drawn(self.characters.as_ref()?.map_codepoint(c)?)
     }
 
@@ -90,9 +90,9 @@ impl Font for OpenType<'_> {
 }
 
 impl NormalizeFont for OpenType<'_> {
-    fn get_variation_glyph(&self, c: u32, selector: u32) -> Option<GlyphId> {
+    fn variation_glyph(&self, c: u32, selector: u32) -> Option<GlyphId> {
         match self.variants.as_ref()?.map_variant(c, selector)? {
-            MapVariant::UseDefault => self.get_nominal_glyph(c),
+            MapVariant::UseDefault => self.nominal_glyph(c),
             MapVariant::Variant(glyph) => drawn(glyph),
         }
     }

@@ -185,5 +185,6 @@ fn refused(refusal: ShaperError, buffer: &Buffer) -> String {
             format!("the syllable at place {place} is of a kind that the shaper doesn't know")
         }
         ShaperError::StretchOverflow => "a number of a stretched mark doesn't fit 32 bits".into(),
+        refusal => refusal.to_string(),
     }
 }

@@ -115,6 +115,8 @@ impl From<ShaperError> for Error {
             },
             ShaperError::SpansDontCover => Error::of(Status::SpansDontCover),
             ShaperError::StretchOverflow => Error::of(Status::StretchOverflow),
+            // (a refusal that this version of the crate doesn't have)
+            _ => Error::of(Status::Internal),
         }
     }
 }

@@ -1,9 +1,11 @@
 //! Plans and maps made from what a caller has.
 
 use crate::alloc::{AllocError, Global};
-use crate::buffer::{Script, Tag};
+use crate::buffer::{Script, ShaperError, Tag};
+use crate::generated::shapers_plan::ot_map::CompiledMap;
 use crate::map::{FeatureMap, Map};
-use crate::plan::{BaseSearch, BreakFlags, Plan, StretchStart};
+use crate::ot_shape_plan::FontFeatures;
+use crate::plan::{BaseSearch, BreakFlags, Plan, Request, StretchStart};
 use crate::shaper::Shaper;
 use core::error::Error;
 use core::fmt;
@@ -25,6 +27,68 @@ impl Plan {
     pub fn builder<'a>() -> PlanBuilder<'a> {
         PlanBuilder::default()
     }
+
+    /// The plan of a shaper by what is requested of a font: the features that the font has, each
+    /// with its bits of a glyph's mask, and their lookups in stages. Requests are joined by tag, and
+    /// bits given out, as HarfBuzz's map does it; the features of GPOS count for
+    /// [`has_gpos_mark`](Plan::has_gpos_mark) alone.
+    ///
+    /// A caller that has no planner of its own takes [`ShapePlan::new`], which makes the requests
+    /// for a script and keeps the lookups with their masks.
+    ///
+    /// [`ShapePlan::new`]: crate::ot_shape_plan::ShapePlan::new
+    ///
+    /// ```
+    /// use sengadlit::alloc::Global;
+    /// use sengadlit::font::FeaturesOnly;
+    /// use sengadlit::map::TableIndex;
+    /// use sengadlit::ot_shape_plan::FontFeatures;
+    /// use sengadlit::{Plan, Planner, Shaper, Tag, script};
+    ///
+    /// /// A font whose GSUB has forms before the base, by lookup 4.
+    /// struct Khmer;
+    ///
+    /// impl FontFeatures for Khmer {
+    ///     fn feature_lookups(&self, table: TableIndex, tag: Tag) -> Option<&[u16]> {
+    ///         (table == TableIndex::GSUB && tag == Tag(*b"pref")).then_some(&[4])
+    ///     }
+    /// #   fn chosen_script(&self, _: TableIndex) -> Option<Tag> { Some(Tag(*b"khmr")) }
+    /// #   fn found_script(&self, _: TableIndex) -> bool { true }
+    /// #   fn any_feature_lookups(&self, _: TableIndex, _: Tag) -> Option<&[u16]> { None }
+    /// #   fn required_feature(&self, _: TableIndex) -> Option<Tag> { None }
+    /// #   fn required_lookups(&self, _: TableIndex) -> &[u16] { &[] }
+    ///     // and what else a plan reads
+    /// }
+    ///
+    /// let mut planner = Planner::new(Global, Some(script::KHMER));
+    /// let font = FeaturesOnly(|tag| tag == Tag(*b"pref"));
+    /// Shaper::Khmer.collect_features(&font, &mut planner)?;
+    /// Shaper::Khmer.override_features(&mut planner)?;
+    /// let plan = Plan::from_requests(Shaper::Khmer, script::KHMER, planner.requests(), &Khmer)?;
+    ///
+    /// let mask = plan.plan_data.khmer().map(|kept| kept.mask_array[0]);
+    /// assert_eq!(mask, Some(plan.ot_map.one_mask(Tag(*b"pref"))));
+    /// assert_ne!(mask, Some(0));
+    /// # Ok::<(), sengadlit::ShaperError>(())
+    /// ```
+    ///
+    /// # Errors
+    ///
+    /// [`ShaperError::Memory`].
+    pub fn from_requests<L: FontFeatures>(
+        shaper: impl Into<Option<Shaper>>,
+        script: impl Into<Option<Script>>,
+        requests: &[Request],
+        features: &L,
+    ) -> Result<Self, ShaperError> {
+        let compiled = CompiledMap::new(Global, features, requests)?;
+        let mut plan = Plan::new(script.into(), compiled.map);
+        plan.has_gpos_mark = plan.ot_map.one_mask(Tag(*b"mark")) != 0;
+        Ok(match shaper.into() {
+            Some(shaper) => shaper.with_data(plan),
+            None => plan,
+        })
+    }
 }
 
 /// Builds a [`Plan`] with its [`Map`], from slices.
@@ -39,7 +103,7 @@ impl Plan {
 ///     .stages(&[0..2])
 ///     .lookups(&[14, 15])
 ///     .build_for(Shaper::Khmer)?;
-/// assert_eq!(plan.ot_map.get_1_mask(Tag(*b"pref")), 0x10);
+/// assert_eq!(plan.ot_map.one_mask(Tag(*b"pref")), 0x10);
 /// # Ok::<(), sengadlit::plan::PlanError>(())
 /// ```
 #[must_use = "a builder makes nothing until it is built"]
@@ -68,13 +132,16 @@ impl<'a> PlanBuilder<'a> {
         }
     }
 
-    /// The features of the map, with their masks and stages.
+    /// The features of the map: for each its tag, the bits of a glyph's mask that turn it on, and the
+    /// place of its lookups among the [`stages`](PlanBuilder::stages).
     #[inline]
     pub fn features(self, features: &'a [FeatureMap]) -> Self {
         PlanBuilder { features, ..self }
     }
 
-    /// The stages: for each the places of its lookups in the list.
+    /// The stages, in the order in which they run over the text: for each the places of its lookups
+    /// in the list of [`lookups`](PlanBuilder::lookups). Between two stages a pause may stand. (Indic
+    /// looks up in the stage of a feature which lookups it has; no other shaper reads stages.)
     #[inline]
     pub fn stages(self, stages: &'a [Range<usize>]) -> Self {
         PlanBuilder { stages, ..self }
@@ -86,7 +153,9 @@ impl<'a> PlanBuilder<'a> {
         PlanBuilder { lookups, ..self }
     }
 
-    /// The bits of the features that hold for the whole text.
+    /// The bits of the features that hold for the whole text: those with which the caller begins the
+    /// mask of each glyph, before [`setup_masks`](Shaper::setup_masks) adds to it. (The universal
+    /// shaper gives no glyph the bits of a joining form that has just these.)
     #[inline]
     pub fn global_mask(self, global_mask: u32) -> Self {
         PlanBuilder {
@@ -241,7 +310,11 @@ impl Error for PlanError {}
 #[cfg(test)]
 mod tests {
     use super::*;
-    use crate::plan::PlanData;
+    use crate::buffer::Direction;
+    use crate::font::NominalOnly;
+    use crate::map::{F_GLOBAL, F_NONE, TableIndex};
+    use crate::ot_shape_plan::ShapePlan;
+    use crate::plan::{PlanData, Planner};
     use std::string::ToString;
 
     const PREF: FeatureMap = FeatureMap::new(Tag(*b"pref"), 0x10, 1);
@@ -274,13 +347,82 @@ mod tests {
         assert_eq!(plan.break_flags, BreakFlags::Sound);
         assert_eq!(plan.base_search, BaseSearch::AllConsonants);
         assert_eq!(plan.plan_data, PlanData::None);
-        assert_eq!(plan.ot_map.get_1_mask(PREF.tag), 0x10);
-        assert_eq!(plan.ot_map.get_feature_stage(table, PREF.tag), Some(1));
+        assert_eq!(plan.ot_map.one_mask(PREF.tag), 0x10);
+        assert_eq!(plan.ot_map.stage_of(table, PREF.tag), Some(1));
         assert_eq!(plan.ot_map.stage_lookup_range(table, 1), 0..2);
         assert_eq!(plan.ot_map.lookups(&(0..2)), [14, 15]);
-        assert_eq!(plan.ot_map.get_global_mask(), 0x100);
+        assert_eq!(plan.ot_map.global_bits(), 0x100);
         assert_eq!(plan.ot_map.chosen_script(table), Some(Tag(*b"khmr")));
         assert!(plan.ot_map.found_script(table));
+    }
+
+    /// A font of Khmer in which every feature of GSUB has lookups 9 and 3, and GPOS places marks.
+    struct Khmer;
+
+    impl FontFeatures for Khmer {
+        fn chosen_script(&self, _: TableIndex) -> Option<Tag> {
+            Some(Tag(*b"khmr"))
+        }
+
+        fn found_script(&self, _: TableIndex) -> bool {
+            true
+        }
+
+        fn feature_lookups(&self, table: TableIndex, tag: Tag) -> Option<&[u16]> {
+            (table == TableIndex::GSUB || tag == Tag(*b"mark")).then_some(&[9, 3])
+        }
+
+        fn any_feature_lookups(&self, _: TableIndex, _: Tag) -> Option<&[u16]> {
+            None
+        }
+
+        fn required_feature(&self, _: TableIndex) -> Option<Tag> {
+            None
+        }
+
+        fn required_lookups(&self, _: TableIndex) -> &[u16] {
+            &[]
+        }
+    }
+
+    #[test]
+    fn a_plan_of_requests_has_bits_stages_and_lookups() {
+        let feature = |tag: &[u8; 4], flags| Request::Feature(Tag(*tag), flags, 1);
+        let pause = Request::Pause(None);
+        let requests = [feature(b"pref", F_NONE), pause, feature(b"abvs", F_GLOBAL)];
+        let plan = Plan::from_requests(Shaper::Khmer, Script(*b"Khmr"), &requests, &Khmer).unwrap();
+        let (map, gsub) = (&plan.ot_map, TableIndex::GSUB);
+        assert_eq!(map.global_bits(), 1 << 31);
+        assert_eq!(map.one_mask(Tag(*b"abvs")), 1 << 31);
+        let pref = map.one_mask(Tag(*b"pref"));
+        assert!(pref.is_power_of_two() && pref > 4 && pref != 1 << 31);
+        assert_eq!(plan.plan_data.khmer().unwrap().mask_array[0], pref);
+        for (stage, tag) in [(0, b"pref"), (1, b"abvs")] {
+            assert_eq!(map.stage_of(gsub, Tag(*tag)), Some(stage));
+            assert_eq!(map.lookups(&map.stage_lookup_range(gsub, stage)), [3, 9]);
+        }
+        assert!(!plan.has_gpos_mark);
+        let marks = [feature(b"mark", F_GLOBAL)];
+        let plan = Plan::from_requests(None, None, &marks, &Khmer).unwrap();
+        assert_eq!((plan.has_gpos_mark, plan.plan_data), (true, PlanData::None));
+    }
+
+    #[test]
+    fn a_plan_of_a_planners_requests_is_that_of_the_text() {
+        let (font, script) = (NominalOnly(|_| None), Some(Script(*b"Khmr")));
+        let left = Direction::LeftToRight;
+        let whole = ShapePlan::new(Global, script, left, &font, &Khmer, &[]).unwrap();
+        let mut planner = Planner::new(Global, script);
+        Shaper::Khmer.collect_features(&font, &mut planner).unwrap();
+        Shaper::Khmer.override_features(&mut planner).unwrap();
+        let plan = Plan::from_requests(Shaper::Khmer, script, planner.requests(), &Khmer).unwrap();
+        let map = &plan.ot_map;
+        for tag in [b"pref", b"blwf", b"abvf", b"pstf", b"cfar"] {
+            assert_eq!(
+                map.one_mask(Tag(*tag)) == 0,
+                whole.plan().ot_map.one_mask(Tag(*tag)) == 0
+            );
+        }
     }
 
     #[test]
@@ -290,7 +432,7 @@ mod tests {
         assert_eq!(plan.stretch_start, StretchStart::AsCode);
         assert_eq!(plan.break_flags, BreakFlags::AsCode);
         assert_eq!(plan.base_search, BaseSearch::WithoutMedials);
-        assert_eq!(plan.ot_map.get_global_mask(), 0);
+        assert_eq!(plan.ot_map.global_bits(), 0);
     }
 
     #[test]

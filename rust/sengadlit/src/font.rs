@@ -30,7 +30,7 @@ pub use crate::generated::shapers_base::font::GlyphId;
 /// struct TtfFont<'a>(ttf_parser::Face<'a>);
 ///
 /// impl Glyphs for TtfFont<'_> {
-///     fn get_nominal_glyph(&self, c: u32) -> Option<GlyphId> {
+///     fn nominal_glyph(&self, c: u32) -> Option<GlyphId> {
 ///         let glyph = self.0.glyph_index(char::from_u32(c)?)?;
 ///         Some(GlyphId(glyph.0))
 ///     }
@@ -72,7 +72,7 @@ pub use crate::generated::shapers_base::font::GlyphId;
 /// # let face = ttf_parser::Face(core::marker::PhantomData);
 /// let font = GlyphsOnly(TtfFont(face));
 /// # use sengadlit::Font;
-/// # assert_eq!(font.get_nominal_glyph(0x41), Some(GlyphId(1)));
+/// # assert_eq!(font.nominal_glyph(0x41), Some(GlyphId(1)));
 /// # assert!(font.would_apply(0, &[GlyphId(1), GlyphId(2)], false));
 /// # assert!(!font.would_apply(0, &[GlyphId(1)], false));
 /// ```

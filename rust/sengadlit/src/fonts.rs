@@ -40,7 +40,7 @@ impl<F: Fn(Tag) -> bool> Features for F {
 pub struct FeaturesOnly<F>(pub F);
 
 impl<F: Features> Font for FeaturesOnly<F> {
-    fn get_nominal_glyph(&self, _c: u32) -> Option<GlyphId> {
+    fn nominal_glyph(&self, _c: u32) -> Option<GlyphId> {
         no_result("plan time", "a glyph")
     }
 
@@ -64,7 +64,7 @@ impl<F: Features> Font for FeaturesOnly<F> {
 /// What shaping needs of a font: everything but its features. See [`Font`] for each method.
 pub trait Glyphs {
     /// The font's own glyph for a character, before any lookup.
-    fn get_nominal_glyph(&self, c: u32) -> Option<GlyphId>;
+    fn nominal_glyph(&self, c: u32) -> Option<GlyphId>;
 
     /// How far a glyph moves the pen, in font units.
     fn glyph_h_advance(&self, glyph: GlyphId) -> i32;
@@ -75,7 +75,7 @@ pub trait Glyphs {
 
     /// Whether the font has a nominal glyph for a character.
     fn has_glyph(&self, c: u32) -> bool {
-        self.get_nominal_glyph(c).is_some()
+        self.nominal_glyph(c).is_some()
     }
 
     /// Whether one of the lookups would apply to exactly these glyphs.
@@ -93,8 +93,8 @@ pub trait Glyphs {
 pub struct GlyphsOnly<F>(pub F);
 
 impl<F: Glyphs> Font for GlyphsOnly<F> {
-    fn get_nominal_glyph(&self, c: u32) -> Option<GlyphId> {
-        self.0.get_nominal_glyph(c)
+    fn nominal_glyph(&self, c: u32) -> Option<GlyphId> {
+        self.0.nominal_glyph(c)
     }
 
     fn has_glyph(&self, c: u32) -> bool {
@@ -119,8 +119,8 @@ impl<F: Glyphs> Font for GlyphsOnly<F> {
 }
 
 impl<F: Glyphs + ?Sized> Glyphs for &F {
-    fn get_nominal_glyph(&self, c: u32) -> Option<GlyphId> {
-        (**self).get_nominal_glyph(c)
+    fn nominal_glyph(&self, c: u32) -> Option<GlyphId> {
+        (**self).nominal_glyph(c)
     }
 
     fn glyph_h_advance(&self, glyph: GlyphId) -> i32 {
@@ -149,7 +149,7 @@ impl<F: Glyphs + ?Sized> Glyphs for &F {
 pub struct NominalOnly<F>(pub F);
 
 impl<F: Fn(u32) -> Option<GlyphId>> Font for NominalOnly<F> {
-    fn get_nominal_glyph(&self, c: u32) -> Option<GlyphId> {
+    fn nominal_glyph(&self, c: u32) -> Option<GlyphId> {
         self.0(c)
     }
 

@@ -135,6 +135,7 @@
 #![no_std]
 #![forbid(unsafe_code)]
 #![deny(missing_docs, missing_debug_implementations)]
+#![cfg_attr(not(test), warn(clippy::pedantic))]
 #![allow(
     clippy::must_use_candidate,
     reason = "the sources have no such attribute, and a result that isn't used does no harm"
@@ -145,8 +146,11 @@ extern crate alloc as rust_alloc;
 extern crate std;
 
 mod builder;
+mod copies;
 mod fonts;
+mod numbers;
 mod references;
+mod substituting;
 mod support;
 mod text;
 mod values;
@@ -162,13 +166,19 @@ mod values;
     clippy::bool_to_int_with_if,
     clippy::cast_possible_truncation,
     clippy::cast_possible_wrap,
+    clippy::doc_markdown,
     clippy::elidable_lifetime_names,
+    clippy::explicit_iter_loop,
     clippy::inline_always,
     clippy::len_zero,
     clippy::match_same_arms,
     clippy::range_plus_one,
+    clippy::semicolon_if_nothing_returned,
     clippy::similar_names,
+    clippy::single_match_else,
+    clippy::struct_excessive_bools,
     clippy::trivially_copy_pass_by_ref,
+    clippy::unreadable_literal,
     reason = "the sources' forms: each cast is proved to lose nothing, and tables have a line per case"
 )]
 mod generated {
@@ -237,6 +247,7 @@ pub use buffer::{
 };
 pub use font::{Font, GlyphId, Tables};
 pub use map::{FeatureMap, Map};
+pub use numbers::UnknownNumber;
 pub use plan::{JoiningType, Pause, Plan, PlanData, Planner, Preprocess, Request};
 pub use shaper::{Shaper, run_pause};
 

@@ -14,7 +14,7 @@
 //! struct ByNumber;
 //!
 //! impl Font for ByNumber {
-//!     fn get_nominal_glyph(&self, c: u32) -> Option<GlyphId> {
+//!     fn nominal_glyph(&self, c: u32) -> Option<GlyphId> {
 //!         u16::try_from(c).ok().map(GlyphId)
 //!     }
 //! #   fn glyph_h_advance(&self, _: GlyphId) -> i32 { 0 }
@@ -24,7 +24,7 @@
 //! }
 //!
 //! impl NormalizeFont for ByNumber {
-//!     fn get_variation_glyph(&self, _c: u32, _selector: u32) -> Option<GlyphId> {
+//!     fn variation_glyph(&self, _c: u32, _selector: u32) -> Option<GlyphId> {
 //!         None
 //!     }
 //! }
@@ -63,7 +63,7 @@ mod tests {
     struct Khmer;
 
     impl Font for Khmer {
-        fn get_nominal_glyph(&self, c: u32) -> Option<GlyphId> {
+        fn nominal_glyph(&self, c: u32) -> Option<GlyphId> {
             u16::try_from(c).ok().map(GlyphId)
         }
 
@@ -81,7 +81,7 @@ mod tests {
     }
 
     impl NormalizeFont for Khmer {
-        fn get_variation_glyph(&self, _: u32, _: u32) -> Option<GlyphId> {
+        fn variation_glyph(&self, _: u32, _: u32) -> Option<GlyphId> {
             None
         }
     }

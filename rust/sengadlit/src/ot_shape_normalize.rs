@@ -15,7 +15,7 @@
 //! struct ByNumber;
 //!
 //! impl Font for ByNumber {
-//!     fn get_nominal_glyph(&self, c: u32) -> Option<GlyphId> {
+//!     fn nominal_glyph(&self, c: u32) -> Option<GlyphId> {
 //!         u16::try_from(c).ok().map(GlyphId)
 //!     }
 //! #   fn glyph_h_advance(&self, _: GlyphId) -> i32 { 0 }
@@ -25,7 +25,7 @@
 //! }
 //!
 //! impl NormalizeFont for ByNumber {
-//!     fn get_variation_glyph(&self, _c: u32, _selector: u32) -> Option<GlyphId> {
+//!     fn variation_glyph(&self, _c: u32, _selector: u32) -> Option<GlyphId> {
 //!         None
 //!     }
 //! }

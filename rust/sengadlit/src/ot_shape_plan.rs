@@ -171,7 +171,7 @@ mod tests {
         assert_eq!((range.start, range.end), (3, 9));
         assert_eq!(range.mask.count_ones(), 2);
         assert_eq!(range.value, range.mask);
-        let elsewhere = plan.plan().ot_map.get_global_mask() & range.mask;
+        let elsewhere = plan.plan().ot_map.global_bits() & range.mask;
         assert_eq!(elsewhere, 2 << range.mask.trailing_zeros());
     }
 }

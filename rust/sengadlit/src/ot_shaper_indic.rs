@@ -7,10 +7,9 @@
 //! [`InitialReordering`]: crate::Pause::InitialReordering
 //! [`FinalReordering`]: crate::Pause::FinalReordering
 
-pub use crate::generated::shapers_indic::ot_shaper_indic::{
-    Category, Position, compose, decompose, indic_feature, ot_category_t, ot_position_t,
-};
+pub use crate::generated::shapers_indic::ot_shaper_indic::{compose, decompose, indic_feature};
 pub use crate::plan::{
-    BlwfMode, IndicConfig, IndicPlan, IndicWouldSubstituteFeature, RephMode, RephPosition,
+    BlwfMode, Category, IndicConfig, IndicPlan, IndicWouldSubstituteFeature, Position, RephMode,
+    RephPosition, ot_category_t, ot_position_t,
 };
 pub use crate::shaper::INDIC_SHAPER;

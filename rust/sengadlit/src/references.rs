@@ -5,8 +5,8 @@ use crate::font::{Font, GlyphId, Tables};
 use crate::plan::{Category, JoiningType, Position};
 
 impl<F: Font + ?Sized> Font for &F {
-    fn get_nominal_glyph(&self, c: u32) -> Option<GlyphId> {
-        (**self).get_nominal_glyph(c)
+    fn nominal_glyph(&self, c: u32) -> Option<GlyphId> {
+        (**self).nominal_glyph(c)
     }
 
     fn has_glyph(&self, c: u32) -> bool {

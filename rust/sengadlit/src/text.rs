@@ -1,7 +1,9 @@
 //! Texts into buffers, and glyphs out of them.
 
 use crate::alloc::{Global, Vec};
-use crate::buffer::{Buffer, Direction, GeneralCategory, GlyphInfo, GlyphPosition, ShaperError};
+use crate::buffer::{
+    Buffer, BufferSettings, Direction, GeneralCategory, GlyphInfo, GlyphPosition, ShaperError,
+};
 use crate::font::Tables;
 use core::fmt;
 use core::slice;
@@ -65,6 +67,16 @@ impl Buffer {
     /// it, and in Indic where a word begins. Glyphs that are no characters stay as they are.
     pub fn set_general_categories<T: Tables>(&mut self, tables: &T) {
         self.with_glyphs_mut(|glyphs| set_categories(tables, glyphs));
+    }
+
+    /// Sets all settings. A greatest length below the buffer's length counts as its length, as for
+    /// [`Buffer::set_max_len`].
+    #[inline]
+    pub fn set_settings(&mut self, settings: &BufferSettings<'_>) {
+        self.set_settings_within(&BufferSettings {
+            max_len: settings.max_len.max(self.len()),
+            ..*settings
+        });
     }
 
     /// Makes the buffer ready for another text: glyphs, positions and contexts go, script and

@@ -1,36 +1,12 @@
-//! What tags, scripts and glyph numbers have as plain values: an order, a hash, and their bytes or
-//! number.
+//! What tags, scripts and glyph numbers have as plain values: their bytes or number, and a text.
 
 use crate::buffer::{Script, Tag};
 use crate::font::GlyphId;
-use core::cmp::Ordering;
 use core::fmt;
-use core::hash::{Hash, Hasher};
 
 macro_rules! impl_value {
     ($($name:ident: $inner:ty;)*) => {
         $(
-            impl PartialOrd for $name {
-                #[inline]
-                fn partial_cmp(&self, other: &Self) -> Option<Ordering> {
-                    Some(self.cmp(other))
-                }
-            }
-
-            impl Ord for $name {
-                #[inline]
-                fn cmp(&self, other: &Self) -> Ordering {
-                    self.0.cmp(&other.0)
-                }
-            }
-
-            impl Hash for $name {
-                #[inline]
-                fn hash<H: Hasher>(&self, state: &mut H) {
-                    self.0.hash(state);
-                }
-            }
-
             impl From<$inner> for $name {
                 #[inline]
                 fn from(inner: $inner) -> Self {

@@ -3,14 +3,16 @@
 
 mod common;
 
-use common::buffers::{Contents, Glyphs, copy_of, set_advances, text_of};
+use common::buffers::{Contents, Glyphs, copy_of, letter, set_advances, text_of};
 use common::calls::{Call, Returned, Setting};
 use common::fonts::{LotFont, LotTables, PlainFont, PlainTables, Steady};
 use common::misuse::Misuse;
 use common::numbers::Numbers;
 use common::plans::{PAUSES, bare_plan, plan_of};
-use common::watchdog::in_time;
-use sengadlit::buffer::{Buffer, ShaperError, Span};
+use common::spoiled::Wrong;
+use common::watchdog::{caught, in_time};
+use sengadlit::buffer::{Buffer, BufferSettings, GlyphInfo, ShaperError, Span};
+use sengadlit::ot_shaper_syllabic::{MayChange, Reorder, reorder_syllables};
 use sengadlit::plan::{Pause, Plan};
 use sengadlit::shaper::Shaper;
 use sengadlit::shaper::checked::{CallError, Condition};
@@ -197,8 +199,82 @@ fn a_hook_refuses_behind_its_conditions() {
     assert_eq!(returned, Err(CallError::Refused(ShaperError::TooLong)));
 }
 
+#[test]
+fn settings_leave_a_limit_of_at_least_the_length() {
+    let plan = plan_of(Shaper::Thai, b"Thai");
+    let mut text = text_of(&[0xE14, 0xE4B, 0xE33], 10);
+    text.set_settings(&BufferSettings::new(1));
+    assert_eq!(text.max_len(), 3);
+    let before = Contents::with_places(&text);
+    let returned = make(Call::Preprocess, Shaper::Thai, &plan, &[], &mut text);
+    assert_eq!(returned, Err(CallError::Refused(ShaperError::TooLong)));
+    assert_eq!(text.push_str("a"), Err(ShaperError::TooLong));
+    assert_eq!(text.grow(1), Err(ShaperError::TooLong));
+    assert_eq!(Contents::with_places(&text), before);
+}
+
+#[test]
+fn a_wrong_rewriting_leaves_no_more_glyphs_than_it_said() {
+    for written in [0, 2, 3, 100] {
+        let mut text = text_of(&[0x1780, 0x17C1], 3);
+        assert_eq!(text.rewrite(3, &Wrong(written)), Ok(()));
+        assert_eq!(text.len(), written.min(3));
+        assert_eq!(text.rewrite(4, &Wrong(4)), Err(ShaperError::TooLong));
+    }
+}
+
+/// An order that adds a glyph to the buffer for each syllable.
+struct Growing;
+
+impl MayChange for Growing {
+    fn may_change(&self, _glyph: &GlyphInfo) -> bool {
+        true
+    }
+}
+
+impl Reorder for Growing {
+    fn reorder(&self, buffer: &mut Buffer, _: usize, _: usize) -> Result<(), ShaperError> {
+        buffer.push(letter(0x1780, 9))
+    }
+}
+
+#[test]
+fn a_wrong_order_leaves_no_more_glyphs_than_the_buffer_may_have() {
+    let mut text = text_of(&[0x1780, 0x17C1], 5);
+    let returned = reorder_syllables(&Growing, &mut text);
+    assert_eq!(returned, Err(ShaperError::TooLong));
+    assert_eq!(text.len(), 5);
+}
+
+#[test]
+fn a_plan_without_data_panics_with_whose_they_are() {
+    for (call, shaper) in READERS {
+        let setting = Setting {
+            shaper,
+            plan: &bare_plan(b"Mong", &[]),
+            font: &PlainFont(100),
+            tables: &PlainTables,
+            spans: &[Span { len: 2, kind: 0 }],
+        };
+        let mut text = match call.wants_positions() {
+            true => positioned_text(),
+            false => text_of(&[0x628, 0x628], 10),
+        };
+        let reason = caught(|| call.make(&setting, &mut text)).unwrap_err();
+        let reason = reason.downcast_ref::<&str>().unwrap().to_string();
+        let name = match shaper {
+            Shaper::Universal => "universal".to_string(),
+            _ => format!("{shaper:?}"),
+        };
+        assert!(
+            reason.ends_with(&format!("the plan has no data of the {name} shaper")),
+            "{reason}"
+        );
+    }
+}
+
 /// How many calls are drawn by lot of each kind of buffer, unless SENGADLIT_CALLS tells another number.
-const CALLS: u64 = 60_000;
+const CALLS: u64 = 40_000;
 
 /// Makes a call that may be a misuse, checked: it stops or refuses without a change, or does what
 /// the call that isn't checked does. Whether it stopped.
@@ -233,7 +309,7 @@ fn play(seed: u64, kind: Glyphs) -> bool {
 fn whatever_a_caller_does_checked_calls_return() {
     let calls = env::var("SENGADLIT_CALLS").map_or(CALLS, |number| number.parse().unwrap());
     let play_all = move || {
-        for kind in [Glyphs::Letters, Glyphs::Any] {
+        for kind in [Glyphs::Letters, Glyphs::Any, Glyphs::Spoiled] {
             let stopped = (0..calls).filter(|seed| play(*seed, kind)).count() as u64;
             println!("{kind:?}: {stopped} of {calls} calls stopped at a condition");
             assert!((calls / 4..calls / 2).contains(&stopped));

@@ -14,9 +14,14 @@ fn an_error_is_one_of_rusts() {
 #[test]
 fn a_checked_call_says_what_it_refused() {
     let unmet = CallError::from(Condition::Marks);
-    assert_eq!(unmet.to_string(), "there are more than 32 marks");
+    assert_eq!(unmet.to_string(), "a condition of the call isn't met");
+    assert_eq!(
+        unmet.source().unwrap().to_string(),
+        "there are more than 32 marks"
+    );
     let refused = CallError::from(ShaperError::TooLong);
-    assert_eq!(refused.to_string(), "TooLong");
+    assert_eq!(refused.to_string(), "the call was refused");
+    assert_eq!(refused.source().unwrap().to_string(), "TooLong");
     let error: Box<dyn Error> = Box::new(Condition::PlanData);
     assert_eq!(error.to_string(), "the plan hasn't the data that is read");
 }

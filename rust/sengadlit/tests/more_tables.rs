@@ -196,7 +196,7 @@ impl NormalizeContext for Context {
         None
     }
 
-    fn get_nominal_glyph(&self, c: u32) -> Option<GlyphId> {
+    fn nominal_glyph(&self, c: u32) -> Option<GlyphId> {
         let is_there = if self.has_all {
             c < APART
         } else {
@@ -205,7 +205,7 @@ impl NormalizeContext for Context {
         is_there.then_some(GlyphId(if c == 0x20 { 3 } else { 4 }))
     }
 
-    fn get_variation_glyph(&self, _c: u32, _selector: u32) -> Option<GlyphId> {
+    fn variation_glyph(&self, _c: u32, _selector: u32) -> Option<GlyphId> {
         None
     }
 

@@ -42,12 +42,12 @@ impl NormalizeContext for Latin {
             .map(|pair| pair.0)
     }
 
-    fn get_nominal_glyph(&self, c: u32) -> Option<GlyphId> {
+    fn nominal_glyph(&self, c: u32) -> Option<GlyphId> {
         let place = self.0.iter().position(|known| *known == c)?;
         u16::try_from(place + 1).ok().map(GlyphId)
     }
 
-    fn get_variation_glyph(&self, c: u32, selector: u32) -> Option<GlyphId> {
+    fn variation_glyph(&self, c: u32, selector: u32) -> Option<GlyphId> {
         ((c, selector) == (0x65, 0xFE01)).then_some(GlyphId(99))
     }
 
@@ -153,7 +153,7 @@ fn shown(glyph: &GlyphInfo) -> (u32, u32, u32) {
 struct Whole;
 
 impl Font for Whole {
-    fn get_nominal_glyph(&self, c: u32) -> Option<GlyphId> {
+    fn nominal_glyph(&self, c: u32) -> Option<GlyphId> {
         u16::try_from(c).ok().map(GlyphId)
     }
 
@@ -171,7 +171,7 @@ impl Font for Whole {
 }
 
 impl NormalizeFont for Whole {
-    fn get_variation_glyph(&self, _: u32, _: u32) -> Option<GlyphId> {
+    fn variation_glyph(&self, _: u32, _: u32) -> Option<GlyphId> {
         None
     }
 }

@@ -113,12 +113,12 @@ impl Tables for Composing {
 struct Whole;
 
 impl Font for Whole {
-    fn get_nominal_glyph(&self, c: u32) -> Option<GlyphId> {
+    fn nominal_glyph(&self, c: u32) -> Option<GlyphId> {
         (!(0xAC00..0xD7A4).contains(&c)).then_some(GlyphId(c as u16))
     }
 
     fn has_glyph(&self, c: u32) -> bool {
-        self.get_nominal_glyph(c).is_some()
+        self.nominal_glyph(c).is_some()
     }
 
     fn glyph_h_advance(&self, glyph: GlyphId) -> i32 {
@@ -364,7 +364,7 @@ fn table_of_jamo() {
 struct Syllables;
 
 impl Font for Syllables {
-    fn get_nominal_glyph(&self, c: u32) -> Option<GlyphId> {
+    fn nominal_glyph(&self, c: u32) -> Option<GlyphId> {
         Some(GlyphId(c as u16))
     }
 

@@ -15,7 +15,7 @@ use std::path::Path;
 struct Whole;
 
 impl Font for Whole {
-    fn get_nominal_glyph(&self, c: u32) -> Option<GlyphId> {
+    fn nominal_glyph(&self, c: u32) -> Option<GlyphId> {
         u16::try_from(c % 0xFFFF).ok().map(GlyphId)
     }
 
@@ -33,7 +33,7 @@ impl Font for Whole {
 }
 
 impl NormalizeFont for Whole {
-    fn get_variation_glyph(&self, _: u32, _: u32) -> Option<GlyphId> {
+    fn variation_glyph(&self, _: u32, _: u32) -> Option<GlyphId> {
         None
     }
 }

@@ -133,7 +133,7 @@ fn runs_from_right(script: Script) -> bool {
 struct WholeFont;
 
 impl Font for WholeFont {
-    fn get_nominal_glyph(&self, c: u32) -> Option<GlyphId> {
+    fn nominal_glyph(&self, c: u32) -> Option<GlyphId> {
         let category = general_category(char::from_u32(c)?);
         let is_assigned = !matches!(category, GeneralCategory::Cn | GeneralCategory::Co);
         is_assigned.then_some(GlyphId(1))
@@ -153,7 +153,7 @@ impl Font for WholeFont {
 }
 
 impl NormalizeFont for WholeFont {
-    fn get_variation_glyph(&self, _c: u32, _selector: u32) -> Option<GlyphId> {
+    fn variation_glyph(&self, _c: u32, _selector: u32) -> Option<GlyphId> {
         None
     }
 }

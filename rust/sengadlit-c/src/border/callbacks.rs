@@ -165,7 +165,7 @@ const QUESTIONED: usize = 3;
 // No call below uses a function that is missing (`Asked::font`, `AskedTables::of`).
 impl AnswersFont for Asked<'_, FontFuncs> {
     #[inline]
-    fn get_nominal_glyph(&self, c: u32) -> Option<GlyphId> {
+    fn nominal_glyph(&self, c: u32) -> Option<GlyphId> {
         let nominal = self.funcs.nominal_glyph?;
         let mut glyph = 0;
         // SAFETY: a callback of C, with what it is given and room for a glyph.

@@ -16,7 +16,7 @@ struct OneGlyph {
 }
 
 impl WideGlyphs for OneGlyph {
-    fn get_nominal_glyph(&mut self, _c: u32) -> Option<u32> {
+    fn nominal_glyph(&mut self, _c: u32) -> Option<u32> {
         Some(self.number)
     }
 
@@ -31,7 +31,7 @@ impl WideGlyphs for OneGlyph {
 }
 
 impl Glyphs for u16 {
-    fn get_nominal_glyph(&self, c: u32) -> Option<GlyphId> {
+    fn nominal_glyph(&self, c: u32) -> Option<GlyphId> {
         (c == CIRCLE).then_some(GlyphId(*self))
     }
 
@@ -80,7 +80,7 @@ fn a_font_of_features_collects_features() {
 #[test]
 #[should_panic = "a font for plan time alone has no result for a glyph"]
 fn a_font_of_features_has_no_glyphs() {
-    FeaturesOnly(|_: Tag| true).get_nominal_glyph(CIRCLE);
+    FeaturesOnly(|_: Tag| true).nominal_glyph(CIRCLE);
 }
 
 #[test]
@@ -218,7 +218,7 @@ fn a_font_of_characters_has_no_features() {
 struct Overriding;
 
 impl Glyphs for Overriding {
-    fn get_nominal_glyph(&self, _c: u32) -> Option<GlyphId> {
+    fn nominal_glyph(&self, _c: u32) -> Option<GlyphId> {
         None
     }
 
@@ -240,8 +240,8 @@ impl Glyphs for Overriding {
 }
 
 impl WideGlyphs for Overriding {
-    fn get_nominal_glyph(&mut self, c: u32) -> Option<u32> {
-        Glyphs::get_nominal_glyph(self, c).map(u32::from)
+    fn nominal_glyph(&mut self, c: u32) -> Option<u32> {
+        Glyphs::nominal_glyph(self, c).map(u32::from)
     }
 
     fn glyph_h_advance(&mut self, _glyph: u32) -> i32 {

@@ -11,7 +11,7 @@ use core::fmt;
 /// cache; the same arguments give the same result all the same.
 pub trait WideGlyphs {
     /// The font's own glyph for a character, before any lookup.
-    fn get_nominal_glyph(&mut self, c: u32) -> Option<u32>;
+    fn nominal_glyph(&mut self, c: u32) -> Option<u32>;
 
     /// How far a glyph moves the pen, in font units.
     fn glyph_h_advance(&mut self, glyph: u32) -> i32;
@@ -22,7 +22,7 @@ pub trait WideGlyphs {
 
     /// Whether the font has a nominal glyph for a character.
     fn has_glyph(&mut self, c: u32) -> bool {
-        self.get_nominal_glyph(c).is_some()
+        self.nominal_glyph(c).is_some()
     }
 
     /// Whether one of the lookups would apply to exactly these glyphs.
@@ -33,8 +33,8 @@ pub trait WideGlyphs {
 }
 
 impl<F: WideGlyphs + ?Sized> WideGlyphs for &mut F {
-    fn get_nominal_glyph(&mut self, c: u32) -> Option<u32> {
-        (**self).get_nominal_glyph(c)
+    fn nominal_glyph(&mut self, c: u32) -> Option<u32> {
+        (**self).nominal_glyph(c)
     }
 
     fn glyph_h_advance(&mut self, glyph: u32) -> i32 {
@@ -132,8 +132,8 @@ impl<F> Wide<F> {
 }
 
 impl<F: WideGlyphs> Font for Wide<F> {
-    fn get_nominal_glyph(&self, c: u32) -> Option<GlyphId> {
-        let number = self.font.borrow_mut().get_nominal_glyph(c)?;
+    fn nominal_glyph(&self, c: u32) -> Option<GlyphId> {
+        let number = self.font.borrow_mut().nominal_glyph(c)?;
         self.narrow(number)
     }
 

@@ -38,11 +38,18 @@ impl Error for Condition {}
 
 impl fmt::Display for CallError {
     fn fmt(&self, f: &mut fmt::Formatter<'_>) -> fmt::Result {
-        match self {
-            CallError::Condition(condition) => condition.fmt(f),
-            CallError::Refused(refusal) => refusal.fmt(f),
-        }
+        f.write_str(match self {
+            CallError::Condition(_) => "a condition of the call isn't met",
+            CallError::Refused(_) => "the call was refused",
+        })
     }
 }
 
-impl Error for CallError {}
+impl Error for CallError {
+    fn source(&self) -> Option<&(dyn Error + 'static)> {
+        match self {
+            CallError::Condition(condition) => Some(condition),
+            CallError::Refused(refusal) => Some(refusal),
+        }
+    }
+}

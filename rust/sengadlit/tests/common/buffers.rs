@@ -120,6 +120,8 @@ pub enum Glyphs {
     Letters,
     /// Whatever fits in the fields.
     Any,
+    /// The same, and whatever else calls of safe Rust make of a buffer (`spoiled`).
+    Spoiled,
 }
 
 /// The first characters of blocks whose letters the shapers know.
@@ -182,7 +184,7 @@ fn random_clusters(numbers: &mut Numbers, length: usize) -> Vec<u32> {
 fn random_glyph(numbers: &mut Numbers, kind: Glyphs, block: u32) -> GlyphInfo {
     let glyph_id = match kind {
         Glyphs::Letters => block + numbers.below(48).min(numbers.below(48)) as u32,
-        Glyphs::Any => numbers.number(),
+        Glyphs::Any | Glyphs::Spoiled => numbers.number(),
     };
     GlyphInfo {
         glyph_id,
@@ -203,12 +205,12 @@ fn random_syllables(numbers: &mut Numbers, kind: Glyphs, length: usize) -> Vec<u
     let longest = numbers.one_of(&[2, 5, 12]);
     let kinds = match kind {
         Glyphs::Letters => 3,
-        Glyphs::Any => 8,
+        Glyphs::Any | Glyphs::Spoiled => 8,
     };
     let mut bytes = Vec::new();
     while bytes.len() < length {
         let byte = match kind {
-            Glyphs::Any if numbers.once_in(30) => numbers.byte(),
+            Glyphs::Any | Glyphs::Spoiled if numbers.once_in(30) => numbers.byte(),
             _ => (numbers.below(16) * 16 + numbers.below(kinds)) as u8,
         };
         let end = length.min(bytes.len() + 1 + numbers.below(longest));
@@ -220,7 +222,7 @@ fn random_syllables(numbers: &mut Numbers, kind: Glyphs, length: usize) -> Vec<u
 /// A byte below `end`, or any.
 fn random_byte(numbers: &mut Numbers, kind: Glyphs, end: usize) -> u8 {
     match kind {
-        Glyphs::Any if numbers.once_in(4) => numbers.byte(),
+        Glyphs::Any | Glyphs::Spoiled if numbers.once_in(4) => numbers.byte(),
         _ => numbers.below(end) as u8,
     }
 }

@@ -61,13 +61,13 @@ pub struct LotFont<L>(pub L);
 pub struct LotTables<L>(pub L);
 
 impl<L: Lots> Font for LotFont<L> {
-    fn get_nominal_glyph(&self, c: u32) -> Option<GlyphId> {
+    fn nominal_glyph(&self, c: u32) -> Option<GlyphId> {
         let lot = self.0.lot(&[1, u64::from(c)], 100);
         (lot < 60).then_some(GlyphId(lot as u16))
     }
 
     fn has_glyph(&self, c: u32) -> bool {
-        self.get_nominal_glyph(c).is_some()
+        self.nominal_glyph(c).is_some()
     }
 
     fn glyph_h_advance(&self, glyph: GlyphId) -> i32 {
@@ -124,12 +124,12 @@ impl<L: Lots> Tables for LotTables<L> {
 pub struct PlainFont(pub i32);
 
 impl Font for PlainFont {
-    fn get_nominal_glyph(&self, c: u32) -> Option<GlyphId> {
+    fn nominal_glyph(&self, c: u32) -> Option<GlyphId> {
         (c == 0x25CC || (0x1100..=0x11FF).contains(&c)).then_some(GlyphId(7))
     }
 
     fn has_glyph(&self, c: u32) -> bool {
-        self.get_nominal_glyph(c).is_some()
+        self.nominal_glyph(c).is_some()
     }
 
     fn glyph_h_advance(&self, _glyph: GlyphId) -> i32 {

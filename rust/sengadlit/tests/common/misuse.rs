@@ -5,6 +5,7 @@ use super::calls::{Call, Setting};
 use super::fonts::{LotFont, LotTables};
 use super::numbers::Numbers;
 use super::plans::random_plan;
+use super::spoiled::spoil;
 use sengadlit::buffer::{Buffer, Span};
 use sengadlit::plan::Plan;
 use sengadlit::shaper::Shaper;
@@ -29,6 +30,9 @@ impl Misuse {
         let mut buffer = random_buffer(numbers, kind);
         if numbers.once_in(3) {
             set_random_positions(numbers, &mut buffer);
+        }
+        if kind == Glyphs::Spoiled {
+            spoil(numbers, &mut buffer);
         }
         Misuse {
             call: random_call(numbers, buffer.len()),

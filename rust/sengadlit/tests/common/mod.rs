@@ -11,4 +11,5 @@ pub mod misuse;
 pub mod numbers;
 pub mod plans;
 pub mod scenes;
+pub mod spoiled;
 pub mod watchdog;

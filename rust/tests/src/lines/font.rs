@@ -29,7 +29,7 @@ fn numbers(glyphs: &[GlyphId]) -> Vec<u16> {
 }
 
 impl Font for LineFont {
-    fn get_nominal_glyph(&self, c: u32) -> Option<GlyphId> {
+    fn nominal_glyph(&self, c: u32) -> Option<GlyphId> {
         self.glyphs.get(&c).copied().map(GlyphId)
     }
 

@@ -8,7 +8,7 @@ use crate::generated::hbhook_boxes::escaped::push_escaped;
 use crate::support::alloc::AllocError;
 
 /// How a text looks.
-#[derive(Clone, Copy, Debug, PartialEq, Eq)]
+#[derive(Clone, Copy, Debug, PartialEq, Eq, Hash)]
 pub(crate) enum Style {
     /// A character in its box.
     Now,

@@ -42,7 +42,7 @@ pub enum Side {
 }
 
 /// What a line does.
-#[derive(Clone, Copy, Debug, PartialEq, Eq)]
+#[derive(Clone, Copy, Debug, PartialEq, Eq, Hash)]
 pub enum LineKind {
     /// Puts a text into the buffer.
     Text,

@@ -61,7 +61,7 @@ impl LineFont {
 }
 
 impl Font for LineFont {
-    fn get_nominal_glyph(&self, c: u32) -> Option<GlyphId> {
+    fn nominal_glyph(&self, c: u32) -> Option<GlyphId> {
         self.glyphs.get(&c).copied()
     }
 

@@ -41,7 +41,7 @@ pub struct CanonicalPair {
 }
 
 /// What holds of the characters that no line names.
-#[derive(Clone, Copy, Debug, PartialEq, Eq)]
+#[derive(Clone, Copy, Debug, PartialEq, Eq, Hash)]
 pub enum OtherCharacters {
     /// [`CharacterEntry::DEFAULT`], and no pair.
     Unknown,

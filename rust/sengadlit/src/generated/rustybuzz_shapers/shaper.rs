@@ -27,7 +27,7 @@ use core::mem;
 pub use pauses::{pause_may_change, run_pause};
 
 /// A script shaper. Where it lacks a hook, a dash here, the method returns `None` and changes nothing;
-/// `has_hook` is this table. What runs between two stages of lookups is a [`Pause`].
+/// [`has_hook`] is this table. What runs between two stages of lookups is a [`Pause`].
 ///
 /// | hook | Arabic | Hangul | Hebrew | Indic | Khmer | Myanmar | Zawgyi | Thai | universal |
 /// |---|---|---|---|---|---|---|---|---|---|
@@ -40,7 +40,9 @@ pub use pauses::{pause_may_change, run_pause};
 /// | [`reorder_marks`](Self::reorder_marks) | yes | - | yes | - | - | - | - | - | - |
 /// | [`setup_masks`](Self::setup_masks) | yes | yes | - | yes | yes | yes | - | - | yes |
 /// | [`postprocess_glyphs`](Self::postprocess_glyphs) | yes | - | - | - | - | - | - | - | - |
-#[derive(Clone, Copy, Debug, PartialEq, Eq)]
+///
+/// [`has_hook`]: crate::Shaper::has_hook
+#[derive(Clone, Copy, Debug, PartialEq, Eq, Hash, PartialOrd, Ord)]
 pub enum Shaper {
     /// Arabic, Syriac and the scripts that join like them.
     Arabic,
@@ -63,25 +65,39 @@ pub enum Shaper {
 }
 
 /// A hook of a shaper, by its method.
-#[derive(Clone, Copy, Debug, PartialEq, Eq)]
+#[derive(Clone, Copy, Debug, PartialEq, Eq, Hash, PartialOrd, Ord)]
 pub enum Hook {
-    /// `collect_features`.
+    /// [`collect_features`].
+    ///
+    /// [`collect_features`]: crate::Shaper::collect_features
     CollectFeatures,
-    /// `override_features`.
+    /// [`override_features`].
+    ///
+    /// [`override_features`]: crate::Shaper::override_features
     OverrideFeatures,
-    /// `create_data`.
+    /// [`create_data`].
+    ///
+    /// [`create_data`]: crate::Shaper::create_data
     CreateData,
-    /// `preprocess_text`.
+    /// [`preprocess_text`].
+    ///
+    /// [`preprocess_text`]: crate::Shaper::preprocess_text
     PreprocessText,
-    /// `postprocess_glyphs`.
+    /// [`postprocess_glyphs`].
+    ///
+    /// [`postprocess_glyphs`]: crate::Shaper::postprocess_glyphs
     PostprocessGlyphs,
     /// `compose`.
     Compose,
     /// `decompose`.
     Decompose,
-    /// `setup_masks`.
+    /// [`setup_masks`].
+    ///
+    /// [`setup_masks`]: crate::Shaper::setup_masks
     SetupMasks,
-    /// `reorder_marks`.
+    /// [`reorder_marks`].
+    ///
+    /// [`reorder_marks`]: crate::Shaper::reorder_marks
     ReorderMarks,
 }
 
@@ -114,7 +130,7 @@ pub const UNIVERSAL_SHAPER: Shaper = Shaper::Universal;
 
 impl Shaper {
     /// For how many glyphs a text of so many needs room, whatever preprocessing or a pause of the shaper
-    /// makes of it: with this `max_len` neither refuses with `TooLong`. At most the greatest number.
+    /// makes of it: with this [`max_len`] neither refuses with [`TooLong`]. At most the greatest number.
     ///
     /// <details><summary>Contract</summary>
     ///
@@ -129,6 +145,9 @@ impl Shaper {
     /// - `PausesHaveRoom`, `PreprocessingHasRoom`, `growth`: `crates/rustybuzz_shapers/specs/Lengths.antt`
     ///
     /// </details>
+    ///
+    /// [`TooLong`]: crate::ShaperError::TooLong
+    /// [`max_len`]: crate::Buffer::max_len
     #[inline]
     pub const fn length_bound(self, len: usize) -> usize {
         len.saturating_mul(self.growth())
@@ -274,7 +293,7 @@ impl Shaper {
     ///
     /// # Errors
     ///
-    /// `Memory`; the planner is as it was then.
+    /// [`Memory`]; the planner is as it was then.
     ///
     /// <details><summary>Contract</summary>
     ///
@@ -296,6 +315,8 @@ impl Shaper {
     /// - `rclt`: `crates/shapers_arabic/specs/Requests.antt`
     ///
     /// </details>
+    ///
+    /// [`Memory`]: crate::ShaperError::Memory
     pub fn collect_features<F: Font>(
         self,
         face: &F,
@@ -317,7 +338,7 @@ impl Shaper {
     ///
     /// # Errors
     ///
-    /// `Memory`; the planner is as it was then.
+    /// [`Memory`]; the planner is as it was then.
     ///
     /// <details><summary>Contract</summary>
     ///
@@ -336,6 +357,8 @@ impl Shaper {
     /// - `has_hook`: `crates/rustybuzz_shapers/specs/Standing.antt`
     ///
     /// </details>
+    ///
+    /// [`Memory`]: crate::ShaperError::Memory
     pub fn override_features(self, planner: &mut Planner) -> Result<Option<()>, ShaperError> {
         match self {
             Self::Hangul => Ok(Some(ot_shaper_hangul::override_features(planner)?)),
@@ -380,8 +403,12 @@ impl Shaper {
     ///
     /// # Errors
     ///
-    /// `TooLong` where the buffer would be longer than `max_len`, `Memory` where memory is
+    /// [`TooLong`] where the buffer would be longer than [`max_len`], [`Memory`] where memory is
     /// refused; nothing has changed then.
+    ///
+    /// # Panics
+    ///
+    /// May panic, or rewrite the text in an unspecified way, where the buffer has positions.
     ///
     /// <details><summary>Contract</summary>
     ///
@@ -403,6 +430,10 @@ impl Shaper {
     /// - `has_hook`: `crates/rustybuzz_shapers/specs/Standing.antt`
     ///
     /// </details>
+    ///
+    /// [`Memory`]: crate::ShaperError::Memory
+    /// [`TooLong`]: crate::ShaperError::TooLong
+    /// [`max_len`]: crate::Buffer::max_len
     #[inline]
     pub fn preprocess_text<F: Font>(
         self,
@@ -431,8 +462,13 @@ impl Shaper {
     ///
     /// # Errors
     ///
-    /// `StretchOverflow` where a number or an offset doesn't fit 32 bits; `TooLong` and
-    /// `Memory`. Nothing has changed then.
+    /// [`StretchOverflow`] where a number or an offset doesn't fit 32 bits; [`TooLong`] and
+    /// [`Memory`]. Nothing has changed then.
+    ///
+    /// # Panics
+    ///
+    /// May panic, or move glyphs in an unspecified way, where the buffer doesn't have one position per glyph. For Arabic it
+    /// panics where the plan has no data of Arabic, or a stretched word has a glyph number above 65535.
     ///
     /// <details><summary>Contract</summary>
     ///
@@ -458,6 +494,10 @@ impl Shaper {
     /// - `glyphs_added`: `crates/rustybuzz_shapers/specs/Stretched.antt`
     ///
     /// </details>
+    ///
+    /// [`Memory`]: crate::ShaperError::Memory
+    /// [`StretchOverflow`]: crate::ShaperError::StretchOverflow
+    /// [`TooLong`]: crate::ShaperError::TooLong
     #[inline]
     pub fn postprocess_glyphs<F: Font>(
         self,
@@ -556,6 +596,11 @@ impl Shaper {
     /// Myanmar categories alone, for the universal shaper these and, where letters join, Arabic's
     /// forms. It can't refuse and takes no memory.
     ///
+    /// # Panics
+    ///
+    /// For Arabic, Hangul and universal: where the plan has no data of the shaper. For Arabic, and for universal where
+    /// letters join: where a glyph is no character.
+    ///
     /// <details><summary>Contract</summary>
     ///
     /// # Contract
@@ -613,6 +658,11 @@ impl Shaper {
     /// Reorders the marks from `start` to `end`: for Hebrew, at the first three neighbours of its
     /// classes, the last two merge and change places; for Arabic, over at most 32 places, marks
     /// that modify a letter come to the front. It can't refuse and takes no memory.
+    ///
+    /// # Panics
+    ///
+    /// Where `start` is above `end`, or `end` above the length; for Arabic it may panic, too, where there are more than 32
+    /// places. (The shapers that lack the hook don't look at them.)
     ///
     /// <details><summary>Contract</summary>
     ///

@@ -44,7 +44,7 @@ const LAST_REQUESTS: [Request; 3] = [
 
 /// Requests the features of Arabic, in the order of its OpenType specification; for the script
 /// Arabic itself with the pause of the fallback shaper.
-/// The only refusal is `Memory`, which leaves the planner as it was.
+/// The only refusal is [`Memory`], which leaves the planner as it was.
 ///
 /// <details><summary>Contract</summary>
 ///
@@ -62,6 +62,8 @@ const LAST_REQUESTS: [Request; 3] = [
 /// - `with_requests`: `crates/shapers_base/specs/Planner.antt`
 ///
 /// </details>
+///
+/// [`Memory`]: crate::ShaperError::Memory
 pub fn collect_features<F: Font>(face: &F, planner: &mut Planner) -> Result<(), ShaperError> {
     let is_arabic = planner.script() == Some(Script(*b"Arab"));
     let has_rclt = planner.has_feature(face, Tag(*b"rclt"));
@@ -118,6 +120,10 @@ fn joining_requests(flags: u32) -> [Request; 14] {
 /// Gives each glyph the form that its neighbours require, in its auxiliary byte, the form's mask
 /// and the glyph flags of joining; a text that is cut acts as the whole where the halves see their
 /// neighbours. It can't refuse and takes no memory.
+///
+/// # Panics
+///
+/// Where a glyph is no character.
 ///
 /// <details><summary>Contract</summary>
 ///

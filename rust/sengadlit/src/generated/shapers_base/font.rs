@@ -8,7 +8,7 @@ use crate::generated::shapers_base::plan::{Category, JoiningType, Position};
 
 /// A glyph of a font, by its number, in two bytes.
 #[repr(transparent)]
-#[derive(Clone, Copy, Debug, PartialEq, Eq)]
+#[derive(Clone, Copy, Debug, PartialEq, Eq, Hash, PartialOrd, Ord)]
 pub struct GlyphId(pub u16);
 
 /// A font, as far as the shapers read it.
@@ -24,7 +24,7 @@ pub trait Font {
     /// ```
     ///
     /// </details>
-    fn get_nominal_glyph(&self, c: u32) -> Option<GlyphId>;
+    fn nominal_glyph(&self, c: u32) -> Option<GlyphId>;
 
     /// Whether the font has a nominal glyph for a character. An impl overrides this where it knows
     /// without making the glyph.
@@ -42,7 +42,7 @@ pub trait Font {
     /// </details>
     #[inline]
     fn has_glyph(&self, c: u32) -> bool {
-        self.get_nominal_glyph(c).is_some()
+        self.nominal_glyph(c).is_some()
     }
 
     /// How far a glyph moves the pen, in font units.
@@ -72,7 +72,7 @@ pub trait Font {
     /// </details>
     fn would_apply(&self, lookup: u16, glyphs: &[GlyphId], zero_context: bool) -> bool;
 
-    /// Whether one of these lookups would apply to exactly these glyphs. This calls `would_apply`
+    /// Whether one of these lookups would apply to exactly these glyphs. This calls [`would_apply`]
     /// for each up to the first that would; an impl overrides it where it knows that at once.
     ///
     /// <details><summary>Contract</summary>
@@ -86,6 +86,8 @@ pub trait Font {
     /// - `would_one`: `crates/shapers_base/specs/Map.antt`
     ///
     /// </details>
+    ///
+    /// [`would_apply`]: crate::Font::would_apply
     #[inline]
     fn would_apply_any(&self, lookups: &[u16], glyphs: &[GlyphId], zero_context: bool) -> bool {
         lookups

@@ -24,7 +24,7 @@ pub const F_MANUAL_JOINERS: u32 = F_MANUAL_ZWNJ | F_MANUAL_ZWJ;
 pub const F_PER_SYLLABLE: u32 = 64;
 
 /// One of the two tables of a font that features stand in.
-#[derive(Clone, Copy, Debug, PartialEq, Eq)]
+#[derive(Clone, Copy, Debug, PartialEq, Eq, Hash)]
 pub enum TableIndex {
     /// The table of substitutions.
     GSUB,
@@ -33,7 +33,7 @@ pub enum TableIndex {
 }
 
 /// A feature of the map.
-#[derive(Clone, Copy, Debug, PartialEq, Eq)]
+#[derive(Clone, Copy, Debug, PartialEq, Eq, Hash)]
 pub struct FeatureMap {
     /// The tag of the feature.
     pub tag: Tag,
@@ -44,14 +44,14 @@ pub struct FeatureMap {
 }
 
 /// The map that the font's GSUB table and the wanted features make.
-#[derive(Debug)]
+#[derive(Debug, PartialEq, Eq)]
 pub struct Map {
-    features: Vec<FeatureMap>,
-    stages: Vec<Range<usize>>,
-    lookups: Vec<u16>,
-    global_mask: u32,
-    chosen_script: Option<Tag>,
-    found_script: bool,
+    pub(crate) features: Vec<FeatureMap>,
+    pub(crate) stages: Vec<Range<usize>>,
+    pub(crate) lookups: Vec<u16>,
+    pub(crate) global_mask: u32,
+    pub(crate) chosen_script: Option<Tag>,
+    pub(crate) found_script: bool,
 }
 
 impl Map {
@@ -98,12 +98,12 @@ impl Map {
         })
     }
 
-    /// A map of copies of these, by the same rule as `new`. The only refusal is `Memory`, and none
+    /// A map of copies of these, by the same rule as `new`. The only refusal is [`Memory`], and none
     /// comes where they can't be a map's.
     ///
     /// # Errors
     ///
-    /// `Memory`.
+    /// [`Memory`].
     ///
     /// <details><summary>Contract</summary>
     ///
@@ -134,6 +134,8 @@ impl Map {
     /// - `Map`, `can_be_map`: `crates/shapers_base/specs/Map.antt`
     ///
     /// </details>
+    ///
+    /// [`Memory`]: crate::ShaperError::Memory
     pub fn from_slices(
         alloc: Global,
         features: &[FeatureMap],
@@ -171,7 +173,7 @@ impl Map {
     ///
     /// </details>
     #[inline]
-    pub fn get_1_mask(&self, tag: Tag) -> u32 {
+    pub fn one_mask(&self, tag: Tag) -> u32 {
         match first_feature(self.features.as_slice(), tag) {
             Some(feature) => feature.mask,
             None => 0,
@@ -192,7 +194,7 @@ impl Map {
     ///
     /// </details>
     #[inline]
-    pub fn get_feature_stage(&self, table_index: TableIndex, tag: Tag) -> Option<usize> {
+    pub fn stage_of(&self, table_index: TableIndex, tag: Tag) -> Option<usize> {
         match table_index {
             TableIndex::GSUB => Some(first_feature(self.features.as_slice(), tag)?.stage),
             TableIndex::GPOS => None,
@@ -318,7 +320,7 @@ impl Map {
     ///
     /// </details>
     #[inline]
-    pub fn get_global_mask(&self) -> u32 {
+    pub fn global_bits(&self) -> u32 {
         self.global_mask
     }
 }

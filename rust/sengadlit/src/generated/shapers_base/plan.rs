@@ -34,14 +34,18 @@ pub use planner::{Planner, Request};
 pub use record::{NormalizationMode, ZeroWidthMarks};
 pub use universal::UniversalPlan;
 
-/// The category of a character among those of `ot_category_t` or of the universal shaper.
+/// The category of a character among those of [`ot_category_t`] or of the universal shaper.
+///
+/// [`ot_category_t`]: crate::plan::ot_category_t
 pub type Category = u8;
 
-/// The position of a glyph in its syllable, among those of `ot_position_t`.
+/// The position of a glyph in its syllable, among those of [`ot_position_t`].
+///
+/// [`ot_position_t`]: crate::plan::ot_position_t
 pub type Position = u8;
 
 /// What a shaper does to a text of one script. A later version may add fields.
-#[derive(Debug)]
+#[derive(Debug, PartialEq, Eq)]
 #[non_exhaustive]
 pub struct Plan {
     /// The script of the text, where it is known.
@@ -91,7 +95,7 @@ impl Plan {
 }
 
 /// What a shaper keeps in the plan.
-#[derive(Debug, PartialEq, Eq)]
+#[derive(Debug, PartialEq, Eq, Hash, Clone)]
 pub enum PlanData {
     /// Nothing.
     None,
@@ -214,8 +218,10 @@ impl PlanData {
     }
 }
 
-/// What `preprocess_text` left to its caller.
-#[derive(Clone, Copy, Debug, PartialEq, Eq)]
+/// What [`preprocess_text`] left to its caller.
+///
+/// [`preprocess_text`]: crate::Shaper::preprocess_text
+#[derive(Clone, Copy, Debug, PartialEq, Eq, Hash)]
 pub enum Preprocess {
     /// Nothing: the text is rewritten.
     Done,

@@ -50,7 +50,9 @@ pub use walking::{GlyphChange, GlyphWalk, PositionedWalk, change_each_in};
 pub const CONTEXT_LENGTH: usize = 5;
 
 /// A list of glyphs, with positions or without, its settings, the text on both sides and marks
-/// that one hook leaves for a later one. Its length never passes `max_len`.
+/// that one hook leaves for a later one. Its length never passes [`max_len`].
+///
+/// [`max_len`]: crate::Buffer::max_len
 #[derive(Debug)]
 pub struct Buffer {
     info: Vec<GlyphInfo>,
@@ -204,7 +206,7 @@ impl Buffer {
     ///
     /// # Errors
     ///
-    /// `TooLong` where the buffer would be longer than `max_len`, `Memory` where memory is
+    /// [`TooLong`] where the buffer would be longer than [`max_len`], [`Memory`] where memory is
     /// refused; nothing has changed then.
     ///
     /// <details><summary>Contract</summary>
@@ -222,6 +224,10 @@ impl Buffer {
     /// - `RefusesLength`: `crates/shapers_buffer/specs/Refusals.antt`
     ///
     /// </details>
+    ///
+    /// [`Memory`]: crate::ShaperError::Memory
+    /// [`TooLong`]: crate::ShaperError::TooLong
+    /// [`max_len`]: crate::Buffer::max_len
     #[inline]
     pub fn push(&mut self, glyph: GlyphInfo) -> Result<(), ShaperError> {
         if self.info.len() == self.max_len {
@@ -236,7 +242,7 @@ impl Buffer {
     ///
     /// # Errors
     ///
-    /// `TooLong` where the buffer would be longer than `max_len`, `Memory` where memory is
+    /// [`TooLong`] where the buffer would be longer than [`max_len`], [`Memory`] where memory is
     /// refused; nothing has changed then.
     ///
     /// <details><summary>Contract</summary>
@@ -253,6 +259,10 @@ impl Buffer {
     /// - `RefusesLength`: `crates/shapers_buffer/specs/Refusals.antt`
     ///
     /// </details>
+    ///
+    /// [`Memory`]: crate::ShaperError::Memory
+    /// [`TooLong`]: crate::ShaperError::TooLong
+    /// [`max_len`]: crate::Buffer::max_len
     #[inline]
     pub fn grow(&mut self, n: usize) -> Result<(), ShaperError> {
         if self.max_len - self.info.len() < n {
@@ -293,7 +303,7 @@ impl Buffer {
     ///
     /// # Errors
     ///
-    /// `Memory`.
+    /// [`Memory`].
     ///
     /// <details><summary>Contract</summary>
     ///
@@ -305,6 +315,8 @@ impl Buffer {
     /// ```
     ///
     /// </details>
+    ///
+    /// [`Memory`]: crate::ShaperError::Memory
     #[inline]
     pub fn copy(&self) -> Result<Self, ShaperError> {
         let alloc = self.alloc();

@@ -6,7 +6,7 @@
 use crate::generated::shapers_buffer::buffer::{Direction, Script, Tag};
 
 /// The shaper of a script, by the names of the shapers.
-#[derive(Clone, Copy, Debug, PartialEq, Eq)]
+#[derive(Clone, Copy, Debug, PartialEq, Eq, Hash)]
 pub enum ScriptShaper {
     /// Arabic and Syriac.
     Arabic,

@@ -25,7 +25,7 @@ const REQUESTS: [Request; 3] = [
 const OVERRIDES: [Request; 1] = [Request::Feature(Tag(*b"calt"), F_GLOBAL, 0)];
 
 /// Requests the forms of jamo.
-/// The only refusal is `Memory`, which leaves the planner as it was.
+/// The only refusal is [`Memory`], which leaves the planner as it was.
 ///
 /// <details><summary>Contract</summary>
 ///
@@ -41,12 +41,14 @@ const OVERRIDES: [Request; 1] = [Request::Feature(Tag(*b"calt"), F_GLOBAL, 0)];
 /// - `hangul_list`: `crates/shapers_hangul/specs/Requests.antt`
 ///
 /// </details>
+///
+/// [`Memory`]: crate::ShaperError::Memory
 pub fn collect_features(planner: &mut Planner) -> Result<(), ShaperError> {
     planner.add_requests(&REQUESTS)
 }
 
 /// Turns off what fonts mix up with the forms of jamo.
-/// The only refusal is `Memory`, which leaves the planner as it was.
+/// The only refusal is [`Memory`], which leaves the planner as it was.
 ///
 /// <details><summary>Contract</summary>
 ///
@@ -62,6 +64,8 @@ pub fn collect_features(planner: &mut Planner) -> Result<(), ShaperError> {
 /// - `hangul_overrides`: `crates/shapers_hangul/specs/Requests.antt`
 ///
 /// </details>
+///
+/// [`Memory`]: crate::ShaperError::Memory
 pub fn override_features(planner: &mut Planner) -> Result<(), ShaperError> {
     planner.add_requests(&OVERRIDES)
 }
@@ -105,13 +109,17 @@ pub fn preprocess_text<F: Font>(
     rewrite(face, buffer)
 }
 
-/// `preprocess_text`, which returns whether it rewrote the text: just where every character stays as
+/// [`preprocess_text`], which returns whether it rewrote the text: just where every character stays as
 /// it is, it returns false, and has changed nothing.
 ///
 /// # Errors
 ///
-/// `TooLong` where the buffer would be longer than `max_len`, `Memory` where memory is refused;
+/// [`TooLong`] where the buffer would be longer than [`max_len`], [`Memory`] where memory is refused;
 /// nothing has changed then.
+///
+/// # Panics
+///
+/// Where the font does.
 ///
 /// <details><summary>Contract</summary>
 ///
@@ -137,6 +145,11 @@ pub fn preprocess_text<F: Font>(
 /// - `AllKept`, `KeepsClusters`, `KeepsGlyphFlags`, `SpellsByUnits`, `SpellsSame`: `crates/shapers_hangul/specs/HangulLaws.antt`
 ///
 /// </details>
+///
+/// [`Memory`]: crate::ShaperError::Memory
+/// [`TooLong`]: crate::ShaperError::TooLong
+/// [`max_len`]: crate::Buffer::max_len
+/// [`preprocess_text`]: crate::Shaper::preprocess_text
 #[inline]
 pub fn preprocess_text_changes<F: Font>(
     _plan: &Plan,
@@ -165,9 +178,9 @@ pub fn create_data(plan: &Plan) -> PlanData {
     PlanData::Hangul(HangulPlan {
         mask_array: [
             0,
-            plan.ot_map.get_1_mask(Tag(*b"ljmo")),
-            plan.ot_map.get_1_mask(Tag(*b"vjmo")),
-            plan.ot_map.get_1_mask(Tag(*b"tjmo")),
+            plan.ot_map.one_mask(Tag(*b"ljmo")),
+            plan.ot_map.one_mask(Tag(*b"vjmo")),
+            plan.ot_map.one_mask(Tag(*b"tjmo")),
         ],
     })
 }

@@ -66,7 +66,7 @@ const OVERRIDES: [Request; 2] = [
 ];
 
 /// Requests the features of Indic, in the order of its OpenType specification.
-/// The only refusal is `Memory`, which leaves the planner as it was.
+/// The only refusal is [`Memory`], which leaves the planner as it was.
 ///
 /// <details><summary>Contract</summary>
 ///
@@ -82,12 +82,14 @@ const OVERRIDES: [Request; 2] = [
 /// - `indic_list`: `crates/shapers_indic/specs/Requests.antt`
 ///
 /// </details>
+///
+/// [`Memory`]: crate::ShaperError::Memory
 pub fn collect_features(planner: &mut Planner) -> Result<(), ShaperError> {
     planner.add_requests(&REQUESTS)
 }
 
 /// Turns off ligatures, and requests that syllables be cleared.
-/// The only refusal is `Memory`, which leaves the planner as it was.
+/// The only refusal is [`Memory`], which leaves the planner as it was.
 ///
 /// <details><summary>Contract</summary>
 ///
@@ -103,6 +105,8 @@ pub fn collect_features(planner: &mut Planner) -> Result<(), ShaperError> {
 /// - `indic_overrides`: `crates/shapers_indic/specs/Requests.antt`
 ///
 /// </details>
+///
+/// [`Memory`]: crate::ShaperError::Memory
 pub fn override_features(planner: &mut Planner) -> Result<(), ShaperError> {
     planner.add_requests(&OVERRIDES)
 }

@@ -41,7 +41,7 @@ const OVERRIDES: [Request; 2] = [
 ];
 
 /// Requests the features of Khmer, in the order of its OpenType specification.
-/// The only refusal is `Memory`, which leaves the planner as it was.
+/// The only refusal is [`Memory`], which leaves the planner as it was.
 ///
 /// <details><summary>Contract</summary>
 ///
@@ -57,12 +57,14 @@ const OVERRIDES: [Request; 2] = [
 /// - `khmer_list`: `crates/shapers_khmer/specs/Requests.antt`
 ///
 /// </details>
+///
+/// [`Memory`]: crate::ShaperError::Memory
 pub fn collect_features(planner: &mut Planner) -> Result<(), ShaperError> {
     planner.add_requests(&REQUESTS)
 }
 
 /// Requests contextual ligatures, and turns off the others.
-/// The only refusal is `Memory`, which leaves the planner as it was.
+/// The only refusal is [`Memory`], which leaves the planner as it was.
 ///
 /// <details><summary>Contract</summary>
 ///
@@ -78,6 +80,8 @@ pub fn collect_features(planner: &mut Planner) -> Result<(), ShaperError> {
 /// - `khmer_overrides`: `crates/shapers_khmer/specs/Requests.antt`
 ///
 /// </details>
+///
+/// [`Memory`]: crate::ShaperError::Memory
 pub fn override_features(planner: &mut Planner) -> Result<(), ShaperError> {
     planner.add_requests(&OVERRIDES)
 }
@@ -102,11 +106,11 @@ pub fn create_data(plan: &Plan) -> PlanData {
     let map = &plan.ot_map;
     PlanData::Khmer(KhmerPlan {
         mask_array: [
-            map.get_1_mask(Tag(*b"pref")),
-            map.get_1_mask(Tag(*b"blwf")),
-            map.get_1_mask(Tag(*b"abvf")),
-            map.get_1_mask(Tag(*b"pstf")),
-            map.get_1_mask(Tag(*b"cfar")),
+            map.one_mask(Tag(*b"pref")),
+            map.one_mask(Tag(*b"blwf")),
+            map.one_mask(Tag(*b"abvf")),
+            map.one_mask(Tag(*b"pstf")),
+            map.one_mask(Tag(*b"cfar")),
             0,
             0,
             0,

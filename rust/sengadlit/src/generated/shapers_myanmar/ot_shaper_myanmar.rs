@@ -40,7 +40,7 @@ const REQUESTS: [Request; 17] = [
 ];
 
 /// Requests the features of Myanmar, in the order of its OpenType specification.
-/// The only refusal is `Memory`, which leaves the planner as it was.
+/// The only refusal is [`Memory`], which leaves the planner as it was.
 ///
 /// <details><summary>Contract</summary>
 ///
@@ -56,6 +56,8 @@ const REQUESTS: [Request; 17] = [
 /// - `myanmar_list`: `crates/shapers_myanmar/specs/Requests.antt`
 ///
 /// </details>
+///
+/// [`Memory`]: crate::ShaperError::Memory
 pub fn collect_features(planner: &mut Planner) -> Result<(), ShaperError> {
     planner.add_requests(&REQUESTS)
 }
@@ -89,8 +91,8 @@ const CIRCLES: ScriptCircles = ScriptCircles {
 
 /// Gives broken syllables their dotted circles, and then brings each syllable into the order in
 /// which it is drawn. (OpenType, Myanmar script development.) Returns whether circles were wanted.
-/// Every cluster afterwards is one that the text had. Refuses with `UnknownSyllable` where a kind
-/// is unknown, with `TooLong`, and with `Memory`, but not where no circle opens.
+/// Every cluster afterwards is one that the text had. Refuses with [`UnknownSyllable`] where a kind
+/// is unknown, with [`TooLong`], and with [`Memory`], but not where no circle opens.
 ///
 /// <details><summary>Contract</summary>
 ///
@@ -133,6 +135,10 @@ const CIRCLES: ScriptCircles = ScriptCircles {
 /// - `PauseCutsAtBorders`: `crates/shapers_syllabic/specs/ReorderingLaws.antt`
 ///
 /// </details>
+///
+/// [`Memory`]: crate::ShaperError::Memory
+/// [`TooLong`]: crate::ShaperError::TooLong
+/// [`UnknownSyllable`]: crate::ShaperError::UnknownSyllable
 #[inline]
 pub fn reorder_myanmar<F: Font>(face: &F, buffer: &mut Buffer) -> Result<bool, ShaperError> {
     let last_kind = Some(myanmar_syllable::NON_MYANMAR_CLUSTER);

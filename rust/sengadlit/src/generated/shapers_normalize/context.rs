@@ -44,13 +44,13 @@ impl<'a, F: NormalizeFont, T: NormalizeTables> NormalizeContext for ShaperContex
     }
 
     #[inline]
-    fn get_nominal_glyph(&self, c: u32) -> Option<GlyphId> {
-        self.font.get_nominal_glyph(c)
+    fn nominal_glyph(&self, c: u32) -> Option<GlyphId> {
+        self.font.nominal_glyph(c)
     }
 
     #[inline]
-    fn get_variation_glyph(&self, c: u32, selector: u32) -> Option<GlyphId> {
-        self.font.get_variation_glyph(c, selector)
+    fn variation_glyph(&self, c: u32, selector: u32) -> Option<GlyphId> {
+        self.font.variation_glyph(c, selector)
     }
 
     #[inline]

@@ -21,7 +21,7 @@ pub trait NormalizeFont: Font {
     /// ```
     ///
     /// </details>
-    fn get_variation_glyph(&self, c: u32, selector: u32) -> Option<GlyphId>;
+    fn variation_glyph(&self, c: u32, selector: u32) -> Option<GlyphId>;
 }
 
 /// Unicode's tables with the classes of marks and the ignorable characters.

@@ -26,8 +26,8 @@ use crate::generated::shapers_prepare::ot_shape_prepare::{
 ///
 /// # Errors
 ///
-/// `Condition`: `Positions` and `PlanData`, and nothing has changed then; `Glyphs` where a number
-/// isn't a character's, and the text is normalized then. `Refused` with `TooLong` and `Memory`: the
+/// [`Condition`]: `Positions` and `PlanData`, and nothing has changed then; `Glyphs` where a number
+/// isn't a character's, and the text is normalized then. `Refused` with [`TooLong`] and [`Memory`]: the
 /// text is as it was before the step that wanted more room.
 ///
 /// <details><summary>Contract</summary>
@@ -51,6 +51,10 @@ use crate::generated::shapers_prepare::ot_shape_prepare::{
 /// - `IsPrepared`, `IsStopped`: `crates/shapers_pipeline/specs/Refusals.antt`
 ///
 /// </details>
+///
+/// [`Condition`]: crate::shaper::checked::Condition
+/// [`Memory`]: crate::ShaperError::Memory
+/// [`TooLong`]: crate::ShaperError::TooLong
 pub fn prepare_text<F: NormalizeFont, T: NormalizeTables + UnicodeProperties>(
     plan: &TextPlan,
     settings: &NormalizeSettings,
@@ -114,7 +118,7 @@ fn rotation_to(masks: &DriverMasks, direction: Direction) -> CharRotation {
 // Sets the features of the whole text and the properties of its characters.
 #[inline]
 fn begin_text<T: UnicodeProperties>(plan: &TextPlan, tables: &T, buffer: &mut Buffer) {
-    initialize_masks(plan.plan.ot_map.get_global_mask(), buffer);
+    initialize_masks(plan.plan.ot_map.global_bits(), buffer);
     set_unicode_properties(tables, buffer);
 }
 

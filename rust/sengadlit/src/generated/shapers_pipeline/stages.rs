@@ -19,6 +19,10 @@ use crate::generated::shapers_plan::ot_map::{Stage, StageLookup};
 /// A condition of a pause that isn't met, or the refusal of a lookup or a pause. The buffer is as
 /// it was before that one.
 ///
+/// # Panics
+///
+/// Where the font or the lookups do. May panic, or leave an unspecified text, where the buffer has positions.
+///
 /// <details><summary>Contract</summary>
 ///
 /// # Contract

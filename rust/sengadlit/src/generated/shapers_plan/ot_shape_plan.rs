@@ -21,7 +21,7 @@ mod user;
 pub use user::{UserFeature, UserRange};
 
 /// The masks of features that the driver itself turns on; 0 where the font lacks one.
-#[derive(Clone, Copy, Debug, PartialEq, Eq)]
+#[derive(Clone, Copy, Debug, PartialEq, Eq, Hash)]
 pub struct DriverMasks {
     /// Fractions.
     pub frac: u32,
@@ -36,16 +36,16 @@ pub struct DriverMasks {
 }
 
 /// What is decided for the texts of one script, direction and font before one is seen.
-#[derive(Debug)]
+#[derive(Debug, PartialEq, Eq)]
 pub struct ShapePlan {
-    shaper: Option<Shaper>,
-    plan: Plan,
-    direction: Direction,
-    substitutions: Vec<Stage>,
-    lookups: Vec<StageLookup>,
-    positioning: Vec<StageLookup>,
-    masks: DriverMasks,
-    ranges: Vec<UserRange>,
+    pub(crate) shaper: Option<Shaper>,
+    pub(crate) plan: Plan,
+    pub(crate) direction: Direction,
+    pub(crate) substitutions: Vec<Stage>,
+    pub(crate) lookups: Vec<StageLookup>,
+    pub(crate) positioning: Vec<StageLookup>,
+    pub(crate) masks: DriverMasks,
+    pub(crate) ranges: Vec<UserRange>,
 }
 
 impl ShapePlan {
@@ -54,7 +54,7 @@ impl ShapePlan {
     ///
     /// # Errors
     ///
-    /// `Memory`.
+    /// [`Memory`].
     ///
     /// <details><summary>Contract</summary>
     ///
@@ -71,6 +71,8 @@ impl ShapePlan {
     /// - `text_plan`: `crates/shapers_plan/specs/Planning.antt`
     ///
     /// </details>
+    ///
+    /// [`Memory`]: crate::ShaperError::Memory
     pub fn new<F: Font, L: FontFeatures>(
         alloc: Global,
         script: Option<Script>,

@@ -15,7 +15,7 @@ const DEAD: u8 = 130;
 const NONE: u8 = 255;
 
 /// The machine for the syllables of Indic scripts.
-#[derive(Clone, Copy, Debug)]
+#[derive(Clone, Copy, Debug, Default, PartialEq, Eq)]
 pub struct Indic;
 
 impl Machine for Indic {

@@ -15,7 +15,7 @@ const DEAD: u8 = 32;
 const NONE: u8 = 255;
 
 /// The machine for the syllables of Khmer.
-#[derive(Clone, Copy, Debug)]
+#[derive(Clone, Copy, Debug, Default, PartialEq, Eq)]
 pub struct Khmer;
 
 impl Machine for Khmer {

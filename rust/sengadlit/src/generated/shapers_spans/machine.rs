@@ -50,6 +50,10 @@ pub trait Machine {
 
     /// The state behind one more category.
     ///
+    /// # Panics
+    ///
+    /// May panic where `state` is none of the machine's.
+    ///
     /// <details><summary>Contract</summary>
     ///
     /// # Contract
@@ -80,6 +84,10 @@ pub trait Machine {
 
     /// Whether nothing ends from here on.
     ///
+    /// # Panics
+    ///
+    /// May panic where `state` is none of the machine's.
+    ///
     /// <details><summary>Contract</summary>
     ///
     /// # Contract
@@ -95,6 +103,10 @@ pub trait Machine {
 
     /// The kind of what ends here, if anything does.
     ///
+    /// # Panics
+    ///
+    /// May panic where `state` is none of the machine's.
+    ///
     /// <details><summary>Contract</summary>
     ///
     /// # Contract
@@ -108,6 +120,10 @@ pub trait Machine {
     fn kind(&self, state: u8) -> Option<u8>;
 
     /// Whether joiners, as many as there are, lead from this state back to it.
+    ///
+    /// # Panics
+    ///
+    /// May panic where `state` is none of the machine's.
     ///
     /// <details><summary>Contract</summary>
     ///
@@ -125,6 +141,10 @@ pub trait Machine {
     fn turns(&self, state: u8) -> bool;
 
     /// The first place from `n` on whose glyph is read.
+    ///
+    /// # Panics
+    ///
+    /// May panic where `n` is above the number of glyphs.
     ///
     /// <details><summary>Contract</summary>
     ///

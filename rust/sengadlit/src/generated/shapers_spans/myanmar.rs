@@ -15,7 +15,7 @@ const DEAD: u8 = 57;
 const NONE: u8 = 255;
 
 /// The machine for the syllables of Myanmar.
-#[derive(Clone, Copy, Debug)]
+#[derive(Clone, Copy, Debug, Default, PartialEq, Eq)]
 pub struct Myanmar;
 
 impl Machine for Myanmar {

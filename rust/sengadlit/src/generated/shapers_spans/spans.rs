@@ -10,7 +10,11 @@ use crate::generated::shapers_spans::machine::Machine;
 use crate::support::alloc::Global;
 
 /// The syllables of the glyphs, by a machine. They cover the glyphs, and their kinds fit a syllable
-/// byte. The only refusal is `Memory`.
+/// byte. The only refusal is [`Memory`].
+///
+/// # Errors
+///
+/// [`Memory`].
 ///
 /// <details><summary>Contract</summary>
 ///
@@ -25,6 +29,8 @@ use crate::support::alloc::Global;
 /// - `AreSpansOf`: `crates/shapers_spans/specs/Cuts.antt`
 ///
 /// </details>
+///
+/// [`Memory`]: crate::ShaperError::Memory
 pub fn spans_of<M: Machine>(
     machine: &M,
     glyphs: &[GlyphInfo],
@@ -47,7 +53,11 @@ fn push_lead(lead: usize, kind: u8, spans: &mut Vec<Span>) -> Result<(), ShaperE
 }
 
 /// Fills the list with the syllables of the glyphs, by a machine. A list that has room for them
-/// takes no memory. The only refusal is `Memory`.
+/// takes no memory. The only refusal is [`Memory`].
+///
+/// # Errors
+///
+/// [`Memory`]; the list then holds the syllables that it had room for.
 ///
 /// <details><summary>Contract</summary>
 ///
@@ -61,6 +71,8 @@ fn push_lead(lead: usize, kind: u8, spans: &mut Vec<Span>) -> Result<(), ShaperE
 /// - `AreSpansOf`: `crates/shapers_spans/specs/Cuts.antt`
 ///
 /// </details>
+///
+/// [`Memory`]: crate::ShaperError::Memory
 pub fn spans_into<M: Machine>(
     machine: &M,
     glyphs: &[GlyphInfo],

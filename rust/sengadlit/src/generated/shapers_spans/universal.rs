@@ -16,7 +16,7 @@ const DEAD: u8 = 107;
 const NONE: u8 = 255;
 
 /// The machine for the syllables of the universal shaper.
-#[derive(Clone, Copy, Debug)]
+#[derive(Clone, Copy, Debug, Default, PartialEq, Eq)]
 pub struct Universal;
 
 impl Machine for Universal {

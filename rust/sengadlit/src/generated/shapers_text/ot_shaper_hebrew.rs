@@ -42,8 +42,12 @@ pub fn reorder_marks(_plan: &Plan, buffer: &mut Buffer, start: usize, end: usize
     buffer.walk(&mut MarkOrder { level, start, end });
 }
 
-/// `reorder_marks` of glyphs in a slice, whose clusters merge at this level. Returns whether marks
+/// [`reorder_marks`] of glyphs in a slice, whose clusters merge at this level. Returns whether marks
 /// changed places: where it returns false nothing changed.
+///
+/// # Panics
+///
+/// Where `start` is above `end`, or `end` above the number of glyphs.
 ///
 /// <details><summary>Contract</summary>
 ///
@@ -61,6 +65,8 @@ pub fn reorder_marks(_plan: &Plan, buffer: &mut Buffer, start: usize, end: usize
 /// - `hebrew_mark_step`, `second_of_triple`: `crates/shapers_text/specs/Hebrew.antt`
 ///
 /// </details>
+///
+/// [`reorder_marks`]: crate::Shaper::reorder_marks
 pub fn reorder_marks_in(
     level: BufferClusterLevel,
     glyphs: &mut [GlyphInfo],

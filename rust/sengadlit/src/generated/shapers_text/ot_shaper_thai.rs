@@ -64,13 +64,17 @@ pub fn preprocess_text<F: Font>(
     Ok(())
 }
 
-/// `preprocess_text`, which returns whether it rewrote the text: where there is no SARA AM and the
+/// [`preprocess_text`], which returns whether it rewrote the text: where there is no SARA AM and the
 /// plan wants no private use forms, it returns false and has changed nothing.
 ///
 /// # Errors
 ///
-/// `TooLong` where the buffer would be longer than `max_len`, `Memory` where memory is refused;
+/// [`TooLong`] where the buffer would be longer than [`max_len`], [`Memory`] where memory is refused;
 /// nothing has changed then.
+///
+/// # Panics
+///
+/// Where the font does.
 ///
 /// <details><summary>Contract</summary>
 ///
@@ -103,6 +107,11 @@ pub fn preprocess_text<F: Font>(
 /// - `ClustersInTwo`, `FlagsInTwo`, `KeptInTwo`: `crates/shapers_text/specs/ThaiLaws.antt`
 ///
 /// </details>
+///
+/// [`Memory`]: crate::ShaperError::Memory
+/// [`TooLong`]: crate::ShaperError::TooLong
+/// [`max_len`]: crate::Buffer::max_len
+/// [`preprocess_text`]: crate::Shaper::preprocess_text
 pub fn preprocess_text_changes<F: Font>(
     plan: &Plan,
     face: &F,

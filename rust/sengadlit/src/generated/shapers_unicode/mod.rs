@@ -25,7 +25,7 @@ pub const UNICODE_VERSION: (u8, u8, u8) = (17, 0, 0);
 
 /// Unicode's tables. A character that decomposes to one other decomposes to it and U+0000, as in
 /// HarfBuzz.
-#[derive(Clone, Copy, Debug, Default, PartialEq, Eq)]
+#[derive(Clone, Copy, Debug, Default, PartialEq, Eq, Hash)]
 pub struct UnicodeTables;
 
 impl Tables for UnicodeTables {

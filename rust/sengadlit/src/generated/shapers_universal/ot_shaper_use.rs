@@ -64,7 +64,7 @@ const REQUESTS: [Request; 30] = [
 ];
 
 /// Requests the features of the universal shaper, in the order of its OpenType specification.
-/// The only refusal is `Memory`, which leaves the planner as it was.
+/// The only refusal is [`Memory`], which leaves the planner as it was.
 ///
 /// <details><summary>Contract</summary>
 ///
@@ -80,6 +80,8 @@ const REQUESTS: [Request; 30] = [
 /// - `universal_list`: `crates/shapers_universal/specs/Requests.antt`
 ///
 /// </details>
+///
+/// [`Memory`]: crate::ShaperError::Memory
 pub fn collect_features(planner: &mut Planner) -> Result<(), ShaperError> {
     planner.add_requests(&REQUESTS)
 }

@@ -11,9 +11,12 @@ use crate::generated::shapers_base::font::{Font, Tables};
 use crate::generated::shapers_base::plan::{Pause, Plan, Preprocess};
 
 /// A condition that a hook or pause requires of its caller.
-#[derive(Clone, Copy, Debug, PartialEq, Eq)]
+#[non_exhaustive]
+#[derive(Clone, Copy, Debug, PartialEq, Eq, Hash, PartialOrd, Ord)]
 pub enum Condition {
-    /// Before positioning there are no positions; for `postprocess_glyphs` there is one per glyph.
+    /// Before positioning there are no positions; for [`postprocess_glyphs`] there is one per glyph.
+    ///
+    /// [`postprocess_glyphs`]: crate::Shaper::postprocess_glyphs
     Positions,
     /// The range of marks rises and lies within the buffer.
     Range,
@@ -29,9 +32,11 @@ pub enum Condition {
 }
 
 /// Why a checked call did nothing. The buffer is unchanged.
-#[derive(Clone, Copy, Debug, PartialEq, Eq)]
+#[derive(Clone, Copy, Debug, PartialEq, Eq, Hash)]
 pub enum CallError {
-    /// A condition isn't met: the first one, in the order of `Condition`.
+    /// A condition isn't met: the first one, in the order of [`Condition`].
+    ///
+    /// [`Condition`]: crate::shaper::checked::Condition
     Condition(Condition),
     /// All conditions are met, and the hook refused.
     Refused(ShaperError),
@@ -52,7 +57,7 @@ impl From<ShaperError> for CallError {
 }
 
 impl Shaper {
-    /// Tests the condition of `preprocess_text`, in constant time, and calls it.
+    /// Tests the condition of [`preprocess_text`], in constant time, and calls it.
     ///
     /// # Errors
     ///
@@ -78,6 +83,8 @@ impl Shaper {
     /// - `PreprocessKeeps`, `Preprocessed`, `RefusesPreprocess`, `preprocess_answer`: `crates/rustybuzz_shapers/specs/Hooks.antt`
     ///
     /// </details>
+    ///
+    /// [`preprocess_text`]: crate::Shaper::preprocess_text
     #[inline]
     pub fn checked_preprocess_text<F: Font>(
         self,
@@ -89,7 +96,7 @@ impl Shaper {
         Ok(self.preprocess_text(plan, face, buffer)?)
     }
 
-    /// Tests the conditions of `setup_masks` and calls it. The test takes one pass over the glyphs
+    /// Tests the conditions of [`setup_masks`] and calls it. The test takes one pass over the glyphs
     /// for Arabic, and for the universal shaper where letters join; else constant time.
     ///
     /// # Errors
@@ -117,6 +124,8 @@ impl Shaper {
     /// - `OnlyFlagsAdded`: `crates/shapers_clusters/specs/FlagLaw.antt`
     ///
     /// </details>
+    ///
+    /// [`setup_masks`]: crate::Shaper::setup_masks
     #[inline]
     pub fn checked_setup_masks<F: Font, T: Tables>(
         self,
@@ -129,7 +138,7 @@ impl Shaper {
         Ok(self.setup_masks(plan, face, tables, buffer))
     }
 
-    /// Tests the conditions of `reorder_marks`, in constant time, and calls it.
+    /// Tests the conditions of [`reorder_marks`], in constant time, and calls it.
     ///
     /// # Errors
     ///
@@ -154,6 +163,8 @@ impl Shaper {
     /// - `has_hook`: `crates/rustybuzz_shapers/specs/Standing.antt`
     ///
     /// </details>
+    ///
+    /// [`reorder_marks`]: crate::Shaper::reorder_marks
     #[inline]
     pub fn checked_reorder_marks(
         self,
@@ -166,7 +177,7 @@ impl Shaper {
         Ok(self.reorder_marks(plan, buffer, start, end))
     }
 
-    /// Tests the conditions of `postprocess_glyphs` and calls it. The test takes one pass over the
+    /// Tests the conditions of [`postprocess_glyphs`] and calls it. The test takes one pass over the
     /// glyphs for Arabic, else constant time.
     ///
     /// # Errors
@@ -199,6 +210,8 @@ impl Shaper {
     /// - `glyphs_added`: `crates/rustybuzz_shapers/specs/Stretched.antt`
     ///
     /// </details>
+    ///
+    /// [`postprocess_glyphs`]: crate::Shaper::postprocess_glyphs
     #[inline]
     pub fn checked_postprocess_glyphs<F: Font>(
         self,
@@ -247,7 +260,7 @@ impl Shaper {
     }
 }
 
-/// Tests the conditions of `run_pause`, in one pass over the spans, and calls it.
+/// Tests the conditions of [`run_pause`], in one pass over the spans, and calls it.
 ///
 /// # Errors
 ///
@@ -274,6 +287,8 @@ impl Shaper {
 /// - `PauseKeeps`, `Paused`, `RefusesPause`, `pause_circles`: `crates/rustybuzz_shapers/specs/Pauses.antt`
 ///
 /// </details>
+///
+/// [`run_pause`]: crate::run_pause
 #[inline]
 pub fn checked_run_pause<F: Font>(
     pause: Pause,

@@ -43,7 +43,7 @@ impl Shaper {
         plan
     }
 
-    /// Whether the plan's data are of the kind that `setup_masks` reads. It takes constant time.
+    /// Whether the plan's data are of the kind that [`setup_masks`] reads. It takes constant time.
     ///
     /// <details><summary>Contract</summary>
     ///
@@ -56,6 +56,8 @@ impl Shaper {
     /// - `PlanFits`: `crates/rustybuzz_shapers/specs/Hooks.antt`
     ///
     /// </details>
+    ///
+    /// [`setup_masks`]: crate::Shaper::setup_masks
     #[inline]
     pub fn plan_fits(self, plan: &Plan) -> bool {
         match self {
@@ -71,7 +73,7 @@ impl Shaper {
         }
     }
 
-    /// Whether `reorder_marks` takes this many marks: for Arabic at most 32.
+    /// Whether [`reorder_marks`] takes this many marks: for Arabic at most 32.
     ///
     /// <details><summary>Contract</summary>
     ///
@@ -84,6 +86,8 @@ impl Shaper {
     /// - `MarksFit`: `crates/rustybuzz_shapers/specs/Hooks.antt`
     ///
     /// </details>
+    ///
+    /// [`reorder_marks`]: crate::Shaper::reorder_marks
     #[inline]
     pub fn marks_fit(self, start: usize, end: usize) -> bool {
         match self {
@@ -99,7 +103,7 @@ impl Shaper {
         }
     }
 
-    /// Whether the glyphs are such as `setup_masks` requires: for Arabic, and for the universal
+    /// Whether the glyphs are such as [`setup_masks`] requires: for Arabic, and for the universal
     /// shaper where letters join, characters.
     ///
     /// <details><summary>Contract</summary>
@@ -113,6 +117,8 @@ impl Shaper {
     /// - `GlyphsFit`: `crates/rustybuzz_shapers/specs/Hooks.antt`
     ///
     /// </details>
+    ///
+    /// [`setup_masks`]: crate::Shaper::setup_masks
     #[inline]
     pub fn glyphs_fit(self, plan: &Plan, buffer: &Buffer) -> bool {
         match self {
@@ -128,7 +134,7 @@ impl Shaper {
         }
     }
 
-    /// Whether `postprocess_glyphs` takes the plan and the buffer's glyphs: for Arabic, a plan with
+    /// Whether [`postprocess_glyphs`] takes the plan and the buffer's glyphs: for Arabic, a plan with
     /// its data and glyph numbers of a font.
     ///
     /// <details><summary>Contract</summary>
@@ -142,6 +148,8 @@ impl Shaper {
     /// - `PostprocessFits`: `crates/rustybuzz_shapers/specs/Hooks.antt`
     ///
     /// </details>
+    ///
+    /// [`postprocess_glyphs`]: crate::Shaper::postprocess_glyphs
     #[inline]
     pub fn postprocess_fits(self, plan: &Plan, buffer: &Buffer) -> bool {
         match self {
@@ -209,7 +217,7 @@ pub fn kinds_fit(spans: &[Span]) -> bool {
     spans.iter().all(|span| span.kind <= 15)
 }
 
-/// Whether the buffer has no positions, as the pauses and all hooks but `postprocess_glyphs`
+/// Whether the buffer has no positions, as the pauses and all hooks but [`postprocess_glyphs`]
 /// require. It takes constant time.
 ///
 /// <details><summary>Contract</summary>
@@ -221,12 +229,14 @@ pub fn kinds_fit(spans: &[Span]) -> bool {
 /// ```
 ///
 /// </details>
+///
+/// [`postprocess_glyphs`]: crate::Shaper::postprocess_glyphs
 #[inline]
 pub fn lacks_positions(buffer: &Buffer) -> bool {
     buffer.positions_len() == 0
 }
 
-/// Whether the buffer has a position for each glyph, as `postprocess_glyphs` requires. It takes
+/// Whether the buffer has a position for each glyph, as [`postprocess_glyphs`] requires. It takes
 /// constant time.
 ///
 /// <details><summary>Contract</summary>
@@ -238,6 +248,8 @@ pub fn lacks_positions(buffer: &Buffer) -> bool {
 /// ```
 ///
 /// </details>
+///
+/// [`postprocess_glyphs`]: crate::Shaper::postprocess_glyphs
 #[inline]
 pub fn has_positions(buffer: &Buffer) -> bool {
     buffer.positions_len() == buffer.len()

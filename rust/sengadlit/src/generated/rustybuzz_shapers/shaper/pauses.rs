@@ -19,15 +19,20 @@ use core::mem;
 
 /// Does what a shaper does between two stages of substitution, and returns whether dotted circles
 /// were wanted. Spans are read by the pauses that set syllables alone: those refuse with
-/// `SpansDontCover` where a span is empty or they don't add up. Reorderings refuse unknown kinds of
+/// [`SpansDontCover`] where a span is empty or they don't add up. Reorderings refuse unknown kinds of
 /// syllables, but for the universal shaper's, and then as circles do. A refused pause leaves the
 /// buffer as it was. A reordering leaves the placement list empty, so that each place reads 0; the
 /// other pauses leave it as it was.
 ///
 /// # Errors
 ///
-/// `SpansDontCover` of a pause that sets syllables; `UnknownSyllable`, `TooLong` and `Memory`
+/// [`SpansDontCover`] of a pause that sets syllables; [`UnknownSyllable`], [`TooLong`] and [`Memory`]
 /// of one that reorders. Nothing has changed then.
+///
+/// # Panics
+///
+/// Where the plan has no data of the shaper that the pause belongs to. May panic, or rewrite the text in an unspecified
+/// way, where the buffer has positions or the kind of a span is above 15.
 ///
 /// <details><summary>Contract</summary>
 ///
@@ -50,40 +55,12 @@ use core::mem;
 /// - `PauseFits`, `PauseKeeps`, `Paused`, `RefusesPause`, `pause_circles`: `crates/rustybuzz_shapers/specs/Pauses.antt`
 ///
 /// </details>
-#[inline]
+///
+/// [`Memory`]: crate::ShaperError::Memory
+/// [`SpansDontCover`]: crate::ShaperError::SpansDontCover
+/// [`TooLong`]: crate::ShaperError::TooLong
+/// [`UnknownSyllable`]: crate::ShaperError::UnknownSyllable
 pub fn run_pause<F: Font>(
-    pause: Pause,
-    plan: &Plan,
-    face: &F,
-    spans: &[Span],
-    buffer: &mut Buffer,
-) -> Result<bool, ShaperError> {
-    match pause {
-        // (each is one loop, so it isn't behind the frame that the others need)
-        Pause::RecordStch => ot_shaper_arabic_stretch::record_stch(plan, buffer),
-        Pause::RecordRphf => ot_shaper_use::record_rphf(plan, buffer),
-        Pause::RecordPref => ot_shaper_use::record_pref(buffer),
-        Pause::SyllabicClearVar => clear_syllables(buffer),
-        Pause::ClearSubstitutionFlags => clear_substitution_flags(buffer),
-        Pause::ArabicFallbackShape => {}
-        Pause::SetupSyllablesIndic
-        | Pause::SetupSyllablesKhmer
-        | Pause::SetupSyllablesMyanmar
-        | Pause::SetupSyllablesUse
-        | Pause::InitialReordering
-        | Pause::ReorderKhmer
-        | Pause::ReorderMyanmar
-        | Pause::ReorderUse
-        | Pause::FinalReordering => {
-            return run_syllabic_pause(pause, plan, face, spans, buffer);
-        }
-    }
-    Ok(false)
-}
-
-// Runs a pause that sets up or reorders syllables.
-#[inline(never)]
-fn run_syllabic_pause<F: Font>(
     pause: Pause,
     plan: &Plan,
     face: &F,
@@ -113,12 +90,12 @@ fn run_syllabic_pause<F: Font>(
         Pause::ReorderMyanmar => return ot_shaper_myanmar::reorder_myanmar(face, buffer),
         Pause::ReorderUse => return ot_shaper_use::reorder_use(face, buffer),
         Pause::FinalReordering => ot_shaper_indic_final::final_reordering(plan, face, buffer),
-        Pause::RecordStch
-        | Pause::RecordRphf
-        | Pause::RecordPref
-        | Pause::SyllabicClearVar
-        | Pause::ClearSubstitutionFlags
-        | Pause::ArabicFallbackShape => unreachable!("the pause sets up or reorders no syllables"),
+        Pause::RecordStch => ot_shaper_arabic_stretch::record_stch(plan, buffer),
+        Pause::RecordRphf => ot_shaper_use::record_rphf(plan, buffer),
+        Pause::RecordPref => ot_shaper_use::record_pref(buffer),
+        Pause::SyllabicClearVar => clear_syllables(buffer),
+        Pause::ClearSubstitutionFlags => clear_substitution_flags(buffer),
+        Pause::ArabicFallbackShape => {}
     }
     Ok(false)
 }
@@ -126,6 +103,10 @@ fn run_syllabic_pause<F: Font>(
 /// Whether the pause can change a buffer under this plan. False for the pauses that do nothing under
 /// it, whatever the buffer: fallback shaping, tiles where the font stretches no marks, and the
 /// record of `rphf` where the plan has no mask for it.
+///
+/// # Panics
+///
+/// Where the plan has no data of the shaper that the pause belongs to.
 ///
 /// <details><summary>Contract</summary>
 ///

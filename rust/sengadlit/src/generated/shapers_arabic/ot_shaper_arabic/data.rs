@@ -26,16 +26,16 @@ pub fn data_create_arabic(plan: &Plan) -> ArabicPlan {
     let map = &plan.ot_map;
     ArabicPlan {
         mask_array: [
-            map.get_1_mask(Tag(*b"isol")),
-            map.get_1_mask(Tag(*b"fina")),
-            map.get_1_mask(Tag(*b"fin2")),
-            map.get_1_mask(Tag(*b"fin3")),
-            map.get_1_mask(Tag(*b"medi")),
-            map.get_1_mask(Tag(*b"med2")),
-            map.get_1_mask(Tag(*b"init")),
+            map.one_mask(Tag(*b"isol")),
+            map.one_mask(Tag(*b"fina")),
+            map.one_mask(Tag(*b"fin2")),
+            map.one_mask(Tag(*b"fin3")),
+            map.one_mask(Tag(*b"medi")),
+            map.one_mask(Tag(*b"med2")),
+            map.one_mask(Tag(*b"init")),
             0,
         ],
-        has_stch: map.get_1_mask(Tag(*b"stch")) != 0,
+        has_stch: map.one_mask(Tag(*b"stch")) != 0,
         stretch_start: plan.stretch_start,
         break_flags: plan.break_flags,
     }

@@ -60,8 +60,12 @@ impl GlyphWalk for MarkOrder {
     }
 }
 
-/// `reorder_marks` of glyphs in a slice, whose clusters merge at this level. Returns whether one of
+/// [`reorder_marks`] of glyphs in a slice, whose clusters merge at this level. Returns whether one of
 /// the marks modifies a letter: where it returns false nothing changed.
+///
+/// # Panics
+///
+/// Where `start` is above `end`, or `end` above the number of glyphs.
 ///
 /// <details><summary>Contract</summary>
 ///
@@ -82,6 +86,8 @@ impl GlyphWalk for MarkOrder {
 /// - `stretch_of`: `crates/shapers_buffer/specs/Clusters.antt`
 ///
 /// </details>
+///
+/// [`reorder_marks`]: crate::Shaper::reorder_marks
 pub fn reorder_marks_in(
     level: BufferClusterLevel,
     glyphs: &mut [GlyphInfo],

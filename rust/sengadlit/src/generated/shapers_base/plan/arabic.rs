@@ -3,7 +3,7 @@
 use super::breaks::BreakFlags;
 
 /// Where the tiles of a stretched mark begin to be laid, beside the word that they stretch over.
-#[derive(Clone, Copy, Debug, PartialEq, Eq, Default)]
+#[derive(Clone, Copy, Debug, PartialEq, Eq, Default, Hash)]
 pub enum StretchStart {
     /// Half of what the fixed tiles leave of the word, or its edge where copies overlap.
     #[default]
@@ -13,7 +13,7 @@ pub enum StretchStart {
 }
 
 /// What the shaper of Arabic keeps in the plan.
-#[derive(Clone, Copy, Debug, PartialEq, Eq)]
+#[derive(Clone, Copy, Debug, PartialEq, Eq, Hash)]
 pub struct ArabicPlan {
     /// The masks of `isol`, `fina`, `fin2`, `fin3`, `medi`, `med2` and `init`, and 0 for no form.
     pub mask_array: [u32; 8],

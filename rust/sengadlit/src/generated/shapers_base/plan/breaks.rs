@@ -1,7 +1,7 @@
 // Generated from crates/shapers_base/src/plan/breaks.rt by rust/erase; edit the source.
 
 /// Which places of a text are flagged unsafe to break.
-#[derive(Clone, Copy, Debug, PartialEq, Eq, Default)]
+#[derive(Clone, Copy, Debug, PartialEq, Eq, Default, Hash)]
 pub enum BreakFlags {
     /// Those that the code of HarfBuzz flags.
     #[default]

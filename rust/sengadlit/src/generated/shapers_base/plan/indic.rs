@@ -8,7 +8,7 @@ use crate::generated::shapers_base::map::{Map, TableIndex};
 use core::ops::Range;
 
 /// Where a reph goes, as the position that it stands behind or before.
-#[derive(Clone, Copy, Debug, PartialEq, Eq)]
+#[derive(Clone, Copy, Debug, PartialEq, Eq, Hash)]
 pub enum RephPosition {
     /// Behind the main consonant (`POS_AFTER_MAIN`).
     AfterMain,
@@ -23,7 +23,7 @@ pub enum RephPosition {
 }
 
 /// How a reph is written.
-#[derive(Clone, Copy, Debug, PartialEq, Eq)]
+#[derive(Clone, Copy, Debug, PartialEq, Eq, Hash)]
 pub enum RephMode {
     /// As an opening Ra, H.
     Implicit,
@@ -34,7 +34,7 @@ pub enum RephMode {
 }
 
 /// Where the feature of below-base forms applies.
-#[derive(Clone, Copy, Debug, PartialEq, Eq)]
+#[derive(Clone, Copy, Debug, PartialEq, Eq, Hash)]
 pub enum BlwfMode {
     /// Before the base and after it.
     PreAndPost,
@@ -43,7 +43,7 @@ pub enum BlwfMode {
 }
 
 /// Among which consonants the base of a syllable is looked for.
-#[derive(Clone, Copy, Debug, PartialEq, Eq, Default)]
+#[derive(Clone, Copy, Debug, PartialEq, Eq, Default, Hash)]
 pub enum BaseSearch {
     /// Among those that aren't medial (`OT_CM`), as in rustybuzz 0.20.1.
     #[default]
@@ -53,7 +53,7 @@ pub enum BaseSearch {
 }
 
 /// The properties of one script that the rules depend on.
-#[derive(Clone, Copy, Debug, PartialEq, Eq)]
+#[derive(Clone, Copy, Debug, PartialEq, Eq, Hash)]
 pub struct IndicConfig {
     /// The script, or none for any other.
     pub script: Option<Script>,
@@ -70,7 +70,7 @@ pub struct IndicConfig {
 }
 
 /// The question whether a feature would substitute some glyphs.
-#[derive(Clone, Debug, PartialEq, Eq)]
+#[derive(Clone, Debug, PartialEq, Eq, Hash)]
 pub struct IndicWouldSubstituteFeature {
     lookups: Range<usize>,
     zero_context: bool,
@@ -93,7 +93,7 @@ impl IndicWouldSubstituteFeature {
     /// </details>
     #[inline]
     pub fn new(map: &Map, feature_tag: Tag, zero_context: bool) -> Self {
-        let lookups = match map.get_feature_stage(TableIndex::GSUB, feature_tag) {
+        let lookups = match map.stage_of(TableIndex::GSUB, feature_tag) {
             Some(stage) => map.stage_lookup_range(TableIndex::GSUB, stage),
             None => 0..0,
         };
@@ -157,7 +157,7 @@ impl IndicWouldSubstituteFeature {
 }
 
 /// What the shaper of the Indic scripts keeps in the plan.
-#[derive(Clone, Debug, PartialEq, Eq)]
+#[derive(Clone, Debug, PartialEq, Eq, Hash)]
 pub struct IndicPlan {
     /// The properties of the script.
     pub config: IndicConfig,
@@ -175,6 +175,8 @@ pub struct IndicPlan {
     pub pstf: IndicWouldSubstituteFeature,
     /// The question whether it joins a consonant with a Ra below it, by `vatu`.
     pub vatu: IndicWouldSubstituteFeature,
-    /// The masks of the shaper's features, by `indic_feature`; 0 for those of the whole text.
+    /// The masks of the shaper's features, by [`indic_feature`]; 0 for those of the whole text.
+    ///
+    /// [`indic_feature`]: crate::ot_shaper_indic::indic_feature
     pub mask_array: [u32; 17],
 }

@@ -2,7 +2,7 @@
 
 /// How a character joins its neighbours, as the Unicode Character Database has it, with the two
 /// groups that Syriac treats on their own. The numbers are those of the joining tables.
-#[derive(Clone, Copy, Debug, PartialEq, Eq, PartialOrd)]
+#[derive(Clone, Copy, Debug, PartialEq, Eq, PartialOrd, Hash, Ord)]
 pub enum JoiningType {
     /// Joins nothing.
     U = 0,

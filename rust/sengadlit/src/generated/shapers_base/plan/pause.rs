@@ -2,7 +2,7 @@
 
 /// What a shaper does between two stages of substitution.
 #[repr(u8)]
-#[derive(Clone, Copy, Debug, PartialEq, Eq)]
+#[derive(Clone, Copy, Debug, PartialEq, Eq, Hash, PartialOrd, Ord)]
 pub enum Pause {
     /// Writes the spans of Indic syllables into the glyphs.
     SetupSyllablesIndic,

@@ -9,7 +9,7 @@ use crate::generated::shapers_base::plan::pause::Pause;
 use crate::support::alloc::Global;
 
 /// A request of a shaper to the map.
-#[derive(Clone, Copy, Debug, PartialEq, Eq)]
+#[derive(Clone, Copy, Debug, PartialEq, Eq, Hash)]
 pub enum Request {
     /// A feature, with flags and a value; 0 turns it off.
     Feature(Tag, u32, u32),
@@ -26,10 +26,10 @@ impl Default for Request {
 }
 
 /// Collects what a shaper requests of the map for one script.
-#[derive(Debug)]
+#[derive(Debug, PartialEq, Eq)]
 pub struct Planner {
-    script: Option<Script>,
-    requests: Vec<Request>,
+    pub(crate) script: Option<Script>,
+    pub(crate) requests: Vec<Request>,
 }
 
 impl Planner {
@@ -104,7 +104,7 @@ impl Planner {
     ///
     /// # Errors
     ///
-    /// `Memory`; the planner is as it was then.
+    /// [`Memory`]; the planner is as it was then.
     ///
     /// <details><summary>Contract</summary>
     ///
@@ -120,6 +120,8 @@ impl Planner {
     /// - `with_requests`: `crates/shapers_base/specs/Planner.antt`
     ///
     /// </details>
+    ///
+    /// [`Memory`]: crate::ShaperError::Memory
     #[inline]
     pub fn add_feature(&mut self, tag: Tag, flags: u32, value: u32) -> Result<(), ShaperError> {
         self.add_requests(&[Request::Feature(tag, flags, value)])
@@ -129,7 +131,7 @@ impl Planner {
     ///
     /// # Errors
     ///
-    /// `Memory`; the planner is as it was then.
+    /// [`Memory`]; the planner is as it was then.
     ///
     /// <details><summary>Contract</summary>
     ///
@@ -145,6 +147,8 @@ impl Planner {
     /// - `with_requests`: `crates/shapers_base/specs/Planner.antt`
     ///
     /// </details>
+    ///
+    /// [`Memory`]: crate::ShaperError::Memory
     #[inline]
     pub fn enable_feature(&mut self, tag: Tag, flags: u32, value: u32) -> Result<(), ShaperError> {
         self.add_feature(tag, flags | F_GLOBAL, value)
@@ -154,7 +158,7 @@ impl Planner {
     ///
     /// # Errors
     ///
-    /// `Memory`; the planner is as it was then.
+    /// [`Memory`]; the planner is as it was then.
     ///
     /// <details><summary>Contract</summary>
     ///
@@ -170,6 +174,8 @@ impl Planner {
     /// - `with_requests`: `crates/shapers_base/specs/Planner.antt`
     ///
     /// </details>
+    ///
+    /// [`Memory`]: crate::ShaperError::Memory
     #[inline]
     pub fn disable_feature(&mut self, tag: Tag) -> Result<(), ShaperError> {
         self.add_feature(tag, F_GLOBAL, 0)
@@ -179,7 +185,7 @@ impl Planner {
     ///
     /// # Errors
     ///
-    /// `Memory`; the planner is as it was then.
+    /// [`Memory`]; the planner is as it was then.
     ///
     /// <details><summary>Contract</summary>
     ///
@@ -194,6 +200,8 @@ impl Planner {
     /// - `with_requests`: `crates/shapers_base/specs/Planner.antt`
     ///
     /// </details>
+    ///
+    /// [`Memory`]: crate::ShaperError::Memory
     #[inline]
     pub fn add_gsub_pause(&mut self, pause: Option<Pause>) -> Result<(), ShaperError> {
         self.add_requests(&[Request::Pause(pause)])
@@ -203,7 +211,7 @@ impl Planner {
     ///
     /// # Errors
     ///
-    /// `Memory`; the planner is as it was then.
+    /// [`Memory`]; the planner is as it was then.
     ///
     /// <details><summary>Contract</summary>
     ///
@@ -218,6 +226,8 @@ impl Planner {
     /// - `with_requests`: `crates/shapers_base/specs/Planner.antt`
     ///
     /// </details>
+    ///
+    /// [`Memory`]: crate::ShaperError::Memory
     #[inline]
     pub fn add_requests(&mut self, requests: &[Request]) -> Result<(), ShaperError> {
         self.requests.extend_from_slice(requests)?;

@@ -1,7 +1,7 @@
 // Generated from crates/shapers_base/src/plan/record.rt by rust/erase; edit the source.
 
 /// How the text is normalized before the font's mapping.
-#[derive(Clone, Copy, Debug, PartialEq, Eq)]
+#[derive(Clone, Copy, Debug, PartialEq, Eq, Hash)]
 pub enum NormalizationMode {
     /// Not at all.
     NONE,
@@ -12,7 +12,7 @@ pub enum NormalizationMode {
 }
 
 /// When the advance of a mark becomes zero.
-#[derive(Clone, Copy, Debug, PartialEq, Eq)]
+#[derive(Clone, Copy, Debug, PartialEq, Eq, Hash)]
 pub enum ZeroWidthMarks {
     /// Never.
     NONE,

@@ -3,7 +3,7 @@
 use super::ArabicPlan;
 
 /// What the universal shaper keeps in the plan.
-#[derive(Clone, Copy, Debug, PartialEq, Eq)]
+#[derive(Clone, Copy, Debug, PartialEq, Eq, Hash)]
 pub struct UniversalPlan {
     /// The mask of `rphf`.
     pub rphf_mask: u32,

@@ -3,7 +3,7 @@
 /// The general categories of the Unicode Character Database, in their order: one byte, from 0 to 29,
 /// as HarfBuzz numbers them.
 #[repr(u8)]
-#[derive(Clone, Copy, Debug, PartialEq, Eq)]
+#[derive(Clone, Copy, Debug, PartialEq, Eq, Hash)]
 pub enum GeneralCategory {
     /// Control.
     Cc,

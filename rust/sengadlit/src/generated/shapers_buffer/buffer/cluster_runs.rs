@@ -9,7 +9,7 @@ use super::{Buffer, BufferClusterLevel};
 
 /// Glyphs that merges have put into one cluster, which isn't written yet: where they start, the
 /// place behind them, and their cluster.
-#[derive(Clone, Copy, Debug)]
+#[derive(Clone, Copy, Debug, PartialEq, Eq)]
 pub struct ClusterRun {
     start: usize,
     end: usize,
@@ -29,6 +29,10 @@ impl Buffer {
     /// Merges the glyphs from `s` to `e`, as `merge_clusters`, of the buffer with a run in its
     /// cluster. Where they start in the run nothing is written and only what is new is read, else
     /// the run is written and another begins. Returns the run that is to be written then.
+    ///
+    /// # Panics
+    ///
+    /// Where `s` is above `e`, or `e` above the length; and where the run passes the end of the buffer.
     ///
     /// <details><summary>Contract</summary>
     ///
@@ -56,6 +60,10 @@ impl Buffer {
 
     /// Puts the glyphs of a run into its cluster.
     ///
+    /// # Panics
+    ///
+    /// Where the run passes the end of the buffer.
+    ///
     /// <details><summary>Contract</summary>
     ///
     /// # Contract
@@ -74,7 +82,7 @@ impl Buffer {
     }
 }
 
-/// Merges over glyphs in a slice, as `Buffer::merge_run`.
+/// Merges over glyphs in a slice, as [`Buffer::merge_run`].
 ///
 /// <details><summary>Contract</summary>
 ///
@@ -92,6 +100,8 @@ impl Buffer {
 /// - `merge`, `merged`: `crates/shapers_buffer/specs/Clusters.antt`
 ///
 /// </details>
+///
+/// [`Buffer::merge_run`]: crate::Buffer::merge_run
 #[inline]
 pub fn merge_run_in(
     level: BufferClusterLevel,

@@ -56,7 +56,7 @@ impl Buffer {
     ///
     /// # Errors
     ///
-    /// `TooLong` and `Memory`; buffer and list are as they were then.
+    /// [`TooLong`] and [`Memory`]; buffer and list are as they were then.
     ///
     /// <details><summary>Contract</summary>
     ///
@@ -74,6 +74,9 @@ impl Buffer {
     /// - `RefusesLength`: `crates/shapers_buffer/specs/Refusals.antt`
     ///
     /// </details>
+    ///
+    /// [`Memory`]: crate::ShaperError::Memory
+    /// [`TooLong`]: crate::ShaperError::TooLong
     #[inline]
     pub fn exchange_glyphs(&mut self, glyphs: &mut Vec<GlyphInfo>) -> Result<(), ShaperError> {
         if glyphs.len() > self.max_len {
@@ -117,7 +120,7 @@ impl Buffer {
     ///
     /// # Errors
     ///
-    /// `TooLong` where the glyphs are more than `max_len` of the settings, and `Memory`; both
+    /// [`TooLong`] where the glyphs are more than [`max_len`] of the settings, and [`Memory`]; both
     /// texts are as they were then.
     ///
     /// <details><summary>Contract</summary>
@@ -140,6 +143,10 @@ impl Buffer {
     /// - `are_paired`, `with_text`: `crates/shapers_buffer/specs/Settings.antt`
     ///
     /// </details>
+    ///
+    /// [`Memory`]: crate::ShaperError::Memory
+    /// [`TooLong`]: crate::ShaperError::TooLong
+    /// [`max_len`]: crate::Buffer::max_len
     #[inline]
     pub fn exchange_text(
         &mut self,
@@ -154,7 +161,7 @@ impl Buffer {
         self.max_len = settings.max_len;
         mem::swap(&mut self.info, glyphs);
         mem::swap(&mut self.pos, positions);
-        self.set_settings(settings);
+        self.set_settings_within(settings);
         Ok(())
     }
 }

@@ -4,17 +4,21 @@ use crate::support::bitflags::{Flag, Flags, bitflag_items};
 
 /// What the caller wants of the shapers; the numbers are this crate's own.
 #[repr(transparent)]
-#[derive(Clone, Copy, Debug, PartialEq, Eq)]
+#[derive(Clone, Copy, Debug, PartialEq, Eq, Hash)]
 pub struct BufferFlags(pub u32);
 
 bitflag_items! {
     impl BufferFlags: u32 {
         /// Broken syllables get no dotted circle.
         const DO_NOT_INSERT_DOTTED_CIRCLE = 0x20;
-        /// The glyph flag `UNSAFE_TO_CONCAT` is wanted.
-        const PRODUCE_UNSAFE_TO_CONCAT = 0x40;
-        /// The glyph flag `SAFE_TO_INSERT_TATWEEL` is wanted.
-        const PRODUCE_SAFE_TO_INSERT_TATWEEL = 0x80;
+        /// The glyph flag [`UNSAFE_TO_CONCAT`] is wanted.
+        ///
+/// [`UNSAFE_TO_CONCAT`]: crate::buffer::glyph_flag::UNSAFE_TO_CONCAT
+const PRODUCE_UNSAFE_TO_CONCAT = 0x40;
+        /// The glyph flag [`SAFE_TO_INSERT_TATWEEL`] is wanted.
+        ///
+/// [`SAFE_TO_INSERT_TATWEEL`]: crate::buffer::glyph_flag::SAFE_TO_INSERT_TATWEEL
+const PRODUCE_SAFE_TO_INSERT_TATWEEL = 0x80;
     }
 }
 

@@ -6,7 +6,7 @@ use super::glyph_marks::GlyphMarks;
 /// One glyph of the buffer, or before the font's mapping one character. C's layout, 24 bytes: four
 /// words of four bytes, then seven single bytes in their order, then one that is unused.
 #[repr(C)]
-#[derive(Clone, Copy, Debug, PartialEq, Eq)]
+#[derive(Clone, Copy, Debug, PartialEq, Eq, Hash)]
 pub struct GlyphInfo {
     /// A character before the font's mapping, a glyph number after it.
     pub glyph_id: u32,
@@ -51,7 +51,7 @@ impl GlyphInfo {
 
 /// Where a glyph is drawn and how far it moves the pen, in font units. C's layout, 16 bytes.
 #[repr(C)]
-#[derive(Clone, Copy, Debug, PartialEq, Eq)]
+#[derive(Clone, Copy, Debug, PartialEq, Eq, Hash)]
 pub struct GlyphPosition {
     /// How far the pen moves to the right behind the glyph.
     pub x_advance: i32,

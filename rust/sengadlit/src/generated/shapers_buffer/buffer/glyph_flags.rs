@@ -101,7 +101,7 @@ impl Buffer {
     }
 }
 
-/// No break inside the stretch, over glyphs in a slice, as `Buffer::unsafe_to_break`.
+/// No break inside the stretch, over glyphs in a slice, as [`Buffer::unsafe_to_break`].
 ///
 /// # Panics
 ///
@@ -120,13 +120,15 @@ impl Buffer {
 /// - `unsafe_inside`: `crates/shapers_buffer/specs/GlyphFlags.antt`
 ///
 /// </details>
+///
+/// [`Buffer::unsafe_to_break`]: crate::Buffer::unsafe_to_break
 #[inline]
 pub fn unsafe_to_break_in(glyphs: &mut [GlyphInfo], s: usize, e: usize) {
     flag(&mut glyphs[s..e], UNSAFE_TO_BREAK | UNSAFE_TO_CONCAT);
 }
 
 /// No concatenation in the stretch, where the flags want that, over glyphs in a slice, as
-/// `Buffer::unsafe_to_concat`.
+/// [`Buffer::unsafe_to_concat`].
 ///
 /// # Panics
 ///
@@ -146,6 +148,8 @@ pub fn unsafe_to_break_in(glyphs: &mut [GlyphInfo], s: usize, e: usize) {
 /// - `unsafe_to_concat_in`: `crates/shapers_buffer/specs/GlyphFlags.antt`
 ///
 /// </details>
+///
+/// [`Buffer::unsafe_to_concat`]: crate::Buffer::unsafe_to_concat
 #[inline]
 pub fn unsafe_to_concat_in(flags: BufferFlags, glyphs: &mut [GlyphInfo], s: usize, e: usize) {
     if flags.contains(BufferFlags::PRODUCE_UNSAFE_TO_CONCAT) {
@@ -153,7 +157,7 @@ pub fn unsafe_to_concat_in(flags: BufferFlags, glyphs: &mut [GlyphInfo], s: usiz
     }
 }
 
-/// A join inside the stretch, over glyphs in a slice, as `Buffer::safe_to_insert_tatweel`.
+/// A join inside the stretch, over glyphs in a slice, as [`Buffer::safe_to_insert_tatweel`].
 ///
 /// # Panics
 ///
@@ -173,6 +177,8 @@ pub fn unsafe_to_concat_in(flags: BufferFlags, glyphs: &mut [GlyphInfo], s: usiz
 /// - `tatweel_inside`: `crates/shapers_buffer/specs/GlyphFlags.antt`
 ///
 /// </details>
+///
+/// [`Buffer::safe_to_insert_tatweel`]: crate::Buffer::safe_to_insert_tatweel
 #[inline]
 pub fn safe_to_insert_tatweel_in(flags: BufferFlags, glyphs: &mut [GlyphInfo], s: usize, e: usize) {
     let bits = if flags.contains(BufferFlags::PRODUCE_SAFE_TO_INSERT_TATWEEL) {

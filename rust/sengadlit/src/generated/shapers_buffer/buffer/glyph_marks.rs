@@ -6,7 +6,7 @@ use crate::support::bitflags::{Flag, Flags, bitflag_items};
 
 /// The marks of a glyph, a bit for each, in one byte. No mark reads the three bits above them.
 #[repr(transparent)]
-#[derive(Clone, Copy, Debug, PartialEq, Eq)]
+#[derive(Clone, Copy, Debug, PartialEq, Eq, Hash)]
 pub struct GlyphMarks(pub u8);
 
 bitflag_items! {

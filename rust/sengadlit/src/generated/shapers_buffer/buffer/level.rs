@@ -2,7 +2,7 @@
 
 /// How glyphs of one grapheme or word share clusters.
 #[repr(u8)]
-#[derive(Clone, Copy, Debug, PartialEq, Eq)]
+#[derive(Clone, Copy, Debug, PartialEq, Eq, Hash, PartialOrd, Ord)]
 pub enum BufferClusterLevel {
     /// Graphemes stay together, and clusters merge.
     MonotoneGraphemes,
@@ -58,7 +58,7 @@ impl BufferClusterLevel {
 }
 
 /// The direction of the text. The numbers are HarfBuzz's.
-#[derive(Clone, Copy, Debug, PartialEq, Eq)]
+#[derive(Clone, Copy, Debug, PartialEq, Eq, Hash)]
 pub enum Direction {
     /// Not set.
     Invalid = 0,

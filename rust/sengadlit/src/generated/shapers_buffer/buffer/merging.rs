@@ -33,7 +33,7 @@ impl Buffer {
     }
 }
 
-/// The merge rule over glyphs in a slice, as `Buffer::merge_clusters`.
+/// The merge rule over glyphs in a slice, as [`Buffer::merge_clusters`].
 ///
 /// # Panics
 ///
@@ -52,6 +52,8 @@ impl Buffer {
 /// - `merge`: `crates/shapers_buffer/specs/Clusters.antt`
 ///
 /// </details>
+///
+/// [`Buffer::merge_clusters`]: crate::Buffer::merge_clusters
 #[inline]
 pub fn merge_clusters_in(level: BufferClusterLevel, glyphs: &mut [GlyphInfo], s: usize, e: usize) {
     if merges(level) && e - s >= 2 {

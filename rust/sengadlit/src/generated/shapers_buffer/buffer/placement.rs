@@ -13,7 +13,7 @@ use super::refusal::ShaperError;
 use crate::support::alloc::Global;
 
 /// The old places of the glyphs of one syllable, in the forms that text has.
-#[derive(Clone, Copy, Debug, PartialEq, Eq)]
+#[derive(Clone, Copy, Debug, PartialEq, Eq, Hash)]
 pub enum Placement {
     /// Each glyph stays in its place.
     Stays,
@@ -53,6 +53,10 @@ impl Buffer {
 
     /// Lists that the glyph of place `place` is to come to `i`. Panics if `i` is beyond the buffer.
     ///
+    /// # Panics
+    ///
+    /// Where `i` is no place of the buffer.
+    ///
     /// <details><summary>Contract</summary>
     ///
     /// # Contract
@@ -90,6 +94,10 @@ impl Buffer {
 
     /// Gives each place from `start` to `end` the glyph of the place that the placement says for it;
     /// it says each of these places once. Positions stay. It takes no memory.
+    ///
+    /// # Panics
+    ///
+    /// Where `start` is above `end`, or `end` above the length; where a stretch or a listed place lies beyond the buffer.
     ///
     /// <details><summary>Contract</summary>
     ///

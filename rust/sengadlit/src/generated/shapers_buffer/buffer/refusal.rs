@@ -3,11 +3,14 @@
 use crate::support::alloc::AllocError;
 
 /// Why a call refused. After a refusal what it was given is unchanged.
-#[derive(Clone, Copy, Debug, PartialEq, Eq)]
+#[non_exhaustive]
+#[derive(Clone, Copy, Debug, PartialEq, Eq, Hash)]
 pub enum ShaperError {
     /// A growth was refused.
     Memory,
-    /// The result would be longer than `max_len`.
+    /// The result would be longer than [`max_len`].
+    ///
+    /// [`max_len`]: crate::Buffer::max_len
     TooLong,
     /// A syllable is of unknown kind: the first place of the first one.
     UnknownSyllable(usize),

@@ -36,7 +36,7 @@ impl Buffer {
     ///
     /// # Errors
     ///
-    /// `TooLong` and `Memory`; nothing has changed then.
+    /// [`TooLong`] and [`Memory`]; nothing has changed then.
     ///
     /// <details><summary>Contract</summary>
     ///
@@ -55,6 +55,9 @@ impl Buffer {
     /// - `RefusesLength`: `crates/shapers_buffer/specs/Refusals.antt`
     ///
     /// </details>
+    ///
+    /// [`Memory`]: crate::ShaperError::Memory
+    /// [`TooLong`]: crate::ShaperError::TooLong
     #[inline]
     pub fn rewrite<R: GlyphRewriting>(
         &mut self,
@@ -79,7 +82,7 @@ impl Buffer {
     ///
     /// # Errors
     ///
-    /// `TooLong` and `Memory`; nothing has changed then.
+    /// [`TooLong`] and [`Memory`]; nothing has changed then.
     ///
     /// <details><summary>Contract</summary>
     ///
@@ -95,6 +98,9 @@ impl Buffer {
     /// - `RefusesLength`: `crates/shapers_buffer/specs/Refusals.antt`
     ///
     /// </details>
+    ///
+    /// [`Memory`]: crate::ShaperError::Memory
+    /// [`TooLong`]: crate::ShaperError::TooLong
     #[inline]
     pub fn replace_glyphs(&mut self, glyphs: Vec<GlyphInfo>) -> Result<(), ShaperError> {
         if glyphs.len() > self.max_len {

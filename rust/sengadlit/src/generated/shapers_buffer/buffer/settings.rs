@@ -7,7 +7,7 @@ use crate::support::arrayvec::ArrayVec;
 
 /// What a text brings along beside its glyphs: how it is to be shaped, the text on both sides, and
 /// the marks that one hook leaves for a later one.
-#[derive(Clone, Copy, Debug, PartialEq, Eq)]
+#[derive(Clone, Copy, Debug, PartialEq, Eq, Hash)]
 pub struct BufferSettings<'a> {
     /// The direction of the text.
     pub direction: Direction,
@@ -136,7 +136,7 @@ impl Buffer {
     ///
     /// </details>
     #[inline]
-    pub fn set_settings(&mut self, settings: &BufferSettings) {
+    pub(crate) fn set_settings_within(&mut self, settings: &BufferSettings) {
         self.direction = settings.direction;
         self.script = settings.script;
         self.cluster_level = settings.cluster_level;

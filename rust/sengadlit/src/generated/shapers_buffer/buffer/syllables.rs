@@ -8,7 +8,7 @@ use super::{Buffer, ShaperError};
 /// A syllable as the script's grammar found it: its number of glyphs, and its kind, at most 15. C's
 /// layout.
 #[repr(C)]
-#[derive(Clone, Copy, Debug, PartialEq, Eq)]
+#[derive(Clone, Copy, Debug, PartialEq, Eq, Hash)]
 pub struct Span {
     /// How many glyphs it covers.
     pub len: usize,
@@ -62,12 +62,12 @@ impl Buffer {
     }
 
     /// Gives each place the syllable byte of the span that covers it, and sets the mark of a broken
-    /// syllable where a span is of the broken kind. Refuses with `SpansDontCover` where a span is
+    /// syllable where a span is of the broken kind. Refuses with [`SpansDontCover`] where a span is
     /// empty or the lengths don't add up to the buffer's. It takes no memory.
     ///
     /// # Errors
     ///
-    /// `SpansDontCover`; nothing has changed then.
+    /// [`SpansDontCover`]; nothing has changed then.
     ///
     /// <details><summary>Contract</summary>
     ///
@@ -84,6 +84,8 @@ impl Buffer {
     /// - `spans_refusal`, `with_spans`: `crates/shapers_buffer/specs/Syllables.antt`
     ///
     /// </details>
+    ///
+    /// [`SpansDontCover`]: crate::ShaperError::SpansDontCover
     #[inline]
     pub fn set_spans(&mut self, spans: &[Span], broken_kind: u8) -> Result<(), ShaperError> {
         if !spans_cover(self.info.len(), spans) {

@@ -2,7 +2,7 @@
 
 /// A tag of the OpenType registry: four bytes.
 #[repr(transparent)]
-#[derive(Clone, Copy, Debug, PartialEq, Eq)]
+#[derive(Clone, Copy, Debug, PartialEq, Eq, Hash, PartialOrd, Ord)]
 pub struct Tag(pub [u8; 4]);
 
 impl Tag {
@@ -41,7 +41,7 @@ impl Tag {
 
 /// A script, by its ISO 15924 code: four bytes, as `Thai`.
 #[repr(transparent)]
-#[derive(Clone, Copy, Debug, PartialEq, Eq)]
+#[derive(Clone, Copy, Debug, PartialEq, Eq, Hash, PartialOrd, Ord)]
 pub struct Script(pub [u8; 4]);
 
 impl Script {

@@ -83,6 +83,10 @@ impl Buffer {
 
     /// Walks over all glyphs. It takes no memory.
     ///
+    /// # Panics
+    ///
+    /// Where the walk does.
+    ///
     /// <details><summary>Contract</summary>
     ///
     /// # Contract
@@ -102,6 +106,10 @@ impl Buffer {
 
     /// Calls `change` with all glyphs, which it may rewrite, and returns what it returned. It takes
     /// no memory.
+    ///
+    /// # Panics
+    ///
+    /// Where `change` does.
     ///
     /// <details><summary>Contract</summary>
     ///
@@ -124,6 +132,10 @@ impl Buffer {
     /// Calls `change` with all positions, which it may rewrite, and returns what it returned. It
     /// takes no memory.
     ///
+    /// # Panics
+    ///
+    /// Where `change` does.
+    ///
     /// <details><summary>Contract</summary>
     ///
     /// # Contract
@@ -143,6 +155,10 @@ impl Buffer {
     }
 
     /// Walks over all glyphs and their positions. It takes no memory.
+    ///
+    /// # Panics
+    ///
+    /// Where the walk does.
     ///
     /// <details><summary>Contract</summary>
     ///

@@ -81,7 +81,7 @@ fn character_at(glyphs: &[GlyphInfo], i: usize) -> u32 {
 // Whether the font has the character with advance 0.
 #[inline]
 fn is_zero_width_char<F: Font>(face: &F, u: u32) -> bool {
-    match face.get_nominal_glyph(u) {
+    match face.nominal_glyph(u) {
         Some(glyph) => face.glyph_h_advance(glyph) == 0,
         None => false,
     }

@@ -139,16 +139,16 @@ fn masks_of(map: &Map) -> [u32; 17] {
     [
         0,
         0,
-        map.get_1_mask(Tag(*b"rphf")),
+        map.one_mask(Tag(*b"rphf")),
         0,
-        map.get_1_mask(Tag(*b"pref")),
-        map.get_1_mask(Tag(*b"blwf")),
-        map.get_1_mask(Tag(*b"abvf")),
-        map.get_1_mask(Tag(*b"half")),
-        map.get_1_mask(Tag(*b"pstf")),
+        map.one_mask(Tag(*b"pref")),
+        map.one_mask(Tag(*b"blwf")),
+        map.one_mask(Tag(*b"abvf")),
+        map.one_mask(Tag(*b"half")),
+        map.one_mask(Tag(*b"pstf")),
         0,
         0,
-        map.get_1_mask(Tag(*b"init")),
+        map.one_mask(Tag(*b"init")),
         0,
         0,
         0,
@@ -235,5 +235,5 @@ pub fn virama_glyph<F: Font>(plan: &IndicPlan, face: &F) -> Option<GlyphId> {
     if plan.config.virama == 0 {
         return None;
     }
-    face.get_nominal_glyph(plan.config.virama)
+    face.nominal_glyph(plan.config.virama)
 }

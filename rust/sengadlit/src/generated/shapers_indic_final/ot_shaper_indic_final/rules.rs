@@ -13,7 +13,7 @@ const MALAYALAM: Script = Script(*b"Mlym");
 const TAMIL: Script = Script(*b"Taml");
 
 /// What the final reordering reads of the plan and the font.
-#[derive(Clone, Copy, Debug, PartialEq, Eq)]
+#[derive(Clone, Copy, Debug, PartialEq, Eq, Hash)]
 pub struct Rules {
     /// Where the script wants its reph.
     pub reph_pos: RephPosition,

@@ -29,7 +29,7 @@ const CIRCLES: ScriptCircles = ScriptCircles {
 /// of the basic features. At the levels that merge, places from the base on that a glyph moved over
 /// share one cluster, and where a syllable's clusters are its own no more is merged. Returns
 /// whether circles were wanted. Every cluster afterwards is one that the text had. Refuses with
-/// `UnknownSyllable`, before anything changes; with `TooLong`; and with `Memory`, but not where no
+/// [`UnknownSyllable`], before anything changes; with [`TooLong`]; and with [`Memory`], but not where no
 /// circle opens. (OpenType, development of Indic scripts.)
 ///
 /// <details><summary>Contract</summary>
@@ -82,6 +82,10 @@ const CIRCLES: ScriptCircles = ScriptCircles {
 /// - `PauseCutsAtBorders`, `TextReordered`: `crates/shapers_syllabic/specs/ReorderingLaws.antt`
 ///
 /// </details>
+///
+/// [`Memory`]: crate::ShaperError::Memory
+/// [`TooLong`]: crate::ShaperError::TooLong
+/// [`UnknownSyllable`]: crate::ShaperError::UnknownSyllable
 pub fn initial_reordering<F: Font>(
     plan: &Plan,
     face: &F,

@@ -24,8 +24,8 @@ const CIRCLES: ScriptCircles = ScriptCircles {
 /// Gives broken syllables their dotted circles, and then brings Coeng Ro and the vowels that stand
 /// before their base to the front of each syllable, with the masks of the plan; in a regular
 /// syllable these are its movers, the last one first. Returns whether circles were wanted. Every
-/// cluster afterwards is one that the text had. Refuses with `UnknownSyllable`, before anything
-/// changes; with `TooLong`; and with `Memory`, but not where no circle opens. (OpenType,
+/// cluster afterwards is one that the text had. Refuses with [`UnknownSyllable`], before anything
+/// changes; with [`TooLong`]; and with [`Memory`], but not where no circle opens. (OpenType,
 /// "Developing OpenType Fonts for Khmer".)
 ///
 /// <details><summary>Contract</summary>
@@ -78,6 +78,10 @@ const CIRCLES: ScriptCircles = ScriptCircles {
 /// - `PauseCutsAtBorders`: `crates/shapers_syllabic/specs/ReorderingLaws.antt`
 ///
 /// </details>
+///
+/// [`Memory`]: crate::ShaperError::Memory
+/// [`TooLong`]: crate::ShaperError::TooLong
+/// [`UnknownSyllable`]: crate::ShaperError::UnknownSyllable
 #[inline]
 pub fn reorder_khmer<F: Font>(
     plan: &Plan,

@@ -60,7 +60,7 @@ pub trait NormalizeContext {
     /// ```
     ///
     /// </details>
-    fn get_nominal_glyph(&self, c: u32) -> Option<GlyphId>;
+    fn nominal_glyph(&self, c: u32) -> Option<GlyphId>;
 
     /// The font's glyph for a character in the form that a variation selector selects.
     ///
@@ -73,7 +73,7 @@ pub trait NormalizeContext {
     /// ```
     ///
     /// </details>
-    fn get_variation_glyph(&self, c: u32, selector: u32) -> Option<GlyphId>;
+    fn variation_glyph(&self, c: u32, selector: u32) -> Option<GlyphId>;
 
     /// Whether the font has a glyph for a character. An impl overrides this where it knows without
     /// making the glyph.
@@ -91,7 +91,7 @@ pub trait NormalizeContext {
     /// </details>
     #[inline]
     fn has_glyph(&self, c: u32) -> bool {
-        self.get_nominal_glyph(c).is_some()
+        self.nominal_glyph(c).is_some()
     }
 
     /// The general category of a character.
@@ -161,6 +161,11 @@ pub trait NormalizeContext {
 
     /// Orders the marks from `start` to `end`, at most 32 that are sorted by class, as the shaper
     /// wants them. What stands behind them keeps its classes.
+    ///
+    /// # Panics
+    ///
+    /// May panic where `start` isn't below `end`, `end` is above the number of glyphs, or there are more than 32 marks:
+    /// [`normalize`](crate::ot_shape_normalize::normalize) never makes such a call.
     ///
     /// <details><summary>Contract</summary>
     ///

@@ -43,6 +43,14 @@ type Parts = ArrayVec<u32, MAX_PARTS>;
 /// stays; the font's glyph for a character and a selector stands for both. Refuses by the number of
 /// glyphs, and then nothing has changed. A text of which nothing comes apart takes no memory.
 ///
+/// # Errors
+///
+/// [`TooLong`] where the text taken apart is longer than the buffer may be, and [`Memory`]; nothing has changed then.
+///
+/// # Panics
+///
+/// Where the context does. May panic, or leave an unspecified text, where the buffer has positions.
+///
 /// <details><summary>Contract</summary>
 ///
 /// # Contract
@@ -62,6 +70,9 @@ type Parts = ArrayVec<u32, MAX_PARTS>;
 /// - `first_round`, `is_whole`, `stays_together`: `crates/shapers_normal/specs/Decomposition.antt`
 ///
 /// </details>
+///
+/// [`Memory`]: crate::ShaperError::Memory
+/// [`TooLong`]: crate::ShaperError::TooLong
 pub fn decompose<C: NormalizeContext>(context: &C, buffer: &mut Buffer) -> Result<(), ShaperError> {
     if is_whole(context, buffer.glyphs()) {
         change_all(buffer, &Numbering { context });
@@ -422,7 +433,7 @@ fn then_come_off(image: Parts, off: u32) -> Parts {
 // The number of a character's glyph, 0 where the font has none.
 #[inline]
 fn number_of<C: NormalizeContext>(context: &C, c: u32) -> u16 {
-    match context.get_nominal_glyph(c) {
+    match context.nominal_glyph(c) {
         Some(glyph) => glyph.0,
         None => 0,
     }
@@ -431,7 +442,7 @@ fn number_of<C: NormalizeContext>(context: &C, c: u32) -> u16 {
 // A character that stays, with its glyph.
 #[inline]
 fn settled<C: NormalizeContext>(context: &C, glyph: GlyphInfo) -> GlyphInfo {
-    match context.get_nominal_glyph(glyph.glyph_id) {
+    match context.nominal_glyph(glyph.glyph_id) {
         Some(own) => GlyphInfo {
             var: u32::from(own.0),
             ..glyph
@@ -469,7 +480,7 @@ fn drawn_space<C: NormalizeContext>(context: &C, glyph: &GlyphInfo) -> Option<(u
         return None;
     }
     let kind = space_kind(glyph.glyph_id)?;
-    let drawn = match context.get_nominal_glyph(0x20) {
+    let drawn = match context.nominal_glyph(0x20) {
         Some(space) => space,
         None => context.invisible_glyph()?,
     };

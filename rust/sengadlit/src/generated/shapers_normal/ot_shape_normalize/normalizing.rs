@@ -14,7 +14,7 @@ use crate::generated::shapers_base::plan::NormalizationMode;
 use core::mem;
 
 /// When marks are ordered and composed.
-#[derive(Clone, Copy, Debug, PartialEq, Eq, Default)]
+#[derive(Clone, Copy, Debug, PartialEq, Eq, Default, Hash)]
 pub enum Rounds {
     /// Where the text has a mark behind its first place, as the code of HarfBuzz has it: a letter
     /// that comes apart in a text without marks stays apart.
@@ -28,6 +28,14 @@ pub enum Rounds {
 /// them apart, orders the marks, and composes what the font has. `var` is then the number of each
 /// character's glyph. Refuses where the text taken apart is longer than the buffer may be, and then
 /// nothing has changed. (Unicode Standard Annex 15; HarfBuzz's order of rounds.)
+///
+/// # Errors
+///
+/// [`TooLong`] where the text taken apart is longer than the buffer may be, and [`Memory`]; nothing has changed then.
+///
+/// # Panics
+///
+/// Where the context does. May panic, or leave an unspecified text, where the buffer has positions.
 ///
 /// <details><summary>Contract</summary>
 ///
@@ -48,6 +56,9 @@ pub enum Rounds {
 /// - `normalized`: `crates/shapers_normal/specs/Normalization.antt`
 ///
 /// </details>
+///
+/// [`Memory`]: crate::ShaperError::Memory
+/// [`TooLong`]: crate::ShaperError::TooLong
 pub fn normalize<C: NormalizeContext>(
     context: &C,
     rounds: Rounds,

@@ -87,7 +87,7 @@ fn is_free(glyphs: &[GlyphInfo], place: Place) -> bool {
 #[inline]
 fn compose<C: NormalizeContext>(context: &C, a: u32, b: u32) -> Option<(u32, GlyphId)> {
     let c = context.compose(a, b)?;
-    let glyph = context.get_nominal_glyph(c)?;
+    let glyph = context.nominal_glyph(c)?;
     Some((c, glyph))
 }
 

@@ -69,7 +69,7 @@ fn has_variant_at<C: NormalizeContext>(context: &C, glyphs: &[GlyphInfo], i: usi
         && is_selector(selector)
         && !is_selector_behind(glyphs, i)
         && context
-            .get_variation_glyph(glyphs[i].glyph_id, selector.glyph_id)
+            .variation_glyph(glyphs[i].glyph_id, selector.glyph_id)
             .is_some()
 }
 
@@ -131,7 +131,7 @@ fn len_of_form<C: NormalizeContext>(context: &C, form: &[GlyphInfo]) -> usize {
     let [glyph, selector, ..] = form else {
         return form.len();
     };
-    match context.get_variation_glyph(glyph.glyph_id, selector.glyph_id) {
+    match context.variation_glyph(glyph.glyph_id, selector.glyph_id) {
         Some(_) => form.len() - 1,
         None => form.len(),
     }
@@ -144,7 +144,7 @@ fn write_form<C: NormalizeContext>(context: &C, form: &[GlyphInfo], to: &mut Vec
         write_kept(context, form, to);
         return;
     };
-    match context.get_variation_glyph(glyph.glyph_id, selector.glyph_id) {
+    match context.variation_glyph(glyph.glyph_id, selector.glyph_id) {
         Some(variant) => {
             put(
                 to,
@@ -176,7 +176,7 @@ fn write_kept<C: NormalizeContext>(context: &C, glyphs: &[GlyphInfo], to: &mut V
 // A glyph with the number of its character's glyph, if the font has one.
 #[inline]
 pub(super) fn with_number<C: NormalizeContext>(context: &C, glyph: GlyphInfo) -> GlyphInfo {
-    match context.get_nominal_glyph(glyph.glyph_id) {
+    match context.nominal_glyph(glyph.glyph_id) {
         Some(own) => GlyphInfo {
             var: u32::from(own.0),
             ..glyph

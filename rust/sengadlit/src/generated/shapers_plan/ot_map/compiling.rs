@@ -33,7 +33,9 @@ impl CompiledMap {
     ///
     /// # Errors
     ///
-    /// `Memory`.
+    /// [`Memory`].
+    ///
+    /// [`Memory`]: crate::ShaperError::Memory
     pub(crate) fn new<L: FontFeatures>(
         alloc: Global,
         font: &L,

@@ -16,7 +16,7 @@ use crate::generated::shapers_base::plan::{Pause, Request};
 use crate::support::alloc::Global;
 
 /// A lookup of a stage, and how it applies.
-#[derive(Clone, Copy, Debug, PartialEq, Eq)]
+#[derive(Clone, Copy, Debug, PartialEq, Eq, Hash)]
 pub struct StageLookup {
     /// The number of the lookup in its table.
     pub index: u16,
@@ -33,7 +33,7 @@ pub struct StageLookup {
 }
 
 /// A stage: lookups that run over the text one after the other, and what is done behind them.
-#[derive(Clone, Copy, Debug, PartialEq, Eq)]
+#[derive(Clone, Copy, Debug, PartialEq, Eq, Hash)]
 pub struct Stage {
     /// The place of its first lookup in the plan's list.
     pub start: usize,
@@ -130,7 +130,9 @@ fn is_of_stage(feature: &MappedFeature, stage: Option<usize>) -> bool {
 ///
 /// # Errors
 ///
-/// `Memory`.
+/// [`Memory`].
+///
+/// [`Memory`]: crate::ShaperError::Memory
 pub(super) fn stage_lookups<L: FontFeatures>(
     alloc: Global,
     font: &L,
@@ -194,7 +196,9 @@ impl Stages {
 ///
 /// # Errors
 ///
-/// `Memory`.
+/// [`Memory`].
+///
+/// [`Memory`]: crate::ShaperError::Memory
 pub(super) fn collect_stages<L: FontFeatures>(
     alloc: Global,
     font: &L,

@@ -23,7 +23,7 @@ const GLOBAL_BIT: u32 = 31;
 const MAX_BITS: u32 = 8;
 
 /// A feature that has its bits.
-#[derive(Clone, Copy, Debug, PartialEq, Eq)]
+#[derive(Clone, Copy, Debug, PartialEq, Eq, Hash)]
 pub(crate) struct MappedFeature {
     /// The feature's tag.
     pub(crate) tag: Tag,
@@ -111,7 +111,9 @@ fn is_served<L: FontFeatures>(font: &L, info: &FeatureInfo) -> bool {
 ///
 /// # Errors
 ///
-/// `Memory`.
+/// [`Memory`].
+///
+/// [`Memory`]: crate::ShaperError::Memory
 pub(super) fn mapped<L: FontFeatures>(
     alloc: Global,
     font: &L,

@@ -11,7 +11,7 @@ use crate::generated::shapers_base::plan::Request;
 use crate::support::alloc::Global;
 
 /// A feature as it is requested.
-#[derive(Clone, Copy, Debug, PartialEq, Eq)]
+#[derive(Clone, Copy, Debug, PartialEq, Eq, Hash)]
 pub(super) struct FeatureInfo {
     /// The feature's tag.
     pub(super) tag: Tag,
@@ -74,7 +74,9 @@ impl Numbered for FeatureInfo {
 ///
 /// # Errors
 ///
-/// `Memory`.
+/// [`Memory`].
+///
+/// [`Memory`]: crate::ShaperError::Memory
 pub(super) fn joined_by_tag(
     alloc: Global,
     requests: &[Request],

@@ -99,7 +99,9 @@ fn shaper_of_choice(choice: ScriptShaper) -> Shaper {
 ///
 /// # Errors
 ///
-/// `Memory`.
+/// [`Memory`].
+///
+/// [`Memory`]: crate::ShaperError::Memory
 pub(super) fn collect<F: Font>(
     alloc: Global,
     shaper: Option<Shaper>,

@@ -16,17 +16,17 @@ use crate::support::alloc::Global;
 /// The masks of the features that the driver turns on.
 pub(super) fn driver_masks(map: &Map) -> DriverMasks {
     DriverMasks {
-        frac: map.get_1_mask(Tag(*b"frac")),
-        numr: map.get_1_mask(Tag(*b"numr")),
-        dnom: map.get_1_mask(Tag(*b"dnom")),
-        rtlm: map.get_1_mask(Tag(*b"rtlm")),
-        vert: map.get_1_mask(Tag(*b"vert")),
+        frac: map.one_mask(Tag(*b"frac")),
+        numr: map.one_mask(Tag(*b"numr")),
+        dnom: map.one_mask(Tag(*b"dnom")),
+        rtlm: map.one_mask(Tag(*b"rtlm")),
+        vert: map.one_mask(Tag(*b"vert")),
     }
 }
 
 /// The plan that the shaper's hooks read, with the data that it keeps.
 pub(super) fn hooks_plan(shaper: Option<Shaper>, script: Option<Script>, map: Map) -> Plan {
-    let has_mark = map.get_1_mask(Tag(*b"mark")) != 0;
+    let has_mark = map.one_mask(Tag(*b"mark")) != 0;
     let mut plan = Plan::new(script, map);
     plan.has_gpos_mark = has_mark;
     match shaper {
@@ -39,7 +39,9 @@ pub(super) fn hooks_plan(shaper: Option<Shaper>, script: Option<Script>, map: Ma
 ///
 /// # Errors
 ///
-/// `Memory`.
+/// [`Memory`].
+///
+/// [`Memory`]: crate::ShaperError::Memory
 pub(super) fn user_ranges(
     alloc: Global,
     features: &[MappedFeature],

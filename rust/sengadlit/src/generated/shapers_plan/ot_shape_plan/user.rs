@@ -3,7 +3,7 @@
 use crate::generated::shapers_base::buffer::Tag;
 
 /// A feature that the user requests, from one cluster up to another.
-#[derive(Clone, Copy, Debug, PartialEq, Eq)]
+#[derive(Clone, Copy, Debug, PartialEq, Eq, Hash)]
 pub struct UserFeature {
     /// The feature's tag.
     pub tag: Tag,
@@ -17,7 +17,7 @@ pub struct UserFeature {
 
 /// What a user's feature becomes where it doesn't hold for the whole text: in glyphs of the
 /// clusters from `start` up to `end` the bits of `mask` become those of `value`.
-#[derive(Clone, Copy, Debug, PartialEq, Eq)]
+#[derive(Clone, Copy, Debug, PartialEq, Eq, Hash)]
 pub struct UserRange {
     /// The bits of the feature.
     pub mask: u32,

@@ -23,8 +23,12 @@ const DOTTED_CIRCLE: u32 = 0x25CC;
 ///
 /// # Errors
 ///
-/// `TooLong` where the buffer would be longer than `max_len`, `Memory` where memory is refused;
+/// [`TooLong`] where the buffer would be longer than [`max_len`], [`Memory`] where memory is refused;
 /// nothing has changed then.
+///
+/// # Panics
+///
+/// Where the font does.
 ///
 /// <details><summary>Contract</summary>
 ///
@@ -47,6 +51,10 @@ const DOTTED_CIRCLE: u32 = 0x25CC;
 /// - `with_first_circle`: `crates/shapers_prepare/specs/FirstCircle.antt`
 ///
 /// </details>
+///
+/// [`Memory`]: crate::ShaperError::Memory
+/// [`TooLong`]: crate::ShaperError::TooLong
+/// [`max_len`]: crate::Buffer::max_len
 pub fn insert_dotted_circle<U: UnicodeProperties, F: Font>(
     unicode: &U,
     face: &F,

@@ -10,7 +10,7 @@ use core::mem;
 /// What characters are rotated by: the direction that the caller wants of the text, and of the plan
 /// the mask of the feature that mirrors (`rtlm`) and whether the font has a feature for vertical
 /// forms (`vert`).
-#[derive(Clone, Copy, Debug, PartialEq, Eq)]
+#[derive(Clone, Copy, Debug, PartialEq, Eq, Hash)]
 pub struct CharRotation {
     /// The direction that the caller wants.
     pub direction: Direction,

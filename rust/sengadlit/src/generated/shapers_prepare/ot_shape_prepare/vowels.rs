@@ -23,8 +23,12 @@ const DOTTED_CIRCLE: u32 = 0x25CC;
 ///
 /// # Errors
 ///
-/// `TooLong` where the buffer would be longer than `max_len`, `Memory` where memory is refused;
+/// [`TooLong`] where the buffer would be longer than [`max_len`], [`Memory`] where memory is refused;
 /// nothing has changed then.
+///
+/// # Panics
+///
+/// May panic, or leave an unspecified text, where the buffer has positions.
 ///
 /// <details><summary>Contract</summary>
 ///
@@ -43,6 +47,10 @@ const DOTTED_CIRCLE: u32 = 0x25CC;
 /// - `vowels_parted`: `crates/shapers_prepare/specs/Vowels.antt`
 ///
 /// </details>
+///
+/// [`Memory`]: crate::ShaperError::Memory
+/// [`TooLong`]: crate::ShaperError::TooLong
+/// [`max_len`]: crate::Buffer::max_len
 pub fn preprocess_text_vowel_constraints(buffer: &mut Buffer) -> Result<(), ShaperError> {
     match vowel_script_of(buffer) {
         None => Ok(()),
@@ -51,7 +59,7 @@ pub fn preprocess_text_vowel_constraints(buffer: &mut Buffer) -> Result<(), Shap
 }
 
 /// A script that has such vowels.
-#[derive(Clone, Copy, Debug, PartialEq, Eq)]
+#[derive(Clone, Copy, Debug, PartialEq, Eq, Hash)]
 pub(super) enum VowelScript {
     Devanagari,
     Bengali,

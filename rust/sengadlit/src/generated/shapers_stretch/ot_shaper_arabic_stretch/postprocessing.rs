@@ -11,7 +11,7 @@ use core::mem;
 
 /// Stretches marks: where the buffer is marked to have some, the tiles of each run of them are
 /// laid, and laid again, over the word before it, and no break is left inside. Refuses with
-/// `StretchOverflow` where a number of a run doesn't fit 32 bits, and then as a growth to the
+/// [`StretchOverflow`] where a number of a run doesn't fit 32 bits, and then as a growth to the
 /// length of the result does: longer by the copies that are added. What is laid is as wide as
 /// `widths_law` says. (OpenType `stch`.)
 ///
@@ -45,6 +45,8 @@ use core::mem;
 /// - `AreCopies`, `IsLaidOver`: `crates/shapers_stretch/specs/StretchLaws.antt`
 ///
 /// </details>
+///
+/// [`StretchOverflow`]: crate::ShaperError::StretchOverflow
 #[inline]
 pub fn postprocess_glyphs<F: Font>(
     plan: &Plan,

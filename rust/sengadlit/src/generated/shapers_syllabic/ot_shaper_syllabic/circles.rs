@@ -12,7 +12,7 @@ const DOTTED_CIRCLE: u32 = 0x25CC;
 
 /// The dotted circles of a shaper: in syllables of the broken kind, with a category and a position,
 /// behind the leading glyphs of the repha category where there is one.
-#[derive(Clone, Copy, Debug, PartialEq, Eq)]
+#[derive(Clone, Copy, Debug, PartialEq, Eq, Hash)]
 pub struct ScriptCircles {
     /// The kind of the syllables that get one.
     pub broken_kind: u8,
@@ -45,13 +45,17 @@ struct Places {
 /// Gives each broken syllable a dotted circle, behind its leading glyphs of the repha category
 /// where one is given, else in front. Returns false, with nothing changed, where no syllable is
 /// broken, the caller forbids circles or the font has none. Without its circles the text is what it
-/// was. Refuses with `TooLong` where the text
-/// would be longer than `max_len`, and with `Memory`; where no circle opens it takes none.
+/// was. Refuses with [`TooLong`] where the text
+/// would be longer than [`max_len`], and with [`Memory`]; where no circle opens it takes none.
 ///
 /// # Errors
 ///
-/// `TooLong` where the buffer would be longer than `max_len`, `Memory` where memory is refused;
+/// [`TooLong`] where the buffer would be longer than [`max_len`], [`Memory`] where memory is refused;
 /// nothing has changed then.
+///
+/// # Panics
+///
+/// Where the font does. May panic, or leave an unspecified text, where the buffer has positions.
 ///
 /// <details><summary>Contract</summary>
 ///
@@ -89,6 +93,10 @@ struct Places {
 /// - `circled`, `circles_for`: `crates/shapers_syllabic/specs/Circles.antt`
 ///
 /// </details>
+///
+/// [`Memory`]: crate::ShaperError::Memory
+/// [`TooLong`]: crate::ShaperError::TooLong
+/// [`max_len`]: crate::Buffer::max_len
 pub fn insert_dotted_circles<F: Font>(
     face: &F,
     buffer: &mut Buffer,
@@ -108,8 +116,8 @@ pub fn insert_dotted_circles<F: Font>(
 
 impl ScriptCircles {
     /// Gives each broken syllable its dotted circle. Returns false, with nothing changed, where no
-    /// syllable is broken, the caller forbids circles or the font has none. Refuses with `TooLong`
-    /// where the text would be longer than `max_len`, and with `Memory`, but not where no circle
+    /// syllable is broken, the caller forbids circles or the font has none. Refuses with [`TooLong`]
+    /// where the text would be longer than [`max_len`], and with [`Memory`], but not where no circle
     /// opens; a refusal changes nothing.
     ///
     /// <details><summary>Contract</summary>
@@ -139,6 +147,10 @@ impl ScriptCircles {
     /// - `script_circles`: `crates/shapers_syllabic/specs/Reordering.antt`
     ///
     /// </details>
+    ///
+    /// [`Memory`]: crate::ShaperError::Memory
+    /// [`TooLong`]: crate::ShaperError::TooLong
+    /// [`max_len`]: crate::Buffer::max_len
     pub fn insert<F: Font>(&self, face: &F, buffer: &mut Buffer) -> Result<bool, ShaperError> {
         match self.circles_for(face, buffer) {
             None => Ok(false),
@@ -157,7 +169,7 @@ impl ScriptCircles {
         if forbidden || !buffer.has_broken_syllable() {
             return None;
         }
-        match face.get_nominal_glyph(DOTTED_CIRCLE) {
+        match face.nominal_glyph(DOTTED_CIRCLE) {
             None => None,
             Some(glyph) => {
                 let circle = GlyphInfo {

@@ -8,8 +8,8 @@ use crate::generated::shapers_base::buffer::{Buffer, ShaperError};
 use crate::generated::shapers_base::font::Font;
 
 /// Gives broken syllables their dotted circles and then reorders each syllable. Returns whether
-/// circles were wanted. Refuses with `UnknownSyllable` where a kind is above the last known one, if
-/// there is one; with `TooLong`; and with `Memory`, but not where no circle opens and the order
+/// circles were wanted. Refuses with [`UnknownSyllable`] where a kind is above the last known one, if
+/// there is one; with [`TooLong`]; and with [`Memory`], but not where no circle opens and the order
 /// never refuses. After a refusal the buffer is as it was, unless it is the order's. Every cluster
 /// afterwards is one that the text had before its circles.
 ///
@@ -53,6 +53,10 @@ use crate::generated::shapers_base::font::Font;
 /// - `PauseCutsAtBorders`, `TextReordered`: `crates/shapers_syllabic/specs/ReorderingLaws.antt`
 ///
 /// </details>
+///
+/// [`Memory`]: crate::ShaperError::Memory
+/// [`TooLong`]: crate::ShaperError::TooLong
+/// [`UnknownSyllable`]: crate::ShaperError::UnknownSyllable
 #[inline]
 pub fn reorder_pause<F: Font, R: ReorderBySteps>(
     face: &F,

@@ -26,8 +26,17 @@ pub trait MayChange {
 /// contracts `takes` is what is required of these numbers, `may_refuse` whether there may be no
 /// memory, and `relation` the buffer before and after, clusters and glyph flags among it.
 pub trait Reorder: MayChange {
-    /// Reorders the syllable from `start` to `end`. Only an order that may refuse returns `Memory`,
+    /// Reorders the syllable from `start` to `end`. Only an order that may refuse returns [`Memory`],
     /// and then nothing is said of the buffer.
+    ///
+    /// # Errors
+    ///
+    /// [`Memory`], where the order takes memory; nothing is said of the buffer then.
+    ///
+    /// # Panics
+    ///
+    /// May panic where `start` is above `end`, or `end` above the length:
+    /// [`reorder_syllables`](crate::ot_shaper_syllabic::reorder_syllables) never makes such a call.
     ///
     /// <details><summary>Contract</summary>
     ///
@@ -46,6 +55,8 @@ pub trait Reorder: MayChange {
     /// - `RefusesIf`, `glyph_numbers`: `crates/shapers_syllabic/specs/Reordering.antt`
     ///
     /// </details>
+    ///
+    /// [`Memory`]: crate::ShaperError::Memory
     fn reorder(&self, buffer: &mut Buffer, start: usize, end: usize) -> Result<(), ShaperError>;
 }
 
@@ -57,6 +68,14 @@ pub trait ReorderBySteps: Reorder {}
 /// no place depends on how syllables were moved. The text becomes what its syllables become, one
 /// after another, and the order's relation leads there, one link a syllable. It refuses where the
 /// order does, and then nothing is said of the buffer.
+///
+/// # Errors
+///
+/// What the order returns; nothing is said of the buffer then.
+///
+/// # Panics
+///
+/// Where the order does, or takes glyphs out of the buffer.
 ///
 /// <details><summary>Contract</summary>
 ///

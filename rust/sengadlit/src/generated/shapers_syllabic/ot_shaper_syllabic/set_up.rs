@@ -9,7 +9,7 @@ use crate::generated::shapers_base::buffer::{
 };
 
 /// Cuts the text into the syllables of these spans, marks whether one is of the broken kind, and
-/// flags the inside of each syllable as unsafe to break. Refuses with `SpansDontCover` where a span
+/// flags the inside of each syllable as unsafe to break. Refuses with [`SpansDontCover`] where a span
 /// is empty or the lengths don't add up to the buffer's. It takes no memory and leaves the clusters
 /// as they are.
 ///
@@ -35,6 +35,8 @@ use crate::generated::shapers_base::buffer::{
 /// - `with_unsafe_syllables`: `crates/shapers_syllabic/specs/Syllabic.antt`
 ///
 /// </details>
+///
+/// [`SpansDontCover`]: crate::ShaperError::SpansDontCover
 #[inline]
 pub fn set_up_syllables(
     spans: &[Span],

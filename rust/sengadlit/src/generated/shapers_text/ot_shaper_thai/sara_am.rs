@@ -159,7 +159,7 @@ impl GlyphWalk for Rewriting {
 
 /// Puts each SARA AM in two: NIKHAHIT, before the above-base marks that stand before it, and SARA
 /// AA.
-/// A SARA AM merges with its marks or, at level `MonotoneGraphemes`, with the glyph before it.
+/// A SARA AM merges with its marks or, at level [`MonotoneGraphemes`], with the glyph before it.
 /// Refuses as a growth does. (OpenType's Thai and Lao notes; rustybuzz's comment on the rule.)
 ///
 /// <details><summary>Contract</summary>
@@ -185,6 +185,8 @@ impl GlyphWalk for Rewriting {
 /// - `glyphs_in_two`, `is_sara_am`, `sara_am_stretches`: `crates/shapers_text/specs/Thai.antt`
 ///
 /// </details>
+///
+/// [`MonotoneGraphemes`]: crate::BufferClusterLevel::MonotoneGraphemes
 pub fn rewrite_sara_am(buffer: &mut Buffer) -> Result<(), ShaperError> {
     let len = buffer.len();
     let count = count_sara_am(buffer);

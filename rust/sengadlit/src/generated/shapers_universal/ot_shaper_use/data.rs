@@ -44,7 +44,7 @@ const JOINING_SCRIPTS: [Script; 13] = [
 /// </details>
 pub fn create_data(plan: &Plan) -> PlanData {
     PlanData::Universal(UniversalPlan {
-        rphf_mask: plan.ot_map.get_1_mask(Tag(*b"rphf")),
+        rphf_mask: plan.ot_map.one_mask(Tag(*b"rphf")),
         arabic_plan: arabic_plan_for(plan),
     })
 }

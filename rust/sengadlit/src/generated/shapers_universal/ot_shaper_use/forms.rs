@@ -98,8 +98,8 @@ impl GlyphWalk for FormMasks {
 // The mask of the feature of a form, 0 where it holds for the whole text.
 #[inline]
 fn form_mask(map: &Map, tag: Tag) -> u32 {
-    let mask = map.get_1_mask(tag);
-    if mask == map.get_global_mask() {
+    let mask = map.one_mask(tag);
+    if mask == map.global_bits() {
         return 0;
     }
     mask

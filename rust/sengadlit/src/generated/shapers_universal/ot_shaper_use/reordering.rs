@@ -19,7 +19,7 @@ const CIRCLES: ScriptCircles = ScriptCircles {
 
 /// Gives each broken syllable a dotted circle, behind its leading rephas, and then each syllable
 /// its order; returns whether circles are wanted. Every cluster afterwards is one that the text
-/// had. Refuses with `TooLong` where the text would be longer than `max_len`, and with `Memory`;
+/// had. Refuses with [`TooLong`] where the text would be longer than [`max_len`], and with [`Memory`];
 /// where no circle opens it takes none. (OpenType, the Universal Shaping Engine.)
 ///
 /// <details><summary>Contract</summary>
@@ -62,6 +62,10 @@ const CIRCLES: ScriptCircles = ScriptCircles {
 /// - `universal_circles`: `crates/shapers_universal/specs/UniversalText.antt`
 ///
 /// </details>
+///
+/// [`Memory`]: crate::ShaperError::Memory
+/// [`TooLong`]: crate::ShaperError::TooLong
+/// [`max_len`]: crate::Buffer::max_len
 #[inline]
 pub fn reorder_use<F: Font>(face: &F, buffer: &mut Buffer) -> Result<bool, ShaperError> {
     reorder_pause(face, &UniversalOrder, &CIRCLES, None, buffer)

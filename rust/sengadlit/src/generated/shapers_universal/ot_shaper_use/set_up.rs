@@ -13,12 +13,16 @@ use crate::generated::shapers_syllabic::ot_shaper_syllabic::{set_up_by_bytes, se
 /// Cuts the text into the syllables of these spans and flags the inside of each as unsafe to break.
 /// Gives the mask of `rphf` to the first glyph of each syllable if it is a reph, else to its first
 /// three, and, where the plan has no plan of Arabic, the masks of forms by the places of syllables.
-/// Refuses with `SpansDontCover` where a span is empty or the lengths don't add up to the buffer's.
+/// Refuses with [`SpansDontCover`] where a span is empty or the lengths don't add up to the buffer's.
 /// It takes no memory, leaves the clusters as they are and only adds glyph flags.
 ///
 /// # Errors
 ///
-/// `SpansDontCover`; nothing has changed then.
+/// [`SpansDontCover`]; nothing has changed then.
+///
+/// # Panics
+///
+/// Where the plan has no data of the universal shaper.
 ///
 /// <details><summary>Contract</summary>
 ///
@@ -47,6 +51,8 @@ use crate::generated::shapers_syllabic::ot_shaper_syllabic::{set_up_by_bytes, se
 /// - `syllables_set_up`: `crates/shapers_universal/specs/UniversalSyllables.antt`
 ///
 /// </details>
+///
+/// [`SpansDontCover`]: crate::ShaperError::SpansDontCover
 #[inline]
 pub fn setup_syllables_use(
     plan: &Plan,
@@ -60,6 +66,10 @@ pub fn setup_syllables_use(
 
 /// Sets up a text whose glyphs have their syllable bytes already, with the flags, marks and masks
 /// of [`setup_syllables_use`]. It takes no memory and leaves the clusters as they are.
+///
+/// # Panics
+///
+/// Where the plan has no data of the universal shaper.
 ///
 /// <details><summary>Contract</summary>
 ///

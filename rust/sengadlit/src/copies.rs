@@ -1,0 +1,156 @@
+//! Copies of what owns lists, which may be refused memory, and buffers that are equal.
+
+use crate::alloc::{AllocError, Global, Vec};
+use crate::buffer::{Buffer, ShaperError};
+use crate::map::Map;
+use crate::ot_shape_plan::ShapePlan;
+use crate::plan::{Plan, Planner};
+use core::ops::Range;
+
+/// Buffers are equal that hold the same glyphs, positions and settings. What room they have, and
+/// which places are listed in them, is of no account.
+impl PartialEq for Buffer {
+    fn eq(&self, other: &Self) -> bool {
+        self.glyphs() == other.glyphs()
+            && self.positions() == other.positions()
+            && self.settings() == other.settings()
+    }
+}
+
+impl Eq for Buffer {}
+
+impl Buffer {
+    /// An equal buffer, with the same places listed.
+    ///
+    /// # Errors
+    ///
+    /// [`ShaperError::Memory`] where memory is refused.
+    #[inline]
+    pub fn try_clone(&self) -> Result<Self, ShaperError> {
+        self.copy()
+    }
+}
+
+impl Map {
+    /// An equal map.
+    ///
+    /// # Errors
+    ///
+    /// Memory is refused.
+    pub fn try_clone(&self) -> Result<Self, AllocError> {
+        let mut stages = Vec::with_capacity(Global, self.stages.len())?;
+        for Range { start, end } in &self.stages {
+            stages.push(*start..*end)?;
+        }
+        Ok(Map {
+            features: Vec::from_slice(Global, &self.features)?,
+            stages,
+            lookups: Vec::from_slice(Global, &self.lookups)?,
+            ..*self
+        })
+    }
+}
+
+impl Plan {
+    /// An equal plan.
+    ///
+    /// # Errors
+    ///
+    /// Memory is refused.
+    pub fn try_clone(&self) -> Result<Self, AllocError> {
+        Ok(Plan {
+            ot_map: self.ot_map.try_clone()?,
+            plan_data: self.plan_data.clone(),
+            ..*self
+        })
+    }
+}
+
+impl Planner {
+    /// An equal planner.
+    ///
+    /// # Errors
+    ///
+    /// Memory is refused.
+    pub fn try_clone(&self) -> Result<Self, AllocError> {
+        Ok(Planner {
+            requests: Vec::from_slice(Global, &self.requests)?,
+            ..*self
+        })
+    }
+}
+
+impl ShapePlan {
+    /// An equal plan.
+    ///
+    /// # Errors
+    ///
+    /// Memory is refused.
+    pub fn try_clone(&self) -> Result<Self, AllocError> {
+        Ok(ShapePlan {
+            plan: self.plan.try_clone()?,
+            substitutions: Vec::from_slice(Global, &self.substitutions)?,
+            lookups: Vec::from_slice(Global, &self.lookups)?,
+            positioning: Vec::from_slice(Global, &self.positioning)?,
+            ranges: Vec::from_slice(Global, &self.ranges)?,
+            ..*self
+        })
+    }
+}
+
+#[cfg(test)]
+mod tests {
+    use crate::alloc::Global;
+    use crate::buffer::{Buffer, GlyphInfo};
+    use crate::map::FeatureMap;
+    use crate::plan::{Pause, Plan, Planner};
+    use crate::shaper::Shaper;
+    use crate::{Script, Tag};
+
+    #[test]
+    fn a_buffers_copy_is_equal_until_one_changes() {
+        let mut buffer = Buffer::from("ab");
+        let copy = buffer.try_clone().unwrap();
+        assert_eq!(copy, buffer);
+        buffer.set_place(1, 0);
+        assert_eq!(copy, buffer);
+        buffer.set_max_len(2);
+        assert_ne!(copy, buffer);
+        let glyph = GlyphInfo {
+            lig_comp: 1,
+            ..copy.get(1)
+        };
+        let mut other = copy.try_clone().unwrap();
+        other.set(1, glyph);
+        assert_ne!(copy, other);
+    }
+
+    #[test]
+    fn a_plans_copy_is_equal_until_one_changes() {
+        let features = [FeatureMap::new(Tag(*b"pref"), 0x10, 0)];
+        let plan = Plan::builder()
+            .script(Script(*b"Khmr"))
+            .features(&features)
+            .stages(&[0..1, 1..2])
+            .lookups(&[14, 15])
+            .global_mask(0x100)
+            .build_for(Shaper::Khmer)
+            .unwrap();
+        let mut copy = plan.try_clone().unwrap();
+        assert_eq!(copy, plan);
+        copy.has_gpos_mark = true;
+        assert_ne!(copy, plan);
+        let other = Plan::builder().features(&features).build().unwrap();
+        assert_ne!(other.ot_map, plan.ot_map);
+    }
+
+    #[test]
+    fn a_planners_copy_is_equal_until_one_changes() {
+        let mut planner = Planner::new(Global, None);
+        planner.enable_feature(Tag(*b"ccmp"), 0, 1).unwrap();
+        let copy = planner.try_clone().unwrap();
+        assert_eq!(copy, planner);
+        planner.add_gsub_pause(Some(Pause::RecordStch)).unwrap();
+        assert_ne!(copy, planner);
+    }
+}

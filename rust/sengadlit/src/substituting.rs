@@ -1,0 +1,216 @@
+//! What a lookup of GSUB does to a buffer: other glyphs for a range of it.
+
+use crate::buffer::{Buffer, GlyphMarks, ShaperError};
+use core::ops::Range;
+
+impl Buffer {
+    /// Puts glyphs of these numbers in the place of those of the range, as a multiple substitution
+    /// does. Each is a copy of the first one of the range but for its number, in the cluster that
+    /// the range has when its clusters are merged, with the mark
+    /// [`SUBSTITUTED`](GlyphMarks::SUBSTITUTED). Several for one glyph have the mark
+    /// [`MULTIPLIED`](GlyphMarks::MULTIPLIED), and in `lig_comp` their places among them. Where none
+    /// are given, the clusters of the range go to the glyph behind it, or to the one before it.
+    ///
+    /// It takes time by the number of glyphs from the range on, and no memory unless the text grows.
+    ///
+    /// ```
+    /// use sengadlit::Buffer;
+    ///
+    /// // one vowel sign becomes two
+    /// let mut buffer = Buffer::from("\u{1780}\u{17C4}");
+    /// buffer.replace_range(1..2, &[0x17C1, 0x17B6])?;
+    /// let glyphs: Vec<_> = buffer.iter().map(|glyph| (glyph.glyph_id, glyph.cluster)).collect();
+    /// assert_eq!(glyphs, [(0x1780, 0), (0x17C1, 3), (0x17B6, 3)]);
+    /// # Ok::<(), sengadlit::ShaperError>(())
+    /// ```
+    ///
+    /// # Errors
+    ///
+    /// [`ShaperError::TooLong`] and [`ShaperError::Memory`]; nothing has changed then.
+    ///
+    /// # Panics
+    ///
+    /// Where the range is empty or passes the end of the buffer, or the buffer has positions.
+    pub fn replace_range(
+        &mut self,
+        range: Range<usize>,
+        numbers: &[u32],
+    ) -> Result<(), ShaperError> {
+        self.expect_range(&range);
+        self.grow(numbers.len().saturating_sub(range.len()))?;
+        self.merge_clusters(range.start, range.end);
+        if numbers.is_empty() {
+            self.hand_on_clusters(&range);
+        }
+        let is_multiplied = range.len() == 1 && numbers.len() > 1;
+        let first = self.get(range.start);
+        self.with_glyphs_mut(|glyphs| {
+            if numbers.len() > range.len() {
+                glyphs[range.end..].rotate_right(numbers.len() - range.len());
+            } else {
+                glyphs[range.start..].rotate_left(range.len() - numbers.len());
+            }
+            let places = (0_u8..16).cycle();
+            for ((glyph, number), place) in
+                glyphs[range.start..].iter_mut().zip(numbers).zip(places)
+            {
+                *glyph = first;
+                glyph.glyph_id = *number;
+                glyph.marks.insert(GlyphMarks::SUBSTITUTED);
+                if is_multiplied {
+                    glyph.marks.insert(GlyphMarks::MULTIPLIED);
+                    glyph.lig_comp = place;
+                }
+            }
+        });
+        self.truncate(self.len() - range.len().saturating_sub(numbers.len()));
+        Ok(())
+    }
+
+    /// Puts one glyph in the place of those of the range, as a ligature: a copy of the first one but
+    /// for its number, in the merged cluster of all, with the marks
+    /// [`SUBSTITUTED`](GlyphMarks::SUBSTITUTED) and [`LIGATED`](GlyphMarks::LIGATED), and no longer
+    /// [`MULTIPLIED`](GlyphMarks::MULTIPLIED). It can't refuse and takes no memory. (Which marks stay
+    /// with which component GDEF says, and the caller keeps.)
+    ///
+    /// # Panics
+    ///
+    /// Where the range is empty or passes the end of the buffer, or the buffer has positions.
+    pub fn ligate(&mut self, range: Range<usize>, number: u32) {
+        self.expect_range(&range);
+        self.merge_clusters(range.start, range.end);
+        let mut glyph = self.get(range.start);
+        glyph.glyph_id = number;
+        glyph.marks.insert(GlyphMarks::SUBSTITUTED);
+        glyph.marks.insert(GlyphMarks::LIGATED);
+        glyph.marks.remove(GlyphMarks::MULTIPLIED);
+        glyph.lig_comp = 0;
+        self.set(range.start, glyph);
+        let removed = range.len() - 1;
+        self.with_glyphs_mut(|glyphs| glyphs[range.start + 1..].rotate_left(removed));
+        self.truncate(self.len() - removed);
+    }
+
+    // Panics at a range that no lookup has.
+    #[track_caller]
+    fn expect_range(&self, range: &Range<usize>) {
+        let is_range = range.start < range.end && range.end <= self.len();
+        assert!(
+            is_range,
+            "{range:?} is no range of a buffer of {} glyphs",
+            self.len()
+        );
+        assert!(
+            self.positions_len() == 0,
+            "the buffer has positions already"
+        );
+    }
+
+    // Merges the clusters of a range that goes with a neighbour's, unless that has them already.
+    fn hand_on_clusters(&mut self, range: &Range<usize>) {
+        let glyphs = self.glyphs();
+        let here = glyphs[range.start].cluster;
+        let before = glyphs[..range.start].last().map(|glyph| glyph.cluster);
+        let behind = glyphs[range.end..].first().map(|glyph| glyph.cluster);
+        if behind.is_some() && behind != Some(here) && before != Some(here) {
+            self.merge_clusters(range.start, range.end + 1);
+        } else if behind.is_none() && before.is_some() {
+            self.merge_clusters(range.start - 1, range.end);
+        }
+    }
+}
+
+#[cfg(test)]
+mod tests {
+    use crate::buffer::{Buffer, GlyphMarks, ShaperError};
+    use std::vec::Vec;
+
+    fn text() -> Buffer {
+        Buffer::from("abcd")
+    }
+
+    fn seen(buffer: &Buffer) -> Vec<(u32, u32, GlyphMarks, u8)> {
+        let fields =
+            |glyph: &crate::GlyphInfo| (glyph.glyph_id, glyph.cluster, glyph.marks, glyph.lig_comp);
+        buffer.iter().map(fields).collect()
+    }
+
+    const NONE: GlyphMarks = GlyphMarks::NONE;
+    const SUBSTITUTED: GlyphMarks = GlyphMarks::SUBSTITUTED;
+
+    fn both(first: GlyphMarks, second: GlyphMarks) -> GlyphMarks {
+        GlyphMarks(first.0 | second.0)
+    }
+
+    #[test]
+    fn one_glyph_becomes_others() {
+        let mut buffer = text();
+        buffer.replace_range(1..2, &[7]).unwrap();
+        assert_eq!(seen(&buffer)[1], (7, 1, SUBSTITUTED, 0));
+        let multiplied = both(SUBSTITUTED, GlyphMarks::MULTIPLIED);
+        buffer.replace_range(3..4, &[8, 9, 10]).unwrap();
+        let parts = [
+            (8, 3, multiplied, 0),
+            (9, 3, multiplied, 1),
+            (10, 3, multiplied, 2),
+        ];
+        assert_eq!(seen(&buffer)[3..], parts);
+        assert_eq!(seen(&buffer)[2], (u32::from('c'), 2, NONE, 0));
+    }
+
+    #[test]
+    fn several_glyphs_become_fewer_or_more() {
+        let mut buffer = text();
+        buffer.replace_range(1..3, &[7, 8, 9]).unwrap();
+        let clusters: Vec<_> = buffer.iter().map(|glyph| glyph.cluster).collect();
+        assert_eq!(clusters, [0, 1, 1, 1, 3]);
+        buffer.replace_range(0..5, &[1]).unwrap();
+        assert_eq!(seen(&buffer), [(1, 0, SUBSTITUTED, 0)]);
+    }
+
+    #[test]
+    fn a_glyph_that_goes_hands_its_cluster_on() {
+        let mut buffer = text();
+        buffer.replace_range(0..1, &[]).unwrap();
+        assert_eq!(seen(&buffer)[0], (u32::from('b'), 0, NONE, 0));
+        buffer.replace_range(2..3, &[]).unwrap();
+        let clusters: Vec<_> = buffer.iter().map(|glyph| glyph.cluster).collect();
+        assert_eq!(clusters, [0, 2]);
+        buffer.replace_range(0..2, &[]).unwrap();
+        assert!(buffer.is_empty());
+    }
+
+    #[test]
+    fn a_text_that_would_be_too_long_stays() {
+        let mut buffer = text();
+        buffer.set_max_len(5);
+        let before = buffer.try_clone().unwrap();
+        assert_eq!(
+            buffer.replace_range(2..3, &[1, 2, 3]),
+            Err(ShaperError::TooLong)
+        );
+        assert_eq!(buffer, before);
+    }
+
+    #[test]
+    fn glyphs_become_a_ligature() {
+        let mut buffer = text();
+        buffer.replace_range(2..3, &[5, 6]).unwrap();
+        buffer.ligate(1..3, 9);
+        let ligated = both(SUBSTITUTED, GlyphMarks::LIGATED);
+        let multiplied = both(SUBSTITUTED, GlyphMarks::MULTIPLIED);
+        let glyphs = [
+            (97, 0, NONE, 0),
+            (9, 1, ligated, 0),
+            (6, 1, multiplied, 1),
+            (100, 3, NONE, 0),
+        ];
+        assert_eq!(seen(&buffer), glyphs);
+    }
+
+    #[test]
+    #[should_panic(expected = "2..2 is no range of a buffer of 4 glyphs")]
+    fn nothing_is_no_ligature() {
+        text().ligate(2..2, 9);
+    }
+}

@@ -1,0 +1,98 @@
+//! Buffers that safe Rust can make, whatever the contracts of its calls require.
+
+use super::buffers::{letter, set_random_positions};
+use super::numbers::Numbers;
+use sengadlit::alloc::Vec as List;
+use sengadlit::buffer::{
+    Buffer, BufferClusterLevel, BufferFlags, BufferSettings, Direction, GlyphInfo, GlyphMarks,
+    GlyphPosition, GlyphRewriting, Script,
+};
+
+/// Gives the glyphs any fields, and makes up to three calls for whose conditions nobody asks.
+pub fn spoil(numbers: &mut Numbers, buffer: &mut Buffer) {
+    buffer.with_glyphs_mut(|glyphs| {
+        for glyph in glyphs {
+            glyph.lig_comp = numbers.byte();
+            glyph.marks = GlyphMarks(numbers.byte());
+            glyph.modified_combining_class = numbers.byte();
+        }
+    });
+    for _ in 0..numbers.below(4) {
+        spoil_once(numbers, buffer);
+    }
+}
+
+fn spoil_once(numbers: &mut Numbers, buffer: &mut Buffer) {
+    let len = buffer.len();
+    match numbers.below(14) {
+        0..=3 => set_settings(numbers, buffer),
+        4..=7 => list_places(numbers, buffer),
+        8 => buffer.truncate(numbers.below(len + 3)),
+        9 => {
+            // positions may be there, of which there is one too few then; or it's too long
+            let _ = buffer.push(letter(numbers.number(), numbers.number()));
+        }
+        10 => {
+            let glyphs: Vec<_> = (0..numbers.below(9))
+                .map(|i| letter(0x627, i as u32))
+                .collect();
+            let _ = buffer.replace_glyphs(List::from(glyphs));
+        }
+        11 => exchange(numbers, buffer),
+        12 => {
+            let wanted = numbers.below(len + 9);
+            let _ = buffer.rewrite(wanted, &Wrong(numbers.below(30)));
+        }
+        _ => set_random_positions(numbers, buffer),
+    }
+}
+
+/// Any settings; the greatest length is mostly below the text's, and never so large that stretched
+/// marks take much memory.
+fn set_settings(numbers: &mut Numbers, buffer: &mut Buffer) {
+    let len = buffer.len();
+    let context: Vec<_> = (0..numbers.below(9))
+        .map(|_| char::from_u32(numbers.number()).unwrap_or('\u{64B}'))
+        .collect();
+    buffer.set_settings(&BufferSettings {
+        direction: numbers.one_of(&Direction::ALL),
+        script: Some(Script(numbers.number().to_be_bytes())),
+        cluster_level: numbers.one_of(&BufferClusterLevel::ALL),
+        flags: BufferFlags(numbers.number()),
+        pre_context: &context,
+        post_context: &context,
+        has_broken_syllable: numbers.once_in(2),
+        has_stch: numbers.once_in(2),
+        max_len: numbers.below(len + 1) * numbers.below(3),
+    });
+}
+
+fn list_places(numbers: &mut Numbers, buffer: &mut Buffer) {
+    for i in 0..buffer.len() {
+        if numbers.once_in(3) {
+            let places = [0, i, buffer.len(), usize::MAX, numbers.below(90)];
+            buffer.set_place(i, numbers.one_of(&places));
+        }
+    }
+}
+
+/// Another text, whose positions may be too few or too many.
+fn exchange(numbers: &mut Numbers, buffer: &mut Buffer) {
+    let glyphs: Vec<_> = (0..numbers.below(6))
+        .map(|i| letter(0x712, i as u32))
+        .collect();
+    let positions = vec![GlyphPosition::ZERO; numbers.below(6)];
+    let (mut glyphs, mut positions) = (List::from(glyphs), List::from(positions));
+    let settings = BufferSettings::new(numbers.below(9));
+    let _ = buffer.exchange_text(&mut glyphs, &mut positions, &settings);
+}
+
+/// A rewriting that writes so many glyphs, whatever it reads, to a list that it made itself.
+pub struct Wrong(pub usize);
+
+impl GlyphRewriting for Wrong {
+    fn rewrite(&self, _glyphs: &mut [GlyphInfo], to: &mut List<GlyphInfo>) {
+        let own = vec![letter(0x1780, 3); self.0];
+        *to = List::from(own);
+    }
+}
