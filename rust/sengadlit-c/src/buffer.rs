@@ -39,6 +39,44 @@ impl Buffer {
         self.positions = List::new(Global);
     }
 
+    /// Takes a text of the crate's without positions, which is empty then.
+    pub fn lend(&mut self, text: &mut Inner) {
+        self.positions.clear();
+        self.text.lend(text);
+    }
+
+    /// Gives its glyphs back, into a text whose settings stay, if they are glyphs of a font; returns whether it did.
+    pub fn take_back(&mut self, text: &mut Inner) -> bool {
+        self.positions.clear();
+        self.text.take_back(text)
+    }
+
+    /// Gives the glyphs from `start` to `end` one cluster.
+    pub fn merge_clusters(&mut self, start: usize, end: usize) -> Result<(), Error> {
+        self.check_range(start, end)?;
+        self.text.run(Takes::Numbers, |inner| {
+            inner.merge_clusters(start, end);
+            Ok(())
+        })
+    }
+
+    /// Flags them unsafe to break.
+    pub fn unsafe_to_break(&mut self, start: usize, end: usize) -> Result<(), Error> {
+        self.check_range(start, end)?;
+        self.text.run(Takes::Numbers, |inner| {
+            inner.unsafe_to_break(start, end);
+            Ok(())
+        })
+    }
+
+    fn check_range(&self, start: usize, end: usize) -> Result<(), Error> {
+        if start <= end && end <= self.text.len() {
+            Ok(())
+        } else {
+            Err(Error::argument(Argument::Range))
+        }
+    }
+
     /// Removes the text, and what was said of it.
     pub fn clear(&mut self) {
         self.text.clear();

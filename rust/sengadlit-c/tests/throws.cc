@@ -83,6 +83,18 @@ static sengadlit_bool_t decompose(void *, uint32_t, uint32_t *, uint32_t *)
     return 0;
 }
 
+static sengadlit_bool_t variation_glyph(void *, uint32_t, uint32_t, uint32_t *)
+{
+    meet("variation_glyph");
+    return 0;
+}
+
+static sengadlit_bool_t substitute(void *, const sengadlit_lookup_t *, sengadlit_buffer_t *)
+{
+    meet("substitute");
+    return 1;
+}
+
 static void add_feature(void *, sengadlit_tag_t, uint32_t, uint32_t) { meet("add_feature"); }
 static void add_gsub_pause(void *, sengadlit_pause_t) { meet("add_gsub_pause"); }
 static void destroy(void *) { meet("destroy"); }
@@ -146,6 +158,22 @@ static void stretch()
     sengadlit_plan_destroy(plan);
 }
 
+// A letter with a selector, by a plan with a lookup.
+static void substitute_whole()
+{
+    static const uint16_t zero = 0;
+    static const sengadlit_table_feature_t pres = {SENGADLIT_TAG('p', 'r', 'e', 's'), 1, &zero};
+    static const sengadlit_lookups_funcs_t funcs = {variation_glyph, substitute};
+    static const sengadlit_lookups_t lookups = {&funcs, nullptr};
+    sengadlit_shape_plan_input_t input = {};
+
+    input.script = SENGADLIT_TAG('K', 'h', 'm', 'r');
+    input.direction = SENGADLIT_DIRECTION_LTR;
+    input.gsub.features = &pres;
+    input.gsub.features_length = 1;
+    (void)sengadlit_substitute_text(sengadlit_shape_plan_create(&input, nullptr), &font, &lookups, buffer_of("--\u1780\uFE00"));
+}
+
 // Calls that make every call back.
 static void call_everything()
 {
@@ -166,6 +194,7 @@ static void call_everything()
     (void)sengadlit_setup_masks(indic, &tables, buffer_of("--\u0915"));
     (void)sengadlit_setup_syllables_found(indic, SENGADLIT_PAUSE_SETUP_SYLLABLES_INDIC, devanagari);
     (void)sengadlit_run_pause(indic, SENGADLIT_PAUSE_INITIAL_REORDERING, &font, nullptr, 0, devanagari, nullptr);
+    substitute_whole();
     sengadlit_set_message_func(receive, nullptr);
     for (int i = 0; i < 3000; i++) stretch();
 }
@@ -206,7 +235,8 @@ int main()
 {
     static const char *const callbacks[] = {"nominal_glyph",    "glyph_h_advance",  "would_substitute", "has_feature", "joining_type",
                                             "general_category", "indic_categories", "use_category",     "compose",     "decompose",
-                                            "add_feature",      "add_gsub_pause",   "destroy",          "message"};
+                                            "add_feature",      "add_gsub_pause",   "destroy",          "message",     "variation_glyph",
+                                            "substitute"};
 
     for (const char *callback : callbacks) expect_end(callback);
     std::printf("%u passed, %u failed\n", passed, failed);
