@@ -120,7 +120,7 @@
 //! - `tables` (on by default): Unicode's tables, in the module `unicode` (135 KB), with
 //!   `Buffer::from_text`.
 //! - `text` (on by default, with `tables`): from a text to its glyphs, in the modules `ot_shape`,
-//!   `ot_shape_plan`, `ot_shape_prepare` and `ot_shape_normalize` (SIZE_OF_TEXT of code).
+//!   `ot_shape_plan`, `ot_shape_prepare` and `ot_shape_normalize` (43 KB of code on x86-64).
 //!
 //! [`collect_features`]: Shaper::collect_features
 //! [`override_features`]: Shaper::override_features
