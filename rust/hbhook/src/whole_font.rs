@@ -28,7 +28,7 @@ const FIRST_FAR: u32 = 0xD800;
 const MOST_FAR: usize = 0xF900 - 0xD800;
 
 /// The font for a text of a script. The glyph of a character has the character's number; those above
-/// U+FFFF, which no glyph's number reaches, have others, in the order in which they were asked for.
+/// U+FFFF, which no glyph's number reaches, have others, in the order in which they were looked up.
 pub(crate) struct WholeFont {
     chosen: Tag,
     far: RefCell<Vec<u32>>,

@@ -120,7 +120,7 @@ pub fn make(
     Ok(ShapePlan { inner })
 }
 
-/// A font with the functions of lookups that normalization asks.
+/// A font with the functions of lookups that normalization calls.
 struct ShapedFont<'a> {
     font: Asked<'a, FontFuncs>,
     lookups: &'a AskedLookups<'a>,
