@@ -120,7 +120,7 @@
 //! - `tables` (on by default): Unicode's tables, in the module `unicode` (135 KB), with
 //!   `Buffer::from_text`.
 //! - `text` (on by default, with `tables`): from a text to its glyphs, in the modules `ot_shape`,
-//!   `ot_shape_plan`, `ot_shape_prepare` and `ot_shape_normalize` (43 KB of code on x86-64).
+//!   `ot_shape_plan`, `ot_shape_prepare`, `ot_shape_normalize` and `ot_shape_position` (43 KB of code on x86-64).
 //!
 //! [`collect_features`]: Shaper::collect_features
 //! [`override_features`]: Shaper::override_features
@@ -195,6 +195,8 @@ mod generated {
     #[cfg(feature = "text")]
     pub(crate) mod shapers_plan;
     #[cfg(feature = "text")]
+    pub(crate) mod shapers_position;
+    #[cfg(feature = "text")]
     pub(crate) mod shapers_prepare;
     pub(crate) mod shapers_spans;
     pub(crate) mod shapers_stretch;
@@ -217,6 +219,8 @@ pub mod ot_shape;
 pub mod ot_shape_normalize;
 #[cfg(feature = "text")]
 pub mod ot_shape_plan;
+#[cfg(feature = "text")]
+pub mod ot_shape_position;
 #[cfg(feature = "text")]
 pub mod ot_shape_prepare;
 pub mod ot_shaper_arabic;
