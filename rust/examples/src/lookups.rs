@@ -21,6 +21,7 @@ use read_fonts::tables::gdef::GlyphClassDef as GlyphClass;
 use sengadlit::map::TableIndex;
 use sengadlit::ot_shape::Lookups;
 use sengadlit::ot_shape_plan::StageLookup;
+use sengadlit::ot_shape_position::GlyphClasses;
 use sengadlit::{Buffer, GeneralCategory, GlyphInfo, ShaperError};
 
 impl Lookups for Layout<'_> {
@@ -29,6 +30,12 @@ impl Lookups for Layout<'_> {
         Pass::new(self, TableIndex::GSUB, *lookup, &mut text).run()?;
         *buffer = text;
         Ok(())
+    }
+}
+
+impl GlyphClasses for Layout<'_> {
+    fn is_mark(&self, glyph: &GlyphInfo) -> bool {
+        Notes::of(glyph).is_mark()
     }
 }
 
@@ -59,11 +66,6 @@ impl Layout<'_> {
         buffer: &mut Buffer,
     ) -> Result<(), ShaperError> {
         Pass::new(self, TableIndex::GPOS, *lookup, buffer).run()
-    }
-
-    /// Whether a glyph is a mark.
-    pub fn is_mark(&self, glyph: &GlyphInfo) -> bool {
-        Notes::of(glyph).is_mark()
     }
 
     /// Moves what is attached to other glyphs, behind the last lookup of GPOS.

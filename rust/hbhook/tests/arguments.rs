@@ -78,12 +78,18 @@ fn rejects_other_texts() {
     assert_eq!((unknown.told.as_str(), unknown.status), (told, Some(2)));
     assert!(unknown.printed.is_empty());
     expect_rejected(&["--text"], "a text is missing (hbhook --help)");
-    expect_rejected(&["--text", "a", "--script"], "a script is missing (hbhook --help)");
+    expect_rejected(
+        &["--text", "a", "--script"],
+        "a script is missing (hbhook --help)",
+    );
     expect_rejected(
         &["--text", "a", "--script", "klingon"],
         "no script is named klingon; khmer and Khmr name one",
     );
-    expect_rejected(&["--script", "khmer"], "--script goes with --text (hbhook --help)");
+    expect_rejected(
+        &["--script", "khmer"],
+        "--script goes with --text (hbhook --help)",
+    );
     expect_rejected(
         &["--text", "a", "file"],
         "a text alone, without a file or a word (hbhook --help)",
