@@ -1,8 +1,7 @@
-/* A Khmer word from its characters to its glyphs, in a font of the example's own: COENG and MO are one glyph, by the feature
-   `blwf`, and so are COENG and RO, by `pref`. The vowel sign comes before its letter. */
+/* A Khmer word, shaped in a font of the example's own: COENG and MO are one glyph, by the feature `blwf`, and so are COENG and
+   RO, by `pref`. The vowel sign comes before its letter. */
 #include <sengadlit.h>
 
-#include <inttypes.h>
 #include <stdio.h>
 #include <stdlib.h>
 #include <string.h>
@@ -12,11 +11,11 @@ static const struct { uint32_t first, second, glyph; } ligatures[] = {{0x17D2, 0
 /* A glyph for each character of Khmer, by its number. */
 static sengadlit_bool_t nominal_glyph(void *user_data, uint32_t unicode, uint32_t *glyph)
 {
-    (void)user_data;
     *glyph = unicode;
-    return unicode >= 0x1780 && unicode < 0x1800;
+    return (void)user_data, unicode >= 0x1780 && unicode < 0x1800;
 }
 
+static int32_t glyph_h_advance(void *user_data, uint32_t glyph) { return (void)user_data, glyph >= 0xE000 ? 0 : 600; }
 /* The font's GSUB: lookup I makes one glyph of two. */
 static sengadlit_bool_t substitute(void *user_data, const sengadlit_lookup_t *lookup, sengadlit_buffer_t *buffer)
 {
@@ -39,21 +38,22 @@ static sengadlit_bool_t substitute(void *user_data, const sengadlit_lookup_t *lo
 
 int main(void)
 {
-    static const uint16_t numbers[] = {0, 1};
-    static const sengadlit_table_feature_t features[] = {{SENGADLIT_TAG('b', 'l', 'w', 'f'), 1, &numbers[0]},
-                                                         {SENGADLIT_TAG('p', 'r', 'e', 'f'), 1, &numbers[1]}};
+    const sengadlit_table_feature_t features[] = {{SENGADLIT_TAG('b', 'l', 'w', 'f'), 1, (const uint16_t[]){0}},
+                                                  {SENGADLIT_TAG('p', 'r', 'e', 'f'), 1, (const uint16_t[]){1}}};
     const sengadlit_shape_plan_input_t input = {.script = SENGADLIT_TAG('K', 'h', 'm', 'r'), .direction = SENGADLIT_DIRECTION_LTR,
         .gsub = {.chosen_script = SENGADLIT_TAG('k', 'h', 'm', 'r'), .found_script = 1, .features = features, .features_length = 2}};
-    const sengadlit_font_t font = {.funcs = &(sengadlit_font_funcs_t){.nominal_glyph = nominal_glyph}};
+    const sengadlit_font_t font = {.funcs = &(sengadlit_font_funcs_t){nominal_glyph, glyph_h_advance, NULL, NULL}};
     const sengadlit_lookups_t lookups = {.funcs = &(sengadlit_lookups_funcs_t){.substitute = substitute}};
     sengadlit_shape_plan_t *plan = sengadlit_shape_plan_create(&input, NULL);
     sengadlit_buffer_t *buffer = sengadlit_buffer_create();
     unsigned int length = 0;
 
-    if (sengadlit_buffer_add_utf8(buffer, "ខ្មែរ", -1, 0, -1) || sengadlit_substitute_text(plan, &font, &lookups, buffer))
+    if (sengadlit_buffer_add_utf8(buffer, "ខ្មែរ", -1, 0, -1) || sengadlit_shape(plan, &font, &lookups, buffer))
         return EXIT_FAILURE;
-    for (const sengadlit_glyph_info_t *glyph = sengadlit_buffer_get_glyph_infos(buffer, &length); length > 0; glyph++, length--)
-        printf("glyph %04" PRIX32 " cluster %" PRIu32 "\n", glyph->codepoint, glyph->cluster);
+    const sengadlit_glyph_position_t *positions = sengadlit_buffer_get_glyph_positions(buffer, NULL);
+    const sengadlit_glyph_info_t *glyphs = sengadlit_buffer_get_glyph_infos(buffer, &length);
+    for (; length > 0; length--, glyphs++, positions++)
+        printf("glyph %04X cluster %u advance %d\n", glyphs->codepoint, glyphs->cluster, positions->x_advance);
     sengadlit_buffer_destroy(buffer);
     sengadlit_shape_plan_destroy(plan);
     return EXIT_SUCCESS;

@@ -2,9 +2,9 @@
 
    For Arabic and the scripts that join like it, Hangul, Hebrew, the Indic scripts, Khmer, Myanmar, Thai and Lao, and the
    scripts of the Universal Shaping Engine. They are HarfBuzz's hooks under HarfBuzz's names, with its numbers for
-   scripts, directions, cluster levels, flags and categories. Lookups and positioning are the caller's, and so is the font,
-   which the library calls back. Unicode's tables, the syllables of a text and its normalization may be the library's or the
-   caller's.
+   scripts, directions, cluster levels, flags and categories. Lookups are the caller's, and so is the font, which the library
+   calls back. Unicode's tables, the syllables of a text, its normalization and what stands around lookups may be the library's
+   or the caller's.
 
    Objects. A plan is made once for a shaper, a script and a font, and doesn't change afterwards: threads may share it. A
    buffer is used by one thread at a time, again and again; its glyphs are read and written in place.
@@ -859,8 +859,8 @@ sengadlit_status_t sengadlit_postprocess_glyphs(const sengadlit_plan_t *plan, co
 
 /* ---- From a text to its glyphs ---- */
 
-/* A plan for whole texts, and the call that takes a text by it from characters to the last lookup of GSUB. Unicode's tables
-   are the library's, and so is normalization; the font's lookups are the caller's. */
+/* A plan for whole texts, and the calls that take a text by it from characters to positioned glyphs. Unicode's tables are the
+   library's, and so is normalization; the font's lookups are the caller's. */
 
 /* A feature of GSUB or GPOS, and its lookups by their numbers in the table. */
 typedef struct sengadlit_table_feature_t {
@@ -920,18 +920,25 @@ typedef struct sengadlit_lookup_t {
     sengadlit_bool_t per_syllable;   /* Whether a match stays within a syllable. */
 } sengadlit_lookup_t;
 
-/* A font's lookups. */
+/* A font's lookups. The buffer that a function is given is the library's, lent for this call of the function, which may pass it
+   to every function of this header; sengadlit_buffer_destroy alone does nothing to it. Its glyphs, with codepoints of at most
+   65535, and its positions are then the text's; what else is changed of it is lost. A function that returns 0 tells that memory
+   was refused, and leaves the glyphs as they were. */
 typedef struct sengadlit_lookups_funcs_t {
     /* Writes the glyph of a character with a variation selector, as the font's cmap has it, and returns whether there is one;
        may be null if there is none. */
     sengadlit_bool_t (*variation_glyph)(void *user_data, uint32_t unicode, uint32_t selector, uint32_t *glyph);
-    /* Applies a lookup of GSUB to a text of glyphs, and returns 0 where the text couldn't become longer for want of memory, else
-       another number. The buffer is the library's, lent to this call of the function, which may pass it to every function of
-       this header; sengadlit_buffer_destroy alone does nothing to it. Its glyphs are then the text's, of which the codepoints
-       have to be at most 65535; what else is changed of it is lost. It holds `var` as lookups left it, and 0 at first. A match
-       is flagged by sengadlit_buffer_unsafe_to_break, clusters are merged by sengadlit_buffer_merge_clusters, and marks are
-       noted by SENGADLIT_GLYPH_MARK_... A function that returns 0 leaves the glyphs as they were. */
+    /* What stands in `var` of a glyph before the first lookup, where the lookups may keep its class; may be null: 0. */
+    uint32_t (*note)(void *user_data, const sengadlit_glyph_info_t *glyph);
+    /* Applies a lookup of GSUB. A match is flagged by sengadlit_buffer_unsafe_to_break, clusters are merged by
+       sengadlit_buffer_merge_clusters, and what happened to a glyph is noted by SENGADLIT_GLYPH_MARK_... */
     sengadlit_bool_t (*substitute)(void *user_data, const sengadlit_lookup_t *lookup, sengadlit_buffer_t *buffer);
+    /* Whether a glyph is a mark, by its class; may be null: none is. */
+    sengadlit_bool_t (*is_mark)(void *user_data, const sengadlit_glyph_info_t *glyph);
+    /* Applies a lookup of GPOS, which keeps the length of the text and its positions (sengadlit_buffer_get_glyph_positions). */
+    sengadlit_bool_t (*position)(void *user_data, const sengadlit_lookup_t *lookup, sengadlit_buffer_t *buffer);
+    /* Moves what lookups of GPOS have attached to other glyphs, behind the last of them; keeps the length. May be null. */
+    void (*finish_positions)(void *user_data, sengadlit_buffer_t *buffer);
 } sengadlit_lookups_funcs_t;
 
 typedef struct sengadlit_lookups_t {
@@ -949,10 +956,20 @@ sengadlit_status_t sengadlit_buffer_unsafe_to_break(sengadlit_buffer_t *buffer, 
    Script and direction are the plan's, and those of the buffer's properties. Calls nominal_glyph; for Hangul glyph_h_advance;
    for Indic would_substitute; and the functions of `lookups`, of which substitute may be null if the plan has no lookup.
    ARGUMENT: PLAN, FONT, LOOKUPS, POSITIONS, GENERAL_CATEGORY; CODEPOINT: not a scalar value; and for a null buffer. Nothing has
-   changed then. TOO_LONG, MEMORY: the text is as the step before left it, or as a lookup left it that made it too long.
-   INTERNAL: also where a lookup left a codepoint above 65535, a general category above 29, or a jump in a call on its buffer. */
+   changed then. TOO_LONG, MEMORY, UNKNOWN_SYLLABLE: the text is as the step before left it, or as a lookup left it that made it
+   too long. INTERNAL: also where a lookup left a codepoint above 65535, a general category above 29, or a jump in a call on its
+   buffer. */
 sengadlit_status_t sengadlit_substitute_text(const sengadlit_shape_plan_t *plan, const sengadlit_font_t *font,
                                              const sengadlit_lookups_t *lookups, sengadlit_buffer_t *buffer);
+
+/* The same, and positions: advances, the lookups of GPOS where the shaper takes the script that was chosen in it, marks and
+   default ignorables without a width, stretched marks, and one set of glyph flags for each cluster. The glyphs are in the order
+   in which they are drawn, and default ignorables that no lookup replaced are the font's space, or gone. For horizontal text;
+   the table kern, and marks placed without GPOS, are the caller's. Calls glyph_h_advance too, and is_mark, position and
+   finish_positions, of which position may be null if the plan has no lookup of GPOS. STRETCH_OVERFLOW. INTERNAL: also where a
+   lookup of GPOS left another number of positions than glyphs. */
+sengadlit_status_t sengadlit_shape(const sengadlit_shape_plan_t *plan, const sengadlit_font_t *font,
+                                   const sengadlit_lookups_t *lookups, sengadlit_buffer_t *buffer);
 
 #ifdef __cplusplus
 }

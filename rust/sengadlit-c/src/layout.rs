@@ -187,7 +187,7 @@ mod tests {
         layout!("user_feature", UserFeature: tag, value, start, end);
         layout!("shape_plan_input", ShapePlanInput: script, direction, gsub, gpos, user_features, user_features_length);
         layout!("lookup", Lookup: index, mask, auto_zwnj, auto_zwj, random, per_syllable);
-        layout!("lookups_funcs", LookupsFuncs: variation_glyph, substitute);
+        layout!("lookups_funcs", LookupsFuncs: variation_glyph, note, substitute, is_mark, position, finish_positions);
         layout!("lookups", Lookups<'static>: funcs, user_data);
         lines
     }

@@ -11,9 +11,14 @@ use sengadlit::alloc::{Global, Vec as List};
 use sengadlit::buffer::{Buffer as Inner, Direction, ShaperError, Tag};
 use sengadlit::font::{FeaturesOnly, Font as AnswersFont, GlyphId};
 use sengadlit::map::TableIndex;
-use sengadlit::ot_shape::substitute_text as substitute;
+use sengadlit::ot_shape::{StagePlan, TextPlan, prepare_text, run_stages};
 use sengadlit::ot_shape_normalize::{NormalizeFont, NormalizeSettings};
 use sengadlit::ot_shape_plan::{FontFeatures, ShapePlan as Plan, UserFeature as Wanted};
+use sengadlit::ot_shape_position::{
+    DefaultIgnorables, hide_default_ignorables, propagate_flags, set_advances, zero_mark_widths,
+    zero_width_default_ignorables,
+};
+use sengadlit::plan::ZeroWidthMarks;
 use sengadlit::shaper::Shaper;
 use sengadlit::shaper::checked::CallError;
 use sengadlit::unicode::UnicodeTables;
@@ -21,6 +26,8 @@ use sengadlit::unicode::UnicodeTables;
 /// `sengadlit_shape_plan_t`.
 pub struct ShapePlan {
     inner: Plan,
+    // Whether the shaper takes GPOS for the script that was chosen in it.
+    applies_gpos: bool,
 }
 
 /// What GSUB or GPOS has for a text.
@@ -117,7 +124,12 @@ pub fn make(
         &layout,
         wanted.as_slice(),
     )?;
-    Ok(ShapePlan { inner })
+    let wanted = inner.shaper().and_then(Shaper::gpos_tag);
+    let chosen = some_tag(gpos.chosen_script);
+    Ok(ShapePlan {
+        inner,
+        applies_gpos: chosen.is_some() && wanted.is_none_or(|tag| chosen == Some(tag)),
+    })
 }
 
 /// A font with the functions of lookups that normalization calls.
@@ -180,16 +192,113 @@ pub fn substitute_text(
 ) -> Result<Status, Error> {
     let plan = &plan.inner;
     let font = Asked::font(font, asks_of(plan))?;
-    let lookups = &AskedLookups::of(lookups, !plan.lookups().is_empty())?;
+    let lookups = &AskedLookups::of(lookups, !plan.lookups().is_empty(), false)?;
     let font = ShapedFont { font, lookups };
     buffer.are_characters()?;
-    let settings = NormalizeSettings::default();
     buffer.run(Takes::Numbers, |inner| {
-        let done = substitute(plan, &settings, &font, &UnicodeTables, lookups, inner);
-        done.map_err(|error| match error {
-            CallError::Refused(refusal) => refusal.into(),
-            CallError::Condition(condition) => unreachable!("{condition:?} isn't met"),
-        })
+        substitute(plan, &font, lookups, inner).map_err(of_call)
     })?;
     Ok(Status::Done)
+}
+
+/// `sengadlit_shape`.
+pub fn shape(
+    plan: &ShapePlan,
+    font: Option<&Font<'_>>,
+    lookups: Option<&Lookups<'_>>,
+    buffer: &mut Buffer,
+) -> Result<Status, Error> {
+    let applies_gpos = plan.applies_gpos;
+    let plan = &plan.inner;
+    let font = Asked::font(font, asks_of(plan) | FONT_ADVANCE)?;
+    let positions = applies_gpos && !plan.positioning().is_empty();
+    let lookups = &AskedLookups::of(lookups, !plan.lookups().is_empty(), positions)?;
+    let font = ShapedFont { font, lookups };
+    buffer.are_characters()?;
+    buffer.run_to_positions(Takes::Numbers, |inner| {
+        let direction = inner.direction();
+        substitute(plan, &font, lookups, inner).map_err(of_call)?;
+        set_advances(&font, inner)?;
+        position(plan, applies_gpos, lookups, inner)?;
+        hide_default_ignorables(DefaultIgnorables::Hide, None, &font, inner);
+        if let Some(shaper) = plan.shaper() {
+            let done = shaper.checked_postprocess_glyphs(plan.plan(), &font, inner);
+            done.map_err(of_call)?;
+        }
+        propagate_flags(inner);
+        inner.set_direction(direction);
+        Ok(())
+    })?;
+    Ok(Status::Done)
+}
+
+// The conditions are tested before: the text is of characters, without positions, and its glyphs have numbers of a font.
+fn of_call(error: CallError) -> Error {
+    match error {
+        CallError::Refused(refusal) => refusal.into(),
+        CallError::Condition(condition) => unreachable!("{condition:?} isn't met"),
+    }
+}
+
+// All before lookups, what they keep beside each glyph, and the stages.
+fn substitute(
+    plan: &Plan,
+    font: &ShapedFont<'_>,
+    lookups: &AskedLookups<'_>,
+    text: &mut Inner,
+) -> Result<(), CallError> {
+    let prepared = TextPlan {
+        shaper: plan.shaper(),
+        plan: plan.plan(),
+        masks: plan.masks(),
+        ranges: plan.ranges(),
+    };
+    let settings = NormalizeSettings::default();
+    prepare_text(&prepared, &settings, font, &UnicodeTables, text)?;
+    text.with_glyphs_mut(|glyphs| {
+        for glyph in glyphs {
+            glyph.var = lookups.note(*glyph);
+        }
+    });
+    let stages = StagePlan {
+        plan: plan.plan(),
+        stages: plan.stages(),
+        lookups: plan.lookups(),
+    };
+    run_stages(&stages, font, lookups, text)
+}
+
+// The lookups of GPOS, and marks without a width before or behind them, which without GPOS hang over the glyph before them. The
+// glyphs are then in the order in which they are drawn.
+fn position(
+    plan: &Plan,
+    applies_gpos: bool,
+    lookups: &AskedLookups<'_>,
+    text: &mut Inner,
+) -> Result<(), ShaperError> {
+    let runs_backward = matches!(
+        text.direction(),
+        Direction::RightToLeft | Direction::BottomToTop
+    );
+    let when = plan
+        .shaper()
+        .map_or(ZeroWidthMarks::GDEF_LATE, Shaper::zero_width_marks);
+    let hang = !applies_gpos && !runs_backward;
+    if when == ZeroWidthMarks::GDEF_EARLY {
+        zero_mark_widths(lookups, hang, text);
+    }
+    if applies_gpos {
+        for lookup in plan.positioning() {
+            lookups.position(lookup, text)?;
+        }
+    }
+    if when == ZeroWidthMarks::GDEF_LATE {
+        zero_mark_widths(lookups, hang, text);
+    }
+    zero_width_default_ignorables(DefaultIgnorables::Hide, text);
+    lookups.finish_positions(text)?;
+    if runs_backward {
+        text.reverse();
+    }
+    Ok(())
 }

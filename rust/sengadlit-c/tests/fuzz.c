@@ -408,9 +408,47 @@ static sengadlit_bool_t substitute(void *user_data, const sengadlit_lookup_t *lo
     return what != 8;
 }
 
+static uint32_t note(void *user_data, const sengadlit_glyph_info_t *glyph)
+{
+    if (sengadlit_buffer_get_glyph_infos(user_data, NULL)) abort();
+    return answer(glyph->codepoint, 11);
+}
+
+static sengadlit_bool_t is_mark(void *user_data, const sengadlit_glyph_info_t *glyph)
+{
+    if (sengadlit_buffer_get_glyph_infos(user_data, NULL)) abort();
+    return (sengadlit_bool_t)(glyph->var & 4);
+}
+
+static void finish_positions(void *user_data, sengadlit_buffer_t *lent)
+{
+    uint8_t what = next();
+    unsigned int length, count;
+    sengadlit_glyph_info_t *glyphs = sengadlit_buffer_get_glyph_infos(lent, &length);
+
+    if (sengadlit_buffer_get_glyph_infos(user_data, NULL)) abort();
+    sengadlit_glyph_position_t *positions = sengadlit_buffer_get_glyph_positions(lent, &count);
+    if (count != length) abort();
+    for (unsigned int i = 0; i < count; i++) {
+        positions[i].x_offset = (int32_t)next_word();
+        glyphs[i].var = what;
+    }
+    if (what % 64 == 7 && length > 0) {
+        faulty = 1;
+        (void)sengadlit_buffer_set_length(lent, length - 1 + (what & 64) / 32);
+    }
+}
+
+static sengadlit_bool_t position(void *user_data, const sengadlit_lookup_t *lookup, sengadlit_buffer_t *lent)
+{
+    if (lookup->mask == 0) abort();
+    finish_positions(user_data, lent);
+    return next() != 1;
+}
+
 static sengadlit_shape_plan_t *make_shape_plan(void)
 {
-    static const char tags[][5] = {"ccmp", "rphf", "pref", "blwf", "half", "pres", "init", "medi", "liga", "rlig"};
+    static const char tags[][5] = {"ccmp", "rphf", "pref", "blwf", "half", "pres", "init", "medi", "liga", "mark"};
     sengadlit_table_feature_t features[4];
     sengadlit_user_feature_t user;
     sengadlit_shape_plan_input_t input = {0};
@@ -433,6 +471,7 @@ static sengadlit_shape_plan_t *make_shape_plan(void)
     input.gsub.features = features;
     input.gsub.features_length = 4;
     input.gsub.required = features[settings >> 6];
+    input.gpos = input.gsub;
     input.user_features = &user;
     input.user_features_length = settings & 32 ? 1 : 0;
     sengadlit_shape_plan_t *plan = sengadlit_shape_plan_create(&input, &error);
@@ -440,15 +479,16 @@ static sengadlit_shape_plan_t *make_shape_plan(void)
     return plan;
 }
 
-static void substitute_whole(sengadlit_buffer_t *buffer)
+static void shape_whole(sengadlit_buffer_t *buffer)
 {
-    static const sengadlit_lookups_funcs_t funcs = {variation_glyph, substitute};
+    static const sengadlit_lookups_funcs_t funcs = {variation_glyph, note, substitute, is_mark, position, finish_positions};
     const sengadlit_lookups_t lookups = {&funcs, buffer};
     sengadlit_shape_plan_t *plan = make_shape_plan();
 
     faulty = 0;
     keep(buffer, &before);
-    sengadlit_status_t status = sengadlit_substitute_text(plan, &font, &lookups, buffer);
+    sengadlit_status_t status = next() & 1 ? sengadlit_shape(plan, &font, &lookups, buffer)
+                                           : sengadlit_substitute_text(plan, &font, &lookups, buffer);
     keep(buffer, &after);
     sengadlit_shape_plan_destroy(plan);
     if (status == SENGADLIT_DONE) done++;
@@ -522,7 +562,7 @@ int LLVMFuzzerTestOneInput(const uint8_t *data, size_t size)
         make_call(plan, buffer);
     }
     begin_another(buffer);
-    substitute_whole(buffer);
+    shape_whole(buffer);
     sengadlit_buffer_destroy(buffer);
     sengadlit_plan_destroy(plan);
     if (destroyed != 1) abort();

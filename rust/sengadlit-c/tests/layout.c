@@ -148,7 +148,11 @@ static void print_shaping(void)
     FIELD(lookup, per_syllable);
     STRUCT(lookups_funcs);
     FIELD(lookups_funcs, variation_glyph);
+    FIELD(lookups_funcs, note);
     FIELD(lookups_funcs, substitute);
+    FIELD(lookups_funcs, is_mark);
+    FIELD(lookups_funcs, position);
+    FIELD(lookups_funcs, finish_positions);
     STRUCT(lookups);
     FIELD(lookups, funcs);
     FIELD(lookups, user_data);

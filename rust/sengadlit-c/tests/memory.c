@@ -124,6 +124,7 @@ static sengadlit_status_t stretch(void)
 
 static const uint16_t lookup_0[] = {0};
 static const sengadlit_table_feature_t pres = {SENGADLIT_TAG('p', 'r', 'e', 's'), 1, lookup_0};
+static const sengadlit_table_feature_t kern = {SENGADLIT_TAG('k', 'e', 'r', 'n'), 1, lookup_0};
 static const sengadlit_user_feature_t salt = {SENGADLIT_TAG('s', 'a', 'l', 't'), 1, 0, 3};
 static sengadlit_shape_plan_t *whole;
 
@@ -135,6 +136,9 @@ static sengadlit_status_t plan_whole(void)
     input.direction = SENGADLIT_DIRECTION_LTR;
     input.gsub.features = &pres;
     input.gsub.features_length = 1;
+    input.gpos.chosen_script = SENGADLIT_TAG('k', 'h', 'm', 'r');
+    input.gpos.features = &kern;
+    input.gpos.features_length = 1;
     input.user_features = &salt;
     input.user_features_length = 1;
     whole = sengadlit_shape_plan_create(&input, NULL);
@@ -147,16 +151,23 @@ static sengadlit_bool_t lengthen_lent(void *user_data, const sengadlit_lookup_t 
     return sengadlit_buffer_set_length(buffer, 50) != NULL;
 }
 
-/* In a buffer of its own, since a refusal leaves the text as the step before did. */
-static sengadlit_status_t substitute(void)
+static sengadlit_bool_t place_lent(void *user_data, const sengadlit_lookup_t *lookup, sengadlit_buffer_t *buffer)
 {
-    static const sengadlit_lookups_funcs_t funcs = {NULL, lengthen_lent};
+    (void)user_data, (void)lookup;
+    sengadlit_buffer_get_glyph_positions(buffer, NULL)[0].x_offset = 7;
+    return 1;
+}
+
+/* In a buffer of its own, since a refusal leaves the text as the step before did. */
+static sengadlit_status_t shape(void)
+{
+    static const sengadlit_lookups_funcs_t funcs = {.substitute = lengthen_lent, .position = place_lent};
     static const sengadlit_lookups_t lookups = {&funcs, NULL};
     sengadlit_buffer_t *buffer = sengadlit_buffer_create();
     sengadlit_status_t status = SENGADLIT_MEMORY;
 
     if (buffer && sengadlit_buffer_add_utf8(buffer, "\u1780\u17C4\u17D2\u179A", -1, 0, -1) == SENGADLIT_DONE)
-        status = sengadlit_substitute_text(whole, &world.font, &lookups, buffer);
+        status = sengadlit_shape(whole, &world.font, &lookups, buffer);
     sengadlit_buffer_destroy(buffer);
     return status;
 }
@@ -250,7 +261,7 @@ static void try_whole(void)
 {
     begin_world(SENGADLIT_SHAPER_KHMER, SENGADLIT_TAG('K', 'h', 'm', 'r'), 0x1780, 4);
     try_call("shape plan", plan_whole);
-    try_call("substitute", substitute);
+    try_call("shape", shape);
     sengadlit_shape_plan_destroy(whole);
 }
 

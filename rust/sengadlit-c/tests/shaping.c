@@ -1,4 +1,4 @@
-/* Plans for whole texts, and texts that are taken to the last of a font's lookups: what the calls refuse, what they make, and
+/* Plans for whole texts, and texts that are shaped by a font's lookups: what the calls refuse, what they make, and
    what a callback may do with the buffer that it is lent. The last line is 'N passed, M failed'. */
 #include "world.h"
 
@@ -21,7 +21,7 @@ static void check(const char *what, int holds)
 
 /* ---- A plan of Khmer: the feature pres, on everywhere behind the reordering, has lookup 7 ---- */
 
-static const uint16_t seven[] = {7};
+static const uint16_t seven[] = {7}, eight[] = {8};
 static const sengadlit_table_feature_t pres = {SENGADLIT_TAG('p', 'r', 'e', 's'), 1, seven};
 
 static sengadlit_shape_plan_input_t khmer(void)
@@ -35,6 +35,20 @@ static sengadlit_shape_plan_input_t khmer(void)
     input.gsub.features = &pres;
     input.gsub.features_length = 1;
     return input;
+}
+
+/* A plan of Latin, which needs no shaper: the feature kern, of GPOS, has lookup 8. */
+static sengadlit_shape_plan_t *latin(sengadlit_bool_t has_gpos)
+{
+    static const sengadlit_table_feature_t kern = {SENGADLIT_TAG('k', 'e', 'r', 'n'), 1, eight};
+    sengadlit_shape_plan_input_t input = {0};
+
+    input.script = SENGADLIT_TAG('L', 'a', 't', 'n');
+    input.direction = SENGADLIT_DIRECTION_LTR;
+    input.gpos.chosen_script = has_gpos ? SENGADLIT_TAG('l', 'a', 't', 'n') : 0;
+    input.gpos.features = &kern;
+    input.gpos.features_length = has_gpos ? 1 : 0;
+    return sengadlit_shape_plan_create(&input, NULL);
 }
 
 /* ---- Lookups ---- */
@@ -56,7 +70,35 @@ static sengadlit_bool_t variation_glyph(void *user_data, uint32_t unicode, uint3
     return unicode == 0x1780 && selector == 0xFE00;
 }
 
-static sengadlit_lookups_funcs_t funcs = {variation_glyph, substitute};
+/* The class of a glyph, which `var` keeps: the dot below is a mark. */
+static uint32_t note(void *user_data, const sengadlit_glyph_info_t *glyph)
+{
+    check("the note's glyph", user_data == &lookup_7 && glyph->var == 0);
+    return glyph->codepoint == 0x0323;
+}
+
+static sengadlit_bool_t is_mark(void *user_data, const sengadlit_glyph_info_t *glyph)
+{
+    (void)user_data;
+    return glyph->var == 1;
+}
+
+/* What lookup 8, of GPOS, does. */
+static sengadlit_bool_t (*lookup_8)(sengadlit_buffer_t *buffer);
+
+static sengadlit_bool_t position(void *user_data, const sengadlit_lookup_t *lookup, sengadlit_buffer_t *buffer)
+{
+    check("the lookup of GPOS", user_data == &lookup_7 && lookup->index == 8);
+    return lookup_8(buffer);
+}
+
+static void finish_positions(void *user_data, sengadlit_buffer_t *buffer)
+{
+    (void)user_data;
+    sengadlit_buffer_get_glyph_positions(buffer, NULL)[0].y_offset = 5;
+}
+
+static sengadlit_lookups_funcs_t funcs = {variation_glyph, note, substitute, is_mark, position, finish_positions};
 static sengadlit_lookups_t lookups = {&funcs, &lookup_7};
 
 static sengadlit_shape_plan_t *plan;
@@ -74,6 +116,11 @@ static void set_text(const char *text)
 static sengadlit_status_t shape(void)
 {
     return sengadlit_substitute_text(plan, &world.font, &lookups, world.buffer);
+}
+
+static sengadlit_status_t shape_whole(sengadlit_shape_plan_t *of)
+{
+    return sengadlit_shape(of, &world.font, &lookups, world.buffer);
 }
 
 static int has_glyphs(const uint32_t *codepoints, const uint32_t *clusters, unsigned int wanted)
@@ -233,6 +280,82 @@ static void try_bad_lookups(void)
     check("again", shape() == SENGADLIT_DONE);
 }
 
+/* ---- Positions ---- */
+
+static sengadlit_bool_t keep(const sengadlit_lookup_t *lookup, sengadlit_buffer_t *buffer)
+{
+    (void)lookup, (void)buffer;
+    return 1;
+}
+
+static sengadlit_bool_t move_first(sengadlit_buffer_t *buffer)
+{
+    unsigned int length;
+    sengadlit_glyph_position_t *found = sengadlit_buffer_get_glyph_positions(buffer, &length);
+
+    check("lent positions", length == 3 && found[0].x_advance == 100 && found[1].x_advance == 100);
+    found[0].x_offset = 9;
+    return 1;
+}
+
+static sengadlit_bool_t refuse_position(sengadlit_buffer_t *buffer)
+{
+    (void)buffer;
+    return 0;
+}
+
+static sengadlit_bool_t take_glyph(sengadlit_buffer_t *buffer)
+{
+    return sengadlit_buffer_set_length(buffer, 2) != NULL;
+}
+
+/* A dot below has no advance behind GPOS; without GPOS it hangs over its letter. */
+static void try_positions(void)
+{
+    sengadlit_shape_plan_t *placed = latin(1), *bare = latin(0);
+    const sengadlit_glyph_position_t *found;
+    unsigned int length, messages = 0;
+
+    lookup_8 = move_first;
+    set_text("x\u0323y");
+    check("shaped", shape_whole(placed) == SENGADLIT_DONE);
+    found = sengadlit_buffer_get_glyph_positions(world.buffer, &length);
+    check("placed", length == 3 && found[0].x_offset == 9 && found[0].y_offset == 5 && found[0].x_advance == 100 &&
+                        found[1].x_advance == 0 && found[1].x_offset == 0 && found[2].x_advance == 100);
+    check("there are positions", shape_whole(placed) == SENGADLIT_ARGUMENT);
+    set_text("x\u0323y");
+    check("without GPOS", shape_whole(bare) == SENGADLIT_DONE);
+    found = sengadlit_buffer_get_glyph_positions(world.buffer, &length);
+    check("hung", length == 3 && found[1].x_offset == -100 && found[1].x_advance == 0);
+    lookup_8 = refuse_position;
+    set_text("x\u0323y");
+    check("memory is refused", shape_whole(placed) == SENGADLIT_MEMORY);
+    lookup_8 = take_glyph;
+    set_text("x\u0323y");
+    sengadlit_set_message_func(take_message, &messages);
+    check("a glyph is gone", shape_whole(placed) == SENGADLIT_INTERNAL && messages == 1);
+    sengadlit_set_message_func(NULL, NULL);
+    funcs.position = NULL;
+    set_text("x\u0323y");
+    check("nothing to place by", shape_whole(placed) == SENGADLIT_ARGUMENT);
+    funcs.position = position;
+    sengadlit_shape_plan_destroy(placed);
+    sengadlit_shape_plan_destroy(bare);
+}
+
+/* What isn't drawn is a space without a width; flags are a cluster's. */
+static void try_ignorables(void)
+{
+    const sengadlit_glyph_position_t *found;
+    unsigned int length;
+
+    lookup_7 = keep;
+    set_text("\u1781\u200B\u1784");
+    check("shaped", shape_whole(plan) == SENGADLIT_DONE && glyphs()[1].codepoint == 0x20);
+    found = sengadlit_buffer_get_glyph_positions(world.buffer, &length);
+    check("without a width", length == 3 && found[1].x_advance == 0 && found[2].x_advance == 100);
+}
+
 /* ---- Arguments ---- */
 
 static void refuse_text(const char *what, sengadlit_status_t status, sengadlit_argument_t argument, unsigned int index)
@@ -245,6 +368,7 @@ static void refuse_text(const char *what, sengadlit_status_t status, sengadlit_a
 
 static void try_arguments(void)
 {
+    int32_t (*const advances)(void *, uint32_t) = world.font_funcs.glyph_h_advance;
     sengadlit_lookups_funcs_t no_funcs = {0};
     sengadlit_lookups_t no_lookups = {0};
 
@@ -257,6 +381,11 @@ static void try_arguments(void)
     no_lookups.funcs = &no_funcs;
     refuse_text("none", sengadlit_substitute_text(plan, &world.font, &no_lookups, world.buffer), SENGADLIT_ARGUMENT_LOOKUPS, 0);
     check("no buffer", sengadlit_substitute_text(plan, &world.font, &lookups, NULL) == SENGADLIT_ARGUMENT);
+    check("no buffer", sengadlit_shape(plan, &world.font, &lookups, NULL) == SENGADLIT_ARGUMENT);
+    refuse_text("no plan", shape_whole(NULL), SENGADLIT_ARGUMENT_PLAN, 0);
+    world.font_funcs.glyph_h_advance = NULL;
+    refuse_text("no advances", shape_whole(plan), SENGADLIT_ARGUMENT_FONT, 0);
+    world.font_funcs.glyph_h_advance = advances;
     glyphs()[1].codepoint = 0xD800;
     keep_text();
     refuse_text("no character", shape(), SENGADLIT_ARGUMENT_CODEPOINT, 1);
@@ -358,6 +487,8 @@ int main(int argc, char **argv)
     try_plans();
     try_texts();
     try_bad_lookups();
+    try_positions();
+    try_ignorables();
     try_arguments();
     try_plan_without_lookups();
     try_callbacks();

@@ -4,7 +4,8 @@ use super::callbacks::Font;
 use super::handle::{Lent, Pointer};
 use super::plans::UserData;
 use super::{Out, array, boxed, guarded, put};
-use crate::layout::{Bool, Lookup, UserFeature};
+use crate::buffer::Buffer;
+use crate::layout::{Bool, Glyph, Lookup, UserFeature};
 use crate::plan::list;
 use crate::shaping::{self, LayoutTable, ShapePlan};
 use crate::status::{Argument, Error, Status};
@@ -12,10 +13,11 @@ use core::cell::RefCell;
 use core::ffi::c_uint;
 use core::ptr::null_mut;
 use sengadlit::alloc::Vec as List;
-use sengadlit::buffer::{Buffer as Inner, ShaperError};
+use sengadlit::buffer::{Buffer as Inner, GlyphInfo, ShaperError};
 use sengadlit::font::GlyphId;
 use sengadlit::ot_shape::Lookups as AnswersLookups;
 use sengadlit::ot_shape_plan::StageLookup;
+use sengadlit::ot_shape_position::GlyphClasses;
 
 // ---- Plans ----
 
@@ -139,11 +141,19 @@ pub unsafe extern "C" fn sengadlit_shape_plan_destroy(plan: *mut ShapePlan) {
 
 // ---- Lookups ----
 
+type Note = unsafe extern "C-unwind" fn(UserData, *const Glyph) -> u32;
+type IsMark = unsafe extern "C-unwind" fn(UserData, *const Glyph) -> Bool;
+type Apply = unsafe extern "C-unwind" fn(UserData, *const Lookup, Pointer) -> Bool;
+
 /// `sengadlit_lookups_funcs_t`.
 #[repr(C)]
 pub struct LookupsFuncs {
     pub variation_glyph: Option<unsafe extern "C-unwind" fn(UserData, u32, u32, *mut u32) -> Bool>,
-    pub substitute: Option<unsafe extern "C-unwind" fn(UserData, *const Lookup, Pointer) -> Bool>,
+    pub note: Option<Note>,
+    pub substitute: Option<Apply>,
+    pub is_mark: Option<IsMark>,
+    pub position: Option<Apply>,
+    pub finish_positions: Option<unsafe extern "C-unwind" fn(UserData, Pointer)>,
 }
 
 /// `sengadlit_lookups_t`.
@@ -161,18 +171,57 @@ pub struct AskedLookups<'a> {
 }
 
 impl<'a> AskedLookups<'a> {
-    /// The lookups, which must have what applies lookups if the plan has some.
-    pub fn of(lookups: Option<&Lookups<'a>>, applies_some: bool) -> Result<Self, Error> {
+    /// The lookups, which must have what applies those of GSUB, and those of GPOS, if the call applies some.
+    pub fn of(
+        lookups: Option<&Lookups<'a>>,
+        substitutes: bool,
+        positions: bool,
+    ) -> Result<Self, Error> {
         let missing = || Error::argument(Argument::Lookups);
         let lookups = lookups.ok_or_else(missing)?;
         let funcs = lookups.funcs.ok_or_else(missing)?;
-        if applies_some && funcs.substitute.is_none() {
+        let is_there = |wanted: bool, function: &Option<Apply>| !wanted || function.is_some();
+        if !is_there(substitutes, &funcs.substitute) || !is_there(positions, &funcs.position) {
             return Err(missing());
         }
         Ok(AskedLookups {
             funcs,
             user_data: lookups.user_data,
             lent: RefCell::new(Lent::create().ok_or(Error::MEMORY)?),
+        })
+    }
+
+    /// What is kept beside a glyph before the first lookup.
+    pub fn note(&self, glyph: GlyphInfo) -> u32 {
+        let Some(note) = self.funcs.note else {
+            return 0;
+        };
+        let glyph = Glyph::from(glyph);
+        // SAFETY: a callback of C, with what it is given.
+        call_back(|| unsafe { note(self.user_data, &glyph) })
+    }
+
+    /// Applies a lookup of GPOS to a text with positions.
+    pub fn position(&self, lookup: &StageLookup, text: &mut Inner) -> Result<(), ShaperError> {
+        let Some(position) = self.funcs.position else {
+            return Ok(());
+        };
+        let lookup = Lookup::from(*lookup);
+        // SAFETY: a callback of C, with what it is given.
+        self.lend(text, true, |lent| unsafe {
+            position(self.user_data, &lookup, lent)
+        })
+    }
+
+    /// Moves what lookups have attached.
+    pub fn finish_positions(&self, text: &mut Inner) -> Result<(), ShaperError> {
+        let Some(finish) = self.funcs.finish_positions else {
+            return Ok(());
+        };
+        self.lend(text, true, |lent| {
+            // SAFETY: a callback of C, with what it is given.
+            unsafe { finish(self.user_data, lent) };
+            1
         })
     }
 
@@ -187,11 +236,12 @@ impl<'a> AskedLookups<'a> {
         (has != 0).then_some(GlyphId(glyph))
     }
 
-    // Lends a text to a callback, in a buffer that the callback may use as any other. Its glyphs are then the text's, and
-    // nothing else of it.
+    // Lends a text to a callback, in a buffer that the callback may use as any other. Its glyphs, and positions where there are
+    // some, are then the text's, and nothing else of it.
     fn lend(
         &self,
         text: &mut Inner,
+        with_positions: bool,
         callback: impl FnOnce(Pointer) -> Bool,
     ) -> Result<(), ShaperError> {
         let max_length = text.max_len();
@@ -208,7 +258,7 @@ impl<'a> AskedLookups<'a> {
         let mut lent = self.lent.borrow_mut();
         let taken = lent
             .buffer()
-            .is_some_and(|buffer| buffer.take_back(&mut settled));
+            .is_some_and(|buffer| buffer.take_back(&mut settled, with_positions));
         assert!(taken, "a lookup left what is no text of glyphs");
         *text = settled;
         match is_done {
@@ -226,10 +276,36 @@ impl AnswersLookups for AskedLookups<'_> {
         };
         let lookup = Lookup::from(*lookup);
         // SAFETY: a callback of C, with what it is given.
-        self.lend(buffer, |lent| unsafe {
+        self.lend(buffer, false, |lent| unsafe {
             substitute(self.user_data, &lookup, lent)
         })
     }
+}
+
+impl GlyphClasses for AskedLookups<'_> {
+    fn is_mark(&self, glyph: &GlyphInfo) -> bool {
+        let Some(is_mark) = self.funcs.is_mark else {
+            return false;
+        };
+        let glyph = Glyph::from(*glyph);
+        // SAFETY: a callback of C, with what it is given.
+        call_back(|| unsafe { is_mark(self.user_data, &glyph) }) != 0
+    }
+}
+
+// Takes a text through the steps of a call.
+fn on_text(
+    plan: Option<&ShapePlan>,
+    buffer: Pointer,
+    call: impl FnOnce(&ShapePlan, &mut Buffer) -> Result<Status, Error>,
+) -> Status {
+    buffer.call(
+        |status| status,
+        |buffer| {
+            let plan = plan.ok_or_else(|| Error::argument(Argument::Plan))?;
+            guarded(|| call(plan, buffer))
+        },
+    )
 }
 
 #[unsafe(no_mangle)]
@@ -239,11 +315,19 @@ pub extern "C" fn sengadlit_substitute_text(
     lookups: Option<&Lookups<'_>>,
     buffer: Pointer,
 ) -> Status {
-    buffer.call(
-        |status| status,
-        |buffer| {
-            let plan = plan.ok_or_else(|| Error::argument(Argument::Plan))?;
-            guarded(|| shaping::substitute_text(plan, font, lookups, buffer))
-        },
-    )
+    on_text(plan, buffer, |plan, buffer| {
+        shaping::substitute_text(plan, font, lookups, buffer)
+    })
+}
+
+#[unsafe(no_mangle)]
+pub extern "C" fn sengadlit_shape(
+    plan: Option<&ShapePlan>,
+    font: Option<&Font<'_>>,
+    lookups: Option<&Lookups<'_>>,
+    buffer: Pointer,
+) -> Status {
+    on_text(plan, buffer, |plan, buffer| {
+        shaping::shape(plan, font, lookups, buffer)
+    })
 }
