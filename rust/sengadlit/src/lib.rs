@@ -189,6 +189,7 @@ mod generated {
     #[cfg(feature = "tables")]
     pub(crate) mod shapers_pipeline;
     pub(crate) mod shapers_plan;
+    pub(crate) mod shapers_position;
     #[cfg(feature = "tables")]
     pub(crate) mod shapers_prepare;
     pub(crate) mod shapers_spans;
@@ -210,6 +211,7 @@ pub mod map;
 pub mod ot_shape;
 pub mod ot_shape_normalize;
 pub mod ot_shape_plan;
+pub mod ot_shape_position;
 #[cfg(feature = "tables")]
 pub mod ot_shape_prepare;
 pub mod ot_shaper_arabic;

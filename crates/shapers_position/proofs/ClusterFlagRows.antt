@@ -1,0 +1,97 @@
+-- The flags of whole clusters, computed: what is kept of each set of flags, and who shares them.
+use Rattle.std.specs.Prelude.{◌≡◌, ℕ, List, [], ◌∷◌, map, refl}
+use Rattle.shapers_buffer.specs.declared.buffer.category.hb_unicode_general_category_t.TheVariants.{Mn}
+use Rattle.shapers_buffer.specs.declared.buffer.flags.BufferFlags.{BufferFlags}
+use Rattle.shapers_buffer.specs.declared.buffer.glyph.hb_glyph_info_t.{hb_glyph_info_t}
+use Rattle.shapers_buffer.specs.Glyph.{clusters, default_glyph}
+use Rattle.shapers_position.specs.ClusterFlags.{cluster_groups, flags_kept, flags_of, flags_propagated, joins_settled, with_flags}
+
+abbrev wanting : ℕ → BufferFlags
+wanting bits = record { 0 = bits }
+
+abbrev glyph : ℕ → ℕ → hb_glyph_info_t
+glyph c m = record default_glyph { cluster = c; mask = m }
+
+abbrev masks : List hb_glyph_info_t → List ℕ
+masks gs = map (λ g. g.mask) gs
+
+-- all sets of the three flags
+abbrev sets : List ℕ
+sets = 0 ∷ 1 ∷ 2 ∷ 3 ∷ 4 ∷ 5 ∷ 6 ∷ 7 ∷ []
+
+-- unsafe to break takes the tatweel; a tatweel is unsafe to break and to concatenate
+settled : map joins_settled sets ≡ 0 ∷ 1 ∷ 2 ∷ 3 ∷ 7 ∷ 1 ∷ 7 ∷ 3 ∷ []
+settled = refl
+
+-- what a buffer keeps that wants neither flag: all but unsafe to concatenate
+kept_plain : map (flags_kept (wanting 0)) sets ≡ 0 ∷ 1 ∷ 0 ∷ 1 ∷ 4 ∷ 5 ∷ 4 ∷ 5 ∷ []
+kept_plain = refl
+
+-- one that wants unsafe to concatenate: all
+kept_concat : map (flags_kept (wanting 0x40)) sets ≡ sets
+kept_concat = refl
+
+-- one that wants tatweels
+kept_tatweel : map (flags_kept (wanting 0x80)) sets ≡ 0 ∷ 1 ∷ 0 ∷ 1 ∷ 5 ∷ 1 ∷ 5 ∷ 1 ∷ []
+kept_tatweel = refl
+
+-- one that wants both
+kept_both : map (flags_kept (wanting 0xC0)) sets ≡ 0 ∷ 1 ∷ 2 ∷ 3 ∷ 7 ∷ 1 ∷ 7 ∷ 3 ∷ []
+kept_both = refl
+
+-- other flags of the buffer say nothing
+kept_others : map (flags_kept (wanting 0xFFFFFF3F)) sets ≡ 0 ∷ 1 ∷ 0 ∷ 1 ∷ 4 ∷ 5 ∷ 4 ∷ 5 ∷ []
+kept_others = refl
+
+kept_all : map (flags_kept (wanting 0xFFFFFFFF)) sets ≡ 0 ∷ 1 ∷ 2 ∷ 3 ∷ 7 ∷ 1 ∷ 7 ∷ 3 ∷ []
+kept_all = refl
+
+-- the flags of several glyphs; features, from bit 8 on, are none
+together : flags_of (glyph 0 1 ∷ glyph 0 0xFFFFFFF8 ∷ glyph 0 4 ∷ []) ≡ 5
+together = refl
+
+none_together : flags_of [] ≡ 0
+none_together = refl
+
+-- groups: neighbours of one cluster; a cluster that comes again is another group
+groups : map clusters (cluster_groups (glyph 1 0 ∷ glyph 1 0 ∷ glyph 2 0 ∷ glyph 1 0 ∷ glyph 0 0 ∷ glyph 0 0 ∷ [])) ≡ (1 ∷ 1 ∷ []) ∷ (2 ∷ []) ∷ (1 ∷ []) ∷ (0 ∷ 0 ∷ []) ∷ []
+groups = refl
+
+no_group : cluster_groups [] ≡ []
+no_group = refl
+
+one_group : map clusters (cluster_groups (glyph 4294967295 0 ∷ [])) ≡ (4294967295 ∷ []) ∷ []
+one_group = refl
+
+-- a glyph of a cluster gets the flags of each other, and keeps its features
+shared : masks (flags_propagated (wanting 0x40) (glyph 0 0 ∷ glyph 3 0x10 ∷ glyph 3 0x21 ∷ glyph 3 0x80000002 ∷ glyph 7 0x18 ∷ [])) ≡ 0 ∷ 0x13 ∷ 0x23 ∷ 0x80000003 ∷ 0x18 ∷ []
+shared = refl
+
+-- a lone glyph, too, loses what the buffer doesn't want, and a tatweel is settled there
+lone : masks (flags_propagated (wanting 0) (glyph 0 7 ∷ [])) ≡ 5 ∷ []
+lone = refl
+
+lone_tatweel : masks (flags_propagated (wanting 0xC0) (glyph 0 4 ∷ glyph 1 5 ∷ [])) ≡ 7 ∷ 1 ∷ []
+lone_tatweel = refl
+
+-- a second time takes a tatweel away, since its place has become unsafe to break
+second_time : masks (flags_propagated (wanting 0xC0) (flags_propagated (wanting 0xC0) (glyph 0 4 ∷ []))) ≡ 3 ∷ []
+second_time = refl
+
+-- the same cluster again, behind another one, is by itself
+apart : masks (flags_propagated (wanting 0x40) (glyph 1 1 ∷ glyph 2 0 ∷ glyph 1 0 ∷ [])) ≡ 1 ∷ 0 ∷ 0 ∷ []
+apart = refl
+
+-- a tatweel at one glyph of a cluster and unsafe to break at another: no tatweel
+against : masks (flags_propagated (wanting 0x80) (glyph 1 4 ∷ glyph 1 1 ∷ [])) ≡ 1 ∷ 1 ∷ []
+against = refl
+
+nothing : flags_propagated (wanting 0xC0) [] ≡ []
+nothing = refl
+
+-- all other fields stay
+abbrev full : hb_glyph_info_t
+full = record { glyph_id = 0x916; cluster = 5; mask = 0x8000001F; var = 0x7A; syllable = 0x24; category = 1; auxiliary = 3; general_category = Mn; modified_combining_class = 9; lig_comp = 2; marks = record { 0 = 31 } }
+
+fields : with_flags 1 full ≡ record { glyph_id = 0x916; cluster = 5; mask = 0x80000019; var = 0x7A; syllable = 0x24; category = 1; auxiliary = 3; general_category = Mn; modified_combining_class = 9; lig_comp = 2; marks = record { 0 = 31 } }
+fields = refl

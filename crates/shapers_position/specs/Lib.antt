@@ -1,0 +1,4 @@
+pub mod ClusterFlags
+pub mod Ignorables
+pub mod Laws
+pub mod Widths

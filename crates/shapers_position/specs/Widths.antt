@@ -1,0 +1,47 @@
+-- Advances by the font, and marks that don't move the pen.
+use Rattle.std.specs.Prelude.{ℕ, min, ℤ, pos, ◌-ℤ◌, Bool, List, map, if◌then◌else◌}
+use Rattle.std.specs.List.{zip}
+use Rattle.std.specs.Int.{saturate_to_bits}
+use Rattle.shapers_base.specs.declared.font.GlyphId.{GlyphId}
+use Rattle.shapers_base.specs.Font.{Font}
+use Rattle.shapers_buffer.specs.declared.buffer.glyph.GlyphPosition.{GlyphPosition}
+use Rattle.shapers_buffer.specs.declared.buffer.glyph.hb_glyph_info_t.{hb_glyph_info_t}
+use Rattle.shapers_buffer.specs.Glyph.{default_position}
+
+-- The glyph by its number, as fonts take it: every number above 65535 is queried as that one.
+abbrev pub glyph_of : hb_glyph_info_t → GlyphId
+glyph_of g = record { 0 = min g.glyph_id 65535 }
+
+-- the position of a glyph that no lookup has moved
+abbrev pub advanced : Font → hb_glyph_info_t → GlyphPosition
+advanced font g = record default_position { x_advance = font.advance (glyph_of g) }
+
+-- the positions, each as its glyph has it changed
+abbrev pub positions_changed : (hb_glyph_info_t → GlyphPosition → GlyphPosition) →
+    List hb_glyph_info_t → List GlyphPosition → List GlyphPosition
+positions_changed f gs ps = map (λ c. f c.0 c.1) (zip gs ps)
+
+-- a glyph that doesn't move the pen
+abbrev pub without_advance : GlyphPosition → GlyphPosition
+without_advance p = record p { x_advance = pos 0; y_advance = pos 0 }
+
+-- the number of 32 bits that is nearest
+abbrev pub nearest : ℤ → ℤ
+nearest z = saturate_to_bits 31 z
+
+-- a glyph drawn where the pen will be behind it, and its advance less
+abbrev pub hung_back : GlyphPosition → GlyphPosition
+hung_back p = record p {
+  x_offset = nearest (p.x_offset -ℤ p.x_advance);
+  y_offset = nearest (p.y_offset -ℤ p.y_advance);
+}
+
+-- the position of a glyph, which doesn't move the pen if it is a mark
+abbrev pub mark_zeroed : (hb_glyph_info_t → Bool) → Bool → hb_glyph_info_t → GlyphPosition →
+    GlyphPosition
+mark_zeroed is_mark adjusts g p =
+    if is_mark g then without_advance (if adjusts then hung_back p else p) else p
+
+abbrev pub marks_zeroed : (hb_glyph_info_t → Bool) → Bool →
+    List hb_glyph_info_t → List GlyphPosition → List GlyphPosition
+marks_zeroed is_mark adjusts gs ps = positions_changed (mark_zeroed is_mark adjusts) gs ps

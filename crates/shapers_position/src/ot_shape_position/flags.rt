@@ -1,0 +1,168 @@
+//! The glyph flags of whole clusters.
+ghost use Rattle.std.specs.Prelude.{◌≡◌, ◌<◌, ◌≤◌, ◌+◌, drop, length, map};
+ghost use Rattle.std.specs.List.{prefix_len};
+ghost use Rattle.shapers_buffer.specs.Buffer.{flags_concat, flags_tatweel, has_flag};
+ghost use Rattle.shapers_buffer.specs.Clusters.{first_cluster, has_cluster, with_stretch};
+ghost use Rattle.shapers_position.specs.ClusterFlags.{flags_kept, flags_of, flags_propagated, flags_shared, joins_settled, with_flags};
+
+use bitflags::Flags;
+use shapers_base::buffer::{BufferFlags, GlyphWalk, glyph_flag, hb_buffer_t, hb_glyph_info_t};
+
+use glyph_flag::{SAFE_TO_INSERT_TATWEEL, UNSAFE_TO_BREAK, UNSAFE_TO_CONCAT};
+
+/// Gives all glyphs of a cluster the flags that one of them has, so that a line breaker may read
+/// any. `UNSAFE_TO_CONCAT` is kept where the buffer wants it. Where it wants tatweels, a cluster that
+/// is unsafe to break takes none before it, and one that takes one is unsafe to break and to
+/// concatenate: the line would lose the tatweel. (HarfBuzz's `hb_propagate_flags`.)
+pub fn propagate_flags(buffer: &mut hb_buffer_t)
+    ensures { let text = flags_propagated buffer.old.flags buffer.old.glyphs in
+        buffer.new ≡ record buffer.old { glyphs = text } }
+{
+    let flags = buffer.flags();
+    buffer.walk(&mut FlagPropagation { flags });
+}
+
+// The walk over the clusters of a text.
+#[derive(Drop)]
+struct FlagPropagation {
+    flags: BufferFlags,
+}
+
+impl GlyphWalk for FlagPropagation {
+    ghost use Rattle.std.specs.Prelude.{⊤, ◌≡◌};
+    ghost use Rattle.shapers_position.specs.ClusterFlags.{flags_propagated};
+
+    ghost can_walk = { λ w gs. ⊤ };
+
+    ghost walks = { λ v w gs hs. hs ≡ flags_propagated v.flags gs };
+
+    #[inline]
+    fn walk(&mut self, glyphs: &mut [hb_glyph_info_t]) {
+        propagate_in(self.flags, glyphs);
+    }
+}
+
+// Gives all glyphs of each cluster the same flags.
+fn propagate_in(wanted: BufferFlags, glyphs: &mut [hb_glyph_info_t])
+    ensures { glyphs.new ≡ flags_propagated wanted glyphs.old }
+{
+    let mut start = 0;
+    while start < glyphs.len() {
+        let end = start + first_cluster_len(rest_from(glyphs, start));
+        share_flags_from(wanted, glyphs, start, end);
+        start = end;
+    }
+}
+
+// The glyphs from a place on.
+#[inline]
+fn rest_from(glyphs: &[hb_glyph_info_t], start: usize) -> &[hb_glyph_info_t]
+    requires { start ≤ length glyphs.now }
+    ensures { result.now ≡ drop start glyphs.now }
+{
+    &glyphs[start..]
+}
+
+// How many glyphs are in the cluster that opens the text.
+#[inline]
+fn first_cluster_len(glyphs: &[hb_glyph_info_t]) -> usize
+    requires { 0 < length glyphs.now }
+    ensures len { result ≡
+        1 + prefix_len (has_cluster (first_cluster glyphs.now)) (drop 1 glyphs.now) }
+    ensures within { result ≤ length glyphs.now }
+{
+    1 + len_in_front(&glyphs[1..], glyphs[0].cluster)
+}
+
+// How many glyphs of a cluster open the list.
+#[inline]
+fn len_in_front(glyphs: &[hb_glyph_info_t], cluster: u32) -> usize
+    ensures len { result ≡ prefix_len (has_cluster cluster) glyphs.now }
+    ensures within { result ≤ length glyphs.now }
+{
+    glyphs
+        .iter()
+        .take_while(|glyph| glyph.cluster == cluster)
+        .count()
+}
+
+// Gives the glyphs from `s` to `e`, which are a cluster, the same flags.
+#[inline]
+fn share_flags_from(wanted: BufferFlags, glyphs: &mut [hb_glyph_info_t], s: usize, e: usize)
+    requires in_order { s ≤ e }
+    requires in_range { e ≤ length glyphs.old }
+    ensures { glyphs.new ≡ with_stretch s e (flags_shared wanted) glyphs.old }
+{
+    share_flags(wanted, &mut glyphs[s..e]);
+}
+
+// Gives the glyphs of a cluster the same flags.
+#[inline]
+fn share_flags(wanted: BufferFlags, cluster: &mut [hb_glyph_info_t])
+    ensures { cluster.new ≡ flags_shared wanted cluster.old }
+{
+    let flags = flags_kept(wanted, flags_of(cluster));
+    set_flags(cluster, flags);
+}
+
+// The flags that one of these glyphs has.
+#[inline]
+fn flags_of(cluster: &[hb_glyph_info_t]) -> u32
+    ensures { result ≡ flags_of cluster.now }
+{
+    let mut flags = 0;
+    for glyph in cluster {
+        flags |= glyph.mask & 7;
+    }
+    flags
+}
+
+// The flags of a cluster that the buffer wants.
+#[inline]
+fn flags_kept(wanted: BufferFlags, flags: u32) -> u32
+    ensures { result ≡ flags_kept wanted flags }
+{
+    let settled = if wanted.contains(BufferFlags::PRODUCE_SAFE_TO_INSERT_TATWEEL) {
+        joins_settled(flags)
+    } else {
+        flags
+    };
+    if wanted.contains(BufferFlags::PRODUCE_UNSAFE_TO_CONCAT) {
+        settled
+    } else {
+        settled & (UNSAFE_TO_BREAK | SAFE_TO_INSERT_TATWEEL)
+    }
+}
+
+// These flags where tatweels are wanted: one put in breaks the line's shape, unless that is shaped
+// anew.
+#[inline]
+fn joins_settled(flags: u32) -> u32
+    ensures { result ≡ joins_settled flags }
+{
+    if flags & UNSAFE_TO_BREAK == UNSAFE_TO_BREAK {
+        flags & (UNSAFE_TO_BREAK | UNSAFE_TO_CONCAT)
+    } else if flags & SAFE_TO_INSERT_TATWEEL == SAFE_TO_INSERT_TATWEEL {
+        flags | (UNSAFE_TO_BREAK | UNSAFE_TO_CONCAT)
+    } else {
+        flags
+    }
+}
+
+// Puts these flags in the place of each glyph's own.
+#[inline]
+fn set_flags(cluster: &mut [hb_glyph_info_t], flags: u32)
+    ensures { cluster.new ≡ map (with_flags flags) cluster.old }
+{
+    for glyph in cluster.iter_mut() {
+        put_flags(glyph, flags);
+    }
+}
+
+#[inline]
+fn put_flags(glyph: &mut hb_glyph_info_t, flags: u32)
+    ensures { glyph.new ≡ with_flags flags glyph.old }
+{
+    glyph.mask &= !7;
+    glyph.mask |= flags;
+}

@@ -1,0 +1,6 @@
+// Generated from crates/shapers_position/src/lib.rt by rust/erase; edit the source.
+
+//! What is done to glyphs around a font's positioning lookups and behind them: advances, marks and
+//! ignorable characters without a width, ignorable glyphs hidden, flags of whole clusters.
+
+pub mod ot_shape_position;

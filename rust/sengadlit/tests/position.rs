@@ -1,0 +1,212 @@
+//! What is done to glyphs around GPOS and behind it, beside HarfBuzz's rules written a second time.
+
+mod common;
+
+use common::numbers::Numbers;
+use sengadlit::buffer::{
+    Buffer, BufferClusterLevel, BufferFlags, Direction, GlyphInfo, GlyphMarks, GlyphPosition, Tag,
+};
+use sengadlit::font::{Font, GlyphId, NominalOnly};
+use sengadlit::ot_shape_position::{
+    DefaultIgnorables, GlyphClasses, hide_default_ignorables, propagate_flags, set_advances,
+    zero_mark_widths, zero_width_default_ignorables,
+};
+
+/// A font whose glyphs are as wide as their numbers, without a space.
+struct Wide;
+
+impl Font for Wide {
+    fn get_nominal_glyph(&self, _: u32) -> Option<GlyphId> {
+        None
+    }
+
+    fn glyph_h_advance(&self, glyph: GlyphId) -> i32 {
+        i32::from(glyph.0)
+    }
+
+    fn would_apply(&self, _: u16, _: &[GlyphId], _: bool) -> bool {
+        false
+    }
+
+    fn has_feature(&self, _: Tag) -> bool {
+        false
+    }
+}
+
+/// A glyph by its cluster and mask: 1 is ignorable, 2 was put in for an ignorable one.
+fn glyph(kind: u32, cluster: u32, mask: u32) -> GlyphInfo {
+    let mut marks = GlyphMarks::NONE;
+    marks.set_ignorable(kind > 0);
+    marks.set_substituted(kind > 1);
+    GlyphInfo {
+        glyph_id: 40 + kind,
+        cluster,
+        mask,
+        marks,
+        ..GlyphInfo::DEFAULT
+    }
+}
+
+fn text(glyphs: &[(u32, u32, u32)]) -> Buffer {
+    let glyphs = glyphs.iter();
+    glyphs.map(|&(kind, cluster, mask)| glyph(kind, cluster, mask)).collect()
+}
+
+fn random_text(numbers: &mut Numbers) -> Buffer {
+    let len = numbers.below(9);
+    let glyphs: Vec<(u32, u32, u32)> = (0..len)
+        .map(|_| {
+            let kind = numbers.below(4) as u32 % 3;
+            (kind, numbers.below(5) as u32, numbers.below(64) as u32)
+        })
+        .collect();
+    let mut buffer = text(&glyphs);
+    buffer.set_cluster_level(match numbers.below(3) {
+        0 => BufferClusterLevel::MonotoneGraphemes,
+        1 => BufferClusterLevel::MonotoneCharacters,
+        _ => BufferClusterLevel::Characters,
+    });
+    buffer
+}
+
+fn clusters_and_masks(buffer: &Buffer) -> Vec<(u32, u32)> {
+    let glyphs = buffer.glyphs().iter();
+    glyphs.map(|glyph| (glyph.cluster, glyph.mask)).collect()
+}
+
+/// HarfBuzz's `delete_glyphs_inplace`, one glyph after another: those that open the text merge with
+/// the next one each.
+fn removed_in_steps(buffer: &Buffer) -> Vec<(u32, u32)> {
+    let mut all: Buffer = buffer.glyphs().iter().copied().collect();
+    all.set_cluster_level(buffer.cluster_level());
+    let mut kept: Vec<GlyphInfo> = Vec::new();
+    for at in 0..all.len() {
+        let gone = all.get(at);
+        if !gone.marks.is_ignorable() || gone.marks.is_substituted() {
+            kept.push(gone);
+            continue;
+        }
+        let next = all.glyphs().get(at + 1).copied();
+        if next.is_some_and(|next| next.cluster == gone.cluster) {
+            continue;
+        }
+        match kept.last().copied() {
+            Some(last) if gone.cluster < last.cluster => {
+                let run = kept.iter_mut().rev().take_while(|glyph| glyph.cluster == last.cluster);
+                for glyph in run {
+                    glyph.cluster = gone.cluster;
+                    glyph.mask = glyph.mask & !7 | gone.mask & 7;
+                }
+            }
+            Some(_) => {}
+            None if next.is_some() => all.merge_clusters(at, at + 2),
+            None => {}
+        }
+    }
+    kept.iter().map(|glyph| (glyph.cluster, glyph.mask)).collect()
+}
+
+#[test]
+fn removal_as_in_steps() {
+    let mut numbers = Numbers::new(7);
+    let font = NominalOnly(|_| None);
+    for _ in 0..20_000 {
+        let mut buffer = random_text(&mut numbers);
+        let wanted = removed_in_steps(&buffer);
+        hide_default_ignorables(DefaultIgnorables::Remove, None, &font, &mut buffer);
+        assert_eq!(clusters_and_masks(&buffer), wanted);
+    }
+}
+
+#[test]
+fn hidden_or_removed() {
+    let glyphs = [(0, 0, 0), (1, 1, 0), (2, 1, 0)];
+    let space = NominalOnly(|c| (c == 0x20).then_some(GlyphId(3)));
+    let none = NominalOnly(|_| None);
+    let ids = |ignorables, invisible, font: &dyn Fn(&mut Buffer, DefaultIgnorables, Option<GlyphId>)| {
+        let mut buffer = text(&glyphs);
+        font(&mut buffer, ignorables, invisible);
+        buffer.glyphs().iter().map(|glyph| glyph.glyph_id).collect::<Vec<u32>>()
+    };
+    let by_space = |buffer: &mut Buffer, ignorables, invisible| {
+        hide_default_ignorables(ignorables, invisible, &space, buffer);
+    };
+    let by_none = |buffer: &mut Buffer, ignorables, invisible| {
+        hide_default_ignorables(ignorables, invisible, &none, buffer);
+    };
+    assert_eq!(ids(DefaultIgnorables::Hide, None, &by_space), [40, 3, 42]);
+    assert_eq!(ids(DefaultIgnorables::Hide, Some(GlyphId(5)), &by_space), [40, 5, 42]);
+    assert_eq!(ids(DefaultIgnorables::Hide, None, &by_none), [40, 42]);
+    assert_eq!(ids(DefaultIgnorables::Remove, Some(GlyphId(5)), &by_space), [40, 42]);
+    assert_eq!(ids(DefaultIgnorables::Preserve, None, &by_none), [40, 41, 42]);
+}
+
+#[test]
+fn positions_go_with_their_glyphs() {
+    let mut buffer = text(&[(1, 0, 0), (0, 1, 0), (1, 1, 0), (2, 2, 0)]);
+    set_advances(&Wide, &mut buffer).unwrap();
+    hide_default_ignorables(DefaultIgnorables::Hide, None, &Wide, &mut buffer);
+    let advances: Vec<i32> = buffer.positions().iter().map(|p| p.x_advance).collect();
+    assert_eq!(advances, [40, 42]);
+}
+
+/// Glyph 41 is a mark.
+struct Marks;
+
+impl GlyphClasses for Marks {
+    fn is_mark(&self, glyph: &GlyphInfo) -> bool {
+        glyph.glyph_id == 41
+    }
+}
+
+#[test]
+fn widths() {
+    let at = |x_advance, y_advance, x_offset, y_offset| GlyphPosition {
+        x_advance,
+        y_advance,
+        x_offset,
+        y_offset,
+    };
+    let mut buffer = text(&[(0, 0, 0), (1, 1, 0)]);
+    // a buffer without positions keeps none
+    zero_mark_widths(&Marks, true, &mut buffer);
+    assert!(buffer.positions().is_empty());
+    set_advances(&Wide, &mut buffer).unwrap();
+    assert_eq!(buffer.positions(), [at(40, 0, 0, 0), at(41, 0, 0, 0)]);
+
+    buffer.set_position(0, at(10, 20, 1, 2));
+    buffer.set_position(1, at(10, 20, i32::MIN + 5, 2));
+    zero_mark_widths(&Marks, true, &mut buffer);
+    assert_eq!(buffer.positions(), [at(10, 20, 1, 2), at(0, 0, i32::MIN, -18)]);
+
+    buffer.set_position(1, at(10, 20, 1, 2));
+    for ignorables in [DefaultIgnorables::Preserve, DefaultIgnorables::Remove] {
+        zero_width_default_ignorables(ignorables, &mut buffer);
+        assert_eq!(buffer.position(1), at(10, 20, 1, 2));
+    }
+    zero_width_default_ignorables(DefaultIgnorables::Hide, &mut buffer);
+    assert_eq!(buffer.positions(), [at(10, 20, 1, 2), at(0, 0, 0, 2)]);
+
+    buffer.set_position(1, at(10, 20, 1, 2));
+    buffer.set_direction(Direction::TopToBottom);
+    zero_width_default_ignorables(DefaultIgnorables::Hide, &mut buffer);
+    assert_eq!(buffer.position(1), at(0, 0, 1, 0));
+}
+
+#[test]
+fn flags_of_clusters() {
+    let masks = |flags, glyphs: &[(u32, u32, u32)]| {
+        let mut buffer = text(glyphs);
+        buffer.set_flags(flags);
+        propagate_flags(&mut buffer);
+        buffer.glyphs().iter().map(|glyph| glyph.mask).collect::<Vec<u32>>()
+    };
+    let concat = BufferFlags::PRODUCE_UNSAFE_TO_CONCAT;
+    let tatweel = BufferFlags::PRODUCE_SAFE_TO_INSERT_TATWEEL;
+    let both = BufferFlags(concat.0 | tatweel.0);
+    let glyphs = [(0, 1, 0x12), (0, 1, 0x20), (0, 0, 5), (0, 3, 4)];
+    assert_eq!(masks(BufferFlags(0), &glyphs), [0x10, 0x20, 5, 4]);
+    assert_eq!(masks(concat, &glyphs), [0x12, 0x22, 5, 4]);
+    assert_eq!(masks(tatweel, &glyphs), [0x10, 0x20, 1, 5]);
+    assert_eq!(masks(both, &glyphs), [0x12, 0x22, 1, 7]);
+}
