@@ -4,10 +4,9 @@
 //! Left out are vertical text, the table `kern`, and marks placed without GPOS.
 
 use crate::font::OpenType;
-use sengadlit::map::TableIndex;
 use sengadlit::ot_shape::{StagePlan, TextPlan, prepare_text, run_stages};
 use sengadlit::ot_shape_normalize::NormalizeSettings;
-use sengadlit::ot_shape_plan::{FontFeatures, ShapePlan};
+use sengadlit::ot_shape_plan::ShapePlan;
 use sengadlit::ot_shape_position::{
     DefaultIgnorables, hide_default_ignorables, propagate_flags, set_advances, zero_mark_widths,
     zero_width_default_ignorables,
@@ -56,12 +55,11 @@ pub fn shape(
 fn position(plan: &ShapePlan, font: &OpenType<'_>, buffer: &mut Buffer) -> Result<(), CallError> {
     let layout = &font.layout;
     let zero_width = plan.shaper().map_or(ZeroWidthMarks::GDEF_LATE, Shaper::zero_width_marks);
-    let applies_gpos = applies_gpos(plan, font);
-    let hang = !applies_gpos && buffer.direction() != Direction::RightToLeft;
+    let hang = !plan.applies_gpos() && buffer.direction() != Direction::RightToLeft;
     if zero_width == ZeroWidthMarks::GDEF_EARLY {
         zero_mark_widths(layout, hang, buffer);
     }
-    if applies_gpos {
+    if plan.applies_gpos() {
         for lookup in plan.positioning() {
             layout.position_all(lookup, buffer)?;
         }
@@ -75,11 +73,4 @@ fn position(plan: &ShapePlan, font: &OpenType<'_>, buffer: &mut Buffer) -> Resul
         buffer.reverse();
     }
     Ok(())
-}
-
-// Whether the shaper takes GPOS for the script that was chosen in it.
-fn applies_gpos(plan: &ShapePlan, font: &OpenType<'_>) -> bool {
-    let chosen = font.features.chosen_script(TableIndex::GPOS);
-    let wanted = plan.shaper().and_then(Shaper::gpos_tag);
-    chosen.is_some() && wanted.is_none_or(|tag| chosen == Some(tag))
 }

@@ -53,6 +53,8 @@ fn features_of(
 /// What GSUB and GPOS have for a script.
 #[derive(Clone, Debug)]
 pub struct Features {
+    has_gsub: bool,
+    has_gpos: bool,
     gsub: Option<ScriptFeatures>,
     gpos: Option<ScriptFeatures>,
 }
@@ -60,6 +62,8 @@ pub struct Features {
 impl Features {
     pub fn new(font: &FontRef<'_>, script: Script) -> Self {
         Features {
+            has_gsub: font.gsub().is_ok(),
+            has_gpos: font.gpos().is_ok(),
             gsub: font
                 .gsub()
                 .ok()
@@ -81,6 +85,13 @@ impl Features {
 
 // Features that may be taken from any script are those of vertical text.
 impl FontFeatures for Features {
+    fn has_table(&self, table: TableIndex) -> bool {
+        match table {
+            TableIndex::GSUB => self.has_gsub,
+            TableIndex::GPOS => self.has_gpos,
+        }
+    }
+
     fn chosen_script(&self, table: TableIndex) -> Option<Tag> {
         self.script(table).map(|script| script.tag)
     }

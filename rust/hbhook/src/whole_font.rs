@@ -140,6 +140,10 @@ impl NormalizeFont for WholeFont {
 const LACKING: [Tag; 2] = [Tag(*b"mark"), Tag(*b"rand")];
 
 impl FontFeatures for WholeFont {
+    fn has_table(&self, table: TableIndex) -> bool {
+        table == TableIndex::GSUB
+    }
+
     fn chosen_script(&self, table: TableIndex) -> Option<Tag> {
         (table == TableIndex::GSUB).then_some(self.chosen)
     }

@@ -41,7 +41,7 @@ int main(void)
     const sengadlit_table_feature_t features[] = {{SENGADLIT_TAG('b', 'l', 'w', 'f'), 1, (const uint16_t[]){0}},
                                                   {SENGADLIT_TAG('p', 'r', 'e', 'f'), 1, (const uint16_t[]){1}}};
     const sengadlit_shape_plan_input_t input = {.script = SENGADLIT_TAG('K', 'h', 'm', 'r'), .direction = SENGADLIT_DIRECTION_LTR,
-        .gsub = {.chosen_script = SENGADLIT_TAG('k', 'h', 'm', 'r'), .found_script = 1, .features = features, .features_length = 2}};
+        .gsub = {.has_table = 1, .chosen_script = SENGADLIT_TAG('k', 'h', 'm', 'r'), .features_length = 2, .features = features}};
     const sengadlit_font_t font = {.funcs = &(sengadlit_font_funcs_t){nominal_glyph, glyph_h_advance, NULL, NULL}};
     const sengadlit_lookups_t lookups = {.funcs = &(sengadlit_lookups_funcs_t){.substitute = substitute}};
     sengadlit_shape_plan_t *plan = sengadlit_shape_plan_create(&input, NULL);

@@ -869,14 +869,15 @@ typedef struct sengadlit_table_feature_t {
     const uint16_t *lookups;         /* May be null if the length is 0, as the lists below. */
 } sengadlit_table_feature_t;
 
-/* What GSUB or GPOS has in the script and language that the caller chose for the text; all 0 if the font has no such table. */
+/* What GSUB or GPOS has in the script and language that the caller chose for the text. */
 typedef struct sengadlit_layout_table_t {
+    sengadlit_bool_t has_table;      /* Whether the font has the table; else all is 0. */
     sengadlit_tag_t chosen_script;   /* The tag of that script, or 0. */
     sengadlit_bool_t found_script;   /* Whether it is one of the tags of the text's script, and no default as DFLT is. */
-    const sengadlit_table_feature_t *features; /* Of two with one tag the first counts. */
     unsigned int features_length;
-    unsigned int anywhere_length;
+    const sengadlit_table_feature_t *features; /* Of two with one tag the first counts. */
     const sengadlit_table_feature_t *anywhere; /* Features that may be taken from any script: `vert`, for vertical text. */
+    unsigned int anywhere_length;
     sengadlit_table_feature_t required; /* The feature that the language requires; tag 0 if there is none. */
 } sengadlit_layout_table_t;
 

@@ -182,8 +182,8 @@ mod tests {
         layout!("buffer_properties", Properties: script, direction, cluster_level, flags, max_length);
         layout!("span", Span: len = "length", kind);
         layout!("table_feature", TableFeatureInput: tag, lookups_length, lookups);
-        layout!("layout_table", LayoutTableInput: chosen_script, found_script, features, features_length, anywhere_length,
-        anywhere, required);
+        layout!("layout_table", LayoutTableInput: has_table, chosen_script, found_script, features_length, features, anywhere,
+        anywhere_length, required);
         layout!("user_feature", UserFeature: tag, value, start, end);
         layout!("shape_plan_input", ShapePlanInput: script, direction, gsub, gpos, user_features, user_features_length);
         layout!("lookup", Lookup: index, mask, auto_zwnj, auto_zwj, random, per_syllable);

@@ -26,12 +26,11 @@ use sengadlit::unicode::UnicodeTables;
 /// `sengadlit_shape_plan_t`.
 pub struct ShapePlan {
     inner: Plan,
-    // Whether the shaper takes GPOS for the script that was chosen in it.
-    applies_gpos: bool,
 }
 
 /// What GSUB or GPOS has for a text.
 pub struct LayoutTable<'a> {
+    pub has_table: bool,
     pub chosen_script: u32,
     pub found_script: bool,
     pub features: List<TableFeature<'a>>,
@@ -72,6 +71,10 @@ fn some_tag(number: u32) -> Option<Tag> {
 }
 
 impl FontFeatures for Layout<'_> {
+    fn has_table(&self, table: TableIndex) -> bool {
+        self.table(table).has_table
+    }
+
     fn chosen_script(&self, table: TableIndex) -> Option<Tag> {
         some_tag(self.table(table).chosen_script)
     }
@@ -124,12 +127,7 @@ pub fn make(
         &layout,
         wanted.as_slice(),
     )?;
-    let wanted = inner.shaper().and_then(Shaper::gpos_tag);
-    let chosen = some_tag(gpos.chosen_script);
-    Ok(ShapePlan {
-        inner,
-        applies_gpos: chosen.is_some() && wanted.is_none_or(|tag| chosen == Some(tag)),
-    })
+    Ok(ShapePlan { inner })
 }
 
 /// A font with the functions of lookups that normalization calls.
@@ -208,10 +206,9 @@ pub fn shape(
     lookups: Option<&Lookups<'_>>,
     buffer: &mut Buffer,
 ) -> Result<Status, Error> {
-    let applies_gpos = plan.applies_gpos;
     let plan = &plan.inner;
     let font = Asked::font(font, asks_of(plan) | FONT_ADVANCE)?;
-    let positions = applies_gpos && !plan.positioning().is_empty();
+    let positions = plan.applies_gpos() && !plan.positioning().is_empty();
     let lookups = &AskedLookups::of(lookups, !plan.lookups().is_empty(), positions)?;
     let font = ShapedFont { font, lookups };
     buffer.are_characters()?;
@@ -219,7 +216,7 @@ pub fn shape(
         let direction = inner.direction();
         substitute(plan, &font, lookups, inner).map_err(of_call)?;
         set_advances(&font, inner)?;
-        position(plan, applies_gpos, lookups, inner)?;
+        position(plan, lookups, inner)?;
         hide_default_ignorables(DefaultIgnorables::Hide, None, &font, inner);
         if let Some(shaper) = plan.shaper() {
             let done = shaper.checked_postprocess_glyphs(plan.plan(), &font, inner);
@@ -270,12 +267,7 @@ fn substitute(
 
 // The lookups of GPOS, and marks without a width before or behind them, which without GPOS hang over the glyph before them. The
 // glyphs are then in the order in which they are drawn.
-fn position(
-    plan: &Plan,
-    applies_gpos: bool,
-    lookups: &AskedLookups<'_>,
-    text: &mut Inner,
-) -> Result<(), ShaperError> {
+fn position(plan: &Plan, lookups: &AskedLookups<'_>, text: &mut Inner) -> Result<(), ShaperError> {
     let runs_backward = matches!(
         text.direction(),
         Direction::RightToLeft | Direction::BottomToTop
@@ -283,11 +275,11 @@ fn position(
     let when = plan
         .shaper()
         .map_or(ZeroWidthMarks::GDEF_LATE, Shaper::zero_width_marks);
-    let hang = !applies_gpos && !runs_backward;
+    let hang = !plan.applies_gpos() && !runs_backward;
     if when == ZeroWidthMarks::GDEF_EARLY {
         zero_mark_widths(lookups, hang, text);
     }
-    if applies_gpos {
+    if plan.applies_gpos() {
         for lookup in plan.positioning() {
             lookups.position(lookup, text)?;
         }

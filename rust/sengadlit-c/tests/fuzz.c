@@ -466,6 +466,7 @@ static sengadlit_shape_plan_t *make_shape_plan(void)
     user = (sengadlit_user_feature_t){features[0].tag, next(), next() % 16, settings & 4 ? UINT32_MAX : next() % 16};
     input.script = scripts[place];
     input.direction = (sengadlit_direction_t)(4 + settings % 4);
+    input.gsub.has_table = settings & 32;
     input.gsub.chosen_script = settings & 8 ? SENGADLIT_TAG('d', 'e', 'v', '2') : 0;
     input.gsub.found_script = settings & 16;
     input.gsub.features = features;

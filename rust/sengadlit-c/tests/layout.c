@@ -120,12 +120,13 @@ static void print_shaping(void)
     FIELD(table_feature, lookups_length);
     FIELD(table_feature, lookups);
     STRUCT(layout_table);
+    FIELD(layout_table, has_table);
     FIELD(layout_table, chosen_script);
     FIELD(layout_table, found_script);
-    FIELD(layout_table, features);
     FIELD(layout_table, features_length);
-    FIELD(layout_table, anywhere_length);
+    FIELD(layout_table, features);
     FIELD(layout_table, anywhere);
+    FIELD(layout_table, anywhere_length);
     FIELD(layout_table, required);
     STRUCT(user_feature);
     FIELD(user_feature, tag);

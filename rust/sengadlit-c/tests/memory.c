@@ -134,6 +134,7 @@ static sengadlit_status_t plan_whole(void)
 
     input.script = SENGADLIT_TAG('K', 'h', 'm', 'r');
     input.direction = SENGADLIT_DIRECTION_LTR;
+    input.gsub.has_table = input.gpos.has_table = 1;
     input.gsub.features = &pres;
     input.gsub.features_length = 1;
     input.gpos.chosen_script = SENGADLIT_TAG('k', 'h', 'm', 'r');

@@ -191,8 +191,8 @@ static void plan_whole(void)
     static const sengadlit_table_feature_t kern = {SENGADLIT_TAG('k', 'e', 'r', 'n'), 1, zero};
     const sengadlit_shape_plan_input_t input = {
         .script = SENGADLIT_TAG('L', 'a', 't', 'n'), .direction = SENGADLIT_DIRECTION_LTR,
-        .gsub = {.features = &liga, .features_length = 1},
-        .gpos = {.chosen_script = SENGADLIT_TAG('l', 'a', 't', 'n'), .features = &kern, .features_length = 1}};
+        .gsub = {.has_table = 1, .features = &liga, .features_length = 1},
+        .gpos = {.has_table = 1, .chosen_script = SENGADLIT_TAG('l', 'a', 't', 'n'), .features = &kern, .features_length = 1}};
 
     whole = sengadlit_shape_plan_create(&input, NULL);
 }

@@ -30,6 +30,7 @@ static sengadlit_shape_plan_input_t khmer(void)
 
     input.script = SENGADLIT_TAG('K', 'h', 'm', 'r');
     input.direction = SENGADLIT_DIRECTION_LTR;
+    input.gsub.has_table = 1;
     input.gsub.chosen_script = SENGADLIT_TAG('k', 'h', 'm', 'r');
     input.gsub.found_script = 1;
     input.gsub.features = &pres;
@@ -45,6 +46,7 @@ static sengadlit_shape_plan_t *latin(sengadlit_bool_t has_gpos)
 
     input.script = SENGADLIT_TAG('L', 'a', 't', 'n');
     input.direction = SENGADLIT_DIRECTION_LTR;
+    input.gpos.has_table = has_gpos;
     input.gpos.chosen_script = has_gpos ? SENGADLIT_TAG('l', 'a', 't', 'n') : 0;
     input.gpos.features = &kern;
     input.gpos.features_length = has_gpos ? 1 : 0;

@@ -189,6 +189,7 @@ static void shape_whole()
 
     input.script = SENGADLIT_TAG('L', 'a', 't', 'n');
     input.direction = SENGADLIT_DIRECTION_LTR;
+    input.gsub.has_table = 1;
     input.gsub.features = &liga;
     input.gsub.features_length = 1;
     input.gpos = input.gsub;

@@ -24,6 +24,7 @@
 //! #     fn get_variation_glyph(&self, _: u32, _: u32) -> Option<GlyphId> { None }
 //! # }
 //! # impl FontFeatures for MyFont {
+//! #     fn has_table(&self, table: TableIndex) -> bool { table == TableIndex::GSUB }
 //! #     fn chosen_script(&self, _: TableIndex) -> Option<Tag> { Some(Tag(*b"khmr")) }
 //! #     fn found_script(&self, _: TableIndex) -> bool { true }
 //! #     fn feature_lookups(&self, table: TableIndex, tag: Tag) -> Option<&[u16]> {
@@ -157,6 +158,10 @@ mod tests {
     }
 
     impl FontFeatures for Khmer {
+        fn has_table(&self, _: TableIndex) -> bool {
+            true
+        }
+
         fn chosen_script(&self, _: TableIndex) -> Option<Tag> {
             Some(Tag(*b"khmr"))
         }

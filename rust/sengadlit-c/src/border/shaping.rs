@@ -33,12 +33,13 @@ pub struct TableFeatureInput {
 /// `sengadlit_layout_table_t`.
 #[repr(C)]
 pub struct LayoutTableInput {
+    pub has_table: Bool,
     pub chosen_script: u32,
     pub found_script: Bool,
-    pub features: *const TableFeatureInput,
     pub features_length: c_uint,
-    pub anywhere_length: c_uint,
+    pub features: *const TableFeatureInput,
     pub anywhere: *const TableFeatureInput,
+    pub anywhere_length: c_uint,
     pub required: TableFeatureInput,
 }
 
@@ -87,6 +88,7 @@ fn table_of(input: &LayoutTableInput, place: usize) -> Result<LayoutTable<'_>, E
     let behind = place + input.features_length as usize;
     let required = behind + input.anywhere_length as usize;
     Ok(LayoutTable {
+        has_table: input.has_table != 0,
         chosen_script: input.chosen_script,
         found_script: input.found_script != 0,
         features: features_of(input.features, input.features_length, place)?,
