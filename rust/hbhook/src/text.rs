@@ -224,12 +224,9 @@ fn refusal_of(fault: LineFault) -> ShaperError {
 fn page_of(steps: &Steps, text: &str, context: &Context) -> Result<Page, AllocError> {
     let mut page = Page::from_str(Global, HEAD)?;
     for (i, step) in steps.steps.iter().enumerate() {
-        let heads = step.heads.iter();
-        let heads = heads.map(|head| Line::new(Global, i + 1, head.as_bytes()));
-        write_lines(
-            &mut page,
-            &heads.collect::<Result<Vec<Line>, AllocError>>()?,
-        )?;
+        for head in &step.heads {
+            write_head(&mut page, i, head)?;
+        }
         if i == 0 && !text.is_empty() {
             write_text(&mut page, text, context)?;
         }
@@ -238,6 +235,16 @@ fn page_of(steps: &Steps, text: &str, context: &Context) -> Result<Page, AllocEr
     page.push_str(&steps.legend)?;
     page.push_str(FOOT)?;
     Ok(page)
+}
+
+// Writes what a step is: the line of the text, or the name of a call, which needs no escapes.
+fn write_head(page: &mut Page, step: usize, head: &str) -> Result<(), AllocError> {
+    if step == 0 {
+        return write_lines(page, &[Line::new(Global, 1, head.as_bytes())?]);
+    }
+    page.push_str("<h2><code>")?;
+    page.push_str(head)?;
+    page.push_str("</code></h2>\n")
 }
 
 #[cfg(test)]
