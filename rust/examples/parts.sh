@@ -13,7 +13,7 @@ here=$top/bindings/hooks
 made=$out/examples
 programs=$made/target/release
 needs='librust-bytemuck-dev/sid librust-bytemuck-derive-dev/sid librust-font-types-dev/sid librust-proc-macro2-dev/sid
-    librust-quote-dev/sid librust-read-fonts-dev/sid librust-syn-dev/sid librust-unicode-ident-dev/sid'
+    librust-once-cell-dev/sid librust-quote-dev/sid librust-read-fonts-dev/sid librust-syn-dev/sid librust-unicode-ident-dev/sid'
 
 # What can't be fetched isn't tested, and the status tells so.
 skip() {

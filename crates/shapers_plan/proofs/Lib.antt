@@ -7,3 +7,4 @@ mod RequestRows
 mod MaskRows
 mod StageRows
 mod CollectingRows
+mod GposRows

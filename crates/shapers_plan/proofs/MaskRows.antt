@@ -14,7 +14,7 @@ is_tag tag t = pointwise nat_eq t.0 (codes tag)
 
 -- a font whose script has every feature but salt and vert; vert is another script's
 abbrev font : FontTables
-font = record { chosen = λ _. None; found = λ _. false; lookups = λ _ t. if is_tag "salt" t || is_tag "vert" t then None else Some (7 ∷ []); anywhere = λ _ t. if is_tag "vert" t then Some (9 ∷ []) else None; required = λ _. None; required_lookups = λ _. [] }
+font = record { there = λ _. true; chosen = λ _. None; found = λ _. false; lookups = λ _ t. if is_tag "salt" t || is_tag "vert" t then None else Some (7 ∷ []); anywhere = λ _ t. if is_tag "vert" t then Some (9 ∷ []) else None; required = λ _. None; required_lookups = λ _. [] }
 
 abbrev info : String → ℕ → Bool → Bool → ℕ → ℕ → FeatureInfo
 info tag flags is_global has_fallback max_value default_value = record { tag = record { 0 = codes tag }; flags = flags; is_global = is_global; has_fallback = has_fallback; max_value = max_value; default_value = default_value; stage = 1 }

@@ -14,7 +14,7 @@ use Rattle.shapers_plan.specs.declared.ot_map.requests.FeatureInfo.{FeatureInfo}
 
 -- ccmp has the lookups 5 and 2, locl has 5, and the script requires lookup 3
 abbrev font : FontTables
-font = record { chosen = λ _. None; found = λ _. false; lookups = λ _ t. if pointwise nat_eq t.0 (codes "ccmp") then Some (5 ∷ 2 ∷ []) else Some (5 ∷ []); anywhere = λ _ _. None; required = λ _. Some (record { 0 = codes "hist" }); required_lookups = λ _. 3 ∷ [] }
+font = record { there = λ _. true; chosen = λ _. None; found = λ _. false; lookups = λ _ t. if pointwise nat_eq t.0 (codes "ccmp") then Some (5 ∷ 2 ∷ []) else Some (5 ∷ []); anywhere = λ _ _. None; required = λ _. Some (record { 0 = codes "hist" }); required_lookups = λ _. 3 ∷ [] }
 
 abbrev feature : String → ℕ → ℕ → ℕ → MappedFeature
 feature tag flags mask stage = record { tag = record { 0 = codes tag }; flags = flags; mask = mask; one_mask = mask; default_value = 0; stage = stage }

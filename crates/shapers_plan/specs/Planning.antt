@@ -1,6 +1,6 @@
 -- The plan of a text (HarfBuzz, hb-ot-shape.cc).
 use Prim.Native.String.{String}
-use Rattle.std.specs.Prelude.{ℕ, ◌==◌, Bool, not, List, Option, None, codes, find, option_map, if◌then◌else◌}
+use Rattle.std.specs.Prelude.{ℕ, ◌==◌, ◌&&◌, Bool, true, false, not, List, Option, None, Some, codes, find, option_map, if◌then◌else◌}
 use Rattle.std.specs.List.{filter_map}
 use Rattle.std.specs.Option.{option_map_or}
 use Rattle.shapers_buffer.specs.declared.buffer.level.Direction.{Direction}
@@ -8,10 +8,11 @@ use Rattle.shapers_buffer.specs.declared.buffer.tag.Script.{Script}
 use Rattle.shapers_buffer.specs.declared.buffer.tag.hb_tag_t.{hb_tag_t}
 use Rattle.shapers_base.specs.Map.{Map, mask_of, same_tag}
 use Rattle.shapers_base.specs.Plan.{new_plan}
-use Rattle.shapers_base.specs.declared.map.TableIndex.TheVariants.{GSUB}
+use Rattle.shapers_base.specs.declared.map.TableIndex.TheVariants.{GPOS, GSUB}
 use Rattle.shapers_base.specs.declared.plan.hb_ot_shape_plan_t.{hb_ot_shape_plan_t}
 use Rattle.shapers_base.specs.declared.plan.planner.Request.{Request}
 use Rattle.rustybuzz_shapers.specs.Hooks.{data_created, with_created}
+use Rattle.rustybuzz_shapers.specs.Records.{wants_gpos_script}
 use Rattle.rustybuzz_shapers.specs.declared.shaper.hb_ot_shaper_t.{hb_ot_shaper_t}
 use Rattle.shapers_plan.specs.Collecting.{is_for_all, requests_for, text_shaper}
 use Rattle.shapers_plan.specs.Compiling.{features_for, lookups_for, map_for, positioning_for, stages_for}
@@ -45,6 +46,18 @@ hooks_plan shaper script map =
     record bare { has_gpos_mark = not (one_mask_of "mark" map == 0) } in
     option_map_or (λ s. with_created (data_created s plan) plan) shaper plan
 
+-- whether a shaper that wants this script in GPOS, or any, takes the one that was chosen there
+abbrev pub suits : Option hb_tag_t → Option hb_tag_t → Bool
+suits None chosen = true
+suits (Some wanted) None = false
+suits (Some wanted) (Some tag) = same_tag tag wanted
+
+-- whether GPOS is applied: the font has it, and the shaper takes the script chosen there
+abbrev pub takes_gpos : FontTables → Option hb_ot_shaper_t → Bool
+takes_gpos tables shaper =
+    tables.there GPOS
+    && option_map_or (λ s. suits (wants_gpos_script s) (tables.chosen GPOS)) shaper true
+
 -- the bits of a mapped feature in a range
 abbrev pub range_with : UserFeature → MappedFeature → UserRange
 range_with user feature = record {
@@ -68,6 +81,7 @@ plan_of_requests tables shaper script direction users rs = record {
   direction = direction;
   stages = stages_for tables rs;
   lookups = lookups_for tables rs;
+  applies_gpos = takes_gpos tables shaper;
   positioning = positioning_for tables rs;
   masks = driver_masks (map_for tables rs);
   ranges = filter_map (range_of_user (features_for tables rs)) users;

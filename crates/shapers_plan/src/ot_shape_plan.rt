@@ -6,7 +6,7 @@ ghost use Rattle.shapers_plan.specs.Planning.{text_plan};
 
 use crate::ot_map::{CompiledMap, FontFeatures, Stage, StageLookup};
 use collecting::{collect, text_shaper};
-use making::{driver_masks, hooks_plan, user_ranges};
+use making::{driver_masks, hooks_plan, takes_gpos, user_ranges};
 use rustybuzz_shapers::shaper::hb_ot_shaper_t;
 use shapers_base::buffer::{Direction, Script, ShaperError};
 use shapers_base::font::hb_font_t;
@@ -44,6 +44,7 @@ pub struct ShapePlan {
     direction: Direction,
     substitutions: Vec<Stage>,
     lookups: Vec<StageLookup>,
+    applies_gpos: bool,
     positioning: Vec<StageLookup>,
     masks: DriverMasks,
     ranges: Vec<UserRange>,
@@ -62,6 +63,7 @@ impl Model for ShapePlan {
       direction = p.direction;
       stages = p.substitutions.items;
       lookups = p.lookups.items;
+      applies_gpos = p.applies_gpos;
       positioning = p.positioning.items;
       masks = p.masks;
       ranges = p.ranges.items;
@@ -101,6 +103,7 @@ impl ShapePlan {
             direction,
             substitutions: compiled.stages,
             lookups: compiled.lookups,
+            applies_gpos: takes_gpos(shaper, features),
             positioning: compiled.positioning,
             masks,
             ranges,
@@ -145,6 +148,14 @@ impl ShapePlan {
         ensures { result.now ≡ self.now.lookups }
     {
         self.lookups.as_slice()
+    }
+
+    /// Whether GPOS is applied: the font has it, and the shaper takes the script chosen there.
+    #[inline]
+    pub fn applies_gpos(&self) -> bool
+        ensures { result ≡ self.now.applies_gpos }
+    {
+        self.applies_gpos
     }
 
     /// The lookups of GPOS.

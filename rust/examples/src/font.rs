@@ -1,6 +1,6 @@
-//! A font file for one script, as the hooks, normalization and the driver read it.
+//! A font file for one script, as the plan, hooks and normalization read it.
 
-use crate::driver::{Lookups, ScriptFeatures};
+use crate::features::Features;
 use crate::lookups::Layout;
 use read_fonts::tables::cmap::{Cmap14, CmapSubtable, MapVariant};
 use read_fonts::tables::gdef::CaretValue;
@@ -9,15 +9,17 @@ use read_fonts::types::GlyphId16;
 use read_fonts::{FontRef, ReadError, TableProvider};
 use sengadlit::map::TableIndex;
 use sengadlit::ot_shape_normalize::NormalizeFont;
+use sengadlit::ot_shape_plan::FontFeatures;
 use sengadlit::{Font, GlyphId, Script, Tag};
 
-/// A font of OpenType, and its features for one script.
+/// A font of OpenType, for one script.
 pub struct OpenType<'a> {
     pub file: FontRef<'a>,
     characters: Option<CmapSubtable<'a>>,
     variants: Option<Cmap14<'a>>,
     metrics: Hmtx<'a>,
-    /// Its lookups.
+    /// Its features for the script, and its lookups.
+    pub features: Features,
     pub layout: Layout<'a>,
 }
 
@@ -34,7 +36,8 @@ impl<'a> OpenType<'a> {
             characters: characters.best_subtable().map(|(_, _, subtable)| subtable),
             variants: characters.uvs_subtable().map(|(_, subtable)| subtable),
             metrics: file.hmtx()?,
-            layout: Layout::new(&file, script),
+            features: Features::new(&file, script),
+            layout: Layout::new(&file),
             file,
         })
     }
@@ -84,8 +87,7 @@ impl Font for OpenType<'_> {
 
     fn has_feature(&self, tag: Tag) -> bool {
         let mut tables = [TableIndex::GSUB, TableIndex::GPOS].into_iter();
-        let has = |script: &ScriptFeatures| script.lookups(tag).is_some();
-        tables.any(|table| self.layout.script(table).is_some_and(has))
+        tables.any(|table| self.features.feature_lookups(table, tag).is_some())
     }
 }
 

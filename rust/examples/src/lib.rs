@@ -1,9 +1,10 @@
-//! Real fonts, shaped with `sengadlit`: a small GSUB and GPOS over read-fonts, a driver of all
-//! steps, and outlines.
+//! Real fonts, shaped with `sengadlit`: a small GSUB and GPOS over read-fonts, positions, and
+//! outlines.
 #![forbid(unsafe_code)]
 
 pub mod arguments;
 pub mod driver;
+pub mod features;
 pub mod font;
 pub mod lookups;
 pub mod outlines;
@@ -12,5 +13,5 @@ pub mod run;
 pub mod scripts;
 pub mod svg;
 
-pub use driver::{Lookups, Settings, ShapePlan, StageLookup, shape};
+pub use driver::shape;
 pub use font::OpenType;

@@ -2,8 +2,8 @@
 //! ligature substitutions; single, pair and cursive positions, marks on bases, ligatures and marks;
 //! contexts and chained contexts of all formats.
 //!
-//! Left out are reverse chains, random alternates, language systems but the default one, feature
-//! variations, devices and variations of positions, vertical text, and the flag `unsafe to concat`.
+//! Left out are reverse chains, random alternates, feature variations, devices and variations of
+//! positions, vertical text, and the flag `unsafe to concat`.
 
 mod gpos;
 mod gsub;
@@ -14,24 +14,35 @@ mod rules;
 
 pub use layout::Layout;
 
-use crate::driver::{Lookups, ScriptFeatures, StageLookup};
 use layout::number;
 use notes::Notes;
 use pass::Pass;
 use read_fonts::tables::gdef::GlyphClassDef as GlyphClass;
 use sengadlit::map::TableIndex;
+use sengadlit::ot_shape::Lookups;
+use sengadlit::ot_shape_plan::StageLookup;
+use sengadlit::ot_shape_position::GlyphClasses;
 use sengadlit::{Buffer, GeneralCategory, GlyphInfo, ShaperError};
 
 impl Lookups for Layout<'_> {
-    fn script(&self, table: TableIndex) -> Option<&ScriptFeatures> {
-        match table {
-            TableIndex::GSUB => self.substitutions.as_ref(),
-            TableIndex::GPOS => self.positions.as_ref(),
-        }
+    fn substitute(&self, lookup: &StageLookup, buffer: &mut Buffer) -> Result<(), ShaperError> {
+        let mut text = buffer.copy()?;
+        Pass::new(self, TableIndex::GSUB, *lookup, &mut text).run()?;
+        *buffer = text;
+        Ok(())
     }
+}
 
-    // Of a font without classes nonspacing marks are marks, and all else is a base.
-    fn start(&self, buffer: &mut Buffer) {
+impl GlyphClasses for Layout<'_> {
+    fn is_mark(&self, glyph: &GlyphInfo) -> bool {
+        Notes::of(glyph).is_mark()
+    }
+}
+
+impl Layout<'_> {
+    /// Begins with a text, whose characters have become glyphs. Of a font without classes nonspacing
+    /// marks are marks, and all else is a base.
+    pub fn start(&self, buffer: &mut Buffer) {
         let guess = |glyph: &GlyphInfo| match glyph.general_category {
             GeneralCategory::Mn if !glyph.marks.is_ignorable() => GlyphClass::Mark,
             _ => GlyphClass::Base,
@@ -44,22 +55,21 @@ impl Lookups for Layout<'_> {
         });
     }
 
-    fn substitute(&self, lookup: &StageLookup, buffer: &mut Buffer) -> Result<(), ShaperError> {
-        let mut text = buffer.copy()?;
-        Pass::new(self, TableIndex::GSUB, *lookup, &mut text).run()?;
-        *buffer = text;
-        Ok(())
-    }
-
-    fn position(&self, lookup: &StageLookup, buffer: &mut Buffer) -> Result<(), ShaperError> {
+    /// Applies one lookup of GPOS.
+    ///
+    /// # Errors
+    ///
+    /// None: nothing gets longer.
+    pub fn position_all(
+        &self,
+        lookup: &StageLookup,
+        buffer: &mut Buffer,
+    ) -> Result<(), ShaperError> {
         Pass::new(self, TableIndex::GPOS, *lookup, buffer).run()
     }
 
-    fn is_mark(&self, glyph: &GlyphInfo) -> bool {
-        Notes::of(glyph).is_mark()
-    }
-
-    fn finish_positions(&self, buffer: &mut Buffer) {
+    /// Moves what is attached to other glyphs, behind the last lookup of GPOS.
+    pub fn finish_positions(&self, buffer: &mut Buffer) {
         gpos::finish_offsets(buffer);
     }
 }

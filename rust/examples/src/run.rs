@@ -1,12 +1,13 @@
 //! A text of one script, shaped: its clusters in the order of the text, and any part of it shaped
 //! again alone.
 
-use crate::driver::{Settings, ShapePlan, shape};
+use crate::driver::shape;
 use crate::font::OpenType;
+use sengadlit::alloc::Global;
 use sengadlit::buffer::glyph_flag;
-use sengadlit::ot_shape_normalize::Rounds;
+use sengadlit::ot_shape_normalize::{NormalizeSettings, Rounds};
+use sengadlit::ot_shape_plan::ShapePlan;
 use sengadlit::ot_shape_prepare::set_unicode_properties;
-use sengadlit::plan::BreakFlags;
 use sengadlit::unicode::UnicodeTables;
 use sengadlit::{Buffer, Direction, GlyphInfo, GlyphPosition, Script};
 use std::error::Error;
@@ -34,11 +35,12 @@ impl Cluster {
     }
 }
 
-/// A font and a plan, which shape texts of a script. Where a line may be broken is flagged soundly:
-/// where no flag is, the halves shaped alone are the whole.
+/// A font and a plan, which shape texts of a script. All rounds of normalization run, so that a letter
+/// becomes the same in a part of a text as in the whole.
 pub struct Shaping<'f, 'a> {
     pub font: &'f OpenType<'a>,
     plan: ShapePlan,
+    script: Script,
     pub direction: Direction,
 }
 
@@ -51,13 +53,8 @@ impl<'f, 'a> Shaping<'f, 'a> {
         script: Script,
         direction: Direction,
     ) -> Result<Self, Box<dyn Error>> {
-        let settings = Settings {
-            break_flags: BreakFlags::Sound,
-            rounds: Rounds::Always,
-            ..Settings::default()
-        };
-        let plan = ShapePlan::new(font, &font.layout, script, direction, settings)?;
-        Ok(Shaping { font, plan, direction })
+        let plan = ShapePlan::new(Global, Some(script), direction, font, &font.features, &[])?;
+        Ok(Shaping { font, plan, script, direction })
     }
 
     /// The clusters of a part of a text, shaped alone, in the order of the text.
@@ -67,8 +64,11 @@ impl<'f, 'a> Shaping<'f, 'a> {
     /// Those of [`shape`].
     pub fn clusters(&self, text: &str, part: Range<usize>) -> Result<Vec<Cluster>, Box<dyn Error>> {
         let mut buffer = Buffer::default();
+        buffer.set_script(Some(self.script));
+        buffer.set_direction(self.direction);
         buffer.push_str(&text[part.clone()])?;
-        shape(&self.plan, self.font, &UnicodeTables, &self.font.layout, &mut buffer)?;
+        let settings = NormalizeSettings { rounds: Rounds::Always, ..Default::default() };
+        shape(&self.plan, &settings, self.font, &mut buffer)?;
         let glyphs: Glyphs =
             buffer.iter().copied().zip(buffer.positions().iter().copied()).collect();
         let mut clusters: Vec<Cluster> = glyphs

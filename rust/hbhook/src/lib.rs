@@ -5,8 +5,9 @@
 //! [`run_lines`] prints the glyphs that are left, [`explain_lines`] also what was expected of a
 //! rejected line, and [`draw_lines`] writes a page of HTML that shows what each hook did.
 //! [`explain_end`] names the field of a rejected line, and [`without_table`] the characters of the
-//! texts that no `table` line is about. [`lines_of_word`] makes the lines that a word takes, and
-//! [`Steps`] has what the page of bindings/page shows.
+//! texts that no `table` line is about. [`lines_of_word`] makes the lines that a word takes;
+//! [`print_text`] and [`draw_text`] take a text the whole way up to a font's lookups, without lines;
+//! and [`Steps`] has what the page of bindings/page shows.
 //!
 //! ```
 //! use sengadlit::alloc::Global;
@@ -37,10 +38,13 @@ mod generated {
 mod explained;
 mod steps;
 mod support;
+mod text;
+mod whole_font;
 mod word;
 
 pub use explained::{explain_end, without_table};
 pub use generated::hbhook_draw::draw_lines;
 pub use generated::hbhook_lines::{explain_lines, run_lines};
 pub use steps::{Choices, MOST_SHOWN, Step, Steps, drawing_style};
-pub use word::{lines_of_word, scripts_with_hooks};
+pub use text::{TextFault, draw_text, print_text};
+pub use word::{lines_of_word, script_named, scripts_with_hooks};

@@ -2,7 +2,10 @@
 
 #![forbid(unsafe_code)]
 
-use hbhook::{draw_lines, explain_end, lines_of_word, run_lines, without_table};
+use hbhook::{
+    TextFault, draw_lines, draw_text, explain_end, lines_of_word, print_text, run_lines,
+    script_named, without_table,
+};
 use sengadlit::alloc::Global;
 use std::env;
 use std::ffi::{OsStr, OsString};
@@ -18,6 +21,9 @@ usage: hbhook [FILE]            runs the lines of the file, and prints the glyph
        hbhook --why [FILE]      does that, and lists the characters without a `table` line
        hbhook --draw [FILE]     runs them, and writes a page of HTML that shows what each hook did;
                                 also with --explain or --why
+       hbhook --text TEXT       does all to the text that comes before a font's lookups, and runs the
+                                pauses between them; also with --draw, and with --script SCRIPT,
+                                a name or a code: khmer, Khmr
        hbhook --word TEXT       runs the hooks of the text's script over it; also with --draw
        hbhook --lines TEXT      prints the lines that do that
        hbhook --help            prints this
@@ -26,8 +32,9 @@ For FILE - or nothing: the lines of standard input. Status: 0; 1 after a refusal
 an argument is rejected, the input can't be read, or the output can't be written.
 ";
 
-// The exit status for bad arguments and for a file that can't be read.
+// The exit status for bad arguments and for a file that can't be read, and that of a refusal.
 const UNREADABLE: u8 = 2;
+const REFUSED: u8 = 1;
 
 // What to do with the lines.
 #[derive(Clone, Copy, Default)]
@@ -67,6 +74,23 @@ impl Task {
         match io::stderr().write_all(self.told(&input.kept, status).as_bytes()) {
             Ok(()) => status,
             Err(_) => UNREADABLE,
+        }
+    }
+
+    // Prints or draws the glyphs of a text, and returns the exit status.
+    fn carry_out_text(self, text: &str, script: Option<[u8; 4]>) -> u8 {
+        let done = if self.draws {
+            draw_text(text, script)
+        } else {
+            print_text(text, script)
+        };
+        let fault = match done {
+            Ok(output) => return print(&output),
+            Err(fault) => fault,
+        };
+        match io::stderr().write_all(format!("{fault}\n").as_bytes()) {
+            Ok(()) if fault != TextFault::NoScript => REFUSED,
+            _ => UNREADABLE,
         }
     }
 
@@ -139,20 +163,31 @@ fn run(arguments: &[OsString]) -> Result<u8, String> {
     }
     let mut task = Task::default();
     let (mut files, mut lines) = (Vec::new(), None);
+    let (mut text, mut script) = (None, None);
     let mut arguments = arguments.iter();
     while let Some(argument) = arguments.next() {
         let is_option = argument.as_encoded_bytes().starts_with(b"-") && argument != "-";
         if !is_option {
             files.push(argument);
         } else if argument == "--word" || argument == "--lines" {
-            let text = arguments
-                .next()
-                .ok_or("a text is missing (hbhook --help)")?;
             task.prints_lines |= argument == "--lines";
-            lines = Some(lines_of(text)?);
+            lines = Some(lines_of(text_behind(&mut arguments)?)?);
+        } else if argument == "--text" {
+            text = Some(text_behind(&mut arguments)?);
+        } else if argument == "--script" {
+            script = Some(script_of(arguments.next())?);
         } else if !task.add(argument) {
             return Err(no_option(argument));
         }
+    }
+    if let Some(text) = text {
+        return match (&files[..], lines) {
+            ([], None) => Ok(task.carry_out_text(text, script)),
+            _ => Err("a text alone, without a file or a word (hbhook --help)".into()),
+        };
+    }
+    if script.is_some() {
+        return Err("--script goes with --text (hbhook --help)".into());
     }
     match (&files[..], lines) {
         ([], Some(lines)) if task.prints_lines => Ok(print(&lines)),
@@ -165,9 +200,26 @@ fn run(arguments: &[OsString]) -> Result<u8, String> {
     }
 }
 
+// The text behind an option.
+fn text_behind<'a>(
+    arguments: &mut impl Iterator<Item = &'a OsString>,
+) -> Result<&'a str, &'static str> {
+    let text = arguments
+        .next()
+        .ok_or("a text is missing (hbhook --help)")?;
+    text.to_str().ok_or("the text isn't of UTF-8")
+}
+
+// The script that an argument names.
+fn script_of(name: Option<&OsString>) -> Result<[u8; 4], String> {
+    let name = name.ok_or("a script is missing (hbhook --help)")?;
+    let script = name.to_str().and_then(script_named);
+    let shown = Path::new(name).display();
+    script.ok_or_else(|| format!("no script is named {shown}; khmer and Khmr name one"))
+}
+
 // The lines of a text that is an argument.
-fn lines_of(text: &OsStr) -> Result<String, String> {
-    let text = text.to_str().ok_or("the text isn't of UTF-8")?;
+fn lines_of(text: &str) -> Result<String, String> {
     lines_of_word(text).ok_or_else(|| {
         format!("no script with hooks is known of `{text}`; docs/HBHOOK.md shows its lines")
     })
@@ -179,7 +231,7 @@ fn no_option(argument: &OsStr) -> String {
     if argument == "--help" || argument == "-h" {
         return format!("{name} takes no other argument");
     }
-    format!("there is no option {name}; there are --draw, --why and --word (hbhook --help)")
+    format!("there is no option {name}; there are --draw, --text, --why and --word (hbhook --help)")
 }
 
 fn print(text: &str) -> u8 {

@@ -15,9 +15,9 @@ use crate::word::{PREPROCESS, Route, line_of_text, script_of_word};
 use calls::{Call, Prepared};
 use glyph::Names;
 use sengadlit::ot_shape_normalize::Rounds;
-use sengadlit::{Direction, GlyphInfo, Script, Shaper, ShaperError};
+use sengadlit::{Direction, GlyphInfo, Shaper, ShaperError};
 use std::collections::BTreeSet;
-use walk::Walk;
+pub(crate) use walk::Walk;
 
 /// The most characters that [`Steps::of_text`] takes of a text, and the most glyphs of a row.
 pub const MOST_SHOWN: usize = 2_000;

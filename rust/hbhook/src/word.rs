@@ -54,11 +54,63 @@ const SCRIPTS: [(char, char, [u8; 4]); 44] = [
     ('\u{1E900}', '\u{1E95F}', *b"Adlm"),
 ];
 
+// The names of these scripts in Unicode, each with its code.
+const NAMES: [(&str, [u8; 4]); 43] = [
+    ("Hebrew", *b"Hebr"),
+    ("Arabic", *b"Arab"),
+    ("Syriac", *b"Syrc"),
+    ("Nko", *b"Nkoo"),
+    ("Mandaic", *b"Mand"),
+    ("Devanagari", *b"Deva"),
+    ("Bengali", *b"Beng"),
+    ("Gurmukhi", *b"Guru"),
+    ("Gujarati", *b"Gujr"),
+    ("Oriya", *b"Orya"),
+    ("Tamil", *b"Taml"),
+    ("Telugu", *b"Telu"),
+    ("Kannada", *b"Knda"),
+    ("Malayalam", *b"Mlym"),
+    ("Sinhala", *b"Sinh"),
+    ("Thai", *b"Thai"),
+    ("Lao", *b"Laoo"),
+    ("Tibetan", *b"Tibt"),
+    ("Myanmar", *b"Mymr"),
+    ("Hangul", *b"Hang"),
+    ("Tagalog", *b"Tglg"),
+    ("Khmer", *b"Khmr"),
+    ("Mongolian", *b"Mong"),
+    ("Limbu", *b"Limb"),
+    ("Tai_Le", *b"Tale"),
+    ("Buginese", *b"Bugi"),
+    ("Tai_Tham", *b"Lana"),
+    ("Balinese", *b"Bali"),
+    ("Sundanese", *b"Sund"),
+    ("Batak", *b"Batk"),
+    ("Lepcha", *b"Lepc"),
+    ("Tifinagh", *b"Tfng"),
+    ("Syloti_Nagri", *b"Sylo"),
+    ("Saurashtra", *b"Saur"),
+    ("Kayah_Li", *b"Kali"),
+    ("Rejang", *b"Rjng"),
+    ("Javanese", *b"Java"),
+    ("Cham", *b"Cham"),
+    ("Tai_Viet", *b"Tavt"),
+    ("Meetei_Mayek", *b"Mtei"),
+    ("Chakma", *b"Cakm"),
+    ("Newa", *b"Newa"),
+    ("Adlam", *b"Adlm"),
+];
+
 /// The line of the hook before normalization.
 pub(crate) const PREPROCESS: &str = "run preprocess";
 
-/// The scripts of these whose text runs from right to left.
-pub(crate) const FROM_RIGHT: [&[u8; 4]; 6] = [b"Hebr", b"Arab", b"Syrc", b"Nkoo", b"Mand", b"Adlm"];
+// The scripts of these whose text runs from right to left.
+const FROM_RIGHT: [&[u8; 4]; 6] = [b"Hebr", b"Arab", b"Syrc", b"Nkoo", b"Mand", b"Adlm"];
+
+/// Whether a script's text runs from right to left.
+pub(crate) fn runs_from_right(script: Script) -> bool {
+    FROM_RIGHT.contains(&&script.0)
+}
 
 /// The lines that run the hooks of a word's script over it, in the order of a pipeline: what comes
 /// before normalization, masks, and the pauses that set syllables up and reorder them. The features
@@ -89,6 +141,27 @@ pub fn scripts_with_hooks() -> Vec<[u8; 4]> {
     codes.sort_unstable();
     codes.dedup();
     codes
+}
+
+/// The code of a script, from its name in Unicode or from the code itself, in any case: `khmer`,
+/// `tai tham`, `Khmr`. A code of four letters may be of any script.
+#[must_use]
+pub fn script_named(name: &str) -> Option<[u8; 4]> {
+    let of_name = |known: &str| {
+        known
+            .replace('_', " ")
+            .eq_ignore_ascii_case(&name.replace(['_', '-'], " "))
+    };
+    if let Some(row) = NAMES.iter().find(|row| of_name(row.0)) {
+        return Some(row.1);
+    }
+    let mut code: [u8; 4] = name.as_bytes().try_into().ok()?;
+    if !code.iter().all(u8::is_ascii_alphabetic) {
+        return None;
+    }
+    code.make_ascii_lowercase();
+    code[0].make_ascii_uppercase();
+    Some(code)
 }
 
 /// The way of a script's text through its hooks: the shaper, and the lines before and behind the
@@ -125,7 +198,7 @@ fn settings_of(shaper: Shaper, code: [u8; 4], features: &[Tag]) -> Vec<String> {
     let mut lines = vec!["set tables unicode".into()];
     lines.push(format!("set shaper {}", name_of(shaper)));
     lines.push(format!("set script {}", String::from_utf8_lossy(&code)));
-    if FROM_RIGHT.contains(&&code) {
+    if runs_from_right(Script(code)) {
         lines.push("set direction rtl".into());
     }
     let masks = features.iter().zip(4..32);
@@ -159,8 +232,8 @@ fn script_of(character: char) -> Option<[u8; 4]> {
     Some(row.2)
 }
 
-// What the program calls a shaper.
-fn name_of(shaper: Shaper) -> &'static str {
+/// What the program calls a shaper.
+pub(crate) fn name_of(shaper: Shaper) -> &'static str {
     match shaper {
         Shaper::Arabic => "arabic",
         Shaper::Hangul => "hangul",
@@ -174,15 +247,15 @@ fn name_of(shaper: Shaper) -> &'static str {
     }
 }
 
-// What a shaper requests for a script: the features that its hooks turn on glyph by glyph, and the
-// pauses that do something without lookups.
-struct Planned {
-    features: Vec<Tag>,
+/// What a shaper requests for a script: the features that its hooks turn on glyph by glyph, and the
+/// pauses that do something without lookups.
+pub(crate) struct Planned {
+    pub(crate) features: Vec<Tag>,
     pauses: Vec<&'static str>,
 }
 
 impl Planned {
-    fn of(shaper: Shaper, script: Script) -> Option<Self> {
+    pub(crate) fn of(shaper: Shaper, script: Script) -> Option<Self> {
         let mut planner = Planner::new(Global, Some(script));
         shaper
             .collect_features(&FeaturesOnly(|_: Tag| true), &mut planner)
@@ -196,31 +269,47 @@ impl Planned {
                 Request::Feature(tag, flags, _) if flags & F_GLOBAL == 0 => {
                     planned.features.push(tag)
                 }
-                Request::Pause(Some(pause)) => planned.pauses.extend(name_of_pause(pause)),
-                Request::Feature(..) | Request::Pause(None) => {}
+                Request::Pause(Some(pause)) if needs_no_lookup(pause) => {
+                    planned.pauses.push(name_of_pause(pause));
+                }
+                Request::Feature(..) | Request::Pause(_) => {}
             }
         }
         Some(planned)
     }
 }
 
-fn name_of_pause(pause: Pause) -> Option<&'static str> {
-    match pause {
-        Pause::SetupSyllablesIndic => Some("setup_syllables_indic"),
-        Pause::SetupSyllablesKhmer => Some("setup_syllables_khmer"),
-        Pause::SetupSyllablesMyanmar => Some("setup_syllables_myanmar"),
-        Pause::SetupSyllablesUse => Some("setup_syllables_use"),
-        Pause::InitialReordering => Some("initial_reordering"),
-        Pause::FinalReordering => Some("final_reordering"),
-        Pause::ReorderKhmer => Some("reorder_khmer"),
-        Pause::ReorderMyanmar => Some("reorder_myanmar"),
-        Pause::ReorderUse => Some("reorder_use"),
+// Whether a pause does something to a text that no lookup was applied to.
+fn needs_no_lookup(pause: Pause) -> bool {
+    !matches!(
+        pause,
         Pause::RecordStch
-        | Pause::RecordRphf
-        | Pause::RecordPref
-        | Pause::SyllabicClearVar
-        | Pause::ClearSubstitutionFlags
-        | Pause::ArabicFallbackShape => None,
+            | Pause::RecordRphf
+            | Pause::RecordPref
+            | Pause::SyllabicClearVar
+            | Pause::ClearSubstitutionFlags
+            | Pause::ArabicFallbackShape
+    )
+}
+
+/// What the program calls a pause.
+pub(crate) fn name_of_pause(pause: Pause) -> &'static str {
+    match pause {
+        Pause::SetupSyllablesIndic => "setup_syllables_indic",
+        Pause::SetupSyllablesKhmer => "setup_syllables_khmer",
+        Pause::SetupSyllablesMyanmar => "setup_syllables_myanmar",
+        Pause::SetupSyllablesUse => "setup_syllables_use",
+        Pause::InitialReordering => "initial_reordering",
+        Pause::FinalReordering => "final_reordering",
+        Pause::ReorderKhmer => "reorder_khmer",
+        Pause::ReorderMyanmar => "reorder_myanmar",
+        Pause::ReorderUse => "reorder_use",
+        Pause::RecordStch => "record_stch",
+        Pause::RecordRphf => "record_rphf",
+        Pause::RecordPref => "record_pref",
+        Pause::SyllabicClearVar => "syllabic_clear_var",
+        Pause::ClearSubstitutionFlags => "clear_substitution_flags",
+        Pause::ArabicFallbackShape => "arabic_fallback_shape",
     }
 }
 
@@ -271,7 +360,7 @@ pub(crate) fn line_of_text(text: &str) -> String {
 
 #[cfg(test)]
 mod tests {
-    use super::{SCRIPTS, lines_of_word};
+    use super::{NAMES, SCRIPTS, lines_of_word, script_named};
     use std::fs;
     use std::path::Path;
 
@@ -284,6 +373,19 @@ mod tests {
         is_in_name
             || [("Tai_Tham", *b"Lana"), ("Lao", *b"Laoo"), ("Nko", *b"Nkoo")]
                 .contains(&(name, code))
+    }
+
+    #[test]
+    fn a_script_has_a_name_and_a_code() {
+        for name in ["khmer", "Khmer", "khmr", "KHMR"] {
+            assert_eq!(script_named(name), Some(*b"Khmr"), "{name}");
+        }
+        assert_eq!(script_named("tai tham"), Some(*b"Lana"));
+        assert_eq!(script_named("Meetei-Mayek"), Some(*b"Mtei"));
+        assert_eq!(script_named("latn"), Some(*b"Latn"));
+        for name in ["", "khm", "klingon", "khm1"] {
+            assert_eq!(script_named(name), None, "{name}");
+        }
     }
 
     #[test]
@@ -309,7 +411,7 @@ mod tests {
                     .find(|row| (row.0..=row.1).contains(&u32::from(end)));
                 let name = found.map(|row| row.2);
                 assert!(
-                    name.is_some_and(|name| has_code(name, code)),
+                    name.is_some_and(|name| has_code(name, code) && NAMES.contains(&(name, code))),
                     "{end:?} {name:?} {code:?}"
                 );
             }

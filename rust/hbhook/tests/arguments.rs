@@ -22,7 +22,7 @@ fn rejects_bad_arguments() {
     for arguments in [&["--what"][..], &["--why", "--what"], &["a", "--what"]] {
         expect_rejected(
             arguments,
-            "there is no option --what; there are --draw, --why and --word (hbhook --help)",
+            "there is no option --what; there are --draw, --text, --why and --word (hbhook --help)",
         );
     }
     expect_rejected(&["no such file"], "there is no file no such file");
@@ -55,6 +55,45 @@ fn runs_a_word() {
     assert_eq!(Run::new(&["--explain"], &lines.printed), word);
     let drawn = Run::new(&["--draw", "--word", "\u{0D9A}\u{0DD9}"], "");
     assert_eq!(drawn.printed, Run::new(&["--draw"], &lines.printed).printed);
+}
+
+#[test]
+fn runs_a_text() {
+    // the parts of OO, a letter and a coeng form; graphemes have one cluster
+    let text = "\u{1781}\u{17D2}\u{1798}\u{17C2}\u{179A}";
+    let run = Run::new(&["--text", text, "--script", "khmer"], "");
+    let numbers: Vec<&str> = run.printed.lines().map(|glyph| &glyph[..6]).collect();
+    assert_eq!(numbers, ["17c2 0", "1781 0", "17d2 0", "1798 0", "179a 4"]);
+    assert_eq!((run.told.as_str(), run.status), ("", Some(0)));
+    assert_eq!(Run::new(&["--explain", "--text", text], ""), run);
+    let drawn = Run::new(&["--draw", "--script", "Khmr", "--text", text], "");
+    assert!(drawn.printed.starts_with("<!DOCTYPE html>"));
+    assert!(drawn.printed.ends_with("</html>\n"));
+}
+
+#[test]
+fn rejects_other_texts() {
+    let unknown = Run::new(&["--text", "word"], "");
+    let told = "no script with hooks is known of the text\n";
+    assert_eq!((unknown.told.as_str(), unknown.status), (told, Some(2)));
+    assert!(unknown.printed.is_empty());
+    expect_rejected(&["--text"], "a text is missing (hbhook --help)");
+    expect_rejected(
+        &["--text", "a", "--script"],
+        "a script is missing (hbhook --help)",
+    );
+    expect_rejected(
+        &["--text", "a", "--script", "klingon"],
+        "no script is named klingon; khmer and Khmr name one",
+    );
+    expect_rejected(
+        &["--script", "khmer"],
+        "--script goes with --text (hbhook --help)",
+    );
+    expect_rejected(
+        &["--text", "a", "file"],
+        "a text alone, without a file or a word (hbhook --help)",
+    );
 }
 
 // A word of each shaper: the glyphs' numbers, and the features of the masks.

@@ -52,12 +52,17 @@ fn blocks(page: &str, heading: &str) -> Vec<String> {
 #[test]
 fn pages_say_what_is_printed() {
     let page = fs::read_to_string(from_top("docs/HBHOOK.md")).unwrap();
-    for heading in ["A first script", "Your own word"] {
-        let [script, printed] = &blocks(&page, heading)[..] else {
-            panic!("{heading}")
-        };
-        assert_eq!(&Run::new(&[], script).printed, printed, "{heading}");
-    }
+    let [script, printed] = &blocks(&page, "A first script")[..] else {
+        panic!("a script, and what it prints")
+    };
+    assert_eq!(&Run::new(&[], script).printed, printed);
+    let [printed, lines] = &blocks(&page, "Your own text")[..] else {
+        panic!("what is printed, and the lines of a word")
+    };
+    let text = "\u{1781}\u{17D2}\u{1798}\u{17C2}\u{179A}";
+    let shaped = Run::new(&["--text", text, "--script", "khmer"], "");
+    assert_eq!(&shaped.printed, printed);
+    assert_eq!(&Run::new(&["--lines", text], "").printed, lines);
 }
 
 // The programs that the repository proves have an input of their own, and what they print of it.

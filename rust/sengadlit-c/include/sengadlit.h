@@ -2,9 +2,9 @@
 
    For Arabic and the scripts that join like it, Hangul, Hebrew, the Indic scripts, Khmer, Myanmar, Thai and Lao, and the
    scripts of the Universal Shaping Engine. They are HarfBuzz's hooks under HarfBuzz's names, with its numbers for
-   scripts, directions, cluster levels, flags and categories. Lookups, normalization and positioning are the caller's, and
-   so is the font, which the library calls back. Unicode's tables and the syllables of a text may be the library's or the
-   caller's.
+   scripts, directions, cluster levels, flags and categories. Lookups are the caller's, and so is the font, which the library
+   calls back. Unicode's tables, the syllables of a text, its normalization and what stands around lookups may be the library's
+   or the caller's.
 
    Objects. A plan is made once for a shaper, a script and a font, and doesn't change afterwards: threads may share it. A
    buffer is used by one thread at a time, again and again; its glyphs are read and written in place.
@@ -118,7 +118,7 @@ typedef enum sengadlit_argument_t {
     SENGADLIT_ARGUMENT_INPUT = 17,   /* Null. */
     SENGADLIT_ARGUMENT_FEATURES = 18, /* Null, or the mask of feature `index` has one of the low three bits. */
     SENGADLIT_ARGUMENT_STAGES = 19,  /* Null, or stage `index` isn't a range of the lookups. */
-    SENGADLIT_ARGUMENT_LOOKUPS = 20, /* Null. */
+    SENGADLIT_ARGUMENT_LOOKUPS = 20, /* Null, those of feature `index` are, or a function that the call uses is. */
     SENGADLIT_ARGUMENT_TEXT = 21,    /* Null. */
     SENGADLIT_ARGUMENT_MAX_VALUE = 0x7FFFFFFF
 } sengadlit_argument_t;
@@ -856,6 +856,121 @@ sengadlit_status_t sengadlit_setup_syllables_found(const sengadlit_plan_t *plan,
    are none for a text that isn't empty. STRETCH_OVERFLOW, TOO_LONG, MEMORY. */
 sengadlit_status_t sengadlit_postprocess_glyphs(const sengadlit_plan_t *plan, const sengadlit_font_t *font,
                                                 sengadlit_buffer_t *buffer);
+
+/* ---- From a text to its glyphs ---- */
+
+/* A plan for whole texts, and the calls that take a text by it from characters to positioned glyphs. Unicode's tables are the
+   library's, and so is normalization; the font's lookups are the caller's. */
+
+/* A feature of GSUB or GPOS, and its lookups by their numbers in the table. */
+typedef struct sengadlit_table_feature_t {
+    sengadlit_tag_t tag;
+    unsigned int lookups_length;
+    const uint16_t *lookups;         /* May be null if the length is 0, as the lists below. */
+} sengadlit_table_feature_t;
+
+/* What GSUB or GPOS has in the script and language that the caller chose for the text. */
+typedef struct sengadlit_layout_table_t {
+    sengadlit_bool_t has_table;      /* Whether the font has the table; else all is 0. */
+    sengadlit_tag_t chosen_script;   /* The tag of that script, or 0. */
+    sengadlit_bool_t found_script;   /* Whether it is one of the tags of the text's script, and no default as DFLT is. */
+    unsigned int features_length;
+    const sengadlit_table_feature_t *features; /* Of two with one tag the first counts. */
+    const sengadlit_table_feature_t *anywhere; /* Features that may be taken from any script: `vert`, for vertical text. */
+    unsigned int anywhere_length;
+    sengadlit_table_feature_t required; /* The feature that the language requires; tag 0 if there is none. */
+} sengadlit_layout_table_t;
+
+/* A feature that the user requests, as hb_feature_t: for glyphs of the clusters from `start` to before `end`, and for the whole
+   text by 0 and UINT32_MAX. */
+typedef struct sengadlit_user_feature_t {
+    sengadlit_tag_t tag;
+    uint32_t value;
+    uint32_t start;
+    uint32_t end;
+} sengadlit_user_feature_t;
+
+/* What decides how the texts of one script, direction and font are shaped. */
+typedef struct sengadlit_shape_plan_input_t {
+    sengadlit_tag_t script;          /* Of the text; 0 if it isn't known. */
+    sengadlit_direction_t direction;
+    sengadlit_layout_table_t gsub;
+    sengadlit_layout_table_t gpos;
+    const sengadlit_user_feature_t *user_features;
+    unsigned int user_features_length;
+} sengadlit_shape_plan_input_t;
+
+typedef struct sengadlit_shape_plan_t sengadlit_shape_plan_t;
+
+/* Makes a plan: the shaper by script, direction and chosen script; its features, those of every script and the user's; their
+   bits of `mask`; and the stages of lookups with the pauses between them. All is copied. A plan doesn't change: threads may
+   share it. `error` may be null; it is written where null is returned: MEMORY, INTERNAL, or ARGUMENT: INPUT, DIRECTION,
+   FEATURES (a list is null), LOOKUPS (that of feature `index` is, counted through the lists of GSUB in the order of the struct
+   and those of GPOS). */
+sengadlit_shape_plan_t *sengadlit_shape_plan_create(const sengadlit_shape_plan_input_t *input, sengadlit_error_t *error);
+/* Frees the plan, which no call may use any more. `plan` may be null. */
+void sengadlit_shape_plan_destroy(sengadlit_shape_plan_t *plan);
+
+/* A lookup of a stage, and how it applies, as hb_ot_map_t::lookup_map_t. */
+typedef struct sengadlit_lookup_t {
+    uint32_t index;                  /* Its number in the table. */
+    uint32_t mask;                   /* It applies to glyphs whose mask has one of these bits. */
+    sengadlit_bool_t auto_zwnj;      /* Whether matching passes over zero width non-joiners, */
+    sengadlit_bool_t auto_zwj;       /* and over zero width joiners. */
+    sengadlit_bool_t random;         /* Whether an alternate is picked at random. */
+    sengadlit_bool_t per_syllable;   /* Whether a match stays within a syllable. */
+} sengadlit_lookup_t;
+
+/* A font's lookups. The buffer that a function is given is the library's, lent for this call of the function, which may pass it
+   to every function of this header; sengadlit_buffer_destroy alone does nothing to it. Its glyphs, with codepoints of at most
+   65535, and its positions are then the text's; what else is changed of it is lost. A function that returns 0 tells that memory
+   was refused, and leaves the glyphs as they were. */
+typedef struct sengadlit_lookups_funcs_t {
+    /* Writes the glyph of a character with a variation selector, as the font's cmap has it, and returns whether there is one;
+       may be null if there is none. */
+    sengadlit_bool_t (*variation_glyph)(void *user_data, uint32_t unicode, uint32_t selector, uint32_t *glyph);
+    /* What stands in `var` of a glyph before the first lookup, where the lookups may keep its class; may be null: 0. */
+    uint32_t (*note)(void *user_data, const sengadlit_glyph_info_t *glyph);
+    /* Applies a lookup of GSUB. A match is flagged by sengadlit_buffer_unsafe_to_break, clusters are merged by
+       sengadlit_buffer_merge_clusters, and what happened to a glyph is noted by SENGADLIT_GLYPH_MARK_... */
+    sengadlit_bool_t (*substitute)(void *user_data, const sengadlit_lookup_t *lookup, sengadlit_buffer_t *buffer);
+    /* Whether a glyph is a mark, by its class; may be null: none is. */
+    sengadlit_bool_t (*is_mark)(void *user_data, const sengadlit_glyph_info_t *glyph);
+    /* Applies a lookup of GPOS, which keeps the length of the text and its positions (sengadlit_buffer_get_glyph_positions). */
+    sengadlit_bool_t (*position)(void *user_data, const sengadlit_lookup_t *lookup, sengadlit_buffer_t *buffer);
+    /* Moves what lookups of GPOS have attached to other glyphs, behind the last of them; keeps the length. May be null. */
+    void (*finish_positions)(void *user_data, sengadlit_buffer_t *buffer);
+} sengadlit_lookups_funcs_t;
+
+typedef struct sengadlit_lookups_t {
+    const sengadlit_lookups_funcs_t *funcs;
+    void *user_data;
+} sengadlit_lookups_t;
+
+/* Gives the glyphs from place `start` to before `end` one cluster, as hb_buffer_t::merge_clusters, or flags them unsafe to break,
+   as hb_buffer_t::unsafe_to_break. ARGUMENT: RANGE, GENERAL_CATEGORY. */
+sengadlit_status_t sengadlit_buffer_merge_clusters(sengadlit_buffer_t *buffer, unsigned int start, unsigned int end);
+sengadlit_status_t sengadlit_buffer_unsafe_to_break(sengadlit_buffer_t *buffer, unsigned int start, unsigned int end);
+
+/* Takes a text of characters, as sengadlit_buffer_add_utf8 adds them, to glyphs behind the last lookup of GSUB: in HarfBuzz's
+   order all that comes before lookups, normalization among it, and then stage by stage the lookups and the pause behind them.
+   Script and direction are the plan's, and those of the buffer's properties. Calls nominal_glyph; for Hangul glyph_h_advance;
+   for Indic would_substitute; and the functions of `lookups`, of which substitute may be null if the plan has no lookup.
+   ARGUMENT: PLAN, FONT, LOOKUPS, POSITIONS, GENERAL_CATEGORY; CODEPOINT: not a scalar value; and for a null buffer. Nothing has
+   changed then. TOO_LONG, MEMORY, UNKNOWN_SYLLABLE: the text is as the step before left it, or as a lookup left it that made it
+   too long. INTERNAL: also where a lookup left a codepoint above 65535, a general category above 29, or a jump in a call on its
+   buffer. */
+sengadlit_status_t sengadlit_substitute_text(const sengadlit_shape_plan_t *plan, const sengadlit_font_t *font,
+                                             const sengadlit_lookups_t *lookups, sengadlit_buffer_t *buffer);
+
+/* The same, and positions: advances, the lookups of GPOS where the shaper takes the script that was chosen in it, marks and
+   default ignorables without a width, stretched marks, and one set of glyph flags for each cluster. The glyphs are in the order
+   in which they are drawn, and default ignorables that no lookup replaced are the font's space, or gone. For horizontal text;
+   the table kern, and marks placed without GPOS, are the caller's. Calls glyph_h_advance too, and is_mark, position and
+   finish_positions, of which position may be null if the plan has no lookup of GPOS. STRETCH_OVERFLOW. INTERNAL: also where a
+   lookup of GPOS left another number of positions than glyphs. */
+sengadlit_status_t sengadlit_shape(const sengadlit_shape_plan_t *plan, const sengadlit_font_t *font,
+                                   const sengadlit_lookups_t *lookups, sengadlit_buffer_t *buffer);
 
 #ifdef __cplusplus
 }

@@ -13,6 +13,7 @@ mod hook_calls;
 mod messages;
 mod names;
 pub mod plans;
+pub mod shaping;
 
 use crate::encodings::Unit;
 use crate::status::{Argument, Error};

@@ -4,6 +4,7 @@ use crate::encodings::{Unit, characters, first, last};
 use crate::layout::{Glyph, Properties};
 use crate::numbers;
 use crate::status::{Argument, Error};
+use core::mem::replace;
 use core::ops::Range;
 use sengadlit::Shaper;
 use sengadlit::alloc::{AllocError, Global, Vec as List};
@@ -37,6 +38,51 @@ impl Buffer {
     pub fn recover(&mut self) {
         self.text.recover();
         self.positions = List::new(Global);
+    }
+
+    /// Takes a text of the crate's with its positions, and leaves an empty one.
+    pub fn lend(&mut self, text: &mut Inner) {
+        self.positions = text.take_positions();
+        self.text.lend(text);
+    }
+
+    /// Gives its glyphs back, into a text whose settings stay, if they are glyphs of a font and, where positions are wanted, have
+    /// one each; returns whether it did.
+    pub fn take_back(&mut self, text: &mut Inner, with_positions: bool) -> bool {
+        let positions = replace(&mut self.positions, List::new(Global));
+        if !self.text.take_back(text) || (with_positions && positions.len() != text.len()) {
+            return false;
+        }
+        if with_positions {
+            text.set_positions(positions);
+        }
+        true
+    }
+
+    /// Gives the glyphs from `start` to `end` one cluster.
+    pub fn merge_clusters(&mut self, start: usize, end: usize) -> Result<(), Error> {
+        self.check_range(start, end)?;
+        self.text.run(Takes::Numbers, |inner| {
+            inner.merge_clusters(start, end);
+            Ok(())
+        })
+    }
+
+    /// Flags them unsafe to break.
+    pub fn unsafe_to_break(&mut self, start: usize, end: usize) -> Result<(), Error> {
+        self.check_range(start, end)?;
+        self.text.run(Takes::Numbers, |inner| {
+            inner.unsafe_to_break(start, end);
+            Ok(())
+        })
+    }
+
+    fn check_range(&self, start: usize, end: usize) -> Result<(), Error> {
+        if start <= end && end <= self.text.len() {
+            Ok(())
+        } else {
+            Err(Error::argument(Argument::Range))
+        }
     }
 
     /// Removes the text, and what was said of it.
@@ -161,6 +207,23 @@ impl Buffer {
             return Err(Error::argument(Argument::Positions));
         }
         self.text.run(takes, hook)
+    }
+
+    /// The same of what sets positions.
+    pub fn run_to_positions<A>(
+        &mut self,
+        takes: Takes,
+        hook: impl FnOnce(&mut Inner) -> Result<A, Error>,
+    ) -> Result<A, Error> {
+        if !self.positions.is_empty() {
+            return Err(Error::argument(Argument::Positions));
+        }
+        let positions = &mut self.positions;
+        self.text.run(takes, |inner| {
+            let ended = hook(inner);
+            *positions = inner.take_positions();
+            ended
+        })
     }
 
     /// The same with a position for each glyph.

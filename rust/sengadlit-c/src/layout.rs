@@ -2,6 +2,7 @@
 use core::ffi::{c_int, c_uint};
 use core::mem::{align_of, offset_of, size_of};
 use sengadlit::buffer::GlyphInfo;
+use sengadlit::ot_shape_plan::StageLookup;
 
 /// `sengadlit_bool_t`: 0 is false.
 pub type Bool = c_int;
@@ -102,6 +103,40 @@ pub struct Data {
     pub masks: [u32; 9],
 }
 
+/// `sengadlit_user_feature_t`.
+#[repr(C)]
+#[derive(Clone, Copy)]
+pub struct UserFeature {
+    pub tag: u32,
+    pub value: u32,
+    pub start: u32,
+    pub end: u32,
+}
+
+/// `sengadlit_lookup_t`.
+#[repr(C)]
+pub struct Lookup {
+    pub index: u32,
+    pub mask: u32,
+    pub auto_zwnj: Bool,
+    pub auto_zwj: Bool,
+    pub random: Bool,
+    pub per_syllable: Bool,
+}
+
+impl From<StageLookup> for Lookup {
+    fn from(lookup: StageLookup) -> Self {
+        Lookup {
+            index: lookup.index.into(),
+            mask: lookup.mask,
+            auto_zwnj: lookup.auto_zwnj.into(),
+            auto_zwj: lookup.auto_zwj.into(),
+            random: lookup.random.into(),
+            per_syllable: lookup.per_syllable.into(),
+        }
+    }
+}
+
 const _: () = assert!(size_of::<c_uint>() == 4 && size_of::<Bool>() == 4);
 
 #[cfg(test)]
@@ -109,6 +144,9 @@ mod tests {
     use super::*;
     use crate::border::callbacks::{Font, FontFuncs, Map, MapFuncs, Tables, TablesFuncs};
     use crate::border::plans::PlanInput;
+    use crate::border::shaping::{
+        LayoutTableInput, Lookups, LookupsFuncs, ShapePlanInput, TableFeatureInput,
+    };
     use crate::status::Error;
     use core::fmt::Write;
     use sengadlit::buffer::{GlyphPosition, Span};
@@ -143,6 +181,14 @@ mod tests {
         layout!("glyph_position", GlyphPosition: x_advance, y_advance, x_offset, y_offset);
         layout!("buffer_properties", Properties: script, direction, cluster_level, flags, max_length);
         layout!("span", Span: len = "length", kind);
+        layout!("table_feature", TableFeatureInput: tag, lookups_length, lookups);
+        layout!("layout_table", LayoutTableInput: has_table, chosen_script, found_script, features_length, features, anywhere,
+        anywhere_length, required);
+        layout!("user_feature", UserFeature: tag, value, start, end);
+        layout!("shape_plan_input", ShapePlanInput: script, direction, gsub, gpos, user_features, user_features_length);
+        layout!("lookup", Lookup: index, mask, auto_zwnj, auto_zwj, random, per_syllable);
+        layout!("lookups_funcs", LookupsFuncs: variation_glyph, note, substitute, is_mark, position, finish_positions);
+        layout!("lookups", Lookups<'static>: funcs, user_data);
         lines
     }
 

@@ -14,4 +14,5 @@ mod hooks;
 mod layout;
 mod numbers;
 mod plan;
+mod shaping;
 mod status;

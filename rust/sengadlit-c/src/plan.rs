@@ -88,8 +88,8 @@ fn map(
     map.ok_or_else(|| Error::argument(Argument::Stages))
 }
 
-// A list of the things that these items stand for.
-fn list<A, B>(items: &[A], of: impl Fn(&A) -> B) -> Result<List<B>, AllocError> {
+/// A list of the things that these items stand for.
+pub fn list<'a, A, B>(items: &'a [A], of: impl Fn(&'a A) -> B) -> Result<List<B>, AllocError> {
     let mut list = List::with_capacity(Global, items.len())?;
     for item in items {
         list.push(of(item)).map_err(|_| AllocError)?;

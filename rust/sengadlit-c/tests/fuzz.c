@@ -365,6 +365,142 @@ static void make_call(const sengadlit_plan_t *plan, sengadlit_buffer_t *buffer)
         abort();
 }
 
+/* ---- A whole text ---- */
+
+/* Whether a lookup has left what is no glyph. */
+static int faulty;
+
+static sengadlit_bool_t variation_glyph(void *user_data, uint32_t unicode, uint32_t selector, uint32_t *glyph)
+{
+    (void)user_data;
+    *glyph = answer(unicode, selector) & 0x1FFFF;
+    return *glyph % 3 == 0;
+}
+
+/* Does anything to the buffer that it is lent. */
+static sengadlit_bool_t substitute(void *user_data, const sengadlit_lookup_t *lookup, sengadlit_buffer_t *lent)
+{
+    uint8_t what = next(), start = next() % 8, end = start + next() % 8;
+    unsigned int length;
+    sengadlit_glyph_info_t *glyphs = sengadlit_buffer_get_glyph_infos(lent, &length);
+
+    if (sengadlit_buffer_get_glyph_infos(user_data, NULL) || lookup->mask == 0) abort();
+    for (unsigned int i = start; i < end && i < length; i++) {
+        glyphs[i].codepoint = answer(glyphs[i].codepoint, lookup->index) & 0xFFFF;
+        glyphs[i].marks ^= what & 7;
+        if (what & 32) glyphs[i].syllable = what;
+    }
+    if (what % 64 == 7 && length > start) {
+        faulty = 1;
+        if (what & 64) glyphs[start].codepoint |= 0x10000;
+        else glyphs[start].general_category |= 0x80;
+    }
+    switch (what % 8) {
+    case 0: (void)sengadlit_buffer_set_length(lent, length + end); break;
+    case 1: (void)sengadlit_buffer_set_length(lent, start); break;
+    case 2: (void)sengadlit_buffer_merge_clusters(lent, start, end); break;
+    case 3: (void)sengadlit_buffer_unsafe_to_break(lent, start, end); break;
+    case 4: (void)sengadlit_buffer_get_glyph_positions(lent, NULL); break;
+    case 5: sengadlit_buffer_set_state(lent, what); break;
+    case 6: sengadlit_buffer_destroy(lent); break;
+    default: break;
+    }
+    return what != 8;
+}
+
+static uint32_t note(void *user_data, const sengadlit_glyph_info_t *glyph)
+{
+    if (sengadlit_buffer_get_glyph_infos(user_data, NULL)) abort();
+    return answer(glyph->codepoint, 11);
+}
+
+static sengadlit_bool_t is_mark(void *user_data, const sengadlit_glyph_info_t *glyph)
+{
+    if (sengadlit_buffer_get_glyph_infos(user_data, NULL)) abort();
+    return (sengadlit_bool_t)(glyph->var & 4);
+}
+
+static void finish_positions(void *user_data, sengadlit_buffer_t *lent)
+{
+    uint8_t what = next();
+    unsigned int length, count;
+    sengadlit_glyph_info_t *glyphs = sengadlit_buffer_get_glyph_infos(lent, &length);
+
+    if (sengadlit_buffer_get_glyph_infos(user_data, NULL)) abort();
+    sengadlit_glyph_position_t *positions = sengadlit_buffer_get_glyph_positions(lent, &count);
+    if (count != length) abort();
+    for (unsigned int i = 0; i < count; i++) {
+        positions[i].x_offset = (int32_t)next_word();
+        glyphs[i].var = what;
+    }
+    if (what % 64 == 7 && length > 0) {
+        faulty = 1;
+        (void)sengadlit_buffer_set_length(lent, length - 1 + (what & 64) / 32);
+    }
+}
+
+static sengadlit_bool_t position(void *user_data, const sengadlit_lookup_t *lookup, sengadlit_buffer_t *lent)
+{
+    if (lookup->mask == 0) abort();
+    finish_positions(user_data, lent);
+    return next() != 1;
+}
+
+static sengadlit_shape_plan_t *make_shape_plan(void)
+{
+    static const char tags[][5] = {"ccmp", "rphf", "pref", "blwf", "half", "pres", "init", "medi", "liga", "mark"};
+    sengadlit_table_feature_t features[4];
+    sengadlit_user_feature_t user;
+    sengadlit_shape_plan_input_t input = {0};
+    static uint16_t lookups[8];
+    sengadlit_error_t error;
+    uint8_t settings = next();
+
+    for (unsigned int i = 0; i < 8; i++) lookups[i] = next();
+    for (unsigned int i = 0; i < 4; i++) {
+        const char *tag = tags[next() % 10];
+        features[i].tag = SENGADLIT_TAG(tag[0], tag[1], tag[2], tag[3]);
+        features[i].lookups_length = next() % 3;
+        features[i].lookups = next() == 1 ? NULL : &lookups[2 * i];
+    }
+    user = (sengadlit_user_feature_t){features[0].tag, next(), next() % 16, settings & 4 ? UINT32_MAX : next() % 16};
+    input.script = scripts[place];
+    input.direction = (sengadlit_direction_t)(4 + settings % 4);
+    input.gsub.has_table = settings & 32;
+    input.gsub.chosen_script = settings & 8 ? SENGADLIT_TAG('d', 'e', 'v', '2') : 0;
+    input.gsub.found_script = settings & 16;
+    input.gsub.features = features;
+    input.gsub.features_length = 4;
+    input.gsub.required = features[settings >> 6];
+    input.gpos = input.gsub;
+    input.user_features = &user;
+    input.user_features_length = settings & 32 ? 1 : 0;
+    sengadlit_shape_plan_t *plan = sengadlit_shape_plan_create(&input, &error);
+    if (!plan && (error.status != SENGADLIT_ARGUMENT || error.argument != SENGADLIT_ARGUMENT_LOOKUPS)) abort();
+    return plan;
+}
+
+static void shape_whole(sengadlit_buffer_t *buffer)
+{
+    static const sengadlit_lookups_funcs_t funcs = {variation_glyph, note, substitute, is_mark, position, finish_positions};
+    const sengadlit_lookups_t lookups = {&funcs, buffer};
+    sengadlit_shape_plan_t *plan = make_shape_plan();
+
+    faulty = 0;
+    keep(buffer, &before);
+    sengadlit_status_t status = next() & 1 ? sengadlit_shape(plan, &font, &lookups, buffer)
+                                           : sengadlit_substitute_text(plan, &font, &lookups, buffer);
+    keep(buffer, &after);
+    sengadlit_shape_plan_destroy(plan);
+    if (status == SENGADLIT_DONE) done++;
+    else if (status == SENGADLIT_INTERNAL) internal++;
+    else if (status > SENGADLIT_STRETCH_OVERFLOW) abort();
+    if (status == SENGADLIT_INTERNAL ? after.length != 0 || (!changes && !faulty) : faulty) abort();
+    if (status == SENGADLIT_ARGUMENT && (after.length != before.length ||
+        memcmp(after.glyphs, before.glyphs, after.length * sizeof *after.glyphs) != 0))
+        abort();
+}
+
 /* The functions that no buffer is given. */
 static void call_others(sengadlit_plan_t *plan)
 {
@@ -426,6 +562,8 @@ int LLVMFuzzerTestOneInput(const uint8_t *data, size_t size)
         if (next() % 16 == 1) begin_another(buffer);
         make_call(plan, buffer);
     }
+    begin_another(buffer);
+    shape_whole(buffer);
     sengadlit_buffer_destroy(buffer);
     sengadlit_plan_destroy(plan);
     if (destroyed != 1) abort();

@@ -113,11 +113,58 @@ static void print_buffers(void)
     FIELD(span, kind);
 }
 
+static void print_shaping(void)
+{
+    STRUCT(table_feature);
+    FIELD(table_feature, tag);
+    FIELD(table_feature, lookups_length);
+    FIELD(table_feature, lookups);
+    STRUCT(layout_table);
+    FIELD(layout_table, has_table);
+    FIELD(layout_table, chosen_script);
+    FIELD(layout_table, found_script);
+    FIELD(layout_table, features_length);
+    FIELD(layout_table, features);
+    FIELD(layout_table, anywhere);
+    FIELD(layout_table, anywhere_length);
+    FIELD(layout_table, required);
+    STRUCT(user_feature);
+    FIELD(user_feature, tag);
+    FIELD(user_feature, value);
+    FIELD(user_feature, start);
+    FIELD(user_feature, end);
+    STRUCT(shape_plan_input);
+    FIELD(shape_plan_input, script);
+    FIELD(shape_plan_input, direction);
+    FIELD(shape_plan_input, gsub);
+    FIELD(shape_plan_input, gpos);
+    FIELD(shape_plan_input, user_features);
+    FIELD(shape_plan_input, user_features_length);
+    STRUCT(lookup);
+    FIELD(lookup, index);
+    FIELD(lookup, mask);
+    FIELD(lookup, auto_zwnj);
+    FIELD(lookup, auto_zwj);
+    FIELD(lookup, random);
+    FIELD(lookup, per_syllable);
+    STRUCT(lookups_funcs);
+    FIELD(lookups_funcs, variation_glyph);
+    FIELD(lookups_funcs, note);
+    FIELD(lookups_funcs, substitute);
+    FIELD(lookups_funcs, is_mark);
+    FIELD(lookups_funcs, position);
+    FIELD(lookups_funcs, finish_positions);
+    STRUCT(lookups);
+    FIELD(lookups, funcs);
+    FIELD(lookups, user_data);
+}
+
 int main(void)
 {
     print_common();
     print_callbacks();
     print_plans();
     print_buffers();
+    print_shaping();
     return 0;
 }

@@ -120,6 +120,59 @@ static sengadlit_status_t stretch(void)
     return sengadlit_postprocess_glyphs(world.plan, &world.font, world.buffer);
 }
 
+/* ---- A whole text ---- */
+
+static const uint16_t lookup_0[] = {0};
+static const sengadlit_table_feature_t pres = {SENGADLIT_TAG('p', 'r', 'e', 's'), 1, lookup_0};
+static const sengadlit_table_feature_t kern = {SENGADLIT_TAG('k', 'e', 'r', 'n'), 1, lookup_0};
+static const sengadlit_user_feature_t salt = {SENGADLIT_TAG('s', 'a', 'l', 't'), 1, 0, 3};
+static sengadlit_shape_plan_t *whole;
+
+static sengadlit_status_t plan_whole(void)
+{
+    sengadlit_shape_plan_input_t input = {0};
+
+    input.script = SENGADLIT_TAG('K', 'h', 'm', 'r');
+    input.direction = SENGADLIT_DIRECTION_LTR;
+    input.gsub.has_table = input.gpos.has_table = 1;
+    input.gsub.features = &pres;
+    input.gsub.features_length = 1;
+    input.gpos.chosen_script = SENGADLIT_TAG('k', 'h', 'm', 'r');
+    input.gpos.features = &kern;
+    input.gpos.features_length = 1;
+    input.user_features = &salt;
+    input.user_features_length = 1;
+    whole = sengadlit_shape_plan_create(&input, NULL);
+    return whole ? SENGADLIT_DONE : SENGADLIT_MEMORY;
+}
+
+static sengadlit_bool_t lengthen_lent(void *user_data, const sengadlit_lookup_t *lookup, sengadlit_buffer_t *buffer)
+{
+    (void)user_data, (void)lookup;
+    return sengadlit_buffer_set_length(buffer, 50) != NULL;
+}
+
+static sengadlit_bool_t place_lent(void *user_data, const sengadlit_lookup_t *lookup, sengadlit_buffer_t *buffer)
+{
+    (void)user_data, (void)lookup;
+    sengadlit_buffer_get_glyph_positions(buffer, NULL)[0].x_offset = 7;
+    return 1;
+}
+
+/* In a buffer of its own, since a refusal leaves the text as the step before did. */
+static sengadlit_status_t shape(void)
+{
+    static const sengadlit_lookups_funcs_t funcs = {.substitute = lengthen_lent, .position = place_lent};
+    static const sengadlit_lookups_t lookups = {&funcs, NULL};
+    sengadlit_buffer_t *buffer = sengadlit_buffer_create();
+    sengadlit_status_t status = SENGADLIT_MEMORY;
+
+    if (buffer && sengadlit_buffer_add_utf8(buffer, "\u1780\u17C4\u17D2\u179A", -1, 0, -1) == SENGADLIT_DONE)
+        status = sengadlit_shape(whole, &world.font, &lookups, buffer);
+    sengadlit_buffer_destroy(buffer);
+    return status;
+}
+
 /* ---- What they leave ---- */
 
 static void print_text(const char *name)
@@ -205,6 +258,14 @@ static void try_stretch(void)
     try_call("stretch", stretch);
 }
 
+static void try_whole(void)
+{
+    begin_world(SENGADLIT_SHAPER_KHMER, SENGADLIT_TAG('K', 'h', 'm', 'r'), 0x1780, 4);
+    try_call("shape plan", plan_whole);
+    try_call("shape", shape);
+    sengadlit_shape_plan_destroy(whole);
+}
+
 int main(void)
 {
     static char room[1 << 16]; /* So that printing wants no memory. */
@@ -214,6 +275,7 @@ int main(void)
     try_characters();
     try_khmer();
     try_stretch();
+    try_whole();
     end_world();
     return EXIT_SUCCESS;
 }

@@ -24,7 +24,8 @@ static void check(const char *what, int holds)
 
 enum callback {
     NOMINAL_GLYPH, GLYPH_H_ADVANCE, WOULD_SUBSTITUTE, HAS_FEATURE, JOINING_TYPE, GENERAL_CATEGORY, INDIC_CATEGORIES, USE_CATEGORY,
-    COMPOSE, DECOMPOSE, ADD_FEATURE, ADD_GSUB_PAUSE, DESTROY, CALLBACKS
+    COMPOSE, DECOMPOSE, ADD_FEATURE, ADD_GSUB_PAUSE, DESTROY, VARIATION_GLYPH, NOTE, SUBSTITUTE, IS_MARK, POSITION,
+    FINISH_POSITIONS, CALLBACKS
 };
 
 static sengadlit_font_funcs_t font_funcs;
@@ -124,8 +125,77 @@ static void destroy(void *user_data)
     meet(DESTROY);
 }
 
+static sengadlit_bool_t variation_glyph(void *user_data, uint32_t unicode, uint32_t selector, uint32_t *glyph)
+{
+    (void)user_data, (void)selector;
+    *glyph = unicode + 1;
+    meet(VARIATION_GLYPH);
+    return 1;
+}
+
+/* The first glyph is another one then. */
+static sengadlit_bool_t substitute(void *user_data, const sengadlit_lookup_t *lookup, sengadlit_buffer_t *buffer)
+{
+    sengadlit_glyph_info_t *found = sengadlit_buffer_get_glyph_infos(buffer, NULL);
+
+    (void)user_data, (void)lookup;
+    meet(SUBSTITUTE);
+    found[0].codepoint++;
+    return 1;
+}
+
+static uint32_t note(void *user_data, const sengadlit_glyph_info_t *glyph)
+{
+    (void)user_data;
+    meet(NOTE);
+    return glyph->codepoint;
+}
+
+static sengadlit_bool_t is_mark(void *user_data, const sengadlit_glyph_info_t *glyph)
+{
+    (void)user_data;
+    meet(IS_MARK);
+    return (sengadlit_bool_t)(glyph->var & 1);
+}
+
+/* The first glyph is placed elsewhere then. */
+static sengadlit_bool_t position(void *user_data, const sengadlit_lookup_t *lookup, sengadlit_buffer_t *buffer)
+{
+    sengadlit_glyph_position_t *found = sengadlit_buffer_get_glyph_positions(buffer, NULL);
+
+    (void)user_data, (void)lookup;
+    meet(POSITION);
+    found[0].x_offset = 7;
+    return 1;
+}
+
+static void finish_positions(void *user_data, sengadlit_buffer_t *buffer)
+{
+    sengadlit_glyph_position_t *found = sengadlit_buffer_get_glyph_positions(buffer, NULL);
+
+    (void)user_data;
+    meet(FINISH_POSITIONS);
+    found[0].y_offset = 8;
+}
+
 static const sengadlit_map_funcs_t map_funcs = {add_feature, add_gsub_pause};
 static const sengadlit_map_t map = {&map_funcs, NULL};
+static const sengadlit_lookups_funcs_t lookups_funcs = {variation_glyph, note, substitute, is_mark, position, finish_positions};
+static const sengadlit_lookups_t lookups = {&lookups_funcs, NULL};
+static sengadlit_shape_plan_t *whole;
+
+static void plan_whole(void)
+{
+    static const uint16_t zero[] = {0};
+    static const sengadlit_table_feature_t liga = {SENGADLIT_TAG('l', 'i', 'g', 'a'), 1, zero};
+    static const sengadlit_table_feature_t kern = {SENGADLIT_TAG('k', 'e', 'r', 'n'), 1, zero};
+    const sengadlit_shape_plan_input_t input = {
+        .script = SENGADLIT_TAG('L', 'a', 't', 'n'), .direction = SENGADLIT_DIRECTION_LTR,
+        .gsub = {.has_table = 1, .features = &liga, .features_length = 1},
+        .gpos = {.has_table = 1, .chosen_script = SENGADLIT_TAG('l', 'a', 't', 'n'), .features = &kern, .features_length = 1}};
+
+    whole = sengadlit_shape_plan_create(&input, NULL);
+}
 
 /* ---- Calls that call back ---- */
 
@@ -223,6 +293,20 @@ static void begin_stretched(void)
     positions()[0].x_advance = 1000;
 }
 
+/* A letter with a selector, and another. */
+static void begin_whole(void)
+{
+    begin(SENGADLIT_SHAPER_KHMER, SENGADLIT_TAG('K', 'h', 'm', 'r'), 0x1780);
+    glyphs()[1].codepoint = 0xFE00;
+}
+
+static sengadlit_status_t substitute_text(void)
+{
+    return sengadlit_substitute_text(whole, &world.font, &lookups, world.buffer);
+}
+
+static sengadlit_status_t shape(void) { return sengadlit_shape(whole, &world.font, &lookups, world.buffer); }
+
 static sengadlit_status_t collect(void)
 {
     return sengadlit_collect_features(SENGADLIT_SHAPER_ARABIC, world.properties.script, &world.font, &map, NULL);
@@ -259,6 +343,8 @@ static const struct scene scenes[] = {
     {"Khmer", begin_khmer, reorder, 1},
     {"Indic", begin_indic, initial, 1},
     {"stretched marks", begin_stretched, postprocess, 1},
+    {"a whole text", begin_whole, substitute_text, 1},
+    {"a whole text with positions", begin_whole, shape, 1},
     {"features", begin_arabic, collect, 0},
     {"composition", begin_hebrew, compose_two, 0},
     {"composition by category", begin_khmer, compose_two, 0},
@@ -361,6 +447,10 @@ static void set_up_found(void)
     expect_status(sengadlit_setup_syllables_found(world.plan, SENGADLIT_PAUSE_SETUP_SYLLABLES_KHMER, world.buffer));
 }
 
+static void merge_clusters(void) { expect_status(sengadlit_buffer_merge_clusters(world.buffer, 0, 1)); }
+static void flag_unsafe_to_break(void) { expect_status(sengadlit_buffer_unsafe_to_break(world.buffer, 0, 1)); }
+static void call_substitute_text(void) { expect_status(substitute_text()); }
+static void call_shape(void) { expect_status(shape()); }
 static void clear_contents(void) { sengadlit_buffer_clear_contents(world.buffer); }
 static void reset(void) { sengadlit_buffer_reset(world.buffer); }
 static void set_state(void) { sengadlit_buffer_set_state(world.buffer, 0); }
@@ -402,6 +492,10 @@ static const struct intruder {
     {"postprocess_glyphs", call_postprocess, 0},
     {"spans", find_spans, 0},
     {"setup_syllables_found", set_up_found, 0},
+    {"merge_clusters", merge_clusters, 0},
+    {"unsafe_to_break", flag_unsafe_to_break, 0},
+    {"substitute_text", call_substitute_text, 0},
+    {"shape", call_shape, 0},
     {"clear_contents", clear_contents, 0},
     {"reset", reset, 0},
     {"set_state", set_state, 0},
@@ -484,13 +578,15 @@ static void jump_everywhere(void)
     }
     for (unsigned int callback = 0; callback < CALLBACKS; callback++) check("a jump out of each callback", intrusions[callback] > 0);
     check("jumps out of glyphs", intrusions[NOMINAL_GLYPH] >= 4);
-    check("jumps out of advances", intrusions[GLYPH_H_ADVANCE] == 2);
+    check("jumps out of advances", intrusions[GLYPH_H_ADVANCE] == 3);
 }
 
 int main(int argc, char **argv)
 {
+    plan_whole();
     if (argc > 1 && strcmp(argv[1], "jumps") == 0) jump_everywhere();
     else intrude_everywhere();
+    sengadlit_shape_plan_destroy(whole);
     printf("%u passed, %u failed\n", passed, failed);
     return failed == 0 ? EXIT_SUCCESS : EXIT_FAILURE;
 }

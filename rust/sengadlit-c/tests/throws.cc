@@ -83,6 +83,38 @@ static sengadlit_bool_t decompose(void *, uint32_t, uint32_t *, uint32_t *)
     return 0;
 }
 
+static sengadlit_bool_t variation_glyph(void *, uint32_t, uint32_t, uint32_t *)
+{
+    meet("variation_glyph");
+    return 0;
+}
+
+static uint32_t note(void *, const sengadlit_glyph_info_t *)
+{
+    meet("note");
+    return 0;
+}
+
+static sengadlit_bool_t substitute(void *, const sengadlit_lookup_t *, sengadlit_buffer_t *)
+{
+    meet("substitute");
+    return 1;
+}
+
+static sengadlit_bool_t is_mark(void *, const sengadlit_glyph_info_t *)
+{
+    meet("is_mark");
+    return 0;
+}
+
+static sengadlit_bool_t position(void *, const sengadlit_lookup_t *, sengadlit_buffer_t *)
+{
+    meet("position");
+    return 1;
+}
+
+static void finish_positions(void *, sengadlit_buffer_t *) { meet("finish_positions"); }
+
 static void add_feature(void *, sengadlit_tag_t, uint32_t, uint32_t) { meet("add_feature"); }
 static void add_gsub_pause(void *, sengadlit_pause_t) { meet("add_gsub_pause"); }
 static void destroy(void *) { meet("destroy"); }
@@ -146,6 +178,25 @@ static void stretch()
     sengadlit_plan_destroy(plan);
 }
 
+// A letter with a selector, by a plan with a lookup.
+static void shape_whole()
+{
+    static const uint16_t zero = 0;
+    static const sengadlit_table_feature_t liga = {SENGADLIT_TAG('l', 'i', 'g', 'a'), 1, &zero};
+    static const sengadlit_lookups_funcs_t funcs = {variation_glyph, note, substitute, is_mark, position, finish_positions};
+    static const sengadlit_lookups_t lookups = {&funcs, nullptr};
+    sengadlit_shape_plan_input_t input = {};
+
+    input.script = SENGADLIT_TAG('L', 'a', 't', 'n');
+    input.direction = SENGADLIT_DIRECTION_LTR;
+    input.gsub.has_table = 1;
+    input.gsub.features = &liga;
+    input.gsub.features_length = 1;
+    input.gpos = input.gsub;
+    input.gpos.chosen_script = SENGADLIT_TAG('l', 'a', 't', 'n');
+    (void)sengadlit_shape(sengadlit_shape_plan_create(&input, nullptr), &font, &lookups, buffer_of("--\u1780\uFE00"));
+}
+
 // Calls that make every call back.
 static void call_everything()
 {
@@ -166,6 +217,7 @@ static void call_everything()
     (void)sengadlit_setup_masks(indic, &tables, buffer_of("--\u0915"));
     (void)sengadlit_setup_syllables_found(indic, SENGADLIT_PAUSE_SETUP_SYLLABLES_INDIC, devanagari);
     (void)sengadlit_run_pause(indic, SENGADLIT_PAUSE_INITIAL_REORDERING, &font, nullptr, 0, devanagari, nullptr);
+    shape_whole();
     sengadlit_set_message_func(receive, nullptr);
     for (int i = 0; i < 3000; i++) stretch();
 }
@@ -206,7 +258,9 @@ int main()
 {
     static const char *const callbacks[] = {"nominal_glyph",    "glyph_h_advance",  "would_substitute", "has_feature", "joining_type",
                                             "general_category", "indic_categories", "use_category",     "compose",     "decompose",
-                                            "add_feature",      "add_gsub_pause",   "destroy",          "message"};
+                                            "add_feature",      "add_gsub_pause",   "destroy",          "message",     "variation_glyph",
+                                            "note",
+                                            "substitute",       "is_mark",          "position",         "finish_positions"};
 
     for (const char *callback : callbacks) expect_end(callback);
     std::printf("%u passed, %u failed\n", passed, failed);

@@ -4,8 +4,8 @@
 //! They are the hooks of rustybuzz's shapers, which rewrite a buffer of glyphs between Unicode text
 //! and a font's lookups. What is around them is the caller's: the font, lookups and positioning.
 //! Beside the hooks, [`spans`] finds the syllables that they take, `unicode` has Unicode's tables, and
-//! [`ot_shape_normalize`] the rounds of normalization. The crate has no dependencies and no `unsafe`,
-//! and needs `alloc` alone.
+//! `ot_shape` takes a text the whole way to the last of a font's lookups. The crate has no
+//! dependencies and no `unsafe`, and needs `alloc` alone.
 //!
 //! It is generated from proved sources, by deleting their contracts, and its functions are called
 //! beside those that were proved, with the same arguments; the contract of each is in its
@@ -56,7 +56,8 @@
 //!    [`postprocess_glyphs`] stretches each mark over the word before it in the buffer, which has
 //!    visual order by then: a text from right to left is reversed.
 //!
-//! [`Buffer::clear`] makes the buffer ready for another text.
+//! [`Buffer::clear`] makes the buffer ready for another text. With the feature `text`, `ot_shape` takes
+//! a text through all of these steps up to the last of a caller's lookups, in at most 15 lines.
 //!
 //! A Khmer word between steps 4 and 5:
 //!
@@ -118,6 +119,8 @@
 //!   crate is `no_std`.
 //! - `tables` (on by default): Unicode's tables, in the module `unicode` (135 KB), with
 //!   `Buffer::from_text`.
+//! - `text` (on by default, with `tables`): from a text to its glyphs, in the modules `ot_shape`,
+//!   `ot_shape_plan`, `ot_shape_prepare`, `ot_shape_normalize` and `ot_shape_position` (43 KB of code on x86-64).
 //!
 //! [`collect_features`]: Shaper::collect_features
 //! [`override_features`]: Shaper::override_features
@@ -193,14 +196,17 @@ mod generated {
     pub(crate) mod shapers_indic_initial;
     pub(crate) mod shapers_khmer;
     pub(crate) mod shapers_myanmar;
+    #[cfg(feature = "text")]
     pub(crate) mod shapers_normal;
-    #[cfg(feature = "tables")]
+    #[cfg(feature = "text")]
     pub(crate) mod shapers_normalize;
-    #[cfg(feature = "tables")]
+    #[cfg(feature = "text")]
     pub(crate) mod shapers_pipeline;
+    #[cfg(feature = "text")]
     pub(crate) mod shapers_plan;
+    #[cfg(feature = "text")]
     pub(crate) mod shapers_position;
-    #[cfg(feature = "tables")]
+    #[cfg(feature = "text")]
     pub(crate) mod shapers_prepare;
     pub(crate) mod shapers_spans;
     pub(crate) mod shapers_stretch;
@@ -217,12 +223,15 @@ pub mod categories;
 pub mod flags;
 pub mod font;
 pub mod map;
-#[cfg(feature = "tables")]
+#[cfg(feature = "text")]
 pub mod ot_shape;
+#[cfg(feature = "text")]
 pub mod ot_shape_normalize;
+#[cfg(feature = "text")]
 pub mod ot_shape_plan;
+#[cfg(feature = "text")]
 pub mod ot_shape_position;
-#[cfg(feature = "tables")]
+#[cfg(feature = "text")]
 pub mod ot_shape_prepare;
 pub mod ot_shaper_arabic;
 pub mod ot_shaper_hangul;

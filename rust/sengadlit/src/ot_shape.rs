@@ -3,6 +3,77 @@
 //! shaper does behind each stage. [`substitute_text`] does both by a
 //! [`ShapePlan`](crate::ot_shape_plan::ShapePlan).
 //!
+//! A Khmer word, in a font of the caller's, whose lookup makes one glyph of COENG and MO:
+//!
+//! ```
+//! # use sengadlit::{Font, GlyphId, ShaperError, Tag};
+//! # use sengadlit::map::TableIndex;
+//! # use sengadlit::ot_shape::Lookups;
+//! # use sengadlit::ot_shape_normalize::NormalizeFont;
+//! # use sengadlit::ot_shape_plan::{FontFeatures, StageLookup};
+//! # struct MyFont;
+//! # impl Font for MyFont {
+//! #     fn get_nominal_glyph(&self, c: u32) -> Option<GlyphId> {
+//! #         u16::try_from(c).ok().map(GlyphId)
+//! #     }
+//! #     fn glyph_h_advance(&self, _: GlyphId) -> i32 { 0 }
+//! #     fn would_apply(&self, _: u16, _: &[GlyphId], _: bool) -> bool { false }
+//! #     fn has_feature(&self, tag: Tag) -> bool { tag == Tag(*b"blwf") }
+//! # }
+//! # impl NormalizeFont for MyFont {
+//! #     fn get_variation_glyph(&self, _: u32, _: u32) -> Option<GlyphId> { None }
+//! # }
+//! # impl FontFeatures for MyFont {
+//! #     fn has_table(&self, table: TableIndex) -> bool { table == TableIndex::GSUB }
+//! #     fn chosen_script(&self, _: TableIndex) -> Option<Tag> { Some(Tag(*b"khmr")) }
+//! #     fn found_script(&self, _: TableIndex) -> bool { true }
+//! #     fn feature_lookups(&self, table: TableIndex, tag: Tag) -> Option<&[u16]> {
+//! #         (table == TableIndex::GSUB && self.has_feature(tag)).then_some(&[0])
+//! #     }
+//! #     fn any_feature_lookups(&self, _: TableIndex, _: Tag) -> Option<&[u16]> { None }
+//! #     fn required_feature(&self, _: TableIndex) -> Option<Tag> { None }
+//! #     fn required_lookups(&self, _: TableIndex) -> &[u16] { &[] }
+//! # }
+//! # impl Lookups for MyFont {
+//! #     fn substitute(&self, lookup: &StageLookup, buffer: &mut Buffer) -> Result<(), ShaperError> {
+//! #         let mut at = 0;
+//! #         while at + 1 < buffer.len() {
+//! #             let (coeng, mo) = (buffer.get(at), buffer.get(at + 1));
+//! #             let is_on = coeng.mask & mo.mask & lookup.mask != 0;
+//! #             if is_on && (coeng.glyph_id, mo.glyph_id) == (0x17D2, 0x1798) {
+//! #                 buffer.merge_clusters(at, at + 2);
+//! #                 buffer.set(at, sengadlit::GlyphInfo { glyph_id: 0xE000, ..buffer.get(at) });
+//! #                 for place in at + 1..buffer.len() - 1 {
+//! #                     buffer.copy_glyph(place + 1, place);
+//! #                 }
+//! #                 buffer.truncate(buffer.len() - 1);
+//! #             }
+//! #             at += 1;
+//! #         }
+//! #         Ok(())
+//! #     }
+//! # }
+//! use sengadlit::alloc::Global;
+//! use sengadlit::ot_shape::substitute_text;
+//! use sengadlit::ot_shape_normalize::NormalizeSettings;
+//! use sengadlit::ot_shape_plan::ShapePlan;
+//! use sengadlit::unicode::UnicodeTables;
+//! use sengadlit::{Buffer, Direction, script};
+//!
+//! let font = MyFont; // with `Font`, `NormalizeFont`, `FontFeatures` and `Lookups`
+//! let (script, direction) = (Some(script::KHMER), Direction::LeftToRight);
+//! let plan = ShapePlan::new(Global, script, direction, &font, &font, &[])?;
+//! let mut buffer = Buffer::from("ខ្មែរ");
+//! buffer.set_script(script);
+//! let settings = NormalizeSettings::default();
+//! substitute_text(&plan, &settings, &font, &UnicodeTables, &font, &mut buffer)?;
+//! let glyphs: Vec<u32> = buffer.iter().map(|glyph| glyph.glyph_id).collect();
+//! assert_eq!(glyphs, [0x17C2, 0x1781, 0xE000, 0x179A]);
+//! # Ok::<(), Box<dyn std::error::Error>>(())
+//! ```
+//!
+//! The first half alone:
+//!
 //! ```
 //! use sengadlit::ot_shape::{TextPlan, prepare_text};
 //! use sengadlit::ot_shape_normalize::{NormalizeFont, NormalizeSettings};
@@ -87,6 +158,10 @@ mod tests {
     }
 
     impl FontFeatures for Khmer {
+        fn has_table(&self, _: TableIndex) -> bool {
+            true
+        }
+
         fn chosen_script(&self, _: TableIndex) -> Option<Tag> {
             Some(Tag(*b"khmr"))
         }

@@ -3,8 +3,6 @@
 //! [`normalize`] reads a caller's type that stands for all three.
 //!
 //! ```
-//! # #[cfg(feature = "tables")]
-//! # fn main() -> Result<(), sengadlit::ShaperError> {
 //! use sengadlit::ot_shape_normalize::{
 //!     NormalizeFont, NormalizeSettings, Rounds, ot_shape_normalize,
 //! };
@@ -44,17 +42,13 @@
 //! // the character, and the number of its glyph
 //! assert_eq!(buffer.get(0).glyph_id, 0x1026);
 //! assert_eq!(buffer.get(0).var, 0x1026);
-//! # Ok(())
-//! # }
-//! # #[cfg(not(feature = "tables"))]
-//! # fn main() {}
+//! # Ok::<(), sengadlit::ShaperError>(())
 //! ```
 
 pub use crate::generated::shapers_normal::ot_shape_normalize::{
     HIDDEN, MAX_COMBINING_MARKS, MAX_STEPS, NormalizeContext, Rounds, decompose, length_bound,
     normalize, order_marks_in, recompose_in, sort_marks_in,
 };
-#[cfg(feature = "tables")]
 pub use crate::generated::shapers_normalize::{
     NormalizeFont, NormalizeSettings, NormalizeTables, ot_shape_normalize,
 };

@@ -1,7 +1,7 @@
 //! Unicode's tables, the machines that find syllables, the choice of a shaper and what normalization
 //! has of spaces, each over its whole domain, by sums that were recorded from tables equal to the
 //! proved ones. (The tables of the hooks: tests/tables.rs.)
-#![cfg(feature = "tables")]
+#![cfg(feature = "text")]
 
 use sengadlit::buffer::{
     Buffer, BufferClusterLevel, Direction, GeneralCategory, GlyphInfo, Script, Tag,

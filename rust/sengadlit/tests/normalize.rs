@@ -1,5 +1,5 @@
 //! Normalization through a caller's type, with a few of Unicode's characters, and for shapers.
-#![cfg(feature = "tables")]
+#![cfg(feature = "text")]
 
 use sengadlit::alloc::Global;
 use sengadlit::map::Map;

@@ -11,12 +11,9 @@ use common::numbers::Numbers;
 use common::plans::random_plan;
 use common::watchdog::{caught, in_time};
 use sengadlit::alloc::Global;
-use sengadlit::buffer::{
-    Buffer, BufferClusterLevel, GeneralCategory, GlyphInfo, Script, ShaperError, Span, Tag,
-};
+use sengadlit::buffer::{Buffer, GeneralCategory, Script, ShaperError, Span, Tag};
 use sengadlit::font::{Font, GlyphId, Tables};
-use sengadlit::ot_shape_normalize::{NormalizeContext, Rounds, normalize};
-use sengadlit::plan::{Category, JoiningType, NormalizationMode, Pause, Plan, Planner, Position};
+use sengadlit::plan::{Category, JoiningType, Pause, Plan, Planner, Position};
 use sengadlit::shaper::Shaper;
 use std::cell::Cell;
 use std::collections::BTreeMap;
@@ -41,8 +38,8 @@ impl<A> Panicking<'_, A> {
 }
 
 impl<F: Font> Font for Panicking<'_, F> {
-    fn nominal_glyph(&self, c: u32) -> Option<GlyphId> {
-        self.ask(|font| font.nominal_glyph(c))
+    fn get_nominal_glyph(&self, c: u32) -> Option<GlyphId> {
+        self.ask(|font| font.get_nominal_glyph(c))
     }
 
     fn glyph_h_advance(&self, glyph: GlyphId) -> i32 {
@@ -248,180 +245,187 @@ fn a_planner_has_no_part_of_the_requests() {
     }
 }
 
-/// A few of Unicode's letters and marks, and a font that has them all.
-struct Latin;
-
-const PAIRS: [(u32, u32, u32); 3] = [
-    (0xE9, 0x65, 0x301),
-    (0xEA, 0x65, 0x302),
-    (0x1EBF, 0xEA, 0x301),
-];
-
-impl NormalizeContext for Panicking<'_, Latin> {
-    fn normalization_preference(&self) -> NormalizationMode {
-        self.ask(|_| NormalizationMode::CD)
-    }
-
-    fn decompose(&self, ab: u32) -> Option<(u32, u32)> {
-        let found = PAIRS.iter().find(|pair| pair.0 == ab);
-        self.ask(|_| found.map(|pair| (pair.1, pair.2)))
-    }
-
-    fn compose(&self, a: u32, b: u32) -> Option<u32> {
-        let found = PAIRS.iter().find(|pair| (pair.1, pair.2) == (a, b));
-        self.ask(|_| found.map(|pair| pair.0))
-    }
-
-    fn nominal_glyph(&self, c: u32) -> Option<GlyphId> {
-        self.ask(|_| u16::try_from(c).ok().map(GlyphId))
-    }
-
-    fn variation_glyph(&self, _: u32, _: u32) -> Option<GlyphId> {
-        self.ask(|_| None)
-    }
-
-    fn draws_selectors(&self) -> bool {
-        self.ask(|_| false)
-    }
-
-    fn general_category(&self, c: u32) -> GeneralCategory {
-        let is_mark = (0x300..=0x36F).contains(&c);
-        let categories = [GeneralCategory::Ll, GeneralCategory::Mn];
-        self.ask(|_| categories[usize::from(is_mark)])
-    }
-
-    fn modified_combining_class(&self, c: u32) -> u8 {
-        self.ask(|_| if c == 0x323 { 220 } else { 230 })
-    }
-
-    fn is_default_ignorable(&self, _: u32) -> bool {
-        self.ask(|_| false)
-    }
-
-    fn invisible_glyph(&self) -> Option<GlyphId> {
-        self.ask(|_| None)
-    }
-
-    fn reorder_marks(&self, _: BufferClusterLevel, _: &mut [GlyphInfo], _: usize, _: usize) {
-        self.ask(|_| ());
-    }
-}
-
-/// Normalizes with a context that returns so many times; returns whether it did.
-fn is_normalized(answers: usize, buffer: &mut Buffer) -> bool {
-    let left = &Cell::new(answers);
-    let context = Panicking { asked: Latin, left };
-    caught(|| normalize(&context, Rounds::Always, buffer).unwrap()).is_ok()
-}
-
-/// A text of Latin letters and marks.
-fn latin_text(characters: &[u32]) -> Buffer {
-    let mut text = text_of(characters, 100);
-    text.with_glyphs_mut(|glyphs| {
-        for glyph in glyphs
-            .iter_mut()
-            .filter(|glyph| (0x300..0x370).contains(&glyph.glyph_id))
-        {
-            glyph.general_category = GeneralCategory::Mn;
-            glyph.modified_combining_class = if glyph.glyph_id == 0x323 { 220 } else { 230 };
-        }
-    });
-    text
-}
-
-/// Makes a call that panics at each question in turn, and returns how often the buffer was as
-/// before, and how often empty.
-fn left_by(text: &Buffer, make: impl Fn(usize, &mut Buffer) -> bool) -> [usize; 2] {
-    let mut whole = copy_of(text);
-    assert!(make(usize::MAX, &mut whole));
-    let mut kinds = [0, 0];
-    for answers in 0.. {
-        let mut left = copy_of(text);
-        if make(answers, &mut left) {
-            break;
-        }
-        kinds[usize::from(left.is_empty())] += 1;
-        if !left.is_empty() {
-            assert_eq!(Contents::with_places(&left), Contents::with_places(text));
-            assert!(make(usize::MAX, &mut left));
-            assert_eq!(Contents::of(&left), Contents::of(&whole));
-        }
-    }
-    kinds
-}
-
-#[test]
-fn normalization_leaves_no_half_made_buffer() {
-    // letters that come apart; letters alone, which stay; letters with marks that stay
-    let apart = latin_text(&[0x1EBF, 0x323, 0x65, 0x301, 0x323, 0x34F, 0xEA, 0xE9]);
-    let alone = latin_text(&[0x61, 0x62, 0x63, 0x64, 0x65, 0x66, 0x67, 0x68]);
-    let staying = latin_text(&[0x61, 0x323, 0x62, 0x323, 0x63, 0x323, 0x64, 0x323]);
-    for text in [apart, alone, staying] {
-        let kinds = left_by(&text, is_normalized);
-        assert!(kinds.iter().all(|count| *count > 5), "{kinds:?}");
-    }
-}
-
-#[cfg(feature = "tables")]
-mod preparing {
+#[cfg(feature = "text")]
+mod text {
     use super::*;
-    use sengadlit::buffer::Direction;
-    use sengadlit::ot_shape_prepare::{
-        CharRotation, UnicodeProperties, rotate_chars, set_unicode_properties,
-    };
-    use sengadlit::unicode::UnicodeTables;
+    use sengadlit::buffer::{BufferClusterLevel, GlyphInfo};
+    use sengadlit::ot_shape_normalize::{NormalizeContext, Rounds, normalize};
+    use sengadlit::plan::NormalizationMode;
 
-    impl UnicodeProperties for Panicking<'_, UnicodeTables> {
+    /// A few of Unicode's letters and marks, and a font that has them all.
+    struct Latin;
+
+    const PAIRS: [(u32, u32, u32); 3] = [
+        (0xE9, 0x65, 0x301),
+        (0xEA, 0x65, 0x302),
+        (0x1EBF, 0xEA, 0x301),
+    ];
+
+    impl NormalizeContext for Panicking<'_, Latin> {
+        fn normalization_preference(&self) -> NormalizationMode {
+            self.ask(|_| NormalizationMode::CD)
+        }
+
+        fn decompose(&self, ab: u32) -> Option<(u32, u32)> {
+            let found = PAIRS.iter().find(|pair| pair.0 == ab);
+            self.ask(|_| found.map(|pair| (pair.1, pair.2)))
+        }
+
+        fn compose(&self, a: u32, b: u32) -> Option<u32> {
+            let found = PAIRS.iter().find(|pair| (pair.1, pair.2) == (a, b));
+            self.ask(|_| found.map(|pair| pair.0))
+        }
+
+        fn get_nominal_glyph(&self, c: u32) -> Option<GlyphId> {
+            self.ask(|_| u16::try_from(c).ok().map(GlyphId))
+        }
+
+        fn get_variation_glyph(&self, _: u32, _: u32) -> Option<GlyphId> {
+            self.ask(|_| None)
+        }
+
+        fn draws_selectors(&self) -> bool {
+            self.ask(|_| false)
+        }
+
         fn general_category(&self, c: u32) -> GeneralCategory {
-            self.ask(|tables| UnicodeProperties::general_category(tables, c))
+            let is_mark = (0x300..=0x36F).contains(&c);
+            let categories = [GeneralCategory::Ll, GeneralCategory::Mn];
+            self.ask(|_| categories[usize::from(is_mark)])
         }
 
         fn modified_combining_class(&self, c: u32) -> u8 {
-            self.ask(|tables| tables.modified_combining_class(c))
+            self.ask(|_| if c == 0x323 { 220 } else { 230 })
         }
 
-        fn is_default_ignorable(&self, c: u32) -> bool {
-            self.ask(|tables| tables.is_default_ignorable(c))
+        fn is_default_ignorable(&self, _: u32) -> bool {
+            self.ask(|_| false)
         }
 
-        fn is_extended_pictographic(&self, c: u32) -> bool {
-            self.ask(|tables| tables.is_extended_pictographic(c))
+        fn invisible_glyph(&self) -> Option<GlyphId> {
+            self.ask(|_| None)
         }
 
-        fn mirrored(&self, c: u32) -> Option<u32> {
-            self.ask(|tables| tables.mirrored(c))
-        }
-
-        fn vertical_form(&self, c: u32) -> Option<u32> {
-            self.ask(|tables| tables.vertical_form(c))
+        fn reorder_marks(&self, _: BufferClusterLevel, _: &mut [GlyphInfo], _: usize, _: usize) {
+            self.ask(|_| ());
         }
     }
 
-    fn panicking<A>(asked: A, left: &Cell<usize>) -> Panicking<'_, A> {
-        Panicking { asked, left }
+    /// Normalizes with a context that returns so many times; returns whether it did.
+    fn is_normalized(answers: usize, buffer: &mut Buffer) -> bool {
+        let left = &Cell::new(answers);
+        let context = Panicking { asked: Latin, left };
+        caught(|| normalize(&context, Rounds::Always, buffer).unwrap()).is_ok()
+    }
+
+    /// A text of Latin letters and marks.
+    fn latin_text(characters: &[u32]) -> Buffer {
+        let mut text = text_of(characters, 100);
+        text.with_glyphs_mut(|glyphs| {
+            for glyph in glyphs
+                .iter_mut()
+                .filter(|glyph| (0x300..0x370).contains(&glyph.glyph_id))
+            {
+                glyph.general_category = GeneralCategory::Mn;
+                glyph.modified_combining_class = if glyph.glyph_id == 0x323 { 220 } else { 230 };
+            }
+        });
+        text
+    }
+
+    /// Makes a call that panics at each question in turn, and returns how often the buffer was as
+    /// before, and how often empty.
+    fn left_by(text: &Buffer, make: impl Fn(usize, &mut Buffer) -> bool) -> [usize; 2] {
+        let mut whole = copy_of(text);
+        assert!(make(usize::MAX, &mut whole));
+        let mut kinds = [0, 0];
+        for answers in 0.. {
+            let mut left = copy_of(text);
+            if make(answers, &mut left) {
+                break;
+            }
+            kinds[usize::from(left.is_empty())] += 1;
+            if !left.is_empty() {
+                assert_eq!(Contents::with_places(&left), Contents::with_places(text));
+                assert!(make(usize::MAX, &mut left));
+                assert_eq!(Contents::of(&left), Contents::of(&whole));
+            }
+        }
+        kinds
     }
 
     #[test]
-    fn properties_and_rotation_leave_no_half_made_buffer() {
-        let text = latin_text(&[0x28, 0x65, 0x301, 0x29, 0x2026, 0x3C]);
-        let properties = left_by(&text, |answers, buffer| {
-            let left = &Cell::new(answers);
-            caught(|| set_unicode_properties(&panicking(UnicodeTables, left), buffer)).is_ok()
-        });
-        let mut kinds = vec![properties];
-        for direction in [Direction::RightToLeft, Direction::TopToBottom] {
-            let rotation = CharRotation {
-                direction,
-                rtlm_mask: 1 << 8,
-                has_vert: false,
-            };
-            kinds.push(left_by(&text, |answers, buffer| {
-                let left = &Cell::new(answers);
-                let unicode = panicking(UnicodeTables, left);
-                let font = panicking(LotFont(Steady(1)), left);
-                caught(|| rotate_chars(&unicode, &font, &rotation, buffer)).is_ok()
-            }));
+    fn normalization_leaves_no_half_made_buffer() {
+        // letters that come apart; letters alone, which stay; letters with marks that stay
+        let apart = latin_text(&[0x1EBF, 0x323, 0x65, 0x301, 0x323, 0x34F, 0xEA, 0xE9]);
+        let alone = latin_text(&[0x61, 0x62, 0x63, 0x64, 0x65, 0x66, 0x67, 0x68]);
+        let staying = latin_text(&[0x61, 0x323, 0x62, 0x323, 0x63, 0x323, 0x64, 0x323]);
+        for text in [apart, alone, staying] {
+            let kinds = left_by(&text, is_normalized);
+            assert!(kinds.iter().all(|count| *count > 5), "{kinds:?}");
         }
-        assert!(kinds.iter().all(|[_, empty]| *empty > 5), "{kinds:?}");
+    }
+
+    mod preparing {
+        use super::*;
+        use sengadlit::buffer::Direction;
+        use sengadlit::ot_shape_prepare::{
+            CharRotation, UnicodeProperties, rotate_chars, set_unicode_properties,
+        };
+        use sengadlit::unicode::UnicodeTables;
+
+        impl UnicodeProperties for Panicking<'_, UnicodeTables> {
+            fn general_category(&self, c: u32) -> GeneralCategory {
+                self.ask(|tables| UnicodeProperties::general_category(tables, c))
+            }
+
+            fn modified_combining_class(&self, c: u32) -> u8 {
+                self.ask(|tables| tables.modified_combining_class(c))
+            }
+
+            fn is_default_ignorable(&self, c: u32) -> bool {
+                self.ask(|tables| tables.is_default_ignorable(c))
+            }
+
+            fn is_extended_pictographic(&self, c: u32) -> bool {
+                self.ask(|tables| tables.is_extended_pictographic(c))
+            }
+
+            fn mirrored(&self, c: u32) -> Option<u32> {
+                self.ask(|tables| tables.mirrored(c))
+            }
+
+            fn vertical_form(&self, c: u32) -> Option<u32> {
+                self.ask(|tables| tables.vertical_form(c))
+            }
+        }
+
+        fn panicking<A>(asked: A, left: &Cell<usize>) -> Panicking<'_, A> {
+            Panicking { asked, left }
+        }
+
+        #[test]
+        fn properties_and_rotation_leave_no_half_made_buffer() {
+            let text = latin_text(&[0x28, 0x65, 0x301, 0x29, 0x2026, 0x3C]);
+            let properties = left_by(&text, |answers, buffer| {
+                let left = &Cell::new(answers);
+                caught(|| set_unicode_properties(&panicking(UnicodeTables, left), buffer)).is_ok()
+            });
+            let mut kinds = vec![properties];
+            for direction in [Direction::RightToLeft, Direction::TopToBottom] {
+                let rotation = CharRotation {
+                    direction,
+                    rtlm_mask: 1 << 8,
+                    has_vert: false,
+                };
+                kinds.push(left_by(&text, |answers, buffer| {
+                    let left = &Cell::new(answers);
+                    let unicode = panicking(UnicodeTables, left);
+                    let font = panicking(LotFont(Steady(1)), left);
+                    caught(|| rotate_chars(&unicode, &font, &rotation, buffer)).is_ok()
+                }));
+            }
+            assert!(kinds.iter().all(|[_, empty]| *empty > 5), "{kinds:?}");
+        }
     }
 }

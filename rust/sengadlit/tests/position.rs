@@ -1,4 +1,5 @@
 //! What is done to glyphs around GPOS and behind it, beside HarfBuzz's rules written a second time.
+#![cfg(feature = "text")]
 
 mod common;
 
@@ -49,7 +50,9 @@ fn glyph(kind: u32, cluster: u32, mask: u32) -> GlyphInfo {
 
 fn text(glyphs: &[(u32, u32, u32)]) -> Buffer {
     let glyphs = glyphs.iter();
-    glyphs.map(|&(kind, cluster, mask)| glyph(kind, cluster, mask)).collect()
+    glyphs
+        .map(|&(kind, cluster, mask)| glyph(kind, cluster, mask))
+        .collect()
 }
 
 fn random_text(numbers: &mut Numbers) -> Buffer {
@@ -92,7 +95,10 @@ fn removed_in_steps(buffer: &Buffer) -> Vec<(u32, u32)> {
         }
         match kept.last().copied() {
             Some(last) if gone.cluster < last.cluster => {
-                let run = kept.iter_mut().rev().take_while(|glyph| glyph.cluster == last.cluster);
+                let run = kept
+                    .iter_mut()
+                    .rev()
+                    .take_while(|glyph| glyph.cluster == last.cluster);
                 for glyph in run {
                     glyph.cluster = gone.cluster;
                     glyph.mask = glyph.mask & !7 | gone.mask & 7;
@@ -103,7 +109,9 @@ fn removed_in_steps(buffer: &Buffer) -> Vec<(u32, u32)> {
             None => {}
         }
     }
-    kept.iter().map(|glyph| (glyph.cluster, glyph.mask)).collect()
+    kept.iter()
+        .map(|glyph| (glyph.cluster, glyph.mask))
+        .collect()
 }
 
 #[test]
@@ -123,11 +131,16 @@ fn hidden_or_removed() {
     let glyphs = [(0, 0, 0), (1, 1, 0), (2, 1, 0)];
     let space = NominalOnly(|c| (c == 0x20).then_some(GlyphId(3)));
     let none = NominalOnly(|_| None);
-    let ids = |ignorables, invisible, font: &dyn Fn(&mut Buffer, DefaultIgnorables, Option<GlyphId>)| {
-        let mut buffer = text(&glyphs);
-        font(&mut buffer, ignorables, invisible);
-        buffer.glyphs().iter().map(|glyph| glyph.glyph_id).collect::<Vec<u32>>()
-    };
+    let ids =
+        |ignorables, invisible, font: &dyn Fn(&mut Buffer, DefaultIgnorables, Option<GlyphId>)| {
+            let mut buffer = text(&glyphs);
+            font(&mut buffer, ignorables, invisible);
+            buffer
+                .glyphs()
+                .iter()
+                .map(|glyph| glyph.glyph_id)
+                .collect::<Vec<u32>>()
+        };
     let by_space = |buffer: &mut Buffer, ignorables, invisible| {
         hide_default_ignorables(ignorables, invisible, &space, buffer);
     };
@@ -135,10 +148,19 @@ fn hidden_or_removed() {
         hide_default_ignorables(ignorables, invisible, &none, buffer);
     };
     assert_eq!(ids(DefaultIgnorables::Hide, None, &by_space), [40, 3, 42]);
-    assert_eq!(ids(DefaultIgnorables::Hide, Some(GlyphId(5)), &by_space), [40, 5, 42]);
+    assert_eq!(
+        ids(DefaultIgnorables::Hide, Some(GlyphId(5)), &by_space),
+        [40, 5, 42]
+    );
     assert_eq!(ids(DefaultIgnorables::Hide, None, &by_none), [40, 42]);
-    assert_eq!(ids(DefaultIgnorables::Remove, Some(GlyphId(5)), &by_space), [40, 42]);
-    assert_eq!(ids(DefaultIgnorables::Preserve, None, &by_none), [40, 41, 42]);
+    assert_eq!(
+        ids(DefaultIgnorables::Remove, Some(GlyphId(5)), &by_space),
+        [40, 42]
+    );
+    assert_eq!(
+        ids(DefaultIgnorables::Preserve, None, &by_none),
+        [40, 41, 42]
+    );
 }
 
 #[test]
@@ -177,7 +199,10 @@ fn widths() {
     buffer.set_position(0, at(10, 20, 1, 2));
     buffer.set_position(1, at(10, 20, i32::MIN + 5, 2));
     zero_mark_widths(&Marks, true, &mut buffer);
-    assert_eq!(buffer.positions(), [at(10, 20, 1, 2), at(0, 0, i32::MIN, -18)]);
+    assert_eq!(
+        buffer.positions(),
+        [at(10, 20, 1, 2), at(0, 0, i32::MIN, -18)]
+    );
 
     buffer.set_position(1, at(10, 20, 1, 2));
     for ignorables in [DefaultIgnorables::Preserve, DefaultIgnorables::Remove] {
@@ -199,7 +224,11 @@ fn flags_of_clusters() {
         let mut buffer = text(glyphs);
         buffer.set_flags(flags);
         propagate_flags(&mut buffer);
-        buffer.glyphs().iter().map(|glyph| glyph.mask).collect::<Vec<u32>>()
+        buffer
+            .glyphs()
+            .iter()
+            .map(|glyph| glyph.mask)
+            .collect::<Vec<u32>>()
     };
     let concat = BufferFlags::PRODUCE_UNSAFE_TO_CONCAT;
     let tatweel = BufferFlags::PRODUCE_SAFE_TO_INSERT_TATWEEL;

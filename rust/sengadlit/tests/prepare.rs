@@ -1,6 +1,6 @@
 //! What is done to a text before normalization, by what Unicode and Microsoft's file say of characters.
 
-#![cfg(feature = "tables")]
+#![cfg(feature = "text")]
 
 use sengadlit::alloc::Global;
 use sengadlit::font::NominalOnly;

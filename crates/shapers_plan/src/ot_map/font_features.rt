@@ -10,6 +10,10 @@ pub trait FontFeatures {
     /// The two tables as a value: their results.
     ghost tables: { Self → FontTables };
 
+    /// Whether the font has the table.
+    fn has_table(&self, table: TableIndex) -> bool
+        ensures { result ≡ (tables self.now).there table };
+
     /// The tag of the chosen script, or none where the table has no script to choose.
     fn chosen_script(&self, table: TableIndex) -> Option<hb_tag_t>
         ensures { result ≡ (tables self.now).chosen table };

@@ -3,14 +3,14 @@ ghost use Rattle.std.specs.Prelude.{◌≡◌, find, IfOk, IsOkUnless};
 ghost use Rattle.std.specs.List.{filter_map};
 ghost use Rattle.shapers_base.specs.Map.{same_tag};
 ghost use Rattle.shapers_buffer.specs.declared.buffer.refusal.ShaperError.TheVariants.{Memory};
-ghost use Rattle.shapers_plan.specs.Planning.{driver_masks, hooks_plan, range_of_user};
+ghost use Rattle.shapers_plan.specs.Planning.{driver_masks, hooks_plan, range_of_user, suits, takes_gpos};
 
 use super::collecting::is_for_all;
 use super::{DriverMasks, UserFeature, UserRange};
-use crate::ot_map::MappedFeature;
+use crate::ot_map::{FontFeatures, MappedFeature};
 use rustybuzz_shapers::shaper::hb_ot_shaper_t;
 use shapers_base::buffer::{Script, ShaperError, hb_tag_t};
-use shapers_base::map::hb_ot_map_t;
+use shapers_base::map::{TableIndex, hb_ot_map_t};
 use shapers_base::plan::hb_ot_shape_plan_t;
 use std::alloc::Global;
 
@@ -41,6 +41,31 @@ pub(super) fn hooks_plan(
     match shaper {
         Some(shaper) => shaper.with_data(plan),
         None => plan,
+    }
+}
+
+/// Whether GPOS is applied. Of a script that a shaper doesn't know there, it may place marks badly.
+pub(super) fn takes_gpos<L: FontFeatures>(shaper: Option<hb_ot_shaper_t>, features: &L) -> bool
+    ensures { result ≡ takes_gpos (L.tables features.now) shaper }
+{
+    features.has_table(TableIndex::GPOS)
+        && match shaper {
+            Some(shaper) => suits(
+                shaper.gpos_tag(),
+                features.chosen_script(TableIndex::GPOS),
+            ),
+            None => true,
+        }
+}
+
+// Whether a shaper that wants this script in GPOS, or any, takes the one that was chosen there.
+fn suits(wanted: Option<hb_tag_t>, chosen: Option<hb_tag_t>) -> bool
+    ensures { result ≡ suits wanted chosen }
+{
+    match (wanted, chosen) {
+        (None, _) => true,
+        (Some(_), None) => false,
+        (Some(wanted), Some(tag)) => tag == wanted,
     }
 }
 

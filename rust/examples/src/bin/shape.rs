@@ -7,12 +7,14 @@
 //!     --script CODE     the script by ISO 15924, instead of that of the first letter
 //!     --direction ltr   or rtl
 
+use sengadlit::alloc::Global;
 use sengadlit::buffer::glyph_flag;
-use sengadlit::unicode::UnicodeTables;
-use sengadlit::{Buffer, GlyphInfo, GlyphPosition};
+use sengadlit::ot_shape_normalize::NormalizeSettings;
+use sengadlit::ot_shape_plan::ShapePlan;
+use sengadlit::{Buffer, GlyphInfo, GlyphPosition, Script};
 use sengadlit_examples::arguments::Arguments;
 use sengadlit_examples::svg::{BLACK, Drawing};
-use sengadlit_examples::{OpenType, Settings, ShapePlan, shape};
+use sengadlit_examples::{OpenType, shape};
 use std::error::Error;
 use std::fmt::Write as _;
 use std::fs;
@@ -28,14 +30,14 @@ fn main() -> Result<(), Box<dyn Error>> {
     let (script, direction) = arguments.script(text)?;
     let data = fs::read(path)?;
     let font = OpenType::new(&data, script)?;
-    let plan = ShapePlan::new(&font, &font.layout, script, direction, Settings::default())?;
+    let plan = ShapePlan::new(Global, Some(script), direction, &font, &font.features, &[])?;
     if lines.is_some() {
         for line in text.lines() {
-            println!("[{}]", items(&shaped(&plan, &font, line)?).join("|"));
+            println!("[{}]", items(&shaped(&plan, script, &font, line)?).join("|"));
         }
         return Ok(());
     }
-    let buffer = shaped(&plan, &font, text)?;
+    let buffer = shaped(&plan, script, &font, text)?;
     for item in items(&buffer) {
         println!("{item}");
     }
@@ -50,10 +52,17 @@ fn main() -> Result<(), Box<dyn Error>> {
     Ok(())
 }
 
-fn shaped(plan: &ShapePlan, font: &OpenType<'_>, text: &str) -> Result<Buffer, Box<dyn Error>> {
+fn shaped(
+    plan: &ShapePlan,
+    script: Script,
+    font: &OpenType<'_>,
+    text: &str,
+) -> Result<Buffer, Box<dyn Error>> {
     let mut buffer = Buffer::default();
+    buffer.set_script(Some(script));
+    buffer.set_direction(plan.direction());
     buffer.push_str(text)?;
-    shape(plan, font, &UnicodeTables, &font.layout, &mut buffer)?;
+    shape(plan, &NormalizeSettings::default(), font, &mut buffer)?;
     Ok(buffer)
 }
 

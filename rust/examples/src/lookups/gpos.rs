@@ -28,16 +28,10 @@ impl<'a> Pass<'_, 'a> {
             P::Pair(tables) => first_of(tables.iter(), |table| self.pair(&table, at)),
             P::Cursive(tables) => first_of(tables.iter(), |table| self.cursive(&table, at)),
             P::MarkToBase(tables) => first_of(tables.iter(), |table| self.mark_to_base(&table, at)),
-            P::MarkToLig(tables) => {
-                first_of(tables.iter(), |table| self.mark_to_ligature(&table, at))
-            }
+            P::MarkToLig(tables) => first_of(tables.iter(), |table| self.mark_to_lig(&table, at)),
             P::MarkToMark(tables) => first_of(tables.iter(), |table| self.mark_to_mark(&table, at)),
-            P::Contextual(tables) => {
-                first_of(tables.iter(), |table| self.apply_rules(rules(&table, first), at))
-            }
-            P::ChainContextual(tables) => {
-                first_of(tables.iter(), |table| self.apply_rules(chained_rules(&table, first), at))
-            }
+            P::Contextual(tables) => self.apply_contexts(tables.iter(), rules, at),
+            P::ChainContextual(tables) => self.apply_contexts(tables.iter(), chained_rules, at),
             P::EmptyExtension => None,
         }
     }
@@ -167,14 +161,12 @@ impl<'a> Pass<'_, 'a> {
         let glyph = self.buffer.get(at);
         let goes_on = |at: usize| {
             let (before, notes) = (self.buffer.get(at), self.notes(at));
-            let is_part = !notes.is_mark() && before.marks.is_multiplied();
-            is_part
-                && notes.ligature == Notes::of(&glyph).ligature
-                && before.lig_comp + 1 == glyph.lig_comp
+            let is_of_same = notes.ligature == Notes::of(&glyph).ligature;
+            let is_part = !notes.is_mark() && before.marks.is_multiplied() && is_of_same;
+            is_part && before.lig_comp + 1 == glyph.lig_comp
         };
-        !glyph.marks.is_multiplied()
-            || glyph.lig_comp == 0
-            || !at.checked_sub(1).is_some_and(goes_on)
+        let is_part = glyph.marks.is_multiplied() && glyph.lig_comp != 0;
+        !is_part || !at.checked_sub(1).is_some_and(goes_on)
     }
 
     fn mark_to_base(&mut self, table: &MarkBasePosFormat1<'a>, at: usize) -> Option<usize> {
@@ -190,7 +182,7 @@ impl<'a> Pass<'_, 'a> {
         Some(self.attach_mark_at(at, base, point(&anchor), mark))
     }
 
-    fn mark_to_ligature(&mut self, table: &MarkLigPosFormat1<'a>, at: usize) -> Option<usize> {
+    fn mark_to_lig(&mut self, table: &MarkLigPosFormat1<'a>, at: usize) -> Option<usize> {
         let mark = table.mark_coverage().ok()?.get(self.glyph(at))?;
         let base = self.base_of(at, |_| true)?;
         let index = table.ligature_coverage().ok()?.get(self.glyph(base))?;

@@ -3,13 +3,13 @@
 use super::layout::Layout;
 use super::notes::Notes;
 use super::pass::{Pass, first_of};
-use super::rules::{Pattern, chained_rules, rules};
-use crate::driver::StageLookup;
+use super::rules::{chained_rules, glyphs, rules};
 use read_fonts::tables::gdef::GlyphClassDef as GlyphClass;
 use read_fonts::tables::gsub::{LigatureSubstFormat1, SingleSubst, SubstitutionSubtables};
 use read_fonts::types::GlyphId16;
 use sengadlit::buffer::GlyphMarks;
 use sengadlit::map::TableIndex;
+use sengadlit::ot_shape_plan::StageLookup;
 use sengadlit::{Buffer, GeneralCategory, GlyphId, GlyphInfo};
 
 impl Layout<'_> {
@@ -23,11 +23,16 @@ impl Layout<'_> {
         };
         let mut text: Buffer = glyphs.iter().map(as_glyph).collect();
         let Some((subtables, _)) = self.lookup(TableIndex::GSUB, index) else { return false };
-        let lookup = StageLookup { index, mask: u32::MAX, ..StageLookup::default() };
-        let mut pass = Pass::new(self, TableIndex::GSUB, lookup, &mut text);
+        let mut pass = Pass::new(self, TableIndex::GSUB, tried(index), &mut text);
         pass.trial = Some(zero_context);
         !glyphs.is_empty() && pass.apply(&subtables, 0).is_some()
     }
+}
+
+// A lookup that is only tried: joiners count as any glyph.
+fn tried(index: u16) -> StageLookup {
+    let (mask, no) = (u32::MAX, false);
+    StageLookup { index, mask, auto_zwnj: no, auto_zwj: no, random: no, per_syllable: no }
 }
 
 impl<'a> Pass<'_, 'a> {
@@ -65,12 +70,8 @@ impl<'a> Pass<'_, 'a> {
                 Some(at + 1)
             }
             S::Ligature(tables) => first_of(tables.iter(), |table| self.find_ligature(&table, at)),
-            S::Contextual(tables) => {
-                first_of(tables.iter(), |table| self.apply_rules(rules(&table, first), at))
-            }
-            S::ChainContextual(tables) => {
-                first_of(tables.iter(), |table| self.apply_rules(chained_rules(&table, first), at))
-            }
+            S::Contextual(tables) => self.apply_contexts(tables.iter(), rules, at),
+            S::ChainContextual(tables) => self.apply_contexts(tables.iter(), chained_rules, at),
             _ => None,
         }
     }
@@ -142,7 +143,7 @@ impl<'a> Pass<'_, 'a> {
             if self.trial.is_some() && parts.len() + 1 < self.buffer.len() {
                 return None;
             }
-            let places = self.find_input(at, &Pattern::Glyphs(parts))?;
+            let places = self.find_input(at, &glyphs(parts))?;
             match places.len() {
                 1 => self.replace(at, ligature.ligature_glyph(), None),
                 _ => self.ligate(&places, ligature.ligature_glyph()),

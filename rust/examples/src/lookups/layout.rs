@@ -1,39 +1,15 @@
-//! The tables of a font for one script: its features, and which glyphs a lookup ignores.
+//! The tables of a font as lookups read them: a lookup, the class of a glyph, and which glyphs a lookup
+//! ignores.
 
 use super::notes::Notes;
-use crate::driver::ScriptFeatures;
 use read_fonts::tables::gdef::{Gdef, GlyphClassDef as GlyphClass};
 use read_fonts::tables::gpos::{Gpos, PositionSubtables};
 use read_fonts::tables::gsub::{Gsub, SubstitutionSubtables};
-use read_fonts::tables::layout::{CoverageTable, FeatureList, LookupFlag, ScriptList, ScriptTags};
+use read_fonts::tables::layout::{CoverageTable, LookupFlag};
 use read_fonts::types::GlyphId16;
-use read_fonts::{FontRef, ReadError, TableProvider};
+use read_fonts::{FontRef, TableProvider};
+use sengadlit::GlyphInfo;
 use sengadlit::map::TableIndex;
-use sengadlit::{GlyphInfo, Script, Tag};
-
-// What a table has for a script, of its default language.
-fn features_of(
-    scripts: Result<ScriptList<'_>, ReadError>,
-    features: Result<FeatureList<'_>, ReadError>,
-    script: Script,
-) -> Option<ScriptFeatures> {
-    let (scripts, list) = (scripts.ok()?, features.ok()?);
-    let selected =
-        scripts.select(&ScriptTags::from_unicode(read_fonts::types::Tag::new(&script.0)))?;
-    let feature = |index: u16| {
-        let feature = list.get(index).ok()?;
-        let lookups = feature.element.lookup_list_indices().iter().map(|index| index.get());
-        Some((Tag(feature.tag.to_be_bytes()), lookups.collect()))
-    };
-    let (mut features, mut required) = (vec![], None);
-    if let Some(Ok(system)) = scripts.get(selected.index).ok()?.element.default_lang_sys() {
-        let indices = system.feature_indices().iter();
-        features = indices.filter_map(|index| feature(index.get())).collect();
-        required = feature(system.required_feature_index());
-    }
-    let tag = Tag(selected.tag.to_be_bytes());
-    Some(ScriptFeatures { tag, is_found: !selected.is_fallback, features, required })
-}
 
 pub enum Subtables<'a> {
     Substitution(SubstitutionSubtables<'a>),
@@ -47,29 +23,16 @@ pub struct Flag<'a> {
     marks: Option<CoverageTable<'a>>,
 }
 
-/// The tables of a font, for one script.
+/// The tables of a font.
 pub struct Layout<'a> {
     gsub: Option<Gsub<'a>>,
     gpos: Option<Gpos<'a>>,
     gdef: Option<Gdef<'a>>,
-    pub(super) substitutions: Option<ScriptFeatures>,
-    pub(super) positions: Option<ScriptFeatures>,
 }
 
 impl<'a> Layout<'a> {
-    pub fn new(font: &FontRef<'a>, script: Script) -> Self {
-        let (gsub, gpos, gdef) = (font.gsub().ok(), font.gpos().ok(), font.gdef().ok());
-        Layout {
-            substitutions: gsub
-                .as_ref()
-                .and_then(|table| features_of(table.script_list(), table.feature_list(), script)),
-            positions: gpos
-                .as_ref()
-                .and_then(|table| features_of(table.script_list(), table.feature_list(), script)),
-            gsub,
-            gpos,
-            gdef,
-        }
+    pub fn new(font: &FontRef<'a>) -> Self {
+        Layout { gsub: font.gsub().ok(), gpos: font.gpos().ok(), gdef: font.gdef().ok() }
     }
 
     /// The class of a glyph, if the font has classes.

@@ -4,11 +4,11 @@
 use super::layout::{Flag, Layout, Subtables, number};
 use super::notes::Notes;
 use super::rules::{Pattern, Rule, Rules};
-use crate::driver::StageLookup;
 use read_fonts::ReadError;
 use read_fonts::types::GlyphId16;
 use sengadlit::map::TableIndex;
 use sengadlit::ot_shape_normalize::HIDDEN;
+use sengadlit::ot_shape_plan::StageLookup;
 use sengadlit::{Buffer, GeneralCategory, GlyphInfo, ShaperError};
 
 /// How deep lookups may call lookups, how many of these calls one lookup over a text may make, and
@@ -182,12 +182,12 @@ impl<'p, 'a> Pass<'p, 'a> {
     /// The places of an input: `at`, and those of the pattern behind it. Marks of different
     /// components of a ligature are no input.
     pub fn find_input(&self, at: usize, pattern: &Pattern<'_>) -> Option<Vec<usize>> {
-        if pattern.len() >= MAX_INPUT {
+        if pattern.len >= MAX_INPUT {
             return None;
         }
         let mut places = vec![at];
-        for k in 0..pattern.len() {
-            let test = |glyph| pattern.fits(k, glyph);
+        for k in 0..pattern.len {
+            let test = |glyph| (pattern.fits)(k, glyph);
             let behind = places[k] + 1..self.buffer.len();
             let place = self.find(Side::Input, self.syllable(at), behind, Some(&test))?;
             if !self.are_of_one_ligature(at, place) {
@@ -216,16 +216,24 @@ impl<'p, 'a> Pass<'p, 'a> {
         base.is_some_and(|base| self.is_ignored(&self.buffer.get(base)))
     }
 
-    /// Applies the first of these rules that fits.
-    pub fn apply_rules(&mut self, rules: Rules<'a>, at: usize) -> Option<usize> {
-        rules?.find_map(|rule| self.apply_rule(&rule, at))
+    /// Applies the first rule that fits of the first of these contexts that has one.
+    pub fn apply_contexts<T>(
+        &mut self,
+        contexts: impl Iterator<Item = Result<T, ReadError>>,
+        rules: fn(&T, GlyphId16) -> Rules<'a>,
+        at: usize,
+    ) -> Option<usize> {
+        let first = self.glyph(at);
+        first_of(contexts, |context| {
+            rules(&context, first)?.find_map(|rule| self.apply_rule(&rule, at))
+        })
     }
 
     // Applies the lookups of a rule where it fits, and returns the place behind its input.
     fn apply_rule(&mut self, rule: &Rule<'_>, at: usize) -> Option<usize> {
-        let has_context = rule.before.len() + rule.behind.len() > 0;
+        let has_context = rule.before.len + rule.behind.len > 0;
         let len = self.buffer.len();
-        if self.trial.is_some_and(|alone| rule.input.len() + 1 < len || alone && has_context) {
+        if self.trial.is_some_and(|alone| rule.input.len + 1 < len || alone && has_context) {
             return None;
         }
         let places = self.find_input(at, &rule.input)?;
@@ -234,13 +242,13 @@ impl<'p, 'a> Pass<'p, 'a> {
             return Some(end);
         }
         let context = |places: &mut dyn Iterator<Item = usize>, pattern: &Pattern<'_>, k| {
-            let test = |glyph| pattern.fits(k, glyph);
+            let test = |glyph| (pattern.fits)(k, glyph);
             self.find(Side::Context, self.syllable(at), places, Some(&test))
         };
-        let behind = (0..rule.behind.len()).try_fold(end, |from, k| {
+        let behind = (0..rule.behind.len).try_fold(end, |from, k| {
             context(&mut (from..len), &rule.behind, k).map(|place| place + 1)
         })?;
-        let before = (0..rule.before.len())
+        let before = (0..rule.before.len)
             .try_fold(at, |from, k| context(&mut (0..from).rev(), &rule.before, k))?;
         self.flag_unsafe_to_break(before, behind);
         Some(self.call_lookups(rule, places, end))

@@ -1,14 +1,15 @@
 //! The steps of a text that aren't lines: what comes before the hooks, and normalization.
 
-use super::{Choices, Direction, Rounds, Route, Script, Shaper, ShaperError};
+use super::{Choices, Direction, Rounds, Route, Shaper, ShaperError};
+use crate::whole_font::WholeFont;
+use sengadlit::Plan;
 use sengadlit::buffer::Buffer;
-use sengadlit::ot_shape_normalize::{NormalizeFont, NormalizeSettings, ot_shape_normalize};
+use sengadlit::ot_shape_normalize::{NormalizeSettings, ot_shape_normalize};
 use sengadlit::ot_shape_prepare::{
     BEGINNING_OF_TEXT, CharRotation, ensure_native_direction, form_clusters, insert_dotted_circle,
     preprocess_text_vowel_constraints, rotate_chars, set_unicode_properties,
 };
-use sengadlit::unicode::{UnicodeTables, general_category};
-use sengadlit::{Font, GeneralCategory, GlyphId, Plan, Tag};
+use sengadlit::unicode::UnicodeTables;
 
 /// A step that the crate has and no line.
 #[derive(Clone, Copy)]
@@ -53,15 +54,17 @@ impl Call {
     pub(super) fn run(self, prepared: &Prepared, buffer: &mut Buffer) -> Result<(), ShaperError> {
         match self {
             Call::Properties => set_unicode_properties(&UnicodeTables, buffer),
-            Call::FirstCircle => insert_first_circle(buffer)?,
+            Call::FirstCircle => insert_first_circle(&prepared.font, buffer)?,
             Call::Graphemes => form_clusters(buffer),
             Call::Direction => ensure_native_direction(buffer),
             Call::Vowels => preprocess_text_vowel_constraints(buffer)?,
-            Call::Rotation => rotate_chars(&UnicodeTables, &WholeFont, &prepared.rotation, buffer),
+            Call::Rotation => {
+                rotate_chars(&UnicodeTables, &prepared.font, &prepared.rotation, buffer)
+            }
             Call::Normalization => ot_shape_normalize(
                 Some(prepared.shaper),
                 &prepared.plan,
-                &WholeFont,
+                &prepared.font,
                 &UnicodeTables,
                 &prepared.settings,
                 buffer,
@@ -72,10 +75,10 @@ impl Call {
 }
 
 // Lines can't set the flag of a beginning, so it is set for the call alone.
-fn insert_first_circle(buffer: &mut Buffer) -> Result<(), ShaperError> {
+fn insert_first_circle(font: &WholeFont, buffer: &mut Buffer) -> Result<(), ShaperError> {
     let flags = buffer.flags();
     buffer.set_flags(flags | BEGINNING_OF_TEXT);
-    let inserted = insert_dotted_circle(&UnicodeTables, &WholeFont, buffer);
+    let inserted = insert_dotted_circle(&UnicodeTables, font, buffer);
     buffer.set_flags(flags);
     inserted
 }
@@ -84,6 +87,7 @@ fn insert_first_circle(buffer: &mut Buffer) -> Result<(), ShaperError> {
 pub(super) struct Prepared {
     shaper: Shaper,
     plan: Plan,
+    font: WholeFont,
     rotation: CharRotation,
     settings: NormalizeSettings,
 }
@@ -97,7 +101,9 @@ impl Prepared {
             .has_gpos_mark(choices.has_gpos_mark)
             .build_for(shaper)
             .ok()?;
-        let is_rtl = choices.is_rtl.unwrap_or_else(|| runs_from_right(script));
+        let is_rtl = choices
+            .is_rtl
+            .unwrap_or_else(|| crate::word::runs_from_right(script));
         let direction = if is_rtl {
             Direction::RightToLeft
         } else {
@@ -111,6 +117,7 @@ impl Prepared {
         Some(Prepared {
             shaper,
             plan,
+            font: WholeFont::of(script),
             rotation: CharRotation {
                 direction,
                 rtlm_mask: 0,
@@ -121,39 +128,5 @@ impl Prepared {
                 ..NormalizeSettings::default()
             },
         })
-    }
-}
-
-// Whether a script's text runs from right to left.
-fn runs_from_right(script: Script) -> bool {
-    crate::word::FROM_RIGHT.contains(&&script.0)
-}
-
-// A font that has every character but those of private use. The numbers of its glyphs aren't read.
-struct WholeFont;
-
-impl Font for WholeFont {
-    fn nominal_glyph(&self, c: u32) -> Option<GlyphId> {
-        let category = general_category(char::from_u32(c)?);
-        let is_assigned = !matches!(category, GeneralCategory::Cn | GeneralCategory::Co);
-        is_assigned.then_some(GlyphId(1))
-    }
-
-    fn glyph_h_advance(&self, _glyph: GlyphId) -> i32 {
-        0
-    }
-
-    fn would_apply(&self, _lookup: u16, _glyphs: &[GlyphId], _zero_context: bool) -> bool {
-        false
-    }
-
-    fn has_feature(&self, _tag: Tag) -> bool {
-        false
-    }
-}
-
-impl NormalizeFont for WholeFont {
-    fn variation_glyph(&self, _c: u32, _selector: u32) -> Option<GlyphId> {
-        None
     }
 }

@@ -12,10 +12,11 @@ use crate::generated::hbhook_draw::drawing::{draw_row, row_of};
 use crate::generated::hbhook_draw::origins::{Origins, Traced};
 use crate::generated::hbhook_lines::Session;
 use crate::support::string::String as Page;
+use sengadlit::Buffer;
 use sengadlit::alloc::Global;
 
 /// The steps so far, and the session that they are made in.
-pub(super) struct Walk {
+pub(crate) struct Walk {
     session: Session,
     numbers: Numbers,
     legend: Legend,
@@ -28,7 +29,7 @@ pub(super) struct Walk {
 
 impl Walk {
     /// No step.
-    pub(super) fn new() -> Self {
+    pub(crate) fn new() -> Self {
         Walk {
             session: Session::new(Global),
             numbers: Numbers::new(Global),
@@ -58,19 +59,30 @@ impl Walk {
     }
 
     /// Carries out a line.
-    pub(super) fn carry_out(&mut self, line: &str) -> Result<(), String> {
+    pub(crate) fn carry_out(&mut self, line: &str) -> Result<(), String> {
         let done = self.carry_out_line(line);
         done.map_err(|fault| format!("{line}: {}", fault.told()))
     }
 
     /// Makes a call.
     pub(super) fn call(&mut self, call: Call, prepared: &Prepared) -> Result<(), String> {
-        self.make_call(call, prepared)
-            .map_err(|fault| format!("{}: {}", call.name(), fault.told()))
+        let run = |buffer: &mut Buffer| call.run(prepared, buffer);
+        self.step(call.name(), Some(call.subject()), run)
+    }
+
+    /// Takes a step that is no line, by its name and where docs/DEFINITIONS.md defines it.
+    pub(crate) fn step(
+        &mut self,
+        name: &str,
+        subject: Option<(&'static str, &'static str)>,
+        run: impl Fn(&mut Buffer) -> Result<(), ShaperError>,
+    ) -> Result<(), String> {
+        self.take_step(name, subject, run)
+            .map_err(|fault| format!("{name}: {}", fault.told()))
     }
 
     /// The steps, and why there are no more.
-    pub(super) fn finished(self, script: Option<[u8; 4]>, ended: Option<String>) -> Steps {
+    pub(crate) fn finished(self, script: Option<[u8; 4]>, ended: Option<String>) -> Steps {
         let mut legend = Page::new(Global);
         let written = self.legend.write(&mut legend);
         Steps {
@@ -134,19 +146,23 @@ impl Walk {
         self.show(vec![line.into()], &origins, subject)
     }
 
-    // Makes a call, and once more on labelled glyphs, which tells where each came from.
-    fn make_call(&mut self, call: Call, prepared: &Prepared) -> Result<(), Stop> {
+    // Takes a step, and takes it once more on labelled glyphs, which tells where each came from.
+    fn take_step(
+        &mut self,
+        name: &str,
+        subject: Option<(&'static str, &'static str)>,
+        run: impl Fn(&mut Buffer) -> Result<(), ShaperError>,
+    ) -> Result<(), Stop> {
         self.show_written()?;
         let mut traced = Traced::labelled(&self.session.buffer)?;
-        let _ = call.run(prepared, &mut traced.after);
-        call.run(prepared, &mut self.session.buffer)
-            .map_err(LineFault::Refused)?;
+        let _ = run(&mut traced.after);
+        run(&mut self.session.buffer).map_err(LineFault::Refused)?;
         self.check_length()?;
         let origins = traced.origins(self.session.buffer.glyphs())?;
         for glyph in self.session.buffer.glyphs() {
             self.numbers.add_character(glyph.glyph_id)?;
         }
-        self.show(vec![call.name().into()], &origins, Some(call.subject()))
+        self.show(vec![name.into()], &origins, subject)
     }
 
     fn check_length(&self) -> Result<(), Stop> {

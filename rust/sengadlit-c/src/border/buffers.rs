@@ -77,6 +77,28 @@ pub extern "C" fn sengadlit_buffer_get_glyph_positions(
     })
 }
 
+#[unsafe(no_mangle)]
+pub extern "C" fn sengadlit_buffer_merge_clusters(
+    buffer: Pointer,
+    start: c_uint,
+    end: c_uint,
+) -> Status {
+    done(buffer, |buffer| {
+        buffer.merge_clusters(start as usize, end as usize)
+    })
+}
+
+#[unsafe(no_mangle)]
+pub extern "C" fn sengadlit_buffer_unsafe_to_break(
+    buffer: Pointer,
+    start: c_uint,
+    end: c_uint,
+) -> Status {
+    done(buffer, |buffer| {
+        buffer.unsafe_to_break(start as usize, end as usize)
+    })
+}
+
 // A call that fails or is done.
 fn done(buffer: Pointer, call: impl FnOnce(&mut Buffer) -> Result<(), Error>) -> Status {
     buffer.call(

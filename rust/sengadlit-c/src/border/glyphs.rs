@@ -70,6 +70,30 @@ impl Text {
         *self = Text::of(inner, self.max_length);
     }
 
+    /// Takes the glyphs and settings of a text of the crate's, which is empty then.
+    pub fn lend(&mut self, text: &mut Inner) {
+        let max_length = text.max_len();
+        let empty = Inner::new(Global, MAX_LENGTH);
+        *self = Text::of(core::mem::replace(text, empty), max_length);
+    }
+
+    /// Gives the glyphs back, into a text of the crate's whose settings stay but for the greatest length, if each general
+    /// category is one and each codepoint is a glyph's number; returns whether it did.
+    pub fn take_back(&mut self, text: &mut Inner) -> bool {
+        if !self.is_known(Takes::GlyphNumbers) {
+            return false;
+        }
+        let mut inner = core::mem::replace(self, Text::new()).inner;
+        let length = inner.len();
+        let settings = text.settings();
+        inner.set_settings(&BufferSettings {
+            max_len: settings.max_len.max(length),
+            ..settings
+        });
+        *text = inner;
+        true
+    }
+
     /// Removes the glyphs, and what was said of the text.
     pub fn clear(&mut self) {
         self.inner.clear();

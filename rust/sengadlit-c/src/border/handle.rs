@@ -20,6 +20,8 @@ enum State {
 /// `sengadlit_buffer_t`.
 pub struct Handle {
     state: Cell<State>,
+    // Whether it is the library's, which lends it to a callback: C can't destroy it.
+    is_lent: bool,
     error: Cell<Error>,
     // While a call has it, this is that call's alone.
     buffer: UnsafeCell<Buffer>,
@@ -33,8 +35,13 @@ pub struct Pointer(*mut Handle);
 impl Pointer {
     /// A new buffer; null where memory is refused.
     pub fn create() -> Self {
+        Pointer::to_new(false)
+    }
+
+    fn to_new(is_lent: bool) -> Self {
         let handle = super::boxed(Handle {
             state: Cell::new(State::Free),
+            is_lent,
             error: Cell::new(Error::NONE),
             buffer: UnsafeCell::new(Buffer::new()),
         });
@@ -47,9 +54,11 @@ impl Pointer {
         unsafe { self.0.as_ref() }
     }
 
-    /// Frees the buffer, or leaves that to the call that has it.
+    /// Frees the buffer, or leaves that to the call that has it. One that is lent stays.
     pub fn destroy(self) {
-        let Some(handle) = self.handle() else { return };
+        let Some(handle) = self.handle().filter(|handle| !handle.is_lent) else {
+            return;
+        };
         if handle.state.replace(State::Destroyed) == State::Free {
             // SAFETY: it came from `create`, and neither C nor a call has it any more.
             drop(unsafe { Box::from_raw(self.0) });
@@ -99,6 +108,43 @@ impl Pointer {
         call: impl FnOnce(&mut Buffer) -> Result<*mut T, Error>,
     ) -> *mut T {
         self.call(|_| null_mut(), call)
+    }
+}
+
+/// A buffer of the library's, which it lends to callbacks.
+pub struct Lent(Pointer);
+
+impl Lent {
+    /// An empty one; none where memory is refused.
+    pub fn create() -> Option<Self> {
+        let pointer = Pointer::to_new(true);
+        pointer.handle()?;
+        Some(Lent(pointer))
+    }
+
+    /// What a callback is given. It may use the buffer as C may any, but it can't destroy it.
+    pub fn pointer(&self) -> Pointer {
+        self.0
+    }
+
+    /// The buffer, between callbacks; none where a jump within a callback left a call on it.
+    pub fn buffer(&mut self) -> Option<&mut Buffer> {
+        let handle = self.0.handle()?;
+        if handle.state.get() != State::Free {
+            return None;
+        }
+        // SAFETY: no call has it, and C makes none while no callback runs; this one is borrowed alone.
+        Some(unsafe { &mut *handle.buffer.get() })
+    }
+}
+
+impl Drop for Lent {
+    fn drop(&mut self) {
+        // (what a jump left isn't freed: see `abandon`)
+        if self.buffer().is_some() {
+            // SAFETY: it came from `to_new`, and neither C nor a call has it any more.
+            drop(unsafe { Box::from_raw(self.0.0) });
+        }
     }
 }
 
@@ -152,7 +198,7 @@ impl Drop for Call {
 
 #[cfg(test)]
 mod tests {
-    use super::Pointer;
+    use super::{Lent, Pointer};
     use crate::status::Status;
 
     fn length(buffer: Pointer) -> Result<usize, Status> {
@@ -203,6 +249,21 @@ mod tests {
             Ok(length(buffer))
         });
         assert_eq!(ended, Err(Status::InCall));
+    }
+
+    #[test]
+    fn what_is_lent_is_used_and_not_destroyed() {
+        let mut lent = Lent::create().unwrap();
+        let pointer = lent.pointer();
+        pointer.destroy();
+        assert_eq!(length(pointer), Ok(0));
+        let ended = pointer.call(Err, |_| {
+            pointer.destroy();
+            assert!(lent.buffer().is_none());
+            Ok(length(pointer))
+        });
+        assert_eq!(ended, Err(Status::InCall));
+        assert!(lent.buffer().is_some());
     }
 
     #[test]

@@ -12,7 +12,7 @@ use crate::generated::shapers_base::plan::Plan;
 use crate::generated::shapers_plan::ot_map::{CompiledMap, FontFeatures, Stage, StageLookup};
 use crate::support::alloc::Global;
 use collecting::{collect, text_shaper};
-use making::{driver_masks, hooks_plan, user_ranges};
+use making::{driver_masks, hooks_plan, takes_gpos, user_ranges};
 
 mod collecting;
 mod making;
@@ -21,7 +21,7 @@ mod user;
 pub use user::{UserFeature, UserRange};
 
 /// The masks of features that the driver itself turns on; 0 where the font lacks one.
-#[derive(Clone, Copy, Debug, PartialEq, Eq, Hash)]
+#[derive(Clone, Copy, Debug, PartialEq, Eq)]
 pub struct DriverMasks {
     /// Fractions.
     pub frac: u32,
@@ -36,16 +36,17 @@ pub struct DriverMasks {
 }
 
 /// What is decided for the texts of one script, direction and font before one is seen.
-#[derive(Debug, PartialEq, Eq)]
+#[derive(Debug)]
 pub struct ShapePlan {
-    pub(crate) shaper: Option<Shaper>,
-    pub(crate) plan: Plan,
-    pub(crate) direction: Direction,
-    pub(crate) substitutions: Vec<Stage>,
-    pub(crate) lookups: Vec<StageLookup>,
-    pub(crate) positioning: Vec<StageLookup>,
-    pub(crate) masks: DriverMasks,
-    pub(crate) ranges: Vec<UserRange>,
+    shaper: Option<Shaper>,
+    plan: Plan,
+    direction: Direction,
+    substitutions: Vec<Stage>,
+    lookups: Vec<StageLookup>,
+    applies_gpos: bool,
+    positioning: Vec<StageLookup>,
+    masks: DriverMasks,
+    ranges: Vec<UserRange>,
 }
 
 impl ShapePlan {
@@ -54,7 +55,7 @@ impl ShapePlan {
     ///
     /// # Errors
     ///
-    /// [`Memory`].
+    /// `Memory`.
     ///
     /// <details><summary>Contract</summary>
     ///
@@ -71,8 +72,6 @@ impl ShapePlan {
     /// - `text_plan`: `crates/shapers_plan/specs/Planning.antt`
     ///
     /// </details>
-    ///
-    /// [`Memory`]: crate::ShaperError::Memory
     pub fn new<F: Font, L: FontFeatures>(
         alloc: Global,
         script: Option<Script>,
@@ -92,6 +91,7 @@ impl ShapePlan {
             direction,
             substitutions: compiled.stages,
             lookups: compiled.lookups,
+            applies_gpos: takes_gpos(shaper, features),
             positioning: compiled.positioning,
             masks,
             ranges,
@@ -176,6 +176,22 @@ impl ShapePlan {
     #[inline]
     pub fn lookups(&self) -> &[StageLookup] {
         self.lookups.as_slice()
+    }
+
+    /// Whether GPOS is applied: the font has it, and the shaper takes the script chosen there.
+    ///
+    /// <details><summary>Contract</summary>
+    ///
+    /// # Contract
+    ///
+    /// ```text
+    /// ensures { result ≡ self.now.applies_gpos }
+    /// ```
+    ///
+    /// </details>
+    #[inline]
+    pub fn applies_gpos(&self) -> bool {
+        self.applies_gpos
     }
 
     /// The lookups of GPOS.

@@ -20,6 +20,6 @@ returns-clause-ok g c =
     let requested : c.requests.result.now ≡ requests_for shaper script direction has_rclt users = c.requests.ensures ∙ c.in_ok-planner.ensures.ok in
     let ranged = c.in_ok-ranges.ensures.ok ∙ ap (λ fs. filter_map (range_of_user fs) users) c.as_slice.ensures.value in
     let shaped = c.text_shaper-shaper.ensures ∙ ap (text_shaper script direction) c.chosen_script.ensures in
-    plan-of-requests tables shaper script direction users rs it.features.items it.stages.items it.lookups.items it.positioning.items _ c.hooks_plan.result c.driver_masks-masks.result c.in_ok-ranges.ranges.items compiled.features compiled.stages compiled.lookups compiled.positioning compiled.map c.hooks_plan.ensures c.driver_masks-masks.ensures ranged
+    plan-of-requests tables shaper script direction users rs it.features.items it.stages.items it.lookups.items c.takes_gpos.result it.positioning.items _ c.hooks_plan.result c.driver_masks-masks.result c.in_ok-ranges.ranges.items compiled.features compiled.stages compiled.lookups c.takes_gpos.ensures compiled.positioning compiled.map c.hooks_plan.ensures c.driver_masks-masks.ensures ranged
     ∙ ap (plan_of_requests tables shaper script direction users) requested
     ∙ ap (λ s. plan_of_requests tables s script direction users (requests_for s script direction has_rclt users)) shaped

@@ -1,0 +1,320 @@
+//! A text the whole way up to a font's lookups, and through the pauses between them, by the plan of
+//! its script and for a font that stands in for a real one.
+
+use crate::generated::hbhook_boxes::{Context, FOOT, HEAD, Line, write_lines, write_text};
+use crate::generated::hbhook_commands::{LineFault, print_buffer};
+use crate::generated::hbhook_lines::Session;
+use crate::steps::{Steps, Walk};
+use crate::support::string::String as Page;
+use crate::whole_font::WholeFont;
+use crate::word::{Planned, line_of_text, name_of, name_of_pause, runs_from_right, script_of_word};
+use sengadlit::alloc::{AllocError, Global};
+use sengadlit::ot_shape::{TextPlan, prepare_text};
+use sengadlit::ot_shape_normalize::NormalizeSettings;
+use sengadlit::ot_shape_plan::ShapePlan;
+use sengadlit::shaper::checked::CallError;
+use sengadlit::spans::setup_syllables_found;
+use sengadlit::unicode::UnicodeTables;
+use sengadlit::{Buffer, Direction, Pause, Script, ShaperError, Tag, run_pause};
+use std::fmt;
+
+/// Why a text has no glyphs.
+#[derive(Clone, Debug, PartialEq, Eq)]
+pub enum TextFault {
+    /// No script is named, and none with hooks is known of the text.
+    NoScript,
+    /// A step refused.
+    Refused(ShaperError),
+    /// A row of a drawing was refused, and why.
+    Undrawn(String),
+}
+
+impl fmt::Display for TextFault {
+    fn fmt(&self, f: &mut fmt::Formatter<'_>) -> fmt::Result {
+        match self {
+            TextFault::NoScript => f.write_str("no script with hooks is known of the text"),
+            TextFault::Refused(refusal) => write!(f, "refused: {refusal}"),
+            TextFault::Undrawn(reason) => f.write_str(reason),
+        }
+    }
+}
+
+impl From<ShaperError> for TextFault {
+    fn from(refusal: ShaperError) -> Self {
+        TextFault::Refused(refusal)
+    }
+}
+
+impl From<AllocError> for TextFault {
+    fn from(refusal: AllocError) -> Self {
+        TextFault::Refused(refusal.into())
+    }
+}
+
+/// The glyphs of a text, one line each as [`run_lines`](crate::run_lines) prints them: all that
+/// comes before a font's lookups is done to it, and then the pauses between them, in their order.
+/// The font has every character but those of private use, every feature and no lookup. The script is
+/// that of the first character that is of one with a shaper, unless one is named.
+///
+/// # Errors
+///
+/// No script is known, or a step refuses.
+///
+/// ```
+/// // E and AA are the parts of OO, and E comes before the letter
+/// let printed = hbhook::print_text("\u{1780}\u{17C4}", Some(*b"Khmr")).unwrap();
+/// let numbers: Vec<&str> = printed.lines().map(|line| &line[..4]).collect();
+/// assert_eq!(numbers, ["17c1", "1780", "17c4"]);
+/// ```
+pub fn print_text(text: &str, script: Option<[u8; 4]>) -> Result<String, TextFault> {
+    let way = Way::of(text, script)?;
+    let mut session = Session::new(Global);
+    for line in way.lines(text) {
+        session.carry_out(line.as_bytes()).map_err(refusal_of)?;
+    }
+    way.prepare(&mut session.buffer)?;
+    for pause in way.pauses() {
+        way.pause(pause, &mut session.buffer)?;
+    }
+    let mut printed = Page::new(Global);
+    print_buffer(&mut printed, &session.buffer)?;
+    Ok(printed.as_str().into())
+}
+
+/// The same as a page of HTML, which has a row for the text, one for all that comes before lookups,
+/// and one for each pause, as [`draw_lines`](crate::draw_lines) draws them.
+///
+/// # Errors
+///
+/// Those of [`print_text`], and a row would have too many glyphs.
+pub fn draw_text(text: &str, script: Option<[u8; 4]>) -> Result<String, TextFault> {
+    let way = Way::of(text, script)?;
+    let mut walk = Walk::new();
+    way.walk(&mut walk, text).map_err(TextFault::Undrawn)?;
+    let context = way.context()?;
+    let steps = walk.finished(Some(way.script.0), None);
+    Ok(page_of(&steps, text, &context)?.as_str().into())
+}
+
+/// The step before the lookups, as the crate calls it, and where docs/DEFINITIONS.md defines it.
+const PREPARE: &str = "prepare_text";
+const PREPARED: Option<(&str, &str)> = Some(("shapers_pipeline", "Prepared"));
+
+/// The way of a text: what is decided for its script.
+struct Way {
+    script: Script,
+    direction: Direction,
+    plan: ShapePlan,
+    font: WholeFont,
+}
+
+impl Way {
+    fn of(text: &str, script: Option<[u8; 4]>) -> Result<Self, TextFault> {
+        let code = script.or_else(|| script_of_word(text));
+        let script = Script(code.ok_or(TextFault::NoScript)?);
+        let direction = if runs_from_right(script) {
+            Direction::RightToLeft
+        } else {
+            Direction::LeftToRight
+        };
+        let font = WholeFont::of(script);
+        let plan = ShapePlan::new(Global, Some(script), direction, &font, &font, &[])?;
+        Ok(Way {
+            script,
+            direction,
+            plan,
+            font,
+        })
+    }
+
+    // The lines that put the text into a buffer, with the masks that the plan has for features.
+    fn lines(&self, text: &str) -> Vec<String> {
+        let mut lines = vec!["set tables unicode".into()];
+        if let Some(shaper) = self.plan.shaper() {
+            lines.push(format!("set shaper {}", name_of(shaper)));
+        }
+        lines.push(format!(
+            "set script {}",
+            String::from_utf8_lossy(&self.script.0)
+        ));
+        if self.direction == Direction::RightToLeft {
+            lines.push("set direction rtl".into());
+        }
+        for tag in self.features() {
+            let mask = self.plan.plan().ot_map.get_1_mask(tag);
+            lines.push(format!("mask {} {mask:x}", String::from_utf8_lossy(&tag.0)));
+        }
+        lines.push(line_of_text(text));
+        lines
+    }
+
+    // The features that are turned on glyph by glyph: the shaper's, and those of fractions.
+    fn features(&self) -> Vec<Tag> {
+        let shaper = self.plan.shaper();
+        let planned = shaper.and_then(|shaper| Planned::of(shaper, self.script));
+        let mut features = planned.map_or_else(Vec::new, |planned| planned.features);
+        features.extend([Tag(*b"frac"), Tag(*b"numr"), Tag(*b"dnom")]);
+        features
+    }
+
+    fn pauses(&self) -> impl Iterator<Item = Pause> {
+        self.plan.stages().iter().filter_map(|stage| stage.pause)
+    }
+
+    // Does all that comes before lookups.
+    fn prepare(&self, buffer: &mut Buffer) -> Result<(), ShaperError> {
+        let plan = TextPlan {
+            shaper: self.plan.shaper(),
+            plan: self.plan.plan(),
+            masks: self.plan.masks(),
+            ranges: self.plan.ranges(),
+        };
+        let settings = NormalizeSettings::default();
+        let prepared = self.font.to_characters(buffer, |buffer| {
+            prepare_text(&plan, &settings, &self.font, &UnicodeTables, buffer)
+        });
+        prepared.map_err(|error| match error {
+            CallError::Refused(refusal) => refusal,
+            // the plan has its shaper's data, and the text is of characters, without positions
+            CallError::Condition(condition) => unreachable!("{condition:?} isn't met"),
+        })
+    }
+
+    // Runs a pause, with the syllables that the shaper's grammar finds.
+    fn pause(&self, pause: Pause, buffer: &mut Buffer) -> Result<(), ShaperError> {
+        let plan = self.plan.plan();
+        self.font.on_glyphs(buffer, |buffer| {
+            if !setup_syllables_found(pause, plan, buffer) {
+                run_pause(pause, plan, &self.font, &[], buffer)?;
+            }
+            Ok(())
+        })
+    }
+
+    // Takes the text through its steps.
+    fn walk(&self, walk: &mut Walk, text: &str) -> Result<(), String> {
+        for line in self.lines(text) {
+            walk.carry_out(&line)?;
+        }
+        walk.step(PREPARE, PREPARED, |buffer| self.prepare(buffer))?;
+        for pause in self.pauses() {
+            let name = format!("run pause {}", name_of_pause(pause));
+            walk.step(&name, None, |buffer| self.pause(pause, buffer))?;
+        }
+        Ok(())
+    }
+
+    // What stands around the text: nothing, but the direction counts.
+    fn context(&self) -> Result<Context, AllocError> {
+        let mut buffer = Buffer::default();
+        buffer.set_direction(self.direction);
+        Context::of(&buffer)
+    }
+}
+
+// Lines of a text are refused where it doesn't fit a buffer; they are well-formed.
+fn refusal_of(fault: LineFault) -> ShaperError {
+    match fault {
+        LineFault::Refused(refusal) => refusal,
+        LineFault::Unreadable(_) => ShaperError::TooLong,
+    }
+}
+
+// The page of these steps, of which the first is the text.
+fn page_of(steps: &Steps, text: &str, context: &Context) -> Result<Page, AllocError> {
+    let mut page = Page::from_str(Global, HEAD)?;
+    for (i, step) in steps.steps.iter().enumerate() {
+        for head in &step.heads {
+            write_head(&mut page, i, head)?;
+        }
+        if i == 0 && !text.is_empty() {
+            write_text(&mut page, text, context)?;
+        }
+        page.push_str(&step.drawn)?;
+    }
+    page.push_str(&steps.legend)?;
+    page.push_str(FOOT)?;
+    Ok(page)
+}
+
+// Writes what a step is: the line of the text, or the name of a call, which needs no escapes.
+fn write_head(page: &mut Page, step: usize, head: &str) -> Result<(), AllocError> {
+    if step == 0 {
+        return write_lines(page, &[Line::new(Global, 1, head.as_bytes())?]);
+    }
+    page.push_str("<h2><code>")?;
+    page.push_str(head)?;
+    page.push_str("</code></h2>\n")
+}
+
+#[cfg(test)]
+mod tests {
+    use super::*;
+
+    fn numbers(text: &str, script: &[u8; 4]) -> Vec<u32> {
+        let printed = print_text(text, Some(*script)).unwrap();
+        let first = |line: &str| line.split(' ').next().map(String::from);
+        let numbers = printed.lines().filter_map(first);
+        numbers
+            .map(|number| u32::from_str_radix(&number, 16).unwrap())
+            .collect()
+    }
+
+    #[test]
+    fn a_text_of_each_shaper_is_normalized_and_reordered() {
+        // SARA AM comes apart, and the tone stands behind its mark
+        assert_eq!(
+            numbers("\u{0E19}\u{0E49}\u{0E33}", b"Thai"),
+            [0x0E19, 0x0E4D, 0x0E49, 0x0E32]
+        );
+        // parts of a vowel sign stand on both sides
+        assert_eq!(
+            numbers("\u{0B95}\u{0BCA}", b"Taml"),
+            [0x0BC6, 0x0B95, 0x0BBE]
+        );
+        assert_eq!(numbers("\u{1000}\u{1031}", b"Mymr"), [0x1031, 0x1000]);
+        assert_eq!(numbers("\u{0D9A}\u{0DD9}", b"Sinh"), [0x0DD9, 0x0D9A]);
+        // a letter and a mark are composed, as normalization does and the hooks alone don't
+        assert_eq!(numbers("\u{0627}\u{0653}", b"Arab"), [0x0622]);
+        assert_eq!(numbers("e\u{0301}", b"Latn"), [0xE9]);
+        assert_eq!(numbers("\u{1112}\u{1161}\u{11AB}", b"Hang"), [0xD55C]);
+        // characters beyond those that numbers of glyphs reach
+        assert_eq!(numbers("\u{1E900}\u{1E944}", b"Adlm"), [0x1E900, 0x1E944]);
+        assert_eq!(
+            numbers("\u{11107}\u{1112E}", b"Cakm"),
+            [0x11107, 0x11131, 0x11127]
+        );
+        // the font has no character of private use
+        assert_eq!(numbers("\u{E000}", b"Latn"), [0]);
+        assert_eq!(numbers("", b"Latn"), []);
+    }
+
+    #[test]
+    fn a_page_has_a_row_for_each_pause() {
+        let page = draw_text("\u{1781}\u{17D2}\u{1798}\u{17C2}\u{179A}", None).unwrap();
+        let heads: Vec<&str> = page
+            .lines()
+            .filter(|line| line.starts_with("<h2>"))
+            .collect();
+        let ends = [
+            "text",
+            PREPARE,
+            "setup_syllables_khmer",
+            "reorder_khmer",
+            "syllabic_clear_var",
+        ];
+        assert_eq!(heads.len(), ends.len(), "{heads:?}");
+        for (head, end) in heads.iter().zip(ends) {
+            assert!(head.contains(end), "{head}");
+        }
+        assert!(page.ends_with(FOOT));
+    }
+
+    #[test]
+    fn a_text_without_a_script_is_rejected() {
+        assert_eq!(print_text("word", None), Err(TextFault::NoScript));
+        let long = "\u{1780}".repeat(crate::MOST_SHOWN + 1);
+        assert!(matches!(draw_text(&long, None), Err(TextFault::Undrawn(_))));
+        assert!(print_text(&long, None).is_ok());
+    }
+}

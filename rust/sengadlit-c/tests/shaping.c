@@ -1,0 +1,502 @@
+/* Plans for whole texts, and texts that are shaped by a font's lookups: what the calls refuse, what they make, and
+   what a callback may do with the buffer that it is lent. The last line is 'N passed, M failed'. */
+#include "world.h"
+
+#include <setjmp.h>
+#include <stdio.h>
+#include <stdlib.h>
+#include <string.h>
+
+static unsigned int passed, failed;
+
+static void check(const char *what, int holds)
+{
+    if (holds) {
+        passed++;
+        return;
+    }
+    printf("FAILED: %s\n", what);
+    failed++;
+}
+
+/* ---- A plan of Khmer: the feature pres, on everywhere behind the reordering, has lookup 7 ---- */
+
+static const uint16_t seven[] = {7}, eight[] = {8};
+static const sengadlit_table_feature_t pres = {SENGADLIT_TAG('p', 'r', 'e', 's'), 1, seven};
+
+static sengadlit_shape_plan_input_t khmer(void)
+{
+    sengadlit_shape_plan_input_t input = {0};
+
+    input.script = SENGADLIT_TAG('K', 'h', 'm', 'r');
+    input.direction = SENGADLIT_DIRECTION_LTR;
+    input.gsub.has_table = 1;
+    input.gsub.chosen_script = SENGADLIT_TAG('k', 'h', 'm', 'r');
+    input.gsub.found_script = 1;
+    input.gsub.features = &pres;
+    input.gsub.features_length = 1;
+    return input;
+}
+
+/* A plan of Latin, which needs no shaper: the feature kern, of GPOS, has lookup 8. */
+static sengadlit_shape_plan_t *latin(sengadlit_bool_t has_gpos)
+{
+    static const sengadlit_table_feature_t kern = {SENGADLIT_TAG('k', 'e', 'r', 'n'), 1, eight};
+    sengadlit_shape_plan_input_t input = {0};
+
+    input.script = SENGADLIT_TAG('L', 'a', 't', 'n');
+    input.direction = SENGADLIT_DIRECTION_LTR;
+    input.gpos.has_table = has_gpos;
+    input.gpos.chosen_script = has_gpos ? SENGADLIT_TAG('l', 'a', 't', 'n') : 0;
+    input.gpos.features = &kern;
+    input.gpos.features_length = has_gpos ? 1 : 0;
+    return sengadlit_shape_plan_create(&input, NULL);
+}
+
+/* ---- Lookups ---- */
+
+/* What lookup 7 does. */
+static sengadlit_bool_t (*lookup_7)(const sengadlit_lookup_t *lookup, sengadlit_buffer_t *buffer);
+
+static sengadlit_bool_t substitute(void *user_data, const sengadlit_lookup_t *lookup, sengadlit_buffer_t *buffer)
+{
+    check("the lookup", user_data == &lookup_7 && lookup->index == 7 && lookup->mask == 1u << 31 && lookup->auto_zwnj == 0 &&
+                            lookup->auto_zwj == 0 && lookup->random == 0 && lookup->per_syllable == 0);
+    return lookup_7(lookup, buffer);
+}
+
+static sengadlit_bool_t variation_glyph(void *user_data, uint32_t unicode, uint32_t selector, uint32_t *glyph)
+{
+    (void)user_data;
+    *glyph = 0xF8FF;
+    return unicode == 0x1780 && selector == 0xFE00;
+}
+
+/* The class of a glyph, which `var` keeps: the dot below is a mark. */
+static uint32_t note(void *user_data, const sengadlit_glyph_info_t *glyph)
+{
+    check("the note's glyph", user_data == &lookup_7 && glyph->var == 0);
+    return glyph->codepoint == 0x0323;
+}
+
+static sengadlit_bool_t is_mark(void *user_data, const sengadlit_glyph_info_t *glyph)
+{
+    (void)user_data;
+    return glyph->var == 1;
+}
+
+/* What lookup 8, of GPOS, does. */
+static sengadlit_bool_t (*lookup_8)(sengadlit_buffer_t *buffer);
+
+static sengadlit_bool_t position(void *user_data, const sengadlit_lookup_t *lookup, sengadlit_buffer_t *buffer)
+{
+    check("the lookup of GPOS", user_data == &lookup_7 && lookup->index == 8);
+    return lookup_8(buffer);
+}
+
+static void finish_positions(void *user_data, sengadlit_buffer_t *buffer)
+{
+    (void)user_data;
+    sengadlit_buffer_get_glyph_positions(buffer, NULL)[0].y_offset = 5;
+}
+
+static sengadlit_lookups_funcs_t funcs = {variation_glyph, note, substitute, is_mark, position, finish_positions};
+static sengadlit_lookups_t lookups = {&funcs, &lookup_7};
+
+static sengadlit_shape_plan_t *plan;
+
+/* The text in the buffer, which has only it. */
+static void set_text(const char *text)
+{
+    sengadlit_buffer_clear_contents(world.buffer);
+    world.has_positions = 0;
+    if (sengadlit_buffer_set_properties(world.buffer, &world.properties) != SENGADLIT_DONE ||
+        sengadlit_buffer_add_utf8(world.buffer, text, -1, 0, -1) != SENGADLIT_DONE)
+        exit(EXIT_FAILURE);
+}
+
+static sengadlit_status_t shape(void)
+{
+    return sengadlit_substitute_text(plan, &world.font, &lookups, world.buffer);
+}
+
+static sengadlit_status_t shape_whole(sengadlit_shape_plan_t *of)
+{
+    return sengadlit_shape(of, &world.font, &lookups, world.buffer);
+}
+
+static int has_glyphs(const uint32_t *codepoints, const uint32_t *clusters, unsigned int wanted)
+{
+    unsigned int length;
+    const sengadlit_glyph_info_t *found = sengadlit_buffer_get_glyph_infos(world.buffer, &length);
+
+    if (length != wanted) return 0;
+    for (unsigned int i = 0; i < length; i++)
+        if (found[i].codepoint != codepoints[i] || found[i].cluster != clusters[i]) return 0;
+    return 1;
+}
+
+/* ---- Plans ---- */
+
+static void refuse_plan(const char *what, const sengadlit_shape_plan_input_t *input, sengadlit_argument_t argument,
+                        unsigned int index)
+{
+    sengadlit_error_t error;
+
+    check(what, sengadlit_shape_plan_create(input, &error) == NULL && sengadlit_shape_plan_create(input, NULL) == NULL);
+    check(what, error.status == SENGADLIT_ARGUMENT && error.argument == argument && error.index == index);
+}
+
+static void try_plans(void)
+{
+    static const sengadlit_table_feature_t bad[] = {{SENGADLIT_TAG('p', 'r', 'e', 's'), 1, seven}, {0, 1, NULL}};
+    sengadlit_shape_plan_input_t input = khmer();
+
+    refuse_plan("no input", NULL, SENGADLIT_ARGUMENT_INPUT, 0);
+    input.direction = SENGADLIT_DIRECTION_INVALID;
+    refuse_plan("no direction", &input, SENGADLIT_ARGUMENT_DIRECTION, 0);
+    input = khmer();
+    input.gsub.features = NULL;
+    refuse_plan("no features", &input, SENGADLIT_ARGUMENT_FEATURES, 0);
+    input = khmer();
+    input.gpos.anywhere_length = 1;
+    refuse_plan("no features of any script", &input, SENGADLIT_ARGUMENT_FEATURES, 0);
+    input = khmer();
+    input.user_features_length = 1;
+    refuse_plan("no features of the user's", &input, SENGADLIT_ARGUMENT_FEATURES, 0);
+    input = khmer();
+    input.gsub.required.lookups_length = 1;
+    refuse_plan("no lookups of the required feature", &input, SENGADLIT_ARGUMENT_LOOKUPS, 1);
+    input = khmer();
+    input.gpos.features = bad;
+    input.gpos.features_length = 2;
+    refuse_plan("no lookups of GPOS", &input, SENGADLIT_ARGUMENT_LOOKUPS, 3);
+    sengadlit_shape_plan_destroy(NULL);
+}
+
+/* ---- Texts ---- */
+
+/* Each glyph but the last becomes the next number. */
+static sengadlit_bool_t count_up(const sengadlit_lookup_t *lookup, sengadlit_buffer_t *buffer)
+{
+    unsigned int length;
+    sengadlit_glyph_info_t *found = sengadlit_buffer_get_glyph_infos(buffer, &length);
+
+    for (unsigned int i = 0; i + 1 < length; i++)
+        if (found[i].mask & lookup->mask) found[i].codepoint++;
+    return 1;
+}
+
+/* The first two glyphs become one. */
+static sengadlit_bool_t join(const sengadlit_lookup_t *lookup, sengadlit_buffer_t *buffer)
+{
+    unsigned int length;
+    sengadlit_glyph_info_t *found;
+
+    (void)lookup;
+    check("flagged", sengadlit_buffer_unsafe_to_break(buffer, 0, 2) == SENGADLIT_DONE);
+    check("merged", sengadlit_buffer_merge_clusters(buffer, 0, 2) == SENGADLIT_DONE);
+    found = sengadlit_buffer_get_glyph_infos(buffer, &length);
+    found[0].codepoint = 0xE000;
+    memmove(&found[1], &found[2], (length - 2) * sizeof *found);
+    return sengadlit_buffer_set_length(buffer, length - 1) != NULL;
+}
+
+static sengadlit_bool_t make_many(const sengadlit_lookup_t *lookup, sengadlit_buffer_t *buffer)
+{
+    (void)lookup;
+    return sengadlit_buffer_set_length(buffer, ROOM + 1) != NULL;
+}
+
+static sengadlit_bool_t refuse(const sengadlit_lookup_t *lookup, sengadlit_buffer_t *buffer)
+{
+    (void)lookup, (void)buffer;
+    return 0;
+}
+
+static sengadlit_bool_t leave_great_number(const sengadlit_lookup_t *lookup, sengadlit_buffer_t *buffer)
+{
+    (void)lookup;
+    sengadlit_buffer_get_glyph_infos(buffer, NULL)[0].codepoint = 65536;
+    return 1;
+}
+
+static sengadlit_bool_t leave_no_category(const sengadlit_lookup_t *lookup, sengadlit_buffer_t *buffer)
+{
+    (void)lookup;
+    sengadlit_buffer_get_glyph_infos(buffer, NULL)[0].general_category = 30;
+    return 1;
+}
+
+static void try_texts(void)
+{
+    /* KHA, AE and NGO: the vowel sign comes before its letter, in its cluster */
+    static const uint32_t clusters[] = {0, 0, 6}, joined[] = {0, 6};
+
+    lookup_7 = count_up;
+    set_text("\u1781\u17C2\u1784");
+    check("a word", shape() == SENGADLIT_DONE && has_glyphs((const uint32_t[]){0x17C3, 0x1782, 0x1784}, clusters, 3));
+    check("the global mask", (glyphs()[0].mask & 1u << 31) != 0 && glyphs()[0].var == 0);
+    lookup_7 = join;
+    set_text("\u1781\u17C2\u1784");
+    check("a ligature", shape() == SENGADLIT_DONE && has_glyphs((const uint32_t[]){0xE000, 0x1784}, joined, 2));
+    lookup_7 = count_up;
+    set_text("\u1780\uFE00\u1784");
+    check("a variant", shape() == SENGADLIT_DONE && glyphs()[0].codepoint == 0xF900);
+    set_text("");
+    check("no text", shape() == SENGADLIT_DONE && has_glyphs(NULL, NULL, 0));
+}
+
+static void expect_after(const char *what, sengadlit_bool_t (*lookup)(const sengadlit_lookup_t *, sengadlit_buffer_t *),
+                         sengadlit_status_t status, unsigned int wanted)
+{
+    sengadlit_error_t error;
+    unsigned int length;
+
+    lookup_7 = lookup;
+    set_text("\u1781\u17C2\u1784");
+    check(what, shape() == status);
+    sengadlit_buffer_get_error(world.buffer, &error);
+    check(what, error.status == status && sengadlit_buffer_get_glyph_infos(world.buffer, &length) != NULL && length == wanted);
+}
+
+static void take_message(const char *message, void *user_data)
+{
+    (void)message;
+    ++*(unsigned int *)user_data;
+}
+
+static void try_bad_lookups(void)
+{
+    unsigned int messages = 0;
+
+    expect_after("memory is refused", refuse, SENGADLIT_MEMORY, 3);
+    expect_after("too long", make_many, SENGADLIT_TOO_LONG, ROOM + 1);
+    sengadlit_set_message_func(take_message, &messages);
+    expect_after("a number that no glyph has", leave_great_number, SENGADLIT_INTERNAL, 0);
+    expect_after("no category", leave_no_category, SENGADLIT_INTERNAL, 0);
+    sengadlit_set_message_func(NULL, NULL);
+    check("messages", messages == 2);
+    lookup_7 = count_up;
+    set_text("\u1781\u17C2\u1784");
+    check("again", shape() == SENGADLIT_DONE);
+}
+
+/* ---- Positions ---- */
+
+static sengadlit_bool_t keep(const sengadlit_lookup_t *lookup, sengadlit_buffer_t *buffer)
+{
+    (void)lookup, (void)buffer;
+    return 1;
+}
+
+static sengadlit_bool_t move_first(sengadlit_buffer_t *buffer)
+{
+    unsigned int length;
+    sengadlit_glyph_position_t *found = sengadlit_buffer_get_glyph_positions(buffer, &length);
+
+    check("lent positions", length == 3 && found[0].x_advance == 100 && found[1].x_advance == 100);
+    found[0].x_offset = 9;
+    return 1;
+}
+
+static sengadlit_bool_t refuse_position(sengadlit_buffer_t *buffer)
+{
+    (void)buffer;
+    return 0;
+}
+
+static sengadlit_bool_t take_glyph(sengadlit_buffer_t *buffer)
+{
+    return sengadlit_buffer_set_length(buffer, 2) != NULL;
+}
+
+/* A dot below has no advance behind GPOS; without GPOS it hangs over its letter. */
+static void try_positions(void)
+{
+    sengadlit_shape_plan_t *placed = latin(1), *bare = latin(0);
+    const sengadlit_glyph_position_t *found;
+    unsigned int length, messages = 0;
+
+    lookup_8 = move_first;
+    set_text("x\u0323y");
+    check("shaped", shape_whole(placed) == SENGADLIT_DONE);
+    found = sengadlit_buffer_get_glyph_positions(world.buffer, &length);
+    check("placed", length == 3 && found[0].x_offset == 9 && found[0].y_offset == 5 && found[0].x_advance == 100 &&
+                        found[1].x_advance == 0 && found[1].x_offset == 0 && found[2].x_advance == 100);
+    check("there are positions", shape_whole(placed) == SENGADLIT_ARGUMENT);
+    set_text("x\u0323y");
+    check("without GPOS", shape_whole(bare) == SENGADLIT_DONE);
+    found = sengadlit_buffer_get_glyph_positions(world.buffer, &length);
+    check("hung", length == 3 && found[1].x_offset == -100 && found[1].x_advance == 0);
+    lookup_8 = refuse_position;
+    set_text("x\u0323y");
+    check("memory is refused", shape_whole(placed) == SENGADLIT_MEMORY);
+    lookup_8 = take_glyph;
+    set_text("x\u0323y");
+    sengadlit_set_message_func(take_message, &messages);
+    check("a glyph is gone", shape_whole(placed) == SENGADLIT_INTERNAL && messages == 1);
+    sengadlit_set_message_func(NULL, NULL);
+    funcs.position = NULL;
+    set_text("x\u0323y");
+    check("nothing to place by", shape_whole(placed) == SENGADLIT_ARGUMENT);
+    funcs.position = position;
+    sengadlit_shape_plan_destroy(placed);
+    sengadlit_shape_plan_destroy(bare);
+}
+
+/* What isn't drawn is a space without a width; flags are a cluster's. */
+static void try_ignorables(void)
+{
+    const sengadlit_glyph_position_t *found;
+    unsigned int length;
+
+    lookup_7 = keep;
+    set_text("\u1781\u200B\u1784");
+    check("shaped", shape_whole(plan) == SENGADLIT_DONE && glyphs()[1].codepoint == 0x20);
+    found = sengadlit_buffer_get_glyph_positions(world.buffer, &length);
+    check("without a width", length == 3 && found[1].x_advance == 0 && found[2].x_advance == 100);
+}
+
+/* ---- Arguments ---- */
+
+static void refuse_text(const char *what, sengadlit_status_t status, sengadlit_argument_t argument, unsigned int index)
+{
+    sengadlit_error_t error;
+
+    sengadlit_buffer_get_error(world.buffer, &error);
+    check(what, status == SENGADLIT_ARGUMENT && error.argument == argument && error.index == index && !text_is_changed());
+}
+
+static void try_arguments(void)
+{
+    int32_t (*const advances)(void *, uint32_t) = world.font_funcs.glyph_h_advance;
+    sengadlit_lookups_funcs_t no_funcs = {0};
+    sengadlit_lookups_t no_lookups = {0};
+
+    set_text("\u1781\u17C2\u1784");
+    keep_text();
+    refuse_text("no plan", sengadlit_substitute_text(NULL, &world.font, &lookups, world.buffer), SENGADLIT_ARGUMENT_PLAN, 0);
+    refuse_text("no font", sengadlit_substitute_text(plan, NULL, &lookups, world.buffer), SENGADLIT_ARGUMENT_FONT, 0);
+    refuse_text("null", sengadlit_substitute_text(plan, &world.font, NULL, world.buffer), SENGADLIT_ARGUMENT_LOOKUPS, 0);
+    refuse_text("empty", sengadlit_substitute_text(plan, &world.font, &no_lookups, world.buffer), SENGADLIT_ARGUMENT_LOOKUPS, 0);
+    no_lookups.funcs = &no_funcs;
+    refuse_text("none", sengadlit_substitute_text(plan, &world.font, &no_lookups, world.buffer), SENGADLIT_ARGUMENT_LOOKUPS, 0);
+    check("no buffer", sengadlit_substitute_text(plan, &world.font, &lookups, NULL) == SENGADLIT_ARGUMENT);
+    check("no buffer", sengadlit_shape(plan, &world.font, &lookups, NULL) == SENGADLIT_ARGUMENT);
+    refuse_text("no plan", shape_whole(NULL), SENGADLIT_ARGUMENT_PLAN, 0);
+    world.font_funcs.glyph_h_advance = NULL;
+    refuse_text("no advances", shape_whole(plan), SENGADLIT_ARGUMENT_FONT, 0);
+    world.font_funcs.glyph_h_advance = advances;
+    glyphs()[1].codepoint = 0xD800;
+    keep_text();
+    refuse_text("no character", shape(), SENGADLIT_ARGUMENT_CODEPOINT, 1);
+    set_text("\u1781\u17C2\u1784");
+    glyphs()[2].general_category = 30;
+    keep_text();
+    refuse_text("no category", shape(), SENGADLIT_ARGUMENT_GENERAL_CATEGORY, 2);
+    set_text("\u1781\u17C2\u1784");
+    (void)positions();
+    keep_text();
+    refuse_text("positions", shape(), SENGADLIT_ARGUMENT_POSITIONS, 0);
+    set_text("\u1781\u17C2\u1784");
+    keep_text();
+    refuse_text("merge", sengadlit_buffer_merge_clusters(world.buffer, 2, 1), SENGADLIT_ARGUMENT_RANGE, 0);
+    refuse_text("merge", sengadlit_buffer_merge_clusters(world.buffer, 0, 4), SENGADLIT_ARGUMENT_RANGE, 0);
+    refuse_text("flag", sengadlit_buffer_unsafe_to_break(world.buffer, 2, 1), SENGADLIT_ARGUMENT_RANGE, 0);
+    refuse_text("flag", sengadlit_buffer_unsafe_to_break(world.buffer, 0, 4), SENGADLIT_ARGUMENT_RANGE, 0);
+    check("null", sengadlit_buffer_merge_clusters(NULL, 0, 0) == SENGADLIT_ARGUMENT);
+    check("null", sengadlit_buffer_unsafe_to_break(NULL, 0, 0) == SENGADLIT_ARGUMENT);
+    check("flags", sengadlit_buffer_unsafe_to_break(world.buffer, 0, 3) == SENGADLIT_DONE && glyphs()[2].mask & 1);
+}
+
+/* A plan without lookups applies none. */
+static void try_plan_without_lookups(void)
+{
+    sengadlit_shape_plan_input_t input = khmer();
+    sengadlit_lookups_funcs_t no_funcs = {0};
+    sengadlit_lookups_t none = {&no_funcs, NULL};
+    sengadlit_shape_plan_t *bare;
+
+    input.gsub.features_length = 0;
+    bare = sengadlit_shape_plan_create(&input, NULL);
+    set_text("\u1781\u17C2");
+    check("no lookups", sengadlit_substitute_text(bare, &world.font, &none, world.buffer) == SENGADLIT_DONE);
+    check("no lookups", glyphs()[0].codepoint == 0x17C2 && glyphs()[1].codepoint == 0x1781);
+    sengadlit_shape_plan_destroy(bare);
+}
+
+/* ---- What a callback does ---- */
+
+static sengadlit_bool_t use_all(const sengadlit_lookup_t *lookup, sengadlit_buffer_t *buffer)
+{
+    sengadlit_buffer_properties_t properties = {0};
+    sengadlit_buffer_t *another = sengadlit_buffer_create();
+    unsigned int length;
+
+    check("the buffer of the call", shape() == SENGADLIT_IN_CALL && sengadlit_buffer_get_glyph_infos(world.buffer, NULL) == NULL);
+    lookup_7 = count_up;
+    check("another", sengadlit_buffer_add_utf8(another, "\u1781\u17C2\u1784", -1, 0, -1) == SENGADLIT_DONE &&
+                         sengadlit_substitute_text(plan, &world.font, &lookups, another) == SENGADLIT_DONE);
+    sengadlit_buffer_destroy(another);
+    sengadlit_buffer_destroy(buffer);
+    sengadlit_buffer_abandon(buffer);
+    properties.direction = SENGADLIT_DIRECTION_RTL;
+    check("properties", sengadlit_buffer_set_properties(buffer, &properties) == SENGADLIT_DONE);
+    check("state", (sengadlit_buffer_set_state(buffer, 3), sengadlit_buffer_get_state(buffer) == 3));
+    check("positions", sengadlit_buffer_get_glyph_positions(buffer, &length) != NULL && length == 3);
+    check("glyphs", sengadlit_buffer_get_glyph_infos(buffer, &length) != NULL && length == 3);
+    return count_up(lookup, buffer);
+}
+
+static jmp_buf behind;
+
+static sengadlit_bool_t jump_away(const sengadlit_lookup_t *lookup, sengadlit_buffer_t *buffer)
+{
+    (void)lookup, (void)buffer;
+    longjmp(behind, 1);
+}
+
+static void try_callbacks(void)
+{
+    unsigned int length;
+
+    lookup_7 = use_all;
+    set_text("\u1781\u17C2\u1784");
+    check("what a callback does", shape() == SENGADLIT_DONE && glyphs()[0].codepoint == 0x17C3);
+    check("the state stays", sengadlit_buffer_get_state(world.buffer) == 0);
+    check("there are no positions", (keep_text(), sengadlit_buffer_unsafe_to_break(world.buffer, 0, 1) == SENGADLIT_DONE));
+    check("the length", sengadlit_buffer_get_glyph_infos(world.buffer, &length) != NULL && length == 3);
+}
+
+static void try_jump(void)
+{
+    lookup_7 = jump_away;
+    set_text("\u1781\u17C2\u1784");
+    if (setjmp(behind) == 0) (void)shape();
+    check("a call that a jump left", sengadlit_buffer_get_glyph_infos(world.buffer, NULL) == NULL);
+    sengadlit_buffer_abandon(world.buffer);
+    sengadlit_buffer_destroy(world.buffer);
+    world.buffer = NULL;
+}
+
+int main(int argc, char **argv)
+{
+    const sengadlit_shape_plan_input_t input = khmer();
+
+    begin_world(SENGADLIT_SHAPER_KHMER, SENGADLIT_TAG('K', 'h', 'm', 'r'), 0x1780, 1);
+    plan = sengadlit_shape_plan_create(&input, NULL);
+    try_plans();
+    try_texts();
+    try_bad_lookups();
+    try_positions();
+    try_ignorables();
+    try_arguments();
+    try_plan_without_lookups();
+    try_callbacks();
+    if (argc > 1 && strcmp(argv[1], "jumps") == 0) try_jump();
+    sengadlit_shape_plan_destroy(plan);
+    end_world();
+    printf("%u passed, %u failed\n", passed, failed);
+    return failed == 0 ? EXIT_SUCCESS : EXIT_FAILURE;
+}
