@@ -1,0 +1,9 @@
+pub mod Projections
+pub mod Apart
+pub mod FirstRound
+pub mod Insertion
+pub mod SecondRound
+pub mod ThirdRound
+pub mod ShortRuns
+pub mod Proved
+mod EquivalenceRows

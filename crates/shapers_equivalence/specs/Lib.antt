@@ -1,0 +1,2 @@
+pub mod Equivalence
+pub mod Laws

@@ -1,0 +1,16 @@
+//! The law of canonical equivalence.
+ghost use Rattle.shapers_equivalence.specs.Laws.{NormalizesEquivalently, RunsNormalizeEquivalently};
+
+/// A text is canonically equivalent to what it becomes, whatever the font has and whichever rounds
+/// run: taken apart to the end both are the same characters, and marks of one class stand in the
+/// same order. The shaper decomposes and composes by canonical pairs, and its order of marks leaves
+/// them in that of their classes.
+pub fn equivalence_law()
+    ensures { NormalizesEquivalently }
+{}
+
+/// So it is for each shaper without an order of marks of its own, where no run is longer than 32
+/// marks.
+pub fn runs_law()
+    ensures { RunsNormalizeEquivalently }
+{}
