@@ -6,4 +6,6 @@ pub mod SecondRound
 pub mod ThirdRound
 pub mod ShortRuns
 pub mod Proved
+pub mod UnicodePairs
+pub mod ShapersProved
 mod EquivalenceRows

@@ -1,2 +1,3 @@
 pub mod Equivalence
 pub mod Laws
+pub mod Shapers

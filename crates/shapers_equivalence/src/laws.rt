@@ -1,5 +1,6 @@
 //! The law of canonical equivalence.
 ghost use Rattle.shapers_equivalence.specs.Laws.{NormalizesEquivalently, RunsNormalizeEquivalently};
+ghost use Rattle.shapers_equivalence.specs.Shapers.{ShapersNormalizeEquivalently};
 
 /// A text is canonically equivalent to what it becomes, whatever the font has and whichever rounds
 /// run: taken apart to the end both are the same characters, and marks of one class stand in the
@@ -13,4 +14,10 @@ pub fn equivalence_law()
 /// marks.
 pub fn runs_law()
     ensures { RunsNormalizeEquivalently }
+{}
+
+/// So it is with Unicode's tables, for the shapers that take apart and compose by Unicode's pairs
+/// and leave marks in the order of their classes.
+pub fn shapers_law()
+    ensures { ShapersNormalizeEquivalently }
 {}
