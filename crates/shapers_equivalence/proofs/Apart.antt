@@ -73,7 +73,7 @@ not_in class a b (x ∷ xs) some other all = (((λ e. some (sym all.0 ∙ e)), (
 abbrev pub OtherMarks : Context → ℕ → List hb_glyph_info_t → Type 0
 OtherMarks context a gs = AllByRecursion (λ g. IsMark context g × (class_of g ≢ a)) gs
 
-other_parts : (context : Context) (full : ℕ → List ℕ) → TakesApart context full → (a : ℕ) (gs : List hb_glyph_info_t) → OtherMarks context a gs → order.NoneIn (mark_class context) a (apart_text full gs)
+pub other_parts : (context : Context) (full : ℕ → List ℕ) → TakesApart context full → (a : ℕ) (gs : List hb_glyph_info_t) → OtherMarks context a gs → order.NoneIn (mark_class context) a (apart_text full gs)
 other_parts context full t a [] all = tt
 other_parts context full t a (g ∷ gs) all =
     all-append (λ x. (mark_class context x ≢ 0) × (mark_class context x ≢ a)) (full g.glyph_id) (apart_text full gs)

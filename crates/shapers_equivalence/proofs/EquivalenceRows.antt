@@ -2,6 +2,8 @@
 use Rattle.std.specs.Prelude.{◌≡◌, ℕ, ◌==◌, not, ◌&&◌, ◌||◌, Bool, true, false, List, [], ◌∷◌, ◌++◌, find, map, replicate, Option, None, Some, option_map, if◌then◌else◌, refl}
 use Rattle.std.specs.List.{enumerate_from, list_any}
 use Rattle.std.specs.Option.{option_map_or}
+use Rattle.rustybuzz_shapers.specs.declared.shaper.hb_ot_shaper_t.{hb_ot_shaper_t}
+use Rattle.rustybuzz_shapers.specs.declared.shaper.hb_ot_shaper_t.TheVariants.{Arabic, Hebrew}
 use Rattle.shapers_base.specs.declared.font.GlyphId.{GlyphId}
 use Rattle.shapers_base.specs.declared.plan.record.NormalizationMode.TheVariants.{AUTO}
 use Rattle.shapers_buffer.specs.declared.buffer.category.hb_unicode_general_category_t.{hb_unicode_general_category_t}
@@ -14,6 +16,7 @@ use Rattle.shapers_normal.specs.Context.{Context}
 use Rattle.shapers_normal.specs.Normalization.{normalized}
 use Rattle.shapers_normal.specs.Properties.{as_character}
 use Rattle.shapers_normal.specs.declared.ot_shape_normalize.normalizing.Rounds.TheVariants.{Always}
+use Rattle.shapers_normalize.specs.ByShaper.{ordered_for}
 use Rattle.shapers_equivalence.specs.Equivalence.{apart_in_steps, full_decomposition, fully_decomposed, with_marks_of}
 use Rattle.shapers_equivalence.specs.Laws.{has_short_runs, in_canonical_order, mark_class}
 
@@ -22,7 +25,7 @@ use Rattle.shapers_equivalence.specs.Laws.{has_short_runs, in_canonical_order, m
 abbrev rows : List (ℕ × ℕ × ℕ)
 rows =
     (0xC1, 0x41, 0x301) ∷ (0xC5, 0x41, 0x30A) ∷ (0x212B, 0xC5, 0) ∷ (0x1E9B, 0x17F, 0x307) ∷ (0xAC01, 0xAC00, 0x11A8)
-    ∷ (0xAC00, 0x1100, 0x1161) ∷ (0x958, 0x915, 0x93C) ∷ (0x9CB, 0x9C7, 0x9BE) ∷ (0x344, 0x308, 0x301)
+    ∷ (0xAC00, 0x1100, 0x1161) ∷ (0x958, 0x915, 0x93C) ∷ (0x9CB, 0x9C7, 0x9BE) ∷ (0x622, 0x627, 0x653) ∷ (0x623, 0x627, 0x654) ∷ (0x1EA1, 0x61, 0x323) ∷ (0x344, 0x308, 0x301)
     ∷ (0xE001, 0xE000, 0x301) ∷ (0xE002, 0xE001, 0x301) ∷ (0xE003, 0xE002, 0x301) ∷ (0xE004, 0xE003, 0x301) ∷ (0xE005, 0xE004, 0x301)
     ∷ (0xE006, 0xE005, 0x301) ∷ (0xE007, 0xE006, 0x301) ∷ (0xE008, 0xE007, 0x301) ∷ (0xE009, 0xE008, 0x301) ∷ []
 
@@ -57,7 +60,7 @@ text_apart = refl
 abbrev mark_classes : List (ℕ × ℕ)
 mark_classes =
     (0x301, 230) ∷ (0x305, 230) ∷ (0x307, 230) ∷ (0x308, 230) ∷ (0x30A, 230) ∷ (0x344, 230) ∷ (0x316, 220) ∷ (0x323, 220) ∷ (0x93C, 7)
-    ∷ (0x9BE, 0) ∷ (0x653, 230) ∷ (0x658, 230) ∷ (0x5B7, 20) ∷ (0x5B0, 22) ∷ []
+    ∷ (0x9BE, 0) ∷ (0x653, 230) ∷ (0x654, 230) ∷ (0x658, 230) ∷ (0x64E, 31) ∷ (0x5B7, 20) ∷ (0x5B0, 22) ∷ []
 
 abbrev class_in : ℕ → ℕ
 class_in c = option_map_or (λ p. p.1) (find (λ p. p.0 == c) mark_classes) 0
@@ -123,3 +126,30 @@ unsorted = refl
 
 sorted_run : normal (0x41 ∷ 0x305 ∷ (replicate 30 0x316 ++ 0x301 ∷ [])) ≡ 0x41 ∷ (replicate 30 0x316 ++ 0x305 ∷ 0x301 ∷ [])
 sorted_run = refl
+
+-- ---- shapers with an order of their own
+
+abbrev ordering : hb_ot_shaper_t → Context
+ordering shaper = record whole { reordered = ordered_for (Some shaper) }
+
+abbrev normal_by : hb_ot_shaper_t → List ℕ → List ℕ
+normal_by shaper cs = characters (normalized (ordering shaper) Always MonotoneGraphemes (text cs))
+
+-- a modifier takes a class of its own, and the mark behind it, of its class by Unicode, composes over
+-- it; without the third round both stay in order
+over_modifier : normal_by Arabic (0x627 ∷ 0x658 ∷ 0x653 ∷ []) ≡ 0x622 ∷ 0x658 ∷ []
+over_modifier = refl
+
+blocked_by_modifier : normal (0x627 ∷ 0x658 ∷ 0x653 ∷ []) ≡ 0x627 ∷ 0x658 ∷ 0x653 ∷ []
+blocked_by_modifier = refl
+
+-- a modifier passes a mark of a lesser class
+modifier_first : normal_by Arabic (0x628 ∷ 0x64E ∷ 0x654 ∷ []) ≡ 0x628 ∷ 0x654 ∷ 0x64E ∷ []
+modifier_first = refl
+
+-- behind a sheva that meteg or a mark below passes stands a mark of that one's class, which composes
+over_swapped : normal_by Hebrew (0x61 ∷ 0x5B7 ∷ 0x5B0 ∷ 0x316 ∷ 0x323 ∷ []) ≡ 0x1EA1 ∷ 0x5B7 ∷ 0x316 ∷ 0x5B0 ∷ []
+over_swapped = refl
+
+blocked_below : normal (0x61 ∷ 0x5B7 ∷ 0x5B0 ∷ 0x316 ∷ 0x323 ∷ []) ≡ 0x61 ∷ 0x5B7 ∷ 0x5B0 ∷ 0x316 ∷ 0x323 ∷ []
+blocked_below = refl

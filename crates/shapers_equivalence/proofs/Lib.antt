@@ -6,6 +6,8 @@ pub mod SecondRound
 pub mod ThirdRound
 pub mod ShortRuns
 pub mod Proved
+pub mod ArabicOrder
+pub mod HebrewOrder
 pub mod UnicodePairs
 pub mod ShapersProved
 mod EquivalenceRows

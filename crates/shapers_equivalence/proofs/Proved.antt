@@ -14,7 +14,7 @@ use Rattle.shapers_normal.specs.Recomposition.{recomposed}
 use Rattle.shapers_normal.specs.Sorting.{class_of, classes, marks_ordered}
 use Rattle.shapers_normal.specs.Variants.{is_selector_glyph}
 use Rattle.shapers_equivalence.specs.Equivalence.{CharacterPairs, apart_in_steps, full_decomposition}
-use Rattle.shapers_equivalence.specs.Laws.{AreInOrder, HaveOwnClasses, IsCanonical, IsOrderedRun, LeavesOrder, NormalizesEquivalently, OrdersEquivalently, RunsNormalizeEquivalently, in_canonical_order, mark_class}
+use Rattle.shapers_equivalence.specs.Laws.{AreInOrder, ComesApartExactly, HaveOwnClasses, IsCanonical, IsOrderedRun, LeavesOrder, NormalizesEquivalently, OrdersEquivalently, OrdersMarksEquivalently, RunsNormalizeEquivalently, in_canonical_order, mark_class}
 use Rattle.shapers_equivalence.proofs.Projections as order
 use Rattle.shapers_equivalence.proofs.Apart.{AreMarks, Same, TakesApart, apart_text, marks_own}
 use Rattle.shapers_equivalence.proofs.FirstRound.{first_keeps}
@@ -28,7 +28,7 @@ use Rattle.shapers_equivalence.proofs.ThirdRound.{third_same}
 pub step_apart : (pairs : CharacterPairs) (n c : ℕ) (p : ℕ × ℕ) → pairs c ≡ Some p → apart_in_steps pairs (suc n) c ≡ apart_in_steps pairs n p.0 ++ flat_map (apart_in_steps pairs n) (come_off p.1)
 step_apart pairs n c p e = ap (λ o. option_map_or (λ p. apart_in_steps pairs n p.0 ++ flat_map (apart_in_steps pairs n) (come_off p.1)) o (c ∷ [])) e
 
-takes_apart : (pairs : CharacterPairs) (context : Context) → IsCanonical pairs context → TakesApart context (full_decomposition pairs)
+pub takes_apart : (pairs : CharacterPairs) (context : Context) → IsCanonical pairs context → TakesApart context (full_decomposition pairs)
 takes_apart pairs context i = record {
   apart = λ c p e. sym (i.ends c) ∙ step_apart pairs 8 c p (i.apart c p e);
   composed = λ a b c e. λ k.
@@ -116,6 +116,19 @@ rounds_same context full t a level gs runs own none o =
     let first = first_keeps context full t level gs own none in
     λ k.
     later_same context full t a level (first_round context level gs) runs first.own o k
+    ∙ order.as_is (mark_class context) (apart_text full (first_round context level gs)) (apart_text full gs) first.same k
+
+pub comes_apart : ComesApartExactly
+comes_apart pairs context level gs i text =
+    (first_keeps context (full_decomposition pairs) (takes_apart pairs context i) level gs text.own text.no_selector).same
+
+pub orders_marks : OrdersMarksEquivalently
+orders_marks pairs context level gs i a text =
+    let full = full_decomposition pairs in
+    let t = takes_apart pairs context i in
+    let first = first_keeps context full t level gs text.own text.no_selector in
+    λ k.
+    second_same context full t (arranges pairs context a) level (first_round context level gs) first.own k
     ∙ order.as_is (mark_class context) (apart_text full (first_round context level gs)) (apart_text full gs) first.same k
 
 pub normalizes : NormalizesEquivalently

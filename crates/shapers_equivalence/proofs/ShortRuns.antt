@@ -20,7 +20,7 @@ use Rattle.shapers_equivalence.proofs.ThirdRound.{Follows, Glyphs, Ordered}
 abbrev as_they_are : Glyphs → Glyphs
 as_they_are gs = gs
 
-stretch_whole : (s e : ℕ) (gs : Glyphs) → s < e → with_stretch s e as_they_are gs ≡ gs
+pub stretch_whole : (s e : ℕ) (gs : Glyphs) → s < e → with_stretch s e as_they_are gs ≡ gs
 stretch_whole s e gs some =
     let order : s + (e - s) ≡ e = omega arith in
     ap (λ n. take s gs ++ (take (e - s) (drop s gs) ++ drop n gs)) (sym order)

@@ -12,7 +12,7 @@ use Rattle.shapers_normal.specs.Properties.{is_mark_in}
 use Rattle.shapers_normal.specs.Sorting.{class_of, classes, mark_runs, marks_ordered, max_marks}
 use Rattle.shapers_normal.specs.Variants.{is_selector_glyph}
 use Rattle.shapers_normal.specs.declared.ot_shape_normalize.normalizing.Rounds.{Rounds}
-use Rattle.shapers_equivalence.specs.Equivalence.{CanonicallyEquivalent, CharacterPairs, apart_in_steps, full_decomposition}
+use Rattle.shapers_equivalence.specs.Equivalence.{CanonicallyEquivalent, CharacterPairs, apart_in_steps, full_decomposition, fully_decomposed}
 
 -- the class by which normalization orders a character
 abbrev pub mark_class : Context → ℕ → ℕ
@@ -74,8 +74,24 @@ pub record AreInOrder (context : Context) (gs : List hb_glyph_info_t) : Type 0 w
   pub own : HaveOwnClasses context gs
   pub ordered : in_canonical_order (classes gs) ≡ true
 
+-- The first round keeps the full decomposition as it is, whatever the font lacks.
+abbrev pub ComesApartExactly : Type 0
+ComesApartExactly = (pairs : CharacterPairs) (context : Context) (level : BufferClusterLevel)
+    (gs : List hb_glyph_info_t) →
+    IsCanonical pairs context → IsPlainText context gs →
+    fully_decomposed pairs (characters (first_round context level gs))
+    ≡ fully_decomposed pairs (characters gs)
+
+-- The second round keeps it up to the order of marks of different classes, however long a run is.
+abbrev pub OrdersMarksEquivalently : Type 0
+OrdersMarksEquivalently = (pairs : CharacterPairs) (context : Context)
+    (level : BufferClusterLevel) (gs : List hb_glyph_info_t) →
+    IsCanonical pairs context → OrdersEquivalently pairs context → IsPlainText context gs →
+    CanonicallyEquivalent pairs (mark_class context)
+    (characters (before_composing context level gs)) (characters gs)
+
 -- A text is canonically equivalent to what it becomes, if the second round leaves marks in order, or
--- the shaper doesn't compose.
+-- if nothing is composed.
 abbrev pub NormalizesEquivalently : Type 0
 NormalizesEquivalently = (pairs : CharacterPairs) (context : Context) (rounds : Rounds)
     (level : BufferClusterLevel) (gs : List hb_glyph_info_t) →

@@ -1,5 +1,5 @@
 //! The law of canonical equivalence.
-ghost use Rattle.shapers_equivalence.specs.Laws.{NormalizesEquivalently, RunsNormalizeEquivalently};
+ghost use Rattle.shapers_equivalence.specs.Laws.{ComesApartExactly, NormalizesEquivalently, OrdersMarksEquivalently, RunsNormalizeEquivalently};
 ghost use Rattle.shapers_equivalence.specs.Shapers.{ShapersNormalizeEquivalently};
 
 /// A text is canonically equivalent to what it becomes, whatever the font has and whichever rounds
@@ -7,7 +7,9 @@ ghost use Rattle.shapers_equivalence.specs.Shapers.{ShapersNormalizeEquivalently
 /// same order. The shaper decomposes and composes by canonical pairs, and its order of marks leaves
 /// them in that of their classes.
 pub fn equivalence_law()
-    ensures { NormalizesEquivalently }
+    ensures apart { ComesApartExactly }
+    ensures ordered { OrdersMarksEquivalently }
+    ensures normalized { NormalizesEquivalently }
 {}
 
 /// So it is for each shaper without an order of marks of its own, where no run is longer than 32
