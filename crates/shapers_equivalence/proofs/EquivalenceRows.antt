@@ -5,7 +5,7 @@ use Rattle.std.specs.Option.{option_map_or}
 use Rattle.rustybuzz_shapers.specs.declared.shaper.hb_ot_shaper_t.{hb_ot_shaper_t}
 use Rattle.rustybuzz_shapers.specs.declared.shaper.hb_ot_shaper_t.TheVariants.{Arabic, Hebrew}
 use Rattle.shapers_base.specs.declared.font.GlyphId.{GlyphId}
-use Rattle.shapers_base.specs.declared.plan.record.NormalizationMode.TheVariants.{AUTO}
+use Rattle.shapers_base.specs.declared.plan.record.NormalizationMode.TheVariants.{AUTO, CD}
 use Rattle.shapers_buffer.specs.declared.buffer.category.hb_unicode_general_category_t.{hb_unicode_general_category_t}
 use Rattle.shapers_buffer.specs.declared.buffer.category.hb_unicode_general_category_t.TheVariants.{Lo, Mn}
 use Rattle.shapers_buffer.specs.declared.buffer.glyph.hb_glyph_info_t.{hb_glyph_info_t}
@@ -60,7 +60,7 @@ text_apart = refl
 abbrev mark_classes : List (ℕ × ℕ)
 mark_classes =
     (0x301, 230) ∷ (0x305, 230) ∷ (0x307, 230) ∷ (0x308, 230) ∷ (0x30A, 230) ∷ (0x344, 230) ∷ (0x316, 220) ∷ (0x323, 220) ∷ (0x93C, 7)
-    ∷ (0x9BE, 0) ∷ (0x653, 230) ∷ (0x654, 230) ∷ (0x658, 230) ∷ (0x64E, 31) ∷ (0x5B7, 20) ∷ (0x5B0, 22) ∷ []
+    ∷ (0x9BE, 0) ∷ (0x653, 230) ∷ (0x654, 230) ∷ (0x658, 230) ∷ (0x64E, 31) ∷ (0x5B7, 20) ∷ (0x5B0, 22) ∷ (0xFE01, 0) ∷ []
 
 abbrev class_in : ℕ → ℕ
 class_in c = option_map_or (λ p. p.1) (find (λ p. p.0 == c) mark_classes) 0
@@ -153,3 +153,26 @@ over_swapped = refl
 
 blocked_below : normal (0x61 ∷ 0x5B7 ∷ 0x5B0 ∷ 0x316 ∷ 0x323 ∷ []) ≡ 0x61 ∷ 0x5B7 ∷ 0x5B0 ∷ 0x316 ∷ 0x323 ∷ []
 blocked_below = refl
+
+-- ---- without the other premises
+
+-- a mark whose glyph has another class than its character
+abbrev in_class_220 : hb_glyph_info_t → hb_glyph_info_t
+in_class_220 g = record g { modified_combining_class = 220 }
+
+other_class : characters (normalized whole Always MonotoneGraphemes (text (0x41 ∷ []) ++ (map in_class_220 (text (0x305 ∷ [])) ++ text (0x301 ∷ [])))) ≡ 0xC1 ∷ 0x305 ∷ []
+other_class = refl
+
+-- a character and a selector of which the font has the form
+abbrev with_forms : Context
+with_forms = record whole { variant = λ c selector. let glyph : GlyphId = record { 0 = 7 } in Some glyph }
+
+one_form : characters (normalized with_forms Always MonotoneGraphemes (text (0x61 ∷ 0xFE01 ∷ []))) ≡ 0x61 ∷ []
+one_form = refl
+
+-- a split vowel of Khmer
+abbrev splitting : Context
+splitting = record whole { mode = CD; decomposed = λ c. if c == 0x17BE then Some (0x17C1, c) else None }
+
+split_vowel : characters (normalized splitting Always MonotoneGraphemes (text (0x17BE ∷ []))) ≡ 0x17C1 ∷ 0x17BE ∷ []
+split_vowel = refl

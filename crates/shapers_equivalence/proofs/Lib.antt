@@ -9,5 +9,6 @@ pub mod Proved
 pub mod ArabicOrder
 pub mod HebrewOrder
 pub mod UnicodePairs
+pub mod HebrewForms
 pub mod ShapersProved
 mod EquivalenceRows

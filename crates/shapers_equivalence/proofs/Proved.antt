@@ -122,8 +122,8 @@ pub comes_apart : ComesApartExactly
 comes_apart pairs context level gs i text =
     (first_keeps context (full_decomposition pairs) (takes_apart pairs context i) level gs text.own text.no_selector).same
 
-pub orders_marks : OrdersMarksEquivalently
-orders_marks pairs context level gs i a text =
+pub orders_marks_so : OrdersMarksEquivalently
+orders_marks_so pairs context level gs i a text =
     let full = full_decomposition pairs in
     let t = takes_apart pairs context i in
     let first = first_keeps context full t level gs text.own text.no_selector in

@@ -24,7 +24,9 @@ use Rattle.shapers_unicode.proofs.CompositionLemmas.{composite-paired_with, is_e
 use Rattle.shapers_unicode.proofs.ClassSteps.{class_stepped}
 use Rattle.shapers_unicode.proofs.GeneralSteps.{general_stepped}
 use Rattle.shapers_unicode.proofs.PairSteps.{composition_stepped, mapping_stepped}
-use Rattle.shapers_equivalence.specs.Equivalence.{apart_in_steps}
+use Rattle.shapers_equivalence.specs.Equivalence.{CanonicallyEquivalent, apart_in_steps, full_decomposition}
+use Rattle.shapers_equivalence.proofs.Projections as order
+use Rattle.shapers_equivalence.proofs.Proved.{step_apart}
 
 -- ---- mappings
 
@@ -71,7 +73,7 @@ mapped_no_jamo c some = Stepped-at_points canonical_mapping mapping_stepped is_e
 unfold_pair : (n c : ℕ) (o : Option (ℕ × ℕ)) → decomposed c ≡ o → apart_in_steps decomposed (suc n) c ≡ option_map_or (λ p. apart_in_steps decomposed n p.0 ++ flat_map (apart_in_steps decomposed n) (come_off p.1)) o (c ∷ [])
 unfold_pair n c o e = ap (λ o. option_map_or (λ p. apart_in_steps decomposed n p.0 ++ flat_map (apart_in_steps decomposed n) (come_off p.1)) o (c ∷ [])) e
 
-no_syllable : (c : ℕ) → is_s c ≡ false → decomposed c ≡ as_pair (canonical_mapping c)
+pub no_syllable : (c : ℕ) → is_s c ≡ false → decomposed c ≡ as_pair (canonical_mapping c)
 unfolding decomposed
 no_syllable c other = ap (λ b. cond b (Some (hangul_parts c)) (as_pair (canonical_mapping c))) other
 
@@ -350,3 +352,12 @@ pub marks_own_class : (n c : ℕ) → own_class c ≢ 0 → AllByRecursion (λ d
 marks_own_class zero c some = (refl, tt)
 marks_own_class (suc n) c some =
     own_mapping n c (canonical_mapping c) (no_syllable c (class_by c (eqb (modified_class c) 0) refl some)) (tested_by c (is_empty (canonical_mapping c)) refl some) some (λ a more. marks_own_class n a more)
+
+-- ---- a character is the two that it comes apart into
+
+pub same_text : (class : ℕ → ℕ) (a b c : ℕ) → ApartInto a b c → CanonicallyEquivalent decomposed class (c ∷ []) (a ∷ b ∷ [])
+same_text class a b c i =
+    let full = full_decomposition decomposed in
+    let off : flat_map full (come_off b) ≡ full b ++ [] = ap (λ none. flat_map full (cond none [] (b ∷ []))) i.two in
+    order.as_is class (full c ++ []) (full a ++ (full b ++ []))
+    (append-nil (full c) ∙ sym (ends c) ∙ step_apart decomposed 8 c (a, b) i.pair ∙ ap (λ xs. full a ++ xs) off)

@@ -1,6 +1,6 @@
 //! The law of canonical equivalence.
 ghost use Rattle.shapers_equivalence.specs.Laws.{ComesApartExactly, NormalizesEquivalently, OrdersMarksEquivalently, RunsNormalizeEquivalently};
-ghost use Rattle.shapers_equivalence.specs.Shapers.{ShapersNormalizeEquivalently};
+ghost use Rattle.shapers_equivalence.specs.Shapers.{ShapersKeepTexts, ShapersNormalizeEquivalently};
 
 /// A text is canonically equivalent to what it becomes, whatever the font has and whichever rounds
 /// run: taken apart to the end both are the same characters, and marks of one class stand in the
@@ -18,8 +18,10 @@ pub fn runs_law()
     ensures { RunsNormalizeEquivalently }
 {}
 
-/// So it is with Unicode's tables, for the shapers that take apart and compose by Unicode's pairs
-/// and leave marks in the order of their classes.
+/// So it is with Unicode's tables, for each shaper but Khmer, which takes split vowels apart. Arabic's
+/// and Hebrew's order of marks keeps a text equivalent, too; a mark may compose behind it over one of
+/// its own class.
 pub fn shapers_law()
-    ensures { ShapersNormalizeEquivalently }
+    ensures ordered { ShapersNormalizeEquivalently }
+    ensures short { ShapersKeepTexts }
 {}
