@@ -17,7 +17,7 @@ use Rattle.shapers_normal.specs.Normalization.{normalized}
 use Rattle.shapers_normal.specs.Properties.{as_character}
 use Rattle.shapers_normal.specs.declared.ot_shape_normalize.normalizing.Rounds.TheVariants.{Always}
 use Rattle.shapers_normalize.specs.ByShaper.{ordered_for}
-use Rattle.shapers_equivalence.specs.Equivalence.{apart_in_steps, full_decomposition, fully_decomposed, with_marks_of}
+use Rattle.shapers_equivalence.specs.Equivalence.{apart_in_steps, full_decomposition, fully_decomposed, in_order, with_marks_of}
 use Rattle.shapers_equivalence.specs.Laws.{has_short_runs, in_canonical_order, mark_class}
 
 -- Unicode's pairs of some characters: the Angstrom sign comes apart into one, 0344 is a mark, 0958
@@ -82,6 +82,13 @@ one_class = refl
 
 over_a_letter : map (with_marks_of class_in 230) ((0x301 ∷ 0x41 ∷ []) ∷ (0x41 ∷ 0x301 ∷ []) ∷ []) ≡ (0x301 ∷ 0x41 ∷ []) ∷ (0x41 ∷ 0x301 ∷ []) ∷ []
 over_a_letter = refl
+
+-- each run class by class, those of one class in their order; marks in front, classes 1 and 255
+ordered : in_order class_in (0x307 ∷ 0x323 ∷ 0x41 ∷ 0x301 ∷ 0x316 ∷ 0x30A ∷ 0x323 ∷ 0x42 ∷ []) ≡ 0x323 ∷ 0x307 ∷ 0x41 ∷ 0x316 ∷ 0x323 ∷ 0x301 ∷ 0x30A ∷ 0x42 ∷ []
+ordered = refl
+
+all_classes : in_order (λ c. c) (255 ∷ 1 ∷ 0 ∷ 2 ∷ []) ≡ 1 ∷ 255 ∷ 0 ∷ 2 ∷ []
+all_classes = refl
 
 -- the second of two neighbours in no lesser class, or in class 0
 orders : map in_canonical_order ([] ∷ (230 ∷ []) ∷ (220 ∷ 230 ∷ []) ∷ (230 ∷ 230 ∷ []) ∷ (230 ∷ 0 ∷ 220 ∷ []) ∷ (230 ∷ 220 ∷ []) ∷ (0 ∷ 230 ∷ 7 ∷ []) ∷ []) ≡ true ∷ true ∷ true ∷ true ∷ true ∷ false ∷ false ∷ []

@@ -1,5 +1,6 @@
 pub mod Projections
 pub mod Apart
+pub mod Ordering
 pub mod FirstRound
 pub mod Insertion
 pub mod SecondRound

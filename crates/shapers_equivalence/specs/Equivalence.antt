@@ -1,7 +1,7 @@
 -- Canonical equivalence, by any pairs that characters come apart into and any classes of marks
 -- (The Unicode Standard, section 3.7, D68 to D70, and section 3.11).
-use Rattle.std.specs.Prelude.{ℕ, zero, suc, ◌≡◌, ◌==◌, Bool, ◌||◌, List, [], ◌∷◌, ◌++◌, Option}
-use Rattle.std.specs.List.{filter, flat_map}
+use Rattle.std.specs.Prelude.{ℕ, zero, suc, ◌≡◌, ◌==◌, Bool, ◌||◌, List, [], ◌∷◌, ◌++◌, Option, if◌then◌else◌}
+use Rattle.std.specs.List.{filter, flat_map, range_with_len}
 use Rattle.std.specs.Option.{option_map_or}
 use Rattle.shapers_normal.specs.Decomposition.{come_off, max_steps}
 
@@ -41,3 +41,23 @@ SameButForOrder class cs ds = (k : ℕ) → with_marks_of class k cs ≡ with_ma
 abbrev pub CanonicallyEquivalent : CharacterPairs → (ℕ → ℕ) → List ℕ → List ℕ → Type 0
 CanonicallyEquivalent pairs class cs ds =
     SameButForOrder class (fully_decomposed pairs cs) (fully_decomposed pairs ds)
+
+-- marks class by class, those of one class in their order; classes are bytes
+abbrev pub marks_by_class : (ℕ → ℕ) → List ℕ → List ℕ
+marks_by_class class ms = flat_map (λ k. filter (λ c. class c == k) ms) (range_with_len 1 255)
+
+-- a text in canonical order: each run of marks class by class (D109); first the marks of the run so
+-- far, and then the text behind them
+abbrev pub in_order_behind : (ℕ → ℕ) → List ℕ → List ℕ → List ℕ
+in_order_behind class ms [] = marks_by_class class ms
+in_order_behind class ms (c ∷ cs) =
+    if class c == 0 then marks_by_class class ms ++ c ∷ in_order_behind class [] cs
+    else in_order_behind class (ms ++ c ∷ []) cs
+
+abbrev pub in_order : (ℕ → ℕ) → List ℕ → List ℕ
+in_order class cs = in_order_behind class [] cs
+
+-- Texts that are one but for the order of marks are the same in canonical order.
+abbrev pub OrdersAlike : Type 0
+OrdersAlike = (class : ℕ → ℕ) (cs ds : List ℕ) →
+    SameButForOrder class cs ds → in_order class cs ≡ in_order class ds

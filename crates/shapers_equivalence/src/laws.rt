@@ -1,6 +1,13 @@
 //! The law of canonical equivalence.
+ghost use Rattle.shapers_equivalence.specs.Equivalence.{OrdersAlike};
 ghost use Rattle.shapers_equivalence.specs.Laws.{ComesApartExactly, NormalizesEquivalently, OrdersMarksEquivalently, RunsNormalizeEquivalently};
 ghost use Rattle.shapers_equivalence.specs.Shapers.{ShapersKeepTexts, ShapersNormalizeEquivalently};
+
+/// Texts that are equivalent, taken apart to the end and each run of marks sorted by class, are the
+/// same; the sort is stable.
+pub fn order_law()
+    ensures { OrdersAlike }
+{}
 
 /// A text is canonically equivalent to what it becomes, whatever the font has and whichever rounds
 /// run: taken apart to the end both are the same characters, and marks of one class stand in the
