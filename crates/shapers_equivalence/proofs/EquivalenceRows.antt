@@ -5,7 +5,7 @@ use Rattle.std.specs.Option.{option_map_or}
 use Rattle.rustybuzz_shapers.specs.declared.shaper.hb_ot_shaper_t.{hb_ot_shaper_t}
 use Rattle.rustybuzz_shapers.specs.declared.shaper.hb_ot_shaper_t.TheVariants.{Arabic, Hebrew}
 use Rattle.shapers_base.specs.declared.font.GlyphId.{GlyphId}
-use Rattle.shapers_base.specs.declared.plan.record.NormalizationMode.TheVariants.{AUTO, CD}
+use Rattle.shapers_base.specs.declared.plan.record.NormalizationMode.TheVariants.{NONE, AUTO, CD}
 use Rattle.shapers_buffer.specs.declared.buffer.category.hb_unicode_general_category_t.{hb_unicode_general_category_t}
 use Rattle.shapers_buffer.specs.declared.buffer.category.hb_unicode_general_category_t.TheVariants.{Lo, Mn}
 use Rattle.shapers_buffer.specs.declared.buffer.glyph.hb_glyph_info_t.{hb_glyph_info_t}
@@ -21,11 +21,11 @@ use Rattle.shapers_equivalence.specs.Equivalence.{apart_in_steps, full_decomposi
 use Rattle.shapers_equivalence.specs.Laws.{has_short_runs, in_canonical_order, mark_class}
 
 -- Unicode's pairs of some characters: the Angstrom sign comes apart into one, 0344 is a mark, 0958
--- is excluded from composition; and a chain in private use
+-- and notes are excluded from composition; and a chain in private use
 abbrev rows : List (ℕ × ℕ × ℕ)
 rows =
     (0xC1, 0x41, 0x301) ∷ (0xC5, 0x41, 0x30A) ∷ (0x212B, 0xC5, 0) ∷ (0x1E9B, 0x17F, 0x307) ∷ (0xAC01, 0xAC00, 0x11A8)
-    ∷ (0xAC00, 0x1100, 0x1161) ∷ (0x958, 0x915, 0x93C) ∷ (0x9CB, 0x9C7, 0x9BE) ∷ (0x622, 0x627, 0x653) ∷ (0x623, 0x627, 0x654) ∷ (0x1EA1, 0x61, 0x323) ∷ (0x344, 0x308, 0x301)
+    ∷ (0xAC00, 0x1100, 0x1161) ∷ (0x958, 0x915, 0x93C) ∷ (0x9CB, 0x9C7, 0x9BE) ∷ (0x622, 0x627, 0x653) ∷ (0x623, 0x627, 0x654) ∷ (0x1EA1, 0x61, 0x323) ∷ (0x344, 0x308, 0x301) ∷ (0x1D15F, 0x1D158, 0x1D165) ∷ (0x1D164, 0x1D15F, 0x1D172)
     ∷ (0xE001, 0xE000, 0x301) ∷ (0xE002, 0xE001, 0x301) ∷ (0xE003, 0xE002, 0x301) ∷ (0xE004, 0xE003, 0x301) ∷ (0xE005, 0xE004, 0x301)
     ∷ (0xE006, 0xE005, 0x301) ∷ (0xE007, 0xE006, 0x301) ∷ (0xE008, 0xE007, 0x301) ∷ (0xE009, 0xE008, 0x301) ∷ []
 
@@ -34,7 +34,7 @@ pairs c = option_map (λ p. (p.1, p.2)) (find (λ p. p.0 == c) rows)
 
 -- what isn't excluded composes
 abbrev whole_of : ℕ → ℕ → Option ℕ
-whole_of a b = option_map (λ p. p.0) (find (λ p. (p.1 == a && p.2 == b) && not (p.0 == 0x958 || p.0 == 0x344 || p.2 == 0)) rows)
+whole_of a b = option_map (λ p. p.0) (find (λ p. (p.1 == a && p.2 == b) && not (p.0 == 0x958 || p.0 == 0x344 || p.0 == 0x1D15F || p.0 == 0x1D164 || p.2 == 0)) rows)
 
 full_decompositions : map (full_decomposition pairs) (0x41 ∷ 0xC5 ∷ 0x212B ∷ 0x1E9B ∷ 0xAC01 ∷ 0x958 ∷ 0x9CB ∷ 0x344 ∷ []) ≡ (0x41 ∷ []) ∷ (0x41 ∷ 0x30A ∷ []) ∷ (0x41 ∷ 0x30A ∷ []) ∷ (0x17F ∷ 0x307 ∷ []) ∷ (0x1100 ∷ 0x1161 ∷ 0x11A8 ∷ []) ∷ (0x915 ∷ 0x93C ∷ []) ∷ (0x9C7 ∷ 0x9BE ∷ []) ∷ (0x308 ∷ 0x301 ∷ []) ∷ []
 full_decompositions = refl
@@ -60,7 +60,7 @@ text_apart = refl
 abbrev mark_classes : List (ℕ × ℕ)
 mark_classes =
     (0x301, 230) ∷ (0x305, 230) ∷ (0x307, 230) ∷ (0x308, 230) ∷ (0x30A, 230) ∷ (0x344, 230) ∷ (0x316, 220) ∷ (0x323, 220) ∷ (0x93C, 7)
-    ∷ (0x9BE, 0) ∷ (0x653, 230) ∷ (0x654, 230) ∷ (0x658, 230) ∷ (0x64E, 31) ∷ (0x5B7, 20) ∷ (0x5B0, 22) ∷ (0xFE01, 0) ∷ []
+    ∷ (0x9BE, 0) ∷ (0x653, 230) ∷ (0x654, 230) ∷ (0x658, 230) ∷ (0x64E, 31) ∷ (0x5B7, 20) ∷ (0x5B0, 22) ∷ (0xFE01, 0) ∷ (0x1D165, 216) ∷ (0x1D172, 216) ∷ []
 
 abbrev class_in : ℕ → ℕ
 class_in c = option_map_or (λ p. p.1) (find (λ p. p.0 == c) mark_classes) 0
@@ -183,3 +183,19 @@ splitting = record whole { mode = CD; decomposed = λ c. if c == 0x17BE then Som
 
 split_vowel : characters (normalized splitting Always MonotoneGraphemes (text (0x17BE ∷ []))) ≡ 0x17C1 ∷ 0x17BE ∷ []
 split_vowel = refl
+
+-- ---- twice
+
+-- a note that the font lacks comes apart as far as the font has it, and then further
+abbrev without_note : Context
+without_note = record whole { nominal = λ c. if c == 0x1D164 then None else (let glyph : GlyphId = record { 0 = c } in Some glyph) }
+
+once : characters (normalized without_note Always MonotoneGraphemes (text (0x1D164 ∷ []))) ≡ 0x1D15F ∷ 0x1D172 ∷ []
+once = refl
+
+again : characters (normalized without_note Always MonotoneGraphemes (text (0x1D15F ∷ 0x1D172 ∷ []))) ≡ 0x1D158 ∷ 0x1D165 ∷ 0x1D172 ∷ []
+again = refl
+
+-- a text that is apart, in order, stays so for a shaper that composes nothing
+apart_stays : characters (normalized (record whole { mode = NONE }) Always MonotoneGraphemes (text (0x41 ∷ 0x316 ∷ 0x301 ∷ []))) ≡ 0x41 ∷ 0x316 ∷ 0x301 ∷ []
+apart_stays = refl

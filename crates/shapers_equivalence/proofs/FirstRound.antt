@@ -99,9 +99,9 @@ no_mark Zs e = refl
 no_mark _ e = absurd (false≢true e)
 
 -- as another glyph, of the same character and class
-record SameCharacter (old new : hb_glyph_info_t) : Type 0 where
-  character : new.glyph_id ≡ old.glyph_id
-  class : class_of new ≡ class_of old
+pub record SameCharacter (old new : hb_glyph_info_t) : Type 0 where
+  pub character : new.glyph_id ≡ old.glyph_id
+  pub class : class_of new ≡ class_of old
 
 abbrev as_space : hb_glyph_info_t → ℕ × GlyphId → hb_glyph_info_t
 as_space g space = record g { var = space.1.0; modified_combining_class = space.0 }
@@ -118,7 +118,7 @@ own_by : (g new : hb_glyph_info_t) (o : Option GlyphId) → SameCharacter g new 
 own_by g new None same = same
 own_by g new (Some glyph) same = record { character = refl; class = refl }
 
-own_same : (context : Context) (g : hb_glyph_info_t) → SameCharacter g (with_own_glyph context g)
+pub own_same : (context : Context) (g : hb_glyph_info_t) → SameCharacter g (with_own_glyph context g)
 own_same context g =
     own_by g (without_glyph context g) (context.nominal g.glyph_id)
     (without_same g (record g { var = cond (g.glyph_id == 0x2011) (glyph_number context 0x2010) 0 }) _ (is_space_separator g.general_category) refl

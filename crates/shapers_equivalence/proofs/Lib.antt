@@ -9,6 +9,7 @@ pub mod ShortRuns
 pub mod Proved
 pub mod ArabicOrder
 pub mod HebrewOrder
+pub mod StayingForms
 pub mod UnicodePairs
 pub mod HebrewForms
 pub mod ShapersProved

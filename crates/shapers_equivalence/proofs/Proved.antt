@@ -66,10 +66,10 @@ passed_alike before behind g =
     ]
 
 -- each glyph has the same character and class
-record SameCharacters (context : Context) (old new : List hb_glyph_info_t) : Type 0 where
-  same : characters new ≡ characters old
-  class : classes new ≡ classes old
-  own : HaveOwnClasses context old → HaveOwnClasses context new
+pub record SameCharacters (context : Context) (old new : List hb_glyph_info_t) : Type 0 where
+  pub same : characters new ≡ characters old
+  pub class : classes new ≡ classes old
+  pub own : HaveOwnClasses context old → HaveOwnClasses context new
 
 no_change : (context : Context) (gs : List hb_glyph_info_t) → SameCharacters context gs gs
 no_change context gs = record { same = refl; class = refl; own = λ own. own }
@@ -87,7 +87,7 @@ shown_alike context before (g ∷ []) = no_change context (g ∷ [])
 shown_alike context before (g ∷ (h ∷ gs)) =
     one_more context g (passes_over before (class_of h) g) (h ∷ gs) (shown_behind (class_of g) (h ∷ gs)) (passed_alike before (class_of h) g) (shown_alike context (class_of g) (h ∷ gs))
 
-joiners_alike : (context : Context) (gs : List hb_glyph_info_t) → SameCharacters context gs (joiners_shown gs)
+pub joiners_alike : (context : Context) (gs : List hb_glyph_info_t) → SameCharacters context gs (joiners_shown gs)
 joiners_alike context [] = no_change context []
 joiners_alike context (g ∷ gs) = one_more context g g gs (shown_behind (class_of g) gs) (record { character = refl; class = refl }) (shown_alike context (class_of g) gs)
 

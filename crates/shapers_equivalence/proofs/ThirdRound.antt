@@ -37,7 +37,7 @@ abbrev pub Ordered : Glyphs → Type 0
 Ordered [] = Unit {0}
 Ordered (g ∷ gs) = Follows g gs × Ordered gs
 
-follows_by : (c d : ℕ) (b : Bool) → eqb d 0 ≡ b → (b || nat_le c d) ≡ true → (d ≡ 0) ⊎ (c ≤ d)
+pub follows_by : (c d : ℕ) (b : Bool) → eqb d 0 ≡ b → (b || nat_le c d) ≡ true → (d ≡ 0) ⊎ (c ≤ d)
 follows_by c d true e test = inl (grind (arith, nat_tests))
 follows_by c d false e test = inr (grind (arith, nat_tests))
 

@@ -1,6 +1,7 @@
 //! The law of canonical equivalence.
 ghost use Rattle.shapers_equivalence.specs.Equivalence.{OrdersAlike};
 ghost use Rattle.shapers_equivalence.specs.Laws.{ComesApartExactly, NormalizesEquivalently, OrdersMarksEquivalently, RunsNormalizeEquivalently};
+ghost use Rattle.shapers_equivalence.specs.Staying.{TextsInFormStay};
 ghost use Rattle.shapers_equivalence.specs.Shapers.{ShapersKeepTexts, ShapersNormalizeEquivalently};
 
 /// Texts that are equivalent, taken apart to the end and each run of marks sorted by class, are the
@@ -31,4 +32,10 @@ pub fn runs_law()
 pub fn shapers_law()
     ensures ordered { ShapersNormalizeEquivalently }
     ensures short { ShapersKeepTexts }
+{}
+
+/// A text that is composed or decomposed as the font and the shaper want it stays: each glyph gets
+/// its number, and nothing else.
+pub fn staying_law()
+    ensures { TextsInFormStay }
 {}

@@ -3,4 +3,4 @@
 
 mod laws;
 
-pub use laws::{equivalence_law, order_law, runs_law, shapers_law};
+pub use laws::{equivalence_law, order_law, runs_law, shapers_law, staying_law};
