@@ -1,0 +1,4 @@
+pub mod Equivalence
+pub mod Laws
+pub mod Shapers
+pub mod Staying

@@ -1,0 +1,70 @@
+-- The law for each shaper with Unicode's tables.
+use Rattle.std.specs.Prelude.{◌≡◌, ◌&&◌, Bool, true, false, List, Option, Some, None}
+use Rattle.rustybuzz_shapers.specs.declared.shaper.hb_ot_shaper_t.{hb_ot_shaper_t}
+use Rattle.rustybuzz_shapers.specs.declared.shaper.hb_ot_shaper_t.TheVariants.{Arabic, Hebrew, Khmer}
+use Rattle.shapers_base.specs.Font.{Font}
+use Rattle.shapers_base.specs.declared.font.GlyphId.{GlyphId}
+use Rattle.shapers_base.specs.declared.plan.hb_ot_shape_plan_t.{hb_ot_shape_plan_t}
+use Rattle.shapers_buffer.specs.declared.buffer.glyph.hb_glyph_info_t.{hb_glyph_info_t}
+use Rattle.shapers_buffer.specs.declared.buffer.level.BufferClusterLevel.{BufferClusterLevel}
+use Rattle.shapers_buffer.specs.Glyph.{characters}
+use Rattle.shapers_normal.specs.Context.{Context}
+use Rattle.shapers_normal.specs.Decomposition.{first_round}
+use Rattle.shapers_normal.specs.Normalization.{composes, has_rounds, normalized}
+use Rattle.shapers_normal.specs.declared.ot_shape_normalize.normalizing.Rounds.{Rounds}
+use Rattle.shapers_normalize.specs.ByShaper.{shaper_context}
+use Rattle.shapers_normalize.specs.TextTables.{TextTables, VariantForms}
+use Rattle.shapers_unicode.specs.Answers.{unicode_tables}
+use Rattle.shapers_unicode.specs.Classes.{modified_class}
+use Rattle.shapers_unicode.specs.Ignorable.{default_ignorable}
+use Rattle.shapers_unicode.specs.Pairs.{decomposed}
+use Rattle.shapers_equivalence.specs.Equivalence.{CanonicallyEquivalent}
+use Rattle.shapers_equivalence.specs.Laws.{AreInOrder, IsPlainText, before_composing, has_short_runs, mark_class}
+
+-- Unicode's classes and ignorable characters
+abbrev pub unicode_texts : TextTables
+unicode_texts = record { class = modified_class; ignorable = default_ignorable }
+
+-- a shaper with its plan, a font, and Unicode's tables
+abbrev pub unicode_context : Option hb_ot_shaper_t → hb_ot_shape_plan_t → Font → VariantForms →
+    Option GlyphId → Bool → Context
+unicode_context shaper plan font variants invisible draws_selectors =
+    shaper_context shaper plan font variants unicode_tables unicode_texts invisible draws_selectors
+
+-- whether a shaper takes a character apart that Unicode doesn't: Khmer's split vowels
+abbrev pub splits_vowels : Option hb_ot_shaper_t → Bool
+splits_vowels (Some Khmer) = true
+splits_vowels _ = false
+
+-- whether a shaper has an order of marks of its own
+abbrev pub orders_marks : Option hb_ot_shaper_t → Bool
+orders_marks (Some Arabic) = true
+orders_marks (Some Hebrew) = true
+orders_marks _ = false
+
+-- Whatever the font has, the second round leaves a text canonically equivalent to what it was, and
+-- so does the third, if marks are in order then.
+abbrev pub ShapersNormalizeEquivalently : Type 0
+ShapersNormalizeEquivalently = (shaper : Option hb_ot_shaper_t) (plan : hb_ot_shape_plan_t)
+    (font : Font) (variants : VariantForms) (invisible : Option GlyphId) (draws_selectors : Bool)
+    (rounds : Rounds) (level : BufferClusterLevel) (gs : List hb_glyph_info_t) →
+    splits_vowels shaper ≡ false →
+    let context = unicode_context shaper plan font variants invisible draws_selectors in
+    IsPlainText context gs →
+    CanonicallyEquivalent decomposed (mark_class context)
+    (characters (before_composing context level gs)) (characters gs)
+    × (((has_rounds rounds gs && composes context.mode) ≡ true →
+    AreInOrder context (before_composing context level gs)) →
+    CanonicallyEquivalent decomposed (mark_class context)
+    (characters (normalized context rounds level gs)) (characters gs))
+
+-- They are, for a shaper without an order of its own, where no run is longer than 32 marks.
+abbrev pub ShapersKeepTexts : Type 0
+ShapersKeepTexts = (shaper : Option hb_ot_shaper_t) (plan : hb_ot_shape_plan_t)
+    (font : Font) (variants : VariantForms) (invisible : Option GlyphId) (draws_selectors : Bool)
+    (rounds : Rounds) (level : BufferClusterLevel) (gs : List hb_glyph_info_t) →
+    splits_vowels shaper ≡ false → orders_marks shaper ≡ false →
+    let context = unicode_context shaper plan font variants invisible draws_selectors in
+    IsPlainText context gs → has_short_runs (first_round context level gs) ≡ true →
+    CanonicallyEquivalent decomposed (mark_class context)
+    (characters (normalized context rounds level gs)) (characters gs)

@@ -1,0 +1,41 @@
+//! The law of canonical equivalence.
+ghost use Rattle.shapers_equivalence.specs.Equivalence.{OrdersAlike};
+ghost use Rattle.shapers_equivalence.specs.Laws.{ComesApartExactly, NormalizesEquivalently, OrdersMarksEquivalently, RunsNormalizeEquivalently};
+ghost use Rattle.shapers_equivalence.specs.Staying.{TextsInFormStay};
+ghost use Rattle.shapers_equivalence.specs.Shapers.{ShapersKeepTexts, ShapersNormalizeEquivalently};
+
+/// Texts that are equivalent, taken apart to the end and each run of marks sorted by class, are the
+/// same; the sort is stable.
+pub fn order_law()
+    ensures { OrdersAlike }
+{}
+
+/// A text is canonically equivalent to what it becomes, whatever the font has and whichever rounds
+/// run: taken apart to the end both are the same characters, and marks of one class stand in the
+/// same order. The shaper decomposes and composes by canonical pairs, and its order of marks leaves
+/// them in that of their classes.
+pub fn equivalence_law()
+    ensures apart { ComesApartExactly }
+    ensures ordered { OrdersMarksEquivalently }
+    ensures normalized { NormalizesEquivalently }
+{}
+
+/// So it is for each shaper without an order of marks of its own, where no run is longer than 32
+/// marks.
+pub fn runs_law()
+    ensures { RunsNormalizeEquivalently }
+{}
+
+/// So it is with Unicode's tables, for each shaper but Khmer, which takes split vowels apart. Arabic's
+/// and Hebrew's order of marks keeps a text equivalent, too; a mark may compose behind it over one of
+/// its own class.
+pub fn shapers_law()
+    ensures ordered { ShapersNormalizeEquivalently }
+    ensures short { ShapersKeepTexts }
+{}
+
+/// A text that is composed or decomposed as the font and the shaper want it stays: each glyph gets
+/// its number, and nothing else.
+pub fn staying_law()
+    ensures { TextsInFormStay }
+{}
