@@ -1,1 +1,2 @@
 pub mod ClearSteps
+pub mod SetUp
