@@ -1,3 +1,5 @@
 pub mod ClearSteps
 pub mod Guarded
 pub mod SetUp
+pub mod CircledBorders
+pub mod PauseBreaks

@@ -1,2 +1,3 @@
 pub mod ClearSteps
 pub mod SetUp
+pub mod PauseBreaks
