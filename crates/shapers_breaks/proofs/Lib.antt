@@ -3,3 +3,4 @@ pub mod Guarded
 pub mod SetUp
 pub mod CircledBorders
 pub mod PauseBreaks
+pub mod UniversalSetUp

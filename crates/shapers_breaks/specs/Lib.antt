@@ -1,3 +1,4 @@
 pub mod ClearSteps
 pub mod SetUp
 pub mod PauseBreaks
+pub mod ScriptBreaks

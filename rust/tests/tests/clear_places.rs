@@ -86,6 +86,16 @@ struct Counts {
     flagged: usize,
 }
 
+/// Where the cluster `behind` begins in the text before a hook, directly behind the cluster `before`:
+/// the hook may have merged other clusters into them, but never one with one beyond the cut.
+fn beginning(glyphs: &[GlyphInfo], before: u32, behind: u32) -> usize {
+    let is_behind = |glyph: &GlyphInfo| match before < behind {
+        true => glyph.cluster >= behind,
+        false => glyph.cluster < before,
+    };
+    glyphs.iter().position(is_behind).unwrap()
+}
+
 /// Breaks a text at each clear place that a hook leaves. The text before it is cut where the cluster
 /// that begins at that place begins.
 fn break_text(buffer: &Buffer, counts: &mut Counts, hook: impl Fn(&mut Buffer)) {
@@ -98,12 +108,11 @@ fn break_text(buffer: &Buffer, counts: &mut Counts, hook: impl Fn(&mut Buffer)) 
             continue;
         }
         counts.clear += 1;
-        let cluster = glyphs[place].cluster;
-        let cut = buffer
-            .glyphs()
-            .iter()
-            .position(|glyph| glyph.cluster == cluster)
-            .unwrap();
+        let cut = beginning(
+            buffer.glyphs(),
+            glyphs[place - 1].cluster,
+            glyphs[place].cluster,
+        );
         let mut front = piece(buffer, 0..cut);
         let mut back = piece(buffer, cut..buffer.len());
         hook(&mut front);
