@@ -4,3 +4,4 @@ pub mod SetUp
 pub mod CircledBorders
 pub mod PauseBreaks
 pub mod UniversalSetUp
+pub mod ScriptBreaks

@@ -141,7 +141,7 @@ pub length-moved : (meaning : Glyphs → Glyphs) (steps : Glyphs → List Step) 
 length-moved meaning steps old new laws done = (text_reordered meaning steps old new laws done).glyphs.same_length
 
 -- the first spans set up the first syllables
-front_is : (spans : List Span) (broken_kind k : ℕ) (old : Buffer) → All (λ span. span.kind ≤ 15) spans → spans_cover (length old.glyphs) spans ≡ true → (text : TextCut spans old.glyphs (unsafe_spans spans old.glyphs) k) → k ≤ length (syllables (unsafe_spans spans old.glyphs)) → syllables (unsafe_spans (take k spans) (take text.n old.glyphs)) ≡ take k (syllables (unsafe_spans spans old.glyphs))
+pub front_is : (spans : List Span) (broken_kind k : ℕ) (old : Buffer) → All (λ span. span.kind ≤ 15) spans → spans_cover (length old.glyphs) spans ≡ true → (text : TextCut spans old.glyphs (unsafe_spans spans old.glyphs) k) → k ≤ length (syllables (unsafe_spans spans old.glyphs)) → syllables (unsafe_spans (take k spans) (take text.n old.glyphs)) ≡ take k (syllables (unsafe_spans spans old.glyphs))
 front_is spans broken_kind k old kinds covers text within =
     let gs = old.glyphs in
     let n = text.n in

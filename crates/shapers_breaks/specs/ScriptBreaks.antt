@@ -1,5 +1,6 @@
 -- Where a text of each syllabic shaper may be broken, by its own pauses, directly one after another.
 use Rattle.std.specs.Prelude.{ℕ, ◌%◌, ◌≤◌, ◌≡◌, true, List, All, Option, None, Some, length}
+use Rattle.shapers_buffer.specs.declared.buffer.glyph.hb_glyph_info_t.{hb_glyph_info_t}
 use Rattle.shapers_buffer.specs.declared.buffer.syllables.Span.{Span}
 use Rattle.shapers_buffer.specs.Buffer.{Buffer}
 use Rattle.shapers_buffer.specs.Clusters.{merges}
@@ -18,7 +19,7 @@ use Rattle.shapers_syllabic.specs.Syllabic.{unsafe_spans}
 use Rattle.shapers_universal.specs.PlanData.{arabic_of}
 use Rattle.shapers_universal.specs.UniversalLaws.{set_up_by_spans, without_serial_or_forms}
 use Rattle.shapers_universal.specs.UniversalSyllables.{all_forms, form_masks}
-use Rattle.rustybuzz_shapers.specs.Pauses.{Paused, Reordering, by_universal}
+use Rattle.rustybuzz_shapers.specs.Pauses.{Paused, Reordering, by_myanmar, by_universal}
 use Rattle.shapers_breaks.specs.PauseBreaks.{AtMostOneRepha, BreaksBetweenSpans}
 
 -- a text and its spans for which the laws hold: spans of kinds up to 15 that cover it, clusters that
@@ -29,12 +30,14 @@ pub record CanBreak (spans : List Span) (old : Buffer) : Type 0 where
   pub merging : merges old.level ≡ true
   pub monotone : IsMonotone (clusters old.glyphs)
 
--- a set-up by spans and the reordering that runs directly after it, with what it goes by: the text
--- may be broken at every clear place
+-- A set-up by spans and the reordering that runs directly after it, with what it goes by: the text
+-- may be broken at every clear place. Where circles open behind rephas, no syllable may open with two
+-- of these, as none of a grammar does.
 abbrev pub PausesBreakBy : Pause → Pause → (hb_ot_shape_plan_t → Font → Buffer → Reordering) →
     Type 0
 PausesBreakBy set_up pause by = (plan : hb_ot_shape_plan_t) (font : Font) (spans unread : List Span)
     (old mid new : Buffer) → CanBreak spans old →
+    AtMostOneRepha (by plan font mid).circles mid.glyphs →
     Paused set_up plan font spans old mid →
     Paused pause plan font unread mid new →
     let r = by plan font mid in
@@ -47,8 +50,13 @@ FormsOffFlags None m =
     (all_forms (form_masks m) % 8 ≡ 0) × (all_forms (form_masks m) ≤ 0xFFFFFFFF)
 FormsOffFlags (Some p) m = Unit {0}
 
--- In the universal shaper masks of forms are left out, which depend on the syllables beside; and no
--- syllable may open with two rephas, as none of the grammar does, where circles open.
+-- the circles of Myanmar open behind no repha
+abbrev pub MyanmarHasNoRepha : Type 0
+MyanmarHasNoRepha =
+    (font : Font) (b : Buffer) (gs : List hb_glyph_info_t) →
+    AtMostOneRepha (by_myanmar font b).circles gs
+
+-- so in the universal shaper, masks of forms apart, which depend on the syllables beside
 abbrev pub UniversalPausesBreak : Type 0
 UniversalPausesBreak = (plan : hb_ot_shape_plan_t) (font : Font) (spans unread : List Span)
     (old mid new : Buffer) → CanBreak spans old →
