@@ -5,3 +5,4 @@ pub mod CircledBorders
 pub mod PauseBreaks
 pub mod UniversalSetUp
 pub mod ScriptBreaks
+mod BreakRows
