@@ -28,7 +28,8 @@ shown : List hb_glyph_info_t → List (ℕ × ℕ)
 shown gs = map (λ (g : hb_glyph_info_t). (g.cluster, g.mask)) gs
 
 -- what is merged keeps the flag of the glyph that doesn't fall: place 1 is clear neither before nor after
-row_merged : shown (run_steps MonotoneGraphemes (swap ((1, 3) ∷ []) ∷ []) (glyph 0 0 ∷ glyph 1 3 ∷ glyph 2 3 ∷ [])) ≡ (0, 0) ∷ (1, 0) ∷ (1, 3) ∷ []
+row_merged : shown (run_steps MonotoneGraphemes (swap ((1, 3) ∷ []) ∷ []) (glyph 0 0 ∷ glyph 1 3 ∷ glyph 2 3 ∷ [])) ≡
+    (0, 0) ∷ (1, 0) ∷ (1, 3) ∷ []
 unfolding glyph swap shown
 row_merged = refl
 
@@ -37,11 +38,13 @@ unfolding glyph
 row_flagged clear = false≢true (sym clear.unflagged)
 
 -- moved without a merge, or at level Characters, the flagged glyph goes away from place 1, which gets clear
-row_unmerged : shown (run_steps MonotoneGraphemes (swap [] ∷ []) (glyph 0 0 ∷ glyph 1 3 ∷ glyph 2 0 ∷ [])) ≡ (0, 0) ∷ (2, 0) ∷ (1, 3) ∷ []
+row_unmerged : shown (run_steps MonotoneGraphemes (swap [] ∷ []) (glyph 0 0 ∷ glyph 1 3 ∷ glyph 2 0 ∷ [])) ≡ (0, 0) ∷
+    (2, 0) ∷ (1, 3) ∷ []
 unfolding glyph swap shown
 row_unmerged = refl
 
-row_characters : shown (run_steps Characters (swap ((1, 3) ∷ []) ∷ []) (glyph 0 0 ∷ glyph 1 3 ∷ glyph 2 0 ∷ [])) ≡ (0, 0) ∷ (2, 0) ∷ (1, 3) ∷ []
+row_characters : shown (run_steps Characters (swap ((1, 3) ∷ []) ∷ []) (glyph 0 0 ∷ glyph 1 3 ∷ glyph 2 0 ∷ [])) ≡
+    (0, 0) ∷ (2, 0) ∷ (1, 3) ∷ []
 unfolding glyph swap shown
 row_characters = refl
 
@@ -54,7 +57,8 @@ unfolding glyph
 row_was_flagged clear = false≢true (sym clear.unflagged)
 
 -- where clusters neither rise nor fall, the flagged glyph beside the cut may fall and lose its flag
-row_neither : shown (run_steps MonotoneGraphemes (swap ((1, 3) ∷ []) ∷ []) (glyph 0 0 ∷ glyph 2 3 ∷ glyph 1 0 ∷ [])) ≡ (0, 0) ∷ (1, 0) ∷ (1, 0) ∷ []
+row_neither : shown (run_steps MonotoneGraphemes (swap ((1, 3) ∷ []) ∷ []) (glyph 0 0 ∷ glyph 2 3 ∷ glyph 1 0 ∷ [])) ≡
+    (0, 0) ∷ (1, 0) ∷ (1, 0) ∷ []
 unfolding glyph swap shown
 row_neither = refl
 
@@ -62,11 +66,13 @@ row_neither = refl
 two : List Span
 two = record { len = 2; kind = 0 } ∷ record { len = 2; kind = 0 } ∷ []
 
-row_rising : map (λ g. g.mask) (unsafe_spans two (glyph 0 8 ∷ glyph 1 0 ∷ glyph 2 0 ∷ glyph 3 16 ∷ [])) ≡ 8 ∷ 3 ∷ 0 ∷ 19 ∷ []
+row_rising : map (λ g. g.mask) (unsafe_spans two (glyph 0 8 ∷ glyph 1 0 ∷ glyph 2 0 ∷ glyph 3 16 ∷ []))
+    ≡ 8 ∷ 3 ∷ 0 ∷ 19 ∷ []
 unfolding glyph two
 row_rising = refl
 
-row_falling : map (λ g. g.mask) (unsafe_spans two (glyph 3 8 ∷ glyph 2 0 ∷ glyph 1 0 ∷ glyph 0 16 ∷ [])) ≡ 11 ∷ 0 ∷ 3 ∷ 16 ∷ []
+row_falling : map (λ g. g.mask) (unsafe_spans two (glyph 3 8 ∷ glyph 2 0 ∷ glyph 1 0 ∷ glyph 0 16 ∷ []))
+    ≡ 11 ∷ 0 ∷ 3 ∷ 16 ∷ []
 unfolding glyph two
 row_falling = refl
 
@@ -81,7 +87,8 @@ row_inside clear = false≢true (sym clear.unflagged)
 
 row_border : SpanBorder two 2
 unfolding two
-row_border = record { front = record { len = 2; kind = 0 } ∷ []; back = record { len = 2; kind = 0 } ∷ []; split = refl; place = refl }
+row_border = record { front = record { len = 2; kind = 0 } ∷ []; back = record { len = 2; kind = 0 } ∷ []; split =
+    refl; place = refl }
 
 -- a border of spans within a cluster isn't clear; nor is one beside a cluster that goes on in a span with a lower one
 row_one_cluster : IsClear (unsafe_spans two (glyph 0 0 ∷ glyph 1 0 ∷ glyph 1 0 ∷ glyph 2 0 ∷ [])) 2 → ⊥
@@ -101,7 +108,8 @@ row_concat_alone : IsFlagged (glyph 0 14) → ⊥
 unfolding glyph
 row_concat_alone flags = absurd (omega (arith, flags.0))
 
--- Myanmar: a consonant with a left vowel, and another consonant. The vowel goes first, and place 2 is clear: the halves are the whole
+-- Myanmar: a consonant with a left vowel, and another consonant. The vowel goes first, and place 2 is clear: the halves
+-- are the whole
 letter : ℕ → ℕ → hb_glyph_info_t
 letter c category = record default_glyph { cluster = c; category = category }
 
@@ -111,7 +119,9 @@ word = letter 0 1 ∷ letter 1 22 ∷ letter 2 1 ∷ []
 of_word : List Span
 of_word = record { len = 2; kind = 0 } ∷ record { len = 1; kind = 0 } ∷ []
 
-row_word : shown (run_steps MonotoneGraphemes (record { merged_first = (0, 2) ∷ []; places = 1 ∷ 0 ∷ 2 ∷ []; merged_then = [] } ∷ []) (unsafe_spans of_word word)) ≡ (0, 0) ∷ (0, 0) ∷ (2, 0) ∷ []
+row_word : shown (run_steps MonotoneGraphemes
+    (record { merged_first = (0, 2) ∷ []; places = 1 ∷ 0 ∷ 2 ∷ []; merged_then = [] } ∷ [])
+    (unsafe_spans of_word word)) ≡ (0, 0) ∷ (0, 0) ∷ (2, 0) ∷ []
 unfolding letter word of_word shown
 row_word = refl
 
@@ -119,15 +129,19 @@ row_word_clusters : paused_clusters None myanmar_steps MonotoneGraphemes (unsafe
 unfolding letter word of_word
 row_word_clusters = refl
 
-row_word_front : map (λ g. g.category) (paused_order None myanmar_order (unsafe_spans (record { len = 2; kind = 0 } ∷ []) (letter 0 1 ∷ letter 1 22 ∷ []))) ≡ 22 ∷ 1 ∷ []
+row_word_front : map (λ g. g.category) (paused_order None myanmar_order
+    (unsafe_spans (record { len = 2; kind = 0 } ∷ []) (letter 0 1 ∷ letter 1 22 ∷ []))) ≡ 22 ∷ 1 ∷ []
 unfolding letter
 row_word_front = refl
 
-row_word_back : map (λ g. g.category) (paused_order None myanmar_order (unsafe_spans (record { len = 1; kind = 0 } ∷ []) (letter 2 1 ∷ []))) ≡ 1 ∷ []
+row_word_back : map (λ g. g.category) (paused_order None myanmar_order
+    (unsafe_spans (record { len = 1; kind = 0 } ∷ []) (letter 2 1 ∷ []))) ≡ 1 ∷ []
 unfolding letter
 row_word_back = refl
 
--- Two rephas in clusters of their own open a broken syllable of the universal shaper, and a third one in the second's cluster is another. The first goes behind the circle, and all three fall to its cluster: place 3 is clear, but the halves share cluster 1.
+-- Two rephas in clusters of their own open a broken syllable of the universal shaper, and a third one in the second's
+-- cluster is another. The first goes behind the circle, and all three fall to its cluster: place 3 is clear, but the
+-- halves share cluster 1.
 rephas : List hb_glyph_info_t
 rephas = letter 0 18 ∷ letter 1 18 ∷ letter 1 18 ∷ []
 
@@ -141,10 +155,12 @@ row_two_rephas : clusters (circled (Some circle) (unsafe_spans of_rephas rephas)
 unfolding letter rephas of_rephas circle
 row_two_rephas = refl
 
-row_all_fall : paused_clusters (Some circle) universal_steps MonotoneGraphemes (unsafe_spans of_rephas rephas) ≡ 0 ∷ 0 ∷ 0 ∷ 1 ∷ 1 ∷ []
+row_all_fall : paused_clusters (Some circle) universal_steps MonotoneGraphemes (unsafe_spans of_rephas rephas)
+    ≡ 0 ∷ 0 ∷ 0 ∷ 1 ∷ 1 ∷ []
 unfolding letter rephas of_rephas circle
 row_all_fall = refl
 
-row_no_flag_left : map (λ g. g.mask) (paused_carried (Some circle) universal_steps MonotoneGraphemes (unsafe_spans of_rephas rephas)) ≡ 0 ∷ 0 ∷ 0 ∷ 0 ∷ 0 ∷ []
+row_no_flag_left : map (λ g. g.mask) (paused_carried (Some circle) universal_steps MonotoneGraphemes
+    (unsafe_spans of_rephas rephas)) ≡ 0 ∷ 0 ∷ 0 ∷ 0 ∷ 0 ∷ []
 unfolding letter rephas of_rephas circle
 row_no_flag_left = refl

@@ -10,19 +10,24 @@ use Rattle.std.proofs.lemmas.List.FromFn.{length-range_with_len}
 use Rattle.std.proofs.lemmas.List.Sorted.{All-permutation, IsPermutation-sym}
 use Rattle.shapers_buffer.specs.declared.buffer.glyph.hb_glyph_info_t.{hb_glyph_info_t}
 use Rattle.shapers_buffer.specs.Glyph.{clusters, default_glyph}
+use Rattle.shapers_buffer.specs.declared.buffer.level.BufferClusterLevel.{BufferClusterLevel}
+use Rattle.shapers_buffer.specs.Clusters.{merges}
 use Rattle.shapers_buffer.specs.Places.{pick}
 use Rattle.shapers_clusters.specs.Breaks.{IsClear, greater, is_unsafe}
 use Rattle.shapers_clusters.specs.Cuts.{ExactCuts, IsFalling, IsMonotone, IsRising, SameBlock}
 use Rattle.shapers_clusters.specs.Flags.{FlagsFall, bit_at}
-use Rattle.shapers_clusters.specs.Steps.{all_first, old_places}
+use Rattle.shapers_clusters.specs.Steps.{MovesMerged, Permutes, Step, all_first, old_places}
+use Rattle.shapers_clusters.specs.Laws.{ReorderedHold}
 use Rattle.shapers_clusters.proofs.Moves.{length-old_places, merged_fits, within-old_places}
 use Rattle.shapers_clusters.proofs.Permuted.{moved-permuted, picked-permuted}
 use Rattle.shapers_clusters.proofs.Picks.{get_or-pick, length-pick, within_at}
 use Rattle.shapers_clusters.proofs.Proved.{reordered_hold}
-use Rattle.shapers_breaks.specs.ClearSteps.{ClearBeforeLaw}
+use Rattle.shapers_breaks.specs.ClearSteps.{ClearBeforeLaw, ClearWasClear}
 
 -- places on both sides of a cut get clusters of their own side
-behind_cut : (cs : List ℕ) (sts : List (ℕ × ℕ)) (js : List ℕ) → ExactCuts cs sts js → (p a : ℕ) → 0 < p → p < length cs → get_or js (p - 1) 0 ≢ get_or js p 0 → p ≤ a → a < length cs → (q : ℕ) × (p ≤ q) × (q < length cs) × (get_or js a 0 ≡ get_or cs q 0)
+behind_cut : (cs : List ℕ) (sts : List (ℕ × ℕ)) (js : List ℕ) → ExactCuts cs sts js → (p a : ℕ) → 0 < p → p < length cs
+    → get_or js (p - 1) 0 ≢ get_or js p 0 → p ≤ a → a < length cs → (q : ℕ) × (p ≤ q) × (q < length cs) ×
+    (get_or js a 0 ≡ get_or cs q 0)
 behind_cut cs sts js x p a z l ne low high =
     let r = x.reached a high in
     let cut = (x.cuts p z l).0 ne in
@@ -33,7 +38,8 @@ behind_cut cs sts js x p a z l ne low high =
     ] in
     (q, far, r.1, r.3)
 
-before_cut : (cs : List ℕ) (sts : List (ℕ × ℕ)) (js : List ℕ) → ExactCuts cs sts js → (p a : ℕ) → 0 < p → p < length cs → get_or js (p - 1) 0 ≢ get_or js p 0 → a < p → (q : ℕ) × (q < p) × (get_or js a 0 ≡ get_or cs q 0)
+before_cut : (cs : List ℕ) (sts : List (ℕ × ℕ)) (js : List ℕ) → ExactCuts cs sts js → (p a : ℕ) → 0 < p → p < length cs
+    → get_or js (p - 1) 0 ≢ get_or js p 0 → a < p → (q : ℕ) × (q < p) × (get_or js a 0 ≡ get_or cs q 0)
 before_cut cs sts js x p a z l ne low =
     let r = x.reached a (omega arith) in
     let cut = (x.cuts p z l).0 ne in
@@ -44,7 +50,8 @@ before_cut cs sts js x p a z l ne low =
     ] in
     (q, near, r.3)
 
-falls : (cs : List ℕ) (sts : List (ℕ × ℕ)) (js : List ℕ) → ExactCuts cs sts js → (a : ℕ) → a < length cs → get_or js a 0 ≤ get_or cs a 0
+falls : (cs : List ℕ) (sts : List (ℕ × ℕ)) (js : List ℕ) → ExactCuts cs sts js → (a : ℕ) → a < length cs
+    → get_or js a 0 ≤ get_or cs a 0
 falls cs sts js x a l = x.least a a l l (λ k b c. absurd (omega arith))
 
 up_to : (cs : List ℕ) → IsRising cs → (a b : ℕ) → a ≤ b → b < length cs → get_or cs a 0 ≤ get_or cs b 0
@@ -62,14 +69,17 @@ down_to cs down a b h l = elim (cases_lt a b) [
 -- the greater cluster at a cut stays, and so do all that were in it
 record Stays (cs js : List ℕ) (p : ℕ) : Type 0 where
   greatest : max (get_or js (p - 1) 0) (get_or js p 0) ≡ max (get_or cs (p - 1) 0) (get_or cs p 0)
-  each : (k : ℕ) → k < length cs → get_or cs k 0 ≡ max (get_or cs (p - 1) 0) (get_or cs p 0) → get_or js k 0 ≡ get_or cs k 0
+  each : (k : ℕ) → k < length cs → get_or cs k 0 ≡ max (get_or cs (p - 1) 0) (get_or cs p 0) → get_or js k 0
+    ≡ get_or cs k 0
 
-differ_before : (cs : List ℕ) (sts : List (ℕ × ℕ)) (js : List ℕ) → ExactCuts cs sts js → (p : ℕ) → 0 < p → p < length cs → get_or js (p - 1) 0 ≢ get_or js p 0 → get_or cs (p - 1) 0 ≢ get_or cs p 0
+differ_before : (cs : List ℕ) (sts : List (ℕ × ℕ)) (js : List ℕ) → ExactCuts cs sts js → (p : ℕ) → 0 < p
+    → p < length cs → get_or js (p - 1) 0 ≢ get_or js p 0 → get_or cs (p - 1) 0 ≢ get_or cs p 0
 differ_before cs sts js x p z l ne same =
     let cut = (x.cuts p z l).0 ne in
     both_ways _ cut (or_left _ _ (eq-eqb (get_or cs (p - 1) 0) (get_or cs p 0) same))
 
-stays_up : (cs : List ℕ) (sts : List (ℕ × ℕ)) (js : List ℕ) → ExactCuts cs sts js → IsRising cs → (p : ℕ) → 0 < p → p < length cs → get_or js (p - 1) 0 ≢ get_or js p 0 → Stays cs js p
+stays_up : (cs : List ℕ) (sts : List (ℕ × ℕ)) (js : List ℕ) → ExactCuts cs sts js → IsRising cs → (p : ℕ) → 0 < p
+    → p < length cs → get_or js (p - 1) 0 ≢ get_or js p 0 → Stays cs js p
 stays_up cs sts js x up p z l ne =
     let old = differ_before cs sts js x p z l ne in
     let step = up_to cs up (p - 1) p (omega arith) l in
@@ -89,7 +99,8 @@ stays_up cs sts js x up p z l ne =
       ];
     }
 
-stays_down : (cs : List ℕ) (sts : List (ℕ × ℕ)) (js : List ℕ) → ExactCuts cs sts js → IsFalling cs → (p : ℕ) → 0 < p → p < length cs → get_or js (p - 1) 0 ≢ get_or js p 0 → Stays cs js p
+stays_down : (cs : List ℕ) (sts : List (ℕ × ℕ)) (js : List ℕ) → ExactCuts cs sts js → IsFalling cs → (p : ℕ) → 0 < p
+    → p < length cs → get_or js (p - 1) 0 ≢ get_or js p 0 → Stays cs js p
 stays_down cs sts js x down p z l ne =
     let old = differ_before cs sts js x p z l ne in
     let step = down_to cs down (p - 1) p (omega arith) l in
@@ -109,7 +120,8 @@ stays_down cs sts js x down p z l ne =
       ];
     }
 
-stays : (cs : List ℕ) (sts : List (ℕ × ℕ)) (js : List ℕ) → ExactCuts cs sts js → IsMonotone cs → (p : ℕ) → 0 < p → p < length cs → get_or js (p - 1) 0 ≢ get_or js p 0 → Stays cs js p
+stays : (cs : List ℕ) (sts : List (ℕ × ℕ)) (js : List ℕ) → ExactCuts cs sts js → IsMonotone cs → (p : ℕ) → 0 < p
+    → p < length cs → get_or js (p - 1) 0 ≢ get_or js p 0 → Stays cs js p
 stays cs sts js x h p z l ne = elim h [
   | inl up ↦ stays_up cs sts js x up p z l ne
   | inr down ↦ stays_down cs sts js x down p z l ne
@@ -128,19 +140,23 @@ unsafe_same g h e =
 abbrev is_flagged : ℕ → hb_glyph_info_t → Bool
 is_flagged c g = g.cluster == c && is_unsafe g
 
-cluster_at : (gs : List hb_glyph_info_t) (k : ℕ) → k < length gs → get_or (clusters gs) k 0 ≡ (get_or gs k default_glyph).cluster
+cluster_at : (gs : List hb_glyph_info_t) (k : ℕ) → k < length gs → get_or (clusters gs) k 0 ≡
+    (get_or gs k default_glyph).cluster
 cluster_at gs k h = get_or-map (λ (g : hb_glyph_info_t). g.cluster) gs k default_glyph 0 h
 
 none_any : {X : Type 0} (test : X → Bool) (xs : List X) → All (λ x. test x ≡ false) xs → list_any test xs ≡ false
 none_any test [] h = refl
-none_any test (x ∷ xs) h = or_from _ _ (All-head (λ x. test x ≡ false) x xs h) (none_any test xs (All-tail (λ x. test x ≡ false) x xs h))
+none_any test (x ∷ xs) h = or_from _ _ (All-head (λ x. test x ≡ false) x xs h)
+    (none_any test xs (All-tail (λ x. test x ≡ false) x xs h))
 
-pub clear_before : ClearBeforeLaw
-clear_before view hides level steps gs ms m mono moves permutes result p z l clear =
+pub clear_before_held : (view : hb_glyph_info_t → hb_glyph_info_t) (level : BufferClusterLevel) (steps : List Step)
+    (gs ms : List hb_glyph_info_t) → merges level ≡ true → IsMonotone (clusters gs) → AllByRecursion
+    (MovesMerged (length gs)) steps → AllByRecursion (Permutes (length gs)) steps
+    → ReorderedHold view level steps gs ms → ClearWasClear gs ms
+clear_before_held view level steps gs ms m mono moves permutes hold p z l clear =
     let n = length gs in
     let cs = clusters gs in
     let js = clusters ms in
-    let hold = reordered_hold view hides level steps gs ms moves permutes result in
     let count = length-map gs (λ (g : hb_glyph_info_t). g.cluster) in
     let long = hold.glyphs.same_length in
     let merged = hold.in_clusters.where_merging m in
@@ -153,7 +169,8 @@ clear_before view hides level steps gs ms m mono moves permutes result p z l cle
     let within = within-old_places n steps in
     let many = length-old_places n steps fit in
     let old : List hb_glyph_info_t = pick olds gs in
-    let moved : IsPermutation gs old = picked-permuted n olds gs refl within (moved-permuted n steps (range_with_len 0 n) (length-range_with_len 0 n) fit permutes) in
+    let moved : IsPermutation gs old = picked-permuted n olds gs refl within
+    (moved-permuted n steps (range_with_len 0 n) (length-range_with_len 0 n) fit permutes) in
     let as_many : length old ≡ n = length-pick olds gs within ∙ many in
     let P : hb_glyph_info_t → Type 0 = λ g. is_flagged c g ≡ false in
     let each : (i : ℕ) → i < length old → P (get_or old i default_glyph) = λ i il.
@@ -163,7 +180,8 @@ clear_before view hides level steps gs ms m mono moves permutes result p z l cle
     let h = get_or ms i default_glyph in
     let from : get_or old i default_glyph ≡ g = get_or-pick default_glyph olds gs within i (omega arith) in
     let same_olds : get_or (old_places (length cs) steps) i 0 ≡ k = ap (λ t. get_or (old_places t steps) i 0) count in
-    let shares : get_or js k 0 ≡ get_or js i 0 = subst (λ t. get_or js t 0 ≡ get_or js i 0) same_olds (merged.cluster_law i (omega arith) (get_or (old_places (length cs) steps) i 0) (omega arith) (omega arith)) in
+    let shares : get_or js k 0 ≡ get_or js i 0 = subst (λ t. get_or js t 0 ≡ get_or js i 0) same_olds
+    (merged.cluster_law i (omega arith) (get_or (old_places (length cs) steps) i 0) (omega arith) (omega arith)) in
     let here : get_or cs k 0 ≡ g.cluster = cluster_at gs k kl in
     let there : get_or js i 0 ≡ h.cluster = cluster_at ms i (omega arith) in
     let fallen = AllZip-get_or FlagsFall old ms i default_glyph default_glyph hold.glyphs.falls il in
@@ -173,9 +191,16 @@ clear_before view hides level steps gs ms m mono moves permutes result p z l cle
     let kept : get_or js k 0 ≡ get_or cs k 0 = st.each k (omega arith) (here ∙ own) in
     let same : h.cluster ≡ g.cluster = sym there ∙ sym shares ∙ kept ∙ here in
     let flags = fallen.kept (subst (λ (t : hb_glyph_info_t). h.cluster ≡ t.cluster) (sym from) same) in
-    let still : is_unsafe h ≡ true = unsafe_same g h (subst (λ (t : hb_glyph_info_t). h.mask % 8 ≡ t.mask % 8) from flags) ∙ bad in
-    both_ways _ clear.unflagged (list_any_at (is_flagged d) ms i default_glyph (omega arith) (and_from (h.cluster == d) (is_unsafe h) (eq-eqb h.cluster d (same ∙ own ∙ sym st.greatest)) still)))) in
+    let still : is_unsafe h ≡ true = unsafe_same g h
+    (subst (λ (t : hb_glyph_info_t). h.mask % 8 ≡ t.mask % 8) from flags) ∙ bad in
+    both_ways _ clear.unflagged (list_any_at (is_flagged d) ms i default_glyph (omega arith)
+    (and_from (h.cluster == d) (is_unsafe h) (eq-eqb h.cluster d (same ∙ own ∙ sym st.greatest)) still)))) in
     record {
       differ = differ_before cs (all_first steps) js x p z (omega arith) clear.differ;
-      unflagged = none_any (is_flagged c) gs (All-permutation P old gs (IsPermutation-sym gs old moved) (All-from_get_or P old default_glyph each));
+      unflagged = none_any (is_flagged c) gs (All-permutation P old gs (IsPermutation-sym gs old moved)
+      (All-from_get_or P old default_glyph each));
     }
+
+pub clear_before : ClearBeforeLaw
+clear_before view hides level steps gs ms m mono moves permutes result = clear_before_held view level steps gs ms m
+    mono moves permutes (reordered_hold view hides level steps gs ms moves permutes result)

@@ -37,7 +37,8 @@ three_flags mask =
     (omega (arith, bit_at_or mask 3 0, a, c), omega (arith, bit_at_or mask 3 1, b, d))
 
 off_flagged : (m : ℕ) (g : hb_glyph_info_t) → m ≤ g.cluster → LeastOrFlagged m (with_bits_off 3 m g)
-off_flagged m g h = elim (g.cluster == m) as (λ b. (g.cluster == m) ≡ b → LeastOrFlagged m (if b then g else with_bits 3 g)) [
+off_flagged m g h = elim (g.cluster == m) as
+    (λ b. (g.cluster == m) ≡ b → LeastOrFlagged m (if b then g else with_bits 3 g)) [
   | true ↦ λ e. (h, λ ne. absurd (ne (eqb-true g.cluster m e)))
   | false ↦ λ e. (h, λ ne. three_flags g.mask)
 ] refl
@@ -52,10 +53,12 @@ flagged_whole gs =
     let il : i < length gs = omega arith in
     let low : m ≤ get_or (clusters gs) i 0 = least-le (clusters gs) i (omega arith) in
     let is = get_or-map (λ (g : hb_glyph_info_t). g.cluster) gs i default_glyph 0 il in
-    subst (LeastOrFlagged m) (sym (get_or-map f gs i default_glyph default_glyph il)) (off_flagged m (get_or gs i default_glyph) (omega arith))))
+    subst (LeastOrFlagged m) (sym (get_or-map f gs i default_glyph default_glyph il))
+    (off_flagged m (get_or gs i default_glyph) (omega arith))))
 
 -- a circle has cluster and flags of the first glyph
-circle_whole : (m : ℕ) (circle : hb_glyph_info_t) (g : hb_glyph_info_t) (gs : List hb_glyph_info_t) → All (LeastOrFlagged m) (g ∷ gs) → LeastOrFlagged m (circle_in (g ∷ gs) circle)
+circle_whole : (m : ℕ) (circle : hb_glyph_info_t) (g : hb_glyph_info_t) (gs : List hb_glyph_info_t) → All
+    (LeastOrFlagged m) (g ∷ gs) → LeastOrFlagged m (circle_in (g ∷ gs) circle)
 circle_whole m circle g gs h = All-head (LeastOrFlagged m) g gs h
 
 pub circled_whole : (rule : DottedCircles) (gs : List hb_glyph_info_t) → IsWhole gs → IsWhole (circled_syllable rule gs)
@@ -65,12 +68,14 @@ circled_whole rule (g ∷ gs) h =
     let n = rephas_len rule.repha (g ∷ gs) in
     let circle = circle_in (g ∷ gs) rule.circle in
     elim (is_of_kind rule.broken_kind (g ∷ gs)) as (λ b. IsWhole (if b then with_circle rule (g ∷ gs) else g ∷ gs)) [
-      | true ↦ (h.0, All-append P (take n (g ∷ gs)) (circle ∷ drop n (g ∷ gs)) (All-take P n (g ∷ gs) h.1) (All-cons P circle (drop n (g ∷ gs)) (circle_whole h.0 rule.circle g gs h.1) (All-drop P n (g ∷ gs) h.1)))
+      | true ↦ (h.0, All-append P (take n (g ∷ gs)) (circle ∷ drop n (g ∷ gs)) (All-take P n (g ∷ gs) h.1)
+      (All-cons P circle (drop n (g ∷ gs)) (circle_whole h.0 rule.circle g gs h.1) (All-drop P n (g ∷ gs) h.1)))
       | false ↦ h
     ]
 
 -- two places of one piece
-flagged_inside : (piece rest : List hb_glyph_info_t) (p : ℕ) → IsWhole piece → 0 < p → p < length piece → FlaggedAt (piece ++ rest) p
+flagged_inside : (piece rest : List hb_glyph_info_t) (p : ℕ) → IsWhole piece → 0 < p → p < length piece → FlaggedAt
+    (piece ++ rest) p
 flagged_inside piece rest p h z l =
     let P = LeastOrFlagged h.0 in
     let d = default_glyph in
@@ -81,21 +86,32 @@ flagged_inside piece rest p h z l =
     let first : P a = All-get_or P piece (p - 1) d (omega arith) h.1 in
     let second : P b = All-get_or P piece p d l h.1 in
     record {
-      rising = λ less. subst IsFlagged (sym behind) (second.1 (λ e. absurd (omega (arith, less, ap (λ (g : hb_glyph_info_t). g.cluster) before, ap (λ (g : hb_glyph_info_t). g.cluster) behind, first.0, e))));
-      falling = λ less. subst IsFlagged (sym before) (first.1 (λ e. absurd (omega (arith, less, ap (λ (g : hb_glyph_info_t). g.cluster) before, ap (λ (g : hb_glyph_info_t). g.cluster) behind, second.0, e))));
+      rising = λ less. subst IsFlagged (sym behind)
+      (second.1 (λ e. absurd (omega (arith, less, ap (λ (g : hb_glyph_info_t). g.cluster) before, ap
+      (λ (g : hb_glyph_info_t). g.cluster) behind, first.0, e))));
+      falling = λ less. subst IsFlagged (sym before)
+      (first.1 (λ e. absurd (omega (arith, less, ap (λ (g : hb_glyph_info_t). g.cluster) before, ap
+      (λ (g : hb_glyph_info_t). g.cluster) behind, second.0, e))));
     }
 
 -- and two of what stands behind it
-flagged_behind : (piece rest : List hb_glyph_info_t) (p : ℕ) → length piece < p → FlaggedAt rest (p - length piece) → FlaggedAt (piece ++ rest) p
+flagged_behind : (piece rest : List hb_glyph_info_t) (p : ℕ) → length piece < p → FlaggedAt rest (p - length piece)
+    → FlaggedAt (piece ++ rest) p
 flagged_behind piece rest p l h =
     let d = default_glyph in
     let n = length piece in
     let i : p - 1 - n ≡ p - n - 1 = omega arith in
-    let before : get_or (piece ++ rest) (p - 1) d ≡ get_or rest (p - n - 1) d = get_or-append_right piece rest n (p - 1) d refl (omega arith) ∙ ap (λ k. get_or rest k d) i in
-    let behind : get_or (piece ++ rest) p d ≡ get_or rest (p - n) d = get_or-append_right piece rest n p d refl (omega arith) in
+    let before : get_or (piece ++ rest) (p - 1) d ≡ get_or rest (p - n - 1) d = get_or-append_right piece rest n
+    (p - 1) d refl (omega arith) ∙ ap (λ k. get_or rest k d) i in
+    let behind : get_or (piece ++ rest) p d ≡ get_or rest (p - n) d = get_or-append_right piece rest n p d refl
+    (omega arith) in
     record {
-      rising = λ less. subst IsFlagged (sym behind) (h.rising (subst (λ (g : hb_glyph_info_t). g.cluster < (get_or rest (p - n) d).cluster) before (subst (λ (g : hb_glyph_info_t). (get_or (piece ++ rest) (p - 1) d).cluster < g.cluster) behind less)));
-      falling = λ less. subst IsFlagged (sym before) (h.falling (subst (λ (g : hb_glyph_info_t). g.cluster < (get_or rest (p - n - 1) d).cluster) behind (subst (λ (g : hb_glyph_info_t). (get_or (piece ++ rest) p d).cluster < g.cluster) before less)));
+      rising = λ less. subst IsFlagged (sym behind)
+      (h.rising (subst (λ (g : hb_glyph_info_t). g.cluster < (get_or rest (p - n) d).cluster) before
+      (subst (λ (g : hb_glyph_info_t). (get_or (piece ++ rest) (p - 1) d).cluster < g.cluster) behind less)));
+      falling = λ less. subst IsFlagged (sym before)
+      (h.falling (subst (λ (g : hb_glyph_info_t). g.cluster < (get_or rest (p - n - 1) d).cluster) behind
+      (subst (λ (g : hb_glyph_info_t). (get_or (piece ++ rest) p d).cluster < g.cluster) before less)));
     }
 
 -- place p is a border of pieces: the first k of them are the p glyphs before it
@@ -105,7 +121,9 @@ pub record PieceBorder (pieces : List (List hb_glyph_info_t)) (p : ℕ) : Type 0
   pub place : length (flat_map (λ piece. piece) (take count pieces)) ≡ p
 
 -- each place of whole pieces is a border, or flagged
-pub border_or_flagged : (pieces : List (List hb_glyph_info_t)) → AllByRecursion IsWhole pieces → (p : ℕ) → 0 < p → p < length (flat_map (λ piece. piece) pieces) → PieceBorder pieces p ⊎ FlaggedAt (flat_map (λ piece. piece) pieces) p
+pub border_or_flagged : (pieces : List (List hb_glyph_info_t)) → AllByRecursion IsWhole pieces → (p : ℕ) → 0 < p
+    → p < length (flat_map (λ piece. piece) pieces) → PieceBorder pieces p ⊎ FlaggedAt
+    (flat_map (λ piece. piece) pieces) p
 border_or_flagged [] h p z l = absurd (omega arith)
 border_or_flagged (piece ∷ pieces) h p z l =
     let rest = flat_map (λ q. q) pieces in
@@ -119,13 +137,15 @@ border_or_flagged (piece ∷ pieces) h p z l =
               let k = border.count in
               let kl = border.within in
               let place = border.place in
-              inl (record { count = suc k; within = omega arith; place = length-append piece (flat_map (λ q. q) (take k pieces)) ∙ omega (arith, place, more) })
+              inl (record { count = suc k; within = omega arith; place = length-append piece
+              (flat_map (λ q. q) (take k pieces)) ∙ omega (arith, place, more) })
           | inr there ↦ inr (flagged_behind piece rest p more there)
         ]
     ]
 
 -- a clear place isn't flagged
-cluster_at : (gs : List hb_glyph_info_t) (k : ℕ) → k < length gs → get_or (clusters gs) k 0 ≡ (get_or gs k default_glyph).cluster
+cluster_at : (gs : List hb_glyph_info_t) (k : ℕ) → k < length gs → get_or (clusters gs) k 0 ≡
+    (get_or gs k default_glyph).cluster
 cluster_at gs k h = get_or-map (λ (g : hb_glyph_info_t). g.cluster) gs k default_glyph 0 h
 
 pub clear_not_flagged : (gs : List hb_glyph_info_t) (p : ℕ) → 0 < p → p < length gs → IsClear gs p → FlaggedAt gs p → ⊥
@@ -137,7 +157,8 @@ clear_not_flagged gs p z l clear h =
     let first = cluster_at gs (p - 1) (omega arith) in
     let second = cluster_at gs p l in
     let hit : (k : ℕ) → k < length gs → (get_or gs k d).cluster ≡ c → IsFlagged (get_or gs k d) → ⊥ = λ k kl is flags.
-    both_ways _ clear.unflagged (list_any_at (λ g. g.cluster == c && is_unsafe g) gs k d kl (and_from _ _ (eq-eqb _ _ is) (or_left _ _ (eq-eqb _ _ flags.0)))) in
+    both_ways _ clear.unflagged (list_any_at (λ g. g.cluster == c && is_unsafe g) gs k d kl
+    (and_from _ _ (eq-eqb _ _ is) (or_left _ _ (eq-eqb _ _ flags.0)))) in
     elim (cases_order (get_or (clusters gs) (p - 1) 0) (get_or (clusters gs) p 0)) [
       | inl same ↦ clear.differ same
       | inr (inl less) ↦ hit p l (omega arith) (h.rising (omega arith))

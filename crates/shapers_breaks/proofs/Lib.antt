@@ -6,3 +6,5 @@ pub mod PauseBreaks
 pub mod UniversalSetUp
 pub mod ScriptBreaks
 mod BreakRows
+pub mod MergedHalves
+pub mod MarkBreaks

@@ -39,7 +39,8 @@ use Rattle.shapers_breaks.proofs.SetUp.{Glyphs, set_up_guarded}
 use Rattle.shapers_breaks.proofs.UniversalSetUp.{clusters_kept, guarded_kept, length-all_opened, masks_kept, syllables_kept, taken_kept}
 
 -- circles behind at most one repha leave clusters rising or falling
-monotone_circled : (circles : Option DottedCircles) (gs : Glyphs) → AtMostOneRepha circles gs → IsMonotone (clusters gs) → IsMonotone (clusters (circled circles gs))
+monotone_circled : (circles : Option DottedCircles) (gs : Glyphs) → AtMostOneRepha circles gs → IsMonotone
+    (clusters gs) → IsMonotone (clusters (circled circles gs))
 monotone_circled None gs few h = h
 monotone_circled (Some rule) gs few (inl up) = inl ((circles_stay_monotone rule gs few).0 up)
 monotone_circled (Some rule) gs few (inr down) = inr ((circles_stay_monotone rule gs few).1 down)
@@ -54,32 +55,41 @@ pauses_break meaning steps broken_kind laws inside reads circles spans old new k
 none_long : (gs : Glyphs) (rule : DottedCircles) → rule.repha ≡ None → rephas_len rule.repha gs ≤ 1
 none_long gs rule e = subst (λ r. rephas_len r gs ≤ 1) (sym e) (omega arith)
 
-all_short : (rule : DottedCircles) → rule.repha ≡ None → (pieces : List Glyphs) → AllByRecursion (λ piece. rephas_len rule.repha piece ≤ 1) pieces
+all_short : (rule : DottedCircles) → rule.repha ≡ None → (pieces : List Glyphs) → AllByRecursion
+    (λ piece. rephas_len rule.repha piece ≤ 1) pieces
 all_short rule e [] = tt
 all_short rule e (p ∷ ps) = (none_long p rule e, all_short rule e ps)
 
-circles_short : (glyph : Option GlyphId) (k category : ℕ) (place : Option ℕ) (b : Buffer) (gs : Glyphs) → AtMostOneRepha (circles_for glyph k category None place b) gs
+circles_short : (glyph : Option GlyphId) (k category : ℕ) (place : Option ℕ) (b : Buffer) (gs : Glyphs)
+    → AtMostOneRepha (circles_for glyph k category None place b) gs
 circles_short None k category place b gs = tt
 circles_short (Some glyph) k category place b gs =
-    let rule : DottedCircles = record { broken_kind = k; circle = record default_glyph { glyph_id = glyph.0; category = category; auxiliary = unwrap_or place 0 }; repha = None } in
-    elim (wants_circles b) as (λ w. AtMostOneRepha (if w then Some rule else None) gs) [ true ↦ all_short rule refl (syllables gs) | false ↦ tt ]
+    let rule : DottedCircles = record { broken_kind = k; circle = record default_glyph
+    { glyph_id = glyph.0; category = category; auxiliary = unwrap_or place 0 }; repha = None } in
+    elim (wants_circles b) as (λ w. AtMostOneRepha (if w then Some rule else None) gs) [ true ↦ all_short rule refl
+    (syllables gs) | false ↦ tt ]
 
 pub myanmar_short : MyanmarHasNoRepha
-myanmar_short font b gs = circles_short (font.nominal dotted_circle) myanmar_circles.broken_kind myanmar_circles.category myanmar_circles.position b gs
+myanmar_short font b gs = circles_short
+    (font.nominal dotted_circle) myanmar_circles.broken_kind myanmar_circles.category myanmar_circles.position b gs
 
 -- Khmer and Myanmar
-pub khmer_breaks : KhmerReorderLaws → KhmerMovesMerged → KhmerReadsNoSerials → PausesBreakBy SetupSyllablesKhmer ReorderKhmer by_khmer
+pub khmer_breaks : KhmerReorderLaws → KhmerMovesMerged → KhmerReadsNoSerials
+    → PausesBreakBy SetupSyllablesKhmer ReorderKhmer by_khmer
 khmer_breaks laws inside reads plan font spans unread old mid new can few set_up reordered =
     let r = order_in plan.plan_data in
     let c = (by_khmer plan font mid).circles in
-    pauses_break (khmer_order r) khmer_steps BROKEN_KHMER (laws r) inside (reads r) c spans old new can.kinds can.covered can.merging can.monotone
+    pauses_break (khmer_order r) khmer_steps BROKEN_KHMER (laws r) inside
+    (reads r) c spans old new can.kinds can.covered can.merging can.monotone
     (subst (λ (b : Buffer). AtMostOneRepha c b.glyphs) set_up few)
     (subst (λ (b : Buffer). Reordered (by_khmer plan font mid) b new) set_up reordered)
 
-pub myanmar_breaks : MyanmarReorderLaws → MyanmarMovesMerged → MyanmarReadsNoSerials → PausesBreakBy SetupSyllablesMyanmar ReorderMyanmar (λ plan. by_myanmar)
+pub myanmar_breaks : MyanmarReorderLaws → MyanmarMovesMerged → MyanmarReadsNoSerials
+    → PausesBreakBy SetupSyllablesMyanmar ReorderMyanmar (λ plan. by_myanmar)
 myanmar_breaks laws inside reads plan font spans unread old mid new can few set_up reordered =
     let c = (by_myanmar font mid).circles in
-    pauses_break myanmar_order myanmar_steps BROKEN_MYANMAR laws inside reads c spans old new can.kinds can.covered can.merging can.monotone
+    pauses_break myanmar_order myanmar_steps BROKEN_MYANMAR laws inside reads c spans old new can.kinds can.covered
+    can.merging can.monotone
     (subst (λ (b : Buffer). AtMostOneRepha c b.glyphs) set_up few)
     (subst (λ (b : Buffer). Reordered (by_myanmar font mid) b new) set_up reordered)
 
@@ -105,13 +115,15 @@ universal_breaks laws inside cuts plan font spans unread old mid new can off few
     let mono = monotone_circled circles masked short (subst IsMonotone (sym same) can.monotone) in
     let opened_text : Buffer = record whole { glyphs = circled circles masked } in
     let long = length-moved universal_order universal_steps opened_text new laws done in
-    let c = pause_cut universal_order universal_steps laws inside circles old.level can.merging spans gs masked new.glyphs can.covered same guarded mono done.moved long p z l clear in
+    let c = pause_cut universal_order universal_steps laws inside circles old.level can.merging spans gs masked
+    new.glyphs can.covered same guarded mono done.moved long p z l clear in
     let k = c.count in
     let text = text_cut spans gs bare k can.covered first_same under.as_long in
     let n = text.n in
     let pieces = syllables_kept bare masked shape in
     let taken = taken_kept k (syllables bare) (syllables masked) pieces in
-    let size : c.text.n ≡ n = c.text.count ∙ length-all_opened None (take k (syllables bare)) (take k (syllables masked)) taken ∙ sym text.count in
+    let size : c.text.n ≡ n = c.text.count ∙ length-all_opened None (take k (syllables bare))
+    (take k (syllables masked)) taken ∙ sym text.count in
     let far : ShareNone (take n gs) (drop n gs) = subst (λ (j : ℕ). ShareNone (take j gs) (drop j gs)) size c.apart in
     let many = as_many (syllables bare) spans under.as_long in
     let more = as_many (syllables masked) spans guarded.as_long in
@@ -123,10 +135,15 @@ universal_breaks laws inside cuts plan font spans unread old mid new can off few
     let place : length (paused_order circles universal_order front) ≡ p =
     length-paused universal_order universal_steps laws circles front
     ∙ ap length (circled_is circles front)
-    ∙ length-all_opened circles (syllables front_bare) (syllables front) (syllables_kept front_bare front (masks_kept kept m off front_bare))
+    ∙ length-all_opened circles (syllables front_bare) (syllables front)
+    (syllables_kept front_bare front (masks_kept kept m off front_bare))
     ∙ ap (λ ps. length (flat_map F ps)) is
     ∙ sym (length-all_opened circles (take k (syllables bare)) (take k (syllables masked)) taken)
     ∙ c.place in
-    let cut : SpanCut (set_up_by_spans kept m) (paused_order circles universal_order) spans gs p = record { front = take k spans; back = drop k spans; before = take n gs; behind = drop n gs; split = text.split; text = text.text; first = text.first; second = text.second; apart = far; place = place } in
-    let halves = cuts kept m circles spans old new can.kinds done (take k spans) (drop k spans) (take n gs) (drop n gs) front back text.split text.text text.first text.second refl refl in
+    let cut : SpanCut (set_up_by_spans kept m)
+    (paused_order circles universal_order) spans gs p = record
+    { front = take k spans; back = drop k spans; before = take n gs; behind = drop n gs; split = text.split; text =
+    text.text; first = text.first; second = text.second; apart = far; place = place } in
+    let halves = cuts kept m circles spans old new can.kinds done (take k spans) (drop k spans) (take n gs)
+    (drop n gs) front back text.split text.text text.first text.second refl refl in
     record { cut = cut; order = halves.order; in_clusters = halves.in_clusters far }

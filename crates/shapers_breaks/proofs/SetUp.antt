@@ -39,20 +39,24 @@ none_left : (g : hb_glyph_info_t) (gs : Glyphs) → spans_cover (length (g ∷ g
 none_left g gs covers = grind (arith, nat_tests)
 
 -- the syllables that spans cut
-cut_as_long : (i : ℕ) (spans : List Span) (gs : Glyphs) → All (λ span. span.kind ≤ 15) spans → spans_cover (length gs) spans ≡ true → AllAsLong (syllables (with_bytes gs (span_bytes i spans))) spans
+cut_as_long : (i : ℕ) (spans : List Span) (gs : Glyphs) → All (λ span. span.kind ≤ 15) spans → spans_cover
+    (length gs) spans ≡ true → AllAsLong (syllables (with_bytes gs (span_bytes i spans))) spans
 cut_as_long i [] [] kinds covers = tt
 cut_as_long i [] (g ∷ gs) kinds covers = absurd (none_left g gs covers)
 cut_as_long i (s ∷ ss) gs kinds covers =
     let kind : Span → Type 0 = λ s. s.kind ≤ 15 in
     let first = covers_first (length gs) s ss covers in
     let byte = span_byte i s in
-    let left : spans_cover (length (drop s.len gs)) ss ≡ true = ap (λ k. spans_cover k ss) (length-drop s.len gs) ∙ first.rest in
+    let left : spans_cover (length (drop s.len gs)) ss ≡ true = ap (λ k. spans_cover k ss) (length-drop s.len gs)
+    ∙ first.rest in
     subst (λ pieces. AllAsLong pieces (s ∷ ss)) (sym (cut_next i s ss gs kinds covers))
-    (length-map (take s.len gs) (in_syllable byte) ∙ length-take-le s.len gs first.within, cut_as_long (suc i) ss (drop s.len gs) (All-tail kind s ss kinds) left)
+    (length-map (take s.len gs) (in_syllable byte) ∙ length-take-le s.len gs first.within, cut_as_long (suc i) ss
+    (drop s.len gs) (All-tail kind s ss kinds) left)
 
 -- flags keep bytes
 off_byte : (m : ℕ) (g : hb_glyph_info_t) → (with_bits_off 3 m g).syllable ≡ g.syllable
-off_byte m g = elim (g.cluster == m) as (λ b. (if b then g else with_bits 3 g).syllable ≡ g.syllable) [ true ↦ refl | false ↦ refl ]
+off_byte m g = elim (g.cluster == m) as (λ b. (if b then g else with_bits 3 g).syllable
+    ≡ g.syllable) [ true ↦ refl | false ↦ refl ]
 
 length-flagged : (gs : Glyphs) → length (flagged 3 gs) ≡ length gs
 length-flagged gs = length-map gs (with_bits_off 3 (least (clusters gs)))
@@ -67,13 +71,15 @@ flagged_byte byte gs u =
       all = All-map P off gs (All-weaker P (λ g. P (off g)) (λ g e. off_byte (least (clusters gs)) g ∙ e) gs u.all);
     }
 
-mapped_as_long : (f : Glyphs → Glyphs) → ((gs : Glyphs) → length (f gs) ≡ length gs) → (pieces : List Glyphs) (spans : List Span) → AllAsLong pieces spans → AllAsLong (map f pieces) spans
+mapped_as_long : (f : Glyphs → Glyphs) → ((gs : Glyphs) → length (f gs) ≡ length gs) → (pieces : List Glyphs)
+    (spans : List Span) → AllAsLong pieces spans → AllAsLong (map f pieces) spans
 mapped_as_long f same [] [] h = tt
 mapped_as_long f same [] (s ∷ ss) h = absurd h
 mapped_as_long f same (p ∷ ps) [] h = absurd h
 mapped_as_long f same (p ∷ ps) (s ∷ ss) h = (same p ∙ h.0, mapped_as_long f same ps ss h.1)
 
-mapped_whole : (f : Glyphs → Glyphs) → ((gs : Glyphs) → IsWhole (f gs)) → (pieces : List Glyphs) → AllByRecursion IsWhole (map f pieces)
+mapped_whole : (f : Glyphs → Glyphs) → ((gs : Glyphs) → IsWhole (f gs)) → (pieces : List Glyphs)
+    → AllByRecursion IsWhole (map f pieces)
 mapped_whole f whole [] = tt
 mapped_whole f whole (p ∷ ps) = (whole p, mapped_whole f whole ps)
 
@@ -82,12 +88,15 @@ pub record IsGuarded (spans : List Span) (gs : Glyphs) : Type 0 where
   pub as_long : AllAsLong (syllables gs) spans
   pub whole : AllByRecursion IsWhole (syllables gs)
 
-pub set_up_guarded : (spans : List Span) (gs : Glyphs) → All (λ span. span.kind ≤ 15) spans → spans_cover (length gs) spans ≡ true → IsGuarded spans (unsafe_spans spans gs)
+pub set_up_guarded : (spans : List Span) (gs : Glyphs) → All (λ span. span.kind ≤ 15) spans → spans_cover
+    (length gs) spans ≡ true → IsGuarded spans (unsafe_spans spans gs)
 set_up_guarded spans gs kinds covers =
     let cut = with_bytes gs (span_bytes 0 spans) in
-    let is : syllables (unsafe_spans spans gs) ≡ map (flagged 3) (syllables cut) = syllables-mapped (flagged 3) flagged_byte cut in
+    let is : syllables (unsafe_spans spans gs) ≡ map (flagged 3) (syllables cut) = syllables-mapped
+    (flagged 3) flagged_byte cut in
     record {
-      as_long = subst (λ pieces. AllAsLong pieces spans) (sym is) (mapped_as_long (flagged 3) length-flagged (syllables cut) spans (cut_as_long 0 spans gs kinds covers));
+      as_long = subst (λ pieces. AllAsLong pieces spans) (sym is)
+      (mapped_as_long (flagged 3) length-flagged (syllables cut) spans (cut_as_long 0 spans gs kinds covers));
       whole = subst (AllByRecursion IsWhole) (sym is) (mapped_whole (flagged 3) flagged_whole (syllables cut));
     }
 
@@ -96,14 +105,17 @@ pub record CoverCut (spans : List Span) (n p : ℕ) (front back : List Span) : T
   pub first : spans_cover p front ≡ true
   pub second : spans_cover (n - p) back ≡ true
 
-pub sum-as_long : (pieces : List Glyphs) (spans : List Span) → AllAsLong pieces spans → sum_by (λ (s : Span). s.len) spans ≡ length (flat_map (λ piece. piece) pieces)
+pub sum-as_long : (pieces : List Glyphs) (spans : List Span) → AllAsLong pieces spans → sum_by
+    (λ (s : Span). s.len) spans ≡ length (flat_map (λ piece. piece) pieces)
 sum-as_long [] [] h = refl
 sum-as_long [] (s ∷ ss) h = absurd h
 sum-as_long (p ∷ ps) [] h = absurd h
 sum-as_long (p ∷ ps) (s ∷ ss) h =
-    sum_by-cons (λ (s : Span). s.len) s ss ∙ omega (arith, h.0, sum-as_long ps ss h.1, length-append p (flat_map (λ piece. piece) ps))
+    sum_by-cons (λ (s : Span). s.len) s ss ∙ omega
+    (arith, h.0, sum-as_long ps ss h.1, length-append p (flat_map (λ piece. piece) ps))
 
-pub taken_as_long : (k : ℕ) (pieces : List Glyphs) (spans : List Span) → AllAsLong pieces spans → AllAsLong (take k pieces) (take k spans)
+pub taken_as_long : (k : ℕ) (pieces : List Glyphs) (spans : List Span) → AllAsLong pieces spans → AllAsLong
+    (take k pieces) (take k spans)
 taken_as_long zero pieces spans h = tt
 taken_as_long (suc k) [] [] h = tt
 taken_as_long (suc k) [] (s ∷ ss) h = absurd h
@@ -111,7 +123,8 @@ taken_as_long (suc k) (p ∷ ps) [] h = absurd h
 taken_as_long (suc k) (p ∷ ps) (s ∷ ss) h = (h.0, taken_as_long k ps ss h.1)
 
 -- spans that cover n places, cut where the first of them cover p
-pub cover_cut : (spans front back : List Span) (n p : ℕ) → spans ≡ front ++ back → spans_cover n spans ≡ true → sum_by (λ s. s.len) front ≡ p → CoverCut spans n p front back
+pub cover_cut : (spans front back : List Span) (n p : ℕ) → spans ≡ front ++ back → spans_cover n spans ≡ true → sum_by
+    (λ s. s.len) front ≡ p → CoverCut spans n p front back
 cover_cut spans front back n p split covers place =
     let some : Span → Bool = λ s. nat_lt 0 s.len in
     let size : Span → ℕ = λ s. s.len in
@@ -126,7 +139,8 @@ cover_cut spans front back n p split covers place =
     }
 
 -- a border of pieces is one of spans
-pub span_border : (pieces : List Glyphs) (spans : List Span) (p : ℕ) → AllAsLong pieces spans → PieceBorder pieces p → SpanBorder spans p
+pub span_border : (pieces : List Glyphs) (spans : List Span) (p : ℕ) → AllAsLong pieces spans → PieceBorder pieces p
+    → SpanBorder spans p
 span_border pieces spans p h border =
     let k = border.count in
     record {
@@ -136,7 +150,8 @@ span_border pieces spans p h border =
       place = sum-as_long (take k pieces) (take k spans) (taken_as_long k pieces spans h) ∙ border.place;
     }
 
-pub guarded_border : (spans : List Span) (gs : Glyphs) → IsGuarded spans gs → (p : ℕ) → 0 < p → p < length gs → SpanBorder spans p ⊎ FlaggedAt gs p
+pub guarded_border : (spans : List Span) (gs : Glyphs) → IsGuarded spans gs → (p : ℕ) → 0 < p → p < length gs
+    → SpanBorder spans p ⊎ FlaggedAt gs p
 guarded_border spans gs h p z l =
     let whole = joined-syllables gs in
     let pieces = syllables gs in
@@ -159,9 +174,12 @@ set_up_breaks spans broken_kind old kinds covers =
       λ p z l clear. elim (guarded_border spans new.glyphs guarded p z l) [
         | inl border ↦
             let cut = cover_cut spans border.front border.back n p border.split covers border.place in
-            let first : spans_cover (length (take p old.glyphs)) border.front ≡ true = ap (λ k. spans_cover k border.front) (length-take-le p old.glyphs (omega arith)) ∙ cut.first in
-            let second : spans_cover (length (drop p old.glyphs)) border.back ≡ true = ap (λ k. spans_cover k border.back) (length-drop p old.glyphs) ∙ cut.second in
-            record { border = border; halves = spans_cut spans broken_kind old kinds border.front border.back (take p old.glyphs) (drop p old.glyphs) border.split (sym (take-append-drop p old.glyphs)) first second }
+            let first : spans_cover (length (take p old.glyphs)) border.front ≡ true = ap
+            (λ k. spans_cover k border.front) (length-take-le p old.glyphs (omega arith)) ∙ cut.first in
+            let second : spans_cover (length (drop p old.glyphs)) border.back ≡ true = ap
+            (λ k. spans_cover k border.back) (length-drop p old.glyphs) ∙ cut.second in
+            record { border = border; halves = spans_cut spans broken_kind old kinds border.front border.back
+            (take p old.glyphs) (drop p old.glyphs) border.split (sym (take-append-drop p old.glyphs)) first second }
         | inr flagged ↦ absurd (clear_not_flagged new.glyphs p z l clear flagged)
       ],
     )

@@ -64,7 +64,8 @@ bits_kept bits g = record {
       (omega (arith, bit_at_or g.mask bits 0, f.0, a), omega (arith, bit_at_or g.mask bits 1, f.1, b));
 }
 
-instead_kept : (bits mask : ℕ) → bits % 8 ≡ 0 → bits ≤ 0xFFFFFFFF → (g : hb_glyph_info_t) → KeepsShape g (with_instead bits mask g)
+instead_kept : (bits mask : ℕ) → bits % 8 ≡ 0 → bits ≤ 0xFFFFFFFF → (g : hb_glyph_info_t) → KeepsShape g
+    (with_instead bits mask g)
 instead_kept bits mask off fits g =
     let k = 0xFFFFFFFF - bits in
     let left = bit_and g.mask k in
@@ -77,14 +78,17 @@ instead_kept bits mask off fits g =
       flags = λ f.
           let a : bit_at 0 mask ≤ 1 = omega arith in
           let b : bit_at 1 mask ≤ 1 = omega arith in
-          (omega (arith, bit_at_or left mask 0, bit_at_and g.mask k 0, f.0, a, k0), omega (arith, bit_at_or left mask 1, bit_at_and g.mask k 1, f.1, b, k1));
+          (omega (arith, bit_at_or left mask 0, bit_at_and g.mask k 0, f.0, a, k0), omega
+          (arith, bit_at_or left mask 1, bit_at_and g.mask k 1, f.1, b, k1));
     }
 
-mapped_kept : (f : hb_glyph_info_t → hb_glyph_info_t) → ((g : hb_glyph_info_t) → KeepsShape g (f g)) → (gs : Glyphs) → KeepShapes gs (map f gs)
+mapped_kept : (f : hb_glyph_info_t → hb_glyph_info_t) → ((g : hb_glyph_info_t) → KeepsShape g (f g)) → (gs : Glyphs)
+    → KeepShapes gs (map f gs)
 mapped_kept f each [] = tt
 mapped_kept f each (g ∷ gs) = (each g, mapped_kept f each gs)
 
-formed_kept : (m : Map) (before behind : Bool) → FormsOffFlags None m → (gs : Glyphs) → KeepShapes gs (formed (form_masks m) before behind gs)
+formed_kept : (m : Map) (before behind : Bool) → FormsOffFlags None m → (gs : Glyphs) → KeepShapes gs
+    (formed (form_masks m) before behind gs)
 formed_kept m before behind off gs =
     let masks = form_masks m in
     let bits = all_forms masks in
@@ -94,31 +98,39 @@ formed_kept m before behind off gs =
       | false ↦ all_same gs
     ]
 
-forms_kept : (m : Map) (before : Bool) → FormsOffFlags None m → (syls : List Glyphs) → KeepShapes (flat_map (λ syl. syl) syls) (in_forms (form_masks m) before syls)
+forms_kept : (m : Map) (before : Bool) → FormsOffFlags None m → (syls : List Glyphs) → KeepShapes
+    (flat_map (λ syl. syl) syls) (in_forms (form_masks m) before syls)
 forms_kept m before off [] = tt
 forms_kept m before off (syl ∷ syls) =
     let masks = form_masks m in
-    all_append KeepsShape syl (formed masks before (first_joins syls) syl) (flat_map (λ s. s) syls) (in_forms masks (joins_runs syl) syls)
+    all_append KeepsShape syl (formed masks before (first_joins syls) syl) (flat_map (λ s. s) syls)
+    (in_forms masks (joins_runs syl) syls)
     (formed_kept m before (first_joins syls) off syl) (forms_kept m (joins_runs syl) off syls)
 
-forms_for_kept : (arabic : Option arabic_shape_plan_t) (m : Map) → FormsOffFlags arabic m → (gs : Glyphs) → KeepShapes gs (with_forms_for arabic m gs)
+forms_for_kept : (arabic : Option arabic_shape_plan_t) (m : Map) → FormsOffFlags arabic m → (gs : Glyphs)
+    → KeepShapes gs (with_forms_for arabic m gs)
 forms_for_kept (Some p) m off gs = all_same gs
 forms_for_kept None m off gs =
     let masks = form_masks m in
-    let all = subst (λ xs. KeepShapes xs (in_forms masks false (syllables gs))) (joined-syllables gs) (forms_kept m false off (syllables gs)) in
-    elim (all_forms masks == 0) as (λ b. KeepShapes gs (if b then gs else in_forms masks false (syllables gs))) [ true ↦ all_same gs | false ↦ all ]
+    let all = subst (λ xs. KeepShapes xs (in_forms masks false (syllables gs))) (joined-syllables gs)
+    (forms_kept m false off (syllables gs)) in
+    elim (all_forms masks == 0) as (λ b. KeepShapes gs
+    (if b then gs else in_forms masks false (syllables gs))) [ true ↦ all_same gs | false ↦ all ]
 
 rphf_kept : (mask : ℕ) (gs : Glyphs) → KeepShapes gs (with_rphf mask gs)
 rphf_kept mask gs =
     let n = rphf_len gs in
     subst (λ xs. KeepShapes xs (map (with_bits mask) (take n gs) ++ drop n gs)) (take-append-drop n gs)
-    (all_append KeepsShape (take n gs) (map (with_bits mask) (take n gs)) (drop n gs) (drop n gs) (mapped_kept (with_bits mask) (bits_kept mask) (take n gs)) (all_same (drop n gs)))
+    (all_append KeepsShape (take n gs) (map (with_bits mask) (take n gs)) (drop n gs) (drop n gs)
+    (mapped_kept (with_bits mask) (bits_kept mask) (take n gs)) (all_same (drop n gs)))
 
 rphfs_kept : (mask : ℕ) (syls : List Glyphs) → KeepShapes (flat_map (λ syl. syl) syls) (flat_map (with_rphf mask) syls)
 rphfs_kept mask [] = tt
-rphfs_kept mask (syl ∷ syls) = all_append KeepsShape syl (with_rphf mask syl) (flat_map (λ s. s) syls) (flat_map (with_rphf mask) syls) (rphf_kept mask syl) (rphfs_kept mask syls)
+rphfs_kept mask (syl ∷ syls) = all_append KeepsShape syl (with_rphf mask syl) (flat_map (λ s. s) syls)
+    (flat_map (with_rphf mask) syls) (rphf_kept mask syl) (rphfs_kept mask syls)
 
-pub masks_kept : (kept : PlanData) (m : Map) → FormsOffFlags (arabic_of kept) m → (gs : Glyphs) → KeepShapes gs (with_syllable_masks kept m gs)
+pub masks_kept : (kept : PlanData) (m : Map) → FormsOffFlags (arabic_of kept) m → (gs : Glyphs) → KeepShapes gs
+    (with_syllable_masks kept m gs)
 masks_kept kept m off gs =
     let mid = flat_map (with_rphf (rphf_of kept)) (syllables gs) in
     let first = subst (λ xs. KeepShapes xs mid) (joined-syllables gs) (rphfs_kept (rphf_of kept) (syllables gs)) in
@@ -129,7 +141,8 @@ pub clusters_kept : (gs hs : Glyphs) → KeepShapes gs hs → clusters hs ≡ cl
 clusters_kept [] [] h = refl
 clusters_kept [] (x ∷ xs) h = absurd h
 clusters_kept (g ∷ gs) [] h = absurd h
-clusters_kept (g ∷ gs) (x ∷ xs) h = ap (λ (c : ℕ). c ∷ clusters xs) h.0.cluster ∙ ap (λ cs. g.cluster ∷ cs) (clusters_kept gs xs h.1)
+clusters_kept (g ∷ gs) (x ∷ xs) h = ap (λ (c : ℕ). c ∷ clusters xs) h.0.cluster ∙ ap (λ cs. g.cluster ∷ cs)
+    (clusters_kept gs xs h.1)
 
 pub long_kept : (gs hs : Glyphs) → KeepShapes gs hs → length hs ≡ length gs
 long_kept [] [] h = refl
@@ -140,7 +153,8 @@ long_kept (g ∷ gs) (x ∷ xs) h = ap (λ n. suc n) (long_kept gs xs h.1)
 abbrev pub KeepPieces : List Glyphs → List Glyphs → Type 0
 KeepPieces ps qs = AllZip KeepShapes ps qs
 
-opening_kept : (g h : hb_glyph_info_t) (ps qs : List Glyphs) → KeepsShape g h → KeepPieces ps qs → KeepPieces (with_opening g ps) (with_opening h qs)
+opening_kept : (g h : hb_glyph_info_t) (ps qs : List Glyphs) → KeepsShape g h → KeepPieces ps qs → KeepPieces
+    (with_opening g ps) (with_opening h qs)
 opening_kept g h [] [] r k = ((r, tt), tt)
 opening_kept g h [] (q ∷ qs) r k = absurd k
 opening_kept g h (p ∷ ps) [] r k = absurd k
@@ -148,12 +162,17 @@ opening_kept g h ([] ∷ ps) ([] ∷ qs) r k = ((r, tt), k.1)
 opening_kept g h ([] ∷ ps) ((y ∷ q) ∷ qs) r k = absurd k.0
 opening_kept g h ((x ∷ p) ∷ ps) ([] ∷ qs) r k = absurd k.0
 opening_kept g h ((x ∷ p) ∷ ps) ((y ∷ q) ∷ qs) r k =
-    let same : (y.syllable == h.syllable) ≡ (x.syllable == g.syllable) = ap (λ b. b == h.syllable) k.0.0.byte ∙ ap (λ b. x.syllable == b) r.byte in
-    let go : (b : Bool) → KeepPieces (if b then (g ∷ (x ∷ p)) ∷ ps else (g ∷ []) ∷ ((x ∷ p) ∷ ps)) (if b then (h ∷ (y ∷ q)) ∷ qs else (h ∷ []) ∷ ((y ∷ q) ∷ qs)) = λ b. elim b as (λ b. KeepPieces (if b then (g ∷ (x ∷ p)) ∷ ps else (g ∷ []) ∷ ((x ∷ p) ∷ ps)) (if b then (h ∷ (y ∷ q)) ∷ qs else (h ∷ []) ∷ ((y ∷ q) ∷ qs))) [
+    let same : (y.syllable == h.syllable) ≡ (x.syllable == g.syllable) = ap (λ b. b == h.syllable) k.0.0.byte ∙ ap
+    (λ b. x.syllable == b) r.byte in
+    let go : (b : Bool) → KeepPieces (if b then (g ∷ (x ∷ p)) ∷ ps else (g ∷ []) ∷ ((x ∷ p) ∷ ps))
+    (if b then (h ∷ (y ∷ q)) ∷ qs else (h ∷ []) ∷ ((y ∷ q) ∷ qs)) = λ b. elim b as
+    (λ b. KeepPieces (if b then (g ∷ (x ∷ p)) ∷ ps else (g ∷ []) ∷ ((x ∷ p) ∷ ps))
+    (if b then (h ∷ (y ∷ q)) ∷ qs else (h ∷ []) ∷ ((y ∷ q) ∷ qs))) [
       | true ↦ ((r, k.0), k.1)
       | false ↦ ((r, tt), k)
     ] in
-    subst (λ b. KeepPieces (with_opening g ((x ∷ p) ∷ ps)) (if b then (h ∷ (y ∷ q)) ∷ qs else (h ∷ []) ∷ ((y ∷ q) ∷ qs))) (sym same) (go (x.syllable == g.syllable))
+    subst (λ b. KeepPieces (with_opening g ((x ∷ p) ∷ ps))
+    (if b then (h ∷ (y ∷ q)) ∷ qs else (h ∷ []) ∷ ((y ∷ q) ∷ qs))) (sym same) (go (x.syllable == g.syllable))
 
 pub syllables_kept : (gs hs : Glyphs) → KeepShapes gs hs → KeepPieces (syllables gs) (syllables hs)
 syllables_kept [] [] h = tt
@@ -205,23 +224,30 @@ length-with_circle rule p =
     let n = rephas_len rule.repha p in
     length-append (take n p) (circle_in p rule.circle ∷ drop n p) ∙ omega (arith, length-take n p, length-drop n p)
 
-length-opened : (circles : Option DottedCircles) (p q : Glyphs) → KeepShapes p q → length (opened circles q) ≡ length (opened circles p)
+length-opened : (circles : Option DottedCircles) (p q : Glyphs) → KeepShapes p q → length (opened circles q) ≡ length
+    (opened circles p)
 length-opened None p q h = long_kept p q h
 length-opened (Some rule) p q h =
     let n = long_kept p q h in
-    let go : (b : Bool) → length (if b then with_circle rule q else q) ≡ length (if b then with_circle rule p else p) = λ b. elim b as (λ b. length (if b then with_circle rule q else q) ≡ length (if b then with_circle rule p else p)) [
+    let go : (b : Bool) → length (if b then with_circle rule q else q) ≡ length
+    (if b then with_circle rule p else p) = λ b. elim b as
+    (λ b. length (if b then with_circle rule q else q) ≡ length (if b then with_circle rule p else p)) [
       | true ↦ length-with_circle rule q ∙ ap (λ k. suc k) n ∙ sym (length-with_circle rule p)
       | false ↦ n
     ] in
-    ap (λ b. length (if b then with_circle rule q else q)) (kind_kept rule.broken_kind p q h) ∙ go (is_of_kind rule.broken_kind p)
+    ap (λ b. length (if b then with_circle rule q else q)) (kind_kept rule.broken_kind p q h) ∙ go
+    (is_of_kind rule.broken_kind p)
 
-pub length-all_opened : (circles : Option DottedCircles) (ps qs : List Glyphs) → KeepPieces ps qs → length (flat_map (opened circles) qs) ≡ length (flat_map (opened circles) ps)
+pub length-all_opened : (circles : Option DottedCircles) (ps qs : List Glyphs) → KeepPieces ps qs → length
+    (flat_map (opened circles) qs) ≡ length (flat_map (opened circles) ps)
 length-all_opened circles [] [] h = refl
 length-all_opened circles [] (q ∷ qs) h = absurd h
 length-all_opened circles (p ∷ ps) [] h = absurd h
 length-all_opened circles (p ∷ ps) (q ∷ qs) h =
     let F = opened circles in
-    length-append (F q) (flat_map F qs) ∙ omega (arith, length-opened circles p q h.0, length-all_opened circles ps qs h.1) ∙ sym (length-append (F p) (flat_map F ps))
+    length-append (F q) (flat_map F qs) ∙ omega
+    (arith, length-opened circles p q h.0, length-all_opened circles ps qs h.1) ∙ sym
+    (length-append (F p) (flat_map F ps))
 
 pub taken_kept : (k : ℕ) (ps qs : List Glyphs) → KeepPieces ps qs → KeepPieces (take k ps) (take k qs)
 taken_kept zero ps qs h = tt

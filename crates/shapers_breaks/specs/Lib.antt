@@ -2,3 +2,4 @@ pub mod ClearSteps
 pub mod SetUp
 pub mod PauseBreaks
 pub mod ScriptBreaks
+pub mod MarkBreaks

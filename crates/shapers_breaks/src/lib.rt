@@ -5,6 +5,7 @@
 ghost use Rattle.rustybuzz_shapers.specs.Pauses.{by_khmer, by_myanmar};
 ghost use Rattle.shapers_base.specs.declared.plan.pause.Pause.TheVariants.{ReorderKhmer, ReorderMyanmar, SetupSyllablesKhmer, SetupSyllablesMyanmar};
 ghost use Rattle.shapers_breaks.specs.ClearSteps.{ClearBeforeLaw};
+ghost use Rattle.shapers_breaks.specs.MarkBreaks.{MarksBreakLaw};
 ghost use Rattle.shapers_breaks.specs.PauseBreaks.{PausesBreakLaw};
 ghost use Rattle.shapers_breaks.specs.ScriptBreaks.{MyanmarHasNoRepha, PausesBreakBy, UniversalPausesBreak};
 ghost use Rattle.shapers_breaks.specs.SetUp.{SetUpBreaksLaw};
@@ -48,3 +49,9 @@ pub fn script_breaks_law()
     universal_reorder_laws();
     universal_cuts_between_spans();
 }
+
+/// A text whose marks a shaper reordered may be broken at every clear place, where no place within
+/// their run was clear before: each half is what it is by itself, glyph for glyph.
+pub fn marks_break_law()
+    ensures { MarksBreakLaw }
+{}
