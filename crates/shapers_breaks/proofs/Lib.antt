@@ -1,0 +1,10 @@
+pub mod ClearSteps
+pub mod Guarded
+pub mod SetUp
+pub mod CircledBorders
+pub mod PauseBreaks
+pub mod UniversalSetUp
+pub mod ScriptBreaks
+mod BreakRows
+pub mod MergedHalves
+pub mod MarkBreaks

@@ -1,0 +1,5 @@
+pub mod ClearSteps
+pub mod SetUp
+pub mod PauseBreaks
+pub mod ScriptBreaks
+pub mod MarkBreaks

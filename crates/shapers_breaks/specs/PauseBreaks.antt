@@ -1,0 +1,84 @@
+-- Where a text may be broken once its syllables are set up and reordered.
+use Rattle.std.specs.Prelude.{ℕ, ◌<◌, ◌≤◌, ◌≡◌, true, List, ◌++◌, All, Option, None, Some, length, map}
+use Rattle.std.specs.List.{AllByRecursion}
+use Rattle.shapers_buffer.specs.declared.buffer.glyph.hb_glyph_info_t.{hb_glyph_info_t}
+use Rattle.shapers_buffer.specs.declared.buffer.syllables.Span.{Span}
+use Rattle.shapers_buffer.specs.Buffer.{Buffer}
+use Rattle.shapers_buffer.specs.Clusters.{merges}
+use Rattle.shapers_buffer.specs.Glyph.{clusters, order_view}
+use Rattle.shapers_buffer.specs.Syllables.{spans_cover, syllables}
+use Rattle.shapers_clusters.specs.Breaks.{IsClear}
+use Rattle.shapers_clusters.specs.Cuts.{IsMonotone, ShareNone}
+use Rattle.shapers_clusters.specs.Steps.{Step}
+use Rattle.shapers_syllabic.specs.declared.ot_shaper_syllabic.circles.DottedCircles.{DottedCircles}
+use Rattle.shapers_syllabic.specs.Borders.{spans_set_up, unnumbered}
+use Rattle.shapers_syllabic.specs.Circles.{rephas_len}
+use Rattle.shapers_syllabic.specs.Reordering.{PauseReordered}
+use Rattle.shapers_syllabic.specs.ReorderingLaws.{MoveMerged, ReadsNoSerials, ReorderLaws, paused_clusters, paused_order}
+use Rattle.shapers_syllabic.specs.Syllabic.{unsafe_spans}
+
+-- A text cut between two of its spans, into halves that share no cluster, of which the first one,
+-- set up by its own spans, becomes the p glyphs before place p.
+pub record SpanCut (set_up : List Span → List hb_glyph_info_t →
+    List hb_glyph_info_t) (made : List hb_glyph_info_t →
+    List hb_glyph_info_t) (spans : List Span) (old : List hb_glyph_info_t) (p : ℕ) : Type 0 where
+  pub front : List Span
+  pub back : List Span
+  pub before : List hb_glyph_info_t
+  pub behind : List hb_glyph_info_t
+  pub split : spans ≡ front ++ back
+  pub text : old ≡ before ++ behind
+  pub first : spans_cover (length before) front ≡ true
+  pub second : spans_cover (length behind) back ≡ true
+  pub apart : ShareNone before behind
+  pub place : length (made (set_up front before)) ≡ p
+
+-- The text may be broken before place p: there is such a cut, and what is made of the halves, each
+-- set up by itself, is the whole: its order view, as far as the view shows it, and its clusters.
+pub record BrokenBetweenSpans (view : hb_glyph_info_t →
+    hb_glyph_info_t) (set_up : List Span → List hb_glyph_info_t →
+    List hb_glyph_info_t) (made : List hb_glyph_info_t →
+    List hb_glyph_info_t) (clusters_made : List hb_glyph_info_t →
+    List ℕ) (spans : List Span) (old new : List hb_glyph_info_t) (p : ℕ) : Type 0 where
+  pub cut : SpanCut set_up made spans old p
+  pub order : map view (order_view new)
+      ≡ map view (made (set_up cut.front cut.before))
+      ++ map view (made (set_up cut.back cut.behind))
+  pub in_clusters : clusters new
+      ≡ clusters_made (set_up cut.front cut.before) ++ clusters_made (set_up cut.back cut.behind)
+
+-- so at every clear place
+abbrev pub BreaksBetweenSpans : (hb_glyph_info_t → hb_glyph_info_t) →
+    (List Span → List hb_glyph_info_t → List hb_glyph_info_t) →
+    (List hb_glyph_info_t → List hb_glyph_info_t) → (List hb_glyph_info_t → List ℕ) → List Span →
+    List hb_glyph_info_t → List hb_glyph_info_t → Type 0
+BreaksBetweenSpans view set_up made clusters_made spans old new =
+    (p : ℕ) → 0 < p → p < length new → IsClear new p →
+    BrokenBetweenSpans view set_up made clusters_made spans old new p
+
+-- no syllable opens with two rephas, where circles open behind these: the second could be in a
+-- greater cluster than the circle behind it
+abbrev pub AtMostOneRepha : Option DottedCircles → List hb_glyph_info_t → Type 0
+AtMostOneRepha None gs = Unit {0}
+AtMostOneRepha (Some rule) gs =
+    AllByRecursion (λ syllable. rephas_len rule.repha syllable ≤ 1) (syllables gs)
+
+-- A set-up and a reordering directly after it that moves only inside what it merges, whatever
+-- circles open between: where clusters rise or fall along the text, at the levels that merge, the
+-- text may be broken at every clear place, serials apart.
+abbrev pub PausesBreak : (List hb_glyph_info_t → List hb_glyph_info_t) →
+    (List hb_glyph_info_t → List Step) → ℕ → Type 0
+PausesBreak meaning steps broken_kind =
+    (circles : Option DottedCircles) (spans : List Span) (old new : Buffer) →
+    All (λ span. span.kind ≤ 15) spans → spans_cover (length old.glyphs) spans ≡ true →
+    merges old.level ≡ true → IsMonotone (clusters old.glyphs) →
+    AtMostOneRepha circles (spans_set_up spans broken_kind old).glyphs →
+    PauseReordered circles meaning steps (spans_set_up spans broken_kind old) new →
+    BreaksBetweenSpans unnumbered unsafe_spans (paused_order circles meaning)
+    (paused_clusters circles steps old.level) spans old.glyphs new.glyphs
+
+abbrev pub PausesBreakLaw : Type 0
+PausesBreakLaw = (meaning : List hb_glyph_info_t → List hb_glyph_info_t)
+    (steps : List hb_glyph_info_t → List Step) (broken_kind : ℕ) →
+    ReorderLaws meaning steps → MoveMerged steps → ReadsNoSerials meaning steps →
+    PausesBreak meaning steps broken_kind

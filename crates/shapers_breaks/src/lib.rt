@@ -1,0 +1,57 @@
+//! Where a text may be broken once its hooks and pauses have run: the laws of clear places. Each
+//! function here does nothing, and its contract is the law.
+#![tactic(auto)]
+
+ghost use Rattle.rustybuzz_shapers.specs.Pauses.{by_khmer, by_myanmar};
+ghost use Rattle.shapers_base.specs.declared.plan.pause.Pause.TheVariants.{ReorderKhmer, ReorderMyanmar, SetupSyllablesKhmer, SetupSyllablesMyanmar};
+ghost use Rattle.shapers_breaks.specs.ClearSteps.{ClearBeforeLaw};
+ghost use Rattle.shapers_breaks.specs.MarkBreaks.{MarksBreakLaw};
+ghost use Rattle.shapers_breaks.specs.PauseBreaks.{PausesBreakLaw};
+ghost use Rattle.shapers_breaks.specs.ScriptBreaks.{MyanmarHasNoRepha, PausesBreakBy, UniversalPausesBreak};
+ghost use Rattle.shapers_breaks.specs.SetUp.{SetUpBreaksLaw};
+
+use shapers_khmer::ot_shaper_khmer::{khmer_reads_no_serials, khmer_reorder_laws};
+use shapers_myanmar::ot_shaper_myanmar::{myanmar_reads_no_serials, myanmar_reorder_laws};
+use shapers_universal::ot_shaper_use::{universal_cuts_between_spans, universal_reorder_laws};
+
+/// Reordering moves no clear place to where none was: a place that is clear after steps that move
+/// only inside what they merged was clear before them.
+pub fn clear_before_law()
+    ensures { ClearBeforeLaw }
+{}
+
+/// A set-up by spans flags all places inside them, so that a clear place is a border of spans, and
+/// the text may be broken there.
+pub fn set_up_breaks_law()
+    ensures { SetUpBreaksLaw }
+{}
+
+/// A set-up and a reordering directly after it, whatever circles open between, may be broken at
+/// every clear place: it is a border of two spans.
+pub fn pauses_break_law()
+    ensures { PausesBreakLaw }
+{}
+
+/// Where clusters rise or fall along the text, at the levels that merge, the set-up and the
+/// reordering of Khmer, of Myanmar and of the universal shaper may be broken at every clear place, in
+/// the universal one masks of forms apart. Where circles open behind rephas no syllable may open with
+/// two of these; Myanmar has none.
+pub fn script_breaks_law()
+    ensures khmer { PausesBreakBy SetupSyllablesKhmer ReorderKhmer by_khmer }
+    ensures myanmar { PausesBreakBy SetupSyllablesMyanmar ReorderMyanmar (λ plan. by_myanmar) }
+    ensures myanmar_rephas { MyanmarHasNoRepha }
+    ensures universal { UniversalPausesBreak }
+{
+    khmer_reorder_laws();
+    khmer_reads_no_serials();
+    myanmar_reorder_laws();
+    myanmar_reads_no_serials();
+    universal_reorder_laws();
+    universal_cuts_between_spans();
+}
+
+/// A text whose marks a shaper reordered may be broken at every clear place, where no place within
+/// their run was clear before: each half is what it is by itself, glyph for glyph.
+pub fn marks_break_law()
+    ensures { MarksBreakLaw }
+{}
