@@ -1,0 +1,119 @@
+-- The spans that two lists share at the front.
+use Rattle.std.proofs.Common.{◌≡◌, ℕ, zero, suc, ◌+◌, ◌-◌, ◌<◌, ◌≤◌, ◌⊎◌, Bool, true, false, cond, ◌==◌, List, [], ◌∷◌, ◌++◌, drop, length, reverse, refl, sym, ap, subst, ◌∙◌, arith, inl, inr, ⊎_elim, length-reverse}
+use Rattle.std.specs.Prelude.{nat_le, ◌&&◌, slice_get, Option, None, Some}
+use Rattle.std.proofs.lemmas.Bool.{and_from, and_parts, cases_Bool, eq-eqb, eqb-true, le-leb, leb-true}
+use Rattle.std.proofs.lemmas.List.Sums.{sum_by-cons}
+use Rattle.shapers_buffer.specs.declared.buffer.syllables.Span.{Span}
+use Rattle.shapers_editing.specs.Affected.{IsShared, SharedIsMost, glyphs_in, is_same, shared, turned}
+
+pub same-span : (s t : Span) → is_same s t ≡ true → s ≡ t
+same-span s t h =
+    let (a, b) = and_parts (s.len == t.len) (s.kind == t.kind) h in
+    ap (λ (n : ℕ). let u : Span = record { len = n; kind = s.kind } in u) (eqb-true s.len t.len a)
+    ∙ ap (λ (k : ℕ). let u : Span = record { len = t.len; kind = k } in u) (eqb-true s.kind t.kind b)
+
+same-itself : (s : Span) → is_same s s ≡ true
+same-itself s = and_from (s.len == s.len) (s.kind == s.kind) (eq-eqb s.len s.len refl) (eq-eqb s.kind s.kind refl)
+
+cons-head : (x y : Span) (xs ys : List Span) → x ∷ xs ≡ y ∷ ys → x ≡ y
+cons-head x y xs ys e = cc
+
+cons-tail : (x y : Span) (xs ys : List Span) → x ∷ xs ≡ y ∷ ys → xs ≡ ys
+cons-tail x y xs ys e = cc
+
+none-longer : (other us : List Span) → [] ≡ other ++ us → length other ≤ 0
+none-longer [] us e = omega arith
+none-longer (o ∷ os) us e = absurd cc
+
+not-both : (b : Bool) → b ≡ true → b ≡ false → ⊥
+not-both b h k = cc
+
+pub shared-most : SharedIsMost
+shared-most n [] ts = record { first = ([], refl); second = (ts, refl); few = omega arith; most = (λ other us vs e f l. none-longer other us e) }
+shared-most n (s ∷ ss) [] = record { first = (s ∷ ss, refl); second = ([], refl); few = omega arith; most = (λ other us vs e f l. none-longer other vs f) }
+shared-most n (s ∷ ss) (t ∷ ts) =
+    let test = is_same s t && nat_le s.len n in
+    elim test as (λ b. test ≡ b → IsShared n (s ∷ ss) (t ∷ ts) (cond b (s ∷ shared (n - s.len) ss ts) [])) [
+      | true ↦ λ h.
+          let (same, fits) = and_parts (is_same s t) (nat_le s.len n) h in
+          let e = same-span s t same in
+          let within : s.len ≤ n = leb-true s.len n fits in
+          let r = shared-most (n - s.len) ss ts in
+          let few = r.few in
+          record {
+            first = (r.first.0, ap (λ (xs : List Span). s ∷ xs) r.first.1);
+            second = (r.second.0, ap (λ (u : Span). u ∷ ts) (sym e) ∙ ap (λ (xs : List Span). s ∷ xs) r.second.1);
+            few = omega (arith, sum_by-cons (λ (u : Span). u.len) s (shared (n - s.len) ss ts));
+            most = longest n s t ss ts within r;
+          }
+      | false ↦ λ h. record {
+            first = (s ∷ ss, refl);
+            second = (t ∷ ts, refl);
+            few = omega arith;
+            most = none n s t ss ts h;
+          }
+    ] refl
+  where
+    longest : (n : ℕ) (s t : Span) (ss ts : List Span) → s.len ≤ n → IsShared (n - s.len) ss ts (shared (n - s.len) ss ts) → (other us vs : List Span) → s ∷ ss ≡ other ++ us → t ∷ ts ≡ other ++ vs → glyphs_in other ≤ n → length other ≤ suc (length (shared (n - s.len) ss ts))
+    longest n s t ss ts within r [] us vs e f l = omega arith
+    longest n s t ss ts within r (o ∷ os) us vs e f l =
+        let head : s.len ≡ o.len = ap (λ (u : Span). u.len) (cons-head s o ss (os ++ us) e) in
+        let rest = r.most os us vs (cons-tail s o ss (os ++ us) e) (cons-tail t o ts (os ++ vs) f) (omega (arith, sum_by-cons (λ (u : Span). u.len) o os)) in
+        omega arith
+
+    none : (n : ℕ) (s t : Span) (ss ts : List Span) → (is_same s t && nat_le s.len n) ≡ false → (other us vs : List Span) → s ∷ ss ≡ other ++ us → t ∷ ts ≡ other ++ vs → glyphs_in other ≤ n → length other ≤ 0
+    none n s t ss ts h [] us vs e f l = omega arith
+    none n s t ss ts h (o ∷ os) us vs e f l =
+        let a = cons-head s o ss (os ++ us) e in
+        let b = cons-head t o ts (os ++ vs) f in
+        let same : is_same s t ≡ true = ap (λ (u : Span). is_same s u) (b ∙ sym a) ∙ same-itself s in
+        let fits : s.len ≤ n = omega (arith, ap (λ (u : Span). u.len) a, sum_by-cons (λ (u : Span). u.len) o os) in
+        absurd (not-both (is_same s t && nat_le s.len n) (and_from (is_same s t) (nat_le s.len n) same (le-leb s.len n fits)) h)
+
+-- THE WALK
+split-at : (xs : List Span) (k : ℕ) (x : Span) → slice_get xs k ≡ Some x → drop k xs ≡ x ∷ drop (k + 1) xs
+split-at [] k x h = absurd cc
+split-at (y ∷ ys) zero x h = cc
+split-at (y ∷ ys) (suc k) x h = split-at ys k x h ∙ ap (λ (n : ℕ). x ∷ drop n (y ∷ ys)) (omega arith)
+
+drop-end : (xs : List Span) (k : ℕ) → length xs ≤ k → drop k xs ≡ []
+drop-end [] zero l = refl
+drop-end [] (suc k) l = refl
+drop-end (x ∷ xs) zero l = absurd (omega arith)
+drop-end (x ∷ xs) (suc k) l = drop-end xs k (omega arith)
+
+-- one more span is the same
+pub shared-step : (n k : ℕ) (ss ts : List Span) (s t : Span) → slice_get ss k ≡ Some s → slice_get ts k ≡ Some t → s.len ≡ t.len → s.kind ≡ t.kind → s.len ≤ n → glyphs_in (shared n (drop k ss) (drop k ts)) ≡ s.len + glyphs_in (shared (n - s.len) (drop (k + 1) ss) (drop (k + 1) ts))
+shared-step n k ss ts s t a b e f l =
+    let rest = shared (n - s.len) (drop (k + 1) ss) (drop (k + 1) ts) in
+    let test : (is_same s t && nat_le s.len n) ≡ true = and_from (is_same s t) (nat_le s.len n) (and_from (s.len == t.len) (s.kind == t.kind) (eq-eqb s.len t.len e) (eq-eqb s.kind t.kind f)) (le-leb s.len n l) in
+    ap (λ (xs : List Span). glyphs_in (shared n xs (drop k ts))) (split-at ss k s a)
+    ∙ ap (λ (xs : List Span). glyphs_in (shared n (s ∷ drop (k + 1) ss) xs)) (split-at ts k t b)
+    ∙ ap (λ (v : Bool). glyphs_in (cond v (s ∷ rest) [])) test
+    ∙ sum_by-cons (λ (u : Span). u.len) s rest
+
+-- another one isn't
+pub shared-stop : (n k : ℕ) (ss ts : List Span) (s t : Span) → slice_get ss k ≡ Some s → slice_get ts k ≡ Some t → (s.len ≡ t.len → s.kind ≡ t.kind → s.len ≤ n → ⊥) → glyphs_in (shared n (drop k ss) (drop k ts)) ≡ 0
+shared-stop n k ss ts s t a b no =
+    let rest = shared (n - s.len) (drop (k + 1) ss) (drop (k + 1) ts) in
+    ap (λ (xs : List Span). glyphs_in (shared n xs (drop k ts))) (split-at ss k s a)
+    ∙ ap (λ (xs : List Span). glyphs_in (shared n (s ∷ drop (k + 1) ss) xs)) (split-at ts k t b)
+    ∙ ⊎_elim
+    (λ h. let (same, fits) = and_parts (is_same s t) (nat_le s.len n) h in
+        let e = same-span s t same in
+        absurd (no (ap (λ (u : Span). u.len) e) (ap (λ (u : Span). u.kind) e) (leb-true s.len n fits)))
+    (λ h. ap (λ (v : Bool). glyphs_in (cond v (s ∷ rest) [])) h)
+    (cases_Bool (is_same s t && nat_le s.len n))
+
+-- one list ends
+pub shared-end : (n k : ℕ) (ss ts : List Span) → (length ss ≤ k) ⊎ (length ts ≤ k) → glyphs_in (shared n (drop k ss) (drop k ts)) ≡ 0
+shared-end n k ss ts (inl l) = ap (λ (xs : List Span). glyphs_in (shared n xs (drop k ts))) (drop-end ss k l)
+shared-end n k ss ts (inr l) = ap (λ (xs : List Span). glyphs_in (shared n (drop k ss) xs)) (drop-end ts k l) ∙ no-more n (drop k ss)
+  where
+    no-more : (n : ℕ) (xs : List Span) → glyphs_in (shared n xs []) ≡ 0
+    no-more n [] = refl
+    no-more n (x ∷ xs) = refl
+
+pub length-turned : (b : Bool) (xs : List Span) → length (turned b xs) ≡ length xs
+length-turned true xs = length-reverse xs
+length-turned false xs = refl

@@ -1,0 +1,34 @@
+-- Which spans two texts share at their ends, so that only what lies between is shaped again.
+use Rattle.std.specs.Prelude.{ℕ, ◌-◌, ◌≤◌, ◌≡◌, ◌==◌, nat_le, Bool, ◌&&◌, List, [], ◌∷◌, ◌++◌, length, reverse, if◌then◌else◌}
+use Rattle.std.specs.List.{sum_by}
+use Rattle.shapers_buffer.specs.declared.buffer.syllables.Span.{Span}
+
+-- whether two spans are the same
+abbrev pub is_same : Span → Span → Bool
+is_same s t = s.len == t.len && s.kind == t.kind
+
+-- the spans at the front of two lists that are the same in both and cover at most n glyphs
+abbrev pub shared : ℕ → List Span → List Span → List Span
+shared n [] ts = []
+shared n (s ∷ ss) [] = []
+shared n (s ∷ ss) (t ∷ ts) =
+    if is_same s t && nat_le s.len n then s ∷ shared (n - s.len) ss ts else []
+
+-- how many glyphs they cover
+abbrev pub glyphs_in : List Span → ℕ
+glyphs_in spans = sum_by (λ span. span.len) spans
+
+-- the list, or the list from its end
+abbrev pub turned : {X : Type 0} → Bool → List X → List X
+turned from_end xs = if from_end then reverse xs else xs
+
+-- They open both lists and cover at most n glyphs, and no other spans that do are more.
+pub record IsShared (n : ℕ) (ss ts own : List Span) : Type 0 where
+  pub first : (us : List Span) × (ss ≡ own ++ us)
+  pub second : (us : List Span) × (ts ≡ own ++ us)
+  pub few : glyphs_in own ≤ n
+  pub most : (other us vs : List Span) → ss ≡ other ++ us → ts ≡ other ++ vs →
+      glyphs_in other ≤ n → length other ≤ length own
+
+abbrev pub SharedIsMost : Type 0
+SharedIsMost = (n : ℕ) (ss ts : List Span) → IsShared n ss ts (shared n ss ts)
