@@ -72,10 +72,10 @@ stretch-ors f change same long s e gs h =
     let la : length a ≡ length front = length-map (clusters front) (λ (c : ℕ). 0) ∙ length-map front (λ (g : hb_glyph_info_t). g.cluster) in
     let lb : length b ≡ length mid = long (clusters mid) ∙ length-map mid (λ (g : hb_glyph_info_t). g.cluster) in
     let parts : ors (a ++ b) gs ≡ front ++ (change mid ++ back) =
-        ap (ors (a ++ b)) (sym (three_parts s e gs h))
-        ∙ ors-append a b front (mid ++ back) la
-        ∙ ap (λ xs. xs ++ ors b (mid ++ back)) (ors-nothing front)
-        ∙ ap (λ xs. front ++ xs) (behind b mid back lb ∙ ap (λ xs. xs ++ back) (sym (same mid))) in
+    ap (ors (a ++ b)) (sym (three_parts s e gs h))
+    ∙ ors-append a b front (mid ++ back) la
+    ∙ ap (λ xs. xs ++ ors b (mid ++ back)) (ors-nothing front)
+    ∙ ap (λ xs. front ++ xs) (behind b mid back lb ∙ ap (λ xs. xs ++ back) (sym (same mid))) in
     sym (ap (λ xs. ors (map (λ c. 0) xs ++ f (stretch_of s e cs)) gs) front_same ∙ ap (λ xs. ors (a ++ f xs) gs) mid_same ∙ parts)
   where
     behind : (ns : List ℕ) (xs ys : List hb_glyph_info_t) → length ns ≡ length xs → ors ns (xs ++ ys) ≡ ors ns xs ++ ys
@@ -152,8 +152,8 @@ flags-twice concat tatweel (call ∷ calls) gs all =
     let ns = call_bits concat tatweel call (clusters gs) in
     let once = flags_called concat tatweel calls gs in
     let first : flags_called concat tatweel (call ∷ calls) gs ≡ ors ns once =
-        ap (flags_called concat tatweel calls) (called concat tatweel call gs all.0)
-        ∙ sym (flags-pass-ors concat tatweel calls ns gs all.1) in
+    ap (flags_called concat tatweel calls) (called concat tatweel call gs all.0)
+    ∙ sym (flags-pass-ors concat tatweel calls ns gs all.1) in
     let same : clusters (ors ns once) ≡ clusters gs = clusters-ors ns once ∙ clusters-called concat tatweel calls gs all.1 in
     ap (flags_called concat tatweel (call ∷ calls)) first
     ∙ ap (flags_called concat tatweel calls) (called-as concat tatweel call gs (ors ns once) all.0 same ∙ ors-twice ns once)

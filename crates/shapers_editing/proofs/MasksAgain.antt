@@ -79,11 +79,11 @@ text-stays breaks masks script joining general b =
     let before = context_types joining general b.before in
     let after = context_types joining general b.after in
     let characters : map (λ g. g.glyph_id) (joined_glyphs breaks masks b.flags script text b.glyphs) ≡ map (λ g. g.glyph_id) b.glyphs =
-        map-flags_called (λ g. g.glyph_id) (λ bits g low. refl) (has_flag flags_concat b.flags) (has_flag flags_tatweel b.flags) (flag_calls breaks script text) (with_joining_forms masks fs b.glyphs) (calls-in_order breaks script text)
-        ∙ map-formed (λ g. g.glyph_id) (λ g form mask. refl) masks fs b.glyphs long in
+    map-flags_called (λ g. g.glyph_id) (λ bits g low. refl) (has_flag flags_concat b.flags) (has_flag flags_tatweel b.flags) (flag_calls breaks script text) (with_joining_forms masks fs b.glyphs) (calls-in_order breaks script text)
+    ∙ map-formed (λ g. g.glyph_id) (λ g form mask. refl) masks fs b.glyphs long in
     let types : stored_types joining (joined_glyphs breaks masks b.flags script text b.glyphs) ≡ stored_types joining b.glyphs =
-        map-flags_called type_of (λ bits g low. refl) (has_flag flags_concat b.flags) (has_flag flags_tatweel b.flags) (flag_calls breaks script text) (with_joining_forms masks fs b.glyphs) (calls-in_order breaks script text)
-        ∙ map-formed type_of (λ g form mask. refl) masks fs b.glyphs long in
+    map-flags_called type_of (λ bits g low. refl) (has_flag flags_concat b.flags) (has_flag flags_tatweel b.flags) (flag_calls breaks script text) (with_joining_forms masks fs b.glyphs) (calls-in_order breaks script text)
+    ∙ map-formed type_of (λ g form mask. refl) masks fs b.glyphs long in
     ap (λ cs. text_by before cs (stored_types joining (joined_glyphs breaks masks b.flags script text b.glyphs)) after) characters
     ∙ ap (λ ts. text_by before (map (λ g. g.glyph_id) b.glyphs) ts after) types
 
@@ -138,9 +138,9 @@ universal-again (Some p) script tables old mid new first second =
     let text = text_of tables.joining tables.general b in
     let joined = joined_glyphs p.break_flags p.mask_array b.flags script text in
     let stays : with_categories tables mid ≡ mid =
-        ap (with_categories tables) first.0
-        ∙ ap (λ (gs : List hb_glyph_info_t). let c : Buffer = record old { glyphs = gs } in c) (category-joined tables.universal p.break_flags p.mask_array b.flags script text b.glyphs ∙ ap joined (category-twice tables.universal old.glyphs))
-        ∙ sym first.0 in
+    ap (with_categories tables) first.0
+    ∙ ap (λ (gs : List hb_glyph_info_t). let c : Buffer = record old { glyphs = gs } in c) (category-joined tables.universal p.break_flags p.mask_array b.flags script text b.glyphs ∙ ap joined (category-twice tables.universal old.glyphs))
+    ∙ sym first.0 in
     joined-again p.break_flags p.mask_array script tables.joining tables.general b mid new first.0 (second.0 ∙ ap (buffer_joined p.break_flags p.mask_array script tables.joining tables.general) stays)
 
 -- each shaper

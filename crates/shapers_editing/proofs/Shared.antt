@@ -1,7 +1,8 @@
 -- The spans that two lists share at the front.
-use Rattle.std.proofs.Common.{◌≡◌, ℕ, zero, suc, ◌+◌, ◌-◌, ◌<◌, ◌≤◌, ◌⊎◌, Bool, true, false, cond, ◌==◌, List, [], ◌∷◌, ◌++◌, drop, length, reverse, refl, sym, ap, subst, ◌∙◌, arith, inl, inr, ⊎_elim, length-reverse}
+use Rattle.std.proofs.Common.{◌≡◌, ℕ, zero, suc, ◌+◌, ◌-◌, ◌<◌, ◌≤◌, ◌⊎◌, Bool, true, false, cond, ◌==◌, List, [], ◌∷◌, ◌++◌, drop, length, reverse, refl, sym, ap, subst, ◌∙◌, arith, inl, inr, ⊎_elim}
 use Rattle.std.specs.Prelude.{nat_le, ◌&&◌, slice_get, Option, None, Some}
 use Rattle.std.proofs.lemmas.Bool.{and_from, and_parts, cases_Bool, eq-eqb, eqb-true, le-leb, leb-true}
+use Rattle.std.proofs.lemmas.List.{length-reverse}
 use Rattle.std.proofs.lemmas.List.Sums.{sum_by-cons}
 use Rattle.shapers_buffer.specs.declared.buffer.syllables.Span.{Span}
 use Rattle.shapers_editing.specs.Affected.{IsShared, SharedIsMost, glyphs_in, is_same, shared, turned}
@@ -47,11 +48,11 @@ shared-most n (s ∷ ss) (t ∷ ts) =
             most = longest n s t ss ts within r;
           }
       | false ↦ λ h. record {
-            first = (s ∷ ss, refl);
-            second = (t ∷ ts, refl);
-            few = omega arith;
-            most = none n s t ss ts h;
-          }
+        first = (s ∷ ss, refl);
+        second = (t ∷ ts, refl);
+        few = omega arith;
+        most = none n s t ss ts h;
+      }
     ] refl
   where
     longest : (n : ℕ) (s t : Span) (ss ts : List Span) → s.len ≤ n → IsShared (n - s.len) ss ts (shared (n - s.len) ss ts) → (other us vs : List Span) → s ∷ ss ≡ other ++ us → t ∷ ts ≡ other ++ vs → glyphs_in other ≤ n → length other ≤ suc (length (shared (n - s.len) ss ts))
@@ -74,7 +75,7 @@ shared-most n (s ∷ ss) (t ∷ ts) =
 split-at : (xs : List Span) (k : ℕ) (x : Span) → slice_get xs k ≡ Some x → drop k xs ≡ x ∷ drop (k + 1) xs
 split-at [] k x h = absurd cc
 split-at (y ∷ ys) zero x h = cc
-split-at (y ∷ ys) (suc k) x h = split-at ys k x h ∙ ap (λ (n : ℕ). x ∷ drop n (y ∷ ys)) (omega arith)
+split-at (y ∷ ys) (suc k) x h = let one : suc (k + 1) ≡ suc k + 1 = omega arith in split-at ys k x h ∙ ap (λ (n : ℕ). x ∷ drop n (y ∷ ys)) one
 
 drop-end : (xs : List Span) (k : ℕ) → length xs ≤ k → drop k xs ≡ []
 drop-end [] zero l = refl
@@ -94,14 +95,14 @@ shared-step n k ss ts s t a b e f l =
 
 -- another one isn't
 pub shared-stop : (n k : ℕ) (ss ts : List Span) (s t : Span) → slice_get ss k ≡ Some s → slice_get ts k ≡ Some t → (s.len ≡ t.len → s.kind ≡ t.kind → s.len ≤ n → ⊥) → glyphs_in (shared n (drop k ss) (drop k ts)) ≡ 0
-shared-stop n k ss ts s t a b no =
+shared-stop n k ss ts s t a b differ =
     let rest = shared (n - s.len) (drop (k + 1) ss) (drop (k + 1) ts) in
     ap (λ (xs : List Span). glyphs_in (shared n xs (drop k ts))) (split-at ss k s a)
     ∙ ap (λ (xs : List Span). glyphs_in (shared n (s ∷ drop (k + 1) ss) xs)) (split-at ts k t b)
     ∙ ⊎_elim
     (λ h. let (same, fits) = and_parts (is_same s t) (nat_le s.len n) h in
-        let e = same-span s t same in
-        absurd (no (ap (λ (u : Span). u.len) e) (ap (λ (u : Span). u.kind) e) (leb-true s.len n fits)))
+    let e = same-span s t same in
+    absurd (differ (ap (λ (u : Span). u.len) e) (ap (λ (u : Span). u.kind) e) (leb-true s.len n fits)))
     (λ h. ap (λ (v : Bool). glyphs_in (cond v (s ∷ rest) [])) h)
     (cases_Bool (is_same s t && nat_le s.len n))
 

@@ -75,37 +75,43 @@ none-moved g w v u m d f =
 
 syllable-moved : (g : Grammar) (w v u : List ℕ) (s : Span) → IsDone g w → IsSyllable g (w ++ v) s → (s.len < length w) × IsSyllable g (w ++ u) s
 syllable-moved g w v u s d (inl y) =
-    let short : s.len < length w = ⊎_elim (λ l. l) (λ l. absurd (none-past g w v s.len d l y.rule y.first.takes)) (cases_lt s.len (length w)) in
-    (short, inl (record {
-      some = y.some;
-      within = omega (arith, length-append w u);
-      rule = y.rule;
-      first = subst (λ z. IsFirst g.rules z y.rule) (same-front w v u s.len (omega arith)) y.first;
-      kind = y.kind;
-      longest = (λ m a b. none-moved g w v u m d (λ l. y.longest m a l));
-    }))
+    let short : s.len < length w = ⊎_elim (λ l. l) (λ l. absurd (none-past g w v s.len d l y.rule y.first.takes)) (cases_lt s.len (length w)) in (
+      short,
+      inl (record {
+        some = y.some;
+        within = omega (arith, length-append w u);
+        rule = y.rule;
+        first = subst (λ z. IsFirst g.rules z y.rule) (same-front w v u s.len (omega arith)) y.first;
+        kind = y.kind;
+        longest = (λ m a b. none-moved g w v u m d (λ l. y.longest m a l));
+      }),
+    )
 syllable-moved g w v u s d (inr y) =
     let e = y.one in
-    let t = d.two in
-    (omega (arith, e, t), inr (record {
-      one = y.one;
-      within = omega (arith, length-append w u, t);
-      kind = y.kind;
-      none = (λ m a b. none-moved g w v u m d (λ l. y.none m a l));
-    }))
+    let t = d.two in (
+      omega (arith, e, t),
+      inr (record {
+        one = y.one;
+        within = omega (arith, length-append w u, t);
+        kind = y.kind;
+        none = (λ m a b. none-moved g w v u m d (λ l. y.none m a l));
+      }),
+    )
 
 -- it opens a text whatever stands behind
 opens-moved : (g : Grammar) (gs hs ks : List hb_glyph_info_t) (s : Span) → ReadsAlike g gs hs → ReadsAlike g gs ks → IsDone g (read_of g.passes gs) → OpensWith g (gs ++ hs) s → (s.len ≤ length gs) × OpensWith g (gs ++ ks) s
 opens-moved g gs hs ks s a b d o =
     let p = g.passes in
     let m = syllable-moved g (read_of p gs) (read_of p hs) (read_of p ks) o.read d (subst (λ w. IsSyllable g w o.read) (read-append g gs hs a) o.syllable) in
-    let near : s.len ≡ reach_of p gs o.read.len = o.len ∙ reach-in g gs hs o.read.len a m.0 in
-    (omega (arith, near, reach-le p gs o.read.len), record {
-      read = o.read;
-      syllable = subst (λ w. IsSyllable g w o.read) (sym (read-append g gs ks b)) m.1;
-      kind = o.kind;
-      len = near ∙ sym (reach-in g gs ks o.read.len b m.0);
-    })
+    let near : s.len ≡ reach_of p gs o.read.len = o.len ∙ reach-in g gs hs o.read.len a m.0 in (
+      omega (arith, near, reach-le p gs o.read.len),
+      record {
+        read = o.read;
+        syllable = subst (λ w. IsSyllable g w o.read) (sym (read-append g gs ks b)) m.1;
+        kind = o.kind;
+        len = near ∙ sym (reach-in g gs ks o.read.len b m.0);
+      },
+    )
 
 -- one syllable, and one cut
 same-span : (s t : Span) → s.len ≡ t.len → s.kind ≡ t.kind → s ≡ t
@@ -123,9 +129,9 @@ one-rule rules w i j a b =
 one-syllable : (g : Grammar) (w : List ℕ) (s t : Span) → IsSyllable g w s → IsSyllable g w t → s ≡ t
 one-syllable g w s t (inl y) (inl z) =
     let same : s.len ≡ t.len = ⊎_elim
-        (λ l. absurd (y.longest t.len l z.within z.rule z.first.takes))
-        (λ l. ⊎_elim (λ m. absurd (z.longest s.len m y.within y.rule y.first.takes)) (λ m. omega arith) (cases_lt t.len s.len))
-        (cases_lt s.len t.len) in
+    (λ l. absurd (y.longest t.len l z.within z.rule z.first.takes))
+    (λ l. ⊎_elim (λ m. absurd (z.longest s.len m y.within y.rule y.first.takes)) (λ m. omega arith) (cases_lt t.len s.len))
+    (cases_lt s.len t.len) in
     let rule = one-rule g.rules (take t.len w) y.rule z.rule (subst (λ n. IsFirst g.rules (take n w) y.rule) same y.first) z.first in
     same-span s t same (y.kind ∙ ap (λ r. get_or g.kinds r 0) rule ∙ sym z.kind)
 one-syllable g w s t (inl y) (inr z) = absurd (z.none s.len y.some y.within y.rule y.first.takes)
@@ -200,16 +206,16 @@ in-front g gs hs ks (p ∷ ps) ss ts a b c d done =
     (λ e. let zero_is : n ≡ 0 = eqb-true n 0 e in
     let cr : c.rest ≡ p ∷ (ps ++ ss) = sym (cw ∙ unled n g.other c.rest e) in
     let front = front-from g gs hs ks (p ∷ ps) ss d.rest a b
-        (subst (λ us. IsCutFrom g (gs ++ hs) us) cr (subst (λ k. IsCutFrom g (drop k gs ++ hs) c.rest) zero_is cc1))
-        (subst (λ k. IsCutFrom g (drop k gs ++ ks) d.rest) zero_is dc1) done in
+    (subst (λ us. IsCutFrom g (gs ++ hs) us) cr (subst (λ k. IsCutFrom g (drop k gs ++ hs) c.rest) zero_is cc1))
+    (subst (λ k. IsCutFrom g (drop k gs ++ ks) d.rest) zero_is dc1) done in
     (front.0, dw ∙ unled n g.other d.rest e ∙ front.1))
     (λ e. let lead : Span = record { len = n; kind = g.other } in
     let both : p ∷ (ps ++ ss) ≡ lead ∷ c.rest = cw ∙ led n g.other c.rest e in
     let head : p ≡ lead = cons-head p lead (ps ++ ss) c.rest both in
     let tail : ps ++ ss ≡ c.rest = cons-tail p lead (ps ++ ss) c.rest both in
     let front = front-from g (drop n gs) hs ks ps ss d.rest (alike-drop g gs hs n a) (alike-drop g gs ks n b)
-        (subst (λ us. IsCutFrom g (drop n gs ++ hs) us) (sym tail) cc1) dc1
-        (subst (λ (u : Span). AreDone g (drop u.len gs) ps) head done.1) in
+    (subst (λ us. IsCutFrom g (drop n gs ++ hs) us) (sym tail) cc1) dc1
+    (subst (λ (u : Span). AreDone g (drop u.len gs) ps) head done.1) in
     (front.0, dw ∙ led n g.other d.rest e ∙ ap (λ (u : Span). u ∷ d.rest) (sym head) ∙ ap (λ (us : List Span). p ∷ us) front.1))
     (cases_Bool (n == 0))
 

@@ -6,6 +6,6 @@ mod caret;
 mod edits;
 mod masks;
 
-pub use edits::{Unaffected, affected, affected_law, span_edits_law, syllable_edits_law};
 pub use caret::{caret_law, caret_stops};
+pub use edits::{Unaffected, affected, affected_law, span_edits_law, syllable_edits_law};
 pub use masks::masks_again_law;
