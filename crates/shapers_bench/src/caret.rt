@@ -4,7 +4,9 @@ ghost use Rattle.rustybuzz_shapers.specs.Glyph.{clusters};
 ghost use Rattle.shapers_editing.specs.Carets.{IsCaretMap};
 
 use crate::calling::plain_plan;
-use rustybuzz_shapers::buffer::{Direction, Script, ShaperError, Span, hb_buffer_t, hb_glyph_info_t};
+use rustybuzz_shapers::buffer::{
+    Direction, Script, ShaperError, Span, hb_buffer_t, hb_glyph_info_t,
+};
 use rustybuzz_shapers::font::hb_font_t;
 use rustybuzz_shapers::shaper::{KHMER_SHAPER, Pause, run_pause};
 use shapers_editing::{caret_law, caret_stops};
@@ -24,7 +26,7 @@ pub fn khmer_carets<F: hb_font_t>(
     requires short { length word.now < 2147483648 }
     ensures map { IfOk result (λ stops. (cs : List ℕ) × (All (λ c. c < length word.now) cs
         × IsCaretMap (length word.now) cs stops.items)) }
-    ensures room { result ≢ Err TooLong }
+    ensures room { result ≢ Err ShaperError.TooLong }
 {
     let plan = KHMER_SHAPER.with_data(plain_plan(alloc, Script(*b"Khmr")));
     let mut buffer = buffer_with_room(alloc, word, KHMER_SHAPER.length_bound(word.len()))?;
@@ -38,11 +40,7 @@ pub fn khmer_carets<F: hb_font_t>(
 
 // A buffer with a glyph for each character, whose cluster is the character's place, and room for so
 // many glyphs.
-fn buffer_with_room(
-    alloc: Global,
-    text: &[char],
-    room: usize,
-) -> Result<hb_buffer_t, ShaperError>
+fn buffer_with_room(alloc: Global, text: &[char], room: usize) -> Result<hb_buffer_t, ShaperError>
     requires short { length text.now < 2147483648 }
     requires room { length text.now ≤ room }
     ensures places { IfOk result (λ buffer. All (λ cluster. cluster < length text.now)
@@ -50,7 +48,7 @@ fn buffer_with_room(
     ensures filled { IfOk result (λ buffer. length buffer.glyphs ≡ length text.now) }
     ensures limit { IfOk result (λ buffer. buffer.max_len ≡ room) }
     ensures unplaced { IfOk result (λ buffer. buffer.positions ≡ []) }
-    ensures short { result ≢ Err TooLong }
+    ensures short { result ≢ Err ShaperError.TooLong }
 {
     let mut buffer = hb_buffer_t::new(alloc, room);
     for (place, character) in text.iter().enumerate() {

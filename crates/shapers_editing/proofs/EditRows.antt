@@ -7,7 +7,7 @@ use Rattle.shapers_spans.specs.Universal.{universal_grammar, universal_rules}
 use Rattle.shapers_spans.proofs.GrammarRows.{kind_by}
 use Rattle.shapers_spans.proofs.Steps.{nullable, same, chain, member, before, insert, union, step}
 use Rattle.shapers_spans.proofs.Tables.{first_kind, after}
-use Rattle.shapers_editing.specs.Affected.{glyphs_in, is_same, shared, turned}
+use Rattle.shapers_editing.specs.Affected.{glyphs_in, is_same, shared, shared_back, turned}
 use Rattle.shapers_editing.specs.EditedSyllables.{last_of}
 
 abbrev span : ℕ → ℕ → Span
@@ -39,6 +39,9 @@ other_short = refl
 
 nothing : shared 9 [] (span 2 0 ∷ []) ≡ []
 nothing = refl
+
+behind : shared_back 4 (span 9 0 ∷ span 1 0 ∷ span 3 1 ∷ []) (span 1 0 ∷ span 3 1 ∷ []) ≡ span 1 0 ∷ span 3 1 ∷ []
+behind = refl
 
 covered : glyphs_in (span 2 0 ∷ span 3 1 ∷ []) ≡ 5
 covered = refl

@@ -1,11 +1,13 @@
 -- The spans that two lists share at the front.
 use Rattle.std.proofs.Common.{◌≡◌, ℕ, zero, suc, ◌+◌, ◌-◌, ◌<◌, ◌≤◌, ◌⊎◌, Bool, true, false, cond, ◌==◌, List, [], ◌∷◌, ◌++◌, drop, length, reverse, refl, sym, ap, subst, ◌∙◌, arith, inl, inr, ⊎_elim}
-use Rattle.std.specs.Prelude.{nat_le, ◌&&◌, slice_get, Option, None, Some}
-use Rattle.std.proofs.lemmas.Bool.{and_from, and_parts, cases_Bool, eq-eqb, eqb-true, le-leb, leb-true}
-use Rattle.std.proofs.lemmas.List.{length-reverse}
-use Rattle.std.proofs.lemmas.List.Sums.{sum_by-cons}
+use Rattle.std.specs.Prelude.{nat_le, nat_lt, ◌&&◌, slice_get, Option, None, Some}
+use Rattle.std.specs.List.{list_all}
+use Rattle.std.proofs.lemmas.Grind.{reverse_onto}
+use Rattle.std.proofs.lemmas.Bool.{and_from, and_parts, cases_Bool, eq-eqb, eqb-true, le-leb, leb-true, ltb-true}
+use Rattle.std.proofs.lemmas.List.{length-reverse, reverse-append, reverse-reverse}
+use Rattle.std.proofs.lemmas.List.Sums.{sum_by-append, sum_by-cons}
 use Rattle.shapers_buffer.specs.declared.buffer.syllables.Span.{Span}
-use Rattle.shapers_editing.specs.Affected.{IsShared, SharedIsMost, glyphs_in, is_same, shared, turned}
+use Rattle.shapers_editing.specs.Affected.{IsShared, SharedAreApart, SharedIsMost, glyphs_in, is_same, shared, turned}
 
 pub same-span : (s t : Span) → is_same s t ≡ true → s ≡ t
 same-span s t h =
@@ -70,6 +72,47 @@ shared-most n (s ∷ ss) (t ∷ ts) =
         let same : is_same s t ≡ true = ap (λ (u : Span). is_same s u) (b ∙ sym a) ∙ same-itself s in
         let fits : s.len ≤ n = omega (arith, ap (λ (u : Span). u.len) a, sum_by-cons (λ (u : Span). u.len) o os) in
         absurd (not-both (is_same s t && nat_le s.len n) (and_from (is_same s t) (nat_le s.len n) same (le-leb s.len n fits)) h)
+
+-- AT BOTH ENDS
+glyphs-reverse : (xs : List Span) → glyphs_in (reverse xs) ≡ glyphs_in xs
+glyphs-reverse [] = refl
+glyphs-reverse (x ∷ xs) =
+    ap glyphs_in (reverse_onto xs x [])
+    ∙ sum_by-append (λ (u : Span). u.len) (reverse xs) (x ∷ [])
+    ∙ omega (arith, glyphs-reverse xs, sum_by-cons (λ (u : Span). u.len) x xs, sum_by-cons (λ (u : Span). u.len) x [])
+
+abbrev all_some : List Span → Bool
+all_some xs = list_all (λ span. nat_lt 0 span.len) xs
+
+-- what stands between a front and a back of a list
+between : (fs us ws bs : List Span) → fs ++ us ≡ ws ++ bs → glyphs_in fs + glyphs_in bs ≤ glyphs_in (fs ++ us) → all_some (fs ++ us) ≡ true → (ms : List Span) × (us ≡ ms ++ bs)
+between [] us ws bs e l some = (ws, e)
+between (f ∷ fs) us [] bs e l some =
+    let positive : 0 < f.len = ltb-true 0 f.len (and_parts (nat_lt 0 f.len) (all_some (fs ++ us)) some).0 in
+    absurd (omega (arith, ap glyphs_in e, sum_by-cons (λ (u : Span). u.len) f fs))
+between (f ∷ fs) us (w ∷ ws) bs e l some =
+    between fs us ws bs (cons-tail f w (fs ++ us) (ws ++ bs) e)
+    (omega (arith, sum_by-cons (λ (u : Span). u.len) f fs, sum_by-cons (λ (u : Span). u.len) f (fs ++ us)))
+    (and_parts (nat_lt 0 f.len) (all_some (fs ++ us)) some).1
+
+-- a list that ends with what its reverse begins with
+ends-with : (xs own r : List Span) → reverse xs ≡ own ++ r → xs ≡ reverse r ++ reverse own
+ends-with xs own r e = sym (reverse-reverse xs) ∙ ap reverse e ∙ reverse-append own r
+
+parted : (front back : ℕ) (xs fs us bs ws : List Span) → xs ≡ fs ++ us → xs ≡ ws ++ bs → glyphs_in fs ≤ front → glyphs_in bs ≤ back → front + back ≤ glyphs_in xs → all_some xs ≡ true → (ms : List Span) × (xs ≡ fs ++ (ms ++ bs))
+parted front back xs fs us bs ws e f a b l some =
+    let (ms, m) = between fs us ws bs (sym e ∙ f) (omega (arith, ap glyphs_in e)) (ap all_some (sym e) ∙ some) in
+    (ms, e ∙ ap (λ (zs : List Span). fs ++ zs) m)
+
+pub shared-apart : SharedAreApart
+shared-apart front back old new some others l m =
+    let f = shared-most front old new in
+    let b = shared-most back (reverse old) (reverse new) in
+    let own = shared back (reverse old) (reverse new) in
+    let few : glyphs_in (reverse own) ≤ back = omega (arith, glyphs-reverse own, b.few) in
+    let (us, one) = parted front back old (shared front old new) f.first.0 (reverse own) (reverse b.first.0) f.first.1 (ends-with old own b.first.0 b.first.1) f.few few l some in
+    let (vs, two) = parted front back new (shared front old new) f.second.0 (reverse own) (reverse b.second.0) f.second.1 (ends-with new own b.second.0 b.second.1) f.few few m others in
+    (us, (vs, (one, two)))
 
 -- THE WALK
 split-at : (xs : List Span) (k : ℕ) (x : Span) → slice_get xs k ≡ Some x → drop k xs ≡ x ∷ drop (k + 1) xs

@@ -1,6 +1,6 @@
 -- Which spans two texts share at their ends, so that only what lies between is shaped again.
-use Rattle.std.specs.Prelude.{ℕ, ◌-◌, ◌≤◌, ◌≡◌, ◌==◌, nat_le, Bool, ◌&&◌, List, [], ◌∷◌, ◌++◌, length, reverse, if◌then◌else◌}
-use Rattle.std.specs.List.{sum_by}
+use Rattle.std.specs.Prelude.{ℕ, ◌+◌, ◌-◌, ◌≤◌, ◌≡◌, ◌==◌, nat_le, nat_lt, Bool, true, ◌&&◌, List, [], ◌∷◌, ◌++◌, length, reverse, if◌then◌else◌}
+use Rattle.std.specs.List.{list_all, sum_by}
 use Rattle.shapers_buffer.specs.declared.buffer.syllables.Span.{Span}
 
 -- whether two spans are the same
@@ -32,3 +32,19 @@ pub record IsShared (n : ℕ) (ss ts own : List Span) : Type 0 where
 
 abbrev pub SharedIsMost : Type 0
 SharedIsMost = (n : ℕ) (ss ts : List Span) → IsShared n ss ts (shared n ss ts)
+
+-- those at the ends of the lists
+abbrev pub shared_back : ℕ → List Span → List Span → List Span
+shared_back n ss ts = reverse (shared n (reverse ss) (reverse ts))
+
+-- Where none of the spans is empty, and the lists cover the glyphs in front of an edit and behind it
+-- that are the same in both, the spans that they share at either end are apart: each list is those
+-- in front, its own, and those behind.
+abbrev pub SharedAreApart : Type 0
+SharedAreApart = (front back : ℕ) (old new : List Span) →
+    list_all (λ span. nat_lt 0 span.len) old ≡ true →
+    list_all (λ span. nat_lt 0 span.len) new ≡ true →
+    front + back ≤ glyphs_in old → front + back ≤ glyphs_in new →
+    (us : List Span) × ((vs : List Span) ×
+    ((old ≡ shared front old new ++ (us ++ shared_back back old new))
+    × (new ≡ shared front old new ++ (vs ++ shared_back back old new))))

@@ -1,6 +1,6 @@
 //! What is shaped again where a stretch of a text is replaced.
 ghost use Rattle.std.specs.Prelude.{◌≡◌, ◌<◌, ◌==◌, ◌&&◌, length, reverse, slice_get, Some};
-ghost use Rattle.shapers_editing.specs.Affected.{SharedIsMost, glyphs_in, is_same, shared, turned};
+ghost use Rattle.shapers_editing.specs.Affected.{SharedAreApart, SharedIsMost, glyphs_in, is_same, shared, turned};
 ghost use Rattle.shapers_editing.specs.EditedSyllables.{EditsStayOutside, IndicStaysOutside, PausesStayOutside, UniversalStaysOutside};
 ghost use Rattle.shapers_editing.specs.SpanEdits.{OneCut, SpansBehindStay, SpansInFrontStay};
 ghost use Rattle.shapers_base.specs.declared.plan.pause.Pause.TheVariants.{SetupSyllablesIndic, SetupSyllablesKhmer, SetupSyllablesMyanmar, InitialReordering, ReorderKhmer, ReorderMyanmar};
@@ -19,12 +19,12 @@ pub struct Unaffected {
     pub back: usize,
 }
 
-/// Which glyphs an edit affects: those outside what this returns. The spans are those of the text before and
-/// after it; `front` and `back` glyphs stand in front of what was replaced and behind it, the same in
-/// both texts.
+/// Which glyphs of a text of syllables an edit affects: those between what this returns. The spans
+/// are the text's before and after the edit; `front` glyphs stand in front of what was replaced and
+/// `back` behind it, the same in both texts.
 ///
-/// The syllables that meet the edit aren't enough: a grammar may read on through several syllables.
-/// In the universal grammar `SB SB` are two syllables, and with `G` behind them one.
+/// The syllables that meet the edit aren't enough, since a grammar reads on through joiners: of Khmer
+/// `1780 200C` are two syllables, and with `17B7` behind them one.
 pub fn affected(old: &[Span], new: &[Span], front: usize, back: usize) -> Unaffected
     ensures front { result.front ≡ glyphs_in (shared front old.now new.now) }
     ensures back { result.back ≡ glyphs_in (shared back (reverse old.now) (reverse new.now)) }
@@ -64,9 +64,11 @@ fn span_at(spans: &[Span], k: usize, from_end: bool) -> Span
     }
 }
 
-/// The spans that lists share at their ends are the longest such lists.
+/// The spans that two lists share in front, or behind, are the most that cover no more glyphs than
+/// the texts share there; and those in front and those behind are apart.
 pub fn affected_law()
-    ensures { SharedIsMost }
+    ensures most { SharedIsMost }
+    ensures apart { SharedAreApart }
 {}
 
 /// Spans of a text that is edited. In front of the edit those stay with each of which the grammar is
