@@ -1,5 +1,5 @@
-//! How a caller calls the hooks, proved: `calling` in a pipeline, `reordering` pauses, `caret` what
-//! a terminal asks of a word; and what is generic in the hooks, once at a concrete type.
+//! How a caller calls the hooks, proved: `calling` in a pipeline, `reordering` pauses, `caret` where
+//! a caret may stand in a word; and what is generic in the hooks, once at a concrete type.
 #![tactic(auto)]
 
 pub mod calling;

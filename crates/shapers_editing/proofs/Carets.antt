@@ -1,5 +1,5 @@
 -- The laws of caret stops.
-use Rattle.std.proofs.Common.{◌≡◌, ℕ, ◌-◌, ◌<◌, ◌≤◌, Bool, true, false, cond, List, [], ◌∷◌, ◌++◌, length, map, reverse, take, refl, sym, ap, subst, ◌∙◌, arith}
+use Rattle.std.proofs.Common.{◌≡◌, ℕ, ◌-◌, ◌<◌, ◌≤◌, Bool, true, false, cond, List, [], ◌∷◌, ◌++◌, length, reverse, refl, sym, ap, subst, ◌∙◌, arith}
 use Rattle.std.specs.Prelude.{nat_lt, ◌&&◌, slice_get, Option, None, Some}
 use Rattle.std.specs.List.{All, AllByRecursion, AllPairs, Contains, list_all}
 use Rattle.std.proofs.lemmas.Bool.{lt-ltb, ltb-true}
@@ -10,7 +10,7 @@ use Rattle.std.proofs.lemmas.List.Sorted.{Contains-permutation, IsPermutation-re
 use Rattle.shapers_buffer.specs.declared.buffer.glyph.hb_glyph_info_t.{hb_glyph_info_t}
 use Rattle.shapers_buffer.specs.declared.buffer.level.Direction.{Direction}
 use Rattle.shapers_buffer.specs.Glyph.{clusters}
-use Rattle.shapers_editing.specs.Carets.{BordersWereBorders, EachClusterStops, IsCaretMap, StopsMapText, caret_stops, is_backward, lesser, text_clusters}
+use Rattle.shapers_editing.specs.Carets.{BordersWereBorders, EachClusterStops, StopsMapText, caret_stops, is_backward, lesser, text_clusters}
 use Rattle.shapers_editing.proofs.Stops.{In, all-above, at-in, contains-in, each-lesser, in-contains, lesser-all, lesser-rises, one-interval, reached, some-below}
 
 -- clusters in either order are the same clusters

@@ -1,5 +1,5 @@
 -- Spans that two texts share, and how far a grammar reads on.
-use Rattle.std.proofs.Common.{◌≡◌, ℕ, true, false, List, [], ◌∷◌, map, refl}
+use Rattle.std.proofs.Common.{◌≡◌, ℕ, true, false, [], ◌∷◌, map, refl}
 use Rattle.shapers_buffer.specs.declared.buffer.syllables.Span.{Span}
 use Rattle.shapers_spans.specs.Indic.{indic_grammar, indic_rules}
 use Rattle.shapers_spans.specs.Khmer.{khmer_grammar, khmer_rules}
@@ -7,8 +7,8 @@ use Rattle.shapers_spans.specs.Universal.{universal_grammar, universal_rules}
 use Rattle.shapers_spans.proofs.GrammarRows.{kind_by}
 use Rattle.shapers_spans.proofs.Steps.{nullable, same, chain, member, before, insert, union, step}
 use Rattle.shapers_spans.proofs.Tables.{first_kind, after}
-use Rattle.shapers_editing.specs.Affected.{glyphs_in, is_same, shared, shared_back, turned}
-use Rattle.shapers_editing.specs.EditedSyllables.{last_of}
+use Rattle.shapers_editing.specs.Affected.{glyphs_in, is_same, shared, shared_back, from_either_end}
+use Rattle.shapers_editing.specs.EditedSyllables.{last_n}
 
 abbrev span : ℕ → ℕ → Span
 span n k = record { len = n; kind = k }
@@ -46,13 +46,13 @@ behind = refl
 covered : glyphs_in (span 2 0 ∷ span 3 1 ∷ []) ≡ 5
 covered = refl
 
-from_end : turned {X = ℕ} true (1 ∷ 2 ∷ 3 ∷ []) ≡ 3 ∷ 2 ∷ 1 ∷ []
+from_end : from_either_end {X = ℕ} true (1 ∷ 2 ∷ 3 ∷ []) ≡ 3 ∷ 2 ∷ 1 ∷ []
 from_end = refl
 
-from_start : turned {X = ℕ} false (1 ∷ 2 ∷ 3 ∷ []) ≡ 1 ∷ 2 ∷ 3 ∷ []
+from_start : from_either_end {X = ℕ} false (1 ∷ 2 ∷ 3 ∷ []) ≡ 1 ∷ 2 ∷ 3 ∷ []
 from_start = refl
 
-last_two : last_of {X = ℕ} 2 (1 ∷ 2 ∷ 3 ∷ []) ≡ 2 ∷ 3 ∷ []
+last_two : last_n {X = ℕ} 2 (1 ∷ 2 ∷ 3 ∷ []) ≡ 2 ∷ 3 ∷ []
 last_two = refl
 
 -- The syllable in front of an edit isn't enough. Of two glyphs no rule takes both (255), and so the

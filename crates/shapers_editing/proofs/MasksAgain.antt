@@ -1,7 +1,6 @@
 -- Setting masks a second time changes nothing.
 use Rattle.std.proofs.Common.{◌≡◌, ℕ, ◌∙◌, Bool, List, [], ◌∷◌, length, map, Option, None, Some, refl, sym, ap, arith}
 use Rattle.std.specs.Prelude.{slice_index}
-use Rattle.std.specs.List.{zip}
 use Rattle.shapers_buffer.specs.Buffer.{Buffer, flags_concat, flags_tatweel, has_flag}
 use Rattle.shapers_buffer.specs.Glyph.{clusters}
 use Rattle.shapers_buffer.specs.GlyphFlags.{flags_called, with_bits}

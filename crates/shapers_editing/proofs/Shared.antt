@@ -1,13 +1,13 @@
 -- The spans that two lists share at the front.
-use Rattle.std.proofs.Common.{◌≡◌, ℕ, zero, suc, ◌+◌, ◌-◌, ◌<◌, ◌≤◌, ◌⊎◌, Bool, true, false, cond, ◌==◌, List, [], ◌∷◌, ◌++◌, drop, length, reverse, refl, sym, ap, subst, ◌∙◌, arith, inl, inr, ⊎_elim}
-use Rattle.std.specs.Prelude.{nat_le, nat_lt, ◌&&◌, slice_get, Option, None, Some}
+use Rattle.std.proofs.Common.{◌≡◌, ℕ, zero, suc, ◌+◌, ◌-◌, ◌<◌, ◌≤◌, ◌⊎◌, Bool, true, false, cond, ◌==◌, List, [], ◌∷◌, ◌++◌, drop, length, reverse, refl, sym, ap, ◌∙◌, arith, inl, inr, ⊎_elim}
+use Rattle.std.specs.Prelude.{nat_le, nat_lt, ◌&&◌, slice_get, Some}
 use Rattle.std.specs.List.{list_all}
 use Rattle.std.proofs.lemmas.Grind.{reverse_onto}
 use Rattle.std.proofs.lemmas.Bool.{and_from, and_parts, cases_Bool, eq-eqb, eqb-true, le-leb, leb-true, ltb-true}
 use Rattle.std.proofs.lemmas.List.{length-reverse, reverse-append, reverse-reverse}
 use Rattle.std.proofs.lemmas.List.Sums.{sum_by-append, sum_by-cons}
 use Rattle.shapers_buffer.specs.declared.buffer.syllables.Span.{Span}
-use Rattle.shapers_editing.specs.Affected.{IsShared, SharedAreApart, SharedIsMost, glyphs_in, is_same, shared, turned}
+use Rattle.shapers_editing.specs.Affected.{IsShared, SharedAreApart, SharedIsMost, glyphs_in, is_same, shared, from_either_end}
 
 pub same-span : (s t : Span) → is_same s t ≡ true → s ≡ t
 same-span s t h =
@@ -99,8 +99,8 @@ between (f ∷ fs) us (w ∷ ws) bs e l some =
 ends-with : (xs own r : List Span) → reverse xs ≡ own ++ r → xs ≡ reverse r ++ reverse own
 ends-with xs own r e = sym (reverse-reverse xs) ∙ ap reverse e ∙ reverse-append own r
 
-parted : (front back : ℕ) (xs fs us bs ws : List Span) → xs ≡ fs ++ us → xs ≡ ws ++ bs → glyphs_in fs ≤ front → glyphs_in bs ≤ back → front + back ≤ glyphs_in xs → all_some xs ≡ true → (ms : List Span) × (xs ≡ fs ++ (ms ++ bs))
-parted front back xs fs us bs ws e f a b l some =
+own-part : (front back : ℕ) (xs fs us bs ws : List Span) → xs ≡ fs ++ us → xs ≡ ws ++ bs → glyphs_in fs ≤ front → glyphs_in bs ≤ back → front + back ≤ glyphs_in xs → all_some xs ≡ true → (ms : List Span) × (xs ≡ fs ++ (ms ++ bs))
+own-part front back xs fs us bs ws e f a b l some =
     let (ms, m) = between fs us ws bs (sym e ∙ f) (omega (arith, ap glyphs_in e)) (ap all_some (sym e) ∙ some) in
     (ms, e ∙ ap (λ (zs : List Span). fs ++ zs) m)
 
@@ -110,8 +110,8 @@ shared-apart front back old new some others l m =
     let b = shared-most back (reverse old) (reverse new) in
     let own = shared back (reverse old) (reverse new) in
     let few : glyphs_in (reverse own) ≤ back = omega (arith, glyphs-reverse own, b.few) in
-    let (us, one) = parted front back old (shared front old new) f.first.0 (reverse own) (reverse b.first.0) f.first.1 (ends-with old own b.first.0 b.first.1) f.few few l some in
-    let (vs, two) = parted front back new (shared front old new) f.second.0 (reverse own) (reverse b.second.0) f.second.1 (ends-with new own b.second.0 b.second.1) f.few few m others in
+    let (us, one) = own-part front back old (shared front old new) f.first.0 (reverse own) (reverse b.first.0) f.first.1 (ends-with old own b.first.0 b.first.1) f.few few l some in
+    let (vs, two) = own-part front back new (shared front old new) f.second.0 (reverse own) (reverse b.second.0) f.second.1 (ends-with new own b.second.0 b.second.1) f.few few m others in
     (us, (vs, (one, two)))
 
 -- THE WALK
@@ -158,6 +158,6 @@ shared-end n k ss ts (inr l) = ap (λ (xs : List Span). glyphs_in (shared n (dro
     no-more n [] = refl
     no-more n (x ∷ xs) = refl
 
-pub length-turned : (b : Bool) (xs : List Span) → length (turned b xs) ≡ length xs
+pub length-turned : (b : Bool) (xs : List Span) → length (from_either_end b xs) ≡ length xs
 length-turned true xs = length-reverse xs
 length-turned false xs = refl

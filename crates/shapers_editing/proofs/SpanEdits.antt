@@ -1,5 +1,5 @@
 -- Spans in front of an edit and behind it.
-use Rattle.std.proofs.Common.{◌≡◌, ℕ, zero, suc, ◌+◌, ◌-◌, ◌<◌, ◌≤◌, ◌⊎◌, Bool, true, false, ◌==◌, List, [], ◌∷◌, ◌++◌, drop, take, length, get_or, sum_by, refl, sym, ap, subst, ◌∙◌, arith, inl, inr, ⊎_elim}
+use Rattle.std.proofs.Common.{◌≡◌, ℕ, zero, suc, ◌+◌, ◌-◌, ◌<◌, ◌≤◌, Bool, true, false, ◌==◌, List, [], ◌∷◌, ◌++◌, drop, take, length, get_or, sum_by, refl, sym, ap, subst, ◌∙◌, arith, inl, inr, ⊎_elim}
 use Rattle.std.specs.Prelude.{nat_lt}
 use Rattle.std.specs.Cmp.{second_so}
 use Rattle.std.specs.List.{list_all}
@@ -12,7 +12,7 @@ use Rattle.shapers_buffer.specs.Syllables.{spans_cover}
 use Rattle.shapers_spans.specs.Cuts.{ReadsAlike}
 use Rattle.shapers_spans.specs.Grammar.{Grammar, IsCutFrom, IsFirst, IsSyllable, IsSyllableCut, NoneTakes, OpensWith, lead_spans, reach_of, read_of}
 use Rattle.shapers_spans.specs.Re.{Re}
-use Rattle.shapers_spans.proofs.Reached.{behind-is-read, keep_reach, keep_read, reach-behind, reach-le, reach-zero, read-behind, skip_reach, skip_read}
+use Rattle.shapers_spans.proofs.Reached.{behind-is-read, keep_reach, keep_read, reach-le, reach-zero, skip_reach, skip_read}
 use Rattle.shapers_spans.proofs.Reading.{syllable_within}
 use Rattle.shapers_editing.specs.SpanEdits.{AreDone, IsDone, OneCut, SpansBehindStay, SpansInFrontStay}
 
@@ -274,6 +274,6 @@ behind-cut g z gs hs (s ∷ ss) ts c l =
     unopened g hs ts (behind-from g z (drop n gs) hs ss ts (subst (λ us. IsCutFrom g (drop n gs ++ hs) us) (sym tail) (subst (λ xs. IsCutFrom g xs c.rest) on c.cut)) (omega (arith, p, head, length-drop n gs)) (subst (λ xs. g.passes xs ≡ false) on stop)))
     (cases_Bool (n == 0))
 
-pub behind : SpansBehindStay
-behind g gs hs ks ps qs ss ts z c v d u =
+pub behind-edit : SpansBehindStay
+behind-edit g gs hs ks ps qs ss ts z c v d u =
     one-cut g ks ss ts (behind-cut g z gs ks ps ss c (covered (length gs) ps v)) (behind-cut g z hs ks qs ts d (covered (length hs) qs u))

@@ -1,13 +1,12 @@
 -- The clusters that are less than all behind them: they rise, and reach each cluster.
-use Rattle.std.proofs.Common.{◌≡◌, ℕ, zero, suc, ◌+◌, ◌<◌, ◌≤◌, ◌⊎◌, Bool, true, false, cond, List, [], ◌∷◌, ◌++◌, length, reverse, refl, sym, ap, subst, ◌∙◌, arith, inl, inr, ⊎_elim, get_or, add-zero}
+use Rattle.std.proofs.Common.{◌≡◌, ℕ, zero, suc, ◌+◌, ◌<◌, ◌≤◌, ◌⊎◌, true, false, cond, List, [], ◌∷◌, refl, ap, subst, ◌∙◌, arith, inl, inr, ⊎_elim, get_or, add-zero}
 use Rattle.std.proofs.lemmas.Bool.{and_parts, cases_lt, le-leb, lt-ltb, ltb-true}
 use Rattle.std.proofs.lemmas.Bool.Decides.{nat_tests}
 use Rattle.std.specs.Prelude.{nat_le, nat_lt, ◌&&◌}
-use Rattle.std.specs.List.{All, AllByRecursion, AllPairs, Contains, count_by, list_all}
-use Rattle.std.proofs.lemmas.List.Elements.{All-contains, All-contains_itself, All-from_recursion, recursion_from_All}
+use Rattle.std.specs.List.{AllByRecursion, AllPairs, Contains, count_by, list_all}
+use Rattle.std.proofs.lemmas.List.Elements.{All-from_recursion}
 use Rattle.std.proofs.lemmas.List.Sums.{sum_by-cons}
 use Rattle.std.proofs.lemmas.List.Kept.{AllPairs-cons}
-use Rattle.std.proofs.lemmas.List.Sorted.{Contains-permutation, IsPermutation-reverse}
 use Rattle.shapers_editing.specs.Carets.{lesser, intervals, has_place}
 
 -- membership, by recursion
@@ -64,24 +63,24 @@ lesser-rises (c ∷ cs) =
     ] refl
 
 -- one of them is at most the place
-abbrev pub Reaches : List ℕ → ℕ → Type 0
-Reaches [] p = ⊥
-Reaches (s ∷ ss) p = (s ≤ p) ⊎ Reaches ss p
+abbrev pub IsReached : List ℕ → ℕ → Type 0
+IsReached [] p = ⊥
+IsReached (s ∷ ss) p = (s ≤ p) ⊎ IsReached ss p
 
-reaches-up : (ss : List ℕ) (c p : ℕ) → c ≤ p → Reaches ss c → Reaches ss p
+reaches-up : (ss : List ℕ) (c p : ℕ) → c ≤ p → IsReached ss c → IsReached ss p
 reaches-up [] c p l r = r
 reaches-up (s ∷ ss) c p l (inl h) = inl (omega arith)
 reaches-up (s ∷ ss) c p l (inr r) = inr (reaches-up ss c p l r)
 
-lesser-reaches : (cs : List ℕ) (c : ℕ) → In cs c → Reaches (lesser cs) c
+lesser-reaches : (cs : List ℕ) (c : ℕ) → In cs c → IsReached (lesser cs) c
 lesser-reaches [] c i = absurd i
 lesser-reaches (x ∷ cs) c i =
-    elim (list_all (λ d. nat_lt x d) cs) as (λ b. list_all (λ d. nat_lt x d) cs ≡ b → Reaches (cond b (x ∷ lesser cs) (lesser cs)) c) [
+    elim (list_all (λ d. nat_lt x d) cs) as (λ b. list_all (λ d. nat_lt x d) cs ≡ b → IsReached (cond b (x ∷ lesser cs) (lesser cs)) c) [
       | true ↦ λ h. ⊎_elim (λ e. inl (omega arith)) (λ j. inr (lesser-reaches cs c j)) i
       | false ↦ λ h. ⊎_elim (λ e. let (d, j, l) = some-below x cs h in reaches-up (lesser cs) d c (omega arith) (lesser-reaches cs d j)) (λ j. lesser-reaches cs c j) i
     ] refl
 
-pub reached : (cs : List ℕ) (c p : ℕ) → Contains cs c → c ≤ p → Reaches (lesser cs) p
+pub reached : (cs : List ℕ) (c p : ℕ) → Contains cs c → c ≤ p → IsReached (lesser cs) p
 reached cs c p i l = reaches-up (lesser cs) c p l (lesser-reaches cs c (contains-in cs c i))
 
 weaker : (P Q : ℕ → Type 0) → ((x : ℕ) → P x → Q x) → (xs : List ℕ) → AllByRecursion P xs → AllByRecursion Q xs
@@ -121,7 +120,7 @@ chained : (s : ℕ) (ss : List ℕ) (end : ℕ) → AllPairs (λ a b. a < b) (s 
 chained s [] end r a = a.0
 chained s (t ∷ ts) end r a = (r 0 1 0 (omega arith) (omega arith), chained t ts end (λ i j d l m. r (suc i) (suc j) d (omega arith) (omega arith)) a.1)
 
-first-reaches : (s : ℕ) (ss : List ℕ) (end p : ℕ) → Chain s ss end → Reaches (s ∷ ss) p → s ≤ p
+first-reaches : (s : ℕ) (ss : List ℕ) (end p : ℕ) → Chain s ss end → IsReached (s ∷ ss) p → s ≤ p
 first-reaches s [] end p h (inl l) = l
 first-reaches s [] end p h (inr r) = absurd r
 first-reaches s (t ∷ ts) end p h (inl l) = l
@@ -144,7 +143,7 @@ count-chain s (t ∷ ts) end p h =
 within : (s p end : ℕ) → s ≤ p → p < end → cond {A = ℕ} (nat_le s p && nat_lt p end) 1 0 ≡ 1
 within s p end a b = ap (λ t. cond {A = ℕ} (t && nat_lt p end) 1 0) (le-leb s p a) ∙ ap (λ t. cond {A = ℕ} t 1 0) (lt-ltb p end b)
 
-pub one-interval : (ss : List ℕ) (end p : ℕ) → AllPairs (λ a b. a < b) ss → AllByRecursion (λ c. c < end) ss → Reaches ss p → p < end → count_by (has_place p) (intervals ss end) ≡ 1
+pub one-interval : (ss : List ℕ) (end p : ℕ) → AllPairs (λ a b. a < b) ss → AllByRecursion (λ c. c < end) ss → IsReached ss p → p < end → count_by (has_place p) (intervals ss end) ≡ 1
 one-interval [] end p r a h l = absurd h
 one-interval (s ∷ ss) end p r a h l =
     let k = chained s ss end r a in

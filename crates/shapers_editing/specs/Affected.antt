@@ -19,8 +19,8 @@ abbrev pub glyphs_in : List Span → ℕ
 glyphs_in spans = sum_by (λ span. span.len) spans
 
 -- the list, or the list from its end
-abbrev pub turned : {X : Type 0} → Bool → List X → List X
-turned from_end xs = if from_end then reverse xs else xs
+abbrev pub from_either_end : {X : Type 0} → Bool → List X → List X
+from_either_end from_end xs = if from_end then reverse xs else xs
 
 -- They open both lists and cover at most n glyphs, and no other spans that do are more.
 pub record IsShared (n : ℕ) (ss ts own : List Span) : Type 0 where
@@ -37,14 +37,14 @@ SharedIsMost = (n : ℕ) (ss ts : List Span) → IsShared n ss ts (shared n ss t
 abbrev pub shared_back : ℕ → List Span → List Span → List Span
 shared_back n ss ts = reverse (shared n (reverse ss) (reverse ts))
 
--- Where none of the spans is empty, and the lists cover the glyphs in front of an edit and behind it
--- that are the same in both, the spans that they share at either end are apart: each list is those
--- in front, its own, and those behind.
+-- Where no span is empty, and both lists cover the glyphs in front of an edit and behind it, the
+-- spans that they share at either end are apart: each list is those in front, its own, and those
+-- behind.
 abbrev pub SharedAreApart : Type 0
 SharedAreApart = (front back : ℕ) (old new : List Span) →
     list_all (λ span. nat_lt 0 span.len) old ≡ true →
     list_all (λ span. nat_lt 0 span.len) new ≡ true →
     front + back ≤ glyphs_in old → front + back ≤ glyphs_in new →
-    (us : List Span) × ((vs : List Span) ×
-    ((old ≡ shared front old new ++ (us ++ shared_back back old new))
+    (us : List Span) × ((vs : List Span)
+    × ((old ≡ shared front old new ++ (us ++ shared_back back old new))
     × (new ≡ shared front old new ++ (vs ++ shared_back back old new))))

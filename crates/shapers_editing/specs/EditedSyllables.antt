@@ -22,41 +22,41 @@ use Rattle.shapers_universal.specs.UniversalLaws.{set_up_by_spans, without_seria
 use Rattle.rustybuzz_shapers.specs.Pauses.{Paused, Reordering, by_initial, by_universal}
 
 -- a part of a text, with the spans that cover it
-pub record Part : Type 0 where
+pub record TextPart : Type 0 where
   pub glyphs : List hb_glyph_info_t
   pub spans : List Span
   pub covered : spans_cover (length glyphs) spans ≡ true
 
 -- a text of three parts: what stands in front of an edit, what is edited, and what stands behind it
-abbrev pub glyphs_of : Part → Part → Part → List hb_glyph_info_t
-glyphs_of front middle back = front.glyphs ++ (middle.glyphs ++ back.glyphs)
+abbrev pub whole_glyphs : TextPart → TextPart → TextPart → List hb_glyph_info_t
+whole_glyphs front middle back = front.glyphs ++ (middle.glyphs ++ back.glyphs)
 
-abbrev pub spans_of : Part → Part → Part → List Span
-spans_of front middle back = front.spans ++ (middle.spans ++ back.spans)
+abbrev pub whole_spans : TextPart → TextPart → TextPart → List Span
+whole_spans front middle back = front.spans ++ (middle.spans ++ back.spans)
 
 -- the last n of a list
-abbrev pub last_of : {X : Type 0} → ℕ → List X → List X
-last_of n xs = drop (length xs - n) xs
+abbrev pub last_n : {X : Type 0} → ℕ → List X → List X
+last_n n xs = drop (length xs - n) xs
 
 -- Two lists begin with the same n elements, and end with the same m.
-pub record SameEnds {X : Type 0} (n m : ℕ) (xs ys : List X) : Type 0 where
+pub record AlikeAtEnds {X : Type 0} (n m : ℕ) (xs ys : List X) : Type 0 where
   pub front : take n xs ≡ take n ys
-  pub back : last_of m xs ≡ last_of m ys
+  pub back : last_n m xs ≡ last_n m ys
   pub fits : (n ≤ length xs) × ((n ≤ length ys) × ((m ≤ length xs) × (m ≤ length ys)))
 
 -- What texts that differ in their middle part become, xs and ys, is the same in front and behind,
 -- as far as what the other parts become by themselves reaches: in the order view as far as the view
 -- shows it; and in the clusters, where neither part shares one with the rest.
-pub record SameOutside (view : hb_glyph_info_t → hb_glyph_info_t) (made : Part →
-    List hb_glyph_info_t) (clusters_made : Part → List ℕ) (front old new back : Part)
+pub record SameOutside (view : hb_glyph_info_t → hb_glyph_info_t) (made : TextPart →
+    List hb_glyph_info_t) (clusters_made : TextPart → List ℕ) (front old new back : TextPart)
     (xs ys : List hb_glyph_info_t) : Type 0 where
-  pub order : SameEnds (length (made front)) (length (made back))
+  pub order : AlikeAtEnds (length (made front)) (length (made back))
       (map view (order_view xs)) (map view (order_view ys))
   pub in_clusters : ShareNone front.glyphs (old.glyphs ++ back.glyphs) →
       ShareNone (front.glyphs ++ old.glyphs) back.glyphs →
       ShareNone front.glyphs (new.glyphs ++ back.glyphs) →
       ShareNone (front.glyphs ++ new.glyphs) back.glyphs →
-      SameEnds (length (clusters_made front)) (length (clusters_made back))
+      AlikeAtEnds (length (clusters_made front)) (length (clusters_made back))
       (clusters xs) (clusters ys)
 
 -- so of any set-up and pauses that can be cut between spans
@@ -65,11 +65,11 @@ EditsStayOutside = (view : hb_glyph_info_t → hb_glyph_info_t)
     (set_up : List Span → List hb_glyph_info_t → List hb_glyph_info_t)
     (made : List hb_glyph_info_t → List hb_glyph_info_t)
     (clusters_made : List hb_glyph_info_t → List ℕ)
-    (front old new back : Part) (xs ys : List hb_glyph_info_t) →
-    CutsBetweenSpans view set_up made clusters_made (spans_of front old back)
-    (glyphs_of front old back) xs →
-    CutsBetweenSpans view set_up made clusters_made (spans_of front new back)
-    (glyphs_of front new back) ys →
+    (front old new back : TextPart) (xs ys : List hb_glyph_info_t) →
+    CutsBetweenSpans view set_up made clusters_made (whole_spans front old back)
+    (whole_glyphs front old back) xs →
+    CutsBetweenSpans view set_up made clusters_made (whole_spans front new back)
+    (whole_glyphs front new back) ys →
     SameOutside view (λ part. made (set_up part.spans part.glyphs))
     (λ part. clusters_made (set_up part.spans part.glyphs)) front old new back xs ys
 
@@ -78,14 +78,14 @@ EditsStayOutside = (view : hb_glyph_info_t → hb_glyph_info_t)
 abbrev pub PausesStayOutside :
     Pause → Pause → (hb_ot_shape_plan_t → Font → Buffer → Reordering) → Type 0
 PausesStayOutside set_up pause by = (plan : hb_ot_shape_plan_t) (font : Font)
-    (unread : List Span) (front old new back : Part) (b mid xs other ys : Buffer) →
-    All (λ span. span.kind ≤ 15) (spans_of front old back) →
-    All (λ span. span.kind ≤ 15) (spans_of front new back) →
-    Paused set_up plan font (spans_of front old back)
-    (record b { glyphs = glyphs_of front old back }) mid →
+    (unread : List Span) (front old new back : TextPart) (b mid xs other ys : Buffer) →
+    All (λ span. span.kind ≤ 15) (whole_spans front old back) →
+    All (λ span. span.kind ≤ 15) (whole_spans front new back) →
+    Paused set_up plan font (whole_spans front old back)
+    (record b { glyphs = whole_glyphs front old back }) mid →
     Paused pause plan font unread mid xs →
-    Paused set_up plan font (spans_of front new back)
-    (record b { glyphs = glyphs_of front new back }) other →
+    Paused set_up plan font (whole_spans front new back)
+    (record b { glyphs = whole_glyphs front new back }) other →
     Paused pause plan font unread other ys →
     by plan font mid ≡ by plan font other →
     let r = by plan font mid in
@@ -97,14 +97,14 @@ PausesStayOutside set_up pause by = (plan : hb_ot_shape_plan_t) (font : Font)
 -- in the universal shaper with the masks of rphf and of forms, which the view leaves out
 abbrev pub UniversalStaysOutside : Type 0
 UniversalStaysOutside = (plan : hb_ot_shape_plan_t) (font : Font)
-    (unread : List Span) (front old new back : Part) (b mid xs other ys : Buffer) →
-    All (λ span. span.kind ≤ 15) (spans_of front old back) →
-    All (λ span. span.kind ≤ 15) (spans_of front new back) →
-    Paused SetupSyllablesUse plan font (spans_of front old back)
-    (record b { glyphs = glyphs_of front old back }) mid →
+    (unread : List Span) (front old new back : TextPart) (b mid xs other ys : Buffer) →
+    All (λ span. span.kind ≤ 15) (whole_spans front old back) →
+    All (λ span. span.kind ≤ 15) (whole_spans front new back) →
+    Paused SetupSyllablesUse plan font (whole_spans front old back)
+    (record b { glyphs = whole_glyphs front old back }) mid →
     Paused ReorderUse plan font unread mid xs →
-    Paused SetupSyllablesUse plan font (spans_of front new back)
-    (record b { glyphs = glyphs_of front new back }) other →
+    Paused SetupSyllablesUse plan font (whole_spans front new back)
+    (record b { glyphs = whole_glyphs front new back }) other →
     Paused ReorderUse plan font unread other ys →
     by_universal font mid ≡ by_universal font other →
     let r = by_universal font mid in
@@ -117,16 +117,16 @@ UniversalStaysOutside = (plan : hb_ot_shape_plan_t) (font : Font)
 -- in Indic after both reorderings
 abbrev pub IndicStaysOutside : Type 0
 IndicStaysOutside = (plan : hb_ot_shape_plan_t) (font : Font)
-    (unread : List Span) (front old new back : Part)
+    (unread : List Span) (front old new back : TextPart)
     (b mid first xs other second ys : Buffer) →
-    All (λ span. span.kind ≤ 15) (spans_of front old back) →
-    All (λ span. span.kind ≤ 15) (spans_of front new back) →
-    Paused SetupSyllablesIndic plan font (spans_of front old back)
-    (record b { glyphs = glyphs_of front old back }) mid →
+    All (λ span. span.kind ≤ 15) (whole_spans front old back) →
+    All (λ span. span.kind ≤ 15) (whole_spans front new back) →
+    Paused SetupSyllablesIndic plan font (whole_spans front old back)
+    (record b { glyphs = whole_glyphs front old back }) mid →
     Paused InitialReordering plan font unread mid first →
     Paused FinalReordering plan font unread first xs →
-    Paused SetupSyllablesIndic plan font (spans_of front new back)
-    (record b { glyphs = glyphs_of front new back }) other →
+    Paused SetupSyllablesIndic plan font (whole_spans front new back)
+    (record b { glyphs = whole_glyphs front new back }) other →
     Paused InitialReordering plan font unread other second →
     Paused FinalReordering plan font unread second ys →
     by_initial plan font mid ≡ by_initial plan font other →

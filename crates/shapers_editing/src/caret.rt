@@ -1,5 +1,5 @@
 //! Where a caret may stand in a shaped text.
-ghost use Rattle.std.specs.Prelude.{◌≡◌, List, ◌∷◌, [], ℕ, map, nat_lt, reverse, IfOk, IsOkUnless, OnOk};
+ghost use Rattle.std.specs.Prelude.{◌≡◌, List, ◌∷◌, [], ℕ, map, nat_lt, reverse, IsOkUnless, OnOk};
 ghost use Rattle.std.specs.List.{list_all};
 ghost use Rattle.shapers_buffer.specs.declared.buffer.refusal.ShaperError.TheVariants.{Memory};
 ghost use Rattle.shapers_buffer.specs.Glyph.{clusters};

@@ -1,6 +1,6 @@
 //! What is shaped again where a stretch of a text is replaced.
-ghost use Rattle.std.specs.Prelude.{◌≡◌, ◌<◌, ◌==◌, ◌&&◌, length, reverse, slice_get, Some};
-ghost use Rattle.shapers_editing.specs.Affected.{SharedAreApart, SharedIsMost, glyphs_in, is_same, shared, turned};
+ghost use Rattle.std.specs.Prelude.{◌≡◌, ◌<◌, length, reverse, slice_get, Some};
+ghost use Rattle.shapers_editing.specs.Affected.{SharedAreApart, SharedIsMost, glyphs_in, shared, from_either_end};
 ghost use Rattle.shapers_editing.specs.EditedSyllables.{EditsStayOutside, IndicStaysOutside, PausesStayOutside, UniversalStaysOutside};
 ghost use Rattle.shapers_editing.specs.SpanEdits.{OneCut, SpansBehindStay, SpansInFrontStay};
 ghost use Rattle.shapers_base.specs.declared.plan.pause.Pause.TheVariants.{SetupSyllablesIndic, SetupSyllablesKhmer, SetupSyllablesMyanmar, InitialReordering, ReorderKhmer, ReorderMyanmar};
@@ -38,7 +38,7 @@ pub fn affected(old: &[Span], new: &[Span], front: usize, back: usize) -> Unaffe
 // How many glyphs the spans cover that the lists share, at their starts or at their ends, as long as
 // that is at most `room`.
 fn shared_len(old: &[Span], new: &[Span], room: usize, from_end: bool) -> usize
-    ensures { result ≡ glyphs_in (shared room (turned from_end old.now) (turned from_end new.now)) }
+    ensures { result ≡ glyphs_in (shared room (from_either_end from_end old.now) (from_either_end from_end new.now)) }
 {
     let mut left = room;
     for k in 0..old.len().min(new.len()) {
@@ -55,7 +55,7 @@ fn shared_len(old: &[Span], new: &[Span], room: usize, from_end: bool) -> usize
 // The span at a place, counted from the start or from the end.
 fn span_at(spans: &[Span], k: usize, from_end: bool) -> Span
     requires { k < length spans.now }
-    ensures { slice_get (turned from_end spans.now) k ≡ Some result }
+    ensures { slice_get (from_either_end from_end spans.now) k ≡ Some result }
 {
     if from_end {
         spans[spans.len() - 1 - k]

@@ -1,4 +1,4 @@
-//! What cursors, terminals and editors ask of a shaped text: where a caret may stand, and what is
+//! What cursors, terminals and editors need of a shaped text: where a caret may stand, and what is
 //! shaped again where a stretch of the text is replaced.
 #![tactic(auto)]
 

@@ -19,10 +19,10 @@ returns-in_err-run_pause-2-clause-room g c e =
     let stay = c.in_ok-run_pause.ensures.laws.1 in
     let cluster = λ (h : hb_glyph_info_t). h.cluster in
     let long : length set_up.glyphs ≡ length before.glyphs =
-        omega (arith, ap length stay, length-map set_up.glyphs cluster, length-map before.glyphs cluster) in
+    omega (arith, ap length stay, length-map set_up.glyphs cluster, length-map before.glyphs cluster) in
     let limit : set_up.max_len ≡ before.max_len = ap (λ (b : Buffer). b.max_len) c.in_ok-run_pause.ensures.ok in
     let fits : length set_up.glyphs * 2 ≤ set_up.max_len =
-        omega (arith, long, limit, c.in_ok-buffer.ensures.filled, c.in_ok-buffer.ensures.limit, c.length_bound.ensures.bound, c.requires.short) in
+    omega (arith, long, limit, c.in_ok-buffer.ensures.filled, c.in_ok-buffer.ensures.limit, c.length_bound.ensures.bound, c.requires.short) in
     let room = c.length_bound.ensures.pauses ReorderKhmer (g.F.hb_font_t.font c.args.face.now) c.args.spans.now set_up c.run_pause-2.result fits c.run_pause-2.ensures.refusal in
     let was = c.in_err-run_pause-2.was in
     let gone = c.from_residual-in_err-run_pause-2.ensures in

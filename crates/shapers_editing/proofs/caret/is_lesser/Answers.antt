@@ -1,4 +1,3 @@
-use Rattle.std.proofs.Common.{sym, ◌∙◌}
 use Rattle.std.specs.Prelude.{None, Some}
 use Rattle.shapers_editing.proofs.Carets.{tells}
 use Rattle.shapers_editing.proofs.caret.is_lesser.Goals as goal

@@ -1,14 +1,14 @@
 use Rattle.std.proofs.Common.{◌≡◌, ◌+◌, ◌-◌, ◌≤◌, ◌⊎◌, drop, length, inl, inr, ⊎_elim, add-zero, sym, ap, ◌∙◌, arith}
 use Rattle.std.proofs.lemmas.Bool.{cases_lt}
-use Rattle.shapers_editing.specs.Affected.{glyphs_in, shared, turned}
+use Rattle.shapers_editing.specs.Affected.{glyphs_in, shared, from_either_end}
 use Rattle.shapers_editing.proofs.Shared.{length-turned, shared-end, shared-step, shared-stop}
 use Rattle.shapers_editing.proofs.edits.shared_len.Goals as goal
 use Rattle.shapers_editing.proofs.edits.shared_len.Goals.{then-span-other-via-then-span-other, then-span-other-via-else-span-other+then-span-other-2, then-span-other-via-else-span-other+else-span-other-2+then-span-left}
 
 pub returns-then-span-other : goal.returns-then-span-other
 returns-then-span-other c =
-    let ss = turned c.args.from_end c.args.old.now in
-    let ts = turned c.args.from_end c.args.new.now in
+    let ss = from_either_end c.args.from_end c.args.old.now in
+    let ts = from_either_end c.args.from_end c.args.new.now in
     let stop = shared-stop c.loop-k.left c.loop-k.k ss ts c.span_at-span.result c.span_at-other.result c.span_at-span.ensures c.span_at-other.ensures in
     let none : glyphs_in (shared c.loop-k.left (drop c.loop-k.k ss) (drop c.loop-k.k ts)) ≡ 0 =
     elim c.then-span-other.branch [
@@ -20,8 +20,8 @@ returns-then-span-other c =
 
 pub loop-k-preserved : goal.loop-k-preserved
 loop-k-preserved c =
-    let ss = turned c.args.from_end c.args.old.now in
-    let ts = turned c.args.from_end c.args.new.now in
+    let ss = from_either_end c.args.from_end c.args.old.now in
+    let ts = from_either_end c.args.from_end c.args.new.now in
     let i = c.loop-k.invariant in
     let s = c.span_at-span.result in
     let rest = glyphs_in (shared (c.loop-k.left - s.len) (drop (c.loop-k.k + 1) ss) (drop (c.loop-k.k + 1) ts)) in
@@ -35,8 +35,8 @@ loop-k-preserved c =
 
 pub returns : goal.returns
 returns c =
-    let ss = turned c.args.from_end c.args.old.now in
-    let ts = turned c.args.from_end c.args.new.now in
+    let ss = from_either_end c.args.from_end c.args.old.now in
+    let ts = from_either_end c.args.from_end c.args.new.now in
     let ended : (length ss ≤ c.loop-k.k) ⊎ (length ts ≤ c.loop-k.k) = ⊎_elim
     (λ l. inl (omega (arith, length-turned c.args.from_end c.args.old.now, length-turned c.args.from_end c.args.new.now)))
     (λ l. inr (omega (arith, length-turned c.args.from_end c.args.old.now, length-turned c.args.from_end c.args.new.now)))
