@@ -141,7 +141,7 @@ impl Way {
             lines.push("set direction rtl".into());
         }
         for tag in self.features() {
-            let mask = self.plan.plan().ot_map.get_1_mask(tag);
+            let mask = self.plan.plan().ot_map.one_mask(tag);
             lines.push(format!("mask {} {mask:x}", String::from_utf8_lossy(&tag.0)));
         }
         lines.push(line_of_text(text));

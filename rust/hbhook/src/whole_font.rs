@@ -55,7 +55,7 @@ impl WholeFont {
         call: impl FnOnce(&mut Buffer) -> A,
     ) -> A {
         renumber(buffer, |character| {
-            self.get_nominal_glyph(character)
+            self.nominal_glyph(character)
                 .map_or(0, |glyph| glyph.0.into())
         });
         self.to_characters(buffer, call)
@@ -107,7 +107,7 @@ fn renumber(buffer: &mut Buffer, number: impl Fn(u32) -> u32) {
 }
 
 impl Font for WholeFont {
-    fn get_nominal_glyph(&self, c: u32) -> Option<GlyphId> {
+    fn nominal_glyph(&self, c: u32) -> Option<GlyphId> {
         let category = general_category(char::from_u32(c)?);
         if matches!(category, GeneralCategory::Cn | GeneralCategory::Co) {
             return None;
@@ -130,7 +130,7 @@ impl Font for WholeFont {
 }
 
 impl NormalizeFont for WholeFont {
-    fn get_variation_glyph(&self, _c: u32, _selector: u32) -> Option<GlyphId> {
+    fn variation_glyph(&self, _c: u32, _selector: u32) -> Option<GlyphId> {
         None
     }
 }
@@ -176,7 +176,7 @@ mod tests {
     #[test]
     fn a_character_has_one_glyph_and_is_found_again() {
         let font = WholeFont::of(Script(*b"Adlm"));
-        let glyph = |c| font.get_nominal_glyph(c).map(|glyph| u32::from(glyph.0));
+        let glyph = |c| font.nominal_glyph(c).map(|glyph| u32::from(glyph.0));
         assert_eq!(glyph(0x1780), Some(0x1780));
         assert_eq!(glyph(0x1E900), Some(0xD800));
         assert_eq!(glyph(0x1E922), Some(0xD801));

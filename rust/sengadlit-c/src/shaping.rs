@@ -137,8 +137,8 @@ struct ShapedFont<'a> {
 }
 
 impl AnswersFont for ShapedFont<'_> {
-    fn get_nominal_glyph(&self, c: u32) -> Option<GlyphId> {
-        self.font.get_nominal_glyph(c)
+    fn nominal_glyph(&self, c: u32) -> Option<GlyphId> {
+        self.font.nominal_glyph(c)
     }
 
     fn glyph_h_advance(&self, glyph: GlyphId) -> i32 {
@@ -159,7 +159,7 @@ impl AnswersFont for ShapedFont<'_> {
 }
 
 impl NormalizeFont for ShapedFont<'_> {
-    fn get_variation_glyph(&self, c: u32, selector: u32) -> Option<GlyphId> {
+    fn variation_glyph(&self, c: u32, selector: u32) -> Option<GlyphId> {
         self.lookups.variation_glyph(c, selector)
     }
 }

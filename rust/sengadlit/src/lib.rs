@@ -190,6 +190,7 @@ mod generated {
     pub(crate) mod shapers_base;
     pub(crate) mod shapers_buffer;
     pub(crate) mod shapers_choice;
+    pub(crate) mod shapers_editing;
     pub(crate) mod shapers_hangul;
     pub(crate) mod shapers_indic;
     pub(crate) mod shapers_indic_final;
@@ -220,6 +221,7 @@ mod generated {
 pub mod alloc;
 pub mod buffer;
 pub mod categories;
+pub mod editing;
 pub mod flags;
 pub mod font;
 pub mod map;

@@ -13,7 +13,7 @@
 //! # use sengadlit::ot_shape_plan::{FontFeatures, StageLookup};
 //! # struct MyFont;
 //! # impl Font for MyFont {
-//! #     fn get_nominal_glyph(&self, c: u32) -> Option<GlyphId> {
+//! #     fn nominal_glyph(&self, c: u32) -> Option<GlyphId> {
 //! #         u16::try_from(c).ok().map(GlyphId)
 //! #     }
 //! #     fn glyph_h_advance(&self, _: GlyphId) -> i32 { 0 }
@@ -21,7 +21,7 @@
 //! #     fn has_feature(&self, tag: Tag) -> bool { tag == Tag(*b"blwf") }
 //! # }
 //! # impl NormalizeFont for MyFont {
-//! #     fn get_variation_glyph(&self, _: u32, _: u32) -> Option<GlyphId> { None }
+//! #     fn variation_glyph(&self, _: u32, _: u32) -> Option<GlyphId> { None }
 //! # }
 //! # impl FontFeatures for MyFont {
 //! #     fn has_table(&self, table: TableIndex) -> bool { table == TableIndex::GSUB }

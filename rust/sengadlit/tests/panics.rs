@@ -38,8 +38,8 @@ impl<A> Panicking<'_, A> {
 }
 
 impl<F: Font> Font for Panicking<'_, F> {
-    fn get_nominal_glyph(&self, c: u32) -> Option<GlyphId> {
-        self.ask(|font| font.get_nominal_glyph(c))
+    fn nominal_glyph(&self, c: u32) -> Option<GlyphId> {
+        self.ask(|font| font.nominal_glyph(c))
     }
 
     fn glyph_h_advance(&self, glyph: GlyphId) -> i32 {
@@ -276,11 +276,11 @@ mod text {
             self.ask(|_| found.map(|pair| pair.0))
         }
 
-        fn get_nominal_glyph(&self, c: u32) -> Option<GlyphId> {
+        fn nominal_glyph(&self, c: u32) -> Option<GlyphId> {
             self.ask(|_| u16::try_from(c).ok().map(GlyphId))
         }
 
-        fn get_variation_glyph(&self, _: u32, _: u32) -> Option<GlyphId> {
+        fn variation_glyph(&self, _: u32, _: u32) -> Option<GlyphId> {
             self.ask(|_| None)
         }
 

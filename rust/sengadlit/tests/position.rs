@@ -17,7 +17,7 @@ use sengadlit::ot_shape_position::{
 struct Wide;
 
 impl Font for Wide {
-    fn get_nominal_glyph(&self, _: u32) -> Option<GlyphId> {
+    fn nominal_glyph(&self, _: u32) -> Option<GlyphId> {
         None
     }
 

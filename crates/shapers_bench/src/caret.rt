@@ -1,0 +1,62 @@
+//! How a terminal finds where a caret may stand in a word, and what it reads in the contracts.
+ghost use Rattle.std.specs.Prelude.{◌≡◌, ◌≢◌, ◌<◌, ◌≤◌, [], ℕ, List, All, IfOk, length};
+ghost use Rattle.rustybuzz_shapers.specs.Glyph.{clusters};
+ghost use Rattle.shapers_editing.specs.Carets.{IsCaretMap};
+
+use crate::calling::plain_plan;
+use rustybuzz_shapers::buffer::{
+    Direction, Script, ShaperError, Span, hb_buffer_t, hb_glyph_info_t,
+};
+use rustybuzz_shapers::font::hb_font_t;
+use rustybuzz_shapers::shaper::{KHMER_SHAPER, Pause, run_pause};
+use shapers_editing::{caret_law, caret_stops};
+use std::alloc::Global;
+
+/// The places in a word of Khmer, cut into these syllables, where a caret may stand besides its end,
+/// for a font without features. They map the word up to its end: they rise, and each glyph stands
+/// for one of the intervals between them. There is room for the glyphs, so that it refuses where the
+/// spans don't cover the word, where a kind of syllable is unknown, and with `Memory`.
+pub fn khmer_carets<F: hb_font_t>(
+    alloc: Global,
+    face: &F,
+    word: &[char],
+    spans: &[Span],
+) -> Result<Vec<u32>, ShaperError>
+    requires kinds { All (λ span. span.kind ≤ 15) spans.now }
+    requires short { length word.now < 2147483648 }
+    ensures map { IfOk result (λ stops. (cs : List ℕ) × (All (λ c. c < length word.now) cs
+        × IsCaretMap (length word.now) cs stops.items)) }
+    ensures room { result ≢ Err ShaperError.TooLong }
+{
+    let plan = KHMER_SHAPER.with_data(plain_plan(alloc, Script(*b"Khmr")));
+    let mut buffer = buffer_with_room(alloc, word, KHMER_SHAPER.length_bound(word.len()))?;
+    run_pause(Pause::SetupSyllablesKhmer, &plan, face, spans, &mut buffer)?;
+    run_pause(Pause::ReorderKhmer, &plan, face, spans, &mut buffer)?;
+    let mut stops = Vec::new(alloc);
+    caret_stops(buffer.glyphs(), Direction::LeftToRight, &mut stops)?;
+    caret_law();
+    Ok(stops)
+}
+
+// A buffer with a glyph for each character, whose cluster is the character's place, and room for so
+// many glyphs.
+fn buffer_with_room(alloc: Global, text: &[char], room: usize) -> Result<hb_buffer_t, ShaperError>
+    requires short { length text.now < 2147483648 }
+    requires room { length text.now ≤ room }
+    ensures places { IfOk result (λ buffer. All (λ cluster. cluster < length text.now)
+        (clusters buffer.glyphs)) }
+    ensures filled { IfOk result (λ buffer. length buffer.glyphs ≡ length text.now) }
+    ensures limit { IfOk result (λ buffer. buffer.max_len ≡ room) }
+    ensures unplaced { IfOk result (λ buffer. buffer.positions ≡ []) }
+    ensures short { result ≢ Err ShaperError.TooLong }
+{
+    let mut buffer = hb_buffer_t::new(alloc, room);
+    for (place, character) in text.iter().enumerate() {
+        buffer.push(hb_glyph_info_t {
+            glyph_id: u32::from(*character),
+            cluster: place as u32,
+            ..hb_glyph_info_t::DEFAULT
+        })?;
+    }
+    Ok(buffer)
+}

@@ -1,0 +1,5 @@
+pub mod Affected
+pub mod Carets
+pub mod EditedSyllables
+pub mod MasksAgain
+pub mod SpanEdits

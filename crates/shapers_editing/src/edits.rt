@@ -1,0 +1,94 @@
+//! What is shaped again where a stretch of a text is replaced.
+ghost use Rattle.std.specs.Prelude.{◌≡◌, ◌<◌, length, reverse, slice_get, Some};
+ghost use Rattle.shapers_editing.specs.Affected.{SharedAreApart, SharedIsMost, glyphs_in, shared, from_either_end};
+ghost use Rattle.shapers_editing.specs.EditedSyllables.{EditsStayOutside, IndicStaysOutside, PausesStayOutside, UniversalStaysOutside};
+ghost use Rattle.shapers_editing.specs.SpanEdits.{OneCut, SpansBehindStay, SpansInFrontStay};
+ghost use Rattle.shapers_base.specs.declared.plan.pause.Pause.TheVariants.{SetupSyllablesIndic, SetupSyllablesKhmer, SetupSyllablesMyanmar, InitialReordering, ReorderKhmer, ReorderMyanmar};
+ghost use Rattle.rustybuzz_shapers.specs.Pauses.{by_initial, by_khmer, by_myanmar};
+
+use rustybuzz_shapers::shaper::cuts_at_borders_law;
+use shapers_buffer::buffer::Span;
+
+/// What an edit leaves of a text of syllables: the glyphs in front and behind that come out as before.
+/// What lies between them, of the old text and of the new, is what is shaped again.
+#[derive(Clone, Copy, Debug, PartialEq, Eq)]
+pub struct Unaffected {
+    /// How many glyphs in front.
+    pub front: usize,
+    /// How many glyphs behind.
+    pub back: usize,
+}
+
+/// Which glyphs of a text of syllables an edit affects: those between what this returns. The spans
+/// are the text's before and after the edit; `front` glyphs stand in front of what was replaced and
+/// `back` behind it, the same in both texts.
+///
+/// The syllables that meet the edit aren't enough, since a grammar reads on through joiners: of Khmer
+/// `1780 200C` are two syllables, and with `17B7` behind them one.
+pub fn affected(old: &[Span], new: &[Span], front: usize, back: usize) -> Unaffected
+    ensures front { result.front ≡ glyphs_in (shared front old.now new.now) }
+    ensures back { result.back ≡ glyphs_in (shared back (reverse old.now) (reverse new.now)) }
+{
+    Unaffected {
+        front: shared_len(old, new, front, false),
+        back: shared_len(old, new, back, true),
+    }
+}
+
+// How many glyphs the spans cover that the lists share, at their starts or at their ends, as long as
+// that is at most `room`.
+fn shared_len(old: &[Span], new: &[Span], room: usize, from_end: bool) -> usize
+    ensures { result ≡ glyphs_in (shared room (from_either_end from_end old.now) (from_either_end from_end new.now)) }
+{
+    let mut left = room;
+    for k in 0..old.len().min(new.len()) {
+        let span = span_at(old, k, from_end);
+        let other = span_at(new, k, from_end);
+        if span.len != other.len || span.kind != other.kind || span.len > left {
+            return room - left;
+        }
+        left -= span.len;
+    }
+    room - left
+}
+
+// The span at a place, counted from the start or from the end.
+fn span_at(spans: &[Span], k: usize, from_end: bool) -> Span
+    requires { k < length spans.now }
+    ensures { slice_get (from_either_end from_end spans.now) k ≡ Some result }
+{
+    if from_end {
+        spans[spans.len() - 1 - k]
+    } else {
+        spans[k]
+    }
+}
+
+/// The spans that two lists share in front, or behind, are the most that cover no more glyphs than
+/// the texts share there; and those in front and those behind are apart.
+pub fn affected_law()
+    ensures most { SharedIsMost }
+    ensures apart { SharedAreApart }
+{}
+
+/// Spans of a text that is edited. In front of the edit those stay with each of which the grammar is
+/// done before it; behind the edit all stay from the first border on that both texts have.
+pub fn span_edits_law()
+    ensures front { SpansInFrontStay }
+    ensures back { SpansBehindStay }
+    ensures one { OneCut }
+{}
+
+/// Texts of syllables that differ in their middle part alone, each set up by its spans and reordered
+/// directly behind that: outside that part they come out the same, in the order view, and where parts
+/// share no cluster in the clusters.
+pub fn syllable_edits_law()
+    ensures any { EditsStayOutside }
+    ensures khmer { PausesStayOutside SetupSyllablesKhmer ReorderKhmer by_khmer }
+    ensures myanmar { PausesStayOutside SetupSyllablesMyanmar ReorderMyanmar (λ plan. by_myanmar) }
+    ensures universal { UniversalStaysOutside }
+    ensures initial { PausesStayOutside SetupSyllablesIndic InitialReordering by_initial }
+    ensures both { IndicStaysOutside }
+{
+    cuts_at_borders_law();
+}

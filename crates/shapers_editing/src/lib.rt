@@ -1,0 +1,11 @@
+//! What cursors, terminals and editors need of a shaped text: where a caret may stand, and what is
+//! shaped again where a stretch of the text is replaced.
+#![tactic(auto)]
+
+mod caret;
+mod edits;
+mod masks;
+
+pub use caret::{caret_law, caret_stops};
+pub use edits::{Unaffected, affected, affected_law, span_edits_law, syllable_edits_law};
+pub use masks::masks_again_law;
