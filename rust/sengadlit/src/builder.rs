@@ -360,6 +360,10 @@ mod tests {
     struct Khmer;
 
     impl FontFeatures for Khmer {
+        fn has_table(&self, _: TableIndex) -> bool {
+            true
+        }
+
         fn chosen_script(&self, _: TableIndex) -> Option<Tag> {
             Some(Tag(*b"khmr"))
         }

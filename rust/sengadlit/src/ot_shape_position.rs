@@ -29,6 +29,6 @@
 //! ```
 
 pub use crate::generated::shapers_position::ot_shape_position::{
-    DefaultIgnorables, GlyphClasses, hide_default_ignorables, propagate_flags, set_advances,
-    zero_mark_widths, zero_width_default_ignorables,
+    DefaultIgnorables, GlyphClasses, SpaceFont, hide_default_ignorables, propagate_flags,
+    set_advances, set_space_widths, zero_mark_widths, zero_width_default_ignorables,
 };

@@ -19,7 +19,7 @@ use crate::generated::shapers_buffer::buffer::{Direction, GlyphInfo, ShaperError
 ///
 /// # Errors
 ///
-/// `Memory`; the list holds some of the stops then.
+/// [`Memory`]; the list holds some of the stops then.
 ///
 /// Source: HarfBuzz's manual, "Clusters".
 ///
@@ -35,6 +35,8 @@ use crate::generated::shapers_buffer::buffer::{Direction, GlyphInfo, ShaperError
 /// - `caret_stops`: `crates/shapers_editing/specs/Carets.antt`
 ///
 /// </details>
+///
+/// [`Memory`]: crate::ShaperError::Memory
 pub fn caret_stops(
     glyphs: &[GlyphInfo],
     direction: Direction,

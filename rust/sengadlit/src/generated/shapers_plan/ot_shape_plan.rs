@@ -21,7 +21,7 @@ mod user;
 pub use user::{UserFeature, UserRange};
 
 /// The masks of features that the driver itself turns on; 0 where the font lacks one.
-#[derive(Clone, Copy, Debug, PartialEq, Eq)]
+#[derive(Clone, Copy, Debug, PartialEq, Eq, Hash)]
 pub struct DriverMasks {
     /// Fractions.
     pub frac: u32,
@@ -36,17 +36,17 @@ pub struct DriverMasks {
 }
 
 /// What is decided for the texts of one script, direction and font before one is seen.
-#[derive(Debug)]
+#[derive(Debug, PartialEq, Eq)]
 pub struct ShapePlan {
-    shaper: Option<Shaper>,
-    plan: Plan,
-    direction: Direction,
-    substitutions: Vec<Stage>,
-    lookups: Vec<StageLookup>,
-    applies_gpos: bool,
-    positioning: Vec<StageLookup>,
-    masks: DriverMasks,
-    ranges: Vec<UserRange>,
+    pub(crate) shaper: Option<Shaper>,
+    pub(crate) plan: Plan,
+    pub(crate) direction: Direction,
+    pub(crate) substitutions: Vec<Stage>,
+    pub(crate) lookups: Vec<StageLookup>,
+    pub(crate) applies_gpos: bool,
+    pub(crate) positioning: Vec<StageLookup>,
+    pub(crate) masks: DriverMasks,
+    pub(crate) ranges: Vec<UserRange>,
 }
 
 impl ShapePlan {
@@ -55,7 +55,7 @@ impl ShapePlan {
     ///
     /// # Errors
     ///
-    /// `Memory`.
+    /// [`Memory`].
     ///
     /// <details><summary>Contract</summary>
     ///
@@ -72,6 +72,8 @@ impl ShapePlan {
     /// - `text_plan`: `crates/shapers_plan/specs/Planning.antt`
     ///
     /// </details>
+    ///
+    /// [`Memory`]: crate::ShaperError::Memory
     pub fn new<F: Font, L: FontFeatures>(
         alloc: Global,
         script: Option<Script>,

@@ -17,7 +17,7 @@ use crate::support::alloc::Global;
 ///
 /// # Errors
 ///
-/// `Memory`; nothing has changed then.
+/// [`Memory`]; nothing has changed then.
 ///
 /// <details><summary>Contract</summary>
 ///
@@ -34,6 +34,8 @@ use crate::support::alloc::Global;
 /// - `advanced`: `crates/shapers_position/specs/Widths.antt`
 ///
 /// </details>
+///
+/// [`Memory`]: crate::ShaperError::Memory
 pub fn set_advances<F: Font>(font: &F, buffer: &mut Buffer) -> Result<(), ShaperError> {
     let positions = advances(font, buffer.glyphs(), buffer.alloc())?;
     buffer.set_positions(positions);

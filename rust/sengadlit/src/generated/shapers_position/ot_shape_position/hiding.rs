@@ -36,12 +36,10 @@ pub fn hide_default_ignorables<F: Font>(
     buffer: &mut Buffer,
 ) {
     match ignorables {
-        DefaultIgnorables::Hide => {
-            match invisible_glyph.or_else(|| font.get_nominal_glyph(SPACE)) {
-                Some(glyph) => draw_by(glyph, buffer),
-                None => remove_ignorables(buffer),
-            }
-        }
+        DefaultIgnorables::Hide => match invisible_glyph.or_else(|| font.nominal_glyph(SPACE)) {
+            Some(glyph) => draw_by(glyph, buffer),
+            None => remove_ignorables(buffer),
+        },
         DefaultIgnorables::Preserve => {}
         DefaultIgnorables::Remove => remove_ignorables(buffer),
     }

@@ -5,7 +5,7 @@
 use crate::generated::shapers_base::buffer::GlyphInfo;
 
 /// What becomes of glyphs whose character need not be drawn.
-#[derive(Clone, Copy, Debug, PartialEq, Eq)]
+#[derive(Clone, Copy, Debug, PartialEq, Eq, Hash)]
 pub enum DefaultIgnorables {
     /// They have no width and are drawn by an invisible glyph; in a font without one they go.
     Hide,
@@ -17,6 +17,7 @@ pub enum DefaultIgnorables {
 
 // HarfBuzz's bits.
 const HARFBUZZ_PRESERVE: u32 = 4;
+
 const HARFBUZZ_REMOVE: u32 = 8;
 
 impl DefaultIgnorables {

@@ -35,7 +35,7 @@ pub trait GlyphClasses {
 /// ```text
 /// ensures { let is_mark = C.marks classes.now in
 ///     let zeroed =
-///         marks_zeroed is_mark adjust_offsets buffer.old.glyphs buffer.old.positions in
+///     marks_zeroed is_mark adjust_offsets buffer.old.glyphs buffer.old.positions in
 ///     buffer.new ≡ record buffer.old { positions = zeroed } }
 /// ```
 ///
@@ -94,7 +94,7 @@ fn zero_advance(position: &mut GlyphPosition) {
 ///
 /// ```text
 /// ensures { let zeroed = ignorables_zeroed
-///         ignorables buffer.old.direction buffer.old.glyphs buffer.old.positions in
+///     ignorables buffer.old.direction buffer.old.glyphs buffer.old.positions in
 ///     buffer.new ≡ record buffer.old { positions = zeroed } }
 /// ```
 ///
