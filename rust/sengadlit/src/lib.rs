@@ -147,6 +147,7 @@ extern crate std;
 
 mod builder;
 mod copies;
+mod features;
 mod fonts;
 mod numbers;
 mod references;
