@@ -1,4 +1,5 @@
-//! Categories and positions by name, for each shaper that reads them: what [`Tables`](crate::Tables)
+//! Categories and positions by name, for each shaper that reads them, and as types that know their
+//! names ([`IndicCategory`] and the others): what [`Tables`](crate::Tables)
 //! return, and what `category` and, for Indic, `auxiliary` of a glyph hold behind
 //! [`setup_masks`](crate::Shaper::setup_masks).
 //!
@@ -6,6 +7,10 @@
 //! `ot_category_t`, `ot_position_t`, and the universal shaper's machine. HarfBuzz 6.0.0 has fewer of
 //! them (no `SMPst`, no `RK`), numbered alike. The kinds of syllables are in
 //! [`ot_shaper_syllabic`](crate::ot_shaper_syllabic).
+
+mod named;
+
+pub use named::{IndicCategory, IndicPosition, KhmerCategory, MyanmarCategory, UniversalCategory};
 
 /// Of the Indic shaper.
 pub mod indic {

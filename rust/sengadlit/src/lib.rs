@@ -150,6 +150,7 @@ extern crate std;
 
 mod builder;
 mod copies;
+mod features;
 mod fonts;
 mod numbers;
 mod references;

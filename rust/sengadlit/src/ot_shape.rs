@@ -113,8 +113,11 @@
 //! # Ok::<(), Box<dyn std::error::Error>>(())
 //! ```
 
+/// What [`run_stages`] reads of a plan: what the hooks of its shaper read, and the stages with their
+/// lookups.
+pub use crate::generated::shapers_pipeline::StagePlan;
 pub use crate::generated::shapers_pipeline::{
-    Lookups, StagePlan, TextPlan, prepare_text, run_stages, substitute_text,
+    Lookups, TextPlan, prepare_text, run_stages, substitute_text,
 };
 
 #[cfg(test)]

@@ -35,6 +35,7 @@ fn name_of(error: ShaperError) -> &'static str {
         ShaperError::UnknownSyllable(_) => "UnknownSyllable",
         ShaperError::SpansDontCover => "SpansDontCover",
         ShaperError::StretchOverflow => "StretchOverflow",
+        _ => "a refusal without a name",
     }
 }
 
