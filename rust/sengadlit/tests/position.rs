@@ -4,13 +4,15 @@ mod common;
 
 use common::numbers::Numbers;
 use sengadlit::buffer::{
-    Buffer, BufferClusterLevel, BufferFlags, Direction, GlyphInfo, GlyphMarks, GlyphPosition, Tag,
+    Buffer, BufferClusterLevel, BufferFlags, Direction, GeneralCategory, GlyphInfo, GlyphMarks,
+    GlyphPosition, Tag,
 };
 use sengadlit::font::{Font, GlyphId, NominalOnly};
 use sengadlit::ot_shape_position::{
-    DefaultIgnorables, GlyphClasses, hide_default_ignorables, propagate_flags, set_advances,
-    zero_mark_widths, zero_width_default_ignorables,
+    DefaultIgnorables, GlyphClasses, SpaceFont, hide_default_ignorables, propagate_flags,
+    set_advances, set_space_widths, zero_mark_widths, zero_width_default_ignorables,
 };
+use std::panic;
 
 /// A font whose glyphs are as wide as their numbers, without a space.
 struct Wide;
@@ -49,7 +51,9 @@ fn glyph(kind: u32, cluster: u32, mask: u32) -> GlyphInfo {
 
 fn text(glyphs: &[(u32, u32, u32)]) -> Buffer {
     let glyphs = glyphs.iter();
-    glyphs.map(|&(kind, cluster, mask)| glyph(kind, cluster, mask)).collect()
+    glyphs
+        .map(|&(kind, cluster, mask)| glyph(kind, cluster, mask))
+        .collect()
 }
 
 fn random_text(numbers: &mut Numbers) -> Buffer {
@@ -92,7 +96,10 @@ fn removed_in_steps(buffer: &Buffer) -> Vec<(u32, u32)> {
         }
         match kept.last().copied() {
             Some(last) if gone.cluster < last.cluster => {
-                let run = kept.iter_mut().rev().take_while(|glyph| glyph.cluster == last.cluster);
+                let run = kept
+                    .iter_mut()
+                    .rev()
+                    .take_while(|glyph| glyph.cluster == last.cluster);
                 for glyph in run {
                     glyph.cluster = gone.cluster;
                     glyph.mask = glyph.mask & !7 | gone.mask & 7;
@@ -103,7 +110,9 @@ fn removed_in_steps(buffer: &Buffer) -> Vec<(u32, u32)> {
             None => {}
         }
     }
-    kept.iter().map(|glyph| (glyph.cluster, glyph.mask)).collect()
+    kept.iter()
+        .map(|glyph| (glyph.cluster, glyph.mask))
+        .collect()
 }
 
 #[test]
@@ -123,11 +132,16 @@ fn hidden_or_removed() {
     let glyphs = [(0, 0, 0), (1, 1, 0), (2, 1, 0)];
     let space = NominalOnly(|c| (c == 0x20).then_some(GlyphId(3)));
     let none = NominalOnly(|_| None);
-    let ids = |ignorables, invisible, font: &dyn Fn(&mut Buffer, DefaultIgnorables, Option<GlyphId>)| {
-        let mut buffer = text(&glyphs);
-        font(&mut buffer, ignorables, invisible);
-        buffer.glyphs().iter().map(|glyph| glyph.glyph_id).collect::<Vec<u32>>()
-    };
+    let ids =
+        |ignorables, invisible, font: &dyn Fn(&mut Buffer, DefaultIgnorables, Option<GlyphId>)| {
+            let mut buffer = text(&glyphs);
+            font(&mut buffer, ignorables, invisible);
+            buffer
+                .glyphs()
+                .iter()
+                .map(|glyph| glyph.glyph_id)
+                .collect::<Vec<u32>>()
+        };
     let by_space = |buffer: &mut Buffer, ignorables, invisible| {
         hide_default_ignorables(ignorables, invisible, &space, buffer);
     };
@@ -135,10 +149,19 @@ fn hidden_or_removed() {
         hide_default_ignorables(ignorables, invisible, &none, buffer);
     };
     assert_eq!(ids(DefaultIgnorables::Hide, None, &by_space), [40, 3, 42]);
-    assert_eq!(ids(DefaultIgnorables::Hide, Some(GlyphId(5)), &by_space), [40, 5, 42]);
+    assert_eq!(
+        ids(DefaultIgnorables::Hide, Some(GlyphId(5)), &by_space),
+        [40, 5, 42]
+    );
     assert_eq!(ids(DefaultIgnorables::Hide, None, &by_none), [40, 42]);
-    assert_eq!(ids(DefaultIgnorables::Remove, Some(GlyphId(5)), &by_space), [40, 42]);
-    assert_eq!(ids(DefaultIgnorables::Preserve, None, &by_none), [40, 41, 42]);
+    assert_eq!(
+        ids(DefaultIgnorables::Remove, Some(GlyphId(5)), &by_space),
+        [40, 42]
+    );
+    assert_eq!(
+        ids(DefaultIgnorables::Preserve, None, &by_none),
+        [40, 41, 42]
+    );
 }
 
 #[test]
@@ -177,7 +200,10 @@ fn widths() {
     buffer.set_position(0, at(10, 20, 1, 2));
     buffer.set_position(1, at(10, 20, i32::MIN + 5, 2));
     zero_mark_widths(&Marks, true, &mut buffer);
-    assert_eq!(buffer.positions(), [at(10, 20, 1, 2), at(0, 0, i32::MIN, -18)]);
+    assert_eq!(
+        buffer.positions(),
+        [at(10, 20, 1, 2), at(0, 0, i32::MIN, -18)]
+    );
 
     buffer.set_position(1, at(10, 20, 1, 2));
     for ignorables in [DefaultIgnorables::Preserve, DefaultIgnorables::Remove] {
@@ -193,13 +219,102 @@ fn widths() {
     assert_eq!(buffer.position(1), at(0, 0, 1, 0));
 }
 
+impl SpaceFont for Wide {
+    fn units_per_em(&self) -> u16 {
+        1000
+    }
+}
+
+#[test]
+fn widths_of_spaces() {
+    let space = |kind, marks| GlyphInfo {
+        glyph_id: 251,
+        general_category: GeneralCategory::Zs,
+        modified_combining_class: kind,
+        marks,
+        ..GlyphInfo::DEFAULT
+    };
+    let kinds = [0, 1, 3, 16, 17, 18, 19, 20, 21].map(|kind| space(kind, GlyphMarks::NONE));
+    let ligature = space(1, GlyphMarks::LIGATED);
+    let mut buffer: Buffer = kinds.into_iter().chain([ligature]).collect();
+    set_advances(&Wide, &mut buffer).unwrap();
+    set_space_widths(&Wide, &mut buffer);
+    let advances: Vec<i32> = buffer.positions().iter().map(|p| p.x_advance).collect();
+    // (the font has neither digits nor stops)
+    assert_eq!(advances, [251, 1000, 333, 63, 222, 251, 251, 251, 125, 251]);
+}
+
+/// Classes, and a font, that panic.
+struct Panicking;
+
+impl GlyphClasses for Panicking {
+    fn is_mark(&self, _: &GlyphInfo) -> bool {
+        panic::resume_unwind(Box::new("the caller's code"))
+    }
+}
+
+impl Font for Panicking {
+    fn get_nominal_glyph(&self, _: u32) -> Option<GlyphId> {
+        panic::resume_unwind(Box::new("the caller's code"))
+    }
+
+    fn glyph_h_advance(&self, _: GlyphId) -> i32 {
+        panic::resume_unwind(Box::new("the caller's code"))
+    }
+
+    fn would_apply(&self, _: u16, _: &[GlyphId], _: bool) -> bool {
+        false
+    }
+
+    fn has_feature(&self, _: Tag) -> bool {
+        false
+    }
+}
+
+impl SpaceFont for Panicking {
+    fn units_per_em(&self) -> u16 {
+        panic::resume_unwind(Box::new("the caller's code"))
+    }
+}
+
+#[test]
+fn panics_leave_no_half() {
+    let placed = || {
+        let mut buffer = text(&[(1, 0, 0), (0, 1, 0)]);
+        buffer.with_glyphs_mut(|glyphs| {
+            glyphs[0].general_category = GeneralCategory::Zs;
+            glyphs[0].modified_combining_class = 1;
+        });
+        set_advances(&Wide, &mut buffer).unwrap();
+        buffer
+    };
+    let calls: [fn(&mut Buffer); 4] = [
+        |buffer| set_advances(&Panicking, buffer).unwrap(),
+        |buffer| set_space_widths(&Panicking, buffer),
+        |buffer| zero_mark_widths(&Panicking, false, buffer),
+        |buffer| hide_default_ignorables(DefaultIgnorables::Hide, None, &Panicking, buffer),
+    ];
+    for call in calls {
+        let mut buffer = placed();
+        let caught = panic::catch_unwind(panic::AssertUnwindSafe(|| call(&mut buffer)));
+        assert!(caught.is_err());
+        let old = placed();
+        let is_old = buffer.glyphs() == old.glyphs() && buffer.positions() == old.positions();
+        assert!(buffer.is_empty() || is_old);
+    }
+}
+
 #[test]
 fn flags_of_clusters() {
     let masks = |flags, glyphs: &[(u32, u32, u32)]| {
         let mut buffer = text(glyphs);
         buffer.set_flags(flags);
         propagate_flags(&mut buffer);
-        buffer.glyphs().iter().map(|glyph| glyph.mask).collect::<Vec<u32>>()
+        buffer
+            .glyphs()
+            .iter()
+            .map(|glyph| glyph.mask)
+            .collect::<Vec<u32>>()
     };
     let concat = BufferFlags::PRODUCE_UNSAFE_TO_CONCAT;
     let tatweel = BufferFlags::PRODUCE_SAFE_TO_INSERT_TATWEEL;

@@ -8,10 +8,12 @@ mod flags;
 mod hiding;
 mod ignorables;
 mod positions;
+mod spaces;
 mod widths;
 
 pub use advances::set_advances;
 pub use flags::propagate_flags;
 pub use hiding::hide_default_ignorables;
 pub use ignorables::DefaultIgnorables;
+pub use spaces::{SpaceFont, set_space_widths};
 pub use widths::{GlyphClasses, zero_mark_widths, zero_width_default_ignorables};

@@ -5,12 +5,11 @@
 use crate::generated::shapers_base::buffer::{
     Buffer, BufferFlags, GlyphInfo, GlyphWalk, glyph_flag,
 };
-
 use glyph_flag::{SAFE_TO_INSERT_TATWEEL, UNSAFE_TO_BREAK, UNSAFE_TO_CONCAT};
 
 /// Gives all glyphs of a cluster the flags that one of them has, so that a line breaker may read
-/// any. `UNSAFE_TO_CONCAT` is kept where the buffer wants it. Where it wants tatweels, a cluster that
-/// is unsafe to break takes none before it, and one that takes one is unsafe to break and to
+/// any. `UNSAFE_TO_CONCAT` is kept where the buffer wants it. Where it wants tatweels, a cluster
+/// that is unsafe to break takes none before it, and one that takes one is unsafe to break and to
 /// concatenate: the line would lose the tatweel. (HarfBuzz's `hb_propagate_flags`.)
 ///
 /// <details><summary>Contract</summary>

@@ -17,6 +17,7 @@ pub enum DefaultIgnorables {
 
 // HarfBuzz's bits.
 const HARFBUZZ_PRESERVE: u32 = 4;
+
 const HARFBUZZ_REMOVE: u32 = 8;
 
 impl DefaultIgnorables {

@@ -23,8 +23,8 @@ pub trait GlyphClasses {
     fn is_mark(&self, glyph: &GlyphInfo) -> bool;
 }
 
-/// Takes marks their advance, so that they don't move the pen. With `adjust_offsets` they move back by
-/// it first, and hang over the glyph before them: for a text that runs forward in a font without
+/// Takes marks their advance, so that they don't move the pen. With `adjust_offsets` they move back
+/// by it first, and hang over the glyph before them: for a text that runs forward in a font without
 /// GPOS. Offsets that pass 32 bits stop at their bound. A buffer without positions keeps none.
 /// (HarfBuzz's `zero_mark_widths_by_gdef`.)
 ///
@@ -35,7 +35,7 @@ pub trait GlyphClasses {
 /// ```text
 /// ensures { let is_mark = C.marks classes.now in
 ///     let zeroed =
-///         marks_zeroed is_mark adjust_offsets buffer.old.glyphs buffer.old.positions in
+///     marks_zeroed is_mark adjust_offsets buffer.old.glyphs buffer.old.positions in
 ///     buffer.new ≡ record buffer.old { positions = zeroed } }
 /// ```
 ///
@@ -94,7 +94,7 @@ fn zero_advance(position: &mut GlyphPosition) {
 ///
 /// ```text
 /// ensures { let zeroed = ignorables_zeroed
-///         ignorables buffer.old.direction buffer.old.glyphs buffer.old.positions in
+///     ignorables buffer.old.direction buffer.old.glyphs buffer.old.positions in
 ///     buffer.new ≡ record buffer.old { positions = zeroed } }
 /// ```
 ///
