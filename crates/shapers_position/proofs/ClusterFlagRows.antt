@@ -54,7 +54,8 @@ none_together : flags_of [] ≡ 0
 none_together = refl
 
 -- groups: neighbours of one cluster; a cluster that comes again is another group
-groups : map clusters (cluster_groups (glyph 1 0 ∷ glyph 1 0 ∷ glyph 2 0 ∷ glyph 1 0 ∷ glyph 0 0 ∷ glyph 0 0 ∷ [])) ≡ (1 ∷ 1 ∷ []) ∷ (2 ∷ []) ∷ (1 ∷ []) ∷ (0 ∷ 0 ∷ []) ∷ []
+groups : map clusters (cluster_groups (glyph 1 0 ∷ glyph 1 0 ∷ glyph 2 0 ∷ glyph 1 0 ∷ glyph 0 0 ∷ glyph 0 0 ∷ []))
+    ≡ (1 ∷ 1 ∷ []) ∷ (2 ∷ []) ∷ (1 ∷ []) ∷ (0 ∷ 0 ∷ []) ∷ []
 groups = refl
 
 no_group : cluster_groups [] ≡ []
@@ -64,7 +65,8 @@ one_group : map clusters (cluster_groups (glyph 4294967295 0 ∷ [])) ≡ (42949
 one_group = refl
 
 -- a glyph of a cluster gets the flags of each other, and keeps its features
-shared : masks (flags_propagated (wanting 0x40) (glyph 0 0 ∷ glyph 3 0x10 ∷ glyph 3 0x21 ∷ glyph 3 0x80000002 ∷ glyph 7 0x18 ∷ [])) ≡ 0 ∷ 0x13 ∷ 0x23 ∷ 0x80000003 ∷ 0x18 ∷ []
+shared : masks (flags_propagated (wanting 0x40) (glyph 0 0 ∷ glyph 3 0x10 ∷ glyph 3 0x21 ∷ glyph 3 0x80000002 ∷
+    glyph 7 0x18 ∷ [])) ≡ 0 ∷ 0x13 ∷ 0x23 ∷ 0x80000003 ∷ 0x18 ∷ []
 shared = refl
 
 -- a lone glyph, too, loses what the buffer doesn't want, and a tatweel is settled there
@@ -91,7 +93,32 @@ nothing = refl
 
 -- all other fields stay
 abbrev full : hb_glyph_info_t
-full = record { glyph_id = 0x916; cluster = 5; mask = 0x8000001F; var = 0x7A; syllable = 0x24; category = 1; auxiliary = 3; general_category = Mn; modified_combining_class = 9; lig_comp = 2; marks = record { 0 = 31 } }
+full = record {
+  glyph_id = 0x916;
+  cluster = 5;
+  mask = 0x8000001F;
+  var = 0x7A;
+  syllable = 0x24;
+  category = 1;
+  auxiliary = 3;
+  general_category = Mn;
+  modified_combining_class = 9;
+  lig_comp = 2;
+  marks = record { 0 = 31 };
+}
 
-fields : with_flags 1 full ≡ record { glyph_id = 0x916; cluster = 5; mask = 0x80000019; var = 0x7A; syllable = 0x24; category = 1; auxiliary = 3; general_category = Mn; modified_combining_class = 9; lig_comp = 2; marks = record { 0 = 31 } }
+fields : with_flags 1 full ≡ record {
+  glyph_id = 0x916;
+  cluster = 5;
+  mask = 0x80000019;
+  var = 0x7A;
+  syllable = 0x24;
+  category = 1;
+  auxiliary = 3;
+  general_category = Mn;
+  modified_combining_class = 9;
+  lig_comp = 2;
+  marks =
+      record { 0 = 31 };
+}
 fields = refl

@@ -32,33 +32,45 @@ abbrev kept_by : Bool → Bool → ℕ → ℕ
 kept_by tatweel concat f = let settled = cond tatweel (joins_settled f) f in cond concat settled (bit_and settled 5)
 
 small_by : (t c : Bool) (f : ℕ) → f < 8 → kept_by t c f < 8
-small_by true true f small = eight (λ f. kept_by true true f < 8) (omega arith) (omega arith) (omega arith) (omega arith) (omega arith) (omega arith) (omega arith) (omega arith) f small
-small_by true false f small = eight (λ f. kept_by true false f < 8) (omega arith) (omega arith) (omega arith) (omega arith) (omega arith) (omega arith) (omega arith) (omega arith) f small
-small_by false true f small = eight (λ f. kept_by false true f < 8) (omega arith) (omega arith) (omega arith) (omega arith) (omega arith) (omega arith) (omega arith) (omega arith) f small
-small_by false false f small = eight (λ f. kept_by false false f < 8) (omega arith) (omega arith) (omega arith) (omega arith) (omega arith) (omega arith) (omega arith) (omega arith) f small
+small_by true true f small = eight (λ f. kept_by true true f < 8) (omega arith) (omega arith) (omega arith)
+    (omega arith) (omega arith) (omega arith) (omega arith) (omega arith) f small
+small_by true false f small = eight (λ f. kept_by true false f < 8) (omega arith) (omega arith) (omega arith)
+    (omega arith) (omega arith) (omega arith) (omega arith) (omega arith) f small
+small_by false true f small = eight (λ f. kept_by false true f < 8) (omega arith) (omega arith) (omega arith)
+    (omega arith) (omega arith) (omega arith) (omega arith) (omega arith) f small
+small_by false false f small = eight (λ f. kept_by false false f < 8) (omega arith) (omega arith) (omega arith)
+    (omega arith) (omega arith) (omega arith) (omega arith) (omega arith) f small
 
 again_by : (c : Bool) (f : ℕ) → f < 8 → kept_by false c (kept_by false c f) ≡ kept_by false c f
 again_by true f small = refl
-again_by false f small = eight (λ f. kept_by false false (kept_by false false f) ≡ kept_by false false f) refl refl refl refl refl refl refl refl f small
+again_by false f small = eight (λ f. kept_by false false (kept_by false false f)
+    ≡ kept_by false false f) refl refl refl refl refl refl refl refl f small
 
 -- whether flags say that it is unsafe to break
 abbrev pub unsafe_flags : ℕ → Bool
 unsafe_flags f = bit_at 0 f == 1 || bit_at 2 f == 1
 
 unsafe_by : (t c : Bool) (f : ℕ) → f < 8 → unsafe_flags (kept_by t c f) ≡ unsafe_flags f
-unsafe_by true true f small = eight (λ f. unsafe_flags (kept_by true true f) ≡ unsafe_flags f) refl refl refl refl refl refl refl refl f small
-unsafe_by true false f small = eight (λ f. unsafe_flags (kept_by true false f) ≡ unsafe_flags f) refl refl refl refl refl refl refl refl f small
-unsafe_by false true f small = eight (λ f. unsafe_flags (kept_by false true f) ≡ unsafe_flags f) refl refl refl refl refl refl refl refl f small
-unsafe_by false false f small = eight (λ f. unsafe_flags (kept_by false false f) ≡ unsafe_flags f) refl refl refl refl refl refl refl refl f small
+unsafe_by true true f small = eight (λ f. unsafe_flags (kept_by true true f)
+    ≡ unsafe_flags f) refl refl refl refl refl refl refl refl f small
+unsafe_by true false f small = eight (λ f. unsafe_flags (kept_by true false f)
+    ≡ unsafe_flags f) refl refl refl refl refl refl refl refl f small
+unsafe_by false true f small = eight (λ f. unsafe_flags (kept_by false true f)
+    ≡ unsafe_flags f) refl refl refl refl refl refl refl refl f small
+unsafe_by false false f small = eight (λ f. unsafe_flags (kept_by false false f)
+    ≡ unsafe_flags f) refl refl refl refl refl refl refl refl f small
 
 one_by : (c : Bool) (f : ℕ) → f < 8 → unsafe_flags (kept_by true c f) ≡ (bit_at 0 (kept_by true c f) == 1)
-one_by true f small = eight (λ f. unsafe_flags (kept_by true true f) ≡ (bit_at 0 (kept_by true true f) == 1)) refl refl refl refl refl refl refl refl f small
-one_by false f small = eight (λ f. unsafe_flags (kept_by true false f) ≡ (bit_at 0 (kept_by true false f) == 1)) refl refl refl refl refl refl refl refl f small
+one_by true f small = eight (λ f. unsafe_flags (kept_by true true f)
+    ≡ (bit_at 0 (kept_by true true f) == 1)) refl refl refl refl refl refl refl refl f small
+one_by false f small = eight (λ f. unsafe_flags (kept_by true false f)
+    ≡ (bit_at 0 (kept_by true false f) == 1)) refl refl refl refl refl refl refl refl f small
 
 pub kept_small : (wanted : BufferFlags) (f : ℕ) → f < 8 → flags_kept wanted f < 8
 kept_small wanted f small = small_by (has_flag flags_tatweel wanted) (has_flag flags_concat wanted) f small
 
-pub kept_again : (wanted : BufferFlags) → has_flag flags_tatweel wanted ≡ false → (f : ℕ) → f < 8 → flags_kept wanted (flags_kept wanted f) ≡ flags_kept wanted f
+pub kept_again : (wanted : BufferFlags) → has_flag flags_tatweel wanted ≡ false → (f : ℕ) → f < 8 →
+    flags_kept wanted (flags_kept wanted f) ≡ flags_kept wanted f
 kept_again wanted unasked f small =
     let c = has_flag flags_concat wanted in
     ap (λ t. kept_by t c (kept_by t c f)) unasked ∙ again_by c f small ∙ sym (ap (λ t. kept_by t c f) unasked)
@@ -66,24 +78,34 @@ kept_again wanted unasked f small =
 pub kept_unsafe : (wanted : BufferFlags) (f : ℕ) → f < 8 → unsafe_flags (flags_kept wanted f) ≡ unsafe_flags f
 kept_unsafe wanted f small = unsafe_by (has_flag flags_tatweel wanted) (has_flag flags_concat wanted) f small
 
-pub kept_one : (wanted : BufferFlags) → has_flag flags_tatweel wanted ≡ true → (f : ℕ) → f < 8 → unsafe_flags (flags_kept wanted f) ≡ (bit_at 0 (flags_kept wanted f) == 1)
+pub kept_one : (wanted : BufferFlags) → has_flag flags_tatweel wanted ≡ true → (f : ℕ) → f < 8 →
+    unsafe_flags (flags_kept wanted f) ≡ (bit_at 0 (flags_kept wanted f) == 1)
 kept_one wanted asked f small =
     let c = has_flag flags_concat wanted in
-    ap (λ t. unsafe_flags (kept_by t c f)) asked ∙ one_by c f small ∙ sym (ap (λ t. bit_at 0 (kept_by t c f) == 1) asked)
+    ap (λ t. unsafe_flags (kept_by t c f)) asked ∙ one_by c f small
+    ∙ sym (ap (λ t. bit_at 0 (kept_by t c f) == 1) asked)
 
 -- two sets together are unsafe if one of them is
 or_by : (a : ℕ) → a < 8 → (b : ℕ) → b < 8 → unsafe_flags (bit_or a b) ≡ (unsafe_flags a || unsafe_flags b)
 or_by a small =
     let P : ℕ → Type 0 = λ a. (b : ℕ) → b < 8 → unsafe_flags (bit_or a b) ≡ (unsafe_flags a || unsafe_flags b) in
     eight P
-    (λ b l. eight (λ b. unsafe_flags (bit_or 0 b) ≡ (unsafe_flags 0 || unsafe_flags b)) refl refl refl refl refl refl refl refl b l)
-    (λ b l. eight (λ b. unsafe_flags (bit_or 1 b) ≡ (unsafe_flags 1 || unsafe_flags b)) refl refl refl refl refl refl refl refl b l)
-    (λ b l. eight (λ b. unsafe_flags (bit_or 2 b) ≡ (unsafe_flags 2 || unsafe_flags b)) refl refl refl refl refl refl refl refl b l)
-    (λ b l. eight (λ b. unsafe_flags (bit_or 3 b) ≡ (unsafe_flags 3 || unsafe_flags b)) refl refl refl refl refl refl refl refl b l)
-    (λ b l. eight (λ b. unsafe_flags (bit_or 4 b) ≡ (unsafe_flags 4 || unsafe_flags b)) refl refl refl refl refl refl refl refl b l)
-    (λ b l. eight (λ b. unsafe_flags (bit_or 5 b) ≡ (unsafe_flags 5 || unsafe_flags b)) refl refl refl refl refl refl refl refl b l)
-    (λ b l. eight (λ b. unsafe_flags (bit_or 6 b) ≡ (unsafe_flags 6 || unsafe_flags b)) refl refl refl refl refl refl refl refl b l)
-    (λ b l. eight (λ b. unsafe_flags (bit_or 7 b) ≡ (unsafe_flags 7 || unsafe_flags b)) refl refl refl refl refl refl refl refl b l)
+    (λ b l. eight (λ b. unsafe_flags (bit_or 0 b)
+    ≡ (unsafe_flags 0 || unsafe_flags b)) refl refl refl refl refl refl refl refl b l)
+    (λ b l. eight (λ b. unsafe_flags (bit_or 1 b)
+    ≡ (unsafe_flags 1 || unsafe_flags b)) refl refl refl refl refl refl refl refl b l)
+    (λ b l. eight (λ b. unsafe_flags (bit_or 2 b)
+    ≡ (unsafe_flags 2 || unsafe_flags b)) refl refl refl refl refl refl refl refl b l)
+    (λ b l. eight (λ b. unsafe_flags (bit_or 3 b)
+    ≡ (unsafe_flags 3 || unsafe_flags b)) refl refl refl refl refl refl refl refl b l)
+    (λ b l. eight (λ b. unsafe_flags (bit_or 4 b)
+    ≡ (unsafe_flags 4 || unsafe_flags b)) refl refl refl refl refl refl refl refl b l)
+    (λ b l. eight (λ b. unsafe_flags (bit_or 5 b)
+    ≡ (unsafe_flags 5 || unsafe_flags b)) refl refl refl refl refl refl refl refl b l)
+    (λ b l. eight (λ b. unsafe_flags (bit_or 6 b)
+    ≡ (unsafe_flags 6 || unsafe_flags b)) refl refl refl refl refl refl refl refl b l)
+    (λ b l. eight (λ b. unsafe_flags (bit_or 7 b)
+    ≡ (unsafe_flags 7 || unsafe_flags b)) refl refl refl refl refl refl refl refl b l)
     a small
 
 low : (m : ℕ) → m % 8 < 8
@@ -99,14 +121,18 @@ unsafe_low m =
     ap (λ n. n == 1 || bit_at 2 (m % 8) == 1) (one_low m) ∙ ap (λ n. bit_at 0 m == 1 || n == 1) four
 
 -- the flags of several glyphs
-gathered : (a : ℕ) (gs : List hb_glyph_info_t) → a < 8 → (fold (λ f (g : hb_glyph_info_t). bit_or f (g.mask % 8)) a gs < 8) × (unsafe_flags (fold (λ f (g : hb_glyph_info_t). bit_or f (g.mask % 8)) a gs) ≡ (unsafe_flags a || list_any is_unsafe gs))
+gathered : (a : ℕ) (gs : List hb_glyph_info_t) → a < 8 →
+    (fold (λ f (g : hb_glyph_info_t). bit_or f (g.mask % 8)) a gs < 8) ×
+    (unsafe_flags (fold (λ f (g : hb_glyph_info_t). bit_or f (g.mask % 8)) a gs)
+    ≡ (unsafe_flags a || list_any is_unsafe gs))
 gathered a [] small = (small, sym (or-false (unsafe_flags a)))
 gathered a (g ∷ gs) small =
     let b = bit_or a (g.mask % 8) in
     let rest = gathered b gs (or_lt 3 a (g.mask % 8) small (low g.mask)) in (
       rest.0,
       rest.1
-          ∙ ap (λ x. x || list_any is_unsafe gs) (or_by a small (g.mask % 8) (low g.mask) ∙ ap (λ x. unsafe_flags a || x) (unsafe_low g.mask))
+          ∙ ap (λ x. x || list_any is_unsafe gs) (or_by a small (g.mask % 8) (low g.mask)
+          ∙ ap (λ x. unsafe_flags a || x) (unsafe_low g.mask))
           ∙ or_assoc (unsafe_flags a) (is_unsafe g) (list_any is_unsafe gs),
     )
 

@@ -35,7 +35,8 @@ falls : removed MonotoneGraphemes (letter 3 0x1D ∷ joiner 2 0x2A ∷ letter 1 
 falls = refl
 
 -- with all directly before it that share its cluster, and no others
-run_falls : stay (letter 3 0 ∷ letter 4 0 ∷ letter 3 0 ∷ letter 3 0 ∷ joiner 2 0 ∷ letter 1 0 ∷ []) ≡ 3 ∷ 4 ∷ 2 ∷ 2 ∷ 1 ∷ []
+run_falls : stay (letter 3 0 ∷ letter 4 0 ∷ letter 3 0 ∷ letter 3 0 ∷ joiner 2 0 ∷ letter 1 0 ∷ []) ≡ 3 ∷ 4 ∷ 2 ∷ 2 ∷
+    1 ∷ []
 run_falls = refl
 
 -- not to a higher cluster, and not to its own
@@ -46,14 +47,17 @@ same : removed MonotoneGraphemes (letter 2 0x11 ∷ joiner 2 2 ∷ letter 3 4 �
 same = refl
 
 -- at the end of the text
-ends : map stay ((letter 3 0 ∷ joiner 2 0 ∷ []) ∷ (letter 1 0 ∷ joiner 2 0 ∷ []) ∷ (letter 2 0 ∷ joiner 2 0 ∷ []) ∷ []) ≡ (2 ∷ []) ∷ (1 ∷ []) ∷ (2 ∷ []) ∷ []
+ends : map stay ((letter 3 0 ∷ joiner 2 0 ∷ []) ∷ (letter 1 0 ∷ joiner 2 0 ∷ []) ∷ (letter 2 0 ∷ joiner 2 0 ∷ []) ∷
+    []) ≡ (2 ∷ []) ∷ (1 ∷ []) ∷ (2 ∷ []) ∷ []
 ends = refl
 
 -- several that go: the last of each cluster counts, one after another
-several : removed MonotoneGraphemes (letter 5 0 ∷ joiner 4 1 ∷ joiner 4 2 ∷ joiner 3 4 ∷ letter 2 0 ∷ []) ≡ letter 3 4 ∷ letter 2 0 ∷ []
+several : removed MonotoneGraphemes (letter 5 0 ∷ joiner 4 1 ∷ joiner 4 2 ∷ joiner 3 4 ∷ letter 2 0 ∷ [])
+    ≡ letter 3 4 ∷ letter 2 0 ∷ []
 several = refl
 
-some_survive : removed MonotoneGraphemes (letter 5 0 ∷ joiner 4 1 ∷ joiner 3 2 ∷ letter 3 0 ∷ []) ≡ letter 4 1 ∷ letter 3 0 ∷ []
+some_survive : removed MonotoneGraphemes (letter 5 0 ∷ joiner 4 1 ∷ joiner 3 2 ∷ letter 3 0 ∷ []) ≡ letter 4 1 ∷
+    letter 3 0 ∷ []
 some_survive = refl
 
 -- what falls into the cluster before it falls on with it
@@ -71,7 +75,8 @@ open_several : stay (joiner 2 0 ∷ joiner 0 0 ∷ joiner 1 0 ∷ letter 3 0 ∷
 open_several = refl
 
 -- at each level; where clusters don't merge only what stands behind another glyph leaves its cluster
-levels : map (λ level. clusters (removed level (joiner 0 0 ∷ letter 4 0 ∷ joiner 3 0 ∷ []))) (MonotoneGraphemes ∷ MonotoneCharacters ∷ Characters ∷ []) ≡ (0 ∷ []) ∷ (0 ∷ []) ∷ (3 ∷ []) ∷ []
+levels : map (λ level. clusters (removed level (joiner 0 0 ∷ letter 4 0 ∷ joiner 3 0 ∷ []))) (MonotoneGraphemes ∷
+    MonotoneCharacters ∷ Characters ∷ []) ≡ (0 ∷ []) ∷ (0 ∷ []) ∷ (3 ∷ []) ∷ []
 levels = refl
 
 -- all go, none goes, no text; one that a lookup put in stays
@@ -92,17 +97,54 @@ far = refl
 nothing_before : covering (joiner 0 0) [] ≡ []
 nothing_before = refl
 
-next : goes_on 1 (letter 1 0 ∷ []) ∷ goes_on 1 (letter 2 0 ∷ letter 1 0 ∷ []) ∷ goes_on 1 [] ∷ [] ≡ true ∷ false ∷ false ∷ []
+next : goes_on 1 (letter 1 0 ∷ []) ∷ goes_on 1 (letter 2 0 ∷ letter 1 0 ∷ []) ∷ goes_on 1 [] ∷ [] ≡ true ∷ false ∷
+    false ∷ []
 next = refl
 
 -- all other fields stay
 abbrev full : hb_glyph_info_t
-full = record { glyph_id = 0x916; cluster = 5; mask = 0x8000001F; var = 0x7A; syllable = 0x24; category = 1; auxiliary = 3; general_category = Mn; modified_combining_class = 9; lig_comp = 2; marks = record { 0 = 30 } }
+full = record {
+  glyph_id = 0x916;
+  cluster = 5;
+  mask = 0x8000001F;
+  var = 0x7A;
+  syllable = 0x24;
+  category = 1;
+  auxiliary = 3;
+  general_category = Mn;
+  modified_combining_class = 9;
+  lig_comp = 2;
+  marks = record { 0 = 30 };
+}
 
-in_place : in_place_of (letter 2 0x44) full ≡ record { glyph_id = 0x916; cluster = 2; mask = 0x8000001C; var = 0x7A; syllable = 0x24; category = 1; auxiliary = 3; general_category = Mn; modified_combining_class = 9; lig_comp = 2; marks = record { 0 = 30 } }
+in_place : in_place_of (letter 2 0x44) full ≡ record {
+  glyph_id = 0x916;
+  cluster = 2;
+  mask = 0x8000001C;
+  var = 0x7A;
+  syllable = 0x24;
+  category = 1;
+  auxiliary = 3;
+  general_category = Mn;
+  modified_combining_class = 9;
+  lig_comp = 2;
+  marks = record { 0 = 30 };
+}
 in_place = refl
 
-drawn : drawn_by (record { 0 = 3 }) full ≡ record { glyph_id = 3; cluster = 5; mask = 0x8000001F; var = 0x7A; syllable = 0x24; category = 1; auxiliary = 3; general_category = Mn; modified_combining_class = 9; lig_comp = 2; marks = record { 0 = 30 } }
+drawn : drawn_by (record { 0 = 3 }) full ≡ record {
+  glyph_id = 3;
+  cluster = 5;
+  mask = 0x8000001F;
+  var = 0x7A;
+  syllable = 0x24;
+  category = 1;
+  auxiliary = 3;
+  general_category = Mn;
+  modified_combining_class = 9;
+  lig_comp = 2;
+  marks = record { 0 = 30 };
+}
 drawn = refl
 
 not_drawn : map (drawn_by (record { 0 = 3 })) (letter 1 2 ∷ seen 1 2 ∷ []) ≡ letter 1 2 ∷ seen 1 2 ∷ []
@@ -131,8 +173,11 @@ gone = record buffer { glyphs = letter 0 0 ∷ seen 2 0 ∷ []; positions = move
 abbrev blank : ℕ → hb_glyph_info_t
 blank c = record (joiner c 0) { glyph_id = 3 }
 
-shown : ignorables_hidden Hide (Some (record { 0 = 3 })) buffer ≡ record buffer { glyphs = blank 0 ∷ letter 1 0 ∷ blank 1 ∷ seen 2 0 ∷ [] }
+shown : ignorables_hidden Hide (Some (record { 0 = 3 })) buffer
+    ≡ record buffer { glyphs = blank 0 ∷ letter 1 0 ∷ blank 1 ∷ seen 2 0 ∷ [] }
 shown = refl
 
-others : ignorables_hidden Hide None buffer ∷ ignorables_hidden Preserve (Some (record { 0 = 3 })) buffer ∷ ignorables_hidden Preserve None buffer ∷ ignorables_hidden Remove (Some (record { 0 = 3 })) buffer ∷ ignorables_hidden Remove None buffer ∷ [] ≡ gone ∷ buffer ∷ buffer ∷ gone ∷ gone ∷ []
+others : ignorables_hidden Hide None buffer ∷ ignorables_hidden Preserve (Some (record { 0 = 3 })) buffer ∷
+    ignorables_hidden Preserve None buffer ∷ ignorables_hidden Remove (Some (record { 0 = 3 })) buffer ∷
+    ignorables_hidden Remove None buffer ∷ [] ≡ gone ∷ buffer ∷ buffer ∷ gone ∷ gone ∷ []
 others = refl

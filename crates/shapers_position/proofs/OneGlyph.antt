@@ -36,19 +36,24 @@ behind_run c (g ∷ gs) =
     let one : 1 + k ≡ suc k = omega arith in
     let by : (b : Bool) → has_cluster c g ≡ b → BeginsElsewhere c (drop (cond b (1 + k) 0) (g ∷ gs)) = λ b.
     elim b as (λ b. has_cluster c g ≡ b → BeginsElsewhere c (drop (cond b (1 + k) 0) (g ∷ gs))) [
-      | true ↦ λ e. (let P : ℕ → Type 0 = λ n. BeginsElsewhere c (drop n (g ∷ gs)) in subst P (sym one) (behind_run c gs))
+      | true ↦ λ e. (let P : ℕ → Type 0 = λ n. BeginsElsewhere c (drop n (g ∷ gs)) in subst P (sym one)
+          (behind_run c gs))
       | false ↦ λ e. eqb-false g.cluster c e
     ] in
     by (has_cluster c g) refl
 
-elsewhere_still : (wanted : BufferFlags) (c : ℕ) (gs : List hb_glyph_info_t) → BeginsElsewhere c gs → BeginsElsewhere c (flags_propagated wanted gs)
+elsewhere_still : (wanted : BufferFlags) (c : ℕ) (gs : List hb_glyph_info_t) → BeginsElsewhere c gs →
+    BeginsElsewhere c (flags_propagated wanted gs)
 elsewhere_still wanted c [] other = tt
-elsewhere_still wanted c (g ∷ gs) other = let P : List hb_glyph_info_t → Type 0 = BeginsElsewhere c in subst P (sym (opens wanted g gs)) other
+elsewhere_still wanted c (g ∷ gs) other = let P : List hb_glyph_info_t → Type 0 =
+    BeginsElsewhere c in subst P (sym (opens wanted g gs)) other
 
-alike_group : (j c : ℕ) (g : hb_glyph_info_t) (gs hs : List hb_glyph_info_t) → j < 8 → g.cluster ≡ c → AllByRecursion (λ h. h.cluster ≡ c) gs → BeginsElsewhere c hs → Alike hs → Alike (map (with_flags j) (g ∷ gs) ++ hs)
+alike_group : (j c : ℕ) (g : hb_glyph_info_t) (gs hs : List hb_glyph_info_t) → j < 8 → g.cluster ≡ c →
+    AllByRecursion (λ h. h.cluster ≡ c) gs → BeginsElsewhere c hs → Alike hs → Alike (map (with_flags j) (g ∷ gs) ++ hs)
 alike_group j c g [] [] small is all other rest = tt
 alike_group j c g [] (h ∷ hs) small is all other rest = ((λ e. absurd (other (sym e ∙ is))), rest)
-alike_group j c g (x ∷ gs) hs small is all other rest = ((λ e. flags_put j g small ∙ sym (flags_put j x small)), alike_group j c x gs hs small all.0 all.1 other rest)
+alike_group j c g (x ∷ gs) hs small is all other rest =
+    ((λ e. flags_put j g small ∙ sym (flags_put j x small)), alike_group j c x gs hs small all.0 all.1 other rest)
 
 alike : (wanted : BufferFlags) (gs : List hb_glyph_info_t) → Alike (flags_propagated wanted gs)
 alike wanted gs =
@@ -57,10 +62,13 @@ alike wanted gs =
     let j = opening_flags wanted g gs in
     let P : List hb_glyph_info_t → Type 0 = Alike in
     subst P (sym (opens wanted g gs))
-    (alike_group j g.cluster g (take k gs) (flags_propagated wanted (drop k gs)) (opening_small wanted g gs) refl (run_is g.cluster gs) (elsewhere_still wanted g.cluster (drop k gs) (behind_run g.cluster gs)) last))
+    (alike_group j g.cluster g (take k gs) (flags_propagated wanted (drop k gs)) (opening_small wanted g gs) refl
+    (run_is g.cluster gs) (elsewhere_still wanted g.cluster (drop k gs) (behind_run g.cluster gs)) last))
     (length gs) gs (omega arith)
 
-alike_at : (gs : List hb_glyph_info_t) → Alike gs → (p : ℕ) → suc p < length gs → get_or (clusters gs) p 0 ≡ get_or (clusters gs) (suc p) 0 → get_or (glyph_flags gs) p 0 ≡ get_or (glyph_flags gs) (suc p) 0
+alike_at : (gs : List hb_glyph_info_t) → Alike gs → (p : ℕ) → suc p < length gs →
+    get_or (clusters gs) p 0 ≡ get_or (clusters gs) (suc p) 0 →
+    get_or (glyph_flags gs) p 0 ≡ get_or (glyph_flags gs) (suc p) 0
 alike_at [] a p within e = absurd (omega arith)
 alike_at (g ∷ []) a p within e = absurd (omega arith)
 alike_at (g ∷ (h ∷ gs)) a zero within e = a.0 e
@@ -72,7 +80,9 @@ flags_are_shared wanted gs =
     record {
       same_view = map-propagated (λ g. plain g) view_put wanted gs;
       same_clusters = clusters-propagated wanted gs;
-      alike = λ p within e. alike_at ms (alike wanted gs) p (omega (arith, within, length-propagated wanted gs)) (ap (λ cs. get_or cs p 0) (clusters-propagated wanted gs) ∙ e ∙ ap (λ cs. get_or cs (suc p) 0) (sym (clusters-propagated wanted gs)));
+      alike = λ p within e. alike_at ms (alike wanted gs) p (omega (arith, within, length-propagated wanted gs))
+          (ap (λ cs. get_or cs p 0) (clusters-propagated wanted gs) ∙ e
+          ∙ ap (λ cs. get_or cs (suc p) 0) (sym (clusters-propagated wanted gs)));
       again = λ unasked. again wanted unasked gs;
       clear = λ p. (clear_from wanted gs p, clear_to wanted gs p);
     }
@@ -82,28 +92,35 @@ flags_are_shared wanted gs =
 rising_to : (cs : List ℕ) → IsRising cs → (i j : ℕ) → i ≤ j → j < length cs → get_or cs i 0 ≤ get_or cs j 0
 rising_to cs rises i j order within = elim (cases_lt i j) [
   | inl l ↦ rises i j 0 l within
-  | inr l ↦ (let same : i ≡ j = omega arith in let P : ℕ → Type 0 = λ k. get_or cs i 0 ≤ get_or cs k 0 in subst P same (omega arith))
+  | inr l ↦ (let same : i ≡ j = omega arith in let P : ℕ →
+      Type 0 = λ k. get_or cs i 0 ≤ get_or cs k 0 in subst P same (omega arith))
 ]
 
 falling_to : (cs : List ℕ) → IsFalling cs → (i j : ℕ) → i ≤ j → j < length cs → get_or cs j 0 ≤ get_or cs i 0
 falling_to cs falls i j order within = elim (cases_lt i j) [
   | inl l ↦ falls i j 0 l within
-  | inr l ↦ (let same : i ≡ j = omega arith in let P : ℕ → Type 0 = λ k. get_or cs k 0 ≤ get_or cs i 0 in subst P same (omega arith))
+  | inr l ↦ (let same : i ≡ j = omega arith in let P : ℕ →
+      Type 0 = λ k. get_or cs k 0 ≤ get_or cs i 0 in subst P same (omega arith))
 ]
 
 -- all from place p on up to one of the same cluster have the same flags
-same_along : (ms : List hb_glyph_info_t) → Alike ms → (p d : ℕ) → p + d < length ms → ((k : ℕ) → k ≤ d → get_or (clusters ms) (p + k) 0 ≡ get_or (clusters ms) p 0) → get_or (glyph_flags ms) (p + d) 0 ≡ get_or (glyph_flags ms) p 0
+same_along : (ms : List hb_glyph_info_t) → Alike ms → (p d : ℕ) → p + d < length ms →
+    ((k : ℕ) → k ≤ d → get_or (clusters ms) (p + k) 0 ≡ get_or (clusters ms) p 0) →
+    get_or (glyph_flags ms) (p + d) 0 ≡ get_or (glyph_flags ms) p 0
 same_along ms a p zero within all = ap (λ n. get_or (glyph_flags ms) n 0) (let e : p + 0 ≡ p = omega arith in e)
 same_along ms a p (suc d) within all =
     let cs = clusters ms in
     let there : p + suc d ≡ suc (p + d) = omega arith in
-    let last : get_or cs (suc (p + d)) 0 ≡ get_or cs p 0 = ap (λ n. get_or cs n 0) (sym there) ∙ all (suc d) (omega arith) in
+    let last : get_or cs (suc (p + d)) 0 ≡ get_or cs p 0 = ap (λ n. get_or cs n 0) (sym there)
+    ∙ all (suc d) (omega arith) in
     let before : get_or cs (p + d) 0 ≡ get_or cs p 0 = all d (omega arith) in
     ap (λ n. get_or (glyph_flags ms) n 0) there
     ∙ sym (alike_at ms a (p + d) (omega (arith, there, within)) (before ∙ sym last))
     ∙ same_along ms a p d (omega arith) (λ k low. all k (omega arith))
 
-unsafe_alike : (ms : List hb_glyph_info_t) (p q : ℕ) → p < length ms → q < length ms → get_or (glyph_flags ms) q 0 ≡ get_or (glyph_flags ms) p 0 → is_unsafe (get_or ms q default_glyph) ≡ is_unsafe (get_or ms p default_glyph)
+unsafe_alike : (ms : List hb_glyph_info_t) (p q : ℕ) → p < length ms → q < length ms →
+    get_or (glyph_flags ms) q 0 ≡ get_or (glyph_flags ms) p 0 →
+    is_unsafe (get_or ms q default_glyph) ≡ is_unsafe (get_or ms p default_glyph)
 unsafe_alike ms p q pl ql e =
     let f : hb_glyph_info_t → ℕ = λ g. g.mask % 8 in
     sym (unsafe_low (get_or ms q default_glyph).mask)
@@ -111,17 +128,27 @@ unsafe_alike ms p q pl ql e =
     ∙ unsafe_low (get_or ms p default_glyph).mask
 
 -- a glyph of cluster c stands at place p, and all of that cluster have its flags: it tells whether one is unsafe
-tells_at : (ms : List hb_glyph_info_t) (c p : ℕ) → p < length ms → get_or (clusters ms) p 0 ≡ c → ((q : ℕ) → q < length ms → get_or (clusters ms) q 0 ≡ c → get_or (glyph_flags ms) q 0 ≡ get_or (glyph_flags ms) p 0) → (list_any (unsafe_at c) ms ≡ false) ↔ (is_unsafe (get_or ms p default_glyph) ≡ false)
+tells_at : (ms : List hb_glyph_info_t) (c p : ℕ) → p < length ms → get_or (clusters ms) p 0 ≡ c →
+    ((q : ℕ) → q < length ms → get_or (clusters ms) q 0 ≡ c →
+    get_or (glyph_flags ms) q 0 ≡ get_or (glyph_flags ms) p 0) →
+    (list_any (unsafe_at c) ms ≡ false) ↔ (is_unsafe (get_or ms p default_glyph) ≡ false)
 tells_at ms c p within is all =
-    let cluster : (q : ℕ) → q < length ms → get_or (clusters ms) q 0 ≡ (get_or ms q default_glyph).cluster = λ q l. get_or-map (λ (g : hb_glyph_info_t). g.cluster) ms q default_glyph 0 l in (
-      (λ none. false_from_ne_true (is_unsafe (get_or ms p default_glyph)) (λ yes. both_ways (list_any (unsafe_at c) ms) none (list_any_at (unsafe_at c) ms p default_glyph within (and_from _ _ (eq-eqb (get_or ms p default_glyph).cluster c (sym (cluster p within) ∙ is)) yes)))),
-      (λ safe. list_any_none (unsafe_at c) ms (All-from_get_or (λ g. unsafe_at c g ≡ false) ms default_glyph (λ q l. elim (cases_eq (get_or ms q default_glyph).cluster c) [
-        | inl e ↦ and_right _ _ (unsafe_alike ms p q within l (all q l (cluster q l ∙ e)) ∙ safe)
-        | inr n ↦ and_left _ _ (ne_eqb (get_or ms q default_glyph).cluster c n)
-      ]))),
+    let cluster : (q : ℕ) → q < length ms → get_or (clusters ms) q 0 ≡ (get_or ms q default_glyph).cluster =
+    λ q l. get_or-map (λ (g : hb_glyph_info_t). g.cluster) ms q default_glyph 0 l in (
+      (λ none. false_from_ne_true (is_unsafe (get_or ms p default_glyph))
+          (λ yes. both_ways (list_any (unsafe_at c) ms) none
+          (list_any_at (unsafe_at c) ms p default_glyph within
+          (and_from _ _ (eq-eqb (get_or ms p default_glyph).cluster c (sym (cluster p within) ∙ is)) yes)))),
+      (λ safe. list_any_none (unsafe_at c) ms (All-from_get_or (λ g. unsafe_at c g ≡ false) ms default_glyph
+          (λ q l. elim (cases_eq (get_or ms q default_glyph).cluster c) [
+            | inl e ↦ and_right _ _ (unsafe_alike ms p q within l (all q l (cluster q l ∙ e)) ∙ safe)
+            | inr n ↦ and_left _ _ (ne_eqb (get_or ms q default_glyph).cluster c n)
+          ]))),
     )
 
-tells_rising : (ms : List hb_glyph_info_t) (p : ℕ) → Alike ms → IsRising (clusters ms) → 0 < p → p < length ms → get_or (clusters ms) (p - 1) 0 ≢ get_or (clusters ms) p 0 → (list_any (unsafe_at (greater ms p)) ms ≡ false) ↔ (is_unsafe (get_or ms p default_glyph) ≡ false)
+tells_rising : (ms : List hb_glyph_info_t) (p : ℕ) → Alike ms → IsRising (clusters ms) → 0 < p → p < length ms →
+    get_or (clusters ms) (p - 1) 0 ≢ get_or (clusters ms) p 0 →
+    (list_any (unsafe_at (greater ms p)) ms ≡ false) ↔ (is_unsafe (get_or ms p default_glyph) ≡ false)
 tells_rising ms p a rises some within differ =
     let cs = clusters ms in
     let long : length cs ≡ length ms = length-map ms (λ (g : hb_glyph_info_t). g.cluster) in
@@ -129,7 +156,8 @@ tells_rising ms p a rises some within differ =
     let c = greater ms p in
     let top : get_or cs p 0 ≡ c = omega (arith, step) in
     tells_at ms c p within top (λ q l e. elim (cases_lt q p) [
-      | inl before ↦ (let under = rising_to cs rises q (p - 1) (omega arith) (omega (arith, long)) in absurd (differ (omega (arith, under, step, e, top))))
+      | inl before ↦ (let under = rising_to cs rises q (p - 1) (omega arith) (omega (arith, long)) in absurd
+          (differ (omega (arith, under, step, e, top))))
       | inr behind ↦ (
           let there : p + (q - p) ≡ q = omega arith in
           let P : ℕ → Type 0 = λ n. get_or (glyph_flags ms) n 0 ≡ get_or (glyph_flags ms) p 0 in
@@ -139,7 +167,9 @@ tells_rising ms p a rises some within differ =
           omega (arith, up, down, e, top))))
     ])
 
-tells_falling : (ms : List hb_glyph_info_t) (p : ℕ) → Alike ms → IsFalling (clusters ms) → 0 < p → p < length ms → get_or (clusters ms) (p - 1) 0 ≢ get_or (clusters ms) p 0 → (list_any (unsafe_at (greater ms p)) ms ≡ false) ↔ (is_unsafe (get_or ms (p - 1) default_glyph) ≡ false)
+tells_falling : (ms : List hb_glyph_info_t) (p : ℕ) → Alike ms → IsFalling (clusters ms) → 0 < p → p < length ms →
+    get_or (clusters ms) (p - 1) 0 ≢ get_or (clusters ms) p 0 →
+    (list_any (unsafe_at (greater ms p)) ms ≡ false) ↔ (is_unsafe (get_or ms (p - 1) default_glyph) ≡ false)
 tells_falling ms p a falls some within differ =
     let cs = clusters ms in
     let long : length cs ≡ length ms = length-map ms (λ (g : hb_glyph_info_t). g.cluster) in
@@ -147,7 +177,8 @@ tells_falling ms p a falls some within differ =
     let c = greater ms p in
     let top : get_or cs (p - 1) 0 ≡ c = omega (arith, step) in
     tells_at ms c (p - 1) (omega arith) top (λ q l e. elim (cases_lt q p) [
-      | inr behind ↦ (let under = falling_to cs falls p q behind (omega (arith, long)) in absurd (differ (omega (arith, under, step, e, top))))
+      | inr behind ↦ (let under = falling_to cs falls p q behind (omega (arith, long)) in absurd
+          (differ (omega (arith, under, step, e, top))))
       | inl before ↦ (
           let there : q + (p - 1 - q) ≡ p - 1 = omega arith in
           let P : ℕ → Type 0 = λ n. get_or (glyph_flags ms) q 0 ≡ get_or (glyph_flags ms) n 0 in
@@ -162,15 +193,17 @@ one_glyph_tells wanted gs p some within differ =
     let ms = flags_propagated wanted gs in
     let same = clusters-propagated wanted gs in
     let inside : p < length ms = omega (arith, length-propagated wanted gs) in
-    let apart : get_or (clusters ms) (p - 1) 0 ≢ get_or (clusters ms) p 0 = subst (λ cs. get_or cs (p - 1) 0 ≢ get_or cs p 0) (sym same) differ in (
+    let apart : get_or (clusters ms) (p - 1) 0 ≢ get_or (clusters ms) p 0 =
+    subst (λ cs. get_or cs (p - 1) 0 ≢ get_or cs p 0) (sym same) differ in (
       (λ rises. let tells = tells_rising ms p (alike wanted gs) (subst IsRising (sym same) rises) some inside apart in (
         (λ clear. tells.0 (clear_to wanted gs p clear).unflagged),
         (λ safe. clear_from wanted gs p (record { differ = apart; unflagged = tells.1 safe })),
       )),
-      (λ falls. let tells = tells_falling ms p (alike wanted gs) (subst IsFalling (sym same) falls) some inside apart in (
-        (λ clear. tells.0 (clear_to wanted gs p clear).unflagged),
-        (λ safe. clear_from wanted gs p (record { differ = apart; unflagged = tells.1 safe })),
-      )),
+      (λ falls. let tells = tells_falling ms p (alike wanted gs)
+          (subst IsFalling (sym same) falls) some inside apart in (
+            (λ clear. tells.0 (clear_to wanted gs p clear).unflagged),
+            (λ safe. clear_from wanted gs p (record { differ = apart; unflagged = tells.1 safe })),
+          )),
     )
 
 -- ---- one flag
@@ -178,9 +211,14 @@ one_glyph_tells wanted gs p some within differ =
 abbrev ToldByOne : hb_glyph_info_t → Type 0
 ToldByOne g = is_unsafe g ≡ (bit_at 0 g.mask == 1)
 
-told : (j : ℕ) (gs : List hb_glyph_info_t) → j < 8 → unsafe_flags j ≡ (bit_at 0 j == 1) → AllByRecursion ToldByOne (map (with_flags j) gs)
+told : (j : ℕ) (gs : List hb_glyph_info_t) → j < 8 → unsafe_flags j ≡ (bit_at 0 j == 1) →
+    AllByRecursion ToldByOne (map (with_flags j) gs)
 told j [] small is = tt
-told j (g ∷ gs) small is = (unsafe_put j g small ∙ is ∙ ap (λ n. bit_at 0 n == 1) (sym (flags_put j g small)) ∙ ap (λ n. n == 1) (one_low (with_flags j g).mask), told j gs small is)
+told j (g ∷ gs) small is = (
+  unsafe_put j g small ∙ is ∙ ap (λ n. bit_at 0 n == 1) (sym (flags_put j g small))
+      ∙ ap (λ n. n == 1) (one_low (with_flags j g).mask),
+  told j gs small is,
+)
 
 pub one_flag_tells : OneFlagTells
 one_flag_tells wanted gs asked =
@@ -191,5 +229,6 @@ one_flag_tells wanted gs asked =
     let group = g ∷ take k gs in
     let P : List hb_glyph_info_t → Type 0 = AllByRecursion ToldByOne in
     subst P (sym (opens wanted g gs))
-    (all-append ToldByOne (map (with_flags j) group) (flags_propagated wanted (drop k gs)) (told j group (opening_small wanted g gs) (kept_one wanted asked (flags_of group) (flags_small group))) last))
+    (all-append ToldByOne (map (with_flags j) group) (flags_propagated wanted (drop k gs))
+    (told j group (opening_small wanted g gs) (kept_one wanted asked (flags_of group) (flags_small group))) last))
     (length gs) gs (omega arith))

@@ -10,7 +10,8 @@ use Rattle.shapers_position.specs.Ignorables.{is_default_ignorable, is_kept, pos
 use Rattle.shapers_position.specs.Widths.{positions_changed}
 
 -- a text without positions keeps none
-pub changed_none : (f : hb_glyph_info_t → GlyphPosition → GlyphPosition) (gs : List hb_glyph_info_t) (ps : List GlyphPosition) → length ps ≡ 0 → positions_changed f gs ps ≡ ps
+pub changed_none : (f : hb_glyph_info_t → GlyphPosition → GlyphPosition) (gs : List hb_glyph_info_t)
+    (ps : List GlyphPosition) → length ps ≡ 0 → positions_changed f gs ps ≡ ps
 changed_none f [] [] none = refl
 changed_none f (g ∷ gs) [] none = refl
 changed_none f gs (p ∷ ps) none = absurd (omega arith)
@@ -19,26 +20,34 @@ nothing : (n : ℕ) → take {A = GlyphPosition} n [] ≡ []
 nothing zero = refl
 nothing (suc n) = refl
 
-pub kept_none : (n : ℕ) (gs : List hb_glyph_info_t) (ps : List GlyphPosition) → length ps ≡ 0 → take n ps ≡ positions_kept gs ps
+pub kept_none : (n : ℕ) (gs : List hb_glyph_info_t) (ps : List GlyphPosition) → length ps ≡ 0 →
+    take n ps ≡ positions_kept gs ps
 kept_none n [] [] none = nothing n
 kept_none n (g ∷ gs) [] none = nothing n
 kept_none n gs (p ∷ ps) none = absurd (omega arith)
 
 -- the positions from one place on that stay
-kept_next : (gs : List hb_glyph_info_t) (ps : List GlyphPosition) (i : ℕ) (b : Bool) → i < length gs → length ps ≡ length gs → is_default_ignorable (get_or gs i default_glyph) ≡ b →
+kept_next : (gs : List hb_glyph_info_t) (ps : List GlyphPosition) (i : ℕ) (b : Bool) → i < length gs →
+    length ps ≡ length gs → is_default_ignorable (get_or gs i default_glyph) ≡ b →
     let rest = positions_kept (drop (i + 1) gs) (drop (i + 1) ps) in
     positions_kept (drop i gs) (drop i ps) ≡ cond b rest (get_or ps i default_position ∷ rest)
 kept_next gs ps i b inside same is =
     let g = get_or gs i default_glyph in
     let p = get_or ps i default_position in
-    let cells = filter (λ (c : hb_glyph_info_t × GlyphPosition). is_kept c.0) (zip (drop (i + 1) gs) (drop (i + 1) ps)) in
+    let cells = filter (λ (c : hb_glyph_info_t × GlyphPosition). is_kept c.0)
+    (zip (drop (i + 1) gs) (drop (i + 1) ps)) in
     ap (λ xs. positions_kept xs (drop i ps)) (drop_more gs i default_glyph inside)
     ∙ ap (positions_kept (g ∷ drop (i + 1) gs)) (drop_more ps i default_position (omega arith))
     ∙ ap (λ b. map (λ (c : hb_glyph_info_t × GlyphPosition). c.1) (cond (not b) ((g, p) ∷ cells) cells)) is
-    ∙ elim b as (λ b. map (λ (c : hb_glyph_info_t × GlyphPosition). c.1) (cond (not b) ((g, p) ∷ cells) cells) ≡ cond b (map (λ c. c.1) cells) (p ∷ map (λ c. c.1) cells)) [ true ↦ refl | false ↦ refl ]
+    ∙ elim b as (λ b. map (λ (c : hb_glyph_info_t × GlyphPosition). c.1) (cond (not b) ((g, p) ∷ cells) cells)
+    ≡ cond b (map (λ c. c.1) cells) (p ∷ map (λ c. c.1) cells)) [ true ↦ refl | false ↦ refl ]
 
 -- that of a glyph that stays comes behind the others
-pub moved_stays : (gs : List hb_glyph_info_t) (ps : List GlyphPosition) (k i : ℕ) (p : GlyphPosition) → k ≤ i → i < length gs → length ps ≡ length gs → get_or ps i default_position ≡ p → is_default_ignorable (get_or gs i default_glyph) ≡ false → take (k + 1) (set ps k p) ++ positions_kept (drop (i + 1) gs) (drop (i + 1) (set ps k p)) ≡ take k ps ++ positions_kept (drop i gs) (drop i ps)
+pub moved_stays : (gs : List hb_glyph_info_t) (ps : List GlyphPosition) (k i : ℕ) (p : GlyphPosition) → k ≤ i →
+    i < length gs → length ps ≡ length gs → get_or ps i default_position ≡ p →
+    is_default_ignorable (get_or gs i default_glyph) ≡ false →
+    take (k + 1) (set ps k p) ++ positions_kept (drop (i + 1) gs) (drop (i + 1) (set ps k p))
+    ≡ take k ps ++ positions_kept (drop i gs) (drop i ps)
 moved_stays gs ps k i p few inside same at is =
     let rest = positions_kept (drop (i + 1) gs) (drop (i + 1) ps) in
     ap (λ xs. xs ++ positions_kept (drop (i + 1) gs) (drop (i + 1) (set ps k p))) (take_more_set ps k p (omega arith))
@@ -48,5 +57,8 @@ moved_stays gs ps k i p few inside same at is =
     ∙ ap (λ xs. take k ps ++ xs) (sym (kept_next gs ps i false inside same is))
 
 -- that of one that goes is passed over
-pub moved_goes : (gs : List hb_glyph_info_t) (ps : List GlyphPosition) (k i : ℕ) → i < length gs → length ps ≡ length gs → is_default_ignorable (get_or gs i default_glyph) ≡ true → take k ps ++ positions_kept (drop (i + 1) gs) (drop (i + 1) ps) ≡ take k ps ++ positions_kept (drop i gs) (drop i ps)
+pub moved_goes : (gs : List hb_glyph_info_t) (ps : List GlyphPosition) (k i : ℕ) → i < length gs →
+    length ps ≡ length gs → is_default_ignorable (get_or gs i default_glyph) ≡ true →
+    take k ps ++ positions_kept (drop (i + 1) gs) (drop (i + 1) ps)
+    ≡ take k ps ++ positions_kept (drop i gs) (drop i ps)
 moved_goes gs ps k i inside same is = ap (λ xs. take k ps ++ xs) (sym (kept_next gs ps i true inside same is))

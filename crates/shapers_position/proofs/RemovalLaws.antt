@@ -1,6 +1,6 @@
 -- The laws of ignorable glyphs that go or are drawn by another one, and of positions.
 use Rattle.std.proofs.lemmas.Slice.Zip.{get_or-zip, length-zip}
-use Rattle.std.proofs.Common.{◌≡◌, ◌+◌, ◌-◌, ◌/◌, ◌%◌, ◌<◌, ◌≤◌, ℕ, suc, min, Bool, true, false, ◌&&◌, cond, get_or, List, [], ◌∷◌, ◌++◌, inl, inr, length, map, refl, sym, ap, subst, ◌∙◌, arith}
+use Rattle.std.proofs.Common.{◌≡◌, ◌+◌, ◌-◌, ◌/◌, ◌%◌, ◌<◌, ◌≤◌, ℕ, suc, min, Bool, true, false, ◌&&◌, cond, List, [], ◌∷◌, ◌++◌, inl, inr, length, map, refl, sym, ap, subst, ◌∙◌, arith}
 use Rattle.std.specs.Prelude.{filter, nat_lt, not}
 use Rattle.std.specs.List.{AllPairs, Contains, list_any, prefix_len, zip}
 use Rattle.std.proofs.lemmas.Bool.{or_parts}
@@ -35,9 +35,11 @@ run_apart test xs = take-append-drop _ xs
 view_in_place : (gone g : hb_glyph_info_t) → plain (in_place_of gone g) ≡ plain g
 view_in_place gone g =
     let none : gone.mask % 8 / 8 ≡ 0 = omega arith in
-    ap (λ (m : ℕ). record g { cluster = 0; mask = m }) (without_flags-or (without_flags g.mask) (gone.mask % 8) none ∙ without_flags-twice g.mask)
+    ap (λ (m : ℕ). record g { cluster = 0; mask = m }) (without_flags-or (without_flags g.mask) (gone.mask % 8) none
+    ∙ without_flags-twice g.mask)
 
-view_by : (b : Bool) (gone : hb_glyph_info_t) (front run gs : List hb_glyph_info_t) → front ++ run ≡ gs → order_view (cond b (front ++ map (in_place_of gone) run) gs) ≡ order_view gs
+view_by : (b : Bool) (gone : hb_glyph_info_t) (front run gs : List hb_glyph_info_t) → front ++ run ≡ gs →
+    order_view (cond b (front ++ map (in_place_of gone) run) gs) ≡ order_view gs
 view_by false gone front run gs is = refl
 view_by true gone front run gs is =
     map-append plain front (map (in_place_of gone) run)
@@ -48,35 +50,43 @@ view_by true gone front run gs is =
 view_covering : (gone : hb_glyph_info_t) (gs : List hb_glyph_info_t) → order_view (covering gone gs) ≡ order_view gs
 view_covering gone gs =
     let in_last = has_cluster (last_cluster gs) in
-    view_by (nat_lt gone.cluster (last_cluster gs)) gone (before_last_run in_last gs) (last_run in_last gs) gs (run_apart in_last gs)
+    view_by (nat_lt gone.cluster (last_cluster gs)) gone (before_last_run in_last gs) (last_run in_last gs) gs
+    (run_apart in_last gs)
 
-view_goes : (b : Bool) (gone : hb_glyph_info_t) (gs : List hb_glyph_info_t) → order_view (cond b gs (covering gone gs)) ≡ order_view gs
+view_goes : (b : Bool) (gone : hb_glyph_info_t) (gs : List hb_glyph_info_t) →
+    order_view (cond b gs (covering gone gs)) ≡ order_view gs
 view_goes true gone gs = refl
 view_goes false gone gs = view_covering gone gs
 
-view_removed : (kept gs : List hb_glyph_info_t) → order_view (removed_behind kept gs) ≡ order_view kept ++ filter is_kept (order_view gs)
+view_removed : (kept gs : List hb_glyph_info_t) → order_view (removed_behind kept gs)
+    ≡ order_view kept ++ filter is_kept (order_view gs)
 view_removed kept [] = sym (append-nil (order_view kept))
 view_removed kept (g ∷ gs) =
     let after = cond (goes_on g.cluster gs) kept (covering g kept) in
     let here = order_view kept in
     let rest = filter is_kept (order_view gs) in
-    elim (is_default_ignorable g) as (λ b. order_view (cond b (removed_behind after gs) (removed_behind (kept ++ g ∷ []) gs)) ≡ here ++ cond (not b) (plain g ∷ rest) rest) [
+    elim (is_default_ignorable g) as (λ b. order_view
+    (cond b (removed_behind after gs) (removed_behind (kept ++ g ∷ []) gs))
+    ≡ here ++ cond (not b) (plain g ∷ rest) rest) [
       | true ↦ view_removed after gs ∙ ap (λ xs. xs ++ rest) (view_goes (goes_on g.cluster gs) g kept)
-      | false ↦ view_removed (kept ++ g ∷ []) gs ∙ ap (λ xs. xs ++ rest) (map-append plain kept (g ∷ [])) ∙ append_assoc here (plain g ∷ []) rest
+      | false ↦ view_removed (kept ++ g ∷ []) gs ∙ ap (λ xs. xs ++ rest) (map-append plain kept (g ∷ []))
+          ∙ append_assoc here (plain g ∷ []) rest
     ]
 
 -- the view of those that stay is of those of the view that do
 filter_view : (gs : List hb_glyph_info_t) → filter is_kept (order_view gs) ≡ order_view (filter is_kept gs)
 filter_view [] = refl
 filter_view (g ∷ gs) =
-    elim (is_kept g) as (λ b. cond b (plain g ∷ filter is_kept (order_view gs)) (filter is_kept (order_view gs)) ≡ order_view (cond b (g ∷ filter is_kept gs) (filter is_kept gs))) [
+    elim (is_kept g) as (λ b. cond b (plain g ∷ filter is_kept (order_view gs)) (filter is_kept (order_view gs))
+    ≡ order_view (cond b (g ∷ filter is_kept gs) (filter is_kept gs))) [
       | true ↦ ap (λ xs. plain g ∷ xs) (filter_view gs)
       | false ↦ filter_view gs
     ]
 
 -- ---- what holds of each cluster, and of each with each later one
 
-each_in_place : (P : ℕ → Type 0) (gone : hb_glyph_info_t) (gs : List hb_glyph_info_t) → P gone.cluster → Each P (map (in_place_of gone) gs)
+each_in_place : (P : ℕ → Type 0) (gone : hb_glyph_info_t) (gs : List hb_glyph_info_t) → P gone.cluster →
+    Each P (map (in_place_of gone) gs)
 each_in_place P gone [] p = tt
 each_in_place P gone (g ∷ gs) p = (p, each_in_place P gone gs p)
 
@@ -84,33 +94,42 @@ each_parts : (P : ℕ → Type 0) (front run : List hb_glyph_info_t) → Each P 
 each_parts P [] run all = tt
 each_parts P (g ∷ front) run all = (all.0, each_parts P front run all.1)
 
-each_by : (P : ℕ → Type 0) (b : Bool) (gone : hb_glyph_info_t) (front run gs : List hb_glyph_info_t) → front ++ run ≡ gs → P gone.cluster → Each P gs → Each P (cond b (front ++ map (in_place_of gone) run) gs)
+each_by : (P : ℕ → Type 0) (b : Bool) (gone : hb_glyph_info_t) (front run gs : List hb_glyph_info_t) →
+    front ++ run ≡ gs → P gone.cluster → Each P gs → Each P (cond b (front ++ map (in_place_of gone) run) gs)
 each_by P false gone front run gs is p all = all
 each_by P true gone front run gs is p all =
     let Q : List hb_glyph_info_t → Type 0 = Each P in
-    each-append P front (map (in_place_of gone) run) (each_parts P front run (subst Q (sym is) all)) (each_in_place P gone run p)
+    each-append P front (map (in_place_of gone) run) (each_parts P front run (subst Q (sym is) all))
+    (each_in_place P gone run p)
 
-each_goes : (P : ℕ → Type 0) (b : Bool) (gone : hb_glyph_info_t) (gs : List hb_glyph_info_t) → P gone.cluster → Each P gs → Each P (cond b gs (covering gone gs))
+each_goes : (P : ℕ → Type 0) (b : Bool) (gone : hb_glyph_info_t) (gs : List hb_glyph_info_t) → P gone.cluster →
+    Each P gs → Each P (cond b gs (covering gone gs))
 each_goes P true gone gs p all = all
 each_goes P false gone gs p all =
     let in_last = has_cluster (last_cluster gs) in
-    each_by P (nat_lt gone.cluster (last_cluster gs)) gone (before_last_run in_last gs) (last_run in_last gs) gs (run_apart in_last gs) p all
+    each_by P (nat_lt gone.cluster (last_cluster gs)) gone (before_last_run in_last gs) (last_run in_last gs) gs
+    (run_apart in_last gs) p all
 
-each_removed : (P : ℕ → Type 0) (kept gs : List hb_glyph_info_t) → Each P kept → Each P gs → Each P (removed_behind kept gs)
+each_removed : (P : ℕ → Type 0) (kept gs : List hb_glyph_info_t) → Each P kept → Each P gs →
+    Each P (removed_behind kept gs)
 each_removed P kept [] p q = p
 each_removed P kept (g ∷ gs) p q =
     let after = cond (goes_on g.cluster gs) kept (covering g kept) in
-    elim (is_default_ignorable g) as (λ b. Each P (cond b (removed_behind after gs) (removed_behind (kept ++ g ∷ []) gs))) [
+    elim (is_default_ignorable g) as (λ b. Each P (cond b (removed_behind after gs)
+    (removed_behind (kept ++ g ∷ []) gs))) [
       | true ↦ each_removed P after gs (each_goes P (goes_on g.cluster gs) g kept q.0 p) q.1
       | false ↦ each_removed P (kept ++ g ∷ []) gs (each-append P kept (g ∷ []) p (q.0, tt)) q.1
     ]
 
-pairs_in_place : (R : ℕ → ℕ → Type 0) (gone : hb_glyph_info_t) (gs : List hb_glyph_info_t) → R gone.cluster gone.cluster → Pairs R (map (in_place_of gone) gs)
+pairs_in_place : (R : ℕ → ℕ → Type 0) (gone : hb_glyph_info_t) (gs : List hb_glyph_info_t) →
+    R gone.cluster gone.cluster → Pairs R (map (in_place_of gone) gs)
 pairs_in_place R gone [] self = tt
 pairs_in_place R gone (g ∷ gs) self = (each_in_place (R gone.cluster) gone gs self, pairs_in_place R gone gs self)
 
 -- a glyph goes, and those directly before it take its cluster
-pairs_covered : (R : ℕ → ℕ → Type 0) (gone : hb_glyph_info_t) (front run gs : List hb_glyph_info_t) → R gone.cluster gone.cluster → Pairs R ((front ++ run) ++ gone ∷ gs) → Pairs R ((front ++ map (in_place_of gone) run) ++ gs)
+pairs_covered : (R : ℕ → ℕ → Type 0) (gone : hb_glyph_info_t) (front run gs : List hb_glyph_info_t) →
+    R gone.cluster gone.cluster → Pairs R ((front ++ run) ++ gone ∷ gs) →
+    Pairs R ((front ++ map (in_place_of gone) run) ++ gs)
 pairs_covered R gone front run gs self all =
     let Q : List hb_glyph_info_t → Type 0 = Pairs R in
     let new = map (in_place_of gone) run in
@@ -119,43 +138,55 @@ pairs_covered R gone front run gs self all =
     let beside = pairs-cross R (front ++ run) (gone ∷ gs) all in
     let crossing : Cross R new gs = each_in_place (λ k. Each (R k) gs) gone run last.0 in
     let others : Cross R front (new ++ gs) =
-    each_as (λ k. Each (R k) (gone ∷ gs)) (λ k. Each (R k) (new ++ gs)) front (λ k e. each-append (R k) new gs (each_in_place (R k) gone run e.0) e.1) (each_parts (λ k. Each (R k) (gone ∷ gs)) front run beside) in
+    each_as (λ k. Each (R k) (gone ∷ gs)) (λ k. Each (R k) (new ++ gs)) front
+    (λ k e. each-append (R k) new gs (each_in_place (R k) gone run e.0) e.1)
+    (each_parts (λ k. Each (R k) (gone ∷ gs)) front run beside) in
     subst Q (sym (append_assoc front new gs))
-    (pairs-append R front (new ++ gs) (pairs-first R front (run ++ gone ∷ gs) whole) (pairs-append R new gs (pairs_in_place R gone run self) last.1 crossing) others)
+    (pairs-append R front (new ++ gs) (pairs-first R front (run ++ gone ∷ gs) whole)
+    (pairs-append R new gs (pairs_in_place R gone run self) last.1 crossing) others)
 
-pairs_gone : (R : ℕ → ℕ → Type 0) (gone : hb_glyph_info_t) (kept gs : List hb_glyph_info_t) → Pairs R (kept ++ gone ∷ gs) → Pairs R (kept ++ gs)
+pairs_gone : (R : ℕ → ℕ → Type 0) (gone : hb_glyph_info_t) (kept gs : List hb_glyph_info_t) →
+    Pairs R (kept ++ gone ∷ gs) → Pairs R (kept ++ gs)
 pairs_gone R gone kept gs all =
     pairs-append R kept gs (pairs-first R kept (gone ∷ gs) all) (pairs-last R kept (gone ∷ gs) all).1
     (each_as (λ k. Each (R k) (gone ∷ gs)) (λ k. Each (R k) gs) kept (λ k e. e.1) (pairs-cross R kept (gone ∷ gs) all))
 
-pairs_by : (R : ℕ → ℕ → Type 0) (b : Bool) (gone : hb_glyph_info_t) (front run kept gs : List hb_glyph_info_t) → R gone.cluster gone.cluster → front ++ run ≡ kept → Pairs R (kept ++ gone ∷ gs) → Pairs R (cond b (front ++ map (in_place_of gone) run) kept ++ gs)
+pairs_by : (R : ℕ → ℕ → Type 0) (b : Bool) (gone : hb_glyph_info_t) (front run kept gs : List hb_glyph_info_t) →
+    R gone.cluster gone.cluster → front ++ run ≡ kept → Pairs R (kept ++ gone ∷ gs) →
+    Pairs R (cond b (front ++ map (in_place_of gone) run) kept ++ gs)
 pairs_by R false gone front run kept gs self is all = pairs_gone R gone kept gs all
 pairs_by R true gone front run kept gs self is all =
     let Q : List hb_glyph_info_t → Type 0 = λ xs. Pairs R (xs ++ gone ∷ gs) in
     pairs_covered R gone front run gs self (subst Q (sym is) all)
 
-pairs_goes : (R : ℕ → ℕ → Type 0) (b : Bool) (gone : hb_glyph_info_t) (kept gs : List hb_glyph_info_t) → R gone.cluster gone.cluster → Pairs R (kept ++ gone ∷ gs) → Pairs R (cond b kept (covering gone kept) ++ gs)
+pairs_goes : (R : ℕ → ℕ → Type 0) (b : Bool) (gone : hb_glyph_info_t) (kept gs : List hb_glyph_info_t) →
+    R gone.cluster gone.cluster → Pairs R (kept ++ gone ∷ gs) → Pairs R (cond b kept (covering gone kept) ++ gs)
 pairs_goes R true gone kept gs self all = pairs_gone R gone kept gs all
 pairs_goes R false gone kept gs self all =
     let in_last = has_cluster (last_cluster kept) in
-    pairs_by R (nat_lt gone.cluster (last_cluster kept)) gone (before_last_run in_last kept) (last_run in_last kept) kept gs self (run_apart in_last kept) all
+    pairs_by R (nat_lt gone.cluster (last_cluster kept)) gone (before_last_run in_last kept)
+    (last_run in_last kept) kept gs self (run_apart in_last kept) all
 
-pairs_removed : (R : ℕ → ℕ → Type 0) → ((k : ℕ) → R k k) → (kept gs : List hb_glyph_info_t) → Pairs R (kept ++ gs) → Pairs R (removed_behind kept gs)
+pairs_removed : (R : ℕ → ℕ → Type 0) → ((k : ℕ) → R k k) → (kept gs : List hb_glyph_info_t) → Pairs R (kept ++ gs) →
+    Pairs R (removed_behind kept gs)
 pairs_removed R self kept [] all = let Q : List hb_glyph_info_t → Type 0 = Pairs R in subst Q (append-nil kept) all
 pairs_removed R self kept (g ∷ gs) all =
     let Q : List hb_glyph_info_t → Type 0 = Pairs R in
     let after = cond (goes_on g.cluster gs) kept (covering g kept) in
-    elim (is_default_ignorable g) as (λ b. Pairs R (cond b (removed_behind after gs) (removed_behind (kept ++ g ∷ []) gs))) [
+    elim (is_default_ignorable g) as (λ b. Pairs R
+    (cond b (removed_behind after gs) (removed_behind (kept ++ g ∷ []) gs))) [
       | true ↦ pairs_removed R self after gs (pairs_goes R (goes_on g.cluster gs) g kept gs (self g.cluster) all)
       | false ↦ pairs_removed R self (kept ++ g ∷ []) gs (subst Q (sym (append_assoc kept (g ∷ []) gs)) all)
     ]
 
-order_removed : (R : ℕ → ℕ → Type 0) → ((k : ℕ) → R k k) → (gs : List hb_glyph_info_t) → AllPairs R (clusters gs) → AllPairs R (clusters (removed_behind [] gs))
+order_removed : (R : ℕ → ℕ → Type 0) → ((k : ℕ) → R k k) → (gs : List hb_glyph_info_t) → AllPairs R (clusters gs) →
+    AllPairs R (clusters (removed_behind [] gs))
 order_removed R self gs all = from_pairs R (removed_behind [] gs) (pairs_removed R self [] gs (to_pairs R gs all))
 
 -- ---- where nothing goes
 
-none_goes : (kept gs : List hb_glyph_info_t) → list_any is_default_ignorable gs ≡ false → removed_behind kept gs ≡ kept ++ gs
+none_goes : (kept gs : List hb_glyph_info_t) → list_any is_default_ignorable gs ≡ false →
+    removed_behind kept gs ≡ kept ++ gs
 none_goes kept [] none = sym (append-nil kept)
 none_goes kept (g ∷ gs) none =
     let after = cond (goes_on g.cluster gs) kept (covering g kept) in
@@ -164,7 +195,8 @@ none_goes kept (g ∷ gs) none =
     ∙ none_goes (kept ++ g ∷ []) gs both.1
     ∙ append_assoc kept (g ∷ []) gs
 
-none_opens : (gs : List hb_glyph_info_t) → list_any is_default_ignorable gs ≡ false → prefix_len is_default_ignorable gs ≡ 0
+none_opens : (gs : List hb_glyph_info_t) → list_any is_default_ignorable gs ≡ false →
+    prefix_len is_default_ignorable gs ≡ 0
 none_opens [] none = refl
 none_opens (g ∷ gs) none =
     let both = or_parts (is_default_ignorable g) (list_any is_default_ignorable gs) none in
@@ -224,15 +256,18 @@ changed_by_glyphs f gs ps same =
 abbrev opening_end : List hb_glyph_info_t → ℕ
 opening_end gs = min (prefix_len is_default_ignorable gs + 1) (length gs)
 
-monotone_removed : (level : BufferClusterLevel) (gs : List hb_glyph_info_t) → IsMonotone (clusters gs) → IsMonotone (clusters (removed level gs))
+monotone_removed : (level : BufferClusterLevel) (gs : List hb_glyph_info_t) → IsMonotone (clusters gs) →
+    IsMonotone (clusters (removed level gs))
 monotone_removed level gs order =
     let e = opening_end gs in
     let ms = merge level 0 e gs in
     let within : e ≤ length (clusters gs) = omega (arith, length-map gs (λ (g : hb_glyph_info_t). g.cluster)) in
     let joined = clusters-merge level 0 e gs in
     elim order [
-      | inl rises ↦ inl (order_removed (λ a b. a ≤ b) (λ k. omega arith) ms (subst IsRising (sym joined) (stays_rising level ((0, e) ∷ []) (clusters gs) (within, tt) rises)))
-      | inr falls ↦ inr (order_removed (λ a b. b ≤ a) (λ k. omega arith) ms (subst IsFalling (sym joined) (stays_falling level ((0, e) ∷ []) (clusters gs) (within, tt) falls)))
+      | inl rises ↦ inl (order_removed (λ a b. a ≤ b) (λ k. omega arith) ms
+          (subst IsRising (sym joined) (stays_rising level ((0, e) ∷ []) (clusters gs) (within, tt) rises)))
+      | inr falls ↦ inr (order_removed (λ a b. b ≤ a) (λ k. omega arith) ms
+          (subst IsFalling (sym joined) (stays_falling level ((0, e) ∷ []) (clusters gs) (within, tt) falls)))
     ]
 
 pub ignorables_are_removed : RemovalLaw
@@ -244,7 +279,9 @@ ignorables_are_removed level gs =
     record {
       same_view = view;
       paired = λ ps same. as_many gs ps same ∙ by_length (removed level gs) (filter is_kept gs) view;
-      old_clusters = all_of P (removed level gs) (each_removed P [] ms tt (each-merge P level 0 e gs (omega arith) (each_of P gs (All-contains_itself (clusters gs)))));
+      old_clusters = all_of P (removed level gs) (each_removed P [] ms tt
+          (each-merge P level 0 e gs (omega arith) (each_of P gs (All-contains_itself (clusters gs)))));
       monotone = monotone_removed level gs;
-      none = λ none. ap (removed_behind []) (short_merge level e gs (omega (arith, none_opens gs none))) ∙ none_goes [] gs none;
+      none = λ none. ap (removed_behind []) (short_merge level e gs (omega (arith, none_opens gs none)))
+          ∙ none_goes [] gs none;
     }

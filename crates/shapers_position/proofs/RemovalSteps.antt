@@ -11,7 +11,8 @@ use Rattle.shapers_buffer.specs.Glyph.{default_glyph, order_view, plain}
 use Rattle.shapers_position.specs.Ignorables.{covering, goes_on, is_default_ignorable, is_kept, removed_behind}
 
 -- what lies behind a front that is written anew
-behind : {X : Type 0} (xs ys : List X) (k i : ℕ) → k ≤ i → length ys ≡ k → drop (i + 1) (ys ++ drop k xs) ≡ drop (i + 1) xs
+behind : {X : Type 0} (xs ys : List X) (k i : ℕ) → k ≤ i → length ys ≡ k →
+    drop (i + 1) (ys ++ drop k xs) ≡ drop (i + 1) xs
 behind xs ys k i few long =
     let there : i + 1 - k + k ≡ i + 1 = omega arith in
     let from : k + (i + 1 - k) ≡ i + 1 = omega arith in
@@ -27,7 +28,9 @@ by : (b : Bool) → cond {A = ℕ} (not b) 1 0 ≡ cond {A = ℕ} b 0 1
 by true = refl
 by false = refl
 
-pub count_next : (gs : List hb_glyph_info_t) (i : ℕ) (b : Bool) → i < length gs → is_default_ignorable (get_or gs i default_glyph) ≡ b → count_by is_kept (drop i gs) ≡ cond {A = ℕ} b 0 1 + count_by is_kept (drop (i + 1) gs)
+pub count_next : (gs : List hb_glyph_info_t) (i : ℕ) (b : Bool) → i < length gs →
+    is_default_ignorable (get_or gs i default_glyph) ≡ b →
+    count_by is_kept (drop i gs) ≡ cond {A = ℕ} b 0 1 + count_by is_kept (drop (i + 1) gs)
 count_next gs i b inside is =
     ap (count_by is_kept) (drop_more gs i default_glyph inside)
     ∙ sum_by-cons (λ (g : hb_glyph_info_t). cond {A = ℕ} (is_kept g) 1 0) (get_or gs i default_glyph) (drop (i + 1) gs)
@@ -35,15 +38,21 @@ count_next gs i b inside is =
 
 -- ---- a glyph that stays
 
-pub stays_rest : (gs : List hb_glyph_info_t) (k i : ℕ) (g : hb_glyph_info_t) → k ≤ i → i < length gs → get_or gs i default_glyph ≡ g → is_default_ignorable g ≡ false → removed_behind (take (k + 1) (set gs k g)) (drop (i + 1) (set gs k g)) ≡ removed_behind (take k gs) (drop i gs)
+pub stays_rest : (gs : List hb_glyph_info_t) (k i : ℕ) (g : hb_glyph_info_t) → k ≤ i → i < length gs →
+    get_or gs i default_glyph ≡ g → is_default_ignorable g ≡ false →
+    removed_behind (take (k + 1) (set gs k g)) (drop (i + 1) (set gs k g)) ≡ removed_behind (take k gs) (drop i gs)
 stays_rest gs k i g few inside at is =
-    let more : drop i gs ≡ g ∷ drop (i + 1) gs = drop_more gs i default_glyph inside ∙ ap (λ x. x ∷ drop (i + 1) gs) at in
+    let more : drop i gs ≡ g ∷ drop (i + 1) gs = drop_more gs i default_glyph inside
+    ∙ ap (λ x. x ∷ drop (i + 1) gs) at in
     ap (λ xs. removed_behind xs (drop (i + 1) (set gs k g))) (take_more_set gs k g (omega arith))
     ∙ ap (removed_behind (take k gs ++ g ∷ [])) (drop-set-lt (i + 1) gs k g (omega arith))
-    ∙ sym (ap (λ b. cond b (removed_behind (cond (goes_on g.cluster (drop (i + 1) gs)) (take k gs) (covering g (take k gs))) (drop (i + 1) gs)) (removed_behind (take k gs ++ g ∷ []) (drop (i + 1) gs))) is)
+    ∙ sym (ap (λ b. cond b (removed_behind (cond (goes_on g.cluster (drop (i + 1) gs)) (take k gs)
+    (covering g (take k gs))) (drop (i + 1) gs)) (removed_behind (take k gs ++ g ∷ []) (drop (i + 1) gs))) is)
     ∙ sym (ap (removed_behind (take k gs)) more)
 
-pub stays_count : (gs : List hb_glyph_info_t) (k i : ℕ) (g : hb_glyph_info_t) → k ≤ i → i < length gs → get_or gs i default_glyph ≡ g → is_default_ignorable g ≡ false → k + 1 + count_by is_kept (drop (i + 1) (set gs k g)) ≡ k + count_by is_kept (drop i gs)
+pub stays_count : (gs : List hb_glyph_info_t) (k i : ℕ) (g : hb_glyph_info_t) → k ≤ i → i < length gs →
+    get_or gs i default_glyph ≡ g → is_default_ignorable g ≡ false →
+    k + 1 + count_by is_kept (drop (i + 1) (set gs k g)) ≡ k + count_by is_kept (drop i gs)
 stays_count gs k i g few inside at is =
     let same = ap (count_by is_kept) (drop-set-lt (i + 1) gs k g (omega arith)) in
     let one = count_next gs i false inside (ap is_default_ignorable at ∙ is) in
@@ -51,30 +60,45 @@ stays_count gs k i g few inside at is =
 
 -- ---- one that goes
 
-goes_by : (gs : List hb_glyph_info_t) (k i : ℕ) (g : hb_glyph_info_t) (b : Bool) → i < length gs → get_or gs i default_glyph ≡ g → is_default_ignorable g ≡ true → goes_on g.cluster (drop (i + 1) gs) ≡ b → removed_behind (cond b (take k gs) (covering g (take k gs))) (drop (i + 1) gs) ≡ removed_behind (take k gs) (drop i gs)
+goes_by : (gs : List hb_glyph_info_t) (k i : ℕ) (g : hb_glyph_info_t) (b : Bool) → i < length gs →
+    get_or gs i default_glyph ≡ g → is_default_ignorable g ≡ true → goes_on g.cluster (drop (i + 1) gs) ≡ b →
+    removed_behind (cond b (take k gs) (covering g (take k gs))) (drop (i + 1) gs)
+    ≡ removed_behind (take k gs) (drop i gs)
 goes_by gs k i g b inside at is on =
-    let more : drop i gs ≡ g ∷ drop (i + 1) gs = drop_more gs i default_glyph inside ∙ ap (λ x. x ∷ drop (i + 1) gs) at in
+    let more : drop i gs ≡ g ∷ drop (i + 1) gs = drop_more gs i default_glyph inside
+    ∙ ap (λ x. x ∷ drop (i + 1) gs) at in
     sym (ap (λ b. removed_behind (cond b (take k gs) (covering g (take k gs))) (drop (i + 1) gs)) on)
-    ∙ sym (ap (λ b. cond b (removed_behind (cond (goes_on g.cluster (drop (i + 1) gs)) (take k gs) (covering g (take k gs))) (drop (i + 1) gs)) (removed_behind (take k gs ++ g ∷ []) (drop (i + 1) gs))) is)
+    ∙ sym (ap (λ b. cond b (removed_behind (cond (goes_on g.cluster (drop (i + 1) gs)) (take k gs)
+    (covering g (take k gs))) (drop (i + 1) gs)) (removed_behind (take k gs ++ g ∷ []) (drop (i + 1) gs))) is)
     ∙ sym (ap (removed_behind (take k gs)) more)
 
 -- its cluster goes on behind it
-pub goes_rest : (gs : List hb_glyph_info_t) (k i : ℕ) (g : hb_glyph_info_t) → i < length gs → get_or gs i default_glyph ≡ g → is_default_ignorable g ≡ true → goes_on g.cluster (drop (i + 1) gs) ≡ true → removed_behind (take k gs) (drop (i + 1) gs) ≡ removed_behind (take k gs) (drop i gs)
+pub goes_rest : (gs : List hb_glyph_info_t) (k i : ℕ) (g : hb_glyph_info_t) → i < length gs →
+    get_or gs i default_glyph ≡ g → is_default_ignorable g ≡ true → goes_on g.cluster (drop (i + 1) gs) ≡ true →
+    removed_behind (take k gs) (drop (i + 1) gs) ≡ removed_behind (take k gs) (drop i gs)
 goes_rest gs k i g inside at is on = goes_by gs k i g true inside at is on
 
-pub goes_count : (gs : List hb_glyph_info_t) (k i : ℕ) (g : hb_glyph_info_t) → i < length gs → get_or gs i default_glyph ≡ g → is_default_ignorable g ≡ true → k + count_by is_kept (drop (i + 1) gs) ≡ k + count_by is_kept (drop i gs)
+pub goes_count : (gs : List hb_glyph_info_t) (k i : ℕ) (g : hb_glyph_info_t) → i < length gs →
+    get_or gs i default_glyph ≡ g → is_default_ignorable g ≡ true →
+    k + count_by is_kept (drop (i + 1) gs) ≡ k + count_by is_kept (drop i gs)
 goes_count gs k i g inside at is =
     let none = count_next gs i true inside (ap is_default_ignorable at ∙ is) in
     omega (arith, none)
 
 -- it doesn't, and those before take it in
-pub covered_rest : (gs new : List hb_glyph_info_t) (k i : ℕ) (g : hb_glyph_info_t) → k ≤ i → i < length gs → get_or gs i default_glyph ≡ g → is_default_ignorable g ≡ true → goes_on g.cluster (drop (i + 1) gs) ≡ false → new ≡ covering g (take k gs) → length new ≡ k → removed_behind (take k (new ++ drop k gs)) (drop (i + 1) (new ++ drop k gs)) ≡ removed_behind (take k gs) (drop i gs)
+pub covered_rest : (gs new : List hb_glyph_info_t) (k i : ℕ) (g : hb_glyph_info_t) → k ≤ i → i < length gs →
+    get_or gs i default_glyph ≡ g → is_default_ignorable g ≡ true → goes_on g.cluster (drop (i + 1) gs) ≡ false →
+    new ≡ covering g (take k gs) → length new ≡ k →
+    removed_behind (take k (new ++ drop k gs)) (drop (i + 1) (new ++ drop k gs))
+    ≡ removed_behind (take k gs) (drop i gs)
 covered_rest gs new k i g few inside at is on covers long =
     ap (λ xs. removed_behind xs (drop (i + 1) (new ++ drop k gs))) (take_at new (drop k gs) k long ∙ covers)
     ∙ ap (removed_behind (covering g (take k gs))) (behind gs new k i few long)
     ∙ goes_by gs k i g false inside at is on
 
-pub covered_count : (gs new : List hb_glyph_info_t) (k i : ℕ) (g : hb_glyph_info_t) → k ≤ i → i < length gs → get_or gs i default_glyph ≡ g → is_default_ignorable g ≡ true → length new ≡ k → k + count_by is_kept (drop (i + 1) (new ++ drop k gs)) ≡ k + count_by is_kept (drop i gs)
+pub covered_count : (gs new : List hb_glyph_info_t) (k i : ℕ) (g : hb_glyph_info_t) → k ≤ i → i < length gs →
+    get_or gs i default_glyph ≡ g → is_default_ignorable g ≡ true → length new ≡ k →
+    k + count_by is_kept (drop (i + 1) (new ++ drop k gs)) ≡ k + count_by is_kept (drop i gs)
 covered_count gs new k i g few inside at is long =
     ap (λ xs. k + count_by is_kept xs) (behind gs new k i few long) ∙ goes_count gs k i g inside at is
 
@@ -87,5 +111,7 @@ count_view (g ∷ gs) =
     sum_by-cons one (plain g) (order_view gs) ∙ ap (λ n. one g + n) (count_view gs) ∙ sym (sum_by-cons one g gs)
 
 -- as many stay
-pub count_merged : (level : BufferClusterLevel) (s e : ℕ) (gs : List hb_glyph_info_t) → count_by is_kept (merge level s e gs) ≡ count_by is_kept gs
-count_merged level s e gs = sym (count_view (merge level s e gs)) ∙ ap (count_by is_kept) (order_view-merge level s e gs) ∙ count_view gs
+pub count_merged : (level : BufferClusterLevel) (s e : ℕ) (gs : List hb_glyph_info_t) →
+    count_by is_kept (merge level s e gs) ≡ count_by is_kept gs
+count_merged level s e gs = sym (count_view (merge level s e gs))
+    ∙ ap (count_by is_kept) (order_view-merge level s e gs) ∙ count_view gs

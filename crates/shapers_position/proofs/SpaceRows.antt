@@ -10,31 +10,43 @@ use Rattle.shapers_position.specs.Spaces.{digits, is_space_glyph, part_of_em, sp
 
 -- a font that has these characters, each ten units wider than its number
 abbrev font : List ℕ → Font
-font cs = record { nominal = λ c. if list_any (λ d. d == c) cs then Some (record { 0 = c }) else None; advance = λ glyph. pos (glyph.0 + 10); applies = λ lookup glyphs zero. false; offers = λ tag. false }
+font cs = record {
+  nominal = λ c. if list_any (λ d. d == c) cs then Some (record { 0 = c }) else None;
+  advance = λ glyph. pos (glyph.0 + 10);
+  applies = λ lookup glyphs zero. false;
+  offers = λ tag. false;
+}
 
 abbrev whole : Font
 whole = font (0x2C ∷ 0x2E ∷ 0x30 ∷ 0x31 ∷ 0x39 ∷ [])
 
 -- each kind, in an em of 1000, whose glyph is 251 wide: kinds 0, 7, 15, 18 and 22 stand for none
-kinds : map (λ kind. space_width whole 1000 kind (pos 251)) (0 ∷ 1 ∷ 2 ∷ 3 ∷ 4 ∷ 5 ∷ 6 ∷ 7 ∷ 15 ∷ 16 ∷ 17 ∷ 18 ∷ 19 ∷ 20 ∷ 21 ∷ 22 ∷ 255 ∷ []) ≡ pos 251 ∷ pos 1000 ∷ pos 500 ∷ pos 333 ∷ pos 250 ∷ pos 200 ∷ pos 167 ∷ pos 251 ∷ pos 251 ∷ pos 63 ∷ pos 222 ∷ pos 251 ∷ pos 58 ∷ pos 56 ∷ pos 125 ∷ pos 251 ∷ pos 251 ∷ []
+kinds : map (λ kind. space_width whole 1000 kind (pos 251)) (0 ∷ 1 ∷ 2 ∷ 3 ∷ 4 ∷ 5 ∷ 6 ∷ 7 ∷ 15 ∷ 16 ∷ 17 ∷ 18 ∷ 19 ∷
+    20 ∷ 21 ∷ 22 ∷ 255 ∷ []) ≡ pos 251 ∷ pos 1000 ∷ pos 500 ∷ pos 333 ∷ pos 250 ∷ pos 200 ∷ pos 167 ∷ pos 251 ∷
+    pos 251 ∷ pos 63 ∷ pos 222 ∷ pos 251 ∷ pos 58 ∷ pos 56 ∷ pos 125 ∷ pos 251 ∷ pos 251 ∷ []
 kinds = refl
 
 -- parts are rounded, a half up; the least and the greatest em
-parts : part_of_em 1 2 ∷ part_of_em 3 2 ∷ part_of_em 7 3 ∷ part_of_em 8 3 ∷ part_of_em 8 16 ∷ part_of_em 7 16 ∷ part_of_em 0 1 ∷ part_of_em 65535 1 ∷ [] ≡ pos 1 ∷ pos 2 ∷ pos 2 ∷ pos 3 ∷ pos 1 ∷ pos 0 ∷ pos 0 ∷ pos 65535 ∷ []
+parts : part_of_em 1 2 ∷ part_of_em 3 2 ∷ part_of_em 7 3 ∷ part_of_em 8 3 ∷ part_of_em 8 16 ∷ part_of_em 7 16 ∷
+    part_of_em 0 1 ∷ part_of_em 65535 1 ∷ [] ≡ pos 1 ∷ pos 2 ∷ pos 2 ∷ pos 3 ∷ pos 1 ∷ pos 0 ∷ pos 0 ∷ pos 65535 ∷ []
 parts = refl
 
-eighteenths : map (λ em. space_width whole em 17 (pos 1)) (0 ∷ 4 ∷ 5 ∷ 2048 ∷ 65535 ∷ []) ≡ pos 0 ∷ pos 0 ∷ pos 1 ∷ pos 455 ∷ pos 14563 ∷ []
+eighteenths : map (λ em. space_width whole em 17 (pos 1)) (0 ∷ 4 ∷ 5 ∷ 2048 ∷ 65535 ∷ []) ≡ pos 0 ∷ pos 0 ∷ pos 1 ∷
+    pos 455 ∷ pos 14563 ∷ []
 eighteenths = refl
 
 -- the first digit that there is, and the stop, else the comma; where there is none, the advance stays
-lacking : map (λ cs. space_width (font cs) 1000 19 (pos 7)) ((0x39 ∷ 0x31 ∷ []) ∷ (0x39 ∷ []) ∷ (0x3A ∷ 0x2F ∷ []) ∷ [] ∷ []) ≡ pos 59 ∷ pos 67 ∷ pos 7 ∷ pos 7 ∷ []
+lacking : map (λ cs. space_width (font cs) 1000 19 (pos 7)) ((0x39 ∷ 0x31 ∷ []) ∷ (0x39 ∷ []) ∷ (0x3A ∷ 0x2F ∷ []) ∷
+    [] ∷ []) ≡ pos 59 ∷ pos 67 ∷ pos 7 ∷ pos 7 ∷ []
 lacking = refl
 
-lacking_stops : map (λ cs. space_width (font cs) 1000 20 (pos 7)) ((0x2C ∷ 0x2E ∷ []) ∷ (0x2C ∷ []) ∷ (0x2D ∷ []) ∷ [] ∷ []) ≡ pos 56 ∷ pos 54 ∷ pos 7 ∷ pos 7 ∷ []
+lacking_stops : map (λ cs. space_width (font cs) 1000 20 (pos 7)) ((0x2C ∷ 0x2E ∷ []) ∷ (0x2C ∷ []) ∷ (0x2D ∷ []) ∷
+    [] ∷ []) ≡ pos 56 ∷ pos 54 ∷ pos 7 ∷ pos 7 ∷ []
 lacking_stops = refl
 
 -- half, toward zero
-halves : map (λ advance. space_width whole 1000 21 advance) (pos 250 ∷ pos 251 ∷ pos 1 ∷ pos 0 ∷ neg_ℤ (pos 1) ∷ neg_ℤ (pos 251) ∷ []) ≡ pos 125 ∷ pos 125 ∷ pos 0 ∷ pos 0 ∷ pos 0 ∷ neg_ℤ (pos 125) ∷ []
+halves : map (λ advance. space_width whole 1000 21 advance) (pos 250 ∷ pos 251 ∷ pos 1 ∷ pos 0 ∷ neg_ℤ (pos 1) ∷
+    neg_ℤ (pos 251) ∷ []) ≡ pos 125 ∷ pos 125 ∷ pos 0 ∷ pos 0 ∷ pos 0 ∷ neg_ℤ (pos 125) ∷ []
 halves = refl
 
 digit_rows : digits ≡ 48 ∷ 49 ∷ 50 ∷ 51 ∷ 52 ∷ 53 ∷ 54 ∷ 55 ∷ 56 ∷ 57 ∷ []
@@ -50,11 +62,13 @@ space byte = record default_glyph { general_category = Zs; modified_combining_cl
 abbrev no_space : hb_glyph_info_t
 no_space = record default_glyph { general_category = Lo; modified_combining_class = 1 }
 
-spaces : map is_space_glyph (space 0 ∷ space 1 ∷ space 2 ∷ space 0xFD ∷ space 0xFF ∷ no_space ∷ []) ≡ true ∷ true ∷ false ∷ true ∷ false ∷ false ∷ []
+spaces : map is_space_glyph (space 0 ∷ space 1 ∷ space 2 ∷ space 0xFD ∷ space 0xFF ∷ no_space ∷ []) ≡ true ∷ true ∷
+    false ∷ true ∷ false ∷ false ∷ []
 spaces = refl
 
 abbrev place : ℕ → GlyphPosition
 place x = record { x_advance = pos x; y_advance = pos 2; x_offset = pos 3; y_offset = pos 4 }
 
-placed : map (λ g. space_placed whole 1000 g (place 9)) (space 0 ∷ space 2 ∷ no_space ∷ []) ≡ place 1000 ∷ place 9 ∷ place 9 ∷ []
+placed : map (λ g. space_placed whole 1000 g (place 9)) (space 0 ∷ space 2 ∷ no_space ∷ []) ≡ place 1000 ∷ place 9 ∷
+    place 9 ∷ []
 placed = refl

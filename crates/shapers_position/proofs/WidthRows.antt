@@ -11,7 +11,12 @@ use Rattle.shapers_position.specs.Widths.{advanced, glyph_of, hung_back, marks_z
 
 -- a font whose glyphs are as wide as their numbers
 abbrev font : Font
-font = record { nominal = λ c. None; advance = λ glyph. pos glyph.0; applies = λ lookup glyphs zero. false; offers = λ tag. false }
+font = record {
+  nominal = λ c. None;
+  advance = λ glyph. pos glyph.0;
+  applies = λ lookup glyphs zero. false;
+  offers = λ tag. false;
+}
 
 abbrev glyph : ℕ → ℕ → hb_glyph_info_t
 glyph n byte = record default_glyph { glyph_id = n; marks = record { 0 = byte } }
@@ -20,7 +25,10 @@ abbrev spot : ℤ → ℤ → ℤ → ℤ → GlyphPosition
 spot x y dx dy = record { x_advance = x; y_advance = y; x_offset = dx; y_offset = dy }
 
 -- a glyph that no lookup moved; numbers above 65535 are asked for as that one
-placed : map (advanced font) (glyph 0 0 ∷ glyph 600 0 ∷ glyph 65534 0 ∷ glyph 65535 0 ∷ glyph 65536 0 ∷ glyph 4294967295 0 ∷ []) ≡ spot (pos 0) (pos 0) (pos 0) (pos 0) ∷ spot (pos 600) (pos 0) (pos 0) (pos 0) ∷ spot (pos 65534) (pos 0) (pos 0) (pos 0) ∷ spot (pos 65535) (pos 0) (pos 0) (pos 0) ∷ spot (pos 65535) (pos 0) (pos 0) (pos 0) ∷ spot (pos 65535) (pos 0) (pos 0) (pos 0) ∷ []
+placed : map (advanced font) (glyph 0 0 ∷ glyph 600 0 ∷ glyph 65534 0 ∷ glyph 65535 0 ∷ glyph 65536 0 ∷
+    glyph 4294967295 0 ∷ []) ≡ spot (pos 0) (pos 0) (pos 0) (pos 0) ∷ spot (pos 600) (pos 0) (pos 0) (pos 0) ∷
+    spot (pos 65534) (pos 0) (pos 0) (pos 0) ∷ spot (pos 65535) (pos 0) (pos 0) (pos 0) ∷
+    spot (pos 65535) (pos 0) (pos 0) (pos 0) ∷ spot (pos 65535) (pos 0) (pos 0) (pos 0) ∷ []
 placed = refl
 
 numbers : map glyph_of (glyph 7 0 ∷ glyph 65536 0 ∷ []) ≡ record { 0 = 7 } ∷ record { 0 = 65535 } ∷ []
@@ -31,11 +39,14 @@ still : without_advance (spot (pos 500) (pos 20) (pos 3) (negsuc 3)) ≡ spot (p
 still = refl
 
 -- back by the advance, along both axes; it stays until it is taken
-back : hung_back (spot (pos 500) (neg_ℤ (pos 20)) (pos 3) (pos 4)) ≡ spot (pos 500) (neg_ℤ (pos 20)) (neg_ℤ (pos 497)) (pos 24)
+back : hung_back (spot (pos 500) (neg_ℤ (pos 20)) (pos 3) (pos 4))
+    ≡ spot (pos 500) (neg_ℤ (pos 20)) (neg_ℤ (pos 497)) (pos 24)
 back = refl
 
 -- offsets stop at the bounds of 32 bits
-bounds : map nearest (pos 2147483646 ∷ pos 2147483647 ∷ pos 2147483648 ∷ neg_ℤ (pos 2147483647) ∷ neg_ℤ (pos 2147483648) ∷ neg_ℤ (pos 2147483649) ∷ []) ≡ pos 2147483646 ∷ pos 2147483647 ∷ pos 2147483647 ∷ neg_ℤ (pos 2147483647) ∷ neg_ℤ (pos 2147483648) ∷ neg_ℤ (pos 2147483648) ∷ []
+bounds : map nearest (pos 2147483646 ∷ pos 2147483647 ∷ pos 2147483648 ∷ neg_ℤ (pos 2147483647) ∷
+    neg_ℤ (pos 2147483648) ∷ neg_ℤ (pos 2147483649) ∷ []) ≡ pos 2147483646 ∷ pos 2147483647 ∷ pos 2147483647 ∷
+    neg_ℤ (pos 2147483647) ∷ neg_ℤ (pos 2147483648) ∷ neg_ℤ (pos 2147483648) ∷ []
 bounds = refl
 
 -- the second of three is a mark
@@ -43,26 +54,32 @@ abbrev text : List hb_glyph_info_t
 text = glyph 1 0 ∷ glyph 2 0 ∷ glyph 3 0 ∷ []
 
 abbrev places : List GlyphPosition
-places = spot (pos 10) (pos 1) (pos 5) (pos 6) ∷ spot (pos 20) (pos 2) (pos 7) (pos 8) ∷ spot (pos 30) (pos 3) (pos 9) (pos 4) ∷ []
+places = spot (pos 10) (pos 1) (pos 5) (pos 6) ∷ spot (pos 20) (pos 2) (pos 7) (pos 8) ∷
+    spot (pos 30) (pos 3) (pos 9) (pos 4) ∷ []
 
 abbrev is_mark : hb_glyph_info_t → Bool
 is_mark g = g.glyph_id == 2
 
-marks : marks_zeroed is_mark false text places ≡ spot (pos 10) (pos 1) (pos 5) (pos 6) ∷ spot (pos 0) (pos 0) (pos 7) (pos 8) ∷ spot (pos 30) (pos 3) (pos 9) (pos 4) ∷ []
+marks : marks_zeroed is_mark false text places ≡ spot (pos 10) (pos 1) (pos 5) (pos 6) ∷
+    spot (pos 0) (pos 0) (pos 7) (pos 8) ∷ spot (pos 30) (pos 3) (pos 9) (pos 4) ∷ []
 marks = refl
 
-marks_hung : marks_zeroed is_mark true text places ≡ spot (pos 10) (pos 1) (pos 5) (pos 6) ∷ spot (pos 0) (pos 0) (neg_ℤ (pos 13)) (pos 6) ∷ spot (pos 30) (pos 3) (pos 9) (pos 4) ∷ []
+marks_hung : marks_zeroed is_mark true text places ≡ spot (pos 10) (pos 1) (pos 5) (pos 6) ∷
+    spot (pos 0) (pos 0) (neg_ℤ (pos 13)) (pos 6) ∷ spot (pos 30) (pos 3) (pos 9) (pos 4) ∷ []
 marks_hung = refl
 
 no_positions : marks_zeroed is_mark true text [] ≡ []
 no_positions = refl
 
 -- ignorable: bit 8 without bit 1, whatever the other marks are
-ignorables : map (λ byte. is_default_ignorable (glyph 0 byte)) (0 ∷ 1 ∷ 8 ∷ 9 ∷ 0x1C ∷ 0xFE ∷ 0xFF ∷ 0xF7 ∷ []) ≡ false ∷ false ∷ true ∷ false ∷ true ∷ true ∷ false ∷ false ∷ []
+ignorables : map (λ byte. is_default_ignorable (glyph 0 byte)) (0 ∷ 1 ∷ 8 ∷ 9 ∷ 0x1C ∷ 0xFE ∷ 0xFF ∷ 0xF7 ∷ [])
+    ≡ false ∷ false ∷ true ∷ false ∷ true ∷ true ∷ false ∷ false ∷ []
 ignorables = refl
 
 -- an advance goes, and the offset along the line
-along : without_extent true (spot (pos 1) (pos 2) (pos 3) (pos 4)) ∷ without_extent false (spot (pos 1) (pos 2) (pos 3) (pos 4)) ∷ [] ≡ spot (pos 0) (pos 0) (pos 0) (pos 4) ∷ spot (pos 0) (pos 0) (pos 3) (pos 0) ∷ []
+along : without_extent true (spot (pos 1) (pos 2) (pos 3) (pos 4)) ∷
+    without_extent false (spot (pos 1) (pos 2) (pos 3) (pos 4)) ∷ [] ≡ spot (pos 0) (pos 0) (pos 0) (pos 4) ∷
+    spot (pos 0) (pos 0) (pos 3) (pos 0) ∷ []
 along = refl
 
 abbrev hidden : List hb_glyph_info_t
@@ -70,18 +87,23 @@ hidden = glyph 1 0 ∷ glyph 2 8 ∷ glyph 3 9 ∷ []
 
 -- in each direction: only the second is hidden
 abbrev level_place : List GlyphPosition
-level_place = spot (pos 10) (pos 1) (pos 5) (pos 6) ∷ spot (pos 0) (pos 0) (pos 0) (pos 8) ∷ spot (pos 30) (pos 3) (pos 9) (pos 4) ∷ []
+level_place = spot (pos 10) (pos 1) (pos 5) (pos 6) ∷ spot (pos 0) (pos 0) (pos 0) (pos 8) ∷
+    spot (pos 30) (pos 3) (pos 9) (pos 4) ∷ []
 
 abbrev upright_place : List GlyphPosition
-upright_place = spot (pos 10) (pos 1) (pos 5) (pos 6) ∷ spot (pos 0) (pos 0) (pos 7) (pos 0) ∷ spot (pos 30) (pos 3) (pos 9) (pos 4) ∷ []
+upright_place = spot (pos 10) (pos 1) (pos 5) (pos 6) ∷ spot (pos 0) (pos 0) (pos 7) (pos 0) ∷
+    spot (pos 30) (pos 3) (pos 9) (pos 4) ∷ []
 
-directions : map (λ d. ignorables_zeroed Hide d hidden places) (Invalid ∷ LeftToRight ∷ RightToLeft ∷ TopToBottom ∷ BottomToTop ∷ []) ≡ upright_place ∷ level_place ∷ level_place ∷ upright_place ∷ upright_place ∷ []
+directions : map (λ d. ignorables_zeroed Hide d hidden places) (Invalid ∷ LeftToRight ∷ RightToLeft ∷ TopToBottom ∷
+    BottomToTop ∷ []) ≡ upright_place ∷ level_place ∷ level_place ∷ upright_place ∷ upright_place ∷ []
 directions = refl
 
 -- those that are drawn, or that go, keep their width
-untouched : ignorables_zeroed Preserve LeftToRight hidden places ∷ ignorables_zeroed Remove LeftToRight hidden places ∷ [] ≡ places ∷ places ∷ []
+untouched : ignorables_zeroed Preserve LeftToRight hidden places ∷
+    ignorables_zeroed Remove LeftToRight hidden places ∷ [] ≡ places ∷ places ∷ []
 untouched = refl
 
 -- HarfBuzz's bits 4 and 8, and no others
-by_bits : map ignorables_for (0 ∷ 1 ∷ 3 ∷ 4 ∷ 8 ∷ 12 ∷ 0xFFFFFFF3 ∷ 0xFFFFFFFB ∷ 0xFFFFFFFF ∷ []) ≡ Hide ∷ Hide ∷ Hide ∷ Preserve ∷ Remove ∷ Preserve ∷ Hide ∷ Remove ∷ Preserve ∷ []
+by_bits : map ignorables_for (0 ∷ 1 ∷ 3 ∷ 4 ∷ 8 ∷ 12 ∷ 0xFFFFFFF3 ∷ 0xFFFFFFFB ∷ 0xFFFFFFFF ∷ []) ≡ Hide ∷ Hide ∷
+    Hide ∷ Preserve ∷ Remove ∷ Preserve ∷ Hide ∷ Remove ∷ Preserve ∷ []
 by_bits = refl

@@ -12,7 +12,8 @@ use Rattle.shapers_normal.specs.Decomposition.{is_space_separator}
 abbrev pub first_advance : Font → List ℕ → ℤ → ℤ
 first_advance font [] else_advance = else_advance
 first_advance font (c ∷ cs) else_advance =
-    option_map_or (λ glyph. font.advance glyph) (font.nominal c) (first_advance font cs else_advance)
+    option_map_or (λ glyph. font.advance glyph) (font.nominal c)
+    (first_advance font cs else_advance)
 
 -- the digits, and the stops that a space of punctuation is as wide as
 abbrev pub digits : List ℕ

@@ -1,7 +1,8 @@
 //! What is done to glyphs around a font's positioning lookups and behind them, in the order of
 //! HarfBuzz's steps:
 //!
-//! 1. [`set_advances`] gives each glyph a position, with its advance in the font;
+//! 1. [`set_advances`] gives each glyph a position, with its advance in the font, and
+//!    [`set_space_widths`] spaces that the font lacks the width that they stand for;
 //! 2. [`zero_mark_widths`] takes marks their advance, before the lookups or behind them, as the
 //!    shaper wants it ([`Shaper::zero_width_marks`](crate::Shaper::zero_width_marks));
 //! 3. [`zero_width_default_ignorables`] does so for glyphs of characters that need not be drawn;

@@ -5,13 +5,15 @@ mod common;
 
 use common::numbers::Numbers;
 use sengadlit::buffer::{
-    Buffer, BufferClusterLevel, BufferFlags, Direction, GlyphInfo, GlyphMarks, GlyphPosition, Tag,
+    Buffer, BufferClusterLevel, BufferFlags, Direction, GeneralCategory, GlyphInfo, GlyphMarks,
+    GlyphPosition, Tag,
 };
 use sengadlit::font::{Font, GlyphId, NominalOnly};
 use sengadlit::ot_shape_position::{
-    DefaultIgnorables, GlyphClasses, hide_default_ignorables, propagate_flags, set_advances,
-    zero_mark_widths, zero_width_default_ignorables,
+    DefaultIgnorables, GlyphClasses, SpaceFont, hide_default_ignorables, propagate_flags,
+    set_advances, set_space_widths, zero_mark_widths, zero_width_default_ignorables,
 };
+use std::panic;
 
 /// A font whose glyphs are as wide as their numbers, without a space.
 struct Wide;
@@ -216,6 +218,91 @@ fn widths() {
     buffer.set_direction(Direction::TopToBottom);
     zero_width_default_ignorables(DefaultIgnorables::Hide, &mut buffer);
     assert_eq!(buffer.position(1), at(0, 0, 1, 0));
+}
+
+impl SpaceFont for Wide {
+    fn units_per_em(&self) -> u16 {
+        1000
+    }
+}
+
+#[test]
+fn widths_of_spaces() {
+    let space = |kind, marks| GlyphInfo {
+        glyph_id: 251,
+        general_category: GeneralCategory::Zs,
+        modified_combining_class: kind,
+        marks,
+        ..GlyphInfo::DEFAULT
+    };
+    let kinds = [0, 1, 3, 16, 17, 18, 19, 20, 21].map(|kind| space(kind, GlyphMarks::NONE));
+    let ligature = space(1, GlyphMarks::LIGATED);
+    let mut buffer: Buffer = kinds.into_iter().chain([ligature]).collect();
+    set_advances(&Wide, &mut buffer).unwrap();
+    set_space_widths(&Wide, &mut buffer);
+    let advances: Vec<i32> = buffer.positions().iter().map(|p| p.x_advance).collect();
+    // (the font has neither digits nor stops)
+    assert_eq!(advances, [251, 1000, 333, 63, 222, 251, 251, 251, 125, 251]);
+}
+
+/// Classes, and a font, that panic.
+struct Panicking;
+
+impl GlyphClasses for Panicking {
+    fn is_mark(&self, _: &GlyphInfo) -> bool {
+        panic::resume_unwind(Box::new("the caller's code"))
+    }
+}
+
+impl Font for Panicking {
+    fn get_nominal_glyph(&self, _: u32) -> Option<GlyphId> {
+        panic::resume_unwind(Box::new("the caller's code"))
+    }
+
+    fn glyph_h_advance(&self, _: GlyphId) -> i32 {
+        panic::resume_unwind(Box::new("the caller's code"))
+    }
+
+    fn would_apply(&self, _: u16, _: &[GlyphId], _: bool) -> bool {
+        false
+    }
+
+    fn has_feature(&self, _: Tag) -> bool {
+        false
+    }
+}
+
+impl SpaceFont for Panicking {
+    fn units_per_em(&self) -> u16 {
+        panic::resume_unwind(Box::new("the caller's code"))
+    }
+}
+
+#[test]
+fn panics_leave_no_half() {
+    let placed = || {
+        let mut buffer = text(&[(1, 0, 0), (0, 1, 0)]);
+        buffer.with_glyphs_mut(|glyphs| {
+            glyphs[0].general_category = GeneralCategory::Zs;
+            glyphs[0].modified_combining_class = 1;
+        });
+        set_advances(&Wide, &mut buffer).unwrap();
+        buffer
+    };
+    let calls: [fn(&mut Buffer); 4] = [
+        |buffer| set_advances(&Panicking, buffer).unwrap(),
+        |buffer| set_space_widths(&Panicking, buffer),
+        |buffer| zero_mark_widths(&Panicking, false, buffer),
+        |buffer| hide_default_ignorables(DefaultIgnorables::Hide, None, &Panicking, buffer),
+    ];
+    for call in calls {
+        let mut buffer = placed();
+        let caught = panic::catch_unwind(panic::AssertUnwindSafe(|| call(&mut buffer)));
+        assert!(caught.is_err());
+        let old = placed();
+        let is_old = buffer.glyphs() == old.glyphs() && buffer.positions() == old.positions();
+        assert!(buffer.is_empty() || is_old);
+    }
 }
 
 #[test]

@@ -10,8 +10,8 @@ use glyph_flag::{SAFE_TO_INSERT_TATWEEL, UNSAFE_TO_BREAK, UNSAFE_TO_CONCAT};
 use shapers_base::buffer::{BufferFlags, GlyphWalk, glyph_flag, hb_buffer_t, hb_glyph_info_t};
 
 /// Gives all glyphs of a cluster the flags that one of them has, so that a line breaker may read
-/// any. `UNSAFE_TO_CONCAT` is kept where the buffer wants it. Where it wants tatweels, a cluster that
-/// is unsafe to break takes none before it, and one that takes one is unsafe to break and to
+/// any. `UNSAFE_TO_CONCAT` is kept where the buffer wants it. Where it wants tatweels, a cluster
+/// that is unsafe to break takes none before it, and one that takes one is unsafe to break and to
 /// concatenate: the line would lose the tatweel. (HarfBuzz's `hb_propagate_flags`.)
 pub fn propagate_flags(buffer: &mut hb_buffer_t)
     ensures { let text = flags_propagated buffer.old.flags buffer.old.glyphs in

@@ -7,17 +7,18 @@ pub fn positions_law()
     ensures { PositionsLaw }
 {}
 
-/// What `hide_default_ignorables` makes of any glyphs. Where the ignorable ones are drawn by another
-/// glyph, they keep all but their number. Where they go, it leaves the others in their order, with
-/// their positions, in clusters that were there; where these rise, or fall, they still do.
+/// What `hide_default_ignorables` makes of any glyphs. Where the ignorable ones are drawn by
+/// another glyph, they keep all but their number. Where they go, it leaves the others in their
+/// order, with their positions, in clusters that were there; where these rise, or fall, they still
+/// do.
 pub fn hiding_law()
     ensures drawn { DrawnLaw }
     ensures removed { RemovalLaw }
 {}
 
-/// What `propagate_flags` makes of any glyphs: nothing but glyph flags changes, those of a cluster are
-/// alike, a second time changes nothing unless tatweels are wanted, and one glyph tells whether a
-/// line may be broken beside it.
+/// What `propagate_flags` makes of any glyphs: nothing but glyph flags changes, those of a cluster
+/// are alike, a second time changes nothing unless tatweels are wanted, and one glyph tells whether
+/// a line may be broken beside it.
 pub fn flags_law()
     ensures shared { FlagsLaw }
     ensures one_glyph { OneGlyphTells }

@@ -36,10 +36,10 @@ const DIGITS: [u32; 10] = [0x30, 0x31, 0x32, 0x33, 0x34, 0x35, 0x36, 0x37, 0x38,
 // What a punctuation space is as wide as: a full stop, else a comma.
 const STOPS: [u32; 2] = [0x2E, 0x2C];
 
-/// Gives each space that is drawn by another one's glyph the width that it stands for: a part of the
-/// em, a digit's, a full stop's or half of its glyph's. Normalization leaves the kind of such a space
-/// as its glyph's `modified_combining_class`; a space of the font's own has none, and keeps its
-/// advance. It comes behind `set_advances`; a buffer without positions keeps none. (HarfBuzz's
+/// Gives each space that is drawn by another one's glyph the width that it stands for: a part of
+/// the em, a digit's, a full stop's or half of its glyph's. Normalization leaves the kind of such a
+/// space as its glyph's `modified_combining_class`; a space of the font's own has none, and keeps
+/// its advance. It comes behind `set_advances`; a buffer without positions keeps none. (HarfBuzz's
 /// `_hb_ot_shape_fallback_spaces`.)
 pub fn set_space_widths<F: SpaceFont>(font: &F, buffer: &mut hb_buffer_t)
     ensures { let f = space_placed (F.font font.now) (F.em font.now) in

@@ -7,4 +7,5 @@ use Rattle.shapers_position.proofs.ot_shape_position.flags.flags_of.Given as goa
 
 abbrev pub invariant-loop-glyph : goal.invariant-loop-glyph
 invariant-loop-glyph l =
-    fold (λ flags (g : hb_glyph_info_t). bit_or flags (g.mask % 8)) l.flags (drop l.glyph-index l.cluster) ≡ flags_of l.cluster
+    fold (λ flags (g : hb_glyph_info_t). bit_or flags (g.mask % 8)) l.flags (drop l.glyph-index l.cluster)
+    ≡ flags_of l.cluster

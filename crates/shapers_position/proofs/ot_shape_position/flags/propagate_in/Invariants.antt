@@ -5,7 +5,8 @@ use Rattle.shapers_position.proofs.ot_shape_position.flags.propagate_in.Given as
 
 abbrev pub invariant-loop-start : goal.invariant-loop-start
 invariant-loop-start l = record {
-  done : take l.start l.glyphs ++ flags_propagated l.wanted (drop l.start l.glyphs) ≡ flags_propagated l.wanted l.initial.glyphs;
+  done : take l.start l.glyphs ++ flags_propagated l.wanted (drop l.start l.glyphs)
+      ≡ flags_propagated l.wanted l.initial.glyphs;
   within : l.start ≤ length l.initial.glyphs;
 }
 

@@ -5,4 +5,5 @@ use Rattle.shapers_position.proofs.ot_shape_position.flags.set_flags.Given as go
 
 abbrev pub invariant-loop-glyph : goal.invariant-loop-glyph
 invariant-loop-glyph l =
-    take l.glyph-index l.cluster ++ map (with_flags l.flags) (drop l.glyph-index l.cluster) ≡ map (with_flags l.flags) l.initial.cluster
+    take l.glyph-index l.cluster ++ map (with_flags l.flags) (drop l.glyph-index l.cluster)
+    ≡ map (with_flags l.flags) l.initial.cluster

@@ -15,8 +15,10 @@ returns-then-not-goes_on-clause-rest c =
     let rest = drop (i + 1) gs in
     let is : is_default_ignorable g ≡ true = sym c.is_default_ignorable.ensures ∙ c.if-not-is_default_ignorable.false in
     let whole = take_all (length gs - (i + 1)) rest (omega (arith, length-drop (i + 1) gs)) in
-    let on : goes_on g.cluster rest ≡ false = sym (c.goes_on.ensures ∙ ap (goes_on g.cluster) whole) ∙ c.if-not-goes_on.true in
-    let long : length c.cover.new.kept ≡ k = omega (arith, c.cover.auto.kept, length-take-le k gs (omega (arith, c.requires.few, c.requires.inside))) in
+    let on : goes_on g.cluster rest ≡ false = sym (c.goes_on.ensures ∙ ap (goes_on g.cluster) whole)
+    ∙ c.if-not-goes_on.true in
+    let long : length c.cover.new.kept ≡ k = omega
+    (arith, c.cover.auto.kept, length-take-le k gs (omega (arith, c.requires.few, c.requires.inside))) in
     covered_rest gs c.cover.new.kept k i g c.requires.few c.requires.inside refl is on c.cover.ensures long
 
 pub returns-then-not-goes_on-clause-count : goal.returns-then-not-goes_on-clause-count
@@ -26,5 +28,6 @@ returns-then-not-goes_on-clause-count c =
     let i = c.args.i in
     let g = get_or gs i default_glyph in
     let is : is_default_ignorable g ≡ true = sym c.is_default_ignorable.ensures ∙ c.if-not-is_default_ignorable.false in
-    let long : length c.cover.new.kept ≡ k = omega (arith, c.cover.auto.kept, length-take-le k gs (omega (arith, c.requires.few, c.requires.inside))) in
+    let long : length c.cover.new.kept ≡ k = omega
+    (arith, c.cover.auto.kept, length-take-le k gs (omega (arith, c.requires.few, c.requires.inside))) in
     covered_count gs c.cover.new.kept k i g c.requires.few c.requires.inside refl is long

@@ -16,7 +16,8 @@ loop-i-preserved c =
     let same : length l.positions ≡ length gs = omega (arith, c.requires, l.auto.positions) in
     elim next.branch [
       | then-not-is_default_ignorable w ↦
-          let is : is_default_ignorable (get_or gs l.i default_glyph) ≡ false = sym c.is_default_ignorable.ensures ∙ w.if-not-is_default_ignorable.true in
+          let is : is_default_ignorable (get_or gs l.i default_glyph) ≡ false = sym c.is_default_ignorable.ensures
+          ∙ w.if-not-is_default_ignorable.true in
           record {
             few = omega (arith, w.kept-is, l.invariant.few);
             count = omega (arith, w.kept-is, count_next gs l.i false c.loop-i-test.true is, l.invariant.count);
@@ -27,7 +28,8 @@ loop-i-preserved c =
                 ∙ l.invariant.moved;
           }
       | else-not-is_default_ignorable w ↦
-          let is : is_default_ignorable (get_or gs l.i default_glyph) ≡ true = sym c.is_default_ignorable.ensures ∙ w.if-not-is_default_ignorable.false in
+          let is : is_default_ignorable (get_or gs l.i default_glyph) ≡ true = sym c.is_default_ignorable.ensures
+          ∙ w.if-not-is_default_ignorable.false in
           record {
             few = omega (arith, w.kept-is, l.invariant.few);
             count = omega (arith, w.kept-is, count_next gs l.i true c.loop-i-test.true is, l.invariant.count);

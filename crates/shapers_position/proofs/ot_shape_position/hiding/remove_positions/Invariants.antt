@@ -8,5 +8,6 @@ abbrev pub invariant-loop-i : goal.invariant-loop-i
 invariant-loop-i l = record {
   few : l.kept ≤ l.i;
   count : l.kept + count_by is_kept (drop l.i l.glyphs) ≡ count_by is_kept l.glyphs;
-  moved : take l.kept l.positions ++ positions_kept (drop l.i l.glyphs) (drop l.i l.positions) ≡ positions_kept l.glyphs l.initial.positions;
+  moved : take l.kept l.positions ++ positions_kept (drop l.i l.glyphs) (drop l.i l.positions)
+      ≡ positions_kept l.glyphs l.initial.positions;
 }

@@ -5,4 +5,5 @@ use Rattle.shapers_position.proofs.ot_shape_position.hiding.take_place_of.Given 
 
 abbrev pub invariant-loop-glyph : goal.invariant-loop-glyph
 invariant-loop-glyph l =
-    take l.glyph-index l.glyphs ++ map (in_place_of l.gone) (drop l.glyph-index l.glyphs) ≡ map (in_place_of l.gone) l.initial.glyphs
+    take l.glyph-index l.glyphs ++ map (in_place_of l.gone) (drop l.glyph-index l.glyphs)
+    ≡ map (in_place_of l.gone) l.initial.glyphs

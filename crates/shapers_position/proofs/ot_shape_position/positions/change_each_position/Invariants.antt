@@ -6,4 +6,5 @@ use Rattle.shapers_position.proofs.ot_shape_position.positions.change_each_posit
 abbrev pub invariant-loop-i : goal.invariant-loop-i
 invariant-loop-i g l =
     let f = g.C.PositionChange.changed l.change in
-    take l.i l.positions ++ positions_changed f (drop l.i l.glyphs) (drop l.i l.positions) ≡ positions_changed f l.glyphs l.initial.positions
+    take l.i l.positions ++ positions_changed f (drop l.i l.glyphs) (drop l.i l.positions)
+    ≡ positions_changed f l.glyphs l.initial.positions

@@ -12,8 +12,8 @@ use crate::support::alloc::Global;
 /// positions there were are gone. A font has no glyph of a number above 65535, nor of that one: all
 /// these are asked for as that one.
 ///
-/// Advances are horizontal in every direction of text, as `Font` knows no others; for a vertical
-/// text the caller sets them. (HarfBuzz's `hb_ot_position_default`.)
+/// Advances are horizontal in every direction of text, as `Font` knows no others; for a
+/// vertical text the caller sets them. (HarfBuzz's `hb_ot_position_default`.)
 ///
 /// # Errors
 ///

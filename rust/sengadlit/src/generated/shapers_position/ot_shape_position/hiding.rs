@@ -12,8 +12,8 @@ use crate::generated::shapers_base::font::{Font, GlyphId};
 // The character whose glyph draws nothing.
 const SPACE: u32 = 0x20;
 
-/// Draws each glyph that is to be hidden by an invisible one: by the caller's, or else by the font's
-/// space. In a font that has none, and where they are to go, they go with their positions, and a
+/// Draws each glyph that is to be hidden by an invisible one: the caller's, or else the font's
+/// space. In a font without one, and where they are to go, they go with their positions, and a
 /// glyph beside them takes in their cluster, so that the text of each is still some glyph's.
 /// (HarfBuzz's `hb_ot_hide_default_ignorables` and `delete_glyphs_inplace`.)
 ///
@@ -141,7 +141,8 @@ fn remove_glyphs(glyphs: &mut [GlyphInfo]) {
 }
 
 // Looks at the glyph at `i`, of those before which the first `kept` stay: it comes behind these, or
-// goes. One that goes, and is the last of its cluster there, leaves that to them. How many stay then.
+// goes. One that goes, and is the last of its cluster there, leaves that to them. How many stay
+// then.
 fn keep_or_remove(glyphs: &mut [GlyphInfo], kept: usize, i: usize) -> usize {
     let glyph = glyphs[i];
     if !is_default_ignorable(&glyph) {

@@ -38,10 +38,10 @@ const DIGITS: [u32; 10] = [0x30, 0x31, 0x32, 0x33, 0x34, 0x35, 0x36, 0x37, 0x38,
 // What a punctuation space is as wide as: a full stop, else a comma.
 const STOPS: [u32; 2] = [0x2E, 0x2C];
 
-/// Gives each space that is drawn by another one's glyph the width that it stands for: a part of the
-/// em, a digit's, a full stop's or half of its glyph's. Normalization leaves the kind of such a space
-/// as its glyph's `modified_combining_class`; a space of the font's own has none, and keeps its
-/// advance. It comes behind `set_advances`; a buffer without positions keeps none. (HarfBuzz's
+/// Gives each space that is drawn by another one's glyph the width that it stands for: a part of
+/// the em, a digit's, a full stop's or half of its glyph's. Normalization leaves the kind of such a
+/// space as its glyph's `modified_combining_class`; a space of the font's own has none, and keeps
+/// its advance. It comes behind `set_advances`; a buffer without positions keeps none. (HarfBuzz's
 /// `_hb_ot_shape_fallback_spaces`.)
 ///
 /// <details><summary>Contract</summary>
@@ -118,7 +118,7 @@ fn four_eighteenths(em: u16) -> i32 {
 // The advance of the first of these characters that the font has, or else this one.
 fn first_advance<F: Font>(font: &F, characters: &[u32], else_advance: i32) -> i32 {
     for c in characters {
-        if let Some(glyph) = font.nominal_glyph(*c) {
+        if let Some(glyph) = font.get_nominal_glyph(*c) {
             return font.glyph_h_advance(glyph);
         }
     }
