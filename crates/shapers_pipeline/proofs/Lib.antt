@@ -1,8 +1,13 @@
+mod ClustersKept
 mod Directed
 mod FractionRows
 mod Growing
 mod HookResults
+mod LookupRows
 mod MaskRows
 mod Pausing
+mod PreparedClusters
 mod PreparedRows
+mod StageClusters
 pub mod Substituting
+mod TurnedGraphemes

@@ -1,8 +1,11 @@
+pub mod ClusterLaws
 pub mod Fractions
 pub mod Lookups
 pub mod Masks
 pub mod Prepared
 pub mod Refusals
 pub mod ShaperSteps
+pub mod SingleLaws
+pub mod Singles
 pub mod Stages
 pub mod Substituted

@@ -1,10 +1,10 @@
--- Stages of lookups, each with a pause behind it.
-use Rattle.std.specs.Prelude.{◌≡◌, ◌≤◌, ◌-◌, ◌⊎◌, true, List, [], ◌∷◌, All, drop, fold, take}
+-- What lookups keep of a text, and stages of them, each with a pause behind it.
+use Rattle.std.specs.Prelude.{ℕ, ◌≡◌, ◌-◌, ◌⊎◌, true, List, [], ◌∷◌, drop, fold, length, map, take}
 use Rattle.shapers_base.specs.declared.plan.pause.Pause.{Pause}
 use Rattle.shapers_base.specs.declared.plan.pause.Pause.TheVariants.{SetupSyllablesIndic, SetupSyllablesKhmer, SetupSyllablesMyanmar, SetupSyllablesUse}
 use Rattle.shapers_buffer.specs.Buffer.{Buffer}
 use Rattle.shapers_buffer.specs.Clusters.{merges}
-use Rattle.shapers_buffer.specs.Glyph.{clusters}
+use Rattle.shapers_buffer.specs.Glyph.{clusters, without_flags}
 use Rattle.shapers_buffer.specs.declared.buffer.glyph.hb_glyph_info_t.{hb_glyph_info_t}
 use Rattle.shapers_buffer.specs.declared.buffer.syllables.Span.{Span}
 use Rattle.shapers_clusters.specs.Cuts.{IsMonotone}
@@ -17,16 +17,30 @@ use Rattle.shapers_spans.specs.Universal.{universal_grammar}
 use Rattle.shapers_plan.specs.declared.ot_map.lookups.Stage.{Stage}
 use Rattle.shapers_plan.specs.declared.ot_map.lookups.StageLookup.{StageLookup}
 
--- What a lookup keeps of a text without positions: everything but its glyphs; each cluster is one
--- that the text had, and at the levels that merge clusters still rise, or fall; glyph numbers are
--- those of a font.
+-- What a lookup of GSUB keeps of a text without positions: everything but its glyphs; each cluster
+-- is one that the text had, and at the levels that merge clusters still rise, or fall.
 pub record LookupKeeps (old new : Buffer) : Type 0 where
   pub others : new ≡ record old { glyphs = new.glyphs }
   pub old_clusters : NoNewCluster old.glyphs new.glyphs
   pub monotone : merges old.level ≡ true → IsMonotone (clusters old.glyphs) →
       IsMonotone (clusters new.glyphs)
-  pub numbers : All (λ (g : hb_glyph_info_t). g.glyph_id ≤ 65535) old.glyphs →
-      All (λ (g : hb_glyph_info_t). g.glyph_id ≤ 65535) new.glyphs
+
+-- What a lookup of GPOS keeps of a text with positions: everything but positions, notes and glyph
+-- flags.
+abbrev pub unplaced : hb_glyph_info_t → hb_glyph_info_t
+unplaced g = record g { mask = without_flags g.mask; var = 0 }
+
+pub record PositionKeeps (old new : Buffer) : Type 0 where
+  pub others : new ≡ record old { glyphs = new.glyphs; positions = new.positions }
+  pub glyphs : map unplaced new.glyphs ≡ map unplaced old.glyphs
+  pub positions : length new.positions ≡ length old.positions
+
+-- the notes that the lookups keep beside each glyph, once it is one
+abbrev pub with_note : (hb_glyph_info_t → ℕ) → hb_glyph_info_t → hb_glyph_info_t
+with_note noted g = record g { var = noted g }
+
+abbrev pub text_noted : (hb_glyph_info_t → ℕ) → Buffer → Buffer
+text_noted noted b = record b { glyphs = map (with_note noted) b.glyphs }
 
 -- what these lookups make of a text, one after another
 abbrev pub looked_up : (StageLookup → Buffer → Buffer) → List StageLookup → Buffer → Buffer

@@ -64,7 +64,7 @@ fn slash_masks(direction: Direction, masks: &DriverMasks) -> SlashMasks
 }
 
 #[inline]
-fn runs_forward(direction: Direction) -> bool
+pub(crate) fn runs_forward(direction: Direction) -> bool
     ensures { result ≡ runs_forward direction }
 {
     matches!(direction, Direction::LeftToRight | Direction::TopToBottom)

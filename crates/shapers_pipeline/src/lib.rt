@@ -3,16 +3,20 @@
 #![tactic(auto)]
 
 mod fractions;
+mod laws;
 mod lookups;
 mod masks;
 mod plan;
 mod prepare;
 mod preprocessing;
+mod singles;
 mod stages;
 mod substitution;
 
+pub use laws::pipeline_clusters_law;
 pub use lookups::Lookups;
 pub use plan::{StagePlan, TextPlan};
 pub use prepare::prepare_text;
+pub use singles::{Single, SingleLookups};
 pub use stages::run_stages;
 pub use substitution::substitute_text;

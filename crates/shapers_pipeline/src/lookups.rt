@@ -1,23 +1,36 @@
 //! The lookups of a font, stage by stage, with what the shaper does behind each stage.
-ghost use Rattle.std.specs.Prelude.{◌≡◌, [], IfOk, IsOkUnless, OnErr, OnOk};
+ghost use Rattle.std.specs.Prelude.{ℕ, ◌≡◌, [], IfOk, IsOkUnless, OnErr, OnOk};
 ghost use Rattle.shapers_buffer.specs.declared.buffer.refusal.ShaperError.TheVariants.{Memory};
-ghost use Rattle.shapers_pipeline.specs.Lookups.{FoundSpans, LookupKeeps, StoppedIn, looked_up};
+ghost use Rattle.shapers_pipeline.specs.Lookups.{FoundSpans, StoppedIn, looked_up, text_noted};
 
-use shapers_base::buffer::{ShaperError, Span, hb_buffer_t, hb_glyph_info_t};
+use shapers_base::buffer::{GlyphChange, ShaperError, Span, hb_buffer_t, hb_glyph_info_t};
 use shapers_base::plan::Pause;
 use shapers_plan::ot_map::StageLookup;
 use shapers_spans::{Indic, Khmer, Myanmar, Universal, spans_of};
 use std::alloc::Global;
+use std::mem;
 
 /// The lookups of a font's GSUB. Each is a function of the text: the same text becomes the same.
 pub trait Lookups {
     ghost use Rattle.shapers_buffer.specs.Buffer.{Buffer};
+    ghost use Rattle.shapers_buffer.specs.declared.buffer.glyph.hb_glyph_info_t.{hb_glyph_info_t};
+    ghost use Rattle.shapers_pipeline.specs.Lookups.{LookupKeeps};
     ghost use Rattle.shapers_plan.specs.declared.ot_map.lookups.StageLookup.{StageLookup};
+
+    /// What is kept beside a glyph.
+    ghost noted: { Self → hb_glyph_info_t → ℕ };
 
     /// What a lookup makes of a text.
     ghost substituted: { Self → StageLookup → Buffer → Buffer };
 
-    /// Applies a lookup to a text of glyphs without positions.
+    /// What the lookups keep in `var` of a glyph, as its class, before the first of them. It is
+    /// asked for once a glyph, whose `var` is 0.
+    fn note(&self, glyph: &hb_glyph_info_t) -> u32
+        ensures { result ≡ noted self.now glyph.now };
+
+    /// Applies a lookup to a text of glyphs without positions. It reads and writes glyphs alone. Each
+    /// cluster that it leaves is one that the text had, and at the levels that merge clusters that
+    /// rise along the text, or fall, still do.
     ///
     /// # Errors
     ///
@@ -25,8 +38,40 @@ pub trait Lookups {
     fn substitute(&self, lookup: &StageLookup, buffer: &mut hb_buffer_t) -> Result<(), ShaperError>
         requires { buffer.old.positions ≡ [] }
         ensures ok { OnOk result (buffer.new ≡ substituted self.now lookup.now buffer.old) }
-        ensures keeps { OnOk result (LookupKeeps buffer.old buffer.new) }
         ensures err { OnErr result (buffer.new ≡ buffer.old) };
+
+    // What a lookup keeps of a text.
+    ghost substituting_keeps: { (it : Self) (lookup : StageLookup) (b : Buffer) → b.positions ≡ [] →
+        LookupKeeps b (substituted it lookup b) };
+}
+
+// Notes beside each glyph what the lookups keep there.
+pub(crate) fn note_glyphs<L: Lookups>(lookups: &L, buffer: &mut hb_buffer_t)
+    ensures { buffer.new ≡ text_noted (L.noted lookups.now) buffer.old }
+{
+    // (lookups that panic leave the empty buffer, and no text with some of its glyphs noted)
+    let empty = hb_buffer_t::new(buffer.alloc(), buffer.max_len());
+    let mut text = mem::replace(buffer, empty);
+    let end = text.len();
+    text.change_each(0, end, &Noting { lookups });
+    *buffer = text;
+}
+
+// The note beside one glyph.
+#[derive(Drop)]
+struct Noting<'a, L: Lookups> {
+    lookups: &'a L,
+}
+
+impl<'a, L: Lookups> GlyphChange for Noting<'a, L> {
+    ghost use Rattle.shapers_pipeline.specs.Lookups.{with_note};
+
+    ghost changed = { λ noting g. with_note (L.noted noting.lookups.now) g };
+
+    #[inline]
+    fn change(&self, glyph: &mut hb_glyph_info_t) {
+        glyph.var = self.lookups.note(glyph);
+    }
 }
 
 // Applies lookups, one after another.

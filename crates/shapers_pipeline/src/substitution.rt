@@ -1,11 +1,12 @@
 //! From characters to the glyphs behind the last stage of lookups.
-ghost use Rattle.std.specs.Prelude.{◌⊎◌, IfErr, OnOk};
+ghost use Rattle.std.specs.Prelude.{◌≡◌, ◌⊎◌, [], IfErr, OnOk};
+ghost use Rattle.shapers_pipeline.specs.Lookups.{text_noted};
 ghost use Rattle.shapers_pipeline.specs.Prepared.{text_prepared};
 ghost use Rattle.shapers_pipeline.specs.Refusals.{IsStopped};
 ghost use Rattle.shapers_pipeline.specs.Stages.{StagesRun, StagesStopped};
 ghost use Rattle.shapers_pipeline.specs.Substituted.{preparation_by, substitution_by};
 
-use crate::lookups::Lookups;
+use crate::lookups::{Lookups, note_glyphs};
 use crate::plan::{StagePlan, TextPlan};
 use crate::prepare::prepare_text;
 use crate::stages::run_stages;
@@ -15,8 +16,8 @@ use shapers_normalize::{NormalizeFont, NormalizeSettings, NormalizeTables};
 use shapers_plan::ot_shape_plan::ShapePlan;
 use shapers_prepare::ot_shape_prepare::UnicodeProperties;
 
-/// Makes glyphs of a text's characters, and substitutes them: `prepare_text`, and then `run_stages`
-/// over the stages of the plan.
+/// Makes glyphs of a text's characters, and substitutes them: `prepare_text`, what the lookups keep
+/// beside each glyph, and then `run_stages` over the stages of the plan.
 ///
 /// # Errors
 ///
@@ -29,16 +30,20 @@ pub fn substitute_text<F: NormalizeFont, T: NormalizeTables + UnicodeProperties,
     lookups: &L,
     buffer: &mut hb_buffer_t,
 ) -> Result<(), CallError>
-    ensures ok { let p = preparation_by plan.now settings.now (F.font font.now) (F.variants font.now)
-        (T.properties tables.now) (T.tables tables.now) (T.texts tables.now) in
+    ensures ok { let p = preparation_by plan.now settings.now (F.font font.now)
+        (F.variants font.now) (T.properties tables.now) (T.tables tables.now)
+        (T.texts tables.now) in
         let r = substitution_by plan.now (F.font font.now) (L.substituted lookups.now) in
-        OnOk result (StagesRun r plan.now.stages (text_prepared p buffer.old) buffer.new) }
-    ensures err { let p = preparation_by plan.now settings.now (F.font font.now) (F.variants font.now)
-        (T.properties tables.now) (T.tables tables.now) (T.texts tables.now) in
+        let noted = text_noted (L.noted lookups.now) (text_prepared p buffer.old) in
+        OnOk result (StagesRun r plan.now.stages noted buffer.new) }
+    ensures err { let p = preparation_by plan.now settings.now (F.font font.now)
+        (F.variants font.now) (T.properties tables.now) (T.tables tables.now)
+        (T.texts tables.now) in
         let r = substitution_by plan.now (F.font font.now) (L.substituted lookups.now) in
-        let prepared = text_prepared p buffer.old in
+        let noted = text_noted (L.noted lookups.now) (text_prepared p buffer.old) in
         IfErr result (λ e. IsStopped p buffer.old buffer.new e
-        ⊎ StagesStopped r plan.now.stages prepared buffer.new) }
+        ⊎ StagesStopped r plan.now.stages noted buffer.new) }
+    ensures positions { OnOk result (buffer.new.positions ≡ []) }
 {
     let text = TextPlan {
         shaper: plan.shaper(),
@@ -47,6 +52,7 @@ pub fn substitute_text<F: NormalizeFont, T: NormalizeTables + UnicodeProperties,
         ranges: plan.ranges(),
     };
     prepare_text(&text, settings, font, tables, buffer)?;
+    note_glyphs(lookups, buffer);
     let stages = StagePlan {
         plan: plan.plan(),
         stages: plan.stages(),

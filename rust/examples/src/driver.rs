@@ -4,7 +4,7 @@
 //! Left out are vertical text, the table `kern`, and marks placed without GPOS.
 
 use crate::font::OpenType;
-use sengadlit::ot_shape::{StagePlan, TextPlan, prepare_text, run_stages};
+use sengadlit::ot_shape::substitute_text;
 use sengadlit::ot_shape_normalize::NormalizeSettings;
 use sengadlit::ot_shape_plan::ShapePlan;
 use sengadlit::ot_shape_position::{
@@ -29,16 +29,7 @@ pub fn shape(
     font: &OpenType<'_>,
     buffer: &mut Buffer,
 ) -> Result<(), CallError> {
-    let text = TextPlan {
-        shaper: plan.shaper(),
-        plan: plan.plan(),
-        masks: plan.masks(),
-        ranges: plan.ranges(),
-    };
-    prepare_text(&text, settings, font, &UnicodeTables, buffer)?;
-    font.layout.start(buffer);
-    let (stages, lookups) = (plan.stages(), plan.lookups());
-    run_stages(&StagePlan { plan: plan.plan(), stages, lookups }, font, &font.layout, buffer)?;
+    substitute_text(plan, settings, font, &UnicodeTables, &font.layout, buffer)?;
     set_advances(font, buffer)?;
     position(plan, font, buffer)?;
     hide_default_ignorables(DefaultIgnorables::Hide, None, font, buffer);

@@ -25,6 +25,18 @@ use sengadlit::ot_shape_position::GlyphClasses;
 use sengadlit::{Buffer, GeneralCategory, GlyphInfo, ShaperError};
 
 impl Lookups for Layout<'_> {
+    // Of a font without classes nonspacing marks are marks, and all else is a base.
+    fn note(&self, glyph: &GlyphInfo) -> u32 {
+        let guess = || match glyph.general_category {
+            GeneralCategory::Mn if !glyph.marks.is_ignorable() => GlyphClass::Mark,
+            _ => GlyphClass::Base,
+        };
+        let class = self.class(number(glyph)).unwrap_or_else(guess);
+        let mut noted = *glyph;
+        Notes { class, ..Notes::default() }.keep(&mut noted);
+        noted.var
+    }
+
     fn substitute(&self, lookup: &StageLookup, buffer: &mut Buffer) -> Result<(), ShaperError> {
         let mut text = buffer.copy()?;
         Pass::new(self, TableIndex::GSUB, *lookup, &mut text).run()?;
@@ -40,21 +52,6 @@ impl GlyphClasses for Layout<'_> {
 }
 
 impl Layout<'_> {
-    /// Begins with a text, whose characters have become glyphs. Of a font without classes nonspacing
-    /// marks are marks, and all else is a base.
-    pub fn start(&self, buffer: &mut Buffer) {
-        let guess = |glyph: &GlyphInfo| match glyph.general_category {
-            GeneralCategory::Mn if !glyph.marks.is_ignorable() => GlyphClass::Mark,
-            _ => GlyphClass::Base,
-        };
-        buffer.with_glyphs_mut(|glyphs| {
-            for glyph in glyphs {
-                let class = self.class(number(glyph)).unwrap_or_else(|| guess(glyph));
-                Notes { class, ..Notes::default() }.keep(glyph);
-            }
-        });
-    }
-
     /// Applies one lookup of GPOS.
     ///
     /// # Errors

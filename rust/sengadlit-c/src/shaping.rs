@@ -11,7 +11,7 @@ use sengadlit::alloc::{Global, Vec as List};
 use sengadlit::buffer::{Buffer as Inner, Direction, ShaperError, Tag};
 use sengadlit::font::{FeaturesOnly, Font as AnswersFont, GlyphId};
 use sengadlit::map::TableIndex;
-use sengadlit::ot_shape::{StagePlan, TextPlan, prepare_text, run_stages};
+use sengadlit::ot_shape;
 use sengadlit::ot_shape_normalize::{NormalizeFont, NormalizeSettings};
 use sengadlit::ot_shape_plan::{FontFeatures, ShapePlan as Plan, UserFeature as Wanted};
 use sengadlit::ot_shape_position::{
@@ -194,7 +194,7 @@ pub fn substitute_text(
     let font = ShapedFont { font, lookups };
     buffer.are_characters()?;
     buffer.run(Takes::Numbers, |inner| {
-        substitute(plan, &font, lookups, inner).map_err(of_call)
+        substitute(plan, &font, lookups, inner)
     })?;
     Ok(Status::Done)
 }
@@ -214,7 +214,7 @@ pub fn shape(
     buffer.are_characters()?;
     buffer.run_to_positions(Takes::Numbers, |inner| {
         let direction = inner.direction();
-        substitute(plan, &font, lookups, inner).map_err(of_call)?;
+        substitute(plan, &font, lookups, inner)?;
         set_advances(&font, inner)?;
         position(plan, lookups, inner)?;
         hide_default_ignorables(DefaultIgnorables::Hide, None, &font, inner);
@@ -237,32 +237,16 @@ fn of_call(error: CallError) -> Error {
     }
 }
 
-// All before lookups, what they keep beside each glyph, and the stages.
+// From characters to the glyphs behind the last stage of lookups.
 fn substitute(
     plan: &Plan,
     font: &ShapedFont<'_>,
     lookups: &AskedLookups<'_>,
     text: &mut Inner,
-) -> Result<(), CallError> {
-    let prepared = TextPlan {
-        shaper: plan.shaper(),
-        plan: plan.plan(),
-        masks: plan.masks(),
-        ranges: plan.ranges(),
-    };
+) -> Result<(), Error> {
     let settings = NormalizeSettings::default();
-    prepare_text(&prepared, &settings, font, &UnicodeTables, text)?;
-    text.with_glyphs_mut(|glyphs| {
-        for glyph in glyphs {
-            glyph.var = lookups.note(*glyph);
-        }
-    });
-    let stages = StagePlan {
-        plan: plan.plan(),
-        stages: plan.stages(),
-        lookups: plan.lookups(),
-    };
-    run_stages(&stages, font, lookups, text)
+    let done = ot_shape::substitute_text(plan, &settings, font, &UnicodeTables, lookups, text);
+    done.map_err(of_call)
 }
 
 // The lookups of GPOS, and marks without a width before or behind them, which without GPOS hang over the glyph before them. The

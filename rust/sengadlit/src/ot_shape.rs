@@ -35,6 +35,7 @@
 //! #     fn required_lookups(&self, _: TableIndex) -> &[u16] { &[] }
 //! # }
 //! # impl Lookups for MyFont {
+//! #     fn note(&self, _: &sengadlit::GlyphInfo) -> u32 { 0 }
 //! #     fn substitute(&self, lookup: &StageLookup, buffer: &mut Buffer) -> Result<(), ShaperError> {
 //! #         let mut at = 0;
 //! #         while at + 1 < buffer.len() {
@@ -117,14 +118,14 @@
 /// lookups.
 pub use crate::generated::shapers_pipeline::StagePlan;
 pub use crate::generated::shapers_pipeline::{
-    Lookups, TextPlan, prepare_text, run_stages, substitute_text,
+    Lookups, Single, SingleLookups, TextPlan, prepare_text, run_stages, substitute_text,
 };
 
 #[cfg(test)]
 mod tests {
     use super::{Lookups, substitute_text};
     use crate::alloc::Global;
-    use crate::buffer::{Buffer, Direction, Script, ShaperError, Tag};
+    use crate::buffer::{Buffer, Direction, GlyphInfo, Script, ShaperError, Tag};
     use crate::font::{Font, GlyphId};
     use crate::map::TableIndex;
     use crate::ot_shape_normalize::{NormalizeFont, NormalizeSettings};
@@ -191,6 +192,10 @@ mod tests {
     }
 
     impl Lookups for Khmer {
+        fn note(&self, glyph: &GlyphInfo) -> u32 {
+            glyph.glyph_id
+        }
+
         fn substitute(&self, lookup: &StageLookup, text: &mut Buffer) -> Result<(), ShaperError> {
             assert_eq!(lookup.index, 7);
             text.with_glyphs_mut(|glyphs| {
@@ -217,5 +222,7 @@ mod tests {
         assert_eq!(glyphs, [0x17C3, 0x1782, 0x1785]);
         let clusters: Vec<u32> = text.glyphs().iter().map(|glyph| glyph.cluster).collect();
         assert_eq!(clusters, [0, 0, 6]);
+        let notes: Vec<u32> = text.glyphs().iter().map(|glyph| glyph.var).collect();
+        assert_eq!(notes, [0x17C2, 0x1781, 0x1784]);
     }
 }

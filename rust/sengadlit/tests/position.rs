@@ -255,7 +255,7 @@ impl GlyphClasses for Panicking {
 }
 
 impl Font for Panicking {
-    fn get_nominal_glyph(&self, _: u32) -> Option<GlyphId> {
+    fn nominal_glyph(&self, _: u32) -> Option<GlyphId> {
         panic::resume_unwind(Box::new("the caller's code"))
     }
 

@@ -329,7 +329,7 @@ where
     A: Fn(GlyphId) -> i32,
     L: Fn(u16, &[GlyphId], bool) -> bool,
 {
-    fn get_nominal_glyph(&self, c: u32) -> Option<GlyphId> {
+    fn nominal_glyph(&self, c: u32) -> Option<GlyphId> {
         (self.nominal)(c)
     }
 
@@ -455,7 +455,7 @@ fn indic_breaks(pauses: &[Pause], seed: u64) {
             pauses,
             plan: &plan,
             font: &font,
-            hidden: plan.ot_map.get_1_mask(Tag(*b"init")),
+            hidden: plan.ot_map.one_mask(Tag(*b"init")),
         };
         let mut whole = buffer.copy().unwrap();
         pauses.run(&spans, &mut whole);

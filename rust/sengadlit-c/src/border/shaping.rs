@@ -193,16 +193,6 @@ impl<'a> AskedLookups<'a> {
         })
     }
 
-    /// What is kept beside a glyph before the first lookup.
-    pub fn note(&self, glyph: GlyphInfo) -> u32 {
-        let Some(note) = self.funcs.note else {
-            return 0;
-        };
-        let glyph = Glyph::from(glyph);
-        // SAFETY: a callback of C, with what it is given.
-        call_back(|| unsafe { note(self.user_data, &glyph) })
-    }
-
     /// Applies a lookup of GPOS to a text with positions.
     pub fn position(&self, lookup: &StageLookup, text: &mut Inner) -> Result<(), ShaperError> {
         let Some(position) = self.funcs.position else {
@@ -272,6 +262,15 @@ impl<'a> AskedLookups<'a> {
 }
 
 impl AnswersLookups for AskedLookups<'_> {
+    fn note(&self, glyph: &GlyphInfo) -> u32 {
+        let Some(note) = self.funcs.note else {
+            return 0;
+        };
+        let glyph = Glyph::from(*glyph);
+        // SAFETY: a callback of C, with what it is given.
+        call_back(|| unsafe { note(self.user_data, &glyph) })
+    }
+
     fn substitute(&self, lookup: &StageLookup, buffer: &mut Inner) -> Result<(), ShaperError> {
         let Some(substitute) = self.funcs.substitute else {
             return Ok(());

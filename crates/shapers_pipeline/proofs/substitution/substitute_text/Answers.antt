@@ -1,5 +1,6 @@
 use Rattle.std.proofs.Common.{◌∙◌, ap}
 use Rattle.std.proofs.lemmas.Result.{on_ok_weaker}
+use Rattle.shapers_pipeline.specs.Lookups.{text_noted}
 use Rattle.shapers_pipeline.specs.Prepared.{Preparation, text_prepared}
 use Rattle.shapers_pipeline.specs.Stages.{Substitution}
 use Rattle.shapers_pipeline.proofs.Substituting.{as_stopped, four, run_alike, stopped_alike}
@@ -7,7 +8,7 @@ use Rattle.shapers_pipeline.proofs.substitution.substitute_text.Goals as goal
 
 pub returns-clause-ok : goal.returns-clause-ok
 returns-clause-ok g c =
-    let prepared = c.in_ok-prepare_text.ensures.ok ∙ four (λ shaper plan masks ranges.
+    let prepared = c.note_glyphs.ensures ∙ ap (text_noted (g.L.Lookups.noted c.args.lookups.now)) (c.in_ok-prepare_text.ensures.ok ∙ four (λ shaper plan masks ranges.
     let p : Preparation = record {
       shaper = shaper;
       plan = plan;
@@ -19,7 +20,7 @@ returns-clause-ok g c =
       tables = g.T.Tables.tables c.args.tables.now;
       texts = g.T.NormalizeTables.texts c.args.tables.now;
       settings = c.args.settings.now;
-    } in text_prepared p c.args.buffer.now) c.shaper.ensures c.plan.ensures c.masks.ensures c.ranges-2.ensures in
+    } in text_prepared p c.args.buffer.now) c.shaper.ensures c.plan.ensures c.masks.ensures c.ranges-2.ensures) in
     let read = ap (λ plan. let r : Substitution = record {
       plan = plan;
       font = g.F.hb_font_t.font c.args.font.now;
@@ -36,7 +37,7 @@ returns-clause-ok g c =
 
 pub returns-clause-err : goal.returns-clause-err
 returns-clause-err g c =
-    let prepared = c.in_ok-prepare_text.ensures.ok ∙ four (λ shaper plan masks ranges.
+    let prepared = c.note_glyphs.ensures ∙ ap (text_noted (g.L.Lookups.noted c.args.lookups.now)) (c.in_ok-prepare_text.ensures.ok ∙ four (λ shaper plan masks ranges.
     let p : Preparation = record {
       shaper = shaper;
       plan = plan;
@@ -48,7 +49,7 @@ returns-clause-err g c =
       tables = g.T.Tables.tables c.args.tables.now;
       texts = g.T.NormalizeTables.texts c.args.tables.now;
       settings = c.args.settings.now;
-    } in text_prepared p c.args.buffer.now) c.shaper.ensures c.plan.ensures c.masks.ensures c.ranges-2.ensures in
+    } in text_prepared p c.args.buffer.now) c.shaper.ensures c.plan.ensures c.masks.ensures c.ranges-2.ensures) in
     let read = ap (λ plan. let r : Substitution = record {
       plan = plan;
       font = g.F.hb_font_t.font c.args.font.now;

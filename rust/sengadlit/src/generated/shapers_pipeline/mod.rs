@@ -9,11 +9,12 @@ mod masks;
 mod plan;
 mod prepare;
 mod preprocessing;
+mod singles;
 mod stages;
 mod substitution;
-
 pub use lookups::Lookups;
 pub use plan::{StagePlan, TextPlan};
 pub use prepare::prepare_text;
+pub use singles::{Single, SingleLookups};
 pub use stages::run_stages;
 pub use substitution::substitute_text;

@@ -1,0 +1,47 @@
+-- Single substitutions keep what a lookup is to keep: they change no cluster.
+use Rattle.std.proofs.Common.{◌≡◌, ◌∙◌, ℕ, ◌==◌, Bool, true, false, List, [], ◌∷◌, refl, sym, ap, subst}
+use Rattle.std.specs.Prelude.{bit_and, find, map, Option, None, Some, if◌then◌else◌}
+use Rattle.std.specs.List.{All, Contains}
+use Rattle.std.specs.Option.{option_map_or}
+use Rattle.std.proofs.lemmas.List.Elements.{All-contains_itself}
+use Rattle.shapers_buffer.specs.Buffer.{Buffer}
+use Rattle.shapers_buffer.specs.Glyph.{clusters}
+use Rattle.shapers_buffer.specs.declared.buffer.glyph.hb_glyph_info_t.{hb_glyph_info_t}
+use Rattle.shapers_clusters.specs.Cuts.{IsMonotone}
+use Rattle.shapers_plan.specs.declared.ot_map.lookups.StageLookup.{StageLookup}
+use Rattle.shapers_pipeline.specs.Lookups.{LookupKeeps}
+use Rattle.shapers_pipeline.specs.Singles.{is_single_for, single_applied, singles_applied, with_single}
+use Rattle.shapers_pipeline.specs.declared.singles.Single.{Single}
+
+found_cluster : (g : hb_glyph_info_t) (o : Option Single) →
+    (option_map_or (with_single g) o g).cluster ≡ g.cluster
+found_cluster g None = refl
+found_cluster g (Some s) = refl
+
+one_cluster : (singles : List Single) (lookup : StageLookup) (g : hb_glyph_info_t) →
+    (single_applied singles lookup g).cluster ≡ g.cluster
+one_cluster singles lookup g =
+    let found = option_map_or (with_single g) (find (is_single_for lookup g) singles) g in
+    elim (bit_and g.mask lookup.mask == 0) as (λ test.
+    (if test then g else found).cluster ≡ g.cluster) [
+      | true ↦ refl
+      | false ↦ found_cluster g (find (is_single_for lookup g) singles)
+    ]
+
+all_clusters : (singles : List Single) (lookup : StageLookup) (gs : List hb_glyph_info_t) →
+    clusters (map (single_applied singles lookup) gs) ≡ clusters gs
+all_clusters singles lookup [] = refl
+all_clusters singles lookup (g ∷ gs) =
+    ap (λ k. k ∷ clusters (map (single_applied singles lookup) gs)) (one_cluster singles lookup g)
+    ∙ ap (λ ks. g.cluster ∷ ks) (all_clusters singles lookup gs)
+
+pub singles_keep : (singles : List Single) (lookup : StageLookup) (b : Buffer) →
+    LookupKeeps b (singles_applied singles lookup b)
+singles_keep singles lookup b =
+    let same = sym (all_clusters singles lookup b.glyphs) in
+    let old = clusters b.glyphs in
+    record {
+      others = refl;
+      old_clusters = subst (λ cs. All (Contains old) cs) same (All-contains_itself old);
+      monotone = λ merging rises. subst IsMonotone same rises;
+    }

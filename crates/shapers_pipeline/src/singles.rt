@@ -1,0 +1,94 @@
+//! Lookups that put single glyphs for others.
+ghost use Rattle.std.specs.Prelude.{◌≡◌, find, option_map};
+ghost use Rattle.shapers_pipeline.specs.Singles.{is_single_for, single_applied};
+
+use crate::lookups::Lookups;
+use shapers_base::buffer::{GlyphChange, ShaperError, hb_buffer_t, hb_glyph_info_t};
+use shapers_plan::ot_map::StageLookup;
+
+/// An entry of a single substitution.
+#[derive(Clone, Copy, Debug, PartialEq, Eq)]
+pub struct Single {
+    /// The number of the lookup.
+    pub lookup: u16,
+    /// The glyph that goes.
+    pub glyph: u16,
+    /// The one in its place.
+    pub substitute: u16,
+}
+
+/// The lookups of a font that has single substitutions alone, and no positions: of several entries
+/// of a lookup for one glyph the first counts. Lookup flags are none. (OpenType, GSUB, lookup type
+/// 1.)
+#[derive(Clone, Copy, Debug)]
+pub struct SingleLookups<'a> {
+    /// The entries of all lookups.
+    pub singles: &'a [Single],
+}
+
+impl<'a> Lookups for SingleLookups<'a> {
+    ghost use Rattle.shapers_pipeline.specs.Singles.{singles_applied};
+    ghost use Rattle.shapers_pipeline.specs.SingleLaws.{singles_keep};
+
+    ghost noted = { λ it g. 0 };
+
+    ghost substituted = { λ it lookup b. singles_applied it.singles.now lookup b };
+
+    #[inline]
+    fn note(&self, _glyph: &hb_glyph_info_t) -> u32 {
+        0
+    }
+
+    fn substitute(
+        &self,
+        lookup: &StageLookup,
+        buffer: &mut hb_buffer_t,
+    ) -> Result<(), ShaperError> {
+        let end = buffer.len();
+        let change = SingleChange {
+            singles: self.singles,
+            lookup: *lookup,
+        };
+        buffer.change_each(0, end, &change);
+        Ok(())
+    }
+
+    ghost substituting_keeps = { λ it lookup b none. singles_keep it.singles.now lookup b };
+}
+
+// A lookup of one glyph.
+#[derive(Clone, Copy)]
+struct SingleChange<'a> {
+    singles: &'a [Single],
+    lookup: StageLookup,
+}
+
+impl<'a> GlyphChange for SingleChange<'a> {
+    ghost use Rattle.shapers_pipeline.specs.Singles.{single_applied};
+
+    ghost changed = { λ change g. single_applied change.singles.now change.lookup g };
+
+    #[inline]
+    fn change(&self, glyph: &mut hb_glyph_info_t) {
+        if glyph.mask & self.lookup.mask == 0 {
+            return;
+        }
+        if let Some(single) = single_for(self.singles, &self.lookup, glyph) {
+            glyph.glyph_id = u32::from(single.substitute);
+            glyph.marks.set_substituted(true);
+        }
+    }
+}
+
+// The first entry of a lookup for a glyph.
+#[inline]
+fn single_for(
+    singles: &[Single],
+    lookup: &StageLookup,
+    glyph: &hb_glyph_info_t,
+) -> Option<Single>
+    ensures { result ≡ find (is_single_for lookup.now glyph.now) singles.now }
+{
+    let mut entries = singles.iter().copied();
+    entries.find(|single| single.lookup == lookup.index && u32::from(single.glyph) == glyph.glyph_id)
+}
