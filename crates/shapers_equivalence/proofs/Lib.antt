@@ -12,5 +12,6 @@ pub mod HebrewOrder
 pub mod StayingForms
 pub mod UnicodePairs
 pub mod HebrewForms
+pub mod KhmerTexts
 pub mod ShapersProved
 mod EquivalenceRows

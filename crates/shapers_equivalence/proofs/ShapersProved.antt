@@ -12,9 +12,13 @@ use Rattle.shapers_base.specs.declared.font.GlyphId.{GlyphId}
 use Rattle.shapers_base.specs.declared.plan.hb_ot_shape_plan_t.{hb_ot_shape_plan_t}
 use Rattle.shapers_arabic.proofs.MarkLaws as arabic
 use Rattle.shapers_buffer.specs.declared.buffer.glyph.hb_glyph_info_t.{hb_glyph_info_t}
-use Rattle.shapers_buffer.specs.Glyph.{order_view}
+use Rattle.shapers_buffer.specs.declared.buffer.level.BufferClusterLevel.{BufferClusterLevel}
+use Rattle.shapers_buffer.specs.Glyph.{characters, order_view}
 use Rattle.shapers_normal.specs.Context.{Context}
-use Rattle.shapers_normal.specs.Sorting.{class_of}
+use Rattle.shapers_normal.specs.Decomposition.{first_round}
+use Rattle.shapers_normal.specs.Normalization.{composes, has_rounds, later_rounds, normalized}
+use Rattle.shapers_normal.specs.Sorting.{class_of, classes, marks_ordered}
+use Rattle.shapers_normal.specs.declared.ot_shape_normalize.normalizing.Rounds.{Rounds}
 use Rattle.shapers_buffer.specs.Category.{is_mark}
 use Rattle.shapers_indic.specs.Characters.{composed_in_indic, decomposed_in_indic, is_ya_nukta, whole_letters}
 use Rattle.shapers_normal.specs.Decomposition.{come_off}
@@ -26,15 +30,21 @@ use Rattle.shapers_unicode.specs.General.{general_category}
 use Rattle.shapers_unicode.specs.MappingRows.{mapping_rows}
 use Rattle.shapers_unicode.specs.Pairs.{composed, decomposed}
 use Rattle.shapers_equivalence.specs.Equivalence.{CanonicallyEquivalent, apart_in_steps, full_decomposition}
-use Rattle.shapers_equivalence.specs.Laws.{HaveOwnClasses, IsCanonical, LeavesOrder, OrdersEquivalently, mark_class}
-use Rattle.shapers_equivalence.specs.Shapers.{ShapersKeepTexts, ShapersNormalizeEquivalently, orders_marks, splits_vowels, unicode_context}
+use Rattle.shapers_equivalence.specs.Laws.{AreInOrder, HaveOwnClasses, IsCanonical, IsPlainText, LeavesOrder, OrdersEquivalently, before_composing, has_short_runs, in_canonical_order, mark_class}
+use Rattle.shapers_equivalence.specs.Shapers.{ShapersKeepTexts, ShapersNormalizeEquivalently, has_split_vowel, is_split_vowel, orders_marks, unicode_context}
 use Rattle.shapers_equivalence.proofs.Apart.{AreMarks}
 use Rattle.shapers_equivalence.proofs.ArabicOrder.{arabic_arranged, arabic_same, length_arranged}
 use Rattle.shapers_equivalence.proofs.HebrewForms.{Alike, hebrew_alike}
 use Rattle.shapers_equivalence.proofs.HebrewOrder.{hebrew_arranged, hebrew_of_run, hebrew_same, length_hebrew}
+use Rattle.shapers_equivalence.proofs.KhmerTexts.{khmer_first, unicode_pairs}
 use Rattle.shapers_equivalence.proofs.ShortRuns.{stretch_whole}
 use Rattle.shapers_equivalence.proofs.Proved.{normalizes, orders_marks_so, runs_normalize, takes_apart}
 use Rattle.shapers_equivalence.proofs.UnicodePairs.{ApartInto, composed_apart, ends, marks_own_class, own_class, same_text}
+
+-- the shapers that take apart by Unicode's pairs alone
+abbrev splits_vowels : Option hb_ot_shaper_t → Bool
+splits_vowels (Some Khmer) = true
+splits_vowels _ = false
 
 -- ---- what comes apart
 
@@ -164,16 +174,96 @@ arranged_for (Some MyanmarZawgyi) plan font variants invisible draws by = left (
 arranged_for (Some Thai) plan font variants invisible draws by = left (unicode_context (Some Thai) plan font variants invisible draws) (leaves_order (Some Thai) plan font variants invisible draws refl)
 arranged_for (Some Universal) plan font variants invisible draws by = left (unicode_context (Some Universal) plan font variants invisible draws) (leaves_order (Some Universal) plan font variants invisible draws refl)
 
+-- ---- Khmer, without its split vowels
+
+abbrev khmer_context : hb_ot_shape_plan_t → Font → VariantForms → Option GlyphId → Bool → Context
+khmer_context plan font variants invisible draws = record (unicode_context (Some Khmer) plan font variants invisible draws) { decomposed = unicode_pairs }
+
+khmer_canonical : (plan : hb_ot_shape_plan_t) (font : Font) (variants : VariantForms) (invisible : Option GlyphId) (draws : Bool) → IsCanonical decomposed (khmer_context plan font variants invisible draws)
+khmer_canonical plan font variants invisible draws = record {
+  ends = ends;
+  apart = λ c p e. taken_by (is_character c) (decomposed c) p e;
+  composed = λ a b c e. same_text own_class a b c (behind_apart a b c (made_by (is_character a && is_character b) (composed_behind unicode_tables a b) c e));
+  marks = λ c some. marks_own_class 8 c some;
+}
+
+khmer_leaves : (plan : hb_ot_shape_plan_t) (font : Font) (variants : VariantForms) (invisible : Option GlyphId) (draws : Bool) → LeavesOrder (khmer_context plan font variants invisible draws)
+khmer_leaves plan font variants invisible draws = λ level s e gs some within. refl
+
 -- ---- the laws
 
-pub shapers_normalize : ShapersNormalizeEquivalently
-shapers_normalize shaper plan font variants invisible draws rounds level gs by =
+abbrev Normalizes : Option hb_ot_shaper_t → hb_ot_shape_plan_t → Font → VariantForms → Option GlyphId → Bool → Rounds → BufferClusterLevel → List hb_glyph_info_t → Type 0
+Normalizes shaper plan font variants invisible draws rounds level gs =
+    let context = unicode_context shaper plan font variants invisible draws in
+    IsPlainText context gs →
+    CanonicallyEquivalent decomposed (mark_class context) (characters (before_composing context level gs)) (characters gs)
+    × (((has_rounds rounds gs && composes context.mode) ≡ true → AreInOrder context (before_composing context level gs)) → CanonicallyEquivalent decomposed (mark_class context) (characters (normalized context rounds level gs)) (characters gs))
+
+abbrev Keeps : Option hb_ot_shaper_t → hb_ot_shape_plan_t → Font → VariantForms → Option GlyphId → Bool → Rounds → BufferClusterLevel → List hb_glyph_info_t → Type 0
+Keeps shaper plan font variants invisible draws rounds level gs =
+    let context = unicode_context shaper plan font variants invisible draws in
+    IsPlainText context gs → has_short_runs (first_round context level gs) ≡ true →
+    CanonicallyEquivalent decomposed (mark_class context) (characters (normalized context rounds level gs)) (characters gs)
+
+by_pairs : (shaper : Option hb_ot_shaper_t) (plan : hb_ot_shape_plan_t) (font : Font) (variants : VariantForms) (invisible : Option GlyphId) (draws : Bool) (rounds : Rounds) (level : BufferClusterLevel) (gs : List hb_glyph_info_t) → splits_vowels shaper ≡ false → Normalizes shaper plan font variants invisible draws rounds level gs
+by_pairs shaper plan font variants invisible draws rounds level gs by =
     let context = unicode_context shaper plan font variants invisible draws in
     let canonical = is_canonical shaper plan font variants invisible draws by in
     let arranged = arranged_for shaper plan font variants invisible draws by in
     λ text. (orders_marks_so decomposed context level gs canonical arranged text, λ in_order. normalizes decomposed context rounds level gs canonical arranged text in_order)
 
-pub shapers_keep : ShapersKeepTexts
-shapers_keep shaper plan font variants invisible draws rounds level gs by leaves =
+kept_by_pairs : (shaper : Option hb_ot_shaper_t) (plan : hb_ot_shape_plan_t) (font : Font) (variants : VariantForms) (invisible : Option GlyphId) (draws : Bool) (rounds : Rounds) (level : BufferClusterLevel) (gs : List hb_glyph_info_t) → splits_vowels shaper ≡ false → orders_marks shaper ≡ false → Keeps shaper plan font variants invisible draws rounds level gs
+kept_by_pairs shaper plan font variants invisible draws rounds level gs by leaves =
     let context = unicode_context shaper plan font variants invisible draws in
     λ text short. runs_normalize decomposed context rounds level gs (is_canonical shaper plan font variants invisible draws by) (leaves_order shaper plan font variants invisible draws leaves) text short
+
+khmer_normalizes : (plan : hb_ot_shape_plan_t) (font : Font) (variants : VariantForms) (invisible : Option GlyphId) (draws : Bool) (rounds : Rounds) (level : BufferClusterLevel) (gs : List hb_glyph_info_t) → list_any is_split_vowel gs ≡ false → Normalizes (Some Khmer) plan font variants invisible draws rounds level gs
+khmer_normalizes plan font variants invisible draws rounds level gs whole =
+    let own = unicode_context (Some Khmer) plan font variants invisible draws in
+    let context = khmer_context plan font variants invisible draws in
+    let canonical = khmer_canonical plan font variants invisible draws in
+    let arranged = left context (khmer_leaves plan font variants invisible draws) in
+    let first : first_round own level gs ≡ first_round context level gs = khmer_first own level gs whole in
+    let class = mark_class own in
+    λ text.
+    let plain : IsPlainText context gs = record { own = text.own; no_selector = text.no_selector } in
+    (subst (λ xs. CanonicallyEquivalent decomposed class (characters (marks_ordered context level xs)) (characters gs)) (sym first) (orders_marks_so decomposed context level gs canonical arranged plain),
+    λ in_order. subst (λ xs. CanonicallyEquivalent decomposed class (characters (later_rounds context (has_rounds rounds gs) level xs)) (characters gs)) (sym first)
+    (normalizes decomposed context rounds level gs canonical arranged plain
+    (λ composing.
+    let order = in_order composing in
+    let same = ap (marks_ordered context level) first in
+    record { own = subst (HaveOwnClasses context) same order.own; ordered = ap (λ xs. in_canonical_order (classes xs)) (sym same) ∙ order.ordered })))
+
+khmer_keeps : (plan : hb_ot_shape_plan_t) (font : Font) (variants : VariantForms) (invisible : Option GlyphId) (draws : Bool) (rounds : Rounds) (level : BufferClusterLevel) (gs : List hb_glyph_info_t) → list_any is_split_vowel gs ≡ false → Keeps (Some Khmer) plan font variants invisible draws rounds level gs
+khmer_keeps plan font variants invisible draws rounds level gs whole =
+    let own = unicode_context (Some Khmer) plan font variants invisible draws in
+    let context = khmer_context plan font variants invisible draws in
+    let first : first_round own level gs ≡ first_round context level gs = khmer_first own level gs whole in
+    λ text short.
+    subst (λ xs. CanonicallyEquivalent decomposed (mark_class own) (characters (later_rounds context (has_rounds rounds gs) level xs)) (characters gs)) (sym first)
+    (runs_normalize decomposed context rounds level gs (khmer_canonical plan font variants invisible draws) (khmer_leaves plan font variants invisible draws) (record { own = text.own; no_selector = text.no_selector }) (ap has_short_runs (sym first) ∙ short))
+
+pub shapers_normalize : ShapersNormalizeEquivalently
+shapers_normalize None plan font variants invisible draws rounds level gs whole = by_pairs None plan font variants invisible draws rounds level gs refl
+shapers_normalize (Some Arabic) plan font variants invisible draws rounds level gs whole = by_pairs (Some Arabic) plan font variants invisible draws rounds level gs refl
+shapers_normalize (Some Hangul) plan font variants invisible draws rounds level gs whole = by_pairs (Some Hangul) plan font variants invisible draws rounds level gs refl
+shapers_normalize (Some Hebrew) plan font variants invisible draws rounds level gs whole = by_pairs (Some Hebrew) plan font variants invisible draws rounds level gs refl
+shapers_normalize (Some Indic) plan font variants invisible draws rounds level gs whole = by_pairs (Some Indic) plan font variants invisible draws rounds level gs refl
+shapers_normalize (Some Khmer) plan font variants invisible draws rounds level gs whole = khmer_normalizes plan font variants invisible draws rounds level gs whole
+shapers_normalize (Some Myanmar) plan font variants invisible draws rounds level gs whole = by_pairs (Some Myanmar) plan font variants invisible draws rounds level gs refl
+shapers_normalize (Some MyanmarZawgyi) plan font variants invisible draws rounds level gs whole = by_pairs (Some MyanmarZawgyi) plan font variants invisible draws rounds level gs refl
+shapers_normalize (Some Thai) plan font variants invisible draws rounds level gs whole = by_pairs (Some Thai) plan font variants invisible draws rounds level gs refl
+shapers_normalize (Some Universal) plan font variants invisible draws rounds level gs whole = by_pairs (Some Universal) plan font variants invisible draws rounds level gs refl
+
+pub shapers_keep : ShapersKeepTexts
+shapers_keep None plan font variants invisible draws rounds level gs whole leaves = kept_by_pairs None plan font variants invisible draws rounds level gs refl leaves
+shapers_keep (Some Arabic) plan font variants invisible draws rounds level gs whole leaves = kept_by_pairs (Some Arabic) plan font variants invisible draws rounds level gs refl leaves
+shapers_keep (Some Hangul) plan font variants invisible draws rounds level gs whole leaves = kept_by_pairs (Some Hangul) plan font variants invisible draws rounds level gs refl leaves
+shapers_keep (Some Hebrew) plan font variants invisible draws rounds level gs whole leaves = kept_by_pairs (Some Hebrew) plan font variants invisible draws rounds level gs refl leaves
+shapers_keep (Some Indic) plan font variants invisible draws rounds level gs whole leaves = kept_by_pairs (Some Indic) plan font variants invisible draws rounds level gs refl leaves
+shapers_keep (Some Khmer) plan font variants invisible draws rounds level gs whole leaves = khmer_keeps plan font variants invisible draws rounds level gs whole
+shapers_keep (Some Myanmar) plan font variants invisible draws rounds level gs whole leaves = kept_by_pairs (Some Myanmar) plan font variants invisible draws rounds level gs refl leaves
+shapers_keep (Some MyanmarZawgyi) plan font variants invisible draws rounds level gs whole leaves = kept_by_pairs (Some MyanmarZawgyi) plan font variants invisible draws rounds level gs refl leaves
+shapers_keep (Some Thai) plan font variants invisible draws rounds level gs whole leaves = kept_by_pairs (Some Thai) plan font variants invisible draws rounds level gs refl leaves
+shapers_keep (Some Universal) plan font variants invisible draws rounds level gs whole leaves = kept_by_pairs (Some Universal) plan font variants invisible draws rounds level gs refl leaves

@@ -51,7 +51,7 @@ mapped_stop c some =
     ap (λ table. stops table 8 c) (tree_value-tree_of canonical_mapping mapping_stepped)
     ∙ Stepped-at_points canonical_mapping mapping_stepped is_empty (stops_at (tree_value [] (tree_of canonical_mapping mapping_stepped))) refl c some
 
-empty_of : (xs : List ℕ) → is_empty xs ≡ true → xs ≡ []
+pub empty_of : (xs : List ℕ) → is_empty xs ≡ true → xs ≡ []
 empty_of [] e = refl
 empty_of (x ∷ xs) e = absurd (false≢true e)
 
@@ -77,7 +77,7 @@ pub no_syllable : (c : ℕ) → is_s c ≡ false → decomposed c ≡ as_pair (c
 unfolding decomposed
 no_syllable c other = ap (λ b. cond b (Some (hangul_parts c)) (as_pair (canonical_mapping c))) other
 
-syllable : (c : ℕ) → is_s c ≡ true → decomposed c ≡ Some (hangul_parts c)
+pub syllable : (c : ℕ) → is_s c ≡ true → decomposed c ≡ Some (hangul_parts c)
 unfolding decomposed
 syllable c is = ap (λ b. cond b (Some (hangul_parts c)) (as_pair (canonical_mapping c))) is
 
@@ -109,7 +109,7 @@ by_mapping n c (a ∷ []) e all ih = one_settled n c a e (ih a all)
 by_mapping n c (a ∷ (b ∷ [])) e all ih = let parts = and_parts (stops canonical_mapping n a) (stops canonical_mapping n b) all in pair_settled n c a b e (ih a parts.0) (ih b parts.1)
 by_mapping n c (a ∷ (b ∷ (d ∷ rest))) e all ih = alone_settled (suc n) c e
 
-not_of : (b : Bool) → not b ≡ true → b ≡ false
+pub not_of : (b : Bool) → not b ≡ true → b ≡ false
 not_of true e = absurd (false≢true e)
 not_of false e = refl
 
@@ -124,7 +124,7 @@ settled (suc n) c s =
 
 -- ---- Hangul
 
-bounds : (low high c : ℕ) → is_between low high c ≡ true → (low ≤ c) × (c ≤ high)
+pub bounds : (low high c : ℕ) → is_between low high c ≡ true → (low ≤ c) × (c ≤ high)
 bounds low high c e = let parts = and_parts (nat_le low c) (nat_le c high) e in (leb-true low c parts.0, leb-true c high parts.1)
 
 no_s : (c : ℕ) → c < 0xAC00 → is_s c ≡ false

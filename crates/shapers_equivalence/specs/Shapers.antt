@@ -1,5 +1,6 @@
 -- The law for each shaper with Unicode's tables.
-use Rattle.std.specs.Prelude.{◌≡◌, ◌&&◌, Bool, true, false, List, Option, Some, None}
+use Rattle.std.specs.Prelude.{◌≡◌, ◌==◌, ◌&&◌, Bool, true, false, List, Option, Some, None}
+use Rattle.std.specs.List.{list_any}
 use Rattle.rustybuzz_shapers.specs.declared.shaper.hb_ot_shaper_t.{hb_ot_shaper_t}
 use Rattle.rustybuzz_shapers.specs.declared.shaper.hb_ot_shaper_t.TheVariants.{Arabic, Hebrew, Khmer}
 use Rattle.shapers_base.specs.Font.{Font}
@@ -8,6 +9,7 @@ use Rattle.shapers_base.specs.declared.plan.hb_ot_shape_plan_t.{hb_ot_shape_plan
 use Rattle.shapers_buffer.specs.declared.buffer.glyph.hb_glyph_info_t.{hb_glyph_info_t}
 use Rattle.shapers_buffer.specs.declared.buffer.level.BufferClusterLevel.{BufferClusterLevel}
 use Rattle.shapers_buffer.specs.Glyph.{characters}
+use Rattle.shapers_khmer.specs.Khmer.{split_vowels}
 use Rattle.shapers_normal.specs.Context.{Context}
 use Rattle.shapers_normal.specs.Decomposition.{first_round}
 use Rattle.shapers_normal.specs.Normalization.{composes, has_rounds, normalized}
@@ -31,10 +33,13 @@ abbrev pub unicode_context : Option hb_ot_shaper_t → hb_ot_shape_plan_t → Fo
 unicode_context shaper plan font variants invisible draws_selectors =
     shaper_context shaper plan font variants unicode_tables unicode_texts invisible draws_selectors
 
--- whether a shaper takes a character apart that Unicode doesn't: Khmer's split vowels
-abbrev pub splits_vowels : Option hb_ot_shaper_t → Bool
-splits_vowels (Some Khmer) = true
-splits_vowels _ = false
+-- whether the shaper takes a character of a text apart that Unicode doesn't: Khmer's split vowels
+abbrev pub is_split_vowel : hb_glyph_info_t → Bool
+is_split_vowel g = list_any (λ v. v == g.glyph_id) split_vowels
+
+abbrev pub has_split_vowel : Option hb_ot_shaper_t → List hb_glyph_info_t → Bool
+has_split_vowel (Some Khmer) gs = list_any is_split_vowel gs
+has_split_vowel _ gs = false
 
 -- whether a shaper has an order of marks of its own
 abbrev pub orders_marks : Option hb_ot_shaper_t → Bool
@@ -48,7 +53,7 @@ abbrev pub ShapersNormalizeEquivalently : Type 0
 ShapersNormalizeEquivalently = (shaper : Option hb_ot_shaper_t) (plan : hb_ot_shape_plan_t)
     (font : Font) (variants : VariantForms) (invisible : Option GlyphId) (draws_selectors : Bool)
     (rounds : Rounds) (level : BufferClusterLevel) (gs : List hb_glyph_info_t) →
-    splits_vowels shaper ≡ false →
+    has_split_vowel shaper gs ≡ false →
     let context = unicode_context shaper plan font variants invisible draws_selectors in
     IsPlainText context gs →
     CanonicallyEquivalent decomposed (mark_class context)
@@ -63,7 +68,7 @@ abbrev pub ShapersKeepTexts : Type 0
 ShapersKeepTexts = (shaper : Option hb_ot_shaper_t) (plan : hb_ot_shape_plan_t)
     (font : Font) (variants : VariantForms) (invisible : Option GlyphId) (draws_selectors : Bool)
     (rounds : Rounds) (level : BufferClusterLevel) (gs : List hb_glyph_info_t) →
-    splits_vowels shaper ≡ false → orders_marks shaper ≡ false →
+    has_split_vowel shaper gs ≡ false → orders_marks shaper ≡ false →
     let context = unicode_context shaper plan font variants invisible draws_selectors in
     IsPlainText context gs → has_short_runs (first_round context level gs) ≡ true →
     CanonicallyEquivalent decomposed (mark_class context)

@@ -26,9 +26,9 @@ pub fn runs_law()
     ensures { RunsNormalizeEquivalently }
 {}
 
-/// So it is with Unicode's tables, for each shaper but Khmer, which takes split vowels apart. Arabic's
-/// and Hebrew's order of marks keeps a text equivalent, too; a mark may compose behind it over one of
-/// its own class.
+/// So it is with Unicode's tables for each shaper, where Khmer finds no split vowel. The order of marks
+/// of Arabic and Hebrew keeps a text equivalent, but behind it a mark may compose over another one of
+/// its class.
 pub fn shapers_law()
     ensures ordered { ShapersNormalizeEquivalently }
     ensures short { ShapersKeepTexts }
