@@ -14,12 +14,12 @@ pub struct Unaffected {
     pub back: usize,
 }
 
-/// Which glyphs an edit affects: those outside what this returns. The spans are those of the text before and
-/// after it; `front` and `back` glyphs stand in front of what was replaced and behind it, the same in
-/// both texts.
+/// Which glyphs of a text of syllables an edit affects: those between what this returns. The spans
+/// are the text's before and after the edit; `front` glyphs stand in front of what was replaced and
+/// `back` behind it, the same in both texts.
 ///
-/// The syllables that meet the edit aren't enough: a grammar may read on through several syllables.
-/// In the universal grammar `SB SB` are two syllables, and with `G` behind them one.
+/// The syllables that meet the edit aren't enough, since a grammar reads on through joiners: of Khmer
+/// `1780 200C` are two syllables, and with `17B7` behind them one.
 ///
 /// <details><summary>Contract</summary>
 ///

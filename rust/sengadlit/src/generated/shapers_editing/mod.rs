@@ -1,6 +1,6 @@
 // Generated from crates/shapers_editing/src/lib.rt by rust/erase; edit the source.
 
-//! What cursors, terminals and editors ask of a shaped text: where a caret may stand, and what is
+//! What cursors, terminals and editors need of a shaped text: where a caret may stand, and what is
 //! shaped again where a stretch of the text is replaced.
 
 mod caret;
