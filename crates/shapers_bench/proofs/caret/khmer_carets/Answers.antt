@@ -1,15 +1,25 @@
 use Rattle.std.proofs.Common.{◌≡◌, ◌*◌, ◌<◌, ◌≤◌, ℕ, List, All, length, ap, arith, subst, sym, ◌∙◌}
-use Rattle.std.specs.Prelude.{Err}
+use Rattle.std.specs.Prelude.{Bool, Err, Result}
+use Rattle.std.specs.Result.{IsErrAnd}
+use Rattle.std.proofs.lemmas.Result.{err_from_is_err_and}
 use Rattle.std.proofs.lemmas.List.{length-map}
 use Rattle.std.proofs.lemmas.List.Elements.{All-contains}
 use Rattle.shapers_base.specs.declared.plan.pause.Pause.TheVariants.{ReorderKhmer}
 use Rattle.shapers_buffer.specs.declared.buffer.glyph.hb_glyph_info_t.{hb_glyph_info_t}
 use Rattle.shapers_buffer.specs.declared.buffer.level.Direction.TheVariants.{LeftToRight}
+use Rattle.shapers_buffer.specs.declared.buffer.refusal.ShaperError.{ShaperError}
 use Rattle.shapers_buffer.specs.declared.buffer.refusal.ShaperError.TheVariants.{TooLong}
 use Rattle.shapers_buffer.specs.Buffer.{Buffer}
 use Rattle.rustybuzz_shapers.specs.Glyph.{clusters}
 use Rattle.shapers_editing.specs.Carets.{IsCaretMap, caret_stops}
 use Rattle.shapers_bench.proofs.caret.khmer_carets.Goals as goal
+
+-- what `?` hands on
+passed_on : {T : Type 0} (r : Result T ShaperError) (x : ShaperError) → IsErrAnd r (λ y. y ≡ x) → r ≡ Err TooLong → x ≡ TooLong
+passed_on r x told e =
+    let (y, is, own) = err_from_is_err_and r told in
+    let one : y ≡ TooLong = cc in
+    sym own ∙ one
 
 -- the word set up has as many glyphs, and room for twice as many
 pub returns-in_err-run_pause-2-clause-room : goal.returns-in_err-run_pause-2-clause-room
@@ -23,11 +33,13 @@ returns-in_err-run_pause-2-clause-room g c e =
     let limit : set_up.max_len ≡ before.max_len = ap (λ (b : Buffer). b.max_len) c.in_ok-run_pause.ensures.ok in
     let fits : length set_up.glyphs * 2 ≤ set_up.max_len =
     omega (arith, long, limit, c.in_ok-buffer.ensures.filled, c.in_ok-buffer.ensures.limit, c.length_bound.ensures.bound, c.requires.short) in
-    let room = c.length_bound.ensures.pauses ReorderKhmer (g.F.hb_font_t.font c.args.face.now) c.args.spans.now set_up c.run_pause-2.result fits c.run_pause-2.ensures.refusal in
-    let was = c.in_err-run_pause-2.was in
-    let gone = c.from_residual-in_err-run_pause-2.ensures in
-    let same : c.run_pause-2.result ≡ Err TooLong = cc in
-    room same
+    let x = c.in_err-run_pause-2.field-0.0 in
+    let room = c.length_bound.ensures.pauses ReorderKhmer (g.F.hb_font_t.font c.args.face.now) c.args.spans.now set_up (Err x) fits c.in_err-run_pause-2.ensures.refusal in
+    let same = passed_on c.from_residual-in_err-run_pause-2.result x c.from_residual-in_err-run_pause-2.ensures.1 e in
+    room (ap (λ (y : ShaperError). let r : Result Bool ShaperError = Err y in r) same)
+
+mapped : (n : ℕ) (gs read : List hb_glyph_info_t) (stops : List ℕ) → stops ≡ caret_stops LeftToRight read → read ≡ gs → IsCaretMap n (clusters gs) (caret_stops LeftToRight gs) → IsCaretMap n (clusters gs) stops
+mapped n gs read stops a b map = subst (λ (ss : List ℕ). IsCaretMap n (clusters gs) ss) (sym (a ∙ ap (caret_stops LeftToRight) b)) map
 
 -- each cluster is the place of a character, so the stops map the word
 pub returns-clause-map : goal.returns-clause-map
@@ -39,5 +51,4 @@ returns-clause-map g c =
     let stay = c.in_ok-run_pause.ensures.laws.1 in
     let each : All within (clusters final.glyphs) = λ k d l. All-contains within (clusters set_up.glyphs) _ (subst (All within) (sym stay) c.in_ok-buffer.ensures.places) (c.in_ok-run_pause-2.ensures.laws.0.old_clusters k d l) in
     let map = c.caret_law.ensures.map LeftToRight final.glyphs n each in
-    let found = c.in_ok-caret_stops.ensures.stops ∙ ap (caret_stops LeftToRight) c.glyphs.ensures in
-    (clusters final.glyphs, (each, subst (λ (ss : List ℕ). IsCaretMap n (clusters final.glyphs) ss) (sym found) map))
+    (clusters final.glyphs, (each, mapped n final.glyphs c.glyphs.result.now c.caret_stops.new.stops.items c.in_ok-caret_stops.ensures.stops c.glyphs.ensures map))
