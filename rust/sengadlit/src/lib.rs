@@ -204,7 +204,6 @@ mod generated {
     pub(crate) mod shapers_normalize;
     #[cfg(feature = "text")]
     pub(crate) mod shapers_pipeline;
-    #[cfg(feature = "text")]
     pub(crate) mod shapers_plan;
     #[cfg(feature = "text")]
     pub(crate) mod shapers_position;
@@ -230,7 +229,6 @@ pub mod map;
 pub mod ot_shape;
 #[cfg(feature = "text")]
 pub mod ot_shape_normalize;
-#[cfg(feature = "text")]
 pub mod ot_shape_plan;
 #[cfg(feature = "text")]
 pub mod ot_shape_position;

@@ -7,7 +7,7 @@ use crate::generated::shapers_pipeline::lookups::Lookups;
 use crate::generated::shapers_plan::ot_map::StageLookup;
 
 /// An entry of a single substitution.
-#[derive(Clone, Copy, Debug, PartialEq, Eq)]
+#[derive(Clone, Copy, Debug, PartialEq, Eq, Hash)]
 pub struct Single {
     /// The number of the lookup.
     pub lookup: u16,

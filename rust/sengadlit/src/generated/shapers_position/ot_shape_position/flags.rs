@@ -8,7 +8,7 @@ use crate::generated::shapers_base::buffer::{
 use glyph_flag::{SAFE_TO_INSERT_TATWEEL, UNSAFE_TO_BREAK, UNSAFE_TO_CONCAT};
 
 /// Gives all glyphs of a cluster the flags that one of them has, so that a line breaker may read
-/// any. `UNSAFE_TO_CONCAT` is kept where the buffer wants it. Where it wants tatweels, a cluster
+/// any. [`UNSAFE_TO_CONCAT`] is kept where the buffer wants it. Where it wants tatweels, a cluster
 /// that is unsafe to break takes none before it, and one that takes one is unsafe to break and to
 /// concatenate: the line would lose the tatweel. (HarfBuzz's `hb_propagate_flags`.)
 ///
@@ -24,6 +24,8 @@ use glyph_flag::{SAFE_TO_INSERT_TATWEEL, UNSAFE_TO_BREAK, UNSAFE_TO_CONCAT};
 /// - `flags_propagated`: `crates/shapers_position/specs/ClusterFlags.antt`
 ///
 /// </details>
+///
+/// [`UNSAFE_TO_CONCAT`]: crate::buffer::glyph_flag::UNSAFE_TO_CONCAT
 pub fn propagate_flags(buffer: &mut Buffer) {
     let flags = buffer.flags();
     buffer.walk(&mut FlagPropagation { flags });

@@ -118,7 +118,7 @@ fn four_eighteenths(em: u16) -> i32 {
 // The advance of the first of these characters that the font has, or else this one.
 fn first_advance<F: Font>(font: &F, characters: &[u32], else_advance: i32) -> i32 {
     for c in characters {
-        if let Some(glyph) = font.get_nominal_glyph(*c) {
+        if let Some(glyph) = font.nominal_glyph(*c) {
             return font.glyph_h_advance(glyph);
         }
     }
