@@ -32,10 +32,20 @@ not-both : (b : Bool) → b ≡ true → b ≡ false → ⊥
 not-both b h k = cc
 
 pub shared-most : SharedIsMost
-shared-most n [] ts = record { first = ([], refl); second = (ts, refl); few = omega arith; most =
-    (λ other us vs e f l. none-longer other us e) }
-shared-most n (s ∷ ss) [] = record { first = (s ∷ ss, refl); second = ([], refl); few = omega arith; most =
-    (λ other us vs e f l. none-longer other vs f) }
+shared-most n [] ts = record {
+  first = ([], refl);
+  second = (ts, refl);
+  few = omega arith;
+  most =
+      (λ other us vs e f l. none-longer other us e);
+}
+shared-most n (s ∷ ss) [] = record {
+  first = (s ∷ ss, refl);
+  second = ([], refl);
+  few = omega arith;
+  most =
+      (λ other us vs e f l. none-longer other vs f);
+}
 shared-most n (s ∷ ss) (t ∷ ts) =
     let test = is_same s t && nat_le s.len n in
     elim test as (λ b. test ≡ b → IsShared n (s ∷ ss) (t ∷ ts) (cond b (s ∷ shared (n - s.len) ss ts) [])) [
@@ -59,9 +69,10 @@ shared-most n (s ∷ ss) (t ∷ ts) =
       }
     ] refl
   where
-    longest : (n : ℕ) (s t : Span) (ss ts : List Span) → s.len ≤ n → IsShared (n - s.len) ss ts
-    (shared (n - s.len) ss ts) → (other us vs : List Span) → s ∷ ss ≡ other ++ us → t ∷ ts ≡ other ++ vs
-    → glyphs_in other ≤ n → length other ≤ suc (length (shared (n - s.len) ss ts))
+    longest : (n : ℕ) (s t : Span) (ss ts : List Span) → s.len ≤ n →
+        IsShared (n - s.len) ss ts (shared (n - s.len) ss ts) → (other us vs : List Span) →
+        s ∷ ss ≡ other ++ us → t ∷ ts ≡ other ++ vs → glyphs_in other ≤ n →
+        length other ≤ suc (length (shared (n - s.len) ss ts))
     longest n s t ss ts within r [] us vs e f l = omega arith
     longest n s t ss ts within r (o ∷ os) us vs e f l =
         let head : s.len ≡ o.len = ap (λ (u : Span). u.len) (cons-head s o ss (os ++ us) e) in
@@ -70,7 +81,8 @@ shared-most n (s ∷ ss) (t ∷ ts) =
         omega arith
 
     none : (n : ℕ) (s t : Span) (ss ts : List Span) → (is_same s t && nat_le s.len n) ≡ false →
-    (other us vs : List Span) → s ∷ ss ≡ other ++ us → t ∷ ts ≡ other ++ vs → glyphs_in other ≤ n → length other ≤ 0
+        (other us vs : List Span) → s ∷ ss ≡ other ++ us → t ∷ ts ≡ other ++ vs → glyphs_in other ≤ n →
+        length other ≤ 0
     none n s t ss ts h [] us vs e f l = omega arith
     none n s t ss ts h (o ∷ os) us vs e f l =
         let a = cons-head s o ss (os ++ us) e in
