@@ -61,7 +61,8 @@ lesser-rises (c ∷ cs) =
     elim (list_all (λ d. nat_lt c d) cs) as (λ b. list_all (λ d. nat_lt c d) cs ≡ b → AllPairs (λ a b. a < b)
     (cond b (c ∷ lesser cs) (lesser cs))) [
       | true ↦ λ h. AllPairs-cons (λ a b. a < b) c (lesser cs)
-          (All-from_recursion (λ d. c < d) (lesser cs) (lesser-all (λ d. c < d) cs (all-above c cs h))) (lesser-rises cs)
+          (All-from_recursion (λ d. c < d) (lesser cs) (lesser-all (λ d. c < d) cs (all-above c cs h)))
+          (lesser-rises cs)
       | false ↦ λ h. lesser-rises cs
     ] refl
 
