@@ -82,16 +82,13 @@ all-lifted c x (d ∷ ds) l a = rw (lt-ltb c d (let m = a.0 in omega arith)) (al
 above-in : (c : ℕ) (cs : List ℕ) (d : ℕ) → list_all (λ e. nat_lt c e) cs ≡ true → In cs d → c < d
 above-in c cs d h i = at-in (λ e. c < e) cs d (all-above c cs h) i
 
-below-true : (a b : ℕ) → nat_lt a b ≡ true → a < b
-below-true a b h = ltb-true a b h
-
 pub first-tells : (c : ℕ) (cs : List ℕ) → exceeded c (lesser cs) ≡ list_all (λ d. nat_lt c d) cs
 first-tells c [] = refl
 first-tells c (x ∷ cs) =
     elim (list_all (λ d. nat_lt x d) cs) as (λ b. list_all (λ d. nat_lt x d) cs ≡ b → exceeded c
     (cond b (x ∷ lesser cs) (lesser cs)) ≡ (nat_lt c x && list_all (λ d. nat_lt c d) cs)) [
       | true ↦ λ h. sym (and-first (nat_lt c x) (list_all (λ d. nat_lt c d) cs)
-          (λ l. all-lifted c x cs (below-true c x l) (all-above x cs h)))
+          (λ l. all-lifted c x cs (ltb-true c x l) (all-above x cs h)))
       | false ↦ λ h. first-tells c cs ∙ sym (and-same (nat_lt c x) (list_all (λ d. nat_lt c d) cs)
           (λ a. let (d, i, l) = some-below x cs h in lt-ltb c x (let m = above-in c cs d a i in omega arith)))
     ] refl
@@ -121,14 +118,3 @@ tells c behind stops o h e =
     ap (told c) (h ∙ ap (λ xs. slice_get xs (length xs - 1)) e)
     ∙ last-tells c (lesser behind)
     ∙ first-tells c behind
-
--- one more cluster in front
-pub pushed : (c : ℕ) (behind stops new : List ℕ) (b : Bool) → stops ≡ reverse (lesser behind) → b ≡ list_all
-    (λ d. nat_lt c d) behind → new ≡ cond b (stops ++ c ∷ []) stops → new ≡ reverse (lesser (c ∷ behind))
-pushed c behind stops new b s t n =
-    n ∙ ap (λ v. cond v (stops ++ c ∷ []) stops) t
-    ∙ elim (list_all (λ d. nat_lt c d) behind) as
-    (λ v. cond v (stops ++ c ∷ []) stops ≡ reverse (cond v (c ∷ lesser behind) (lesser behind))) [
-      | true ↦ ap (λ xs. xs ++ c ∷ []) s ∙ sym (reverse_onto (lesser behind) c [])
-      | false ↦ s
-    ]
