@@ -12,10 +12,10 @@ use rustybuzz_shapers::shaper::{KHMER_SHAPER, Pause, run_pause};
 use shapers_editing::{caret_law, caret_stops};
 use std::alloc::Global;
 
-/// The places in a word of Khmer, cut into these syllables, where a caret may stand besides its end,
-/// for a font without features. They map the word up to its end: they rise, and each glyph stands
-/// for one of the intervals between them. There is room for the glyphs, so that it refuses where the
-/// spans don't cover the word, where a kind of syllable is unknown, and with `Memory`.
+/// The places in a word of Khmer, cut into these syllables, where a caret may stand besides its
+/// end, for a font without features. They map the word up to its end: they rise, and each glyph
+/// stands for one of the intervals between them. There is room for the glyphs, so that it refuses
+/// where the spans don't cover the word, where a kind of syllable is unknown, and with `Memory`.
 pub fn khmer_carets<F: hb_font_t>(
     alloc: Global,
     face: &F,

@@ -9,7 +9,8 @@ use Rattle.shapers_editing.specs.Carets.{caret_stops, has_place, intervals, is_b
 abbrev of : List ℕ → List hb_glyph_info_t
 of cs = map (λ c. record default_glyph { cluster = c }) cs
 
-backward : map is_backward (Invalid ∷ LeftToRight ∷ RightToLeft ∷ TopToBottom ∷ BottomToTop ∷ []) ≡ false ∷ false ∷ true ∷ false ∷ true ∷ []
+backward : map is_backward (Invalid ∷ LeftToRight ∷ RightToLeft ∷ TopToBottom ∷ BottomToTop ∷ [])
+    ≡ false ∷ false ∷ true ∷ false ∷ true ∷ []
 backward = refl
 
 in_text_order : text_clusters LeftToRight (of (0 ∷ 2 ∷ [])) ≡ 0 ∷ 2 ∷ []

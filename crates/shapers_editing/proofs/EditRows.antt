@@ -17,14 +17,16 @@ alike : map (is_same (span 2 1)) (span 2 1 ∷ span 2 0 ∷ span 3 1 ∷ []) ≡
 alike = refl
 
 -- up to the first that differs, in length or in kind
-up_to_kind : shared 9 (span 2 0 ∷ span 3 1 ∷ span 1 0 ∷ []) (span 2 0 ∷ span 3 1 ∷ span 1 1 ∷ []) ≡ span 2 0 ∷ span 3 1 ∷ []
+up_to_kind : shared 9 (span 2 0 ∷ span 3 1 ∷ span 1 0 ∷ []) (span 2 0 ∷ span 3 1 ∷ span 1 1 ∷ [])
+    ≡ span 2 0 ∷ span 3 1 ∷ []
 up_to_kind = refl
 
 up_to_len : shared 9 (span 2 0 ∷ span 3 1 ∷ []) (span 2 0 ∷ span 4 1 ∷ []) ≡ span 2 0 ∷ []
 up_to_len = refl
 
 -- and no further than so many glyphs
-exactly : shared 5 (span 2 0 ∷ span 3 1 ∷ span 1 0 ∷ []) (span 2 0 ∷ span 3 1 ∷ span 1 0 ∷ []) ≡ span 2 0 ∷ span 3 1 ∷ []
+exactly : shared 5 (span 2 0 ∷ span 3 1 ∷ span 1 0 ∷ []) (span 2 0 ∷ span 3 1 ∷ span 1 0 ∷ [])
+    ≡ span 2 0 ∷ span 3 1 ∷ []
 exactly = refl
 
 one_less : shared 4 (span 2 0 ∷ span 3 1 ∷ []) (span 2 0 ∷ span 3 1 ∷ []) ≡ span 2 0 ∷ []
@@ -68,6 +70,7 @@ unfolding indic_rules indic_grammar kind_by nullable same chain member before in
 indic_reads_on = refl
 
 -- universal: two segments of hieroglyphs that begin, and a hieroglyph
-universal_reads_on : map (kind_by universal_grammar) ((51 ∷ []) ∷ (51 ∷ 51 ∷ []) ∷ (51 ∷ 51 ∷ 49 ∷ []) ∷ []) ≡ 5 ∷ 255 ∷ 6 ∷ []
+universal_reads_on : map (kind_by universal_grammar) ((51 ∷ []) ∷ (51 ∷ 51 ∷ []) ∷ (51 ∷ 51 ∷ 49 ∷ []) ∷ [])
+    ≡ 5 ∷ 255 ∷ 6 ∷ []
 unfolding universal_rules universal_grammar kind_by nullable same chain member before insert union step first_kind after
 universal_reads_on = refl

@@ -29,17 +29,27 @@ use Rattle.shapers_editing.specs.EditedSyllables.{EditsStayOutside, IndicStaysOu
 abbrev len_of : Span → ℕ
 len_of s = s.len
 
-both-cover : (gs hs : List hb_glyph_info_t) (ss ts : List Span) → spans_cover (length gs) ss ≡ true → spans_cover (length hs) ts ≡ true → spans_cover (length (gs ++ hs)) (ss ++ ts) ≡ true
+both-cover : (gs hs : List hb_glyph_info_t) (ss ts : List Span) → spans_cover (length gs) ss ≡ true → spans_cover
+    (length hs) ts ≡ true → spans_cover (length (gs ++ hs)) (ss ++ ts) ≡ true
 both-cover gs hs ss ts a b =
     let some = λ (s : Span). nat_lt 0 s.len in
     let (a0, a1) = and_parts (list_all some ss) (sum_by len_of ss == length gs) a in
     let (b0, b1) = and_parts (list_all some ts) (sum_by len_of ts == length hs) b in
     and_from (list_all some (ss ++ ts)) (sum_by len_of (ss ++ ts) == length (gs ++ hs))
     (list_all-append some ss ts ∙ and_from (list_all some ss) (list_all some ts) a0 b0)
-    (eq-eqb (sum_by len_of (ss ++ ts)) (length (gs ++ hs)) (omega (arith, sum_by-append len_of ss ts, length-append gs hs, eqb-true (sum_by len_of ss) (length gs) a1, eqb-true (sum_by len_of ts) (length hs) b1)))
+    (eq-eqb (sum_by len_of (ss ++ ts)) (length (gs ++ hs))
+    (omega (
+      arith,
+      sum_by-append len_of ss ts,
+      length-append gs hs,
+      eqb-true (sum_by len_of ss)
+          (length gs) a1,
+      eqb-true (sum_by len_of ts) (length hs) b1,
+    )))
 
 -- two lists that begin with F and end with B
-same-ends : {X : Type 0} (f b one two three four xs ys : List X) → xs ≡ f ++ one → xs ≡ two ++ b → ys ≡ f ++ three → ys ≡ four ++ b → AlikeAtEnds (length f) (length b) xs ys
+same-ends : {X : Type 0} (f b one two three four xs ys : List X) → xs ≡ f ++ one → xs ≡ two ++ b → ys ≡ f ++ three → ys
+    ≡ four ++ b → AlikeAtEnds (length f) (length b) xs ys
 same-ends f b one two three four xs ys a c d e =
     record {
       front = first f one xs a ∙ sym (first f three ys d);
@@ -62,14 +72,29 @@ same-ends f b one two three four xs ys a c d e =
         ap (drop (length xs - length b)) h ∙ drop_at rest b (length xs - length b) long
 
 -- the two cuts of a text of three parts
-record TwoCuts (view : hb_glyph_info_t → hb_glyph_info_t) (made : List hb_glyph_info_t → List hb_glyph_info_t) (clusters_made : List hb_glyph_info_t → List ℕ) (set_up : List Span → List hb_glyph_info_t → List hb_glyph_info_t) (front middle back : TextPart) (xs : List hb_glyph_info_t) : Type 0 where
-  first : HalvesJoined view made clusters_made front.glyphs (middle.glyphs ++ back.glyphs) (set_up front.spans front.glyphs) (set_up (middle.spans ++ back.spans) (middle.glyphs ++ back.glyphs)) xs
-  second : HalvesJoined view made clusters_made (front.glyphs ++ middle.glyphs) back.glyphs (set_up (front.spans ++ middle.spans) (front.glyphs ++ middle.glyphs)) (set_up back.spans back.glyphs) xs
+record TwoCuts (view : hb_glyph_info_t → hb_glyph_info_t) (made : List hb_glyph_info_t → List hb_glyph_info_t)
+    (clusters_made : List hb_glyph_info_t → List ℕ) (set_up : List Span → List hb_glyph_info_t → List hb_glyph_info_t)
+    (front middle back : TextPart) (xs : List hb_glyph_info_t) : Type 0 where
+  first : HalvesJoined view made clusters_made front.glyphs (middle.glyphs ++ back.glyphs)
+      (set_up front.spans front.glyphs) (set_up (middle.spans ++ back.spans) (middle.glyphs ++ back.glyphs)) xs
+  second : HalvesJoined view made clusters_made (front.glyphs ++ middle.glyphs) back.glyphs
+      (set_up (front.spans ++ middle.spans) (front.glyphs ++ middle.glyphs)) (set_up back.spans back.glyphs) xs
 
-two-cuts : (view : hb_glyph_info_t → hb_glyph_info_t) (set_up : List Span → List hb_glyph_info_t → List hb_glyph_info_t) (made : List hb_glyph_info_t → List hb_glyph_info_t) (clusters_made : List hb_glyph_info_t → List ℕ) (front middle back : TextPart) (xs : List hb_glyph_info_t) → CutsBetweenSpans view set_up made clusters_made (whole_spans front middle back) (whole_glyphs front middle back) xs → TwoCuts view made clusters_made set_up front middle back xs
+two-cuts : (view : hb_glyph_info_t → hb_glyph_info_t)
+    (set_up : List Span → List hb_glyph_info_t → List hb_glyph_info_t)
+    (made : List hb_glyph_info_t → List hb_glyph_info_t) (clusters_made : List hb_glyph_info_t → List ℕ)
+    (front middle back : TextPart) (xs : List hb_glyph_info_t) → CutsBetweenSpans view set_up made clusters_made
+    (whole_spans front middle back) (whole_glyphs front middle back) xs
+    → TwoCuts view made clusters_made set_up front middle back xs
 two-cuts view set_up made clusters_made front middle back xs cut = record {
-  first = cut front.spans (middle.spans ++ back.spans) front.glyphs (middle.glyphs ++ back.glyphs) _ _ refl refl front.covered (both-cover middle.glyphs back.glyphs middle.spans back.spans middle.covered back.covered) refl refl;
-  second = cut (front.spans ++ middle.spans) back.spans (front.glyphs ++ middle.glyphs) back.glyphs _ _ (sym (append_assoc front.spans middle.spans back.spans)) (sym (append_assoc front.glyphs middle.glyphs back.glyphs)) (both-cover front.glyphs middle.glyphs front.spans middle.spans front.covered middle.covered) back.covered refl refl;
+  first = cut front.spans (middle.spans ++ back.spans) front.glyphs
+      (middle.glyphs ++ back.glyphs) _ _ refl refl front.covered
+      (both-cover middle.glyphs back.glyphs middle.spans back.spans middle.covered back.covered) refl refl;
+  second = cut (front.spans ++ middle.spans) back.spans (front.glyphs ++ middle.glyphs) back.glyphs _ _
+      (sym (append_assoc front.spans middle.spans back.spans))
+      (sym (append_assoc front.glyphs middle.glyphs back.glyphs))
+      (both-cover front.glyphs middle.glyphs front.spans middle.spans front.covered middle.covered) back.covered refl
+      refl;
 }
 
 pub outside : EditsStayOutside
@@ -79,18 +104,26 @@ outside view set_up made clusters_made front old new back xs ys one two =
     let front_up = set_up front.spans front.glyphs in
     let back_up = set_up back.spans back.glyphs in
     record {
-      order = subst (λ n. AlikeAtEnds n (length (made back_up)) (map view (order_view xs)) (map view (order_view ys))) (length-map (made front_up) view)
-          (subst (λ m. AlikeAtEnds (length (map view (made front_up))) m (map view (order_view xs)) (map view (order_view ys))) (length-map (made back_up) view)
-          (same-ends (map view (made front_up)) (map view (made back_up)) _ _ _ _ _ _ a.first.order a.second.order b.first.order b.second.order));
-      in_clusters = λ i j k l. same-ends _ _ _ _ _ _ _ _ (a.first.in_clusters i) (a.second.in_clusters j) (b.first.in_clusters k) (b.second.in_clusters l);
+      order = subst (λ n. AlikeAtEnds n (length (made back_up)) (map view (order_view xs)) (map view (order_view ys)))
+          (length-map (made front_up) view)
+          (subst (λ m. AlikeAtEnds (length (map view (made front_up))) m (map view (order_view xs))
+          (map view (order_view ys))) (length-map (made back_up) view)
+          (same-ends (map view (made front_up)) (map view
+          (made back_up)) _ _ _ _ _ _ a.first.order a.second.order b.first.order b.second.order));
+      in_clusters = λ i j k l. same-ends _ _ _ _ _ _ _ _ (a.first.in_clusters i) (a.second.in_clusters j)
+          (b.first.in_clusters k) (b.second.in_clusters l);
     }
 
-pub pauses-outside : (set_up pause : Pause) (by : hb_ot_shape_plan_t → Font → Buffer → Reordering) → IsCut set_up pause by → PausesStayOutside set_up pause by
+pub pauses-outside : (set_up pause : Pause) (by : hb_ot_shape_plan_t → Font → Buffer → Reordering)
+    → IsCut set_up pause by → PausesStayOutside set_up pause by
 pauses-outside set_up pause by law plan font unread front old new back b mid xs other ys fit fits a c d e same =
     let r = by plan font mid in
-    outside unnumbered unsafe_spans (paused_order r.circles r.order) (paused_clusters r.circles r.steps b.level) front old new back xs.glyphs ys.glyphs
+    outside unnumbered unsafe_spans (paused_order r.circles r.order)
+    (paused_clusters r.circles r.steps b.level) front old new back xs.glyphs ys.glyphs
     (law plan font (whole_spans front old back) unread _ mid xs fit a c)
-    (subst (λ (s : Reordering). CutsBetweenSpans unnumbered unsafe_spans (paused_order s.circles s.order) (paused_clusters s.circles s.steps b.level) (whole_spans front new back) (whole_glyphs front new back) ys.glyphs) (sym same)
+    (subst (λ (s : Reordering). CutsBetweenSpans unnumbered unsafe_spans (paused_order s.circles s.order)
+    (paused_clusters s.circles s.steps b.level) (whole_spans front new back) (whole_glyphs front new back) ys.glyphs)
+    (sym same)
     (law plan font (whole_spans front new back) unread _ other ys fits d e))
 
 pub universal-outside : UniversalIsCut → UniversalStaysOutside
@@ -98,16 +131,23 @@ universal-outside law plan font unread front old new back b mid xs other ys fit 
     let r = by_universal font mid in
     let view = without_serial_or_forms plan.plan_data plan.ot_map in
     let set_up = set_up_by_spans plan.plan_data plan.ot_map in
-    outside view set_up (paused_order r.circles r.order) (paused_clusters r.circles r.steps b.level) front old new back xs.glyphs ys.glyphs
+    outside view set_up (paused_order r.circles r.order)
+    (paused_clusters r.circles r.steps b.level) front old new back xs.glyphs ys.glyphs
     (law plan font (whole_spans front old back) unread _ mid xs fit a c)
-    (subst (λ (s : Reordering). CutsBetweenSpans view set_up (paused_order s.circles s.order) (paused_clusters s.circles s.steps b.level) (whole_spans front new back) (whole_glyphs front new back) ys.glyphs) (sym same)
+    (subst (λ (s : Reordering). CutsBetweenSpans view set_up (paused_order s.circles s.order)
+    (paused_clusters s.circles s.steps b.level) (whole_spans front new back) (whole_glyphs front new back) ys.glyphs)
+    (sym same)
     (law plan font (whole_spans front new back) unread _ other ys fits d e))
 
 pub indic-outside : IndicIsCutAfterBoth → IndicStaysOutside
 indic-outside law plan font unread front old new back b mid first xs other second ys fit fits a c c2 d e e2 same =
     let r = by_initial plan font mid in
     let rules = final.final_rules font (indic_in plan) in
-    outside (uninitiated rules) unsafe_spans (final_after rules b.script r.circles r.order) (final_clusters_after rules b.script b.level r.circles r.order r.steps) front old new back xs.glyphs ys.glyphs
+    outside (uninitiated rules) unsafe_spans (final_after rules b.script r.circles r.order)
+    (final_clusters_after rules b.script b.level r.circles r.order r.steps) front old new back xs.glyphs ys.glyphs
     (law plan font (whole_spans front old back) unread _ mid first xs fit a c c2)
-    (subst (λ (s : Reordering). CutsBetweenSpans (uninitiated rules) unsafe_spans (final_after rules b.script s.circles s.order) (final_clusters_after rules b.script b.level s.circles s.order s.steps) (whole_spans front new back) (whole_glyphs front new back) ys.glyphs) (sym same)
+    (subst (λ (s : Reordering). CutsBetweenSpans (uninitiated rules) unsafe_spans
+    (final_after rules b.script s.circles s.order)
+    (final_clusters_after rules b.script b.level s.circles s.order s.steps) (whole_spans front new back)
+    (whole_glyphs front new back) ys.glyphs) (sym same)
     (law plan font (whole_spans front new back) unread _ other second ys fits d e e2))

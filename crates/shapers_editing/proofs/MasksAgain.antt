@@ -32,31 +32,42 @@ abbrev flags_called_by : Bool → Bool → BreakFlags → Option Script → Text
 flags_called_by concat tatweel breaks script text = flags_called concat tatweel (flag_calls breaks script text)
 
 -- glyphs in their forms
-formed-ors : (masks fs ns : List ℕ) (gs : List hb_glyph_info_t) → with_joining_forms masks fs (ors ns gs) ≡ ors ns (with_joining_forms masks fs gs)
+formed-ors : (masks fs ns : List ℕ) (gs : List hb_glyph_info_t) → with_joining_forms masks fs (ors ns gs) ≡ ors ns
+    (with_joining_forms masks fs gs)
 formed-ors masks fs [] gs = refl
 formed-ors masks [] (n ∷ ns) [] = refl
 formed-ors masks [] (n ∷ ns) (g ∷ gs) = refl
 formed-ors masks (f ∷ fs) (n ∷ ns) [] = refl
 formed-ors masks (f ∷ fs) (n ∷ ns) (g ∷ gs) =
-    ap (λ (k : ℕ). let h : hb_glyph_info_t = record g { auxiliary = f; mask = k } in h ∷ with_joining_forms masks fs (ors ns gs)) (or_swap g.mask (slice_index masks f) n)
+    ap (λ (k : ℕ). let h : hb_glyph_info_t = record g { auxiliary = f; mask = k } in h ∷ with_joining_forms masks fs
+    (ors ns gs)) (or_swap g.mask (slice_index masks f) n)
     ∙ ap (λ hs. with_bits n (with_form masks f g) ∷ hs) (formed-ors masks fs ns gs)
 
-formed-twice : (masks fs : List ℕ) (gs : List hb_glyph_info_t) → with_joining_forms masks fs (with_joining_forms masks fs gs) ≡ with_joining_forms masks fs gs
+formed-twice : (masks fs : List ℕ) (gs : List hb_glyph_info_t) → with_joining_forms masks fs
+    (with_joining_forms masks fs gs) ≡ with_joining_forms masks fs gs
 formed-twice masks [] gs = refl
 formed-twice masks (f ∷ fs) [] = refl
 formed-twice masks (f ∷ fs) (g ∷ gs) =
-    ap (λ (k : ℕ). let h : hb_glyph_info_t = record g { auxiliary = f; mask = k } in h ∷ with_joining_forms masks fs (with_joining_forms masks fs gs)) (or_twice g.mask (slice_index masks f))
+    ap (λ (k : ℕ). let h : hb_glyph_info_t = record g { auxiliary = f; mask = k } in h ∷ with_joining_forms masks fs
+    (with_joining_forms masks fs gs)) (or_twice g.mask (slice_index masks f))
     ∙ ap (λ hs. with_form masks f g ∷ hs) (formed-twice masks fs gs)
 
-map-formed : {Y : Type 0} (see : hb_glyph_info_t → Y) → ((g : hb_glyph_info_t) (form mask : ℕ) → see (record g { auxiliary = form; mask = mask }) ≡ see g) → (masks fs : List ℕ) (gs : List hb_glyph_info_t) → length fs ≡ length gs → map see (with_joining_forms masks fs gs) ≡ map see gs
+map-formed : {Y : Type 0} (see : hb_glyph_info_t → Y) →
+    ((g : hb_glyph_info_t) (form mask : ℕ) → see (record g { auxiliary = form; mask = mask }) ≡ see g) →
+    (masks fs : List ℕ) (gs : List hb_glyph_info_t) → length fs ≡ length gs → map see (with_joining_forms masks fs gs)
+    ≡ map see gs
 map-formed see same masks [] [] e = refl
 map-formed see same masks [] (g ∷ gs) e = absurd (omega arith)
 map-formed see same masks (f ∷ fs) [] e = absurd (omega arith)
 map-formed see same masks (f ∷ fs) (g ∷ gs) e =
-    ap (λ y. y ∷ map see (with_joining_forms masks fs gs)) (same g f _) ∙ ap (λ ys. see g ∷ ys) (map-formed see same masks fs gs (omega arith))
+    ap (λ y. y ∷ map see (with_joining_forms masks fs gs)) (same g f _) ∙ ap (λ ys. see g ∷ ys)
+    (map-formed see same masks fs gs (omega arith))
 
 -- with the same text
-joined-twice : (breaks : BreakFlags) (masks : List ℕ) (flags : BufferFlags) (script : Option Script) (text : Text) (gs : List hb_glyph_info_t) → length (forms_of script text) ≡ length gs → joined_glyphs breaks masks flags script text (joined_glyphs breaks masks flags script text gs) ≡ joined_glyphs breaks masks flags script text gs
+joined-twice : (breaks : BreakFlags) (masks : List ℕ) (flags : BufferFlags) (script : Option Script) (text : Text)
+    (gs : List hb_glyph_info_t) → length (forms_of script text) ≡ length gs
+    → joined_glyphs breaks masks flags script text (joined_glyphs breaks masks flags script text gs)
+    ≡ joined_glyphs breaks masks flags script text gs
 joined-twice breaks masks flags script text gs long =
     let concat = has_flag flags_concat flags in
     let tatweel = has_flag flags_tatweel flags in
@@ -65,53 +76,76 @@ joined-twice breaks masks flags script text gs long =
     let ordered = calls-in_order breaks script text in
     let once = with_joining_forms masks fs gs in
     let same : clusters (with_joining_forms masks fs once) ≡ clusters once = ap clusters (formed-twice masks fs gs) in
-    ap (flags_called_by concat tatweel breaks script text) (flags-pass concat tatweel (with_joining_forms masks fs) (formed-ors masks fs) calls once ordered same ∙ ap (flags_called_by concat tatweel breaks script text) (formed-twice masks fs gs))
+    ap (flags_called_by concat tatweel breaks script text)
+    (flags-pass concat tatweel (with_joining_forms masks fs) (formed-ors masks fs) calls once ordered same ∙ ap
+    (flags_called_by concat tatweel breaks script text) (formed-twice masks fs gs))
     ∙ flags-twice concat tatweel calls once ordered
 
 -- the text stays
-text-stays : (breaks : BreakFlags) (masks : List ℕ) (script : Option Script) (joining : ℕ → hb_arabic_joining_type_t) (general : ℕ → hb_unicode_general_category_t) (b : Buffer) → text_of joining general (buffer_joined breaks masks script joining general b) ≡ text_of joining general b
+text-stays : (breaks : BreakFlags) (masks : List ℕ) (script : Option Script) (joining : ℕ → hb_arabic_joining_type_t)
+    (general : ℕ → hb_unicode_general_category_t) (b : Buffer) → text_of joining general
+    (buffer_joined breaks masks script joining general b) ≡ text_of joining general b
 text-stays breaks masks script joining general b =
     let text = text_of joining general b in
     let fs = forms_of script text in
-    let long : length fs ≡ length b.glyphs = length-forms_of script text (text_long joining general b) ∙ types_long joining b.glyphs in
+    let long : length fs ≡ length b.glyphs = length-forms_of script text (text_long joining general b)
+    ∙ types_long joining b.glyphs in
     let type_of = λ (g : hb_glyph_info_t). resolved (joining g.glyph_id) g.general_category in
     let before = context_types joining general b.before in
     let after = context_types joining general b.after in
-    let characters : map (λ g. g.glyph_id) (joined_glyphs breaks masks b.flags script text b.glyphs) ≡ map (λ g. g.glyph_id) b.glyphs =
-    map-flags_called (λ g. g.glyph_id) (λ bits g low. refl) (has_flag flags_concat b.flags) (has_flag flags_tatweel b.flags) (flag_calls breaks script text) (with_joining_forms masks fs b.glyphs) (calls-in_order breaks script text)
+    let characters : map (λ g. g.glyph_id) (joined_glyphs breaks masks b.flags script text b.glyphs) ≡ map
+    (λ g. g.glyph_id) b.glyphs =
+    map-flags_called (λ g. g.glyph_id) (λ bits g low. refl) (has_flag flags_concat b.flags)
+    (has_flag flags_tatweel b.flags) (flag_calls breaks script text) (with_joining_forms masks fs b.glyphs)
+    (calls-in_order breaks script text)
     ∙ map-formed (λ g. g.glyph_id) (λ g form mask. refl) masks fs b.glyphs long in
-    let types : stored_types joining (joined_glyphs breaks masks b.flags script text b.glyphs) ≡ stored_types joining b.glyphs =
-    map-flags_called type_of (λ bits g low. refl) (has_flag flags_concat b.flags) (has_flag flags_tatweel b.flags) (flag_calls breaks script text) (with_joining_forms masks fs b.glyphs) (calls-in_order breaks script text)
+    let types : stored_types joining (joined_glyphs breaks masks b.flags script text b.glyphs)
+    ≡ stored_types joining b.glyphs =
+    map-flags_called type_of (λ bits g low. refl) (has_flag flags_concat b.flags) (has_flag flags_tatweel b.flags)
+    (flag_calls breaks script text) (with_joining_forms masks fs b.glyphs) (calls-in_order breaks script text)
     ∙ map-formed type_of (λ g form mask. refl) masks fs b.glyphs long in
-    ap (λ cs. text_by before cs (stored_types joining (joined_glyphs breaks masks b.flags script text b.glyphs)) after) characters
+    ap (λ cs. text_by before cs (stored_types joining
+    (joined_glyphs breaks masks b.flags script text b.glyphs)) after) characters
     ∙ ap (λ ts. text_by before (map (λ g. g.glyph_id) b.glyphs) ts after) types
 
 -- so joining a second time changes nothing
-joined-once : (breaks : BreakFlags) (masks : List ℕ) (script : Option Script) (joining : ℕ → hb_arabic_joining_type_t) (general : ℕ → hb_unicode_general_category_t) (b : Buffer) → let after = buffer_joined breaks masks script joining general in after (after b) ≡ after b
+joined-once : (breaks : BreakFlags) (masks : List ℕ) (script : Option Script) (joining : ℕ → hb_arabic_joining_type_t)
+    (general : ℕ → hb_unicode_general_category_t) (b : Buffer) →
+    let after = buffer_joined breaks masks script joining general in after (after b) ≡ after b
 joined-once breaks masks script joining general b =
     let text = text_of joining general b in
     let once = buffer_joined breaks masks script joining general b in
-    let long : length (forms_of script text) ≡ length b.glyphs = length-forms_of script text (text_long joining general b) ∙ types_long joining b.glyphs in
-    ap (λ (t : Text). let c : Buffer = record b { glyphs = joined_glyphs breaks masks b.flags script t once.glyphs } in c) (text-stays breaks masks script joining general b)
-    ∙ ap (λ (gs : List hb_glyph_info_t). let c : Buffer = record b { glyphs = gs } in c) (joined-twice breaks masks b.flags script text b.glyphs long)
+    let long : length (forms_of script text) ≡ length b.glyphs = length-forms_of script text
+    (text_long joining general b) ∙ types_long joining b.glyphs in
+    ap (λ (t : Text). let c : Buffer = record b { glyphs = joined_glyphs breaks masks b.flags script t once.glyphs }
+    in c) (text-stays breaks masks script joining general b)
+    ∙ ap (λ (gs : List hb_glyph_info_t). let c : Buffer = record b { glyphs = gs } in c)
+    (joined-twice breaks masks b.flags script text b.glyphs long)
 
-pub joined-again : (breaks : BreakFlags) (masks : List ℕ) (script : Option Script) (joining : ℕ → hb_arabic_joining_type_t) (general : ℕ → hb_unicode_general_category_t) (old mid new : Buffer) → mid ≡ buffer_joined breaks masks script joining general old → new ≡ buffer_joined breaks masks script joining general mid → new ≡ mid
+pub joined-again : (breaks : BreakFlags) (masks : List ℕ) (script : Option Script)
+    (joining : ℕ → hb_arabic_joining_type_t) (general : ℕ → hb_unicode_general_category_t) (old mid new : Buffer) → mid
+    ≡ buffer_joined breaks masks script joining general old → new
+    ≡ buffer_joined breaks masks script joining general mid → new ≡ mid
 joined-again breaks masks script joining general old mid new first second =
     let after = buffer_joined breaks masks script joining general in
     second ∙ ap after first ∙ joined-once breaks masks script joining general old ∙ sym first
 
 -- categories
-category-ors : (f : ℕ → ℕ) (ns : List ℕ) (gs : List hb_glyph_info_t) → map (categorized f) (ors ns gs) ≡ ors ns (map (categorized f) gs)
+category-ors : (f : ℕ → ℕ) (ns : List ℕ) (gs : List hb_glyph_info_t) → map (categorized f) (ors ns gs) ≡ ors ns
+    (map (categorized f) gs)
 category-ors f [] gs = refl
 category-ors f (n ∷ ns) [] = refl
 category-ors f (n ∷ ns) (g ∷ gs) = ap (λ hs. with_bits n (categorized f g) ∷ hs) (category-ors f ns gs)
 
-category-formed : (f : ℕ → ℕ) (masks fs : List ℕ) (gs : List hb_glyph_info_t) → map (categorized f) (with_joining_forms masks fs gs) ≡ with_joining_forms masks fs (map (categorized f) gs)
+category-formed : (f : ℕ → ℕ) (masks fs : List ℕ) (gs : List hb_glyph_info_t) → map (categorized f)
+    (with_joining_forms masks fs gs) ≡ with_joining_forms masks fs (map (categorized f) gs)
 category-formed f masks [] gs = refl
 category-formed f masks (k ∷ fs) [] = refl
-category-formed f masks (k ∷ fs) (g ∷ gs) = ap (λ hs. with_form masks k (categorized f g) ∷ hs) (category-formed f masks fs gs)
+category-formed f masks (k ∷ fs) (g ∷ gs) = ap (λ hs. with_form masks k (categorized f g) ∷ hs)
+    (category-formed f masks fs gs)
 
-category-twice : (f : ℕ → ℕ) (gs : List hb_glyph_info_t) → map (categorized f) (map (categorized f) gs) ≡ map (categorized f) gs
+category-twice : (f : ℕ → ℕ) (gs : List hb_glyph_info_t) → map (categorized f) (map (categorized f) gs) ≡ map
+    (categorized f) gs
 category-twice f [] = refl
 category-twice f (g ∷ gs) = ap (λ hs. categorized f g ∷ hs) (category-twice f gs)
 
@@ -119,18 +153,23 @@ category-clusters : (f : ℕ → ℕ) (gs : List hb_glyph_info_t) → clusters (
 category-clusters f [] = refl
 category-clusters f (g ∷ gs) = ap (λ cs. g.cluster ∷ cs) (category-clusters f gs)
 
-category-joined : (f : ℕ → ℕ) (breaks : BreakFlags) (masks : List ℕ) (flags : BufferFlags) (script : Option Script) (text : Text) (gs : List hb_glyph_info_t) → map (categorized f) (joined_glyphs breaks masks flags script text gs) ≡ joined_glyphs breaks masks flags script text (map (categorized f) gs)
+category-joined : (f : ℕ → ℕ) (breaks : BreakFlags) (masks : List ℕ) (flags : BufferFlags) (script : Option Script)
+    (text : Text) (gs : List hb_glyph_info_t) → map (categorized f) (joined_glyphs breaks masks flags script text gs)
+    ≡ joined_glyphs breaks masks flags script text (map (categorized f) gs)
 category-joined f breaks masks flags script text gs =
     let concat = has_flag flags_concat flags in
     let tatweel = has_flag flags_tatweel flags in
     let formed = with_joining_forms masks (forms_of script text) gs in
-    flags-pass concat tatweel (map (categorized f)) (category-ors f) (flag_calls breaks script text) formed (calls-in_order breaks script text) (category-clusters f formed)
+    flags-pass concat tatweel (map (categorized f)) (category-ors f) (flag_calls breaks script text) formed
+    (calls-in_order breaks script text) (category-clusters f formed)
     ∙ ap (flags_called_by concat tatweel breaks script text) (category-formed f masks (forms_of script text) gs)
 
-pub universal-again : (p : Option arabic_shape_plan_t) (script : Option Script) (tables : CharacterTables) (old mid new : Buffer) → MasksAreSet p script tables old mid → MasksAreSet p script tables mid new → new ≡ mid
+pub universal-again : (p : Option arabic_shape_plan_t) (script : Option Script) (tables : CharacterTables)
+    (old mid new : Buffer) → MasksAreSet p script tables old mid → MasksAreSet p script tables mid new → new ≡ mid
 universal-again None script tables old mid new first second =
     second ∙ ap (with_categories tables) first
-    ∙ ap (λ (gs : List hb_glyph_info_t). let b : Buffer = record old { glyphs = gs } in b) (category-twice tables.universal old.glyphs)
+    ∙ ap (λ (gs : List hb_glyph_info_t). let b : Buffer = record old { glyphs = gs } in b)
+    (category-twice tables.universal old.glyphs)
     ∙ sym first
 universal-again (Some p) script tables old mid new first second =
     let b = with_categories tables old in
@@ -138,18 +177,29 @@ universal-again (Some p) script tables old mid new first second =
     let joined = joined_glyphs p.break_flags p.mask_array b.flags script text in
     let stays : with_categories tables mid ≡ mid =
     ap (with_categories tables) first.0
-    ∙ ap (λ (gs : List hb_glyph_info_t). let c : Buffer = record old { glyphs = gs } in c) (category-joined tables.universal p.break_flags p.mask_array b.flags script text b.glyphs ∙ ap joined (category-twice tables.universal old.glyphs))
+    ∙ ap (λ (gs : List hb_glyph_info_t). let c : Buffer = record old { glyphs = gs } in c)
+    (category-joined tables.universal p.break_flags p.mask_array b.flags script text b.glyphs ∙ ap joined
+    (category-twice tables.universal old.glyphs))
     ∙ sym first.0 in
-    joined-again p.break_flags p.mask_array script tables.joining tables.general b mid new first.0 (second.0 ∙ ap (buffer_joined p.break_flags p.mask_array script tables.joining tables.general) stays)
+    joined-again p.break_flags p.mask_array script tables.joining tables.general b mid new first.0
+    (second.0 ∙ ap (buffer_joined p.break_flags p.mask_array script tables.joining tables.general) stays)
 
 -- each shaper
 pub masks-set-once : MasksOnce → MasksSetOnce
-masks-set-once others Arabic plan tables old mid new first second = joined-again (breaks_of plan.plan_data) (masks_of plan.plan_data) plan.script tables.joining tables.general old mid new first.0 second.0
-masks-set-once others Universal plan tables old mid new first second = universal-again (arabic_of plan.plan_data) plan.script tables old mid new first second
-masks-set-once others Hangul plan tables old mid new first second = others Hangul plan tables old mid new refl first second
-masks-set-once others Hebrew plan tables old mid new first second = others Hebrew plan tables old mid new refl first second
-masks-set-once others Indic plan tables old mid new first second = others Indic plan tables old mid new refl first second
-masks-set-once others Khmer plan tables old mid new first second = others Khmer plan tables old mid new refl first second
-masks-set-once others Myanmar plan tables old mid new first second = others Myanmar plan tables old mid new refl first second
-masks-set-once others MyanmarZawgyi plan tables old mid new first second = others MyanmarZawgyi plan tables old mid new refl first second
+masks-set-once others Arabic plan tables old mid new first second = joined-again (breaks_of plan.plan_data)
+    (masks_of plan.plan_data) plan.script tables.joining tables.general old mid new first.0 second.0
+masks-set-once others Universal plan tables old mid new first second = universal-again
+    (arabic_of plan.plan_data) plan.script tables old mid new first second
+masks-set-once others Hangul plan tables old mid new first second = others Hangul plan tables old mid new refl first
+    second
+masks-set-once others Hebrew plan tables old mid new first second = others Hebrew plan tables old mid new refl first
+    second
+masks-set-once others Indic plan tables old mid new first second = others Indic plan tables old mid new refl first
+    second
+masks-set-once others Khmer plan tables old mid new first second = others Khmer plan tables old mid new refl first
+    second
+masks-set-once others Myanmar plan tables old mid new first second = others Myanmar plan tables old mid new refl first
+    second
+masks-set-once others MyanmarZawgyi plan tables old mid new first second = others MyanmarZawgyi plan tables old mid new
+    refl first second
 masks-set-once others Thai plan tables old mid new first second = others Thai plan tables old mid new refl first second

@@ -17,10 +17,12 @@ use Rattle.shapers_spans.proofs.Reading.{syllable_within}
 use Rattle.shapers_editing.specs.SpanEdits.{AreDone, IsDone, OneCut, SpansBehindStay, SpansInFrontStay}
 
 -- what is read alike
-alike-tail : (g : Grammar) (x : hb_glyph_info_t) (gs hs : List hb_glyph_info_t) → ReadsAlike g (x ∷ gs) hs → ReadsAlike g gs hs
+alike-tail : (g : Grammar) (x : hb_glyph_info_t) (gs hs : List hb_glyph_info_t) → ReadsAlike g (x ∷ gs) hs
+    → ReadsAlike g gs hs
 alike-tail g x gs hs a fs ks e l = a (x ∷ fs) ks (ap (λ zs. x ∷ zs) e) l
 
-alike-head : (g : Grammar) (x : hb_glyph_info_t) (gs hs : List hb_glyph_info_t) → ReadsAlike g (x ∷ gs) hs → g.passes (x ∷ (gs ++ hs)) ≡ g.passes (x ∷ gs)
+alike-head : (g : Grammar) (x : hb_glyph_info_t) (gs hs : List hb_glyph_info_t) → ReadsAlike g (x ∷ gs) hs → g.passes
+    (x ∷ (gs ++ hs)) ≡ g.passes (x ∷ gs)
 alike-head g x gs hs a = a [] (x ∷ gs) refl (omega arith)
 
 alike-drop : (g : Grammar) (gs hs : List hb_glyph_info_t) (n : ℕ) → ReadsAlike g gs hs → ReadsAlike g (drop n gs) hs
@@ -28,37 +30,47 @@ alike-drop g gs hs zero a = a
 alike-drop g [] hs (suc n) a = a
 alike-drop g (x ∷ gs) hs (suc n) a = alike-drop g gs hs n (alike-tail g x gs hs a)
 
-read-append : (g : Grammar) (gs hs : List hb_glyph_info_t) → ReadsAlike g gs hs → read_of g.passes (gs ++ hs) ≡ read_of g.passes gs ++ read_of g.passes hs
+read-append : (g : Grammar) (gs hs : List hb_glyph_info_t) → ReadsAlike g gs hs → read_of g.passes (gs ++ hs)
+    ≡ read_of g.passes gs ++ read_of g.passes hs
 read-append g [] hs a = refl
 read-append g (x ∷ gs) hs a =
     let h = alike-head g x gs hs a in
     let rest = read-append g gs hs (alike-tail g x gs hs a) in
     ⊎_elim
-    (λ e. skip_read g.passes x (gs ++ hs) (h ∙ e) ∙ rest ∙ ap (λ w. w ++ read_of g.passes hs) (sym (skip_read g.passes x gs e)))
-    (λ e. keep_read g.passes x (gs ++ hs) (h ∙ e) ∙ ap (λ w. x.category ∷ w) rest ∙ ap (λ w. w ++ read_of g.passes hs) (sym (keep_read g.passes x gs e)))
+    (λ e. skip_read g.passes x (gs ++ hs) (h ∙ e) ∙ rest ∙ ap (λ w. w ++ read_of g.passes hs)
+    (sym (skip_read g.passes x gs e)))
+    (λ e. keep_read g.passes x (gs ++ hs) (h ∙ e) ∙ ap (λ w. x.category ∷ w) rest ∙ ap (λ w. w ++ read_of g.passes hs)
+    (sym (keep_read g.passes x gs e)))
     (cases_Bool (g.passes (x ∷ gs)))
 
-reach-in : (g : Grammar) (gs hs : List hb_glyph_info_t) (n : ℕ) → ReadsAlike g gs hs → n < length (read_of g.passes gs) → reach_of g.passes (gs ++ hs) n ≡ reach_of g.passes gs n
+reach-in : (g : Grammar) (gs hs : List hb_glyph_info_t) (n : ℕ) → ReadsAlike g gs hs → n < length (read_of g.passes gs)
+    → reach_of g.passes (gs ++ hs) n ≡ reach_of g.passes gs n
 reach-in g [] hs n a l = absurd (omega arith)
 reach-in g (x ∷ gs) hs zero a l =
     let h = alike-head g x gs hs a in
     ⊎_elim
-    (λ e. skip_reach g.passes x (gs ++ hs) 0 (h ∙ e) ∙ ap suc (reach-in g gs hs 0 (alike-tail g x gs hs a) (omega (arith, ap length (skip_read g.passes x gs e)))) ∙ sym (skip_reach g.passes x gs 0 e))
+    (λ e. skip_reach g.passes x (gs ++ hs) 0 (h ∙ e) ∙ ap suc
+    (reach-in g gs hs 0 (alike-tail g x gs hs a) (omega (arith, ap length (skip_read g.passes x gs e)))) ∙ sym
+    (skip_reach g.passes x gs 0 e))
     (λ e. reach-zero g.passes (x ∷ (gs ++ hs)) (h ∙ e) ∙ sym (reach-zero g.passes (x ∷ gs) e))
     (cases_Bool (g.passes (x ∷ gs)))
 reach-in g (x ∷ gs) hs (suc n) a l =
     let h = alike-head g x gs hs a in
     let b = alike-tail g x gs hs a in
     ⊎_elim
-    (λ e. skip_reach g.passes x (gs ++ hs) (suc n) (h ∙ e) ∙ ap suc (reach-in g gs hs (suc n) b (omega (arith, ap length (skip_read g.passes x gs e)))) ∙ sym (skip_reach g.passes x gs (suc n) e))
-    (λ e. keep_reach g.passes x (gs ++ hs) n (h ∙ e) ∙ ap suc (reach-in g gs hs n b (omega (arith, ap length (keep_read g.passes x gs e)))) ∙ sym (keep_reach g.passes x gs n e))
+    (λ e. skip_reach g.passes x (gs ++ hs) (suc n) (h ∙ e) ∙ ap suc
+    (reach-in g gs hs (suc n) b (omega (arith, ap length (skip_read g.passes x gs e)))) ∙ sym
+    (skip_reach g.passes x gs (suc n) e))
+    (λ e. keep_reach g.passes x (gs ++ hs) n (h ∙ e) ∙ ap suc
+    (reach-in g gs hs n b (omega (arith, ap length (keep_read g.passes x gs e)))) ∙ sym (keep_reach g.passes x gs n e))
     (cases_Bool (g.passes (x ∷ gs)))
 
 -- a syllable with which the grammar is done
 take-past : (w v : List ℕ) (m : ℕ) → length w ≤ m → take m (w ++ v) ≡ w ++ take (m - length w) v
 take-past [] v m l = ap (λ k. take k v) (omega arith)
 take-past (x ∷ w) v zero l = absurd (omega arith)
-take-past (x ∷ w) v (suc m) l = ap (λ zs. x ∷ zs) (take-past w v m (omega arith) ∙ ap (λ k. w ++ take k v) (omega arith))
+take-past (x ∷ w) v (suc m) l = ap (λ zs. x ∷ zs)
+    (take-past w v m (omega arith) ∙ ap (λ k. w ++ take k v) (omega arith))
 
 none-past : (g : Grammar) (w v : List ℕ) (m : ℕ) → IsDone g w → length w ≤ m → NoneTakes g.rules (take m (w ++ v))
 none-past g w v m d l = subst (λ u. NoneTakes g.rules u) (sym (take-past w v m l)) (d.none (take (m - length w) v))
@@ -66,16 +78,19 @@ none-past g w v m d l = subst (λ u. NoneTakes g.rules u) (sym (take-past w v m 
 same-front : (w v u : List ℕ) (m : ℕ) → m ≤ length w → take m (w ++ v) ≡ take m (w ++ u)
 same-front w v u m l = take-append-le m w v l ∙ sym (take-append-le m w u l)
 
-none-moved : (g : Grammar) (w v u : List ℕ) (m : ℕ) → IsDone g w → (m ≤ length (w ++ v) → NoneTakes g.rules (take m (w ++ v))) → NoneTakes g.rules (take m (w ++ u))
+none-moved : (g : Grammar) (w v u : List ℕ) (m : ℕ) → IsDone g w →
+    (m ≤ length (w ++ v) → NoneTakes g.rules (take m (w ++ v))) → NoneTakes g.rules (take m (w ++ u))
 none-moved g w v u m d f =
     ⊎_elim
     (λ l. subst (λ z. NoneTakes g.rules z) (same-front w v u m (omega arith)) (f (omega (arith, length-append w v))))
     (λ l. none-past g w u m d l)
     (cases_lt m (length w))
 
-syllable-moved : (g : Grammar) (w v u : List ℕ) (s : Span) → IsDone g w → IsSyllable g (w ++ v) s → (s.len < length w) × IsSyllable g (w ++ u) s
+syllable-moved : (g : Grammar) (w v u : List ℕ) (s : Span) → IsDone g w → IsSyllable g (w ++ v) s → (s.len < length w)
+    × IsSyllable g (w ++ u) s
 syllable-moved g w v u s d (inl y) =
-    let short : s.len < length w = ⊎_elim (λ l. l) (λ l. absurd (none-past g w v s.len d l y.rule y.first.takes)) (cases_lt s.len (length w)) in (
+    let short : s.len < length w = ⊎_elim (λ l. l) (λ l. absurd (none-past g w v s.len d l y.rule y.first.takes))
+    (cases_lt s.len (length w)) in (
       short,
       inl (record {
         some = y.some;
@@ -99,10 +114,12 @@ syllable-moved g w v u s d (inr y) =
     )
 
 -- it opens a text whatever stands behind
-opens-moved : (g : Grammar) (gs hs ks : List hb_glyph_info_t) (s : Span) → ReadsAlike g gs hs → ReadsAlike g gs ks → IsDone g (read_of g.passes gs) → OpensWith g (gs ++ hs) s → (s.len ≤ length gs) × OpensWith g (gs ++ ks) s
+opens-moved : (g : Grammar) (gs hs ks : List hb_glyph_info_t) (s : Span) → ReadsAlike g gs hs → ReadsAlike g gs ks
+    → IsDone g (read_of g.passes gs) → OpensWith g (gs ++ hs) s → (s.len ≤ length gs) × OpensWith g (gs ++ ks) s
 opens-moved g gs hs ks s a b d o =
     let p = g.passes in
-    let m = syllable-moved g (read_of p gs) (read_of p hs) (read_of p ks) o.read d (subst (λ w. IsSyllable g w o.read) (read-append g gs hs a) o.syllable) in
+    let m = syllable-moved g (read_of p gs) (read_of p hs) (read_of p ks) o.read d
+    (subst (λ w. IsSyllable g w o.read) (read-append g gs hs a) o.syllable) in
     let near : s.len ≡ reach_of p gs o.read.len = o.len ∙ reach-in g gs hs o.read.len a m.0 in (
       omega (arith, near, reach-le p gs o.read.len),
       record {
@@ -130,9 +147,11 @@ one-syllable : (g : Grammar) (w : List ℕ) (s t : Span) → IsSyllable g w s �
 one-syllable g w s t (inl y) (inl z) =
     let same : s.len ≡ t.len = ⊎_elim
     (λ l. absurd (y.longest t.len l z.within z.rule z.first.takes))
-    (λ l. ⊎_elim (λ m. absurd (z.longest s.len m y.within y.rule y.first.takes)) (λ m. omega arith) (cases_lt t.len s.len))
+    (λ l. ⊎_elim (λ m. absurd (z.longest s.len m y.within y.rule y.first.takes)) (λ m. omega arith)
+    (cases_lt t.len s.len))
     (cases_lt s.len t.len) in
-    let rule = one-rule g.rules (take t.len w) y.rule z.rule (subst (λ n. IsFirst g.rules (take n w) y.rule) same y.first) z.first in
+    let rule = one-rule g.rules (take t.len w) y.rule z.rule
+    (subst (λ n. IsFirst g.rules (take n w) y.rule) same y.first) z.first in
     same-span s t same (y.kind ∙ ap (λ r. get_or g.kinds r 0) rule ∙ sym z.kind)
 one-syllable g w s t (inl y) (inr z) = absurd (z.none s.len y.some y.within y.rule y.first.takes)
 one-syllable g w s t (inr y) (inl z) = absurd (y.none t.len z.some z.within z.rule z.first.takes)
@@ -148,7 +167,8 @@ opens-one g gs s t o q =
 opens-none : (g : Grammar) (s : Span) → OpensWith g [] s → ⊥
 opens-none g s o = let (a, b) = syllable_within g [] o.read o.syllable in omega arith
 
-one-cut-from : (g : Grammar) (gs : List hb_glyph_info_t) (ss ts : List Span) → IsCutFrom g gs ss → IsCutFrom g gs ts → ss ≡ ts
+one-cut-from : (g : Grammar) (gs : List hb_glyph_info_t) (ss ts : List Span) → IsCutFrom g gs ss → IsCutFrom g gs ts
+    → ss ≡ ts
 one-cut-from g gs [] [] c d = refl
 one-cut-from g gs [] (t ∷ ts) c d = absurd (opens-none g t (subst (λ xs. OpensWith g xs t) c d.0))
 one-cut-from g gs (s ∷ ss) [] c d = absurd (opens-none g s (subst (λ xs. OpensWith g xs s) d c.0))
@@ -160,10 +180,13 @@ one-cut-from g gs (s ∷ ss) (t ∷ ts) c d =
 pub one-cut : OneCut
 one-cut g gs ss ts c d =
     let lead = lead_spans (reach_of g.passes gs 0) g.other in
-    c.whole ∙ ap (λ (us : List Span). lead ++ us) (one-cut-from g (drop (reach_of g.passes gs 0) gs) c.rest d.rest c.cut d.cut) ∙ sym d.whole
+    c.whole ∙ ap (λ (us : List Span). lead ++ us)
+    (one-cut-from g (drop (reach_of g.passes gs 0) gs) c.rest d.rest c.cut d.cut) ∙ sym d.whole
 
 -- IN FRONT OF AN EDIT
-front-from : (g : Grammar) (gs hs ks : List hb_glyph_info_t) (ps ss ts : List Span) → ReadsAlike g gs hs → ReadsAlike g gs ks → IsCutFrom g (gs ++ hs) (ps ++ ss) → IsCutFrom g (gs ++ ks) ts → AreDone g gs ps → (us : List Span) × (ts ≡ ps ++ us)
+front-from : (g : Grammar) (gs hs ks : List hb_glyph_info_t) (ps ss ts : List Span) → ReadsAlike g gs hs
+    → ReadsAlike g gs ks → IsCutFrom g (gs ++ hs) (ps ++ ss) → IsCutFrom g (gs ++ ks) ts → AreDone g gs ps →
+    (us : List Span) × (ts ≡ ps ++ us)
 front-from g gs hs ks [] ss ts a b c d done = (ts, refl)
 front-from g gs hs ks (p ∷ ps) ss [] a b c d done =
     let o = opens-moved g gs hs ks p a b done.0 c.0 in
@@ -171,9 +194,12 @@ front-from g gs hs ks (p ∷ ps) ss [] a b c d done =
 front-from g gs hs ks (p ∷ ps) ss (t ∷ ts) a b c d done =
     let o = opens-moved g gs hs ks p a b done.0 c.0 in
     let e = opens-one g (gs ++ ks) p t o.1 d.0 in
-    let one : IsCutFrom g (drop p.len gs ++ hs) (ps ++ ss) = subst (λ xs. IsCutFrom g xs (ps ++ ss)) (drop-append-le p.len gs hs o.0) c.1 in
-    let two : IsCutFrom g (drop p.len gs ++ ks) ts = subst (λ xs. IsCutFrom g xs ts) (ap (λ (u : Span). drop u.len (gs ++ ks)) (sym e) ∙ drop-append-le p.len gs ks o.0) d.1 in
-    let (us, f) = front-from g (drop p.len gs) hs ks ps ss ts (alike-drop g gs hs p.len a) (alike-drop g gs ks p.len b) one two done.1 in
+    let one : IsCutFrom g (drop p.len gs ++ hs) (ps ++ ss) = subst (λ xs. IsCutFrom g xs (ps ++ ss))
+    (drop-append-le p.len gs hs o.0) c.1 in
+    let two : IsCutFrom g (drop p.len gs ++ ks) ts = subst (λ xs. IsCutFrom g xs ts)
+    (ap (λ (u : Span). drop u.len (gs ++ ks)) (sym e) ∙ drop-append-le p.len gs ks o.0) d.1 in
+    let (us, f) = front-from g (drop p.len gs) hs ks ps ss ts (alike-drop g gs hs p.len a)
+    (alike-drop g gs ks p.len b) one two done.1 in
     (us, ap (λ (u : Span). u ∷ ts) (sym e) ∙ ap (λ (vs : List Span). p ∷ vs) f)
 
 cons-head : (x y : Span) (xs ys : List Span) → x ∷ xs ≡ y ∷ ys → x ≡ y
@@ -183,11 +209,14 @@ cons-tail : (x y : Span) (xs ys : List Span) → x ∷ xs ≡ y ∷ ys → xs �
 cons-tail x y xs ys e = cc
 
 -- what is passed over in front, by whether there is any
-led : (n k : ℕ) (rest : List Span) → (n == 0) ≡ false → lead_spans n k ++ rest ≡ (let s : Span = record { len = n; kind = k } in s) ∷ rest
-led n k rest e = ap (λ (us : List Span). us ++ rest) (cond-false (n == 0) [] ((let s : Span = record { len = n; kind = k } in s) ∷ []) e)
+led : (n k : ℕ) (rest : List Span) → (n == 0) ≡ false → lead_spans n k ++ rest ≡
+    (let s : Span = record { len = n; kind = k } in s) ∷ rest
+led n k rest e = ap (λ (us : List Span). us ++ rest)
+    (cond-false (n == 0) [] ((let s : Span = record { len = n; kind = k } in s) ∷ []) e)
 
 unled : (n k : ℕ) (rest : List Span) → (n == 0) ≡ true → lead_spans n k ++ rest ≡ rest
-unled n k rest e = ap (λ (us : List Span). us ++ rest) (cond-true (n == 0) [] ((let s : Span = record { len = n; kind = k } in s) ∷ []) e)
+unled n k rest e = ap (λ (us : List Span). us ++ rest)
+    (cond-true (n == 0) [] ((let s : Span = record { len = n; kind = k } in s) ∷ []) e)
 
 pub in-front : SpansInFrontStay
 in-front g gs hs ks [] ss ts a b c d done = (ts, refl)
@@ -200,8 +229,10 @@ in-front g gs hs ks (p ∷ ps) ss ts a b c d done =
     let cw : p ∷ (ps ++ ss) ≡ lead_spans n g.other ++ c.rest = c.whole ∙ ap (λ k. lead_spans k g.other ++ c.rest) one in
     let dw : ts ≡ lead_spans n g.other ++ d.rest = d.whole ∙ ap (λ k. lead_spans k g.other ++ d.rest) other in
     let within : n ≤ length gs = reach-le g.passes gs 0 in
-    let cc1 : IsCutFrom g (drop n gs ++ hs) c.rest = subst (λ xs. IsCutFrom g xs c.rest) (ap (λ k. drop k (gs ++ hs)) one ∙ drop-append-le n gs hs within) c.cut in
-    let dc1 : IsCutFrom g (drop n gs ++ ks) d.rest = subst (λ xs. IsCutFrom g xs d.rest) (ap (λ k. drop k (gs ++ ks)) other ∙ drop-append-le n gs ks within) d.cut in
+    let cc1 : IsCutFrom g (drop n gs ++ hs) c.rest = subst (λ xs. IsCutFrom g xs c.rest)
+    (ap (λ k. drop k (gs ++ hs)) one ∙ drop-append-le n gs hs within) c.cut in
+    let dc1 : IsCutFrom g (drop n gs ++ ks) d.rest = subst (λ xs. IsCutFrom g xs d.rest)
+    (ap (λ k. drop k (gs ++ ks)) other ∙ drop-append-le n gs ks within) d.cut in
     ⊎_elim
     (λ e. let zero_is : n ≡ 0 = eqb-true n 0 e in
     let cr : c.rest ≡ p ∷ (ps ++ ss) = sym (cw ∙ unled n g.other c.rest e) in
@@ -215,8 +246,11 @@ in-front g gs hs ks (p ∷ ps) ss ts a b c d done =
     let tail : ps ++ ss ≡ c.rest = cons-tail p lead (ps ++ ss) c.rest both in
     let front = front-from g (drop n gs) hs ks ps ss d.rest (alike-drop g gs hs n a) (alike-drop g gs ks n b)
     (subst (λ us. IsCutFrom g (drop n gs ++ hs) us) (sym tail) cc1) dc1
-    (subst (λ (u : Span). AreDone g (drop u.len gs) ps) head done.1) in
-    (front.0, dw ∙ led n g.other d.rest e ∙ ap (λ (u : Span). u ∷ d.rest) (sym head) ∙ ap (λ (us : List Span). p ∷ us) front.1))
+    (subst (λ (u : Span). AreDone g (drop u.len gs) ps) head done.1) in (
+      front.0,
+      dw ∙ led n g.other d.rest e ∙ ap (λ (u : Span). u ∷ d.rest) (sym head) ∙ ap
+          (λ (us : List Span). p ∷ us) front.1,
+    ))
     (cases_Bool (n == 0))
 
 -- BEHIND AN EDIT
@@ -224,14 +258,18 @@ record Behind (g : Grammar) (hs : List hb_glyph_info_t) (ts : List Span) : Type 
   cut : IsCutFrom g hs ts
   read : g.passes hs ≡ false
 
-behind-reach : (p : List hb_glyph_info_t → Bool) → p [] ≡ false → (gs : List hb_glyph_info_t) (n : ℕ) → p (drop (reach_of p gs n) gs) ≡ false
+behind-reach : (p : List hb_glyph_info_t → Bool) → p [] ≡ false → (gs : List hb_glyph_info_t) (n : ℕ) → p
+    (drop (reach_of p gs n) gs) ≡ false
 behind-reach p z [] n = z
 behind-reach p z (x ∷ gs) zero =
-    cond_both (p (x ∷ gs)) (suc (reach_of p gs 0)) 0 (λ k. p (drop k (x ∷ gs)) ≡ false) (λ _. behind-reach p z gs 0) (λ h. h)
+    cond_both (p (x ∷ gs)) (suc (reach_of p gs 0)) 0 (λ k. p (drop k (x ∷ gs)) ≡ false) (λ _. behind-reach p z gs 0)
+    (λ h. h)
 behind-reach p z (x ∷ gs) (suc n) =
-    cond_both (p (x ∷ gs)) (reach_of p gs (suc n)) (reach_of p gs n) (λ k. p (drop k gs) ≡ false) (λ _. behind-reach p z gs (suc n)) (λ _. behind-reach p z gs n)
+    cond_both (p (x ∷ gs)) (reach_of p gs (suc n)) (reach_of p gs n) (λ k. p (drop k gs) ≡ false)
+    (λ _. behind-reach p z gs (suc n)) (λ _. behind-reach p z gs n)
 
-behind-from : (g : Grammar) → g.passes [] ≡ false → (gs hs : List hb_glyph_info_t) (ss ts : List Span) → IsCutFrom g (gs ++ hs) (ss ++ ts) → sum_by (λ (s : Span). s.len) ss ≡ length gs → g.passes (gs ++ hs) ≡ false → Behind g hs ts
+behind-from : (g : Grammar) → g.passes [] ≡ false → (gs hs : List hb_glyph_info_t) (ss ts : List Span) → IsCutFrom g
+    (gs ++ hs) (ss ++ ts) → sum_by (λ (s : Span). s.len) ss ≡ length gs → g.passes (gs ++ hs) ≡ false → Behind g hs ts
 behind-from g z gs hs [] ts c l r =
     let e : gs ≡ [] = nil_from_length gs (sym l) in
     record {
@@ -241,8 +279,10 @@ behind-from g z gs hs [] ts c l r =
 behind-from g z gs hs (s ∷ ss) ts c l r =
     let p : s.len + sum_by (λ (t : Span). t.len) ss ≡ length gs = sym (sum_by-cons (λ (t : Span). t.len) s ss) ∙ l in
     let on : drop s.len (gs ++ hs) ≡ drop s.len gs ++ hs = drop-append-le s.len gs hs (omega (arith, p)) in
-    let stop : g.passes (drop s.len (gs ++ hs)) ≡ false = ap (λ n. g.passes (drop n (gs ++ hs))) c.0.len ∙ behind-reach g.passes z (gs ++ hs) c.0.read.len in
-    behind-from g z (drop s.len gs) hs ss ts (subst (λ xs. IsCutFrom g xs (ss ++ ts)) on c.1) (omega (arith, p, length-drop s.len gs)) (subst (λ xs. g.passes xs ≡ false) on stop)
+    let stop : g.passes (drop s.len (gs ++ hs)) ≡ false = ap (λ n. g.passes (drop n (gs ++ hs))) c.0.len
+    ∙ behind-reach g.passes z (gs ++ hs) c.0.read.len in
+    behind-from g z (drop s.len gs) hs ss ts (subst (λ xs. IsCutFrom g xs (ss ++ ts)) on c.1)
+    (omega (arith, p, length-drop s.len gs)) (subst (λ xs. g.passes xs ≡ false) on stop)
 
 unopened : (g : Grammar) (hs : List hb_glyph_info_t) (ts : List Span) → Behind g hs ts → IsSyllableCut g hs ts
 unopened g hs ts b =
@@ -254,10 +294,13 @@ unopened g hs ts b =
     }
 
 covered : (n : ℕ) (spans : List Span) → spans_cover n spans ≡ true → sum_by (λ (s : Span). s.len) spans ≡ n
-covered n spans h = eqb-true (sum_by (λ (s : Span). s.len) spans) n (second_so (list_all (λ (s : Span). nat_lt 0 s.len) spans) (sum_by (λ (s : Span). s.len) spans == n) h)
+covered n spans h = eqb-true (sum_by (λ (s : Span). s.len) spans) n
+    (second_so (list_all (λ (s : Span). nat_lt 0 s.len) spans) (sum_by (λ (s : Span). s.len) spans == n) h)
 
-behind-cut : (g : Grammar) → g.passes [] ≡ false → (gs hs : List hb_glyph_info_t) (ss ts : List Span) → IsSyllableCut g (gs ++ hs) (ss ++ ts) → sum_by (λ (s : Span). s.len) ss ≡ length gs → IsSyllableCut g hs ts
-behind-cut g z gs hs [] ts c l = subst (λ (xs : List hb_glyph_info_t). IsSyllableCut g (xs ++ hs) ts) (nil_from_length gs (sym l)) c
+behind-cut : (g : Grammar) → g.passes [] ≡ false → (gs hs : List hb_glyph_info_t) (ss ts : List Span) → IsSyllableCut g
+    (gs ++ hs) (ss ++ ts) → sum_by (λ (s : Span). s.len) ss ≡ length gs → IsSyllableCut g hs ts
+behind-cut g z gs hs [] ts c l = subst (λ (xs : List hb_glyph_info_t). IsSyllableCut g (xs ++ hs) ts)
+    (nil_from_length gs (sym l)) c
 behind-cut g z gs hs (s ∷ ss) ts c l =
     let n = reach_of g.passes (gs ++ hs) 0 in
     let p : s.len + sum_by (λ (t : Span). t.len) ss ≡ length gs = sym (sum_by-cons (λ (t : Span). t.len) s ss) ∙ l in
@@ -265,15 +308,20 @@ behind-cut g z gs hs (s ∷ ss) ts c l =
     ⊎_elim
     (λ e. let zero_is : n ≡ 0 = eqb-true n 0 e in
     let cr : c.rest ≡ s ∷ (ss ++ ts) = sym (c.whole ∙ unled n g.other c.rest e) in
-    unopened g hs ts (behind-from g z gs hs (s ∷ ss) ts (subst (λ us. IsCutFrom g (gs ++ hs) us) cr (subst (λ k. IsCutFrom g (drop k (gs ++ hs)) c.rest) zero_is c.cut)) l (subst (λ k. g.passes (drop k (gs ++ hs)) ≡ false) zero_is stop)))
+    unopened g hs ts (behind-from g z gs hs (s ∷ ss) ts
+    (subst (λ us. IsCutFrom g (gs ++ hs) us) cr (subst (λ k. IsCutFrom g (drop k (gs ++ hs)) c.rest) zero_is c.cut)) l
+    (subst (λ k. g.passes (drop k (gs ++ hs)) ≡ false) zero_is stop)))
     (λ e. let lead : Span = record { len = n; kind = g.other } in
     let both : s ∷ (ss ++ ts) ≡ lead ∷ c.rest = c.whole ∙ led n g.other c.rest e in
     let head : n ≡ s.len = ap (λ (u : Span). u.len) (sym (cons-head s lead (ss ++ ts) c.rest both)) in
     let tail : ss ++ ts ≡ c.rest = cons-tail s lead (ss ++ ts) c.rest both in
     let on : drop n (gs ++ hs) ≡ drop n gs ++ hs = drop-append-le n gs hs (omega (arith, p, head)) in
-    unopened g hs ts (behind-from g z (drop n gs) hs ss ts (subst (λ us. IsCutFrom g (drop n gs ++ hs) us) (sym tail) (subst (λ xs. IsCutFrom g xs c.rest) on c.cut)) (omega (arith, p, head, length-drop n gs)) (subst (λ xs. g.passes xs ≡ false) on stop)))
+    unopened g hs ts (behind-from g z (drop n gs) hs ss ts
+    (subst (λ us. IsCutFrom g (drop n gs ++ hs) us) (sym tail) (subst (λ xs. IsCutFrom g xs c.rest) on c.cut))
+    (omega (arith, p, head, length-drop n gs)) (subst (λ xs. g.passes xs ≡ false) on stop)))
     (cases_Bool (n == 0))
 
 pub behind-edit : SpansBehindStay
 behind-edit g gs hs ks ps qs ss ts z c v d u =
-    one-cut g ks ss ts (behind-cut g z gs ks ps ss c (covered (length gs) ps v)) (behind-cut g z hs ks qs ts d (covered (length hs) qs u))
+    one-cut g ks ss ts (behind-cut g z gs ks ps ss c (covered (length gs) ps v))
+    (behind-cut g z hs ks qs ts d (covered (length hs) qs u))

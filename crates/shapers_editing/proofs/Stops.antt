@@ -40,7 +40,8 @@ pub some-below : (c : ℕ) (cs : List ℕ) → list_all (λ d. nat_lt c d) cs �
 some-below c [] h = absurd cc
 some-below c (d ∷ ds) h =
     ⊎_elim
-    (λ l. let (e, i, b) = some-below c ds (subst (λ b. (b && list_all (λ d. nat_lt c d) ds) ≡ false) (lt-ltb c d l) h) in (e, inr i, b))
+    (λ l. let (e, i, b) = some-below c ds (subst (λ b. (b && list_all (λ d. nat_lt c d) ds) ≡ false) (lt-ltb c d l) h)
+    in (e, inr i, b))
     (λ l. (d, inl refl, l))
     (cases_lt c d)
 
@@ -57,8 +58,11 @@ lesser-all P (c ∷ cs) a =
 pub lesser-rises : (cs : List ℕ) → AllPairs (λ a b. a < b) (lesser cs)
 lesser-rises [] = λ i j d a b. absurd (omega arith)
 lesser-rises (c ∷ cs) =
-    elim (list_all (λ d. nat_lt c d) cs) as (λ b. list_all (λ d. nat_lt c d) cs ≡ b → AllPairs (λ a b. a < b) (cond b (c ∷ lesser cs) (lesser cs))) [
-      | true ↦ λ h. AllPairs-cons (λ a b. a < b) c (lesser cs) (All-from_recursion (λ d. c < d) (lesser cs) (lesser-all (λ d. c < d) cs (all-above c cs h))) (lesser-rises cs)
+    elim (list_all (λ d. nat_lt c d) cs) as (λ b. list_all (λ d. nat_lt c d) cs ≡ b → AllPairs (λ a b. a < b)
+    (cond b (c ∷ lesser cs) (lesser cs))) [
+      | true ↦ λ h. AllPairs-cons (λ a b. a < b) c (lesser cs)
+          (All-from_recursion (λ d. c < d) (lesser cs) (lesser-all (λ d. c < d) cs (all-above c cs h)))
+          (lesser-rises cs)
       | false ↦ λ h. lesser-rises cs
     ] refl
 
@@ -75,9 +79,11 @@ reaches-up (s ∷ ss) c p l (inr r) = inr (reaches-up ss c p l r)
 lesser-reaches : (cs : List ℕ) (c : ℕ) → In cs c → IsReached (lesser cs) c
 lesser-reaches [] c i = absurd i
 lesser-reaches (x ∷ cs) c i =
-    elim (list_all (λ d. nat_lt x d) cs) as (λ b. list_all (λ d. nat_lt x d) cs ≡ b → IsReached (cond b (x ∷ lesser cs) (lesser cs)) c) [
+    elim (list_all (λ d. nat_lt x d) cs) as (λ b. list_all (λ d. nat_lt x d) cs ≡ b → IsReached
+    (cond b (x ∷ lesser cs) (lesser cs)) c) [
       | true ↦ λ h. ⊎_elim (λ e. inl (omega arith)) (λ j. inr (lesser-reaches cs c j)) i
-      | false ↦ λ h. ⊎_elim (λ e. let (d, j, l) = some-below x cs h in reaches-up (lesser cs) d c (omega arith) (lesser-reaches cs d j)) (λ j. lesser-reaches cs c j) i
+      | false ↦ λ h. ⊎_elim (λ e. let (d, j, l) = some-below x cs h in reaches-up (lesser cs) d c (omega arith)
+          (lesser-reaches cs d j)) (λ j. lesser-reaches cs c j) i
     ] refl
 
 pub reached : (cs : List ℕ) (c p : ℕ) → Contains cs c → c ≤ p → IsReached (lesser cs) p
@@ -99,7 +105,8 @@ each-lesser [] r = tt
 each-lesser (c ∷ cs) r =
     let later : AllPairs (λ a b. a ≤ b) cs = (λ i j d l m. r (suc i) (suc j) d (omega arith) (omega arith)) in
     let rest = each-lesser cs later in
-    elim (list_all (λ d. nat_lt c d) cs) as (λ b. list_all (λ d. nat_lt c d) cs ≡ b → AllByRecursion (In (cond b (c ∷ lesser cs) (lesser cs))) (c ∷ cs)) [
+    elim (list_all (λ d. nat_lt c d) cs) as (λ b. list_all (λ d. nat_lt c d) cs ≡ b → AllByRecursion
+    (In (cond b (c ∷ lesser cs) (lesser cs))) (c ∷ cs)) [
       | true ↦ λ h. (inl refl, weaker (In (lesser cs)) (In (c ∷ lesser cs)) (λ x i. inr i) cs rest)
       | false ↦ λ h.
           let (d, i, l) = some-below c cs h in
@@ -116,9 +123,14 @@ abbrev Rising : List ℕ → ℕ → Type 0
 Rising [] end = Unit {0}
 Rising (s ∷ ss) end = Chain s ss end
 
-chained : (s : ℕ) (ss : List ℕ) (end : ℕ) → AllPairs (λ a b. a < b) (s ∷ ss) → AllByRecursion (λ c. c < end) (s ∷ ss) → Chain s ss end
+chained : (s : ℕ) (ss : List ℕ) (end : ℕ) → AllPairs (λ a b. a < b) (s ∷ ss) → AllByRecursion (λ c. c < end) (s ∷ ss)
+    → Chain s ss end
 chained s [] end r a = a.0
-chained s (t ∷ ts) end r a = (r 0 1 0 (omega arith) (omega arith), chained t ts end (λ i j d l m. r (suc i) (suc j) d (omega arith) (omega arith)) a.1)
+chained s (t ∷ ts) end r a = (
+  r 0 1 0 (omega arith) (omega arith),
+  chained t ts end
+      (λ i j d l m. r (suc i) (suc j) d (omega arith) (omega arith)) a.1,
+)
 
 first-reaches : (s : ℕ) (ss : List ℕ) (end p : ℕ) → Chain s ss end → IsReached (s ∷ ss) p → s ≤ p
 first-reaches s [] end p h (inl l) = l
@@ -126,24 +138,29 @@ first-reaches s [] end p h (inr r) = absurd r
 first-reaches s (t ∷ ts) end p h (inl l) = l
 first-reaches s (t ∷ ts) end p h (inr r) = let l = first-reaches t ts end p h.1 r in omega arith
 
-counted : (s t end p : ℕ) → s < t → t < end → (n : ℕ) → n ≡ cond (nat_le t p && nat_lt p end) 1 0 → cond (nat_le s p && nat_lt p t) 1 0 + n ≡ cond (nat_le s p && nat_lt p end) 1 0
+counted : (s t end p : ℕ) → s < t → t < end → (n : ℕ) → n ≡ cond (nat_le t p && nat_lt p end) 1 0 → cond
+    (nat_le s p && nat_lt p t) 1 0 + n ≡ cond (nat_le s p && nat_lt p end) 1 0
 counted s t end p a b n e = rw e (grind (arith, nat_tests))
 
 end-behind : (s : ℕ) (ss : List ℕ) (end : ℕ) → Chain s ss end → s < end
 end-behind s [] end h = h
 end-behind s (t ∷ ts) end h = let l = end-behind t ts end h.1 in omega arith
 
-count-chain : (s : ℕ) (ss : List ℕ) (end p : ℕ) → Chain s ss end → count_by (has_place p) (intervals (s ∷ ss) end) ≡ cond (nat_le s p && nat_lt p end) 1 0
+count-chain : (s : ℕ) (ss : List ℕ) (end p : ℕ) → Chain s ss end → count_by (has_place p) (intervals (s ∷ ss) end)
+    ≡ cond (nat_le s p && nat_lt p end) 1 0
 count-chain s [] end p h = sum_by-cons (λ iv. cond (has_place p iv) 1 0) (s, end) [] ∙ add-zero _
 count-chain s (t ∷ ts) end p h =
     sum_by-cons (λ iv. cond (has_place p iv) 1 0) (s, t) (intervals (t ∷ ts) end)
-    ∙ counted s t end p h.0 (end-behind t ts end h.1) (count_by (has_place p) (intervals (t ∷ ts) end)) (count-chain t ts end p h.1)
+    ∙ counted s t end p h.0 (end-behind t ts end h.1) (count_by (has_place p) (intervals (t ∷ ts) end))
+    (count-chain t ts end p h.1)
 
 -- a place that they reach lies in one interval
 within : (s p end : ℕ) → s ≤ p → p < end → cond {A = ℕ} (nat_le s p && nat_lt p end) 1 0 ≡ 1
-within s p end a b = ap (λ t. cond {A = ℕ} (t && nat_lt p end) 1 0) (le-leb s p a) ∙ ap (λ t. cond {A = ℕ} t 1 0) (lt-ltb p end b)
+within s p end a b = ap (λ t. cond {A = ℕ} (t && nat_lt p end) 1 0) (le-leb s p a) ∙ ap (λ t. cond {A = ℕ} t 1 0)
+    (lt-ltb p end b)
 
-pub one-interval : (ss : List ℕ) (end p : ℕ) → AllPairs (λ a b. a < b) ss → AllByRecursion (λ c. c < end) ss → IsReached ss p → p < end → count_by (has_place p) (intervals ss end) ≡ 1
+pub one-interval : (ss : List ℕ) (end p : ℕ) → AllPairs (λ a b. a < b) ss → AllByRecursion (λ c. c < end) ss
+    → IsReached ss p → p < end → count_by (has_place p) (intervals ss end) ≡ 1
 one-interval [] end p r a h l = absurd h
 one-interval (s ∷ ss) end p r a h l =
     let k = chained s ss end r a in

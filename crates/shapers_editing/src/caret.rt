@@ -7,14 +7,14 @@ ghost use Rattle.shapers_editing.specs.Carets.{BordersWereBorders, EachClusterSt
 
 use shapers_buffer::buffer::{Direction, ShaperError, hb_glyph_info_t};
 
-/// Fills the list with the places of the text where a caret may stand before a glyph: the borders of
-/// clusters, in the order of the text. The glyphs are a shaped text, as they are drawn from left to
-/// right or from top to bottom, so the clusters of one that runs backward fall along them.
+/// Fills the list with the places of the text where a caret may stand before a glyph: the borders
+/// of clusters, in the order of the text. The glyphs are a shaped text, as they are drawn from left
+/// to right or from top to bottom, so the clusters of one that runs backward fall along them.
 ///
 /// A caret also stands behind the text. A glyph stands for the text from the last stop that isn't
-/// above its cluster up to the next one, or to the text's end. Where clusters don't keep to the order
-/// of the text, as the reorderings of Indic may leave them, a cluster is a stop only if all behind it
-/// are greater, so that stops always rise.
+/// above its cluster up to the next one, or to the text's end. Where clusters don't keep to the
+/// order of the text, as the reorderings of Indic may leave them, a cluster is a stop only if all
+/// behind it are greater, so that stops always rise.
 ///
 /// A list that has room for the stops takes no memory.
 ///
@@ -43,7 +43,8 @@ pub fn caret_stops(
 // Pushes the stops of a text whose last glyph is the list's first, the last stop first.
 fn push_from_start(glyphs: &[hb_glyph_info_t], stops: &mut Vec<u32>) -> Result<(), ShaperError>
     requires { stops.old.items ≡ [] }
-    ensures stops { OnOk result (stops.new.items ≡ reverse (lesser (reverse (clusters glyphs.now)))) }
+    ensures stops { OnOk result
+        (stops.new.items ≡ reverse (lesser (reverse (clusters glyphs.now)))) }
     ensures refusal { IsOkUnless result Memory }
 {
     for glyph in glyphs {
@@ -87,11 +88,11 @@ fn is_lesser(cluster: u32, stops: &[u32]) -> bool
     }
 }
 
-/// The stops of a shaped text are a map of it for a caret: they rise, each is one place of the text,
-/// and each glyph stands for one of the intervals between them, which cover the text from the least
-/// cluster on without gap or overlap. Where no cluster is new and clusters rose along the text
-/// before it was shaped, borders of clusters were borders before; and where they rise after it, each
-/// of them is a stop.
+/// The stops of a shaped text are a map of it for a caret: they rise, each is one place of the
+/// text, and each glyph stands for one of the intervals between them, which cover the text from the
+/// least cluster on without gap or overlap. Where no cluster is new and clusters rose along the
+/// text before it was shaped, borders of clusters were borders before; and where they rise after
+/// it, each of them is a stop.
 pub fn caret_law()
     ensures map { StopsMapText }
     ensures borders { BordersWereBorders }

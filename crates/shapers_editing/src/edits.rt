@@ -9,8 +9,8 @@ ghost use Rattle.rustybuzz_shapers.specs.Pauses.{by_initial, by_khmer, by_myanma
 use rustybuzz_shapers::shaper::cuts_at_borders_law;
 use shapers_buffer::buffer::Span;
 
-/// What an edit leaves of a text of syllables: the glyphs in front and behind that come out as before.
-/// What lies between them, of the old text and of the new, is what is shaped again.
+/// What an edit leaves of a text of syllables: the glyphs in front and behind that come out as
+/// before. What lies between them, of the old text and of the new, is what is shaped again.
 #[derive(Clone, Copy, Debug, PartialEq, Eq)]
 pub struct Unaffected {
     /// How many glyphs in front.
@@ -21,10 +21,10 @@ pub struct Unaffected {
 
 /// Which glyphs of a text of syllables an edit affects: those between what this returns. The spans
 /// are the text's before and after the edit; `front` glyphs stand in front of what was replaced and
-/// `back` behind it, the same in both texts.
+/// `back` behind it, the same in both texts, so together no more than either has.
 ///
-/// The syllables that meet the edit aren't enough, since a grammar reads on through joiners: of Khmer
-/// `1780 200C` are two syllables, and with `17B7` behind them one.
+/// The syllables that meet the edit aren't enough, since a grammar reads on through joiners: of
+/// Khmer `1780 200C` are two syllables, and with `17B7` behind them one.
 pub fn affected(old: &[Span], new: &[Span], front: usize, back: usize) -> Unaffected
     ensures front { result.front ≡ glyphs_in (shared front old.now new.now) }
     ensures back { result.back ≡ glyphs_in (shared back (reverse old.now) (reverse new.now)) }
@@ -35,10 +35,11 @@ pub fn affected(old: &[Span], new: &[Span], front: usize, back: usize) -> Unaffe
     }
 }
 
-// How many glyphs the spans cover that the lists share, at their starts or at their ends, as long as
-// that is at most `room`.
+// How many glyphs the spans cover that the lists share, at their starts or at their ends, as long
+// as that is at most `room`.
 fn shared_len(old: &[Span], new: &[Span], room: usize, from_end: bool) -> usize
-    ensures { result ≡ glyphs_in (shared room (from_either_end from_end old.now) (from_either_end from_end new.now)) }
+    ensures { result ≡ glyphs_in (shared room
+        (from_either_end from_end old.now) (from_either_end from_end new.now)) }
 {
     let mut left = room;
     for k in 0..old.len().min(new.len()) {
@@ -71,17 +72,17 @@ pub fn affected_law()
     ensures apart { SharedAreApart }
 {}
 
-/// Spans of a text that is edited. In front of the edit those stay with each of which the grammar is
-/// done before it; behind the edit all stay from the first border on that both texts have.
+/// Spans of a text that is edited. In front of the edit those stay with each of which the grammar
+/// is done before it; behind the edit all stay from the first border on that both texts have.
 pub fn span_edits_law()
     ensures front { SpansInFrontStay }
     ensures back { SpansBehindStay }
     ensures one { OneCut }
 {}
 
-/// Texts of syllables that differ in their middle part alone, each set up by its spans and reordered
-/// directly behind that: outside that part they come out the same, in the order view, and where parts
-/// share no cluster in the clusters.
+/// Texts of syllables that differ in their middle part alone, each set up by its spans and
+/// reordered directly behind that, where both open circles or neither does: outside that part they
+/// come out the same, in the order view, and where parts share no cluster in the clusters.
 pub fn syllable_edits_law()
     ensures any { EditsStayOutside }
     ensures khmer { PausesStayOutside SetupSyllablesKhmer ReorderKhmer by_khmer }

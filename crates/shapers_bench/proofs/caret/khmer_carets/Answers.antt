@@ -15,7 +15,8 @@ use Rattle.shapers_editing.specs.Carets.{IsCaretMap, caret_stops}
 use Rattle.shapers_bench.proofs.caret.khmer_carets.Goals as goal
 
 -- what `?` hands on
-passed_on : {T : Type 0} (r : Result T ShaperError) (x : ShaperError) → IsErrAnd r (λ y. y ≡ x) → r ≡ Err TooLong → x ≡ TooLong
+passed_on : {T : Type 0} (r : Result T ShaperError) (x : ShaperError) → IsErrAnd r (λ y. y ≡ x) → r ≡ Err TooLong → x
+    ≡ TooLong
 passed_on r x told e =
     let (y, is, own) = err_from_is_err_and r told in
     let one : y ≡ TooLong = cc in
@@ -32,14 +33,25 @@ returns-in_err-run_pause-2-clause-room g c e =
     omega (arith, ap length stay, length-map set_up.glyphs cluster, length-map before.glyphs cluster) in
     let limit : set_up.max_len ≡ before.max_len = ap (λ (b : Buffer). b.max_len) c.in_ok-run_pause.ensures.ok in
     let fits : length set_up.glyphs * 2 ≤ set_up.max_len =
-    omega (arith, long, limit, c.in_ok-buffer.ensures.filled, c.in_ok-buffer.ensures.limit, c.length_bound.ensures.bound, c.requires.short) in
+    omega (
+      arith,
+      long,
+      limit,
+      c.in_ok-buffer.ensures.filled,
+      c.in_ok-buffer.ensures.limit,
+      c.length_bound.ensures.bound,
+      c.requires.short,
+    ) in
     let x = c.in_err-run_pause-2.field-0.0 in
-    let room = c.length_bound.ensures.pauses ReorderKhmer (g.F.hb_font_t.font c.args.face.now) c.args.spans.now set_up (Err x) fits c.in_err-run_pause-2.ensures.refusal in
+    let room = c.length_bound.ensures.pauses ReorderKhmer (g.F.hb_font_t.font c.args.face.now) c.args.spans.now set_up
+    (Err x) fits c.in_err-run_pause-2.ensures.refusal in
     let same = passed_on c.from_residual-in_err-run_pause-2.result x c.from_residual-in_err-run_pause-2.ensures.1 e in
     room (ap (λ (y : ShaperError). let r : Result Bool ShaperError = Err y in r) same)
 
-mapped : (n : ℕ) (gs read : List hb_glyph_info_t) (stops : List ℕ) → stops ≡ caret_stops LeftToRight read → read ≡ gs → IsCaretMap n (clusters gs) (caret_stops LeftToRight gs) → IsCaretMap n (clusters gs) stops
-mapped n gs read stops a b map = subst (λ (ss : List ℕ). IsCaretMap n (clusters gs) ss) (sym (a ∙ ap (caret_stops LeftToRight) b)) map
+stops-mapped : (n : ℕ) (gs read : List hb_glyph_info_t) (stops : List ℕ) → stops ≡ caret_stops LeftToRight read → read ≡ gs
+    → IsCaretMap n (clusters gs) (caret_stops LeftToRight gs) → IsCaretMap n (clusters gs) stops
+stops-mapped n gs read stops a b map = subst (λ (ss : List ℕ). IsCaretMap n (clusters gs) ss)
+    (sym (a ∙ ap (caret_stops LeftToRight) b)) map
 
 -- each cluster is the place of a character, so the stops map the word
 pub returns-clause-map : goal.returns-clause-map
@@ -49,6 +61,14 @@ returns-clause-map g c =
     let set_up = c.run_pause.new.buffer in
     let final = c.run_pause-2.new.buffer in
     let stay = c.in_ok-run_pause.ensures.laws.1 in
-    let each : All within (clusters final.glyphs) = λ k d l. All-contains within (clusters set_up.glyphs) _ (subst (All within) (sym stay) c.in_ok-buffer.ensures.places) (c.in_ok-run_pause-2.ensures.laws.0.old_clusters k d l) in
-    let map = c.caret_law.ensures.map LeftToRight final.glyphs n each in
-    (clusters final.glyphs, (each, mapped n final.glyphs c.glyphs.result.now c.caret_stops.new.stops.items c.in_ok-caret_stops.ensures.stops c.glyphs.ensures map))
+    let each : All within (clusters final.glyphs) = λ k d l. All-contains within (clusters set_up.glyphs) _
+    (subst (All within) (sym stay) c.in_ok-buffer.ensures.places)
+    (c.in_ok-run_pause-2.ensures.laws.0.old_clusters k d l) in
+    let map = c.caret_law.ensures.map LeftToRight final.glyphs n each in (
+      clusters final.glyphs,
+      (
+        each,
+        stops-mapped n final.glyphs c.glyphs.result.now c.caret_stops.new.stops.items
+            c.in_ok-caret_stops.ensures.stops c.glyphs.ensures map,
+      ),
+    )

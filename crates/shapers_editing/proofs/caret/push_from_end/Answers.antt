@@ -12,8 +12,10 @@ use Rattle.shapers_editing.proofs.caret.push_from_end.Goals as goal
 pub returns-clause-stops : goal.returns-clause-stops
 returns-clause-stops c =
     let gs = c.args.glyphs.now in
-    let end = YieldsList-end (YieldsList-from_rev_slice gs cc) c.loop-glyph.yielded _ c.loop-glyph.yielded_by _ _ c.in-None.is c.next.ensures.steps in
+    let end = YieldsList-end (YieldsList-from_rev_slice gs cc) c.loop-glyph.yielded _ c.loop-glyph.yielded_by _ _
+    c.in-None.is c.next.ensures.steps in
     c.loop-glyph.invariant
     ∙ ap (λ cs. reverse (lesser (reverse cs)))
-    (sym (map-map (λ (g : hb_glyph_info_t). g.cluster) (λ y. y.now) c.loop-glyph.yielded) ∙ ap clusters end.0 ∙ map-reverse (λ (g : hb_glyph_info_t). g.cluster) gs)
+    (sym (map-map (λ (g : hb_glyph_info_t). g.cluster) (λ y. y.now) c.loop-glyph.yielded) ∙ ap clusters end.0
+    ∙ map-reverse (λ (g : hb_glyph_info_t). g.cluster) gs)
     ∙ ap (λ cs. reverse (lesser cs)) (reverse-reverse (clusters gs))

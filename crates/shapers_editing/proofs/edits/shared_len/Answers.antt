@@ -9,14 +9,16 @@ pub returns-then-span-other : goal.returns-then-span-other
 returns-then-span-other c =
     let ss = from_either_end c.args.from_end c.args.old.now in
     let ts = from_either_end c.args.from_end c.args.new.now in
-    let stop = shared-stop c.loop-k.left c.loop-k.k ss ts c.span_at-span.result c.span_at-other.result c.span_at-span.ensures c.span_at-other.ensures in
+    let stop = shared-stop c.loop-k.left c.loop-k.k ss ts c.span_at-span.result c.span_at-other.result
+    c.span_at-span.ensures c.span_at-other.ensures in
     let none : glyphs_in (shared c.loop-k.left (drop c.loop-k.k ss) (drop c.loop-k.k ts)) ≡ 0 =
     elim c.then-span-other.branch [
       | then-span-other-via-then-span-other w ↦ stop (λ a b l. omega arith)
       | then-span-other-via-else-span-other+then-span-other-2 w ↦ stop (λ a b l. omega arith)
       | then-span-other-via-else-span-other+else-span-other-2+then-span-left w ↦ stop (λ a b l. omega arith)
     ] in
-    sym (c.loop-k.invariant.1 ∙ ap (λ n. (c.args.room - c.loop-k.left) + n) none ∙ add-zero (c.args.room - c.loop-k.left))
+    sym (c.loop-k.invariant.1 ∙ ap (λ n. (c.args.room - c.loop-k.left) + n) none ∙ add-zero
+    (c.args.room - c.loop-k.left))
 
 pub loop-k-preserved : goal.loop-k-preserved
 loop-k-preserved c =
@@ -29,8 +31,10 @@ loop-k-preserved c =
     let kind : s.kind ≡ c.span_at-other.result.kind = omega arith in
     let fits : s.len ≤ c.loop-k.left = omega arith in
     let within : c.loop-k.left ≤ c.args.room = i.0 in
-    let step = shared-step c.loop-k.left c.loop-k.k ss ts s c.span_at-other.result c.span_at-span.ensures c.span_at-other.ensures same kind fits in
-    let moved : (c.args.room - c.loop-k.left) + (s.len + rest) ≡ (c.args.room - (c.loop-k.left - s.len)) + rest = omega arith in
+    let step = shared-step c.loop-k.left c.loop-k.k ss ts s c.span_at-other.result c.span_at-span.ensures
+    c.span_at-other.ensures same kind fits in
+    let moved : (c.args.room - c.loop-k.left) + (s.len + rest) ≡
+    (c.args.room - (c.loop-k.left - s.len)) + rest = omega arith in
     (omega arith, i.1 ∙ ap (λ n. (c.args.room - c.loop-k.left) + n) step ∙ moved)
 
 pub returns : goal.returns
@@ -38,7 +42,18 @@ returns c =
     let ss = from_either_end c.args.from_end c.args.old.now in
     let ts = from_either_end c.args.from_end c.args.new.now in
     let ended : (length ss ≤ c.loop-k.k) ⊎ (length ts ≤ c.loop-k.k) = ⊎_elim
-    (λ l. inl (omega (arith, length-turned c.args.from_end c.args.old.now, length-turned c.args.from_end c.args.new.now)))
-    (λ l. inr (omega (arith, length-turned c.args.from_end c.args.old.now, length-turned c.args.from_end c.args.new.now)))
+    (λ l. inl (omega (
+      arith,
+      length-turned c.args.from_end c.args.old.now,
+      length-turned c.args.from_end
+          c.args.new.now,
+    )))
+    (λ l. inr (omega (
+      arith,
+      length-turned c.args.from_end c.args.old.now,
+      length-turned c.args.from_end
+          c.args.new.now,
+    )))
     (cases_lt (length ss) (length ts)) in
-    sym (c.loop-k.invariant.1 ∙ ap (λ n. (c.args.room - c.loop-k.left) + n) (shared-end c.loop-k.left c.loop-k.k ss ts ended) ∙ add-zero (c.args.room - c.loop-k.left))
+    sym (c.loop-k.invariant.1 ∙ ap (λ n. (c.args.room - c.loop-k.left) + n)
+    (shared-end c.loop-k.left c.loop-k.k ss ts ended) ∙ add-zero (c.args.room - c.loop-k.left))

@@ -4,9 +4,9 @@
 
 use crate::generated::shapers_buffer::buffer::Span;
 
-/// What an edit leaves of a text of syllables: the glyphs in front and behind that come out as before.
-/// What lies between them, of the old text and of the new, is what is shaped again.
-#[derive(Clone, Copy, Debug, PartialEq, Eq, Hash)]
+/// What an edit leaves of a text of syllables: the glyphs in front and behind that come out as
+/// before. What lies between them, of the old text and of the new, is what is shaped again.
+#[derive(Clone, Copy, Debug, PartialEq, Eq)]
 pub struct Unaffected {
     /// How many glyphs in front.
     pub front: usize,
@@ -16,10 +16,10 @@ pub struct Unaffected {
 
 /// Which glyphs of a text of syllables an edit affects: those between what this returns. The spans
 /// are the text's before and after the edit; `front` glyphs stand in front of what was replaced and
-/// `back` behind it, the same in both texts.
+/// `back` behind it, the same in both texts, so together no more than either has.
 ///
-/// The syllables that meet the edit aren't enough, since a grammar reads on through joiners: of Khmer
-/// `1780 200C` are two syllables, and with `17B7` behind them one.
+/// The syllables that meet the edit aren't enough, since a grammar reads on through joiners: of
+/// Khmer `1780 200C` are two syllables, and with `17B7` behind them one.
 ///
 /// <details><summary>Contract</summary>
 ///
@@ -40,8 +40,8 @@ pub fn affected(old: &[Span], new: &[Span], front: usize, back: usize) -> Unaffe
     }
 }
 
-// How many glyphs the spans cover that the lists share, at their starts or at their ends, as long as
-// that is at most `room`.
+// How many glyphs the spans cover that the lists share, at their starts or at their ends, as long
+// as that is at most `room`.
 fn shared_len(old: &[Span], new: &[Span], room: usize, from_end: bool) -> usize {
     let mut left = room;
     for k in 0..old.len().min(new.len()) {
