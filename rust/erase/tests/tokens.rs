@@ -219,7 +219,7 @@ fn with_added(tokens: &[String]) -> Vec<String> {
                 for (j, token) in rest[..len].iter().enumerate() {
                     let is_field =
                         is(rest, j + 1, ":") && ["{", ","].contains(&rest[j - 1].as_str());
-                    out.extend(is_field.then(|| code("pub(crate)")).unwrap_or_default());
+                    out.extend(if is_field { code("pub(crate)") } else { Vec::new() });
                     out.push(token.clone());
                 }
                 len
