@@ -341,7 +341,7 @@ class Copy:
             return [f"{here}::{self.old_name(name)}"]
         kind = self.old_name(owner) + (self.old_name(trait) if trait else "") + "".join(map(self.old_name, arguments))
         homes = ["::".join(it.module.place) for it in self.home.get(owner, []) if it.module.place[0] == module.place[0]]
-        return [f"{place}::{kind}::{name}" for place in [here, *homes]]
+        return [f"{place}::{kind}::{self.old_name(name)}" for place in [here, *homes]]
 
     def harness(self, module, known):
         """What is added to a module: how its types are drawn and written, and its functions called."""

@@ -38,8 +38,9 @@
 //! [`Shaper::has_hook`] says which it has.
 //!
 //! 1. *Plan time*, once for a script and a font: [`collect_features`] and [`override_features`] fill
-//!    a [`Planner`] with features and pauses. From those that the font has, the caller makes a
-//!    [`Plan`], with [`Plan::builder`] and [`Shaper::with_data`] (or [`create_data`]).
+//!    a [`Planner`] with features and pauses. From those that the font has, [`Plan::from_requests`]
+//!    makes a [`Plan`]; a caller with a map of its own takes [`Plan::builder`] and
+//!    [`Shaper::with_data`] (or [`create_data`]).
 //! 2. *Text*: [`Shaper::for_script`] chooses the shaper. [`Buffer`] takes the characters, their
 //!    clusters and general categories, `Buffer::from_text` a text with all that Unicode says of it.
 //!    [`preprocess_text`] rewrites them.
@@ -51,7 +52,8 @@
 //!    characters become glyphs.
 //! 5. *Lookups*, stage by stage. Between two stages [`run_pause`] runs the pauses that the planner
 //!    has there: syllables are set up from [`Span`]s (or as they are found, by
-//!    [`spans::setup_syllables_found`]), reordered, recorded.
+//!    [`spans::setup_syllables_found`]), reordered, recorded. A lookup may take
+//!    [`Buffer::replace_range`] and [`Buffer::ligate`], which set the marks that pauses read.
 //! 6. *Positioning*: [`zero_width_marks`], [`fallback_position`] and [`gpos_tag`] say how. Then
 //!    [`postprocess_glyphs`] stretches each mark over the word before it in the buffer, which has
 //!    visual order by then: a text from right to left is reversed.

@@ -8,7 +8,7 @@ use sengadlit::buffer::{
     GlyphPosition, GlyphRewriting, Script,
 };
 
-/// Gives the glyphs any fields, and makes up to three calls for whose conditions nobody asks.
+/// Gives the glyphs any fields, and makes up to three calls, whether their conditions hold or not.
 pub fn spoil(numbers: &mut Numbers, buffer: &mut Buffer) {
     buffer.with_glyphs_mut(|glyphs| {
         for glyph in glyphs {

@@ -130,6 +130,13 @@ pub fn of_the_planner(length: usize) -> Vec<Trial> {
         trial(named("add_gsub_pause"), planner(length), |subject| {
             subject.planner().add_gsub_pause(Some(Pause::RecordRphf))
         }),
+        trial(named("add_request"), planner(length), |subject| {
+            subject.planner().add_request(Request::Pause(None))
+        }),
+        trial(named("try_clone"), planner(length + 1), |subject| {
+            *subject.planner() = subject.planner().try_clone()?;
+            Ok(())
+        }),
     ];
     trials.extend(Shaper::ALL.map(|shaper| collecting(shaper, length)));
     trials.extend(Shaper::ALL.map(|shaper| overriding(shaper, length)));
@@ -171,7 +178,15 @@ pub fn of_the_map(length: usize) -> Vec<Trial> {
     let from_slices = format!("Map::from_slices with {length} lookups");
     let no_map = format!("Map::from_slices with a stage past {length} lookups");
     let build = format!("PlanBuilder::build_for with {length} lookups");
+    let copy = format!("Plan::try_clone with {length} lookups");
     vec![
+        trial(copy, Subject::Nothing, move |_| {
+            let (stages, lookups) = ([0..length, 0..1], &[7; 1024][..length]);
+            let map = Map::from_slices(Global, &[FEATURE], &stages, lookups, 0, None, true)?;
+            let plan = Plan::new(None, map.unwrap());
+            assert_eq!(plan.try_clone()?, plan);
+            Ok(())
+        }),
         // What can't be a map's takes no memory, so that none is refused.
         Trial {
             may_refuse: false,
