@@ -1,5 +1,5 @@
 -- Clear places of small texts before and after reordering and set-up, written out from the rules.
-use Rattle.std.proofs.Common.{ℕ, ◌≡◌, true, false, List, [], ◌∷◌, map, length, refl, sym, arith}
+use Rattle.std.proofs.Common.{ℕ, ◌≡◌, List, [], ◌∷◌, map, refl, sym, arith}
 use Rattle.std.specs.Prelude.{None, Some}
 use Rattle.std.proofs.lemmas.Bool.{false≢true}
 use Rattle.shapers_buffer.specs.declared.buffer.glyph.hb_glyph_info_t.{hb_glyph_info_t}
@@ -8,12 +8,12 @@ use Rattle.shapers_buffer.specs.declared.buffer.level.BufferClusterLevel.TheVari
 use Rattle.shapers_buffer.specs.Glyph.{clusters, default_glyph}
 use Rattle.shapers_clusters.specs.Breaks.{IsClear}
 use Rattle.shapers_clusters.specs.Steps.{Step, run_steps}
-use Rattle.shapers_syllabic.specs.Circles.{circled, rephas_len}
+use Rattle.shapers_syllabic.specs.Circles.{circled}
 use Rattle.shapers_syllabic.specs.ReorderingLaws.{paused_carried, paused_clusters, paused_order}
 use Rattle.shapers_syllabic.specs.Syllabic.{unsafe_spans}
 use Rattle.shapers_syllabic.specs.declared.ot_shaper_syllabic.circles.DottedCircles.{DottedCircles}
 use Rattle.shapers_myanmar.specs.Myanmar.{myanmar_order, myanmar_steps}
-use Rattle.shapers_universal.specs.Universal.{universal_order, universal_steps}
+use Rattle.shapers_universal.specs.Universal.{universal_steps}
 use Rattle.shapers_breaks.specs.SetUp.{IsFlagged, SpanBorder}
 
 -- a glyph in this cluster with this mask
@@ -87,8 +87,13 @@ row_inside clear = false≢true (sym clear.unflagged)
 
 row_border : SpanBorder two 2
 unfolding two
-row_border = record { front = record { len = 2; kind = 0 } ∷ []; back = record { len = 2; kind = 0 } ∷ []; split =
-    refl; place = refl }
+row_border = record {
+  front = record { len = 2; kind = 0 } ∷ [];
+  back = record { len = 2; kind = 0 } ∷ [];
+  split =
+      refl;
+  place = refl;
+}
 
 -- a border of spans within a cluster isn't clear; nor is one beside a cluster that goes on in a span with a lower one
 row_one_cluster : IsClear (unsafe_spans two (glyph 0 0 ∷ glyph 1 0 ∷ glyph 1 0 ∷ glyph 2 0 ∷ [])) 2 → ⊥

@@ -1,22 +1,19 @@
 -- A clear place of a text that was reordered, with its circles, is a border of its syllables.
-use Rattle.std.proofs.Common.{ℕ, zero, suc, if◌then◌else◌, ◌+◌, ◌-◌, ◌<◌, ◌≤◌, ◌≡◌, ◌≢◌, true, false, List, [], ◌∷◌, ◌++◌, length, map, take, drop, get_or, slice_index, refl, sym, ap, ◌∙◌, subst, arith, inl, inr, length-append}
+use Rattle.std.proofs.Common.{ℕ, zero, suc, if◌then◌else◌, ◌+◌, ◌-◌, ◌<◌, ◌≤◌, ◌≡◌, ◌≢◌, true, false, List, [], ◌∷◌, ◌++◌, length, map, take, drop, get_or, refl, sym, ap, ◌∙◌, subst, arith, inl, inr, length-append}
 use Rattle.std.specs.Prelude.{Bool, Option, None, Some}
-use Rattle.std.specs.List.{All, AllByRecursion, Contains, flat_map, sum_by}
+use Rattle.std.specs.List.{AllByRecursion, flat_map, sum_by}
 use Rattle.std.proofs.lemmas.Bool.{cases_lt}
-use Rattle.std.proofs.lemmas.List.{drop_at, get_or-append_right, get_or_append_left, length-map, map-append, take-append-drop, take-map, take_at}
-use Rattle.std.proofs.lemmas.List.Concat.{flat_map-append}
-use Rattle.std.proofs.lemmas.List.Elements.{All-contains_itself, All-get_or}
+use Rattle.std.proofs.lemmas.List.{get_or-append_right, get_or_append_left, length-map, take-map}
 use Rattle.std.proofs.lemmas.List.Folds.{flat_map-map}
 use Rattle.std.proofs.lemmas.List.Sorted.{length_permutation}
 use Rattle.shapers_buffer.specs.declared.buffer.glyph.hb_glyph_info_t.{hb_glyph_info_t}
 use Rattle.shapers_buffer.specs.declared.buffer.level.BufferClusterLevel.{BufferClusterLevel}
-use Rattle.shapers_buffer.specs.declared.buffer.syllables.Span.{Span}
 use Rattle.shapers_buffer.specs.Clusters.{merges}
 use Rattle.shapers_buffer.specs.Glyph.{clusters, order_view, plain}
 use Rattle.shapers_buffer.specs.Syllables.{syllables}
 use Rattle.shapers_clusters.specs.Breaks.{IsClear}
-use Rattle.shapers_clusters.specs.Cuts.{IsFalling, IsMonotone, IsRising, ShareNone}
-use Rattle.shapers_clusters.specs.Steps.{FitSteps, FitsStep, MovesMerged, Permutes, Step, run_steps}
+use Rattle.shapers_clusters.specs.Cuts.{IsFalling, IsMonotone, IsRising}
+use Rattle.shapers_clusters.specs.Steps.{FitsStep, MovesMerged, Permutes, Step, run_steps}
 use Rattle.shapers_clusters.proofs.Proved.{along_holds}
 use Rattle.shapers_syllabic.specs.Circles.{circle_in, circled, circled_syllable, is_of_kind, rephas_len, with_circle}
 use Rattle.shapers_syllabic.specs.Reordering.{carried, text_order, text_steps}
@@ -30,30 +27,30 @@ use Rattle.shapers_syllabic.proofs.ReorderingLemmas.{carried_hides}
 use Rattle.shapers_syllabic.proofs.ReorderingWalk.{pieces_of}
 use Rattle.shapers_breaks.specs.SetUp.{FlaggedAt}
 use Rattle.shapers_breaks.proofs.ClearSteps.{clear_before}
-use Rattle.shapers_breaks.proofs.Guarded.{IsWhole, PieceBorder, border_or_flagged, circled_whole, clear_not_flagged}
+use Rattle.shapers_breaks.proofs.Guarded.{IsWhole, border_or_flagged, circled_whole, clear_not_flagged}
 use Rattle.shapers_breaks.proofs.SetUp.{Glyphs}
 
 -- what circles make of one syllable
-abbrev pub opened : Option DottedCircles → Glyphs → Glyphs
-opened None piece = piece
-opened (Some rule) piece = circled_syllable rule piece
+abbrev pub opened_piece : Option DottedCircles → Glyphs → Glyphs
+opened_piece None piece = piece
+opened_piece (Some rule) piece = circled_syllable rule piece
 
 map_same : (pieces : List Glyphs) → map (λ p. p) pieces ≡ pieces
 map_same [] = refl
 map_same (p ∷ ps) = ap (λ l. p ∷ l) (map_same ps)
 
-pub circled_is : (circles : Option DottedCircles) (gs : Glyphs) → circled circles gs ≡ flat_map (opened circles)
+pub circled_is : (circles : Option DottedCircles) (gs : Glyphs) → circled circles gs ≡ flat_map (opened_piece circles)
     (syllables gs)
 circled_is None gs = sym (joined-syllables gs)
 circled_is (Some rule) gs = refl
 
 pub syllables-circled : (circles : Option DottedCircles) (gs : Glyphs) → syllables (circled circles gs) ≡ map
-    (opened circles) (syllables gs)
+    (opened_piece circles) (syllables gs)
 syllables-circled None gs = sym (map_same (syllables gs))
 syllables-circled (Some rule) gs = syllables-mapped (circled_syllable rule) (circled_syllable_byte rule) gs
 
 opened_whole : (circles : Option DottedCircles) (pieces : List Glyphs) → AllByRecursion IsWhole pieces
-    → AllByRecursion IsWhole (map (opened circles) pieces)
+    → AllByRecursion IsWhole (map (opened_piece circles) pieces)
 opened_whole circles [] h = tt
 opened_whole None (p ∷ ps) h = (h.0, opened_whole None ps h.1)
 opened_whole (Some rule) (p ∷ ps) h = (circled_whole rule p h.0, opened_whole (Some rule) ps h.1)
@@ -62,7 +59,7 @@ opened_whole (Some rule) (p ∷ ps) h = (circled_whole rule p h.0, opened_whole 
 pub record OpenedBorder (circles : Option DottedCircles) (gs : Glyphs) (p : ℕ) : Type 0 where
   pub count : ℕ
   pub within : count ≤ length (syllables gs)
-  pub place : length (flat_map (opened circles) (take count (syllables gs))) ≡ p
+  pub place : length (flat_map (opened_piece circles) (take count (syllables gs))) ≡ p
 
 -- a clear place of a text with its circles
 pub opened_border : (circles : Option DottedCircles) (gs : Glyphs) → AllByRecursion IsWhole (syllables gs) → (p : ℕ)
@@ -70,7 +67,7 @@ pub opened_border : (circles : Option DottedCircles) (gs : Glyphs) → AllByRecu
 opened_border circles gs whole p z l clear =
     let xs = circled circles gs in
     let pieces = syllables gs in
-    let F = opened circles in
+    let F = opened_piece circles in
     let is = syllables-circled circles gs in
     let all = joined-syllables xs in
     let each : AllByRecursion IsWhole (syllables xs) = subst (AllByRecursion IsWhole) (sym is)
@@ -83,7 +80,7 @@ opened_border circles gs whole p z l clear =
             count = k;
             within = omega (arith, ap length is, length-map pieces F, within);
             place = ap length (sym (flat_map-map (λ q. q) F (take k pieces)) ∙ ap (flat_map (λ q. q))
-            (sym (take-map F k pieces) ∙ ap (take k) (sym is))) ∙ border.place;
+                (sym (take-map F k pieces) ∙ ap (take k) (sym is))) ∙ border.place;
           }
       | inr flagged ↦ absurd (clear_not_flagged xs p z l clear (subst (λ ys. FlaggedAt ys p) all flagged))
     ]
@@ -99,9 +96,9 @@ text_moves meaning steps laws inside level gs =
     let along = along_holds level ps gs sum (each_piece FitsStep steps laws.fits (syllables xs)) in
     let is = text_steps-long steps gs in (
       subst (AllByRecursion (MovesMerged (length gs))) (sym is)
-      (along.merged (each_piece MovesMerged steps inside (syllables xs))),
+          (along.merged (each_piece MovesMerged steps inside (syllables xs))),
       subst (AllByRecursion (Permutes (length gs))) (sym is)
-      (along.permuted (each_piece Permutes steps laws.permutes (syllables xs))),
+          (along.permuted (each_piece Permutes steps laws.permutes (syllables xs))),
     )
 
 -- so of a clear place of the text reordered
@@ -186,7 +183,7 @@ each_both : (P : ℕ → Type 0) (gs hs : Glyphs) → Each P gs → Each P hs �
 each_both P [] hs h k = k
 each_both P (g ∷ gs) hs h k = (h.0, each_both P gs hs h.1 k)
 
-piece_erased : (P : ℕ → Type 0) (circles : Option DottedCircles) (piece : Glyphs) → Each P (opened circles piece)
+piece_erased : (P : ℕ → Type 0) (circles : Option DottedCircles) (piece : Glyphs) → Each P (opened_piece circles piece)
     → Each P piece
 piece_erased P None piece h = h
 piece_erased P (Some rule) piece h =
@@ -199,8 +196,8 @@ piece_erased P (Some rule) piece h =
     go (is_of_kind rule.broken_kind piece) h
 
 pub pieces_erased : (P : ℕ → Type 0) (circles : Option DottedCircles) (pieces : List Glyphs) → Each P
-    (flat_map (opened circles) pieces) → Each P (flat_map (λ piece. piece) pieces)
+    (flat_map (opened_piece circles) pieces) → Each P (flat_map (λ piece. piece) pieces)
 pieces_erased P circles [] h = tt
 pieces_erased P circles (p ∷ ps) h =
-    let (a, b) = each_parts P (opened circles p) (flat_map (opened circles) ps) h in
+    let (a, b) = each_parts P (opened_piece circles p) (flat_map (opened_piece circles) ps) h in
     each_both P p (flat_map (λ piece. piece) ps) (piece_erased P circles p a) (pieces_erased P circles ps b)

@@ -1,10 +1,10 @@
 -- A place that is clear after a reordering was clear before it.
-use Rattle.std.proofs.Common.{ℕ, ◌%◌, ◌-◌, ◌<◌, ◌≤◌, ◌≡◌, ◌≢◌, ◌==◌, max, min, Bool, true, false, ◌&&◌, ◌||◌, List, [], ◌∷◌, length, get_or, slice_index, refl, sym, ap, ◌∙◌, subst, arith, inl, inr, ◌⊎◌}
-use Rattle.std.specs.List.{All, AllByRecursion, AllPairs, list_any, range_with_len}
+use Rattle.std.proofs.Common.{ℕ, ◌%◌, ◌-◌, ◌<◌, ◌≤◌, ◌≡◌, ◌≢◌, ◌==◌, max, Bool, true, false, ◌&&◌, ◌||◌, List, [], ◌∷◌, length, get_or, refl, sym, ap, ◌∙◌, subst, arith, inl, inr}
+use Rattle.std.specs.List.{All, AllByRecursion, list_any, range_with_len}
 use Rattle.std.specs.List.Sorted.{IsPermutation}
-use Rattle.std.proofs.lemmas.Bool.{cases_eq, cases_lt, cases_order, and_from, and_parts, eq-eqb, eqb-true, both_ways, false_from_ne_true, or_left, or_right, or_cases, or_from}
+use Rattle.std.proofs.lemmas.Bool.{cases_lt, and_from, and_parts, eq-eqb, eqb-true, both_ways, false_from_ne_true, or_left, or_from}
 use Rattle.std.proofs.lemmas.List.{get_or-map, length-map}
-use Rattle.std.proofs.lemmas.List.Elements.{All-from_get_or, All-get_or, All-head, All-tail, AllZip-get_or}
+use Rattle.std.proofs.lemmas.List.Elements.{All-from_get_or, All-head, All-tail, AllZip-get_or}
 use Rattle.std.proofs.lemmas.List.Folds.{list_any_at}
 use Rattle.std.proofs.lemmas.List.FromFn.{length-range_with_len}
 use Rattle.std.proofs.lemmas.List.Sorted.{All-permutation, IsPermutation-sym}
@@ -13,8 +13,8 @@ use Rattle.shapers_buffer.specs.Glyph.{clusters, default_glyph}
 use Rattle.shapers_buffer.specs.declared.buffer.level.BufferClusterLevel.{BufferClusterLevel}
 use Rattle.shapers_buffer.specs.Clusters.{merges}
 use Rattle.shapers_buffer.specs.Places.{pick}
-use Rattle.shapers_clusters.specs.Breaks.{IsClear, greater, is_unsafe}
-use Rattle.shapers_clusters.specs.Cuts.{ExactCuts, IsFalling, IsMonotone, IsRising, SameBlock}
+use Rattle.shapers_clusters.specs.Breaks.{greater, is_unsafe}
+use Rattle.shapers_clusters.specs.Cuts.{ExactCuts, IsFalling, IsMonotone, IsRising}
 use Rattle.shapers_clusters.specs.Flags.{FlagsFall, bit_at}
 use Rattle.shapers_clusters.specs.Steps.{MovesMerged, Permutes, Step, all_first, old_places}
 use Rattle.shapers_clusters.specs.Laws.{ReorderedHold}
@@ -70,7 +70,7 @@ down_to cs down a b h l = elim (cases_lt a b) [
 record Stays (cs js : List ℕ) (p : ℕ) : Type 0 where
   greatest : max (get_or js (p - 1) 0) (get_or js p 0) ≡ max (get_or cs (p - 1) 0) (get_or cs p 0)
   each : (k : ℕ) → k < length cs → get_or cs k 0 ≡ max (get_or cs (p - 1) 0) (get_or cs p 0) → get_or js k 0
-    ≡ get_or cs k 0
+      ≡ get_or cs k 0
 
 differ_before : (cs : List ℕ) (sts : List (ℕ × ℕ)) (js : List ℕ) → ExactCuts cs sts js → (p : ℕ) → 0 < p
     → p < length cs → get_or js (p - 1) 0 ≢ get_or js p 0 → get_or cs (p - 1) 0 ≢ get_or cs p 0
@@ -198,7 +198,7 @@ clear_before_held view level steps gs ms m mono moves permutes hold p z l clear 
     record {
       differ = differ_before cs (all_first steps) js x p z (omega arith) clear.differ;
       unflagged = none_any (is_flagged c) gs (All-permutation P old gs (IsPermutation-sym gs old moved)
-      (All-from_get_or P old default_glyph each));
+          (All-from_get_or P old default_glyph each));
     }
 
 pub clear_before : ClearBeforeLaw

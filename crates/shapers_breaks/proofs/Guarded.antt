@@ -1,9 +1,8 @@
 -- Syllables without a break inside them: all glyphs but those of a least cluster are flagged.
-use Rattle.std.proofs.Common.{ℕ, zero, suc, if◌then◌else◌, ◌+◌, ◌-◌, ◌<◌, ◌≤◌, ◌≡◌, ◌≢◌, ◌==◌, max, Bool, true, false, ◌&&◌, ◌||◌, List, [], ◌∷◌, ◌++◌, length, map, take, drop, get_or, refl, sym, ap, ◌∙◌, subst, arith, inl, inr, ◌⊎◌, length-append}
-use Rattle.std.specs.Prelude.{Option, None, Some}
+use Rattle.std.proofs.Common.{ℕ, suc, if◌then◌else◌, ◌-◌, ◌<◌, ◌≤◌, ◌≡◌, ◌≢◌, ◌==◌, true, false, ◌&&◌, List, [], ◌∷◌, ◌++◌, length, map, take, drop, get_or, refl, sym, ap, ◌∙◌, subst, arith, inl, inr, ◌⊎◌, length-append}
 use Rattle.std.specs.Int.Bits.{bit_or}
-use Rattle.std.specs.List.{All, AllByRecursion, flat_map, list_any}
-use Rattle.std.proofs.lemmas.Bool.{cases_eq, cases_lt, cases_order, and_from, eq-eqb, eqb-true, both_ways, or_left}
+use Rattle.std.specs.List.{All, AllByRecursion, flat_map}
+use Rattle.std.proofs.lemmas.Bool.{cases_order, and_from, eq-eqb, eqb-true, both_ways, or_left}
 use Rattle.std.proofs.lemmas.List.{get_or-append_right, get_or_append_left, get_or-map, length-map, append-nil}
 use Rattle.std.proofs.lemmas.List.Elements.{All-append, All-cons, All-drop, All-from_get_or, All-get_or, All-head, All-take}
 use Rattle.std.proofs.lemmas.List.Folds.{list_any_at}
@@ -39,22 +38,24 @@ three_flags mask =
 off_flagged : (m : ℕ) (g : hb_glyph_info_t) → m ≤ g.cluster → LeastOrFlagged m (with_bits_off 3 m g)
 off_flagged m g h = elim (g.cluster == m) as
     (λ b. (g.cluster == m) ≡ b → LeastOrFlagged m (if b then g else with_bits 3 g)) [
-  | true ↦ λ e. (h, λ ne. absurd (ne (eqb-true g.cluster m e)))
-  | false ↦ λ e. (h, λ ne. three_flags g.mask)
-] refl
+      | true ↦ λ e. (h, λ ne. absurd (ne (eqb-true g.cluster m e)))
+      | false ↦ λ e. (h, λ ne. three_flags g.mask)
+    ] refl
 
 pub flagged_whole : (gs : List hb_glyph_info_t) → IsWhole (flagged 3 gs)
 flagged_whole gs =
     let m = least (clusters gs) in
     let f = with_bits_off 3 m in
     let n = length-map gs f in
-    let c = length-map gs (λ (g : hb_glyph_info_t). g.cluster) in
-    (m, All-from_get_or (LeastOrFlagged m) (map f gs) default_glyph (λ i l.
-    let il : i < length gs = omega arith in
-    let low : m ≤ get_or (clusters gs) i 0 = least-le (clusters gs) i (omega arith) in
-    let is = get_or-map (λ (g : hb_glyph_info_t). g.cluster) gs i default_glyph 0 il in
-    subst (LeastOrFlagged m) (sym (get_or-map f gs i default_glyph default_glyph il))
-    (off_flagged m (get_or gs i default_glyph) (omega arith))))
+    let c = length-map gs (λ (g : hb_glyph_info_t). g.cluster) in (
+      m,
+      All-from_get_or (LeastOrFlagged m) (map f gs) default_glyph (λ i l.
+          let il : i < length gs = omega arith in
+          let low : m ≤ get_or (clusters gs) i 0 = least-le (clusters gs) i (omega arith) in
+          let is = get_or-map (λ (g : hb_glyph_info_t). g.cluster) gs i default_glyph 0 il in
+          subst (LeastOrFlagged m) (sym (get_or-map f gs i default_glyph default_glyph il))
+          (off_flagged m (get_or gs i default_glyph) (omega arith))),
+    )
 
 -- a circle has cluster and flags of the first glyph
 circle_whole : (m : ℕ) (circle : hb_glyph_info_t) (g : hb_glyph_info_t) (gs : List hb_glyph_info_t) → All
@@ -68,8 +69,11 @@ circled_whole rule (g ∷ gs) h =
     let n = rephas_len rule.repha (g ∷ gs) in
     let circle = circle_in (g ∷ gs) rule.circle in
     elim (is_of_kind rule.broken_kind (g ∷ gs)) as (λ b. IsWhole (if b then with_circle rule (g ∷ gs) else g ∷ gs)) [
-      | true ↦ (h.0, All-append P (take n (g ∷ gs)) (circle ∷ drop n (g ∷ gs)) (All-take P n (g ∷ gs) h.1)
-      (All-cons P circle (drop n (g ∷ gs)) (circle_whole h.0 rule.circle g gs h.1) (All-drop P n (g ∷ gs) h.1)))
+      | true ↦ (
+        h.0,
+        All-append P (take n (g ∷ gs)) (circle ∷ drop n (g ∷ gs)) (All-take P n (g ∷ gs) h.1)
+            (All-cons P circle (drop n (g ∷ gs)) (circle_whole h.0 rule.circle g gs h.1) (All-drop P n (g ∷ gs) h.1)),
+      )
       | false ↦ h
     ]
 
@@ -87,11 +91,25 @@ flagged_inside piece rest p h z l =
     let second : P b = All-get_or P piece p d l h.1 in
     record {
       rising = λ less. subst IsFlagged (sym behind)
-      (second.1 (λ e. absurd (omega (arith, less, ap (λ (g : hb_glyph_info_t). g.cluster) before, ap
-      (λ (g : hb_glyph_info_t). g.cluster) behind, first.0, e))));
+          (second.1 (λ e. absurd (omega (
+            arith,
+            less,
+            ap (λ (g : hb_glyph_info_t). g.cluster) before,
+            ap
+                (λ (g : hb_glyph_info_t). g.cluster) behind,
+            first.0,
+            e,
+          ))));
       falling = λ less. subst IsFlagged (sym before)
-      (first.1 (λ e. absurd (omega (arith, less, ap (λ (g : hb_glyph_info_t). g.cluster) before, ap
-      (λ (g : hb_glyph_info_t). g.cluster) behind, second.0, e))));
+          (first.1 (λ e. absurd (omega (
+            arith,
+            less,
+            ap (λ (g : hb_glyph_info_t). g.cluster) before,
+            ap
+                (λ (g : hb_glyph_info_t). g.cluster) behind,
+            second.0,
+            e,
+          ))));
     }
 
 -- and two of what stands behind it
@@ -107,11 +125,11 @@ flagged_behind piece rest p l h =
     (omega arith) in
     record {
       rising = λ less. subst IsFlagged (sym behind)
-      (h.rising (subst (λ (g : hb_glyph_info_t). g.cluster < (get_or rest (p - n) d).cluster) before
-      (subst (λ (g : hb_glyph_info_t). (get_or (piece ++ rest) (p - 1) d).cluster < g.cluster) behind less)));
+          (h.rising (subst (λ (g : hb_glyph_info_t). g.cluster < (get_or rest (p - n) d).cluster) before
+          (subst (λ (g : hb_glyph_info_t). (get_or (piece ++ rest) (p - 1) d).cluster < g.cluster) behind less)));
       falling = λ less. subst IsFlagged (sym before)
-      (h.falling (subst (λ (g : hb_glyph_info_t). g.cluster < (get_or rest (p - n - 1) d).cluster) behind
-      (subst (λ (g : hb_glyph_info_t). (get_or (piece ++ rest) p d).cluster < g.cluster) before less)));
+          (h.falling (subst (λ (g : hb_glyph_info_t). g.cluster < (get_or rest (p - n - 1) d).cluster) behind
+          (subst (λ (g : hb_glyph_info_t). (get_or (piece ++ rest) p d).cluster < g.cluster) before less)));
     }
 
 -- place p is a border of pieces: the first k of them are the p glyphs before it
@@ -133,14 +151,18 @@ border_or_flagged (piece ∷ pieces) h p z l =
       | inl same ↦ inl (record { count = 1; within = omega arith; place = ap length (append-nil piece) ∙ sym same })
       | inr (inl less) ↦ inr (flagged_inside piece rest p h.0 z less)
       | inr (inr more) ↦ elim (border_or_flagged pieces h.1 (p - n) (omega arith) (omega arith)) [
-          | inl border ↦
-              let k = border.count in
-              let kl = border.within in
-              let place = border.place in
-              inl (record { count = suc k; within = omega arith; place = length-append piece
-              (flat_map (λ q. q) (take k pieces)) ∙ omega (arith, place, more) })
-          | inr there ↦ inr (flagged_behind piece rest p more there)
-        ]
+        | inl border ↦
+            let k = border.count in
+            let kl = border.within in
+            let place = border.place in
+            inl (record {
+              count = suc k;
+              within = omega arith;
+              place = length-append piece
+                  (flat_map (λ q. q) (take k pieces)) ∙ omega (arith, place, more);
+            })
+        | inr there ↦ inr (flagged_behind piece rest p more there)
+      ]
     ]
 
 -- a clear place isn't flagged

@@ -8,3 +8,5 @@ pub mod ScriptBreaks
 mod BreakRows
 pub mod MergedHalves
 pub mod MarkBreaks
+mod MarkBreakRows
+pub mod KeptFlags

@@ -1,26 +1,26 @@
 -- A text whose marks were reordered may be broken at every clear place.
-use Rattle.std.proofs.Common.{ℕ, zero, suc, ◌+◌, ◌-◌, ◌<◌, ◌≤◌, ◌≡◌, ◌≢◌, min, Bool, true, false, ◌⊎◌, List, [], ◌∷◌, ◌++◌, length, map, take, drop, get_or, refl, sym, ap, ◌∙◌, subst, arith, inl, inr, length-append, length-drop, length-take}
+use Rattle.std.proofs.Common.{ℕ, zero, suc, ◌+◌, ◌-◌, ◌<◌, ◌≤◌, ◌≡◌, ◌≢◌, min, true, ◌⊎◌, List, [], ◌∷◌, ◌++◌, length, take, drop, get_or, refl, sym, ap, ◌∙◌, subst, arith, inl, inr, length-append, length-drop, length-take}
 use Rattle.std.specs.Prelude.{IfSome, Option, None, Some, option_map, swap}
 use Rattle.std.proofs.lemmas.List.Edits.{swap_is}
-use Rattle.std.specs.List.{AllByRecursion, list_any}
+use Rattle.std.specs.List.{list_any}
 use Rattle.std.proofs.Math.ListN.{set}
 use Rattle.std.proofs.lemmas.Bool.{cases_lt}
-use Rattle.std.proofs.lemmas.List.{get_or-append-add, get_or_append_left, set-append_left, length-set, map-append, length-map, length-take-le, take-append-drop, take_all, drop_at}
+use Rattle.std.proofs.lemmas.List.{get_or-append-add, get_or_append_left, set-append_left, length-set, map-append, length-map, length-take-le, take-append-drop}
 use Rattle.shapers_arabic.specs.MarkParts.{is_modifier}
-use Rattle.shapers_arabic.specs.Marks.{Marks, arabic_mark_step, marks_merged, marks_reordered, split_marks, text_step, with_modifiers_first, without_class}
+use Rattle.shapers_arabic.specs.Marks.{arabic_mark_step, marks_merged, marks_reordered, split_marks, text_step, with_modifiers_first, without_class}
 use Rattle.shapers_arabic.proofs.MarkLaws.{mark_laws}
 use Rattle.shapers_arabic.proofs.MarkLists.{split-joined, unmodified}
 use Rattle.shapers_arabic.proofs.MarkMoves.{moves-merged, moves-permute}
 use Rattle.shapers_buffer.specs.declared.buffer.glyph.hb_glyph_info_t.{hb_glyph_info_t}
 use Rattle.shapers_buffer.specs.declared.buffer.level.BufferClusterLevel.{BufferClusterLevel}
 use Rattle.shapers_buffer.specs.Buffer.{Buffer}
-use Rattle.shapers_buffer.specs.Clusters.{merge_all, merges, stretch_of, with_stretch}
+use Rattle.shapers_buffer.specs.Clusters.{merge_all, merges, stretch_of}
 use Rattle.shapers_buffer.specs.Glyph.{clusters, default_glyph}
 use Rattle.shapers_clusters.specs.Breaks.{IsClear}
 use Rattle.shapers_clusters.specs.Cuts.{EndWithin, IsMonotone, ShareNone}
 use Rattle.shapers_clusters.specs.Flags.{whole}
-use Rattle.shapers_clusters.specs.Steps.{MovesMerged, Permutes, run_step, shifted, still_step, swap_step}
-use Rattle.shapers_clusters.proofs.Merging.{length-merge, length-merge_all}
+use Rattle.shapers_clusters.specs.Steps.{MovesMerged, Permutes, run_step, shifted}
+use Rattle.shapers_clusters.proofs.Merging.{length-merge_all}
 use Rattle.shapers_clusters.proofs.Permuted.{permutes-widened, still_permutes, swap_permutes}
 use Rattle.shapers_clusters.proofs.Swaps.{run-still_step, run-swap_step}
 use Rattle.shapers_clusters.proofs.Views.{whole_hides}
@@ -33,7 +33,7 @@ use Rattle.shapers_breaks.specs.ClearSteps.{ClearWasClear}
 use Rattle.shapers_breaks.specs.MarkBreaks.{MarksBreakLaw, MarksBroken, NoneClearInside, marks_after}
 use Rattle.shapers_breaks.proofs.CircledBorders.{apart_at}
 use Rattle.shapers_breaks.proofs.ClearSteps.{clear_before, clear_before_held}
-use Rattle.shapers_breaks.proofs.MergedHalves.{changed_behind, changed_front, merged_behind, merged_front, shifted_twice, stretch_behind, stretch_front}
+use Rattle.shapers_breaks.proofs.MergedHalves.{changed_behind, changed_front, merged_at_back, merged_in_front, shifted_twice, stretch_behind, stretch_front}
 use Rattle.shapers_breaks.proofs.SetUp.{Glyphs}
 
 -- halves of a text at a border of clusters share none
@@ -59,22 +59,29 @@ length-parts : (marks : Glyphs) → (let t = split_marks marks
     ≡ length marks)
 length-parts marks =
     let t = split_marks marks in
-    omega (arith, ap length (split-joined marks), length-append t.low
-    (t.modifiers_below ++ (t.middle ++ (t.modifiers_above ++ t.rest))), length-append t.modifiers_below
-    (t.middle ++ (t.modifiers_above ++ t.rest)), length-append t.middle
-    (t.modifiers_above ++ t.rest), length-append t.modifiers_above t.rest)
+    omega (
+      arith,
+      ap length (split-joined marks),
+      length-append t.low
+          (t.modifiers_below ++ (t.middle ++ (t.modifiers_above ++ t.rest))),
+      length-append t.modifiers_below
+          (t.middle ++ (t.modifiers_above ++ t.rest)),
+      length-append t.middle
+          (t.modifiers_above ++ t.rest),
+      length-append t.modifiers_above t.rest,
+    )
 
-run_moves : (marks : Glyphs) → MovesMerged (length marks) (arabic_mark_step (split_marks marks)) × Permutes
+run_of_marks : (marks : Glyphs) → MovesMerged (length marks) (arabic_mark_step (split_marks marks)) × Permutes
     (length marks) (arabic_mark_step (split_marks marks))
-run_moves marks =
+run_of_marks marks =
     let t = split_marks marks in
     let n = length-parts marks in (
       subst (λ k. MovesMerged k (arabic_mark_step t)) n
-      (moves-merged (length t.low) (length t.modifiers_below) (length t.middle) (length t.modifiers_above)
-      (length t.rest)),
+          (moves-merged (length t.low) (length t.modifiers_below) (length t.middle) (length t.modifiers_above)
+          (length t.rest)),
       subst (λ k. Permutes k (arabic_mark_step t)) n
-      (moves-permute (length t.low) (length t.modifiers_below) (length t.middle) (length t.modifiers_above)
-      (length t.rest)),
+          (moves-permute (length t.low) (length t.modifiers_below) (length t.middle) (length t.modifiers_above)
+          (length t.rest)),
     )
 
 length-run : (s e : ℕ) (gs : Glyphs) → s ≤ e → e ≤ length gs → length (stretch_of s e gs) ≡ e - s
@@ -96,7 +103,7 @@ run_within s e gs h l =
     let marks = stretch_of s e gs in
     let step = arabic_mark_step (split_marks marks) in
     (moves-widened s e (length gs) step h l (subst (λ k. MovesMerged k step) (length-run s e gs h l)
-    (run_moves marks).0)).fits.first_within
+    (run_of_marks marks).0)).fits.first_within
 
 arabic_outside : (level : BufferClusterLevel) (s e : ℕ) (gs : Glyphs) → merges level ≡ true → IsMonotone (clusters gs)
     → s ≤ e → e ≤ length gs → (p : ℕ) → 0 < p → p < length gs → IsClear
@@ -105,8 +112,8 @@ arabic_outside level s e gs m mono h l p z within clear =
     let marks = stretch_of s e gs in
     let step = arabic_mark_step (split_marks marks) in
     let n = length-run s e gs h l in
-    let moves = moves-widened s e (length gs) step h l (subst (λ k. MovesMerged k step) n (run_moves marks).0) in
-    let permutes = permutes-widened s e (length gs) step h l (subst (λ k. Permutes k step) n (run_moves marks).1) in
+    let moves = moves-widened s e (length gs) step h l (subst (λ k. MovesMerged k step) n (run_of_marks marks).0) in
+    let permutes = permutes-widened s e (length gs) step h l (subst (λ k. Permutes k step) n (run_of_marks marks).1) in
     let law = mark_laws level s e gs h l in
     let long = law.glyphs.same_length in
     clear_before_held without_class level (text_step s e gs ∷ []) gs
@@ -134,7 +141,7 @@ arabic_behind level s e xs ys a h l none =
     let merged : marks_merged level s e (xs ++ ys) ≡ xs ++ marks_merged level t u ys =
     arabic_merged level s e (xs ++ ys)
     ∙ ap (λ l. merge_all level l (xs ++ ys)) stretches
-    ∙ merged_behind level sts xs ys (run_within t u ys (omega arith) (omega arith)) none
+    ∙ merged_at_back level sts xs ys (run_within t u ys (omega arith) (omega arith)) none
     ∙ ap (λ l. xs ++ l) (sym (arabic_merged level t u ys)) in
     ap (marks_reordered s e) merged ∙ changed_behind (λ marks. with_modifiers_first (split_marks marks)) s e xs
     (marks_merged level t u ys) a h
@@ -147,7 +154,7 @@ arabic_front level s e xs ys h l none =
     let merged : marks_merged level s e (xs ++ ys) ≡ marks_merged level s e xs ++ ys =
     arabic_merged level s e (xs ++ ys)
     ∙ ap (λ marks. merge_all level (shifted s (merges_of marks)) (xs ++ ys)) (stretch_front s e xs ys h l)
-    ∙ merged_front level sts xs ys within none
+    ∙ merged_in_front level sts xs ys within none
     ∙ ap (λ l. l ++ ys) (sym (arabic_merged level s e xs)) in
     let long : length (marks_merged level s e xs) ≡ length xs = ap length (arabic_merged level s e xs)
     ∙ length-merge_all level sts xs within in
@@ -224,7 +231,7 @@ made_behind level (Some i) xs ys h none =
     let sts = (i, i + 2) ∷ [] in
     let long = length-merge_all level sts ys (omega arith, tt) in
     ap (λ k. swap (merge_all level (pair (p + i) k ∷ []) (xs ++ ys)) (p + i) (p + i + 1)) end
-    ∙ ap (λ l. swap l (p + i) (p + i + 1)) (merged_behind level sts xs ys (omega arith, tt) none)
+    ∙ ap (λ l. swap l (p + i) (p + i + 1)) (merged_at_back level sts xs ys (omega arith, tt) none)
     ∙ swap_behind xs (merge_all level sts ys) (p + i) i refl (omega arith)
 
 made_front : (level : BufferClusterLevel) (o : Option ℕ) (xs ys : Glyphs) → IfSome o (λ i. i + 1 < length xs)
@@ -234,7 +241,7 @@ made_front level None xs ys h none = refl
 made_front level (Some i) xs ys h none =
     let sts = (i, i + 2) ∷ [] in
     let long = length-merge_all level sts xs (omega arith, tt) in
-    ap (λ l. swap l i (i + 1)) (merged_front level sts xs ys (omega arith, tt) none)
+    ap (λ l. swap l i (i + 1)) (merged_in_front level sts xs ys (omega arith, tt) none)
     ∙ swap_front (merge_all level sts xs) ys i (omega arith)
 
 second_moved : (p t s : ℕ) (o : Option ℕ) → p + t ≡ s → option_map (λ i. s + i + 1) o ≡ option_map (λ i. p + i)
@@ -284,9 +291,9 @@ hebrew_before level s e gs m mono h l =
 record BreaksAlike (after : ℕ → ℕ → Glyphs → Glyphs) : Type 0 where
   nothing : (p : ℕ) (gs : Glyphs) → after p p gs ≡ gs
   behind : (s e : ℕ) (xs ys : Glyphs) → length xs ≤ s → s ≤ e → e ≤ length xs + length ys → ShareNone xs ys → after s e
-    (xs ++ ys) ≡ xs ++ after (s - length xs) (e - length xs) ys
+      (xs ++ ys) ≡ xs ++ after (s - length xs) (e - length xs) ys
   front : (s e : ℕ) (xs ys : Glyphs) → s ≤ e → e ≤ length xs → ShareNone xs ys → after s e (xs ++ ys) ≡ after s e xs
-    ++ ys
+      ++ ys
 
 halves_by : (after : ℕ → ℕ → Glyphs → Glyphs) → BreaksAlike after → (s e p : ℕ) (gs : Glyphs) → s ≤ e → e ≤ length gs
     → p ≤ length gs → (p ≤ s) ⊎ (e ≤ p) → ShareNone (take p gs) (drop p gs) → after s e gs ≡ after (min s p) (min e p)
@@ -339,8 +346,11 @@ hebrew_alike : (level : BufferClusterLevel) → BreaksAlike (marks_after Hebrew 
 hebrew_alike level = record { nothing = no_triple level; behind = hebrew_behind level; front = hebrew_front level }
 
 same_alike : BreaksAlike (λ s e gs. gs)
-same_alike = record { nothing = λ p gs. refl; behind = λ s e xs ys a h l none. refl; front = λ s e xs ys h l none. refl
-    }
+same_alike = record {
+  nothing = λ p gs. refl;
+  behind = λ s e xs ys a h l none. refl;
+  front = λ s e xs ys h l none. refl;
+}
 
 same_broken : (shaper : hb_ot_shaper_t) (level : BufferClusterLevel) →
     ((s e : ℕ) (gs : Glyphs) → marks_after shaper level s e gs ≡ gs) → (s e : ℕ) (old new : Buffer) → s ≤ e

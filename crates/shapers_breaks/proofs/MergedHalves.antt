@@ -1,15 +1,14 @@
 -- Merges and changes within one half of a text.
-use Rattle.std.proofs.Common.{ℕ, zero, suc, ◌+◌, ◌-◌, ◌<◌, ◌≤◌, ◌≡◌, List, [], ◌∷◌, ◌++◌, length, map, take, drop, refl, sym, ap, ◌∙◌, subst, arith, append_assoc, length-append, length-drop}
-use Rattle.std.specs.List.{AllByRecursion, range_with_len, sum_by}
+use Rattle.std.proofs.Common.{ℕ, zero, suc, ◌+◌, ◌-◌, ◌≤◌, ◌≡◌, List, [], ◌∷◌, ◌++◌, length, take, drop, refl, sym, ap, ◌∙◌, subst, arith, append_assoc, length-append, length-drop}
+use Rattle.std.specs.List.{range_with_len, sum_by}
 use Rattle.std.proofs.lemmas.List.{drop-append-le, take-append-le}
 use Rattle.std.proofs.lemmas.List.FromFn.{length-range_with_len}
 use Rattle.std.proofs.lemmas.List.Sums.{sum_by-cons}
-use Rattle.shapers_buffer.specs.declared.buffer.glyph.hb_glyph_info_t.{hb_glyph_info_t}
 use Rattle.shapers_buffer.specs.declared.buffer.level.BufferClusterLevel.{BufferClusterLevel}
 use Rattle.shapers_buffer.specs.Clusters.{merge_all, stretch_of, with_stretch}
 use Rattle.shapers_buffer.specs.Places.{pick}
 use Rattle.shapers_clusters.specs.Cuts.{EndWithin, ShareNone}
-use Rattle.shapers_clusters.specs.Steps.{FitsStep, Step, run_step, run_steps, shifted, steps_along, widened}
+use Rattle.shapers_clusters.specs.Steps.{FitsStep, Step, run_step, shifted, widened}
 use Rattle.shapers_clusters.proofs.Merging.{length-merge_all}
 use Rattle.shapers_clusters.proofs.Picks.{pick-all, within_range}
 use Rattle.shapers_clusters.proofs.Proved.{halves_hold}
@@ -22,8 +21,13 @@ merging n sts = record { merged_first = sts; places = range_with_len 0 n; merged
 
 merging_fits : (n : ℕ) (sts : List (ℕ × ℕ)) → EndWithin n sts → FitsStep n (merging n sts)
 unfolding merging
-merging_fits n sts w = record { as_many = length-range_with_len 0 n; within = within_range 0 n n
-    (omega arith); first_within = w; then_within = tt }
+merging_fits n sts w = record {
+  as_many = length-range_with_len 0 n;
+  within = within_range 0 n n
+      (omega arith);
+  first_within = w;
+  then_within = tt;
+}
 
 -- over a stretch of a text
 run_merging : (level : BufferClusterLevel) (s e n : ℕ) (sts : List (ℕ × ℕ)) (gs : Glyphs) → s ≤ e → e ≤ n → length gs
@@ -72,9 +76,9 @@ one_piece n steps = let none : n + 0 ≡ n = omega arith in sum_by-cons (λ (pie
     (n, steps) [] ∙ none
 
 -- merges in the second half, and in the first
-pub merged_behind : (level : BufferClusterLevel) (sts : List (ℕ × ℕ)) (xs ys : Glyphs) → EndWithin (length ys) sts
+pub merged_at_back : (level : BufferClusterLevel) (sts : List (ℕ × ℕ)) (xs ys : Glyphs) → EndWithin (length ys) sts
     → ShareNone xs ys → merge_all level (shifted (length xs) sts) (xs ++ ys) ≡ xs ++ merge_all level sts ys
-merged_behind level sts xs ys w none =
+merged_at_back level sts xs ys w none =
     let p = length xs in
     let m = length ys in
     let mo = merging m sts in
@@ -87,9 +91,9 @@ merged_behind level sts xs ys w none =
     sym whole ∙ halves_hold level ((p, []) ∷ []) ((m, mo ∷ []) ∷ []) xs ys (one_piece p []) (one_piece m (mo ∷ []))
     (tt, tt) ((merging_fits m sts w, tt), tt) none ∙ ap (λ l. xs ++ l) half
 
-pub merged_front : (level : BufferClusterLevel) (sts : List (ℕ × ℕ)) (xs ys : Glyphs) → EndWithin (length xs) sts
+pub merged_in_front : (level : BufferClusterLevel) (sts : List (ℕ × ℕ)) (xs ys : Glyphs) → EndWithin (length xs) sts
     → ShareNone xs ys → merge_all level sts (xs ++ ys) ≡ merge_all level sts xs ++ ys
-merged_front level sts xs ys w none =
+merged_in_front level sts xs ys w none =
     let p = length xs in
     let m = length ys in
     let mo = merging p sts in

@@ -1,7 +1,7 @@
 -- A set-up and a reordering directly after it may be broken at every clear place.
-use Rattle.std.proofs.Common.{ℕ, zero, suc, ◌+◌, ◌-◌, ◌<◌, ◌≤◌, ◌≡◌, ◌≢◌, true, List, [], ◌∷◌, ◌++◌, length, map, take, drop, get_or, slice_index, refl, sym, ap, ◌∙◌, subst, arith, inl, inr, length-append, length-drop}
-use Rattle.std.specs.Prelude.{Option, None, Some}
-use Rattle.std.specs.List.{All, AllByRecursion, Contains, flat_map, sum_by}
+use Rattle.std.proofs.Common.{ℕ, zero, suc, ◌-◌, ◌<◌, ◌≤◌, ◌≡◌, ◌≢◌, true, List, [], ◌∷◌, ◌++◌, length, map, take, drop, get_or, slice_index, refl, sym, ap, ◌∙◌, subst, arith, length-append, length-drop}
+use Rattle.std.specs.Prelude.{Option}
+use Rattle.std.specs.List.{All, flat_map}
 use Rattle.std.proofs.lemmas.List.{drop-map, drop_at, length-map, length-take-le, map-append, take-append-drop, take-map, take_at}
 use Rattle.std.proofs.lemmas.List.Elements.{All-take}
 use Rattle.std.proofs.lemmas.List.Concat.{flat_map-append}
@@ -15,7 +15,6 @@ use Rattle.shapers_buffer.specs.Syllables.{spans_cover, syllables}
 use Rattle.shapers_clusters.specs.Breaks.{IsClear}
 use Rattle.shapers_clusters.specs.Cuts.{IsMonotone, ShareNone}
 use Rattle.shapers_clusters.specs.Steps.{Step, run_steps}
-use Rattle.shapers_clusters.proofs.ClearPlaces.{length-same}
 use Rattle.shapers_syllabic.specs.Borders.{spans_set_up, unnumbered}
 use Rattle.shapers_syllabic.specs.Circles.{circled}
 use Rattle.shapers_syllabic.specs.Reordering.{PauseReordered, SyllablesReordered, carried, text_steps}
@@ -24,12 +23,12 @@ use Rattle.shapers_syllabic.specs.Syllabic.{unsafe_spans}
 use Rattle.shapers_syllabic.specs.declared.ot_shaper_syllabic.circles.DottedCircles.{DottedCircles}
 use Rattle.shapers_syllabic.proofs.Borders.{syllables-append}
 use Rattle.shapers_syllabic.proofs.CircleLaws.{joined-syllables}
-use Rattle.shapers_syllabic.proofs.HiddenCuts.{clusters-carried, pauses_cut_between_spans}
+use Rattle.shapers_syllabic.proofs.HiddenCuts.{pauses_cut_between_spans}
 use Rattle.shapers_syllabic.proofs.PauseCuts.{apart_by, clusters-set_up}
 use Rattle.shapers_syllabic.proofs.ReorderingLaws.{text_reordered}
 use Rattle.shapers_syllabic.proofs.SpanCuts.{spans_cut}
 use Rattle.shapers_breaks.specs.PauseBreaks.{BreaksBetweenSpans, SpanCut}
-use Rattle.shapers_breaks.proofs.CircledBorders.{Each, OpenedBorder, apart_at, circled_is, length-paused, opened, pieces_erased, reordered_border}
+use Rattle.shapers_breaks.proofs.CircledBorders.{Each, apart_at, circled_is, length-paused, opened_piece, pieces_erased, reordered_border}
 use Rattle.shapers_breaks.proofs.SetUp.{AllAsLong, Glyphs, IsGuarded, cover_cut, set_up_guarded, sum-as_long, taken_as_long}
 
 -- pieces as long as spans are as many
@@ -66,8 +65,14 @@ text_cut spans old gs k covers same long =
     (take-append-drop k pieces) ∙ joined-syllables gs in
     let all : clusters fr ++ clusters bh ≡ clusters old = sym (map-append cluster fr bh) ∙ ap clusters whole ∙ same in
     let m : length (clusters fr) ≡ n = length-map fr cluster in
-    let ends : n ≤ length old = omega (arith, m, ap length all, length-append (clusters fr)
-    (clusters bh), length-map old cluster) in
+    let ends : n ≤ length old = omega (
+      arith,
+      m,
+      ap length all,
+      length-append (clusters fr)
+          (clusters bh),
+      length-map old cluster,
+    ) in
     record {
       split = split;
       n = n;
@@ -90,12 +95,13 @@ each_from P [] h = tt
 each_from P (g ∷ gs) h = (h 0 (omega arith), each_from P gs (λ i l. h (suc i) (omega arith)))
 
 -- halves whose texts with circles share no cluster share none
-pub apart_erased : (circles : Option DottedCircles) (ps qs : List Glyphs) → ShareNone (flat_map (opened circles) ps)
-    (flat_map (opened circles) qs) → ShareNone (flat_map (λ p. p) ps) (flat_map (λ p. p) qs)
+pub apart_erased : (circles : Option DottedCircles) (ps qs : List Glyphs) → ShareNone
+    (flat_map (opened_piece circles) ps)
+    (flat_map (opened_piece circles) qs) → ShareNone (flat_map (λ p. p) ps) (flat_map (λ p. p) qs)
 apart_erased circles ps qs none i j il jl =
     let id : Glyphs → Glyphs = λ p. p in
-    let xs = flat_map (opened circles) ps in
-    let ys = flat_map (opened circles) qs in
+    let xs = flat_map (opened_piece circles) ps in
+    let ys = flat_map (opened_piece circles) qs in
     let inner : (c : ℕ) → Each (λ d. c ≢ d) ys → Each (λ d. c ≢ d) (flat_map id qs) = λ c. pieces_erased
     (λ d. c ≢ d) circles qs in
     let outer : Each (λ c. Each (λ d. c ≢ d) (flat_map id qs)) (flat_map id ps) = pieces_erased
@@ -110,7 +116,7 @@ apart_erased circles ps qs none i j il jl =
 pub record PauseCut (circles : Option DottedCircles) (spans : List Span) (old mid : Glyphs) (p : ℕ) : Type 0 where
   pub count : ℕ
   pub within : count ≤ length (syllables mid)
-  pub place : length (flat_map (opened circles) (take count (syllables mid))) ≡ p
+  pub place : length (flat_map (opened_piece circles) (take count (syllables mid))) ≡ p
   pub text : TextCut spans old mid count
   pub apart : ShareNone (take text.n old) (drop text.n old)
 
@@ -124,7 +130,7 @@ pub pause_cut : (meaning : Glyphs → Glyphs) (steps : Glyphs → List Step) →
 pause_cut meaning steps laws inside circles level m spans old mid new covers same guarded mono moved long p z l clear =
     let cluster : hb_glyph_info_t → ℕ = λ g. g.cluster in
     let pieces = syllables mid in
-    let F = opened circles in
+    let F = opened_piece circles in
     let (opened_clear, border) = reordered_border meaning steps laws inside circles level m mid new guarded.whole mono
     moved p z l clear long in
     let k = border.count in
@@ -155,7 +161,8 @@ pause_cut meaning steps laws inside circles level m spans old mid new covers sam
       place = border.place;
       text = text;
       apart = apart_by (take n old) (drop n old) (flat_map id (take k pieces))
-      (flat_map id (drop k pieces)) text.before text.behind (apart_erased circles (take k pieces) (drop k pieces) far);
+          (flat_map id (drop k pieces)) text.before text.behind
+          (apart_erased circles (take k pieces) (drop k pieces) far);
     }
 
 -- the length that a reordering keeps
@@ -208,10 +215,20 @@ pauses_break_by meaning steps broken_kind laws inside reads circles spans old ne
     let back = unsafe_spans (drop k spans) (drop n gs) in
     let first = front_is spans broken_kind k old kinds covers c.text c.within in
     let place : length (paused_order circles meaning front) ≡ p = length-paused meaning steps laws circles front
-    ∙ ap length (circled_is circles front ∙ ap (flat_map (opened circles)) first) ∙ c.place in
-    let cut : SpanCut unsafe_spans (paused_order circles meaning) spans gs p = record
-    { front = take k spans; back = drop k spans; before = take n gs; behind = drop n gs; split = c.text.split; text =
-    c.text.text; first = c.text.first; second = c.text.second; apart = c.apart; place = place } in
+    ∙ ap length (circled_is circles front ∙ ap (flat_map (opened_piece circles)) first) ∙ c.place in
+    let cut : SpanCut unsafe_spans (paused_order circles meaning) spans gs p = record {
+      front = take k spans;
+      back = drop k spans;
+      before = take n gs;
+      behind = drop n gs;
+      split = c.text.split;
+      text =
+          c.text.text;
+      first = c.text.first;
+      second = c.text.second;
+      apart = c.apart;
+      place = place;
+    } in
     let halves = pauses_cut_between_spans meaning steps broken_kind laws reads circles spans old new kinds done
     (take k spans) (drop k spans) (take n gs)
     (drop n gs) front back c.text.split c.text.text c.text.first c.text.second refl refl in

@@ -1,42 +1,37 @@
 -- Each syllabic shaper's set-up and reordering may be broken at every clear place.
-use Rattle.std.proofs.Common.{ℕ, ◌+◌, ◌-◌, ◌<◌, ◌≤◌, ◌≡◌, Bool, true, false, if◌then◌else◌, List, [], ◌∷◌, ◌++◌, length, map, take, drop, refl, sym, ap, ◌∙◌, subst, arith, inl, inr}
+use Rattle.std.proofs.Common.{ℕ, ◌≤◌, ◌≡◌, true, false, if◌then◌else◌, List, [], ◌∷◌, length, take, drop, refl, sym, ap, ◌∙◌, subst, arith, inl, inr}
 use Rattle.std.specs.Prelude.{Option, None, Some, unwrap_or}
 use Rattle.std.specs.List.{AllByRecursion, flat_map}
-use Rattle.shapers_buffer.specs.declared.buffer.glyph.hb_glyph_info_t.{hb_glyph_info_t}
-use Rattle.shapers_buffer.specs.declared.buffer.syllables.Span.{Span}
 use Rattle.shapers_buffer.specs.Buffer.{Buffer}
 use Rattle.shapers_buffer.specs.Glyph.{clusters, default_glyph}
 use Rattle.shapers_buffer.specs.Syllables.{syllables}
-use Rattle.shapers_base.specs.Font.{Font, dotted_circle}
+use Rattle.shapers_base.specs.Font.{dotted_circle}
 use Rattle.shapers_base.specs.declared.font.GlyphId.{GlyphId}
 use Rattle.shapers_base.specs.declared.plan.pause.Pause.TheVariants.{ReorderKhmer, ReorderMyanmar, SetupSyllablesKhmer, SetupSyllablesMyanmar}
 use Rattle.shapers_clusters.specs.Cuts.{IsMonotone, ShareNone}
-use Rattle.shapers_clusters.proofs.ClearPlaces.{length-same}
 use Rattle.shapers_syllabic.specs.Borders.{spans_set_up}
-use Rattle.shapers_syllabic.specs.Circles.{circled, circles_for, rephas_len, wants_circles, with_circles}
-use Rattle.shapers_syllabic.specs.Reordering.{PauseReordered, script_circles}
+use Rattle.shapers_syllabic.specs.Circles.{circled, circles_for, rephas_len, wants_circles}
 use Rattle.shapers_syllabic.specs.ReorderingLaws.{paused_order}
 use Rattle.shapers_syllabic.specs.Syllabic.{unsafe_spans}
 use Rattle.shapers_syllabic.specs.declared.ot_shaper_syllabic.circles.DottedCircles.{DottedCircles}
 use Rattle.shapers_syllabic.specs.declared.ot_shaper_syllabic.kinds.khmer_syllable.TheConstants.{BROKEN_CLUSTER as BROKEN_KHMER}
 use Rattle.shapers_syllabic.specs.declared.ot_shaper_syllabic.kinds.myanmar_syllable.TheConstants.{BROKEN_CLUSTER as BROKEN_MYANMAR}
 use Rattle.shapers_syllabic.proofs.PauseCuts.{clusters-set_up}
-use Rattle.shapers_khmer.specs.Khmer.{khmer_circles, khmer_order, khmer_steps, order_in}
+use Rattle.shapers_khmer.specs.Khmer.{khmer_order, khmer_steps, order_in}
 use Rattle.shapers_khmer.specs.KhmerLaws.{KhmerMovesMerged, KhmerReadsNoSerials, KhmerReorderLaws}
 use Rattle.shapers_myanmar.specs.Myanmar.{myanmar_circles, myanmar_order, myanmar_steps}
 use Rattle.shapers_myanmar.specs.MyanmarLaws.{MyanmarMovesMerged, MyanmarReadsNoSerials, MyanmarReorderLaws}
-use Rattle.shapers_universal.specs.PlanData.{arabic_of}
 use Rattle.shapers_universal.specs.Universal.{universal_order, universal_steps}
-use Rattle.shapers_universal.specs.UniversalLaws.{UniversalCutsBetweenSpans, UniversalMovesMerged, UniversalReadsNoSerials, UniversalReorderLaws, set_up_by_spans}
+use Rattle.shapers_universal.specs.UniversalLaws.{UniversalCutsBetweenSpans, UniversalMovesMerged, UniversalReorderLaws, set_up_by_spans}
 use Rattle.shapers_universal.specs.UniversalSyllables.{syllables_set_up}
 use Rattle.rustybuzz_shapers.specs.Pauses.{Reordered, by_khmer, by_myanmar, by_universal}
 use Rattle.rustybuzz_shapers.proofs.Monotone.{circles_stay_monotone}
-use Rattle.shapers_breaks.specs.PauseBreaks.{AtMostOneRepha, BreaksBetweenSpans, PausesBreakLaw, SpanCut}
-use Rattle.shapers_breaks.specs.ScriptBreaks.{CanBreak, FormsOffFlags, MyanmarHasNoRepha, PausesBreakBy, UniversalPausesBreak}
-use Rattle.shapers_breaks.proofs.CircledBorders.{circled_is, length-paused, opened}
+use Rattle.shapers_breaks.specs.PauseBreaks.{AtMostOneRepha, PausesBreakLaw, SpanCut}
+use Rattle.shapers_breaks.specs.ScriptBreaks.{MyanmarHasNoRepha, PausesBreakBy, UniversalPausesBreak}
+use Rattle.shapers_breaks.proofs.CircledBorders.{circled_is, length-paused, opened_piece}
 use Rattle.shapers_breaks.proofs.PauseBreaks.{as_many, front_is, length-moved, pause_cut, pauses_break_by, text_cut}
 use Rattle.shapers_breaks.proofs.SetUp.{Glyphs, set_up_guarded}
-use Rattle.shapers_breaks.proofs.UniversalSetUp.{clusters_kept, guarded_kept, length-all_opened, masks_kept, syllables_kept, taken_kept}
+use Rattle.shapers_breaks.proofs.UniversalSetUp.{clusters_kept, guarded_kept, length-all_opened, set_up_kept, syllables_kept, taken_kept}
 
 -- circles behind at most one repha leave clusters rising or falling
 monotone_circled : (circles : Option DottedCircles) (gs : Glyphs) → AtMostOneRepha circles gs → IsMonotone
@@ -64,10 +59,17 @@ circles_short : (glyph : Option GlyphId) (k category : ℕ) (place : Option ℕ)
     → AtMostOneRepha (circles_for glyph k category None place b) gs
 circles_short None k category place b gs = tt
 circles_short (Some glyph) k category place b gs =
-    let rule : DottedCircles = record { broken_kind = k; circle = record default_glyph
-    { glyph_id = glyph.0; category = category; auxiliary = unwrap_or place 0 }; repha = None } in
-    elim (wants_circles b) as (λ w. AtMostOneRepha (if w then Some rule else None) gs) [ true ↦ all_short rule refl
-    (syllables gs) | false ↦ tt ]
+    let rule : DottedCircles = record {
+      broken_kind = k;
+      circle = record default_glyph
+          { glyph_id = glyph.0; category = category; auxiliary = unwrap_or place 0 };
+      repha = None;
+    } in
+    elim (wants_circles b) as (λ w. AtMostOneRepha (if w then Some rule else None) gs) [
+      | true ↦ all_short rule refl
+          (syllables gs)
+      | false ↦ tt
+    ]
 
 pub myanmar_short : MyanmarHasNoRepha
 myanmar_short font b gs = circles_short
@@ -101,13 +103,13 @@ universal_breaks laws inside cuts plan font spans unread old mid new can off few
     let gs = old.glyphs in
     let by = by_universal font mid in
     let circles = by.circles in
-    let F = opened circles in
+    let F = opened_piece circles in
     let bare = unsafe_spans spans gs in
     let whole : Buffer = syllables_set_up kept m spans old in
     let masked = set_up_by_spans kept m spans gs in
     let done : Reordered by whole new = subst (λ (b : Buffer). Reordered by b new) set_up reordered in
     let short : AtMostOneRepha circles masked = subst (λ (b : Buffer). AtMostOneRepha circles b.glyphs) set_up few in
-    let shape = masks_kept kept m off bare in
+    let shape = set_up_kept kept m off bare in
     let under = set_up_guarded spans gs can.kinds can.covered in
     let guarded = guarded_kept spans bare masked shape under in
     let first_same = clusters-set_up spans 0 old in
@@ -136,14 +138,24 @@ universal_breaks laws inside cuts plan font spans unread old mid new can off few
     length-paused universal_order universal_steps laws circles front
     ∙ ap length (circled_is circles front)
     ∙ length-all_opened circles (syllables front_bare) (syllables front)
-    (syllables_kept front_bare front (masks_kept kept m off front_bare))
+    (syllables_kept front_bare front (set_up_kept kept m off front_bare))
     ∙ ap (λ ps. length (flat_map F ps)) is
     ∙ sym (length-all_opened circles (take k (syllables bare)) (take k (syllables masked)) taken)
     ∙ c.place in
     let cut : SpanCut (set_up_by_spans kept m)
-    (paused_order circles universal_order) spans gs p = record
-    { front = take k spans; back = drop k spans; before = take n gs; behind = drop n gs; split = text.split; text =
-    text.text; first = text.first; second = text.second; apart = far; place = place } in
+    (paused_order circles universal_order) spans gs p = record {
+      front = take k spans;
+      back = drop k spans;
+      before = take n gs;
+      behind = drop n gs;
+      split = text.split;
+      text =
+          text.text;
+      first = text.first;
+      second = text.second;
+      apart = far;
+      place = place;
+    } in
     let halves = cuts kept m circles spans old new can.kinds done (take k spans) (drop k spans) (take n gs)
     (drop n gs) front back text.split text.text text.first text.second refl refl in
     record { cut = cut; order = halves.order; in_clusters = halves.in_clusters far }

@@ -1,15 +1,14 @@
 -- What spans set up is whole between their borders.
-use Rattle.std.proofs.Common.{ℕ, zero, suc, if◌then◌else◌, ◌+◌, ◌-◌, ◌<◌, ◌≤◌, ◌≡◌, ◌==◌, nat_lt, Bool, true, false, ◌&&◌, List, [], ◌∷◌, ◌++◌, length, map, take, drop, get_or, refl, sym, ap, ◌∙◌, subst, arith, inl, inr, ◌⊎◌, length-append, length-drop, length-take}
+use Rattle.std.proofs.Common.{ℕ, zero, suc, if◌then◌else◌, ◌-◌, ◌<◌, ◌≤◌, ◌≡◌, ◌==◌, nat_lt, Bool, true, false, List, [], ◌∷◌, ◌++◌, length, map, take, drop, refl, sym, ap, ◌∙◌, subst, arith, inl, inr, ◌⊎◌, length-append, length-drop}
 use Rattle.std.specs.List.{All, AllByRecursion, AllZip, flat_map, list_all, sum_by}
 use Rattle.std.proofs.lemmas.Bool.{and_from, and_parts, eq-eqb, eqb-true}
 use Rattle.std.proofs.lemmas.Bool.Decides.{nat_tests}
-use Rattle.std.proofs.lemmas.List.{length-map, length-take-le, take-append-drop, take_at, drop_at}
+use Rattle.std.proofs.lemmas.List.{length-map, length-take-le, take-append-drop}
 use Rattle.std.proofs.lemmas.List.Elements.{All-map, All-tail, All-weaker}
-use Rattle.std.proofs.lemmas.List.Folds.{flat_map-map, list_all-append}
+use Rattle.std.proofs.lemmas.List.Folds.{list_all-append}
 use Rattle.std.proofs.lemmas.List.Sums.{sum_by-append, sum_by-cons}
 use Rattle.shapers_buffer.specs.declared.buffer.glyph.hb_glyph_info_t.{hb_glyph_info_t}
 use Rattle.shapers_buffer.specs.declared.buffer.syllables.Span.{Span}
-use Rattle.shapers_buffer.specs.Buffer.{Buffer}
 use Rattle.shapers_buffer.specs.Clusters.{least}
 use Rattle.shapers_buffer.specs.Glyph.{clusters}
 use Rattle.shapers_buffer.specs.GlyphFlags.{flagged, with_bits, with_bits_off}
@@ -49,9 +48,11 @@ cut_as_long i (s ∷ ss) gs kinds covers =
     let byte = span_byte i s in
     let left : spans_cover (length (drop s.len gs)) ss ≡ true = ap (λ k. spans_cover k ss) (length-drop s.len gs)
     ∙ first.rest in
-    subst (λ pieces. AllAsLong pieces (s ∷ ss)) (sym (cut_next i s ss gs kinds covers))
-    (length-map (take s.len gs) (in_syllable byte) ∙ length-take-le s.len gs first.within, cut_as_long (suc i) ss
-    (drop s.len gs) (All-tail kind s ss kinds) left)
+    subst (λ pieces. AllAsLong pieces (s ∷ ss)) (sym (cut_next i s ss gs kinds covers)) (
+      length-map (take s.len gs) (in_syllable byte) ∙ length-take-le s.len gs first.within,
+      cut_as_long (suc i) ss
+          (drop s.len gs) (All-tail kind s ss kinds) left,
+    )
 
 -- flags keep bytes
 off_byte : (m : ℕ) (g : hb_glyph_info_t) → (with_bits_off 3 m g).syllable ≡ g.syllable
@@ -96,7 +97,7 @@ set_up_guarded spans gs kinds covers =
     (flagged 3) flagged_byte cut in
     record {
       as_long = subst (λ pieces. AllAsLong pieces spans) (sym is)
-      (mapped_as_long (flagged 3) length-flagged (syllables cut) spans (cut_as_long 0 spans gs kinds covers));
+          (mapped_as_long (flagged 3) length-flagged (syllables cut) spans (cut_as_long 0 spans gs kinds covers));
       whole = subst (AllByRecursion IsWhole) (sym is) (mapped_whole (flagged 3) flagged_whole (syllables cut));
     }
 
@@ -178,8 +179,12 @@ set_up_breaks spans broken_kind old kinds covers =
             (λ k. spans_cover k border.front) (length-take-le p old.glyphs (omega arith)) ∙ cut.first in
             let second : spans_cover (length (drop p old.glyphs)) border.back ≡ true = ap
             (λ k. spans_cover k border.back) (length-drop p old.glyphs) ∙ cut.second in
-            record { border = border; halves = spans_cut spans broken_kind old kinds border.front border.back
-            (take p old.glyphs) (drop p old.glyphs) border.split (sym (take-append-drop p old.glyphs)) first second }
+            record {
+              border = border;
+              halves = spans_cut spans broken_kind old kinds border.front border.back
+                  (take p old.glyphs) (drop p old.glyphs) border.split
+                  (sym (take-append-drop p old.glyphs)) first second;
+            }
         | inr flagged ↦ absurd (clear_not_flagged new.glyphs p z l clear flagged)
       ],
     )

@@ -1,7 +1,7 @@
 -- The masks that the universal shaper sets on syllables leave clusters, bytes and flags.
-use Rattle.std.proofs.Common.{ℕ, zero, suc, if◌then◌else◌, ◌+◌, ◌-◌, ◌%◌, ◌<◌, ◌≤◌, ◌≡◌, ◌≢◌, ◌==◌, min, bit_and, bit_or, Bool, true, false, List, [], ◌∷◌, ◌++◌, length, map, take, drop, get_or, refl, sym, ap, ◌∙◌, subst, arith, length-append, length-take, length-drop}
+use Rattle.std.proofs.Common.{ℕ, zero, suc, if◌then◌else◌, ◌-◌, ◌%◌, ◌<◌, ◌≤◌, ◌≡◌, ◌==◌, bit_and, Bool, true, false, List, [], ◌∷◌, ◌++◌, length, map, take, drop, refl, sym, ap, ◌∙◌, subst, arith, length-append, length-take, length-drop}
 use Rattle.std.specs.Prelude.{Option, None, Some}
-use Rattle.std.specs.List.{All, AllByRecursion, AllZip, flat_map}
+use Rattle.std.specs.List.{AllByRecursion, AllZip, flat_map}
 use Rattle.std.proofs.lemmas.List.{take-append-drop}
 use Rattle.std.proofs.lemmas.List.Elements.{All-from_get_or, All-get_or, AllZip-get_or}
 use Rattle.std.proofs.lemmas.Nat.Bits.{bit_at_and, bit_at_or}
@@ -15,16 +15,16 @@ use Rattle.shapers_base.specs.declared.plan.PlanData.{PlanData}
 use Rattle.shapers_base.specs.declared.plan.arabic.arabic_shape_plan_t.{arabic_shape_plan_t}
 use Rattle.shapers_clusters.specs.Flags.{bit_at}
 use Rattle.shapers_clusters.proofs.Falls.{all_append}
-use Rattle.shapers_syllabic.specs.Circles.{circle_in, circled_syllable, is_of_kind, rephas_len, with_circle}
+use Rattle.shapers_syllabic.specs.Circles.{circle_in, is_of_kind, rephas_len, with_circle}
 use Rattle.shapers_syllabic.specs.declared.ot_shaper_syllabic.circles.DottedCircles.{DottedCircles}
 use Rattle.shapers_syllabic.proofs.CircleLaws.{joined-syllables}
 use Rattle.shapers_universal.specs.PlanData.{arabic_of, rphf_of}
-use Rattle.shapers_universal.specs.UniversalSyllables.{all_forms, first_joins, form_masks, formed, in_forms, joins_runs, mask_between, rphf_len, with_form_masks, with_forms_for, with_instead, with_rphf, with_syllable_masks}
+use Rattle.shapers_universal.specs.UniversalSyllables.{all_forms, first_joins, form_masks, formed, in_forms, joins_runs, mask_between, rphf_len, with_forms_for, with_instead, with_rphf, with_syllable_masks}
 use Rattle.shapers_breaks.specs.ScriptBreaks.{FormsOffFlags}
 use Rattle.shapers_breaks.specs.SetUp.{IsFlagged}
-use Rattle.shapers_breaks.proofs.CircledBorders.{opened}
+use Rattle.shapers_breaks.proofs.CircledBorders.{opened_piece}
 use Rattle.shapers_breaks.proofs.Guarded.{IsWhole, LeastOrFlagged}
-use Rattle.shapers_breaks.proofs.SetUp.{AllAsLong, AsLong, Glyphs, IsGuarded}
+use Rattle.shapers_breaks.proofs.SetUp.{AllAsLong, Glyphs, IsGuarded}
 
 -- cluster and byte stay, and both flags
 pub record KeepsShape (g h : hb_glyph_info_t) : Type 0 where
@@ -77,9 +77,11 @@ instead_kept bits mask off fits g =
       byte = refl;
       flags = λ f.
           let a : bit_at 0 mask ≤ 1 = omega arith in
-          let b : bit_at 1 mask ≤ 1 = omega arith in
-          (omega (arith, bit_at_or left mask 0, bit_at_and g.mask k 0, f.0, a, k0), omega
-          (arith, bit_at_or left mask 1, bit_at_and g.mask k 1, f.1, b, k1));
+          let b : bit_at 1 mask ≤ 1 = omega arith in (
+            omega (arith, bit_at_or left mask 0, bit_at_and g.mask k 0, f.0, a, k0),
+            omega
+                (arith, bit_at_or left mask 1, bit_at_and g.mask k 1, f.1, b, k1),
+          );
     }
 
 mapped_kept : (f : hb_glyph_info_t → hb_glyph_info_t) → ((g : hb_glyph_info_t) → KeepsShape g (f g)) → (gs : Glyphs)
@@ -129,9 +131,9 @@ rphfs_kept mask [] = tt
 rphfs_kept mask (syl ∷ syls) = all_append KeepsShape syl (with_rphf mask syl) (flat_map (λ s. s) syls)
     (flat_map (with_rphf mask) syls) (rphf_kept mask syl) (rphfs_kept mask syls)
 
-pub masks_kept : (kept : PlanData) (m : Map) → FormsOffFlags (arabic_of kept) m → (gs : Glyphs) → KeepShapes gs
+pub set_up_kept : (kept : PlanData) (m : Map) → FormsOffFlags (arabic_of kept) m → (gs : Glyphs) → KeepShapes gs
     (with_syllable_masks kept m gs)
-masks_kept kept m off gs =
+set_up_kept kept m off gs =
     let mid = flat_map (with_rphf (rphf_of kept)) (syllables gs) in
     let first = subst (λ xs. KeepShapes xs mid) (joined-syllables gs) (rphfs_kept (rphf_of kept) (syllables gs)) in
     all_on gs mid (with_syllable_masks kept m gs) first (forms_for_kept (arabic_of kept) m off mid)
@@ -183,12 +185,14 @@ syllables_kept (g ∷ gs) (x ∷ xs) h = opening_kept g x (syllables gs) (syllab
 -- so texts stay without a break inside spans
 whole_kept : (p q : Glyphs) → KeepShapes p q → IsWhole p → IsWhole q
 whole_kept p q k h =
-    let d = default_glyph in
-    (h.0, All-from_get_or (LeastOrFlagged h.0) q d (λ i l.
-    let il : i < length p = omega (arith, long_kept p q k, l) in
-    let r = AllZip-get_or KeepsShape p q i d d k il in
-    let o = All-get_or (LeastOrFlagged h.0) p i d il h.1 in
-    (omega (arith, o.0, r.cluster), λ ne. r.flags (o.1 (λ e. ne (r.cluster ∙ e))))))
+    let d = default_glyph in (
+      h.0,
+      All-from_get_or (LeastOrFlagged h.0) q d (λ i l.
+          let il : i < length p = omega (arith, long_kept p q k, l) in
+          let r = AllZip-get_or KeepsShape p q i d d k il in
+          let o = All-get_or (LeastOrFlagged h.0) p i d il h.1 in
+          (omega (arith, o.0, r.cluster), λ ne. r.flags (o.1 (λ e. ne (r.cluster ∙ e))))),
+    )
 
 pieces_whole : (ps qs : List Glyphs) → KeepPieces ps qs → AllByRecursion IsWhole ps → AllByRecursion IsWhole qs
 pieces_whole [] [] k h = tt
@@ -224,8 +228,9 @@ length-with_circle rule p =
     let n = rephas_len rule.repha p in
     length-append (take n p) (circle_in p rule.circle ∷ drop n p) ∙ omega (arith, length-take n p, length-drop n p)
 
-length-opened : (circles : Option DottedCircles) (p q : Glyphs) → KeepShapes p q → length (opened circles q) ≡ length
-    (opened circles p)
+length-opened : (circles : Option DottedCircles) (p q : Glyphs) → KeepShapes p q → length (opened_piece circles q)
+    ≡ length
+    (opened_piece circles p)
 length-opened None p q h = long_kept p q h
 length-opened (Some rule) p q h =
     let n = long_kept p q h in
@@ -239,12 +244,12 @@ length-opened (Some rule) p q h =
     (is_of_kind rule.broken_kind p)
 
 pub length-all_opened : (circles : Option DottedCircles) (ps qs : List Glyphs) → KeepPieces ps qs → length
-    (flat_map (opened circles) qs) ≡ length (flat_map (opened circles) ps)
+    (flat_map (opened_piece circles) qs) ≡ length (flat_map (opened_piece circles) ps)
 length-all_opened circles [] [] h = refl
 length-all_opened circles [] (q ∷ qs) h = absurd h
 length-all_opened circles (p ∷ ps) [] h = absurd h
 length-all_opened circles (p ∷ ps) (q ∷ qs) h =
-    let F = opened circles in
+    let F = opened_piece circles in
     length-append (F q) (flat_map F qs) ∙ omega
     (arith, length-opened circles p q h.0, length-all_opened circles ps qs h.1) ∙ sym
     (length-append (F p) (flat_map F ps))

@@ -3,3 +3,4 @@ pub mod SetUp
 pub mod PauseBreaks
 pub mod ScriptBreaks
 pub mod MarkBreaks
+pub mod KeptFlags

@@ -1,5 +1,5 @@
--- Where a text of each syllabic shaper may be broken, by its own pauses, directly one after another.
-use Rattle.std.specs.Prelude.{ℕ, ◌%◌, ◌≤◌, ◌≡◌, true, List, All, Option, None, Some, length}
+-- Where a text of a syllabic shaper may be broken, by the shaper's own pauses.
+use Rattle.std.specs.Prelude.{◌%◌, ◌≤◌, ◌≡◌, true, List, All, Option, None, Some, length}
 use Rattle.shapers_buffer.specs.declared.buffer.glyph.hb_glyph_info_t.{hb_glyph_info_t}
 use Rattle.shapers_buffer.specs.declared.buffer.syllables.Span.{Span}
 use Rattle.shapers_buffer.specs.Buffer.{Buffer}
@@ -22,8 +22,8 @@ use Rattle.shapers_universal.specs.UniversalSyllables.{all_forms, form_masks}
 use Rattle.rustybuzz_shapers.specs.Pauses.{Paused, Reordering, by_myanmar, by_universal}
 use Rattle.shapers_breaks.specs.PauseBreaks.{AtMostOneRepha, BreaksBetweenSpans}
 
--- a text and its spans for which the laws hold: spans of kinds up to 15 that cover it, clusters that
--- rise or fall along it, and a level that merges
+-- what the laws require of a text and its spans: spans of kinds up to 15 that cover it, clusters
+-- that rise or fall along it, and a level that merges
 pub record CanBreak (spans : List Span) (old : Buffer) : Type 0 where
   pub kinds : All (λ span. span.kind ≤ 15) spans
   pub covered : spans_cover (length old.glyphs) spans ≡ true
@@ -31,8 +31,8 @@ pub record CanBreak (spans : List Span) (old : Buffer) : Type 0 where
   pub monotone : IsMonotone (clusters old.glyphs)
 
 -- A set-up by spans and the reordering that runs directly after it, with what it goes by: the text
--- may be broken at every clear place. Where circles open behind rephas, no syllable may open with two
--- of these, as none of a grammar does.
+-- may be broken at every clear place. Where circles open behind rephas, no syllable may open with
+-- two of these, as none of a grammar does.
 abbrev pub PausesBreakBy : Pause → Pause → (hb_ot_shape_plan_t → Font → Buffer → Reordering) →
     Type 0
 PausesBreakBy set_up pause by = (plan : hb_ot_shape_plan_t) (font : Font) (spans unread : List Span)

@@ -5,6 +5,7 @@
 ghost use Rattle.rustybuzz_shapers.specs.Pauses.{by_khmer, by_myanmar};
 ghost use Rattle.shapers_base.specs.declared.plan.pause.Pause.TheVariants.{ReorderKhmer, ReorderMyanmar, SetupSyllablesKhmer, SetupSyllablesMyanmar};
 ghost use Rattle.shapers_breaks.specs.ClearSteps.{ClearBeforeLaw};
+ghost use Rattle.shapers_breaks.specs.KeptFlags.{AddedFlagsClearNone, PausesClearNone};
 ghost use Rattle.shapers_breaks.specs.MarkBreaks.{MarksBreakLaw};
 ghost use Rattle.shapers_breaks.specs.PauseBreaks.{PausesBreakLaw};
 ghost use Rattle.shapers_breaks.specs.ScriptBreaks.{MyanmarHasNoRepha, PausesBreakBy, UniversalPausesBreak};
@@ -55,3 +56,15 @@ pub fn script_breaks_law()
 pub fn marks_break_law()
     ensures { MarksBreakLaw }
 {}
+
+/// Flags that forbid a break outlive what comes later: a place that is clear after masks are set, or
+/// after a pause, was clear before; of pauses that reorder, where clusters rise or fall, at the levels
+/// that merge. Nothing is said of the reorderings of Indic.
+pub fn kept_flags_law()
+    ensures masks { AddedFlagsClearNone }
+    ensures pauses { PausesClearNone }
+{
+    khmer_reorder_laws();
+    myanmar_reorder_laws();
+    universal_reorder_laws();
+}

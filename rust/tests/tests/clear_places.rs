@@ -316,14 +316,14 @@ fn universal_breaks_at_every_clear_place_but_for_masks_of_forms() {
     assert!(counts.clear > 1000 && counts.flagged > 1000, "{counts:?}");
 }
 
-/// A font that answers by these.
-struct AnsweringFont<N, A, L> {
+/// A font whose results are those of these functions.
+struct FontOf<N, A, L> {
     nominal: N,
     advance: A,
     applies: L,
 }
 
-impl<N, A, L> Font for AnsweringFont<N, A, L>
+impl<N, A, L> Font for FontOf<N, A, L>
 where
     N: Fn(u32) -> Option<GlyphId>,
     A: Fn(GlyphId) -> i32,
@@ -350,7 +350,7 @@ where
 fn indic_font(numbers: &mut Numbers) -> impl Font {
     let seed = numbers.draw();
     let has_circle = !numbers.once_in(4);
-    AnsweringFont {
+    FontOf {
         nominal: move |c| (has_circle || c != 0x25CC).then_some(GlyphId(c as u16)),
         advance: |_| 0,
         applies: move |lookup, glyphs: &[GlyphId], zero_context| {
@@ -366,7 +366,7 @@ fn indic_font(numbers: &mut Numbers) -> impl Font {
 /// A font with some characters of Hangul, of which some have a width.
 fn hangul_font(numbers: &mut Numbers) -> impl Font {
     let seed = numbers.draw();
-    AnsweringFont {
+    FontOf {
         nominal: move |c| (mixed(seed ^ u64::from(c)) & 3 != 0).then_some(GlyphId(c as u16)),
         advance: move |glyph: GlyphId| i32::from(mixed(seed ^ u64::from(glyph.0)) & 4 != 0),
         applies: |_, _: &[GlyphId], _| false,
@@ -375,7 +375,7 @@ fn hangul_font(numbers: &mut Numbers) -> impl Font {
 
 /// A font whose glyphs are as wide as their numbers say.
 fn wide_font() -> impl Font {
-    AnsweringFont {
+    FontOf {
         nominal: |_| None,
         advance: |glyph: GlyphId| i32::from(glyph.0),
         applies: |_, _: &[GlyphId], _| false,
