@@ -658,9 +658,10 @@ version = "0.0.0"
 edition = "2024"
 
 [features]
-default = ["std", "tables"]
+default = ["std", "tables", "text"]
 std = []
 tables = []
+text = ["tables"]
 
 [dependencies]
 twice = {{ path = "../twice" }}

@@ -56,13 +56,12 @@ fn pages_say_what_is_printed() {
         panic!("a script, and what it prints")
     };
     assert_eq!(&Run::new(&[], script).printed, printed);
-    let [printed, lines] = &blocks(&page, "Your own text")[..] else {
-        panic!("what is printed, and the lines of a word")
+    let [printed] = &blocks(&page, "Your own text")[..] else {
+        panic!("what is printed")
     };
     let text = "\u{1781}\u{17D2}\u{1798}\u{17C2}\u{179A}";
     let shaped = Run::new(&["--text", text, "--script", "khmer"], "");
     assert_eq!(&shaped.printed, printed);
-    assert_eq!(&Run::new(&["--lines", text], "").printed, lines);
 }
 
 // The programs that the repository proves have an input of their own, and what they print of it.

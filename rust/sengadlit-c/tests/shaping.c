@@ -469,6 +469,44 @@ static void try_callbacks(void)
     check("the length", sengadlit_buffer_get_glyph_infos(world.buffer, &length) != NULL && length == 3);
 }
 
+static jmp_buf inside;
+
+static sengadlit_bool_t jump_back(void *user_data, uint32_t unicode, uint32_t *glyph)
+{
+    (void)user_data, (void)unicode, (void)glyph;
+    longjmp(inside, 1);
+}
+
+/* A jump leaves a call on the buffer that is lent: a pause that looks for a dotted circle. */
+static sengadlit_bool_t jump_inside(const sengadlit_lookup_t *lookup, sengadlit_buffer_t *buffer)
+{
+    static const sengadlit_font_funcs_t jumping_funcs = {.nominal_glyph = jump_back};
+    static const sengadlit_font_t jumping = {&jumping_funcs, NULL};
+
+    (void)lookup;
+    sengadlit_buffer_set_state(buffer, SENGADLIT_BUFFER_STATE_HAS_BROKEN_SYLLABLE);
+    sengadlit_buffer_get_glyph_infos(buffer, NULL)[0].syllable = 0x10 | SENGADLIT_KHMER_SYLLABLE_BROKEN;
+    if (setjmp(inside) == 0) {
+        (void)sengadlit_run_pause(world.plan, SENGADLIT_PAUSE_REORDER_KHMER, &jumping, NULL, 0, buffer, NULL);
+        check("the jump", 0);
+    }
+    check("the call that it left", sengadlit_buffer_get_glyph_infos(buffer, NULL) == NULL);
+    return 1;
+}
+
+static void try_inner_jump(void)
+{
+    unsigned int messages = 0;
+
+    sengadlit_set_message_func(take_message, &messages);
+    expect_after("a jump within a lookup", jump_inside, SENGADLIT_INTERNAL, 0);
+    sengadlit_set_message_func(NULL, NULL);
+    check("a message", messages == 1);
+    lookup_7 = count_up;
+    set_text("\u1781\u17C2\u1784");
+    check("again", shape() == SENGADLIT_DONE);
+}
+
 static void try_jump(void)
 {
     lookup_7 = jump_away;
@@ -494,7 +532,10 @@ int main(int argc, char **argv)
     try_arguments();
     try_plan_without_lookups();
     try_callbacks();
-    if (argc > 1 && strcmp(argv[1], "jumps") == 0) try_jump();
+    if (argc > 1 && strcmp(argv[1], "jumps") == 0) {
+        try_inner_jump();
+        try_jump();
+    }
     sengadlit_shape_plan_destroy(plan);
     end_world();
     printf("%u passed, %u failed\n", passed, failed);
