@@ -1,5 +1,5 @@
 -- What a text of glyphs is, taken apart to the end.
-use Rattle.std.proofs.Common.{◌≡◌, ◌≢◌, ℕ, List, [], ◌∷◌, ◌++◌, map, Some, refl, sym, ap, ◌∙◌}
+use Rattle.std.proofs.Common.{◌≡◌, ◌≢◌, ℕ, List, [], ◌∷◌, ◌++◌, Some, refl, sym, ap, ◌∙◌}
 use Rattle.std.specs.List.{AllByRecursion, flat_map}
 use Rattle.std.proofs.lemmas.Grind.{flat_map-append}
 use Rattle.std.proofs.lemmas.List.{map-append}
@@ -56,15 +56,15 @@ pub own_of_view : (context : Context) (gs : List hb_glyph_info_t) → HaveOwnCla
 own_of_view context [] all = tt
 own_of_view context (g ∷ gs) all = (all.0, own_of_view context gs all.1)
 
-in_class : (class : ℕ → ℕ) (a b : ℕ) (xs : List ℕ) → a ≡ b → AllByRecursion (λ x. class x ≡ b) xs → AllByRecursion (λ x. class x ≡ a) xs
-in_class class a b [] e all = tt
-in_class class a b (x ∷ xs) e all = (all.0 ∙ sym e, in_class class a b xs e all.1)
+classed_alike : (class : ℕ → ℕ) (a b : ℕ) (xs : List ℕ) → a ≡ b → AllByRecursion (λ x. class x ≡ b) xs → AllByRecursion (λ x. class x ≡ a) xs
+classed_alike class a b [] e all = tt
+classed_alike class a b (x ∷ xs) e all = (all.0 ∙ sym e, classed_alike class a b xs e all.1)
 
 -- a mark taken apart is marks of its class, and marks of other classes are that
 pub mark_parts : (context : Context) (full : ℕ → List ℕ) → TakesApart context full → (g : hb_glyph_info_t) → IsMark context g → order.AllIn (mark_class context) (class_of g) (full g.glyph_id)
 mark_parts context full t g mark =
     let same = mark.0 in
-    in_class (mark_class context) (class_of g) (mark_class context g.glyph_id) (full g.glyph_id) same (t.marks g.glyph_id (λ none. mark.1 (same ∙ none)))
+    classed_alike (mark_class context) (class_of g) (mark_class context g.glyph_id) (full g.glyph_id) same (t.marks g.glyph_id (λ none. mark.1 (same ∙ none)))
 
 not_in : (class : ℕ → ℕ) (a b : ℕ) (xs : List ℕ) → (b ≢ 0) → (b ≢ a) → AllByRecursion (λ x. class x ≡ b) xs → order.NoneIn class a xs
 not_in class a b [] some other all = tt
@@ -83,4 +83,4 @@ other_parts context full t a (g ∷ gs) all =
 -- a mark passes marks of other classes
 pub mark_passes : (context : Context) (full : ℕ → List ℕ) → TakesApart context full → (g : hb_glyph_info_t) (gs : List hb_glyph_info_t) → IsMark context g → OtherMarks context (class_of g) gs → SameButForOrder (mark_class context) (full g.glyph_id ++ apart_text full gs) (apart_text full gs ++ full g.glyph_id)
 mark_passes context full t g gs mark others =
-    order.passes (mark_class context) (class_of g) (full g.glyph_id) (apart_text full gs) mark.1 (mark_parts context full t g mark) (other_parts context full t (class_of g) gs others)
+    order.pass_each (mark_class context) (class_of g) (full g.glyph_id) (apart_text full gs) mark.1 (mark_parts context full t g mark) (other_parts context full t (class_of g) gs others)

@@ -1,21 +1,19 @@
 -- Arabic's order of marks keeps a run equivalent: modifiers pass marks of lesser classes alone.
-use Rattle.std.proofs.Common.{◌≡◌, ◌≢◌, ◌+◌, ◌<◌, ◌≤◌, ◌&&◌, ℕ, Bool, true, false, cond, eqb, nat_lt, List, [], ◌∷◌, ◌++◌, length, map, take, drop, refl, sym, ap, ◌∙◌, subst, arith, append_assoc, eqb-true, suc}
+use Rattle.std.proofs.Common.{◌≡◌, ◌≢◌, ◌+◌, ◌<◌, ◌≤◌, ℕ, Bool, true, false, cond, eqb, nat_lt, List, [], ◌∷◌, ◌++◌, length, map, take, refl, sym, ap, ◌∙◌, subst, arith, append_assoc, eqb-true, suc}
 use Rattle.std.specs.List.{AllByRecursion, flat_map, list_any, prefix_len}
-use Rattle.std.proofs.lemmas.Bool.{and_parts, false≢true}
+use Rattle.std.proofs.lemmas.Bool.{and_parts}
 use Rattle.std.proofs.lemmas.Bool.Decides.{nat_tests}
 use Rattle.std.proofs.lemmas.List.{length-append, length-map}
-use Rattle.shapers_arabic.specs.Marks.{Marks, behind, front_of, has_lower_class, in_class, is_modifier_of, marks_merged, marks_reordered, modifiers, split_marks, with_modifiers_first}
-use Rattle.shapers_arabic.proofs.MarkLaws.{marks_view}
-use Rattle.shapers_arabic.proofs.MarkLists.{joined_parts, split-joined}
+use Rattle.shapers_arabic.specs.Marks.{behind, front_of, has_lower_class, in_class, is_modifier_of, modifiers, split_marks, with_modifiers_first}
+use Rattle.shapers_arabic.proofs.MarkLists.{split-joined}
 use Rattle.shapers_buffer.specs.declared.buffer.glyph.hb_glyph_info_t.{hb_glyph_info_t}
 use Rattle.shapers_buffer.specs.declared.buffer.modified_combining_class.TheConstants.{CCC22, CCC26}
-use Rattle.shapers_buffer.specs.Glyph.{characters}
 use Rattle.shapers_buffer.proofs.MappedLists.{all-append, map-hidden}
 use Rattle.shapers_normal.specs.Context.{Context}
 use Rattle.shapers_normal.specs.Sorting.{class_of, is_mark_glyph}
 use Rattle.shapers_normalize.proofs.ArabicAlone.{sum_joined}
 use Rattle.shapers_equivalence.specs.Equivalence.{SameButForOrder}
-use Rattle.shapers_equivalence.specs.Laws.{HaveOwnClasses, mark_class}
+use Rattle.shapers_equivalence.specs.Laws.{mark_class}
 use Rattle.shapers_equivalence.proofs.Projections as order
 use Rattle.shapers_equivalence.proofs.Apart.{AreMarks, IsMark, OtherMarks, Same, TakesApart, apart_text, apart-append, mark_parts, other_parts}
 
@@ -83,7 +81,7 @@ all_in context full t a (g ∷ gs) all =
 -- marks of one class pass marks of others
 block_passes : (context : Context) (full : ℕ → List ℕ) → TakesApart context full → (a : ℕ) (xs ys : Glyphs) → a ≢ 0 → InClass context a xs → OtherMarks context a ys → SameButForOrder (mark_class context) (apart_text full xs ++ apart_text full ys) (apart_text full ys ++ apart_text full xs)
 block_passes context full t a xs ys some p q =
-    order.passes (mark_class context) a (apart_text full xs) (apart_text full ys) some (all_in context full t a xs p) (other_parts context full t a ys q)
+    order.pass_each (mark_class context) a (apart_text full xs) (apart_text full ys) some (all_in context full t a xs p) (other_parts context full t a ys q)
 
 pub marks_parts : (context : Context) (gs hs : Glyphs) → AreMarks context (gs ++ hs) → AreMarks context gs × AreMarks context hs
 marks_parts context [] hs all = (tt, all)
@@ -91,8 +89,8 @@ marks_parts context (g ∷ gs) hs all = let rest = marks_parts context gs hs all
 
 -- ---- the parts in their new order
 
-moved : (class : ℕ → ℕ) (l b m a r : List ℕ) → SameButForOrder class (b ++ l) (l ++ b) → SameButForOrder class (a ++ (l ++ m)) ((l ++ m) ++ a) → SameButForOrder class (b ++ (a ++ (l ++ (m ++ r)))) (l ++ (b ++ (m ++ (a ++ r))))
-moved class l b m a r one two = λ k.
+parts_moved : (class : ℕ → ℕ) (l b m a r : List ℕ) → SameButForOrder class (b ++ l) (l ++ b) → SameButForOrder class (a ++ (l ++ m)) ((l ++ m) ++ a) → SameButForOrder class (b ++ (a ++ (l ++ (m ++ r)))) (l ++ (b ++ (m ++ (a ++ r))))
+parts_moved class l b m a r one two = λ k.
     order.as_is class (b ++ (a ++ (l ++ (m ++ r)))) (b ++ ((a ++ (l ++ m)) ++ r)) (ap (λ xs. b ++ xs) (ap (λ xs. a ++ xs) (sym (append_assoc l m r)) ∙ sym (append_assoc a (l ++ m) r))) k
     ∙ order.beside class b ((a ++ (l ++ m)) ++ r) b (((l ++ m) ++ a) ++ r) (order.same class b) (order.beside class (a ++ (l ++ m)) r ((l ++ m) ++ a) r two (order.same class r)) k
     ∙ order.as_is class (b ++ (((l ++ m) ++ a) ++ r)) ((b ++ l) ++ (m ++ (a ++ r))) (ap (λ xs. b ++ xs) (append_assoc (l ++ m) a r ∙ append_assoc l m (a ++ r)) ∙ sym (append_assoc b l (m ++ (a ++ r)))) k
@@ -142,5 +140,5 @@ arabic_same context full t gs marks =
     (all-append (λ g. IsMark context g × (class_of g ≢ 230)) s.low s.middle (lower_out context 220 230 s.low (omega arith) one.0 low) (lower_out context 230 230 s.middle (omega arith) three_parts.0 middle))) in
     λ k.
     order.as_is class (text (arabic_arranged gs)) (text s.modifiers_below ++ (text s.modifiers_above ++ (text s.low ++ (text s.middle ++ text s.rest)))) new k
-    ∙ moved class (text s.low) (text s.modifiers_below) (text s.middle) (text s.modifiers_above) (text s.rest) first last k
+    ∙ parts_moved class (text s.low) (text s.modifiers_below) (text s.middle) (text s.modifiers_above) (text s.rest) first last k
     ∙ order.as_is class (text s.low ++ (text s.modifiers_below ++ (text s.middle ++ (text s.modifiers_above ++ text s.rest)))) (text gs) (sym old) k

@@ -1,5 +1,5 @@
 -- Full decompositions and equivalent texts, and where the law ends.
-use Rattle.std.specs.Prelude.{◌≡◌, ℕ, ◌==◌, not, ◌&&◌, ◌||◌, Bool, true, false, List, [], ◌∷◌, ◌++◌, find, map, replicate, Option, None, Some, option_map, if◌then◌else◌, refl}
+use Rattle.std.specs.Prelude.{◌≡◌, ℕ, ◌==◌, not, ◌&&◌, ◌||◌, true, false, List, [], ◌∷◌, ◌++◌, find, map, replicate, Option, None, Some, option_map, if◌then◌else◌, refl}
 use Rattle.std.specs.List.{enumerate_from, list_any}
 use Rattle.std.specs.Option.{option_map_or}
 use Rattle.rustybuzz_shapers.specs.declared.shaper.hb_ot_shaper_t.{hb_ot_shaper_t}
@@ -9,7 +9,6 @@ use Rattle.shapers_base.specs.declared.plan.record.NormalizationMode.TheVariants
 use Rattle.shapers_buffer.specs.declared.buffer.category.hb_unicode_general_category_t.{hb_unicode_general_category_t}
 use Rattle.shapers_buffer.specs.declared.buffer.category.hb_unicode_general_category_t.TheVariants.{Lo, Mn}
 use Rattle.shapers_buffer.specs.declared.buffer.glyph.hb_glyph_info_t.{hb_glyph_info_t}
-use Rattle.shapers_buffer.specs.declared.buffer.level.BufferClusterLevel.{BufferClusterLevel}
 use Rattle.shapers_buffer.specs.declared.buffer.level.BufferClusterLevel.TheVariants.{MonotoneGraphemes}
 use Rattle.shapers_buffer.specs.Glyph.{characters, default_glyph}
 use Rattle.shapers_normal.specs.Context.{Context}
@@ -17,7 +16,7 @@ use Rattle.shapers_normal.specs.Normalization.{normalized}
 use Rattle.shapers_normal.specs.Properties.{as_character}
 use Rattle.shapers_normal.specs.declared.ot_shape_normalize.normalizing.Rounds.TheVariants.{Always}
 use Rattle.shapers_normalize.specs.ByShaper.{ordered_for}
-use Rattle.shapers_equivalence.specs.Equivalence.{apart_in_steps, full_decomposition, fully_decomposed, in_order, with_marks_of}
+use Rattle.shapers_equivalence.specs.Equivalence.{apart_in_steps, full_decomposition, fully_decomposed, ordered_by_classes, with_marks_of}
 use Rattle.shapers_equivalence.specs.Laws.{has_short_runs, in_canonical_order, mark_class}
 
 -- Unicode's pairs of some characters: the Angstrom sign comes apart into one, 0344 is a mark, 0958
@@ -84,10 +83,10 @@ over_a_letter : map (with_marks_of class_in 230) ((0x301 ∷ 0x41 ∷ []) ∷ (0
 over_a_letter = refl
 
 -- each run class by class, those of one class in their order; marks in front, classes 1 and 255
-ordered : in_order class_in (0x307 ∷ 0x323 ∷ 0x41 ∷ 0x301 ∷ 0x316 ∷ 0x30A ∷ 0x323 ∷ 0x42 ∷ []) ≡ 0x323 ∷ 0x307 ∷ 0x41 ∷ 0x316 ∷ 0x323 ∷ 0x301 ∷ 0x30A ∷ 0x42 ∷ []
+ordered : ordered_by_classes class_in (0x307 ∷ 0x323 ∷ 0x41 ∷ 0x301 ∷ 0x316 ∷ 0x30A ∷ 0x323 ∷ 0x42 ∷ []) ≡ 0x323 ∷ 0x307 ∷ 0x41 ∷ 0x316 ∷ 0x323 ∷ 0x301 ∷ 0x30A ∷ 0x42 ∷ []
 ordered = refl
 
-all_classes : in_order (λ c. c) (255 ∷ 1 ∷ 0 ∷ 2 ∷ []) ≡ 1 ∷ 255 ∷ 0 ∷ 2 ∷ []
+all_classes : ordered_by_classes (λ c. c) (255 ∷ 1 ∷ 0 ∷ 2 ∷ []) ≡ 1 ∷ 255 ∷ 0 ∷ 2 ∷ []
 all_classes = refl
 
 -- the second of two neighbours in no lesser class, or in class 0

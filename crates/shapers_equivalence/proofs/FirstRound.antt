@@ -1,6 +1,6 @@
 -- The first round keeps what a text is, taken apart to the end.
-use Rattle.std.proofs.Common.{◌≡◌, ◌==◌, ◌+◌, ◌-◌, ℕ, zero, suc, Bool, true, false, ◌||◌, ◌&&◌, cond, nat_le, List, [], ◌∷◌, ◌++◌, map, Option, None, Some, refl, sym, ap, ◌∙◌, subst, append_assoc}
-use Rattle.std.specs.List.{AllByRecursion, flat_map, list_any}
+use Rattle.std.proofs.Common.{◌≡◌, ◌==◌, ℕ, zero, suc, Bool, true, false, ◌||◌, ◌&&◌, cond, nat_le, List, [], ◌∷◌, ◌++◌, map, Option, None, Some, refl, sym, ap, ◌∙◌, subst}
+use Rattle.std.specs.List.{flat_map, list_any}
 use Rattle.std.specs.Option.{option_map_or}
 use Rattle.std.proofs.lemmas.Bool.{false≢true, or_parts}
 use Rattle.std.proofs.lemmas.Grind.{flat_map-append}
@@ -14,13 +14,13 @@ use Rattle.shapers_buffer.specs.declared.buffer.glyph.hb_glyph_info_t.{hb_glyph_
 use Rattle.shapers_buffer.specs.declared.buffer.level.BufferClusterLevel.{BufferClusterLevel}
 use Rattle.shapers_buffer.specs.Category.{is_mark}
 use Rattle.shapers_buffer.specs.Glyph.{characters, order_view, plain}
-use Rattle.shapers_buffer.proofs.MappedLists.{all-append, list_any-map, map-hidden}
+use Rattle.shapers_buffer.proofs.MappedLists.{all-append, list_any-map}
 use Rattle.shapers_normal.specs.Context.{Context, has_glyph}
-use Rattle.shapers_normal.specs.Decomposition.{apart_in, apart_way, as_part, becomes, cluster_becomes, come_off, drawn_space, first_round, glyph_number, image, is_space_separator, mark_clusters, text_decomposed, with_own_glyph, without_glyph, written_as}
+use Rattle.shapers_normal.specs.Decomposition.{apart_in, apart_way, as_part, becomes, cluster_becomes, come_off, first_round, glyph_number, image, is_space_separator, mark_clusters, text_decomposed, with_own_glyph, without_glyph, written_as}
 use Rattle.shapers_normal.specs.DecompositionWalk.{or_base_alone, then_come_off}
-use Rattle.shapers_normal.specs.Properties.{as_character, is_ignorable_in, joiner_class}
+use Rattle.shapers_normal.specs.Properties.{as_character, joiner_class}
 use Rattle.shapers_normal.specs.Sorting.{class_of, is_mark_glyph}
-use Rattle.shapers_normal.specs.Variants.{cut_before_others, forms_written, is_kept_cluster, is_selector_glyph, selects_form, variants_joined}
+use Rattle.shapers_normal.specs.Variants.{forms_written, is_kept_cluster, is_selector_glyph, variants_joined}
 use Rattle.shapers_normal.proofs.Apart.{apart_blocked, apart_further, apart_none, apart_not}
 use Rattle.shapers_normal.proofs.Monotone.{together_cut}
 use Rattle.shapers_normal.proofs.Pairs.{together}

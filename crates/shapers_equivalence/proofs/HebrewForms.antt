@@ -1,6 +1,6 @@
 -- Hebrew's forms are equivalent to the letters and points that compose to them.
-use Rattle.std.proofs.Common.{◌≡◌, ◌≢◌, ◌+◌, ◌-◌, ◌<◌, ◌≤◌, ◌&&◌, ◌||◌, ◌⊎◌, inl, inr, not, ℕ, Bool, true, false, cond, eqb, nat_le, List, [], ◌∷◌, ◌++◌, Option, None, Some, find, refl, sym, ap, ap₂, ◌∙◌, subst, arith, eqb-true}
-use Rattle.std.specs.List.{AllByRecursion, flat_map, list_all}
+use Rattle.std.proofs.Common.{◌≡◌, ◌+◌, ◌-◌, ◌<◌, ◌&&◌, ◌||◌, not, ℕ, Bool, true, false, cond, eqb, nat_le, List, [], ◌∷◌, Option, None, Some, find, refl, sym, ap, ◌∙◌, subst, arith, eqb-true}
+use Rattle.std.specs.List.{list_all}
 use Rattle.std.specs.Option.{option_map, option_map_or}
 use Rattle.std.proofs.lemmas.Bool.{and_parts, false≢true, leb-true}
 use Rattle.std.proofs.lemmas.Bool.Decides.{nat_tests}
@@ -8,14 +8,14 @@ use Rattle.std.proofs.lemmas.Option.{none-some}
 use Rattle.ucd_table.proofs.Computing.{tables}
 use Rattle.ucd_table.proofs.GroupsCheck.{same_string, same_string-true}
 use Rattle.ucd_table.proofs.TrieCheck.{all_below, all_below-at}
-use Rattle.shapers_text.specs.Hebrew.{composed_in_hebrew, hebrew_form, is_in_dagesh_row, lacks_dagesh, pairs}
+use Rattle.shapers_text.specs.Hebrew.{composed_in_hebrew, is_in_dagesh_row, lacks_dagesh, pairs}
 use Rattle.shapers_unicode.specs.ClassRows.{class_rows}
 use Rattle.shapers_unicode.specs.Classes.{changed_classes, class_exceptions, modified_class}
 use Rattle.shapers_unicode.specs.General.{general_category}
 use Rattle.shapers_unicode.specs.GeneralRows.{general_rows}
 use Rattle.shapers_unicode.specs.MappingRows.{mapping_rows}
 use Rattle.shapers_unicode.specs.Pairs.{as_pair, canonical_mapping, composed, decomposed}
-use Rattle.shapers_equivalence.specs.Equivalence.{CanonicallyEquivalent, full_decomposition, fully_decomposed}
+use Rattle.shapers_equivalence.specs.Equivalence.{CanonicallyEquivalent, fully_decomposed}
 use Rattle.shapers_equivalence.proofs.Projections as order
 use Rattle.shapers_equivalence.proofs.UnicodePairs.{ApartInto, composed_apart, no_syllable, own_class, same_text}
 
@@ -115,7 +115,7 @@ shin_alike : (a c dot n : ℕ) → fully_decomposed decomposed (c ∷ []) ≡ 0x
 shin_alike a c dot n whole parts is some few = λ k.
     order.as_is own_class (fully_decomposed decomposed (c ∷ [])) (0x05E9 ∷ 0x05BC ∷ dot ∷ []) whole k
     ∙ order.beside own_class (0x05E9 ∷ []) (0x05BC ∷ dot ∷ []) (0x05E9 ∷ []) (dot ∷ 0x05BC ∷ []) (order.same own_class (0x05E9 ∷ []))
-    (order.passes own_class 12 (0x05BC ∷ []) (dot ∷ []) (λ e. absurd (omega arith)) (dagesh, tt) (((λ e. absurd (omega arith)), (λ e. absurd (omega arith))), tt)) k
+    (order.pass_each own_class 12 (0x05BC ∷ []) (dot ∷ []) (λ e. absurd (omega arith)) (dagesh, tt) (((λ e. absurd (omega arith)), (λ e. absurd (omega arith))), tt)) k
     ∙ order.as_is own_class (0x05E9 ∷ dot ∷ 0x05BC ∷ []) (fully_decomposed decomposed (a ∷ 0x05BC ∷ [])) (sym parts) k
 
 row_alike : (p : ℕ × ℕ × ℕ) (a b c : ℕ) → is_row p a b c ≡ true → Alike a b c → Alike p.0 p.1 p.2

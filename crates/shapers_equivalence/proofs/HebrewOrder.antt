@@ -1,6 +1,5 @@
 -- Hebrew's order of marks keeps a run equivalent: two marks of different classes change places.
-use Rattle.std.proofs.Common.{◌≡◌, ◌≢◌, ◌+◌, ◌-◌, ◌<◌, ◌≤◌, ◌&&◌, ◌||◌, ℕ, zero, suc, Bool, true, false, cond, eqb, List, [], ◌∷◌, ◌++◌, length, map, take, drop, get_or, set, Option, None, Some, refl, sym, ap, ◌∙◌, subst, arith, append_assoc}
-use Rattle.std.specs.List.{AllByRecursion}
+use Rattle.std.proofs.Common.{◌≡◌, ◌≢◌, ◌+◌, ◌<◌, ◌≤◌, ◌&&◌, ℕ, suc, Bool, true, false, cond, List, [], ◌∷◌, ◌++◌, length, take, drop, get_or, set, Option, None, Some, refl, sym, ap, ◌∙◌, subst, arith, append_assoc}
 use Rattle.std.specs.Option.{option_map, option_map_or}
 use Rattle.std.specs.Prelude.{swap}
 use Rattle.std.proofs.Math.Seq.{get_or-append_seam, set-append_seam}
@@ -16,7 +15,7 @@ use Rattle.shapers_clusters.specs.Steps.{run_step}
 use Rattle.shapers_normal.specs.Context.{Context}
 use Rattle.shapers_normal.specs.Sorting.{class_of}
 use Rattle.shapers_normalize.proofs.HebrewAlone.{within}
-use Rattle.shapers_text.specs.Hebrew.{hebrew_mark_step, is_meteg_or_below, is_patah_or_qamats, is_sheva_or_hiriq, marks_swapped, opens_triple, triple_place}
+use Rattle.shapers_text.specs.Hebrew.{hebrew_mark_step, is_meteg_or_below, is_patah_or_qamats, is_sheva_or_hiriq, opens_triple, triple_place}
 use Rattle.shapers_text.proofs.HebrewLemmas.{marks_view, swapped}
 use Rattle.shapers_equivalence.specs.Equivalence.{SameButForOrder}
 use Rattle.shapers_equivalence.specs.Laws.{mark_class}
@@ -56,11 +55,11 @@ record IsTriple (gs : Glyphs) (j : ℕ) : Type 0 where
   place : length front ≡ j
   opens : opens_triple (a ∷ (b ∷ (c ∷ rest))) ≡ true
 
-opened : (gs : Glyphs) → opens_triple gs ≡ true → IsTriple gs 0
-opened [] e = absurd (false≢true e)
-opened (a ∷ []) e = absurd (false≢true e)
-opened (a ∷ (b ∷ [])) e = absurd (false≢true e)
-opened (a ∷ (b ∷ (c ∷ rest))) e = record { front = []; a = a; b = b; c = c; rest = rest; text = refl; place = refl; opens = e }
+opened_triple : (gs : Glyphs) → opens_triple gs ≡ true → IsTriple gs 0
+opened_triple [] e = absurd (false≢true e)
+opened_triple (a ∷ []) e = absurd (false≢true e)
+opened_triple (a ∷ (b ∷ [])) e = absurd (false≢true e)
+opened_triple (a ∷ (b ∷ (c ∷ rest))) e = record { front = []; a = a; b = b; c = c; rest = rest; text = refl; place = refl; opens = e }
 
 later : (g : hb_glyph_info_t) (gs : Glyphs) (o : Option ℕ) (j : ℕ) → option_map suc o ≡ Some j → ((k : ℕ) → o ≡ Some k → IsTriple gs k) → IsTriple (g ∷ gs) j
 later g gs None j e ih = absurd (none-some j e)
@@ -70,7 +69,7 @@ later g gs (Some k) j e ih =
     record { front = g ∷ t.front; a = t.a; b = t.b; c = t.c; rest = t.rest; text = ap (λ xs. g ∷ xs) t.text; place = ap suc t.place ∙ next; opens = t.opens }
 
 triple_by : (g : hb_glyph_info_t) (gs : Glyphs) (j : ℕ) (b : Bool) → opens_triple (g ∷ gs) ≡ b → cond b (Some 0) (option_map suc (triple_place gs)) ≡ Some j → ((k : ℕ) → triple_place gs ≡ Some k → IsTriple gs k) → IsTriple (g ∷ gs) j
-triple_by g gs j true e found ih = let is : 0 ≡ j = ap (λ o. option_map_or (λ n. n) o 0) found in subst (IsTriple (g ∷ gs)) is (opened (g ∷ gs) e)
+triple_by g gs j true e found ih = let is : 0 ≡ j = ap (λ o. option_map_or (λ n. n) o 0) found in subst (IsTriple (g ∷ gs)) is (opened_triple (g ∷ gs) e)
 triple_by g gs j false e found ih = later g gs (triple_place gs) j found ih
 
 triple_at : (gs : Glyphs) (j : ℕ) → triple_place gs ≡ Some j → IsTriple gs j
@@ -135,7 +134,7 @@ differ x y one other = grind (arith, nat_tests)
 
 two_pass : (context : Context) (full : ℕ → List ℕ) → TakesApart context full → (b c : hb_glyph_info_t) → IsMark context b → IsMark context c → class_of b ≢ class_of c → SameButForOrder (mark_class context) (full c.glyph_id ++ full b.glyph_id) (full b.glyph_id ++ full c.glyph_id)
 two_pass context full t b c mb mc other =
-    order.passes (mark_class context) (class_of c) (full c.glyph_id) (full b.glyph_id) mc.1 (mark_parts context full t c mc)
+    order.pass_each (mark_class context) (class_of c) (full c.glyph_id) (full b.glyph_id) mc.1 (mark_parts context full t c mc)
     (subst (order.NoneIn (mark_class context) (class_of c)) (append-nil (full b.glyph_id)) (other_parts context full t (class_of c) (b ∷ []) ((mb, other), tt)))
 
 triple_same : (context : Context) (full : ℕ → List ℕ) → TakesApart context full → (front : Glyphs) (a b c : hb_glyph_info_t) (rest : Glyphs) → AreMarks context (front ++ a ∷ (b ∷ (c ∷ rest))) → opens_triple (a ∷ (b ∷ (c ∷ rest))) ≡ true → Same context full (front ++ a ∷ (c ∷ (b ∷ rest))) (front ++ a ∷ (b ∷ (c ∷ rest)))

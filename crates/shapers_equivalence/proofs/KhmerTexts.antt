@@ -1,8 +1,8 @@
 -- Khmer's texts without split vowels are normalized as if Khmer took apart by Unicode's pairs alone.
-use Rattle.std.proofs.Common.{◌≡◌, ◌≢◌, ◌==◌, ◌<◌, ◌-◌, ◌%◌, ◌⊎◌, inl, inr, ◌||◌, ◌&&◌, not, ℕ, zero, suc, Bool, true, false, cond, eqb, List, [], ◌∷◌, ◌++◌, map, Option, None, Some, refl, sym, ap, ◌∙◌, subst, arith}
+use Rattle.std.proofs.Common.{◌≡◌, ◌==◌, ◌<◌, ◌-◌, ◌%◌, ◌⊎◌, inl, inr, ◌||◌, not, ℕ, zero, suc, Bool, true, false, cond, List, [], ◌∷◌, ◌++◌, map, Option, None, Some, refl, sym, ap, ◌∙◌, subst, arith}
 use Rattle.std.specs.List.{AllByRecursion, find, flat_map, list_any}
 use Rattle.std.specs.Option.{option_map_or}
-use Rattle.std.proofs.lemmas.Bool.{and_parts, false≢true, or_parts}
+use Rattle.std.proofs.lemmas.Bool.{and_parts, or_parts}
 use Rattle.std.proofs.lemmas.Bool.Decides.{nat_tests}
 use Rattle.std.proofs.lemmas.Option.{none-some}
 use Rattle.ucd_table.proofs.Computing.{tables}
@@ -11,12 +11,11 @@ use Rattle.shapers_base.specs.declared.plan.record.NormalizationMode.{Normalizat
 use Rattle.shapers_base.specs.declared.plan.record.NormalizationMode.TheVariants as modes
 use Rattle.shapers_buffer.specs.declared.buffer.glyph.hb_glyph_info_t.{hb_glyph_info_t}
 use Rattle.shapers_buffer.specs.declared.buffer.level.BufferClusterLevel.{BufferClusterLevel}
-use Rattle.shapers_buffer.specs.Glyph.{characters, order_view, plain}
-use Rattle.shapers_buffer.proofs.MappedLists.{map-hidden}
+use Rattle.shapers_buffer.specs.Glyph.{order_view}
 use Rattle.shapers_hangul.specs.Hangul.{is_lv, is_s, lead, trail, vowel}
 use Rattle.shapers_khmer.specs.Khmer.{decomposed_in_khmer, split_vowels}
 use Rattle.shapers_normal.specs.Context.{Context, has_glyph}
-use Rattle.shapers_normal.specs.Decomposition.{apart_in, apart_way, becomes, cluster_becomes, come_off, first_round, image, mark_clusters, preferred, step_characters, steps_apart, text_decomposed, then_off, written_as}
+use Rattle.shapers_normal.specs.Decomposition.{apart_in, apart_way, becomes, cluster_becomes, come_off, first_round, image, mark_clusters, preferred, step_characters, steps_apart, then_off, written_as}
 use Rattle.shapers_normal.specs.Sorting.{is_mark_glyph}
 use Rattle.shapers_normal.specs.Variants.{forms_written, is_kept_cluster, variants_joined}
 use Rattle.shapers_normal.proofs.Monotone.{together_cut}
@@ -27,7 +26,7 @@ use Rattle.shapers_unicode.specs.Answers.{unicode_tables}
 use Rattle.shapers_unicode.specs.Pairs.{as_pair, canonical_mapping, decomposed, hangul_parts}
 use Rattle.shapers_unicode.proofs.CompositionLemmas.{is_empty}
 use Rattle.shapers_unicode.proofs.PairSteps.{mapping_stepped}
-use Rattle.shapers_equivalence.proofs.UnicodePairs.{bounds, empty_of, no_syllable, not_of, parts_all, syllable}
+use Rattle.shapers_equivalence.proofs.UnicodePairs.{within_bounds, empty_of, no_syllable, not_of, parts_all, syllable}
 
 -- a context that takes other characters apart in the same way
 record TakesAlike (context other : ℕ → Option (ℕ × ℕ)) (spared : ℕ → Bool) : Type 0 where
@@ -139,12 +138,12 @@ mapping_by c p false e h = pair_whole c (canonical_mapping c) p (mapped_whole c 
 
 hangul_whole : (c : ℕ) (lv : Bool) → is_lv c ≡ lv → is_s c ≡ true → is_split (hangul_parts c).0 ≡ false
 hangul_whole c true e is =
-    let inside = bounds 0xAC00 0xD7A3 c is in
+    let inside = within_bounds 0xAC00 0xD7A3 c is in
     let low = inside.0 in
     let high = inside.1 in
     ap (λ b. is_split (cond {A = ℕ × ℕ} b (lead c, vowel c) (c - (c - 0xAC00) % 28, trail c)).0) e ∙ outside (lead c) (inl (omega arith))
 hangul_whole c false e is =
-    let inside = bounds 0xAC00 0xD7A3 c is in
+    let inside = within_bounds 0xAC00 0xD7A3 c is in
     let low = inside.0 in
     let high = inside.1 in
     ap (λ b. is_split (cond {A = ℕ × ℕ} b (lead c, vowel c) (c - (c - 0xAC00) % 28, trail c)).0) e ∙ outside (c - (c - 0xAC00) % 28) (inr (omega arith))

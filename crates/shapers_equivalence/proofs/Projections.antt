@@ -1,5 +1,5 @@
 -- Texts with the marks of one class alone.
-use Rattle.std.proofs.Common.{◌≡◌, ◌≢◌, ◌||◌, ℕ, Bool, true, false, cond, eqb, List, [], ◌∷◌, ◌++◌, refl, sym, ap, ◌∙◌, arith, append_assoc}
+use Rattle.std.proofs.Common.{◌≡◌, ◌≢◌, ◌||◌, ℕ, Bool, true, false, cond, eqb, List, [], ◌∷◌, ◌++◌, refl, sym, ap, ◌∙◌, arith}
 use Rattle.std.specs.List.{AllByRecursion, filter}
 use Rattle.std.proofs.lemmas.Bool.Decides.{nat_tests}
 use Rattle.std.proofs.lemmas.List.{append-nil}
@@ -46,8 +46,8 @@ passes_by class a k xs ys false e some p q =
     marks-append class k xs ys ∙ ap (λ zs. zs ++ f ys) none ∙ sym (marks-append class k ys xs ∙ ap (λ zs. f ys ++ zs) none ∙ append-nil (f ys))
 
 -- marks of one class pass marks of others
-pub passes : (class : ℕ → ℕ) (a : ℕ) (xs ys : List ℕ) → a ≢ 0 → AllIn class a xs → NoneIn class a ys → SameButForOrder class (xs ++ ys) (ys ++ xs)
-passes class a xs ys some p q = λ k. passes_by class a k xs ys (eqb k a) refl some p q
+pub pass_each : (class : ℕ → ℕ) (a : ℕ) (xs ys : List ℕ) → a ≢ 0 → AllIn class a xs → NoneIn class a ys → SameButForOrder class (xs ++ ys) (ys ++ xs)
+pass_each class a xs ys some p q = λ k. passes_by class a k xs ys (eqb k a) refl some p q
 
 -- ---- as a relation
 

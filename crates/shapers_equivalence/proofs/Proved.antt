@@ -1,5 +1,5 @@
 -- The law of canonical equivalence.
-use Rattle.std.proofs.Common.{◌≡◌, ◌≢◌, ◌||◌, ◌&&◌, ℕ, zero, suc, Bool, true, false, cond, eqb, nat_le, List, [], ◌∷◌, ◌++◌, map, Some, refl, sym, ap, ◌∙◌, subst}
+use Rattle.std.proofs.Common.{◌≡◌, ◌≢◌, ◌||◌, ◌&&◌, ℕ, suc, Bool, true, false, cond, eqb, nat_le, List, [], ◌∷◌, ◌++◌, Some, refl, sym, ap, ◌∙◌}
 use Rattle.std.specs.List.{AllByRecursion, flat_map, list_any}
 use Rattle.std.specs.Option.{option_map_or}
 use Rattle.std.proofs.lemmas.List.{append-nil}
@@ -9,16 +9,16 @@ use Rattle.shapers_buffer.specs.Glyph.{characters}
 use Rattle.shapers_buffer.specs.Marks.{set_mark}
 use Rattle.shapers_normal.specs.Context.{Context}
 use Rattle.shapers_normal.specs.Decomposition.{come_off, first_round}
-use Rattle.shapers_normal.specs.Normalization.{composes, has_rounds, joiners_shown, later_rounds, normalized, passes_over, shown_behind}
+use Rattle.shapers_normal.specs.Normalization.{composes, has_rounds, joiners_shown, later_rounds, passes_over, shown_behind}
 use Rattle.shapers_normal.specs.Recomposition.{recomposed}
 use Rattle.shapers_normal.specs.Sorting.{class_of, classes, marks_ordered}
 use Rattle.shapers_normal.specs.Variants.{is_selector_glyph}
 use Rattle.shapers_equivalence.specs.Equivalence.{CharacterPairs, apart_in_steps, full_decomposition}
-use Rattle.shapers_equivalence.specs.Laws.{AreInOrder, ComesApartExactly, HaveOwnClasses, IsCanonical, IsOrderedRun, LeavesOrder, NormalizesEquivalently, OrdersEquivalently, OrdersMarksEquivalently, RunsNormalizeEquivalently, in_canonical_order, mark_class}
+use Rattle.shapers_equivalence.specs.Laws.{AreInOrder, ComesApartExactly, HaveOwnClasses, IsCanonical, NormalizesEquivalently, OrdersEquivalently, OrdersMarksEquivalently, RunsNormalizeEquivalently, in_canonical_order, mark_class}
 use Rattle.shapers_equivalence.proofs.Projections as order
 use Rattle.shapers_equivalence.proofs.Apart.{AreMarks, Same, TakesApart, apart_text, marks_own}
 use Rattle.shapers_equivalence.proofs.FirstRound.{first_keeps}
-use Rattle.shapers_equivalence.proofs.Insertion.{Sorted, in_order_of}
+use Rattle.shapers_equivalence.proofs.Insertion.{in_order_of}
 use Rattle.shapers_equivalence.proofs.SecondRound.{Arranges, second_same}
 use Rattle.shapers_equivalence.proofs.ShortRuns.{leaves, short_in_order}
 use Rattle.shapers_equivalence.proofs.ThirdRound.{third_same}
@@ -40,16 +40,16 @@ takes_apart pairs context i = record {
   marks = i.marks;
 }
 
-marked : (context : Context) (gs : List hb_glyph_info_t) → AreMarks context gs → AllByRecursion (λ g. class_of g ≢ 0) gs
-marked context [] all = tt
-marked context (g ∷ gs) all = (all.0.1, marked context gs all.1)
+all_marked : (context : Context) (gs : List hb_glyph_info_t) → AreMarks context gs → AllByRecursion (λ g. class_of g ≢ 0) gs
+all_marked context [] all = tt
+all_marked context (g ∷ gs) all = (all.0.1, all_marked context gs all.1)
 
 arranges : (pairs : CharacterPairs) (context : Context) → OrdersEquivalently pairs context → Arranges context (full_decomposition pairs)
 arranges pairs context o = record {
   arranged = o.arranged;
   same_length = o.same_length;
   of_run = o.of_run;
-  same = λ marks are s. o.equivalent marks (record { own = marks_own context marks are; marked = marked context marks are; ordered = in_order_of marks s });
+  same = λ marks are s. o.equivalent marks (record { own = marks_own context marks are; marked = all_marked context marks are; ordered = in_order_of marks s });
 }
 
 -- ---- grapheme joiners
@@ -93,20 +93,20 @@ joiners_alike context (g ∷ gs) = one_more context g g gs (shown_behind (class_
 
 -- ---- the rounds
 
-composed_by : (context : Context) (full : ℕ → List ℕ) → TakesApart context full → (level : BufferClusterLevel) (gs : List hb_glyph_info_t) (composing : Bool) → (composing ≡ true → AreInOrder context gs) → Same context full (cond composing (recomposed context level (joiners_shown gs)) (joiners_shown gs)) gs
-composed_by context full t level gs true o =
+composed_so : (context : Context) (full : ℕ → List ℕ) → TakesApart context full → (level : BufferClusterLevel) (gs : List hb_glyph_info_t) (composing : Bool) → (composing ≡ true → AreInOrder context gs) → Same context full (cond composing (recomposed context level (joiners_shown gs)) (joiners_shown gs)) gs
+composed_so context full t level gs true o =
     let a = joiners_alike context gs in
     let is = o refl in
     let in_order : AreInOrder context (joiners_shown gs) = record { own = a.own is.own; ordered = ap in_canonical_order a.class ∙ is.ordered } in
     λ k.
     third_same context full t level (joiners_shown gs) in_order k
     ∙ order.as_is (mark_class context) (apart_text full (joiners_shown gs)) (apart_text full gs) (ap (flat_map full) a.same) k
-composed_by context full t level gs false o =
+composed_so context full t level gs false o =
     order.as_is (mark_class context) (apart_text full (joiners_shown gs)) (apart_text full gs) (ap (flat_map full) (joiners_alike context gs).same)
 
 later_same : (context : Context) (full : ℕ → List ℕ) → TakesApart context full → Arranges context full → (level : BufferClusterLevel) (gs : List hb_glyph_info_t) (runs : Bool) → HaveOwnClasses context gs → ((runs && composes context.mode) ≡ true → AreInOrder context (marks_ordered context level gs)) → Same context full (later_rounds context runs level gs) gs
 later_same context full t a level gs true own o = λ k.
-    composed_by context full t level (marks_ordered context level gs) (composes context.mode) o k
+    composed_so context full t level (marks_ordered context level gs) (composes context.mode) o k
     ∙ second_same context full t a level gs own k
 later_same context full t a level gs false own o =
     order.as_is (mark_class context) (apart_text full (joiners_shown gs)) (apart_text full gs) (ap (flat_map full) (joiners_alike context gs).same)
@@ -131,8 +131,8 @@ orders_marks_so pairs context level gs i a text =
     second_same context full t (arranges pairs context a) level (first_round context level gs) first.own k
     ∙ order.as_is (mark_class context) (apart_text full (first_round context level gs)) (apart_text full gs) first.same k
 
-pub normalizes : NormalizesEquivalently
-normalizes pairs context rounds level gs i a text o =
+pub normalizes_so : NormalizesEquivalently
+normalizes_so pairs context rounds level gs i a text o =
     rounds_same context (full_decomposition pairs) (takes_apart pairs context i) (arranges pairs context a) level gs (has_rounds rounds gs) text.own text.no_selector o
 
 pub runs_normalize : RunsNormalizeEquivalently

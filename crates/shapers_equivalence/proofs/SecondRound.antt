@@ -1,26 +1,24 @@
 -- The second round, run after run.
-use Rattle.std.proofs.Common.{◌≡◌, ◌≢◌, ◌+◌, ◌-◌, ◌<◌, ◌≤◌, ◌||◌, ◌&&◌, ℕ, zero, suc, Bool, true, false, cond, eqb, nat_le, nat_lt, List, [], ◌∷◌, ◌++◌, length, map, take, drop, get_or, slice_index, refl, sym, ap, ◌∙◌, subst, arith, append_assoc}
-use Rattle.std.specs.List.{AllByRecursion, fold, list_all, range_with_len, slice_rotate_right, suffix_len}
+use Rattle.std.proofs.Common.{◌≡◌, ◌≢◌, ◌+◌, ◌-◌, ◌<◌, ◌≤◌, ◌&&◌, ℕ, Bool, true, false, cond, eqb, nat_le, nat_lt, List, [], ◌∷◌, ◌++◌, length, take, drop, slice_index, refl, sym, ap, ◌∙◌, arith, append_assoc}
+use Rattle.std.specs.List.{fold, range_with_len, slice_rotate_right, suffix_len}
 use Rattle.std.proofs.Math.Seq.{drop-append_seam, drop-length, get_or-append_seam, take-append_seam, take-length}
-use Rattle.std.proofs.lemmas.Bool.{and_parts, false≢true}
 use Rattle.std.proofs.lemmas.Bool.Decides.{nat_tests}
 use Rattle.std.proofs.lemmas.List.{append-nil, drop-map, length-append, length-drop, length-map, length-take-le, map-append, take-append-drop, take-map}
 use Rattle.std.proofs.lemmas.List.Sums.{suffix_len-le-length}
 use Rattle.shapers_buffer.specs.declared.buffer.glyph.hb_glyph_info_t.{hb_glyph_info_t}
 use Rattle.shapers_buffer.specs.declared.buffer.level.BufferClusterLevel.{BufferClusterLevel}
 use Rattle.shapers_buffer.specs.Clusters.{stretch_of, with_stretch}
-use Rattle.shapers_buffer.specs.Glyph.{default_glyph, order_view, plain}
+use Rattle.shapers_buffer.specs.Glyph.{order_view, plain}
 use Rattle.shapers_buffer.proofs.ClusterLemmas.{map-stretch}
 use Rattle.shapers_buffer.proofs.MappedLists.{all-append, map-hidden, suffix_len-map}
 use Rattle.shapers_buffer.proofs.Placements.{with_stretch_at}
 use Rattle.shapers_normal.specs.Context.{Context}
 use Rattle.shapers_normal.specs.Sorting.{brought_before, class_of, classes, mark_runs, marks_ordered, passed_marks, run_ordered, run_sorted, sorted_in, stay_together}
 use Rattle.shapers_normal.proofs.FirstKept.{view-together}
-use Rattle.shapers_normal.proofs.SortingHalves.{passed_few}
-use Rattle.shapers_equivalence.specs.Laws.{HaveOwnClasses, in_canonical_order, mark_class}
+use Rattle.shapers_equivalence.specs.Laws.{HaveOwnClasses, mark_class}
 use Rattle.shapers_equivalence.proofs.Projections as order
-use Rattle.shapers_equivalence.proofs.Apart.{AreMarks, IsMark, Same, TakesApart, apart_text, apart-append, apart-view, marks_own, same_beside, view_own}
-use Rattle.shapers_equivalence.proofs.Insertion.{Sorted, above, all_inserted, inserted, in_order_of, length_inserted, length_sorted, run_sorts, sorted}
+use Rattle.shapers_equivalence.proofs.Apart.{AreMarks, IsMark, Same, TakesApart, apart_text, apart-view, same_beside, view_own}
+use Rattle.shapers_equivalence.proofs.Insertion.{Sorted, above, all_inserted, inserted, length_inserted, length_sorted, run_sorts, sorted}
 
 abbrev Glyphs : Type 0
 Glyphs = List hb_glyph_info_t
@@ -154,19 +152,19 @@ run_of f d = cond (is_run d) (f (sorted d)) d
 length_run : (f : Glyphs → Glyphs) → ((marks : Glyphs) → length (f marks) ≡ length marks) → (d : Glyphs) → length (run_of f d) ≡ length d
 length_run f same d = elim (is_run d) as (λ b. length (cond b (f (sorted d)) d) ≡ length d) [ true ↦ same (sorted d) ∙ length_sorted d | false ↦ refl ]
 
-ordered_by : (context : Context) (full : ℕ → List ℕ) (a : Arranges context full) (level : BufferClusterLevel) (s e : ℕ) (f d r gs : Glyphs) (b : Bool) → (nat_lt s e && nat_le (e - s) 32) ≡ b → s ≡ length f → e ≡ s + length d → order_view gs ≡ f ++ (d ++ r) → order_view (cond b (context.reordered level s e (run_sorted level s e gs)) gs) ≡ f ++ (cond b (a.arranged (sorted d)) d ++ r)
-ordered_by context full a level s e f d r gs true test start end same =
+ordered_view_by : (context : Context) (full : ℕ → List ℕ) (a : Arranges context full) (level : BufferClusterLevel) (s e : ℕ) (f d r gs : Glyphs) (b : Bool) → (nat_lt s e && nat_le (e - s) 32) ≡ b → s ≡ length f → e ≡ s + length d → order_view gs ≡ f ++ (d ++ r) → order_view (cond b (context.reordered level s e (run_sorted level s e gs)) gs) ≡ f ++ (cond b (a.arranged (sorted d)) d ++ r)
+ordered_view_by context full a level s e f d r gs true test start end same =
     let some : s < e = grind (arith, nat_tests) in
     let one = run_sorted level s e gs in
     let view = run_view level s e f d r gs start end same in
     let inside : e ≤ length one = omega (arith, length-map one plain, ap length view, length-append f (sorted d ++ r), length-append (sorted d) r, length_sorted d) in
     a.of_run level s e one some inside ∙ ap (with_stretch s e a.arranged) view ∙ with_stretch_at a.arranged f (sorted d) r s e (sym start) (omega (arith, length_sorted d))
-ordered_by context full a level s e f d r gs false test start end same = same
+ordered_view_by context full a level s e f d r gs false test start end same = same
 
 ordered_view : (context : Context) (full : ℕ → List ℕ) (a : Arranges context full) (level : BufferClusterLevel) (s e : ℕ) (f d r gs : Glyphs) → s ≡ length f → e ≡ s + length d → order_view gs ≡ f ++ (d ++ r) → order_view (run_ordered context level (s, e) gs) ≡ f ++ (run_of a.arranged d ++ r)
 ordered_view context full a level s e f d r gs start end same =
     let test : (nat_lt s e && nat_le (e - s) 32) ≡ is_run d = grind (arith, nat_tests) in
-    ordered_by context full a level s e f d r gs (nat_lt s e && nat_le (e - s) 32) refl start end same
+    ordered_view_by context full a level s e f d r gs (nat_lt s e && nat_le (e - s) 32) refl start end same
     ∙ ap (λ b. f ++ (cond b (a.arranged (sorted d)) d ++ r)) test
 
 -- ---- a text

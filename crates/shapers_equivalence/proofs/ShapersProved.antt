@@ -1,8 +1,7 @@
 -- Shapers with Unicode's tables meet what the law requires.
-use Rattle.std.proofs.Common.{◌≡◌, ◌≢◌, ◌||◌, ◌&&◌, not, ℕ, Bool, true, false, cond, eqb, List, [], ◌∷◌, ◌++◌, Option, None, Some, refl, sym, ap, ◌∙◌, subst, eqb-true}
-use Rattle.std.specs.List.{AllByRecursion, flat_map, list_any}
+use Rattle.std.proofs.Common.{◌≡◌, ◌≢◌, ◌&&◌, not, ℕ, Bool, true, false, cond, eqb, List, [], ◌∷◌, Option, None, Some, refl, sym, ap, ◌∙◌, subst, eqb-true}
+use Rattle.std.specs.List.{AllByRecursion, list_any}
 use Rattle.std.proofs.lemmas.Bool.{and_parts, false≢true}
-use Rattle.std.proofs.lemmas.List.{append-nil}
 use Rattle.std.proofs.lemmas.Option.{none-some}
 use Rattle.ucd_table.proofs.Computing.{tables}
 use Rattle.rustybuzz_shapers.specs.declared.shaper.hb_ot_shaper_t.{hb_ot_shaper_t}
@@ -20,25 +19,24 @@ use Rattle.shapers_normal.specs.Normalization.{composes, has_rounds, later_round
 use Rattle.shapers_normal.specs.Sorting.{class_of, classes, marks_ordered}
 use Rattle.shapers_normal.specs.declared.ot_shape_normalize.normalizing.Rounds.{Rounds}
 use Rattle.shapers_buffer.specs.Category.{is_mark}
-use Rattle.shapers_indic.specs.Characters.{composed_in_indic, decomposed_in_indic, is_ya_nukta, whole_letters}
-use Rattle.shapers_normal.specs.Decomposition.{come_off}
-use Rattle.shapers_normalize.specs.ByShaper.{composed_by, composed_for, decomposed_for, is_character}
+use Rattle.shapers_indic.specs.Characters.{is_ya_nukta, whole_letters}
+use Rattle.shapers_normalize.specs.ByShaper.{composed_for, decomposed_for, is_character}
 use Rattle.shapers_normalize.specs.TextTables.{VariantForms}
 use Rattle.shapers_syllabic.specs.Characters.{composed_behind}
 use Rattle.shapers_unicode.specs.Answers.{unicode_tables}
 use Rattle.shapers_unicode.specs.General.{general_category}
 use Rattle.shapers_unicode.specs.MappingRows.{mapping_rows}
 use Rattle.shapers_unicode.specs.Pairs.{composed, decomposed}
-use Rattle.shapers_equivalence.specs.Equivalence.{CanonicallyEquivalent, apart_in_steps, full_decomposition}
+use Rattle.shapers_equivalence.specs.Equivalence.{CanonicallyEquivalent, full_decomposition}
 use Rattle.shapers_equivalence.specs.Laws.{AreInOrder, HaveOwnClasses, IsCanonical, IsPlainText, LeavesOrder, OrdersEquivalently, before_composing, has_short_runs, in_canonical_order, mark_class}
-use Rattle.shapers_equivalence.specs.Shapers.{ShapersKeepTexts, ShapersNormalizeEquivalently, has_split_vowel, is_split_vowel, orders_marks, unicode_context}
+use Rattle.shapers_equivalence.specs.Shapers.{ShapersKeepTexts, ShapersNormalizeEquivalently, is_split_vowel, orders_marks, unicode_context}
 use Rattle.shapers_equivalence.proofs.Apart.{AreMarks}
 use Rattle.shapers_equivalence.proofs.ArabicOrder.{arabic_arranged, arabic_same, length_arranged}
 use Rattle.shapers_equivalence.proofs.HebrewForms.{Alike, hebrew_alike}
 use Rattle.shapers_equivalence.proofs.HebrewOrder.{hebrew_arranged, hebrew_of_run, hebrew_same, length_hebrew}
 use Rattle.shapers_equivalence.proofs.KhmerTexts.{khmer_first, unicode_pairs}
 use Rattle.shapers_equivalence.proofs.ShortRuns.{stretch_whole}
-use Rattle.shapers_equivalence.proofs.Proved.{normalizes, orders_marks_so, runs_normalize, takes_apart}
+use Rattle.shapers_equivalence.proofs.Proved.{normalizes_so, orders_marks_so, runs_normalize, takes_apart}
 use Rattle.shapers_equivalence.proofs.UnicodePairs.{ApartInto, composed_apart, ends, marks_own_class, own_class, same_text}
 
 -- the shapers that take apart by Unicode's pairs alone
@@ -95,18 +93,18 @@ ya_nukta_apart a b c both is =
       two = ap (λ x. eqb x 0) second;
     }
 
-indic_by : (a b c : ℕ) (ya : Bool) → (not (is_mark (general_category a)) && is_ya_nukta a b) ≡ ya → cond ya (Some 0x09DF) (composed_behind unicode_tables a b) ≡ Some c → ApartInto a b c
-indic_by a b c true test e =
+indic_composed : (a b c : ℕ) (ya : Bool) → (not (is_mark (general_category a)) && is_ya_nukta a b) ≡ ya → cond ya (Some 0x09DF) (composed_behind unicode_tables a b) ≡ Some c → ApartInto a b c
+indic_composed a b c true test e =
     let is : 0x09DF ≡ c = cc in
     ya_nukta_apart a b c (and_parts (not (is_mark (general_category a))) (is_ya_nukta a b) test).1 is
-indic_by a b c false test e = behind_apart a b c e
+indic_composed a b c false test e = behind_apart a b c e
 
 composed_alike : (shaper : Option hb_ot_shaper_t) (plan : hb_ot_shape_plan_t) (a b c : ℕ) → splits_vowels shaper ≡ false → composed_for shaper plan unicode_tables a b ≡ Some c → Alike a b c
 composed_alike None plan a b c by e = same_text own_class a b c (composed_apart a b c e)
 composed_alike (Some Arabic) plan a b c by e = same_text own_class a b c (composed_apart a b c e)
 composed_alike (Some Hangul) plan a b c by e = same_text own_class a b c (composed_apart a b c e)
 composed_alike (Some Hebrew) plan a b c by e = hebrew_alike a b c plan.has_gpos_mark e
-composed_alike (Some Indic) plan a b c by e = same_text own_class a b c (indic_by a b c (not (is_mark (general_category a)) && is_ya_nukta a b) refl e)
+composed_alike (Some Indic) plan a b c by e = same_text own_class a b c (indic_composed a b c (not (is_mark (general_category a)) && is_ya_nukta a b) refl e)
 composed_alike (Some Khmer) plan a b c by e = absurd (false≢true (sym by))
 composed_alike (Some Myanmar) plan a b c by e = same_text own_class a b c (composed_apart a b c e)
 composed_alike (Some MyanmarZawgyi) plan a b c by e = same_text own_class a b c (composed_apart a b c e)
@@ -140,8 +138,8 @@ run_marks : (context : Context) (gs : List hb_glyph_info_t) → HaveOwnClasses c
 run_marks context [] own marked = tt
 run_marks context (g ∷ gs) own marked = ((own.0, marked.0), run_marks context gs own.1 marked.1)
 
-left : (context : Context) → LeavesOrder context → OrdersEquivalently decomposed context
-left context o = record {
+without_order : (context : Context) → LeavesOrder context → OrdersEquivalently decomposed context
+without_order context o = record {
   arranged = λ marks. marks;
   same_length = λ marks. refl;
   of_run = λ level s e gs some within. o level s e gs some within ∙ sym (stretch_whole s e (order_view gs) some);
@@ -149,7 +147,7 @@ left context o = record {
 }
 
 arranged_for : (shaper : Option hb_ot_shaper_t) (plan : hb_ot_shape_plan_t) (font : Font) (variants : VariantForms) (invisible : Option GlyphId) (draws : Bool) → splits_vowels shaper ≡ false → OrdersEquivalently decomposed (unicode_context shaper plan font variants invisible draws)
-arranged_for None plan font variants invisible draws by = left (unicode_context None plan font variants invisible draws) (leaves_order None plan font variants invisible draws refl)
+arranged_for None plan font variants invisible draws by = without_order (unicode_context None plan font variants invisible draws) (leaves_order None plan font variants invisible draws refl)
 arranged_for (Some Arabic) plan font variants invisible draws by =
     let context = unicode_context (Some Arabic) plan font variants invisible draws in
     record {
@@ -158,7 +156,7 @@ arranged_for (Some Arabic) plan font variants invisible draws by =
       of_run = λ level s e gs some within. arabic.marks_view level s e gs;
       equivalent = λ marks run. arabic_same context (full_decomposition decomposed) (takes_apart decomposed context (is_canonical (Some Arabic) plan font variants invisible draws by)) marks (run_marks context marks run.own run.marked);
     }
-arranged_for (Some Hangul) plan font variants invisible draws by = left (unicode_context (Some Hangul) plan font variants invisible draws) (leaves_order (Some Hangul) plan font variants invisible draws refl)
+arranged_for (Some Hangul) plan font variants invisible draws by = without_order (unicode_context (Some Hangul) plan font variants invisible draws) (leaves_order (Some Hangul) plan font variants invisible draws refl)
 arranged_for (Some Hebrew) plan font variants invisible draws by =
     let context = unicode_context (Some Hebrew) plan font variants invisible draws in
     record {
@@ -167,12 +165,12 @@ arranged_for (Some Hebrew) plan font variants invisible draws by =
       of_run = λ level s e gs some within. hebrew_of_run level s e gs some within;
       equivalent = λ marks run. hebrew_same context (full_decomposition decomposed) (takes_apart decomposed context (is_canonical (Some Hebrew) plan font variants invisible draws by)) marks (run_marks context marks run.own run.marked);
     }
-arranged_for (Some Indic) plan font variants invisible draws by = left (unicode_context (Some Indic) plan font variants invisible draws) (leaves_order (Some Indic) plan font variants invisible draws refl)
+arranged_for (Some Indic) plan font variants invisible draws by = without_order (unicode_context (Some Indic) plan font variants invisible draws) (leaves_order (Some Indic) plan font variants invisible draws refl)
 arranged_for (Some Khmer) plan font variants invisible draws by = absurd (false≢true (sym by))
-arranged_for (Some Myanmar) plan font variants invisible draws by = left (unicode_context (Some Myanmar) plan font variants invisible draws) (leaves_order (Some Myanmar) plan font variants invisible draws refl)
-arranged_for (Some MyanmarZawgyi) plan font variants invisible draws by = left (unicode_context (Some MyanmarZawgyi) plan font variants invisible draws) (leaves_order (Some MyanmarZawgyi) plan font variants invisible draws refl)
-arranged_for (Some Thai) plan font variants invisible draws by = left (unicode_context (Some Thai) plan font variants invisible draws) (leaves_order (Some Thai) plan font variants invisible draws refl)
-arranged_for (Some Universal) plan font variants invisible draws by = left (unicode_context (Some Universal) plan font variants invisible draws) (leaves_order (Some Universal) plan font variants invisible draws refl)
+arranged_for (Some Myanmar) plan font variants invisible draws by = without_order (unicode_context (Some Myanmar) plan font variants invisible draws) (leaves_order (Some Myanmar) plan font variants invisible draws refl)
+arranged_for (Some MyanmarZawgyi) plan font variants invisible draws by = without_order (unicode_context (Some MyanmarZawgyi) plan font variants invisible draws) (leaves_order (Some MyanmarZawgyi) plan font variants invisible draws refl)
+arranged_for (Some Thai) plan font variants invisible draws by = without_order (unicode_context (Some Thai) plan font variants invisible draws) (leaves_order (Some Thai) plan font variants invisible draws refl)
+arranged_for (Some Universal) plan font variants invisible draws by = without_order (unicode_context (Some Universal) plan font variants invisible draws) (leaves_order (Some Universal) plan font variants invisible draws refl)
 
 -- ---- Khmer, without its split vowels
 
@@ -210,7 +208,7 @@ by_pairs shaper plan font variants invisible draws rounds level gs by =
     let context = unicode_context shaper plan font variants invisible draws in
     let canonical = is_canonical shaper plan font variants invisible draws by in
     let arranged = arranged_for shaper plan font variants invisible draws by in
-    λ text. (orders_marks_so decomposed context level gs canonical arranged text, λ in_order. normalizes decomposed context rounds level gs canonical arranged text in_order)
+    λ text. (orders_marks_so decomposed context level gs canonical arranged text, λ in_order. normalizes_so decomposed context rounds level gs canonical arranged text in_order)
 
 kept_by_pairs : (shaper : Option hb_ot_shaper_t) (plan : hb_ot_shape_plan_t) (font : Font) (variants : VariantForms) (invisible : Option GlyphId) (draws : Bool) (rounds : Rounds) (level : BufferClusterLevel) (gs : List hb_glyph_info_t) → splits_vowels shaper ≡ false → orders_marks shaper ≡ false → Keeps shaper plan font variants invisible draws rounds level gs
 kept_by_pairs shaper plan font variants invisible draws rounds level gs by leaves =
@@ -222,18 +220,19 @@ khmer_normalizes plan font variants invisible draws rounds level gs whole =
     let own = unicode_context (Some Khmer) plan font variants invisible draws in
     let context = khmer_context plan font variants invisible draws in
     let canonical = khmer_canonical plan font variants invisible draws in
-    let arranged = left context (khmer_leaves plan font variants invisible draws) in
+    let arranged = without_order context (khmer_leaves plan font variants invisible draws) in
     let first : first_round own level gs ≡ first_round context level gs = khmer_first own level gs whole in
     let class = mark_class own in
     λ text.
-    let plain : IsPlainText context gs = record { own = text.own; no_selector = text.no_selector } in
-    (subst (λ xs. CanonicallyEquivalent decomposed class (characters (marks_ordered context level xs)) (characters gs)) (sym first) (orders_marks_so decomposed context level gs canonical arranged plain),
-    λ in_order. subst (λ xs. CanonicallyEquivalent decomposed class (characters (later_rounds context (has_rounds rounds gs) level xs)) (characters gs)) (sym first)
-    (normalizes decomposed context rounds level gs canonical arranged plain
-    (λ composing.
-    let order = in_order composing in
-    let same = ap (marks_ordered context level) first in
-    record { own = subst (HaveOwnClasses context) same order.own; ordered = ap (λ xs. in_canonical_order (classes xs)) (sym same) ∙ order.ordered })))
+    let plain : IsPlainText context gs = record { own = text.own; no_selector = text.no_selector } in (
+      subst (λ xs. CanonicallyEquivalent decomposed class (characters (marks_ordered context level xs)) (characters gs)) (sym first) (orders_marks_so decomposed context level gs canonical arranged plain),
+      λ in_order. subst (λ xs. CanonicallyEquivalent decomposed class (characters (later_rounds context (has_rounds rounds gs) level xs)) (characters gs)) (sym first)
+          (normalizes_so decomposed context rounds level gs canonical arranged plain
+          (λ composing.
+          let order = in_order composing in
+          let same = ap (marks_ordered context level) first in
+          record { own = subst (HaveOwnClasses context) same order.own; ordered = ap (λ xs. in_canonical_order (classes xs)) (sym same) ∙ order.ordered })),
+    )
 
 khmer_keeps : (plan : hb_ot_shape_plan_t) (font : Font) (variants : VariantForms) (invisible : Option GlyphId) (draws : Bool) (rounds : Rounds) (level : BufferClusterLevel) (gs : List hb_glyph_info_t) → list_any is_split_vowel gs ≡ false → Keeps (Some Khmer) plan font variants invisible draws rounds level gs
 khmer_keeps plan font variants invisible draws rounds level gs whole =

@@ -1,9 +1,9 @@
 -- Short runs are in order once they are sorted.
-use Rattle.std.proofs.Common.{◌≡◌, ◌≢◌, ◌+◌, ◌-◌, ◌<◌, ◌≤◌, ◌||◌, ◌&&◌, ◌⊎◌, inl, inr, ℕ, zero, suc, Bool, true, false, cond, eqb, nat_le, nat_lt, List, [], ◌∷◌, ◌++◌, length, map, take, drop, refl, sym, ap, ◌∙◌, subst, arith}
-use Rattle.std.specs.List.{AllByRecursion, list_all}
+use Rattle.std.proofs.Common.{◌≡◌, ◌≢◌, ◌+◌, ◌-◌, ◌<◌, ◌≤◌, ◌||◌, ◌&&◌, ◌⊎◌, inl, inr, ℕ, Bool, true, false, cond, eqb, nat_le, nat_lt, List, [], ◌∷◌, ◌++◌, length, take, drop, refl, sym, ap, ◌∙◌, subst, arith}
+use Rattle.std.specs.List.{list_all}
 use Rattle.std.proofs.lemmas.Bool.{and_parts, false≢true}
 use Rattle.std.proofs.lemmas.Bool.Decides.{nat_tests}
-use Rattle.std.proofs.lemmas.List.{drop-drop, length-append, length-map, take-append-drop}
+use Rattle.std.proofs.lemmas.List.{drop-drop, length-append, take-append-drop}
 use Rattle.shapers_buffer.specs.declared.buffer.glyph.hb_glyph_info_t.{hb_glyph_info_t}
 use Rattle.shapers_buffer.specs.declared.buffer.level.BufferClusterLevel.{BufferClusterLevel}
 use Rattle.shapers_buffer.specs.Clusters.{with_stretch}
@@ -15,7 +15,7 @@ use Rattle.shapers_equivalence.specs.Laws.{AreInOrder, HaveOwnClasses, LeavesOrd
 use Rattle.shapers_equivalence.proofs.Apart.{AreMarks, IsMark, TakesApart, marks_own, own_of_view, view_own}
 use Rattle.shapers_equivalence.proofs.Insertion.{Sorted, run_sorts, sorted}
 use Rattle.shapers_equivalence.proofs.SecondRound.{Arranges, is_run, marks_view, ordered_from, run_of}
-use Rattle.shapers_equivalence.proofs.ThirdRound.{Follows, Glyphs, Ordered}
+use Rattle.shapers_equivalence.proofs.ThirdRound.{Glyphs, Ordered}
 
 abbrev as_they_are : Glyphs → Glyphs
 as_they_are gs = gs
@@ -24,7 +24,7 @@ pub stretch_whole : (s e : ℕ) (gs : Glyphs) → s < e → with_stretch s e as_
 stretch_whole s e gs some =
     let order : s + (e - s) ≡ e = omega arith in
     ap (λ n. take s gs ++ (take (e - s) (drop s gs) ++ drop n gs)) (sym order)
-    ∙ ap (λ xs. take s gs ++ (take (e - s) (drop s gs) ++ xs)) (sym (drop-drop (e - s) s gs) )
+    ∙ ap (λ xs. take s gs ++ (take (e - s) (drop s gs) ++ xs)) (sym (drop-drop (e - s) s gs))
     ∙ ap (λ xs. take s gs ++ xs) (take-append-drop (e - s) (drop s gs))
     ∙ take-append-drop s gs
 

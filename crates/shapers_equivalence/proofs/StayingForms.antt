@@ -1,12 +1,11 @@
 -- A text in the form that the font and the shaper want stays.
-use Rattle.std.proofs.Common.{◌≡◌, ◌≢◌, ◌+◌, ◌-◌, ◌<◌, ◌≤◌, ◌||◌, ◌&&◌, ◌⊎◌, inl, inr, ℕ, zero, suc, Bool, true, false, cond, eqb, nat_le, nat_lt, List, [], ◌∷◌, ◌++◌, length, map, get_or, slice_index, Option, None, Some, refl, sym, ap, ap₂, ◌∙◌, subst, arith, eqb-true}
-use Rattle.std.specs.List.{AllByRecursion, fold, range_with_len, suffix_len}
+use Rattle.std.proofs.Common.{◌≡◌, ◌≢◌, ◌+◌, ◌-◌, ◌<◌, ◌≤◌, ◌||◌, ◌&&◌, inl, inr, ℕ, zero, suc, Bool, true, false, cond, eqb, nat_le, nat_lt, List, [], ◌∷◌, length, map, get_or, slice_index, Option, None, refl, sym, ap, ap₂, ◌∙◌, subst, arith, eqb-true}
+use Rattle.std.specs.List.{AllByRecursion, fold, range_with_len}
 use Rattle.std.specs.Option.{option_map_or}
 use Rattle.std.proofs.lemmas.Bool.{and_parts}
 use Rattle.std.proofs.lemmas.Bool.Decides.{nat_tests}
 use Rattle.std.proofs.lemmas.List.{get_or-map, length-map}
 use Rattle.std.proofs.lemmas.List.Sums.{suffix_len_is}
-use Rattle.shapers_base.specs.declared.font.GlyphId.{GlyphId}
 use Rattle.shapers_buffer.specs.declared.buffer.glyph.hb_glyph_info_t.{hb_glyph_info_t}
 use Rattle.shapers_buffer.specs.declared.buffer.level.BufferClusterLevel.{BufferClusterLevel}
 use Rattle.shapers_buffer.specs.Clusters.{stretch_of}
@@ -14,9 +13,9 @@ use Rattle.shapers_buffer.specs.Glyph.{characters, default_glyph}
 use Rattle.shapers_buffer.proofs.ClusterLemmas.{get_or-stretch, length-stretch}
 use Rattle.shapers_buffer.proofs.MappedLists.{all-range, map-hidden}
 use Rattle.shapers_normal.specs.Context.{Context}
-use Rattle.shapers_normal.specs.Decomposition.{first_round, stays_together, with_own_glyph}
-use Rattle.shapers_normal.specs.Normalization.{composes, has_rounds, joiners_shown, later_rounds, normalized}
-use Rattle.shapers_normal.specs.Recomposition.{StarterWalk, composition, glyph_at, if_drawn, is_free, left_as_is, next_glyph, recomposed, taken_in, walk_over}
+use Rattle.shapers_normal.specs.Decomposition.{with_own_glyph}
+use Rattle.shapers_normal.specs.Normalization.{composes, has_rounds, joiners_shown, later_rounds}
+use Rattle.shapers_normal.specs.Recomposition.{StarterWalk, composition, glyph_at, if_drawn, is_free, left_as_is, recomposed, taken_in, walk_over}
 use Rattle.shapers_normal.specs.Sorting.{brought_before, class_of, classes, is_mark_glyph, mark_runs, marks_ordered, passed_marks, run_ordered, run_sorted, sorted_in}
 use Rattle.shapers_normal.proofs.SortingHalves.{runs_within}
 use Rattle.shapers_normal.proofs.StayingTexts.{staying_round}
@@ -66,8 +65,8 @@ runs_marked f s i (c ∷ cs) same marked =
     let rest = λ (k : ℕ) (inside : k < length cs). (let at : i + suc k ≡ i + 1 + k = omega arith in same (suc k) (omega arith) ∙ ap f at) in
     runs_by f s i c cs (eqb c 0) refl here marked (λ more. runs_marked f s (i + 1) cs rest more) (runs_marked f (i + 1) (i + 1) cs rest (λ k low high. absurd (omega arith)))
 
-none_passed : (s i : ℕ) (gs : Glyphs) → s < i → i < length gs → slice_index (classes gs) (i - 1) ≤ slice_index (classes gs) i → passed_marks s i gs ≡ 0
-none_passed s i gs some inside least =
+passes_none : (s i : ℕ) (gs : Glyphs) → s < i → i < length gs → slice_index (classes gs) (i - 1) ≤ slice_index (classes gs) i → passed_marks s i gs ≡ 0
+passes_none s i gs some inside least =
     let own = slice_index (classes gs) i in
     let test = λ (g : hb_glyph_info_t). nat_lt own (class_of g) in
     let marks = stretch_of s i gs in
@@ -92,7 +91,7 @@ run_stays level s e gs ordered marked inside =
     let next : suc (i - 1) ≡ i = omega arith in
     let mark : slice_index (classes gs) (suc (i - 1)) ≢ 0 = λ none. marked i (omega arith) high (ap (slice_index (classes gs)) (sym next) ∙ none) in
     let least : slice_index (classes gs) (i - 1) ≤ slice_index (classes gs) i = subst (λ k. slice_index (classes gs) (i - 1) ≤ slice_index (classes gs) k) next (ordered_at (classes gs) (i - 1) ordered (omega (arith, length-map gs class_of)) mark) in
-    sorted_stays level s i gs (none_passed s i gs low (omega arith) least))
+    sorted_stays level s i gs (passes_none s i gs low (omega arith) least))
     (range_with_len (s + 1) (e - (s + 1)))
     (all-range (λ i. (s < i) × (i < e)) (s + 1) (e - (s + 1)) (λ i low high. (omega arith, omega arith)))
 
@@ -183,17 +182,17 @@ recomposed_stays context level (g ∷ gs) nothing =
 
 -- ---- all rounds
 
-composed_by : (context : Context) (level : BufferClusterLevel) (gs : Glyphs) (composing : Bool) → (composing ≡ true → NothingComposes context (characters gs) (classes gs)) → cond composing (recomposed context level (joiners_shown gs)) (joiners_shown gs) ≡ joiners_shown gs
-composed_by context level gs true nothing =
+composed_stays : (context : Context) (level : BufferClusterLevel) (gs : Glyphs) (composing : Bool) → (composing ≡ true → NothingComposes context (characters gs) (classes gs)) → cond composing (recomposed context level (joiners_shown gs)) (joiners_shown gs) ≡ joiners_shown gs
+composed_stays context level gs true nothing =
     let a = joiners_alike context gs in
     recomposed_stays context level (joiners_shown gs)
     (subst (λ cs. NothingComposes context cs (classes (joiners_shown gs))) (sym a.same) (subst (λ ks. NothingComposes context (characters gs) ks) (sym a.class) (nothing refl)))
-composed_by context level gs false nothing = refl
+composed_stays context level gs false nothing = refl
 
 later_stays : (context : Context) → LeavesMarks context → (level : BufferClusterLevel) (gs : Glyphs) (runs : Bool) → in_canonical_order (classes gs) ≡ true → (composes context.mode ≡ true → NothingComposes context (characters gs) (classes gs)) → later_rounds context runs level gs ≡ joiners_shown gs
 later_stays context leaves level gs true ordered nothing =
     ap (λ xs. cond (composes context.mode) (recomposed context level (joiners_shown xs)) (joiners_shown xs)) (marks_stay context leaves level gs ordered)
-    ∙ composed_by context level gs (composes context.mode) nothing
+    ∙ composed_stays context level gs (composes context.mode) nothing
 later_stays context leaves level gs false ordered nothing = refl
 
 pub texts_stay : TextsInFormStay

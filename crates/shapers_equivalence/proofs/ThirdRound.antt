@@ -1,10 +1,10 @@
 -- The third round, glyph after glyph.
-use Rattle.std.proofs.Common.{◌≡◌, ◌≢◌, ◌+◌, ◌-◌, ◌<◌, ◌≤◌, ◌||◌, ◌&&◌, ◌⊎◌, inl, inr, ℕ, zero, suc, Bool, true, false, cond, eqb, nat_le, nat_lt, List, [], ◌∷◌, ◌++◌, length, map, take, drop, get_or, set, Option, None, Some, refl, sym, ap, ◌∙◌, subst, arith, append_assoc}
+use Rattle.std.proofs.Common.{◌≡◌, ◌≢◌, ◌+◌, ◌-◌, ◌<◌, ◌≤◌, ◌||◌, ◌&&◌, ◌⊎◌, inl, inr, ℕ, Bool, true, false, cond, eqb, nat_le, nat_lt, List, [], ◌∷◌, ◌++◌, length, take, drop, get_or, set, Option, None, Some, refl, sym, ap, ◌∙◌, subst, arith, append_assoc}
 use Rattle.std.specs.List.{AllByRecursion}
 use Rattle.std.specs.Option.{option_map, option_map_or}
 use Rattle.std.proofs.Math.ListN.{get_or-map}
 use Rattle.std.proofs.Math.Seq.{drop-append_seam, get_or-append_seam, set-append_seam, take-append_seam}
-use Rattle.std.proofs.lemmas.Bool.{and_parts, false≢true}
+use Rattle.std.proofs.lemmas.Bool.{and_parts}
 use Rattle.std.proofs.lemmas.Bool.Decides.{nat_tests}
 use Rattle.std.proofs.lemmas.List.{append-nil, drop-map, get_or-append-add, get_or_append_left, length-append, length-map, map-append, map-set, take-map}
 use Rattle.std.proofs.lemmas.Option.{none-some}
@@ -17,7 +17,7 @@ use Rattle.shapers_buffer.proofs.MappedLists.{all-append, map-hidden}
 use Rattle.shapers_clusters.proofs.Merging.{order_view-merge}
 use Rattle.shapers_normal.specs.Context.{Context}
 use Rattle.shapers_normal.specs.Properties.{as_character}
-use Rattle.shapers_normal.specs.Recomposition.{StarterWalk, composition, glyph_at, if_drawn, is_free, left_as_is, next_glyph, recomposed, taken_in, walk_over, without_place}
+use Rattle.shapers_normal.specs.Recomposition.{StarterWalk, composition, glyph_at, if_drawn, is_free, left_as_is, recomposed, taken_in, walk_over, without_place}
 use Rattle.shapers_normal.specs.Sorting.{class_of, classes, is_mark_glyph}
 use Rattle.shapers_equivalence.specs.Equivalence.{SameButForOrder}
 use Rattle.shapers_equivalence.specs.Laws.{AreInOrder, HaveOwnClasses, in_canonical_order, mark_class}
@@ -133,19 +133,19 @@ drawn_of context None drawn e = absurd (none-some drawn e)
 drawn_of context (Some c) drawn e = ap Some (drawn_by c (context.nominal c) drawn e)
 
 -- what has come of both, and that nothing keeps the mark from the starter
-composed_by : (context : Context) (o : Option ℕ) (drawn : ℕ × GlyphId) (b : Bool) → cond b (if_drawn context o) None ≡ Some drawn → (b ≡ true) × (o ≡ Some drawn.0)
-composed_by context o drawn true e = (refl, drawn_of context o drawn e)
-composed_by context o drawn false e = absurd (none-some drawn e)
+made_of : (context : Context) (o : Option ℕ) (drawn : ℕ × GlyphId) (b : Bool) → cond b (if_drawn context o) None ≡ Some drawn → (b ≡ true) × (o ≡ Some drawn.0)
+made_of context o drawn true e = (refl, drawn_of context o drawn e)
+made_of context o drawn false e = absurd (none-some drawn e)
 
 free_by : (n : ℕ) (start place : ℕ) (c d : ℕ) (next : Bool) → eqb (start + 1) place ≡ next → place ≡ start + (1 + n) → (next || nat_lt c d) ≡ true → (n ≡ 0) ⊎ (c < d)
 free_by n start place c d true e long test = inl (let same : start + 1 ≡ place = grind (arith, nat_tests) in omega arith)
 free_by n start place c d false e long test = inr (grind (arith, nat_tests))
 
 -- marks that one passes: those between it and the starter
-passed_marks : (context : Context) (s m : hb_glyph_info_t) (b r : Glyphs) → AreMarks context b → Ordered (b ++ m ∷ r) → (length b ≡ 0) ⊎ (class_of (get_or (s ∷ b) (length b) default_glyph) < class_of m) → Below (class_of m) b
-passed_marks context s m [] r marks o free = tt
-passed_marks context s m (b ∷ bs) r marks o (inl none) = absurd (omega arith)
-passed_marks context s m (b ∷ bs) r marks o (inr less) = all_below context s b m bs r marks o less
+marks_below : (context : Context) (s m : hb_glyph_info_t) (b r : Glyphs) → AreMarks context b → Ordered (b ++ m ∷ r) → (length b ≡ 0) ⊎ (class_of (get_or (s ∷ b) (length b) default_glyph) < class_of m) → Below (class_of m) b
+marks_below context s m [] r marks o free = tt
+marks_below context s m (b ∷ bs) r marks o (inl none) = absurd (omega arith)
+marks_below context s m (b ∷ bs) r marks o (inr less) = all_below context s b m bs r marks o less
 
 others_below : (context : Context) (c : ℕ) (b : Glyphs) → AreMarks context b → Below c b → OtherMarks context c b
 others_below context c [] marks below = tt
@@ -207,7 +207,7 @@ takes context drawn w f s b m r a e =
     let is_last = last context w f s b (m ∷ r) a in
     let starter = glyph_at w.glyphs w.starter in
     let before = glyph_at w.glyphs (w.place - 1) in
-    let both = composed_by context (context.composed starter.glyph_id mark.glyph_id) drawn (is_mark_glyph mark && is_free w) e in
+    let both = made_of context (context.composed starter.glyph_id mark.glyph_id) drawn (is_mark_glyph mark && is_free w) e in
     let free = (and_parts (is_mark_glyph mark) (is_free w) both.0).1 in
     let long : w.place ≡ w.starter + (1 + length b) = omega (arith, a.place, a.starter) in
     let or_less : (length b ≡ 0) ⊎ (class_of before < class_of mark) = free_by (length b) w.starter w.place (class_of before) (class_of mark) (eqb (w.starter + 1) w.place) refl long free in
@@ -219,7 +219,7 @@ takes context drawn w f s b m r a e =
           ap (λ (g : hb_glyph_info_t). context.composed g.glyph_id m.glyph_id) is_s
           ∙ ap (λ (g : hb_glyph_info_t). context.composed starter.glyph_id g.glyph_id) is_m
           ∙ both.1;
-      below = passed_marks context s m b r a.between a.in_order seen;
+      below = marks_below context s m b r a.between a.in_order seen;
     }
 
 -- what is composed is the same text

@@ -1,9 +1,9 @@
 -- Unicode's pairs: each character comes apart in eight steps at most, what composes comes apart into
 -- the two, and a mark comes apart into marks of its class.
-use Rattle.std.proofs.Common.{◌≡◌, ◌≢◌, ◌+◌, ◌-◌, ◌*◌, ◌/◌, ◌%◌, ◌<◌, ◌≤◌, ◌==◌, ◌||◌, ◌&&◌, not, ℕ, zero, suc, Bool, true, false, cond, eqb, nat_le, nat_lt, List, [], ◌∷◌, ◌++◌, Option, None, Some, refl, sym, ap, ap₂, ◌∙◌, subst, arith, eqb-true, ne_eqb}
+use Rattle.std.proofs.Common.{◌≡◌, ◌≢◌, ◌-◌, ◌%◌, ◌<◌, ◌≤◌, ◌==◌, ◌||◌, ◌&&◌, not, ℕ, zero, suc, Bool, true, false, cond, eqb, nat_le, nat_lt, List, [], ◌∷◌, ◌++◌, Option, None, Some, refl, sym, ap, ap₂, ◌∙◌, subst, arith, eqb-true, ne_eqb}
 use Rattle.std.specs.List.{AllByRecursion, flat_map}
 use Rattle.std.specs.Option.{option_map_or}
-use Rattle.std.proofs.lemmas.Bool.{and_parts, cond_both, false≢true, leb-true, le-leb, not-true}
+use Rattle.std.proofs.lemmas.Bool.{and_parts, cond_both, false≢true, leb-true}
 use Rattle.std.proofs.lemmas.Bool.Decides.{nat_tests}
 use Rattle.std.proofs.lemmas.List.{append-nil}
 use Rattle.ucd_table.proofs.Computing.{tables}
@@ -113,19 +113,19 @@ pub not_of : (b : Bool) → not b ≡ true → b ≡ false
 not_of true e = absurd (false≢true e)
 not_of false e = refl
 
-settled : (n c : ℕ) → stops canonical_mapping n c ≡ true → Settled n c
+settles : (n c : ℕ) → stops canonical_mapping n c ≡ true → Settled n c
 unfolding stops
-settled zero c s =
+settles zero c s =
     let parts = and_parts (is_empty (canonical_mapping c)) (not (is_s c)) s in
     alone_settled 0 c (no_syllable c (not_of (is_s c) parts.1) ∙ ap as_pair (empty_of (canonical_mapping c) parts.0))
-settled (suc n) c s =
+settles (suc n) c s =
     let parts = and_parts (not (is_s c)) (parts_all (stops canonical_mapping n) (canonical_mapping c)) s in
-    by_mapping n c (canonical_mapping c) (no_syllable c (not_of (is_s c) parts.0)) parts.1 (λ a more. settled n a more)
+    by_mapping n c (canonical_mapping c) (no_syllable c (not_of (is_s c) parts.0)) parts.1 (λ a more. settles n a more)
 
 -- ---- Hangul
 
-pub bounds : (low high c : ℕ) → is_between low high c ≡ true → (low ≤ c) × (c ≤ high)
-bounds low high c e = let parts = and_parts (nat_le low c) (nat_le c high) e in (leb-true low c parts.0, leb-true c high parts.1)
+pub within_bounds : (low high c : ℕ) → is_between low high c ≡ true → (low ≤ c) × (c ≤ high)
+within_bounds low high c e = let parts = and_parts (nat_le low c) (nat_le c high) e in (leb-true low c parts.0, leb-true c high parts.1)
 
 no_s : (c : ℕ) → c < 0xAC00 → is_s c ≡ false
 no_s c low = grind (arith, nat_tests)
@@ -151,7 +151,7 @@ lv_pair s is none =
 
 lv_settled : (n s : ℕ) → is_s s ≡ true → (s - 0xAC00) % 28 ≡ 0 → Settled (suc n) s
 lv_settled n s is none =
-    let inside = bounds 0xAC00 0xD7A3 s is in
+    let inside = within_bounds 0xAC00 0xD7A3 s is in
     let low = inside.0 in
     let high = inside.1 in
     pair_settled n s (lead s) (vowel s) (lv_pair s is none)
@@ -166,7 +166,7 @@ t_pair s is some =
 syllable_by : (n s : ℕ) (b : Bool) → eqb ((s - 0xAC00) % 28) 0 ≡ b → is_s s ≡ true → Settled (suc (suc n)) s
 syllable_by n s true e is = lv_settled (suc n) s is (eqb-true ((s - 0xAC00) % 28) 0 e)
 syllable_by n s false e is =
-    let inside = bounds 0xAC00 0xD7A3 s is in
+    let inside = within_bounds 0xAC00 0xD7A3 s is in
     let low = inside.0 in
     let high = inside.1 in
     let base = s - (s - 0xAC00) % 28 in
@@ -174,12 +174,12 @@ syllable_by n s false e is =
     (lv_settled n base (is_s_of base (omega arith) (omega arith)) (omega arith))
     (alone_settled (suc n) (trail s) (jamo_alone (trail s) (omega arith) (omega arith)))
 
-ends_by : (c : ℕ) (b : Bool) → is_s c ≡ b → apart_in_steps decomposed 9 c ≡ apart_in_steps decomposed 8 c
-ends_by c true e = syllable_by 6 c (eqb ((c - 0xAC00) % 28) 0) refl e
-ends_by c false e = settled 8 c (stop_by c (is_empty (canonical_mapping c)) refl e)
+ends_at : (c : ℕ) (b : Bool) → is_s c ≡ b → apart_in_steps decomposed 9 c ≡ apart_in_steps decomposed 8 c
+ends_at c true e = syllable_by 6 c (eqb ((c - 0xAC00) % 28) 0) refl e
+ends_at c false e = settles 8 c (stop_by c (is_empty (canonical_mapping c)) refl e)
 
 pub ends : (c : ℕ) → apart_in_steps decomposed 9 c ≡ apart_in_steps decomposed 8 c
-ends c = ends_by c (is_s c) refl
+ends c = ends_at c (is_s c) refl
 
 -- ---- what composes
 
@@ -226,8 +226,8 @@ primary_apart a b p h = held_by a b p (is_empty (compositions a)) refl (sym (com
 
 v_apart : (l v : ℕ) → combines_l l ≡ true → combines_v v ≡ true → decomposed (with_v l v) ≡ Some (l, v)
 v_apart l v hl hv =
-    let insl = bounds 0x1100 0x1112 l hl in
-    let insv = bounds 0x1161 0x1175 v hv in
+    let insl = within_bounds 0x1100 0x1112 l hl in
+    let insv = within_bounds 0x1161 0x1175 v hv in
     let l0 = insl.0 in
     let l1 = insl.1 in
     let v0 = insv.0 in
@@ -241,8 +241,8 @@ v_apart l v hl hv =
 t_apart : (s t : ℕ) → is_lv s ≡ true → combines_t t ≡ true → decomposed (with_t s t) ≡ Some (s, t)
 t_apart s t hs ht =
     let parts = and_parts (is_s s) (eqb ((s - 0xAC00) % 28) 0) hs in
-    let inss = bounds 0xAC00 0xD7A3 s parts.0 in
-    let inst = bounds 0x11A8 0x11C2 t ht in
+    let inss = within_bounds 0xAC00 0xD7A3 s parts.0 in
+    let inst = within_bounds 0x11A8 0x11C2 t ht in
     let none : (s - 0xAC00) % 28 ≡ 0 = eqb-true ((s - 0xAC00) % 28) 0 parts.1 in
     let s0 = inss.0 in
     let s1 = inss.1 in
@@ -256,25 +256,25 @@ t_apart s t hs ht =
     t_pair u (is_s_of u (omega arith) (omega arith)) some
     ∙ ap (λ c. Some (c, trail u)) first ∙ ap (λ c. Some (s, c)) second
 
-composed_by : (a b c : ℕ) (lv lvt : Bool) → (combines_l a && combines_v b) ≡ lv → (is_lv a && combines_t b) ≡ lvt → cond lv (Some (with_v a b)) (cond lvt (Some (with_t a b)) (primary_composite a b)) ≡ Some c → ApartInto a b c
-composed_by a b c true lvt e f h =
+composed_as : (a b c : ℕ) (lv lvt : Bool) → (combines_l a && combines_v b) ≡ lv → (is_lv a && combines_t b) ≡ lvt → cond lv (Some (with_v a b)) (cond lvt (Some (with_t a b)) (primary_composite a b)) ≡ Some c → ApartInto a b c
+composed_as a b c true lvt e f h =
     let parts = and_parts (combines_l a) (combines_v b) e in
-    let inside = bounds 0x1161 0x1175 b parts.1 in
+    let inside = within_bounds 0x1161 0x1175 b parts.1 in
     let low = inside.0 in
     let is : with_v a b ≡ c = cc in
     record { pair = subst (λ s. decomposed s ≡ Some (a, b)) is (v_apart a b parts.0 parts.1); two = grind (arith, nat_tests) }
-composed_by a b c false true e f h =
+composed_as a b c false true e f h =
     let parts = and_parts (is_lv a) (combines_t b) f in
-    let inside = bounds 0x11A8 0x11C2 b parts.1 in
+    let inside = within_bounds 0x11A8 0x11C2 b parts.1 in
     let low = inside.0 in
     let is : with_t a b ≡ c = cc in
     record { pair = subst (λ s. decomposed s ≡ Some (a, b)) is (t_apart a b parts.0 parts.1); two = grind (arith, nat_tests) }
-composed_by a b c false false e f h = primary_apart a b c h
+composed_as a b c false false e f h = primary_apart a b c h
 
 -- what two characters compose to comes apart into them
 pub composed_apart : (a b c : ℕ) → composed a b ≡ Some c → ApartInto a b c
 unfolding composed
-composed_apart a b c h = composed_by a b c (combines_l a && combines_v b) (is_lv a && combines_t b) refl refl h
+composed_apart a b c h = composed_as a b c (combines_l a && combines_v b) (is_lv a && combines_t b) refl refl h
 
 -- ---- classes of marks
 
