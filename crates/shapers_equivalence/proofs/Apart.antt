@@ -17,9 +17,9 @@ use Rattle.shapers_equivalence.proofs.Projections as order
 pub record TakesApart (context : Context) (full : ℕ → List ℕ) : Type 0 where
   pub apart : (c : ℕ) (p : ℕ × ℕ) → context.decomposed c ≡ Some p → full c ≡ full p.0 ++ flat_map full (come_off p.1)
   pub composed : (a b c : ℕ) → context.composed a b ≡ Some c → SameButForOrder (mark_class context) (full c)
-    (full a ++ full b)
+      (full a ++ full b)
   pub marks : (c : ℕ) → mark_class context c ≢ 0 → AllByRecursion (λ d. mark_class context d ≡ mark_class context c)
-    (full c)
+      (full c)
 
 abbrev pub apart_text : (ℕ → List ℕ) → List hb_glyph_info_t → List ℕ
 apart_text full gs = flat_map full (characters gs)

@@ -28,10 +28,20 @@ length_arranged gs =
     let s = split_marks gs in
     let below = map (in_class CCC22) s.modifiers_below in
     let above = map (in_class CCC26) s.modifiers_above in
-    omega (arith, length-append below (above ++ (s.low ++ (s.middle ++ s.rest))), length-append above
-    (s.low ++ (s.middle ++ s.rest)), length-append s.low
-    (s.middle ++ s.rest), length-append s.middle s.rest, length-map s.modifiers_below
-    (in_class CCC22), length-map s.modifiers_above (in_class CCC26), sum_joined s, ap length (split-joined gs))
+    omega (
+      arith,
+      length-append below (above ++ (s.low ++ (s.middle ++ s.rest))),
+      length-append above
+          (s.low ++ (s.middle ++ s.rest)),
+      length-append s.low
+          (s.middle ++ s.rest),
+      length-append s.middle s.rest,
+      length-map s.modifiers_below
+          (in_class CCC22),
+      length-map s.modifiers_above (in_class CCC26),
+      sum_joined s,
+      ap length (split-joined gs),
+    )
 
 -- ---- classes of the parts
 

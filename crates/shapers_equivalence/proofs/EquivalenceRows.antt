@@ -205,8 +205,10 @@ split_vowel = refl
 
 -- a note that the font lacks comes apart as far as the font has it, and then further
 abbrev without_note : Context
-without_note = record whole { nominal = λ c. if c == 0x1D164 then None else
-    (let glyph : GlyphId = record { 0 = c } in Some glyph) }
+without_note = record whole {
+  nominal = λ c. if c == 0x1D164 then None else
+      (let glyph : GlyphId = record { 0 = c } in Some glyph);
+}
 
 once : characters (normalized without_note Always MonotoneGraphemes (text (0x1D164 ∷ []))) ≡ 0x1D15F ∷ 0x1D172 ∷ []
 once = refl

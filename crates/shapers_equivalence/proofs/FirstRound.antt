@@ -129,8 +129,11 @@ as_space g space = record g { var = space.1.0; modified_combining_class = space.
 space_same : (g new : hb_glyph_info_t) (o : Option (ℕ × GlyphId)) → is_mark g.general_category ≡ false
     → SameCharacter g new → SameCharacter g (option_map_or (as_space g) o new)
 space_same g new None e same = same
-space_same g new (Some space) e same = record { character = refl; class = ap (λ b. cond b space.0 0) e ∙ sym
-    (ap (λ b. cond b g.modified_combining_class 0) e) }
+space_same g new (Some space) e same = record {
+  character = refl;
+  class = ap (λ b. cond b space.0 0) e ∙ sym
+      (ap (λ b. cond b g.modified_combining_class 0) e);
+}
 
 without_same : (g new : hb_glyph_info_t) (o : Option (ℕ × GlyphId)) (space : Bool)
     → is_space_separator g.general_category ≡ space → SameCharacter g new
@@ -209,7 +212,7 @@ each_glyph context full t cluster (g ∷ gs) own =
           (image_spells context full t cluster g.glyph_id))
           ∙ ap (λ xs. full g.glyph_id ++ xs) behind.same;
       own = all-append (λ (h : hb_glyph_info_t). class_of h ≡ mark_class context h.glyph_id) first rest
-      (written_own context g cs own.0) behind.own;
+          (written_own context g cs own.0) behind.own;
     }
 
 not_kept : (cluster : List hb_glyph_info_t) → list_any is_selector_glyph cluster ≡ false
@@ -257,7 +260,7 @@ each_group context full t (group ∷ groups) own none =
           ∙ ap (λ xs. apart_text full group ++ xs) others.same
           ∙ sym (apart-append full group (together groups));
       own = all-append (λ (h : hb_glyph_info_t). class_of h ≡ mark_class context h.glyph_id)
-      (cluster_becomes context group) rest one.own others.own;
+          (cluster_becomes context group) rest one.own others.own;
     }
 
 apart_keeps : (context : Context) (full : ℕ → List ℕ) → TakesApart context full → (gs : List hb_glyph_info_t)

@@ -57,7 +57,7 @@ dagesh_apart a b e =
     let other : (nat_le 0xAC00 c && nat_le c 0xD7A3) ≡ false = grind (arith, nat_tests) in
     record {
       pair = no_syllable c other ∙ ap as_pair mapping ∙ ap (λ x. Some (x, 0x05BC)) same ∙ ap (λ x. Some (a, x))
-      (sym second);
+          (sym second);
       two = ap (λ x. eqb x 0) second;
     }
 
@@ -158,7 +158,7 @@ held_apart p e =
     let rest = and_parts (not (eqb p.1 0)) (not (nat_le 0xAC00 p.2 && nat_le p.2 0xD7A3)) parts.1 in
     record {
       pair = no_syllable p.2 (not_of (nat_le 0xAC00 p.2 && nat_le p.2 0xD7A3) rest.1) ∙ ap as_pair
-      (same_string-true (canonical_mapping p.2) (p.0 ∷ p.1 ∷ []) parts.0);
+          (same_string-true (canonical_mapping p.2) (p.0 ∷ p.1 ∷ []) parts.0);
       two = not_of (eqb p.1 0) rest.0;
     }
 

@@ -71,8 +71,17 @@ later g gs None j e ih = absurd (none-some j e)
 later g gs (Some k) j e ih =
     let t = ih k refl in
     let next : suc k ≡ j = ap (λ o. option_map_or (λ n. n) o 0) e in
-    record { front = g ∷ t.front; a = t.a; b = t.b; c = t.c; rest = t.rest; text = ap
-    (λ xs. g ∷ xs) t.text; place = ap suc t.place ∙ next; opens = t.opens }
+    record {
+      front = g ∷ t.front;
+      a = t.a;
+      b = t.b;
+      c = t.c;
+      rest = t.rest;
+      text = ap
+          (λ xs. g ∷ xs) t.text;
+      place = ap suc t.place ∙ next;
+      opens = t.opens;
+    }
 
 triple_by : (g : hb_glyph_info_t) (gs : Glyphs) (j : ℕ) (b : Bool) → opens_triple (g ∷ gs) ≡ b
     → cond b (Some 0) (option_map suc (triple_place gs)) ≡ Some j
@@ -107,8 +116,13 @@ length_by gs None e = refl
 length_by gs (Some j) e =
     let t = triple_at gs j e in
     ap length (swapped_triple gs j t)
-    ∙ omega (arith, length-append t.front (t.a ∷ (t.c ∷ (t.b ∷ t.rest))), length-append t.front
-    (t.a ∷ (t.b ∷ (t.c ∷ t.rest))), ap length t.text)
+    ∙ omega (
+      arith,
+      length-append t.front (t.a ∷ (t.c ∷ (t.b ∷ t.rest))),
+      length-append t.front
+          (t.a ∷ (t.b ∷ (t.c ∷ t.rest))),
+      ap length t.text,
+    )
 
 pub length_hebrew : (gs : Glyphs) → length (hebrew_arranged gs) ≡ length gs
 length_hebrew gs = length_by gs (triple_place gs) refl
@@ -132,8 +146,14 @@ run_by s e view (Some j) some long found =
     let behind = drop e view in
     let front = before ++ (t.front ++ t.a ∷ []) in
     let i = s + j + 1 in
-    let place : i ≡ length front = omega (arith, t.place, length-append before
-    (t.front ++ t.a ∷ []), length-append t.front (t.a ∷ []), length-take-le s view (omega arith)) in
+    let place : i ≡ length front = omega (
+      arith,
+      t.place,
+      length-append before
+          (t.front ++ t.a ∷ []),
+      length-append t.front (t.a ∷ []),
+      length-take-le s view (omega arith),
+    ) in
     ap (λ xs. swap xs i (i + 1)) (sym (stretch_whole s e view some) ∙ ap (λ xs. before ++ (xs ++ behind)) t.text
     ∙ around before t.front t.a t.b t.c t.rest behind)
     ∙ swap_seam front t.b t.c (t.rest ++ behind) i place

@@ -82,14 +82,20 @@ all_put : (P : hb_glyph_info_t → Type 0) (t : hb_glyph_info_t) (ds : List hb_g
     → AllByRecursion P (put_in t ds)
 all_put P t [] p all = (p, tt)
 all_put P t (d ∷ ds) p all = elim (above t d) as
-    (λ b. AllByRecursion P (cond b (t ∷ d ∷ ds) (d ∷ put_in t ds))) [ true ↦ (p, all) | false ↦
-    (all.0, all_put P t ds p all.1) ]
+    (λ b. AllByRecursion P (cond b (t ∷ d ∷ ds) (d ∷ put_in t ds))) [
+      | true ↦ (p, all)
+      | false ↦
+          (all.0, all_put P t ds p all.1)
+    ]
 
 length_put : (t : hb_glyph_info_t) (ds : List hb_glyph_info_t) → length (put_in t ds) ≡ length ds + 1
 length_put t [] = refl
 length_put t (d ∷ ds) = elim (above t d) as
-    (λ b. length (cond b (t ∷ d ∷ ds) (d ∷ put_in t ds)) ≡ length (d ∷ ds) + 1) [ true ↦ omega arith | false ↦ omega
-    (arith, length_put t ds) ]
+    (λ b. length (cond b (t ∷ d ∷ ds) (d ∷ put_in t ds)) ≡ length (d ∷ ds) + 1) [
+      | true ↦ omega arith
+      | false ↦ omega
+          (arith, length_put t ds)
+    ]
 
 lesser : (t d : hb_glyph_info_t) (ds : List hb_glyph_info_t) → class_of t ≤ class_of d
     → AllByRecursion (λ h. class_of d ≤ class_of h) ds → AllByRecursion (λ h. class_of t ≤ class_of h) ds
@@ -170,7 +176,7 @@ all_run context full a ds [] marks s new = record {
   marks = marks;
   in_order = s;
   same = order.as_is (mark_class context) (apart_text full ds) (apart_text full (ds ++ []))
-    (ap (apart_text full) (sym (append-nil ds)));
+      (ap (apart_text full) (sym (append-nil ds)));
 }
 all_run context full a ds (t ∷ ts) marks s new =
     let put = inserted_put t ds s in
@@ -181,8 +187,13 @@ all_run context full a ds (t ∷ ts) marks s new =
     (sym put) (same_put context full a t ds new.0 marks s) in
     let whole : (ds ++ t ∷ []) ++ ts ≡ ds ++ t ∷ ts = append_assoc ds (t ∷ []) ts in
     record {
-      same_length = rest.same_length ∙ omega (arith, length-append
-      (inserted t ds) ts, length_inserted t ds, length-append ds (t ∷ ts));
+      same_length = rest.same_length ∙ omega (
+        arith,
+        length-append
+            (inserted t ds) ts,
+        length_inserted t ds,
+        length-append ds (t ∷ ts),
+      );
       marks = rest.marks;
       in_order = rest.in_order;
       same = λ k.

@@ -72,8 +72,12 @@ tail_of (x ∷ xs) = xs
 
 same_cut : (class : ℕ → ℕ) (ms ns : List ℕ) (c d : ℕ) (cs ds : List ℕ) → Marks class ms → Marks class ns → class c ≡ 0
     → class d ≡ 0 → ms ++ c ∷ cs ≡ ns ++ d ∷ ds → SameCut ms ns c d cs ds
-same_cut class [] [] c d cs ds p q one other e = record { marks = refl; starter = ap
-    (head_or c) e; behind = ap tail_of e }
+same_cut class [] [] c d cs ds p q one other e = record {
+  marks = refl;
+  starter = ap
+      (head_or c) e;
+  behind = ap tail_of e;
+}
 same_cut class [] (n ∷ ns) c d cs ds p q one other e = absurd (q.0 (ap class (sym (ap (head_or c) e)) ∙ one))
 same_cut class (m ∷ ms) [] c d cs ds p q one other e = absurd (p.0 (ap class (ap (head_or m) e) ∙ other))
 same_cut class (m ∷ ms) (n ∷ ns) c d cs ds p q one other e =

@@ -56,8 +56,11 @@ arranges pairs context o = record {
   same_length = o.same_length;
   of_run = o.of_run;
   same = λ marks are s. o.equivalent marks
-    (record { own = marks_own context marks are; marked = all_marked context marks are; ordered = in_order_of marks s
-    });
+      (record {
+        own = marks_own context marks are;
+        marked = all_marked context marks are;
+        ordered = in_order_of marks s;
+      });
 }
 
 -- ---- grapheme joiners

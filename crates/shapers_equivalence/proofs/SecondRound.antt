@@ -164,7 +164,7 @@ pub record Arranges (context : Context) (full : ℕ → List ℕ) : Type 0 where
   pub arranged : List hb_glyph_info_t → List hb_glyph_info_t
   pub same_length : (marks : Glyphs) → length (arranged marks) ≡ length marks
   pub of_run : (level : BufferClusterLevel) (s e : ℕ) (gs : Glyphs) → s < e → e ≤ length gs → order_view
-    (context.reordered level s e gs) ≡ with_stretch s e arranged (order_view gs)
+      (context.reordered level s e gs) ≡ with_stretch s e arranged (order_view gs)
   pub same : (marks : Glyphs) → AreMarks context marks → Sorted marks → Same context full (arranged marks) marks
 
 abbrev pub is_run : Glyphs → Bool
@@ -175,8 +175,11 @@ run_of f d = cond (is_run d) (f (sorted d)) d
 
 length_run : (f : Glyphs → Glyphs) → ((marks : Glyphs) → length (f marks) ≡ length marks) → (d : Glyphs)
     → length (run_of f d) ≡ length d
-length_run f same d = elim (is_run d) as (λ b. length (cond b (f (sorted d)) d) ≡ length d) [ true ↦ same (sorted d)
-    ∙ length_sorted d | false ↦ refl ]
+length_run f same d = elim (is_run d) as (λ b. length (cond b (f (sorted d)) d) ≡ length d) [
+  | true ↦ same (sorted d)
+      ∙ length_sorted d
+  | false ↦ refl
+]
 
 ordered_view_by : (context : Context) (full : ℕ → List ℕ) (a : Arranges context full) (level : BufferClusterLevel)
     (s e : ℕ) (f d r gs : Glyphs) (b : Bool)
@@ -187,8 +190,15 @@ ordered_view_by context full a level s e f d r gs true test start end same =
     let some : s < e = grind (arith, nat_tests) in
     let one = run_sorted level s e gs in
     let view = run_view level s e f d r gs start end same in
-    let inside : e ≤ length one = omega (arith, length-map one plain, ap length view, length-append f
-    (sorted d ++ r), length-append (sorted d) r, length_sorted d) in
+    let inside : e ≤ length one = omega (
+      arith,
+      length-map one plain,
+      ap length view,
+      length-append f
+          (sorted d ++ r),
+      length-append (sorted d) r,
+      length_sorted d,
+    ) in
     a.of_run level s e one some inside ∙ ap (with_stretch s e a.arranged) view
     ∙ with_stretch_at a.arranged f (sorted d) r s e (sym start) (omega (arith, length_sorted d))
 ordered_view_by context full a level s e f d r gs false test start end same = same
@@ -229,8 +239,13 @@ walk_view context full a level s i f d (r ∷ rs) gs start end same =
     let done = f ++ (run ++ r ∷ []) in
     let split : f ++ (run ++ r ∷ rs) ≡ done ++ ([] ++ rs) = ap (λ xs. f ++ xs) (sym (append_assoc run (r ∷ []) rs))
     ∙ sym (append_assoc f (run ++ r ∷ []) rs) in
-    let long : i + 1 ≡ length done = omega (arith, length-append f (run ++ r ∷ []), length-append run
-    (r ∷ []), length_run a.arranged a.same_length d) in
+    let long : i + 1 ≡ length done = omega (
+      arith,
+      length-append f (run ++ r ∷ []),
+      length-append run
+          (r ∷ []),
+      length_run a.arranged a.same_length d,
+    ) in
     let longer : i + 1 ≡ s + length (d ++ r ∷ []) = omega (arith, length-append d (r ∷ [])) in
     let more : f ++ (d ++ r ∷ rs) ≡ f ++ ((d ++ r ∷ []) ++ rs) = ap (λ xs. f ++ xs)
     (sym (append_assoc d (r ∷ []) rs)) in
@@ -238,8 +253,8 @@ walk_view context full a level s i f d (r ∷ rs) gs start end same =
     (all_ordered context level gs (cond b ((s, i) ∷ mark_runs (i + 1) (i + 1) cs) (mark_runs s (i + 1) cs))) ≡ f
     ++ cond b (run ++ r ∷ ordered_from a.arranged [] rs) (ordered_from a.arranged (d ++ r ∷ []) rs)) [
       | true ↦ walk_view context full a level (i + 1) (i + 1) done [] rs new long (omega arith) (one ∙ split)
-      ∙ append_assoc f (run ++ r ∷ []) (ordered_from a.arranged [] rs)
-      ∙ ap (λ xs. f ++ xs) (append_assoc run (r ∷ []) (ordered_from a.arranged [] rs))
+          ∙ append_assoc f (run ++ r ∷ []) (ordered_from a.arranged [] rs)
+          ∙ ap (λ xs. f ++ xs) (append_assoc run (r ∷ []) (ordered_from a.arranged [] rs))
       | false ↦ walk_view context full a level s (i + 1) f (d ++ r ∷ []) rs gs start longer (same ∙ more)
     ]
 

@@ -91,7 +91,7 @@ ya_nukta_apart a b c both is =
     let second = eqb-true b 0x09BC parts.1 in
     record {
       pair = ap decomposed (sym is) ∙ ya_nukta_pair ∙ ap (λ x. Some (x, 0x09BC)) (sym first) ∙ ap (λ x. Some (a, x))
-      (sym second);
+          (sym second);
       two = ap (λ x. eqb x 0) second;
     }
 
@@ -126,7 +126,7 @@ is_canonical shaper plan font variants invisible draws by = record {
   ends = ends;
   apart = λ c p e. apart_for shaper c p by (taken_by (is_character c) (decomposed_for shaper unicode_tables c) p e);
   composed = λ a b c e. composed_alike shaper plan a b c by
-    (made_by (is_character a && is_character b) (composed_for shaper plan unicode_tables a b) c e);
+      (made_by (is_character a && is_character b) (composed_for shaper plan unicode_tables a b) c e);
   marks = λ c some. marks_own_class 8 c some;
 }
 
@@ -172,8 +172,8 @@ arranged_for (Some Arabic) plan font variants invisible draws by =
       same_length = length_arranged;
       of_run = λ level s e gs some within. arabic.marks_view level s e gs;
       equivalent = λ marks run. arabic_same context (full_decomposition decomposed)
-      (takes_apart decomposed context (is_canonical (Some Arabic) plan font variants invisible draws by)) marks
-      (run_marks context marks run.own run.marked);
+          (takes_apart decomposed context (is_canonical (Some Arabic) plan font variants invisible draws by)) marks
+          (run_marks context marks run.own run.marked);
     }
 arranged_for (Some Hangul) plan font variants invisible draws by = without_order
     (unicode_context (Some Hangul) plan font variants invisible draws)
@@ -185,8 +185,8 @@ arranged_for (Some Hebrew) plan font variants invisible draws by =
       same_length = length_hebrew;
       of_run = λ level s e gs some within. hebrew_of_run level s e gs some within;
       equivalent = λ marks run. hebrew_same context (full_decomposition decomposed)
-      (takes_apart decomposed context (is_canonical (Some Hebrew) plan font variants invisible draws by)) marks
-      (run_marks context marks run.own run.marked);
+          (takes_apart decomposed context (is_canonical (Some Hebrew) plan font variants invisible draws by)) marks
+          (run_marks context marks run.own run.marked);
     }
 arranged_for (Some Indic) plan font variants invisible draws by = without_order
     (unicode_context (Some Indic) plan font variants invisible draws)
@@ -218,7 +218,7 @@ khmer_canonical plan font variants invisible draws = record {
   ends = ends;
   apart = λ c p e. taken_by (is_character c) (decomposed c) p e;
   composed = λ a b c e. same_text own_class a b c
-    (behind_apart a b c (made_by (is_character a && is_character b) (composed_behind unicode_tables a b) c e));
+      (behind_apart a b c (made_by (is_character a && is_character b) (composed_behind unicode_tables a b) c e));
   marks = λ c some. marks_own_class 8 c some;
 }
 
@@ -256,8 +256,11 @@ by_pairs shaper plan font variants invisible draws rounds level gs by =
     let context = unicode_context shaper plan font variants invisible draws in
     let canonical = is_canonical shaper plan font variants invisible draws by in
     let arranged = arranged_for shaper plan font variants invisible draws by in
-    λ text. (orders_marks_so decomposed context level gs canonical arranged text, λ in_order. normalizes_so decomposed
-    context rounds level gs canonical arranged text in_order)
+    λ text. (
+      orders_marks_so decomposed context level gs canonical arranged text,
+      λ in_order. normalizes_so decomposed
+          context rounds level gs canonical arranged text in_order,
+    )
 
 kept_by_pairs : (shaper : Option hb_ot_shaper_t) (plan : hb_ot_shape_plan_t) (font : Font) (variants : VariantForms)
     (invisible : Option GlyphId) (draws : Bool) (rounds : Rounds) (level : BufferClusterLevel)
@@ -283,15 +286,18 @@ khmer_normalizes plan font variants invisible draws rounds level gs whole =
     λ text.
     let plain : IsPlainText context gs = record { own = text.own; no_selector = text.no_selector } in (
       subst (λ xs. CanonicallyEquivalent decomposed class (characters (marks_ordered context level xs))
-      (characters gs)) (sym first) (orders_marks_so decomposed context level gs canonical arranged plain),
+          (characters gs)) (sym first) (orders_marks_so decomposed context level gs canonical arranged plain),
       λ in_order. subst (λ xs. CanonicallyEquivalent decomposed class
-      (characters (later_rounds context (has_rounds rounds gs) level xs)) (characters gs)) (sym first)
+          (characters (later_rounds context (has_rounds rounds gs) level xs)) (characters gs)) (sym first)
           (normalizes_so decomposed context rounds level gs canonical arranged plain
           (λ composing.
           let order = in_order composing in
           let same = ap (marks_ordered context level) first in
-          record { own = subst (HaveOwnClasses context) same order.own; ordered = ap
-          (λ xs. in_canonical_order (classes xs)) (sym same) ∙ order.ordered })),
+          record {
+            own = subst (HaveOwnClasses context) same order.own;
+            ordered = ap
+                (λ xs. in_canonical_order (classes xs)) (sym same) ∙ order.ordered;
+          })),
     )
 
 khmer_keeps : (plan : hb_ot_shape_plan_t) (font : Font) (variants : VariantForms) (invisible : Option GlyphId)

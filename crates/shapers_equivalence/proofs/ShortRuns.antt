@@ -96,7 +96,7 @@ letter_case : (context : Context) (ds : Glyphs) (r : hb_glyph_info_t) (rs : Glyp
     → InOrder context (ds ++ r ∷ rs)
 letter_case context ds r rs letter own one rest = record {
   own = all-append (λ (g : hb_glyph_info_t). class_of g ≡ mark_class context g.glyph_id) ds (r ∷ rs) one.own
-    (own, rest.own);
+      (own, rest.own);
   ordered = before_letter ds r rs letter one.ordered (behind_letter r rs letter rest.ordered);
 }
 
@@ -152,5 +152,5 @@ short_in_order context full t o level gs own short =
     record {
       own = own_of_view context new (subst (HaveOwnClasses context) (sym is) done.own);
       ordered = ap in_canonical_order (sym same ∙ ap classes is) ∙ ordered_to
-      (ordered_from as_they_are [] view) done.ordered;
+          (ordered_from as_they_are [] view) done.ordered;
     }

@@ -206,7 +206,7 @@ left_by context gs n w false e i =
       order = omega (arith, i.order);
       left = omega (arith, i.left);
       between = λ k low high. between_by gs w.starter w.place k (eqb k w.place) refl i.between
-      (λ none. some (sym here ∙ none)) low high;
+          (λ none. some (sym here ∙ none)) low high;
     }
 
 walk_stays : (context : Context) (level : BufferClusterLevel) (gs : Glyphs) (n : ℕ) (w : StarterWalk)

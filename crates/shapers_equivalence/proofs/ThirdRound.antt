@@ -156,11 +156,11 @@ free_by n start place c d true e long test = inl
 free_by n start place c d false e long test = inr (grind (arith, nat_tests))
 
 -- marks that one passes: those between it and the starter
-marks_below : (context : Context) (s m : hb_glyph_info_t) (b r : Glyphs) → AreMarks context b → Ordered (b ++ m ∷ r)
+marks_lower : (context : Context) (s m : hb_glyph_info_t) (b r : Glyphs) → AreMarks context b → Ordered (b ++ m ∷ r)
     → (length b ≡ 0) ⊎ (class_of (get_or (s ∷ b) (length b) default_glyph) < class_of m) → Below (class_of m) b
-marks_below context s m [] r marks o free = tt
-marks_below context s m (b ∷ bs) r marks o (inl none) = absurd (omega arith)
-marks_below context s m (b ∷ bs) r marks o (inr less) = all_below context s b m bs r marks o less
+marks_lower context s m [] r marks o free = tt
+marks_lower context s m (b ∷ bs) r marks o (inl none) = absurd (omega arith)
+marks_lower context s m (b ∷ bs) r marks o (inr less) = all_below context s b m bs r marks o less
 
 others_below : (context : Context) (c : ℕ) (b : Glyphs) → AreMarks context b → Below c b → OtherMarks context c b
 others_below context c [] marks below = tt
@@ -249,7 +249,7 @@ takes context drawn w f s b m r a e =
           ap (λ (g : hb_glyph_info_t). context.composed g.glyph_id m.glyph_id) is_s
           ∙ ap (λ (g : hb_glyph_info_t). context.composed starter.glyph_id g.glyph_id) is_m
           ∙ both.1;
-      below = marks_below context s m b r a.between a.in_order seen;
+      below = marks_lower context s m b r a.between a.in_order seen;
     }
 
 -- what is composed is the same text
@@ -378,9 +378,15 @@ third_same context full t level (g ∷ gs) o =
     let classes_seen : classes view ≡ classes gs = map-hidden class_of plain (λ g. refl) gs in
     let ordered : Ordered (plain g ∷ view) = ordered_of (plain g ∷ view)
     (ap (λ cs. in_canonical_order (class_of g ∷ cs)) classes_seen ∙ o.ordered) in
-    let at : At context start [] (plain g) [] view = record
-    { view = refl; starter = refl; place = refl; between = tt; behind = view_own context gs o.own.1; in_order =
-    ordered.1 } in
+    let at : At context start [] (plain g) [] view = record {
+      view = refl;
+      starter = refl;
+      place = refl;
+      between = tt;
+      behind = view_own context gs o.own.1;
+      in_order =
+          ordered.1;
+    } in
     λ k.
     order.as_is (mark_class context) (apart_text full (recomposed context level (g ∷ gs)))
     (apart_text full (walk_over context level (length view) start).glyphs)

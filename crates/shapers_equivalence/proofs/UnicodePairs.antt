@@ -124,14 +124,14 @@ pub not_of : (b : Bool) → not b ≡ true → b ≡ false
 not_of true e = absurd (false≢true e)
 not_of false e = refl
 
-settles : (n c : ℕ) → stops canonical_mapping n c ≡ true → Settled n c
+stops_settled : (n c : ℕ) → stops canonical_mapping n c ≡ true → Settled n c
 unfolding stops
-settles zero c s =
+stops_settled zero c s =
     let parts = and_parts (is_empty (canonical_mapping c)) (not (is_s c)) s in
     alone_settled 0 c (no_syllable c (not_of (is_s c) parts.1) ∙ ap as_pair (empty_of (canonical_mapping c) parts.0))
-settles (suc n) c s =
+stops_settled (suc n) c s =
     let parts = and_parts (not (is_s c)) (parts_all (stops canonical_mapping n) (canonical_mapping c)) s in
-    by_mapping n c (canonical_mapping c) (no_syllable c (not_of (is_s c) parts.0)) parts.1 (λ a more. settles n a more)
+    by_mapping n c (canonical_mapping c) (no_syllable c (not_of (is_s c) parts.0)) parts.1 (λ a more. stops_settled n a more)
 
 -- ---- Hangul
 
@@ -190,7 +190,7 @@ syllable_by n s false e is =
 
 ends_at : (c : ℕ) (b : Bool) → is_s c ≡ b → apart_in_steps decomposed 9 c ≡ apart_in_steps decomposed 8 c
 ends_at c true e = syllable_by 6 c (eqb ((c - 0xAC00) % 28) 0) refl e
-ends_at c false e = settles 8 c (stop_by c (is_empty (canonical_mapping c)) refl e)
+ends_at c false e = stops_settled 8 c (stop_by c (is_empty (canonical_mapping c)) refl e)
 
 pub ends : (c : ℕ) → apart_in_steps decomposed 9 c ≡ apart_in_steps decomposed 8 c
 ends c = ends_at c (is_s c) refl
@@ -231,8 +231,11 @@ found_in a b p (x ∷ (q ∷ rest)) ok h =
     let one : decomposed q ≡ Some (a, x) = no_syllable q (not_of (is_s q) others.0) ∙ ap as_pair
     (same_string-true (canonical_mapping q) (a ∷ x ∷ []) both.0) in
     let is : q ≡ p = cc in
-    record { pair = subst (λ r. decomposed r ≡ Some (a, b)) is (one ∙ ap (λ y. Some (a, y)) second); two = ap
-    (λ y. eqb y 0) (sym second) ∙ not_of (x == 0) others.1 })
+    record {
+      pair = subst (λ r. decomposed r ≡ Some (a, b)) is (one ∙ ap (λ y. Some (a, y)) second);
+      two = ap
+          (λ y. eqb y 0) (sym second) ∙ not_of (x == 0) others.1;
+    })
     (λ _ found. found_in a b p rest parts.1 found)
     h
 
@@ -285,15 +288,21 @@ composed_as a b c true lvt e f h =
     let inside = within_bounds 0x1161 0x1175 b parts.1 in
     let low = inside.0 in
     let is : with_v a b ≡ c = cc in
-    record { pair = subst (λ s. decomposed s ≡ Some (a, b)) is (v_apart a b parts.0 parts.1); two = grind
-    (arith, nat_tests) }
+    record {
+      pair = subst (λ s. decomposed s ≡ Some (a, b)) is (v_apart a b parts.0 parts.1);
+      two = grind
+          (arith, nat_tests);
+    }
 composed_as a b c false true e f h =
     let parts = and_parts (is_lv a) (combines_t b) f in
     let inside = within_bounds 0x11A8 0x11C2 b parts.1 in
     let low = inside.0 in
     let is : with_t a b ≡ c = cc in
-    record { pair = subst (λ s. decomposed s ≡ Some (a, b)) is (t_apart a b parts.0 parts.1); two = grind
-    (arith, nat_tests) }
+    record {
+      pair = subst (λ s. decomposed s ≡ Some (a, b)) is (t_apart a b parts.0 parts.1);
+      two = grind
+          (arith, nat_tests);
+    }
 composed_as a b c false false e f h = primary_apart a b c h
 
 -- what two characters compose to comes apart into them
