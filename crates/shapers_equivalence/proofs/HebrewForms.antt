@@ -17,7 +17,7 @@ use Rattle.shapers_unicode.specs.MappingRows.{mapping_rows}
 use Rattle.shapers_unicode.specs.Pairs.{as_pair, canonical_mapping, composed, decomposed}
 use Rattle.shapers_equivalence.specs.Equivalence.{CanonicallyEquivalent, fully_decomposed}
 use Rattle.shapers_equivalence.proofs.Projections as order
-use Rattle.shapers_equivalence.proofs.UnicodePairs.{ApartInto, composed_apart, no_syllable, own_class, same_text}
+use Rattle.shapers_equivalence.proofs.UnicodePairs.{ApartInto, composed_apart, no_syllable, own_class, pair_as, same_text}
 
 abbrev pub Alike : ℕ → ℕ → ℕ → Type 0
 Alike a b c = CanonicallyEquivalent decomposed own_class (c ∷ []) (a ∷ b ∷ [])
@@ -56,8 +56,7 @@ dagesh_apart a b e =
     let second = eqb-true b 0x05BC parts.0 in
     let other : (nat_le 0xAC00 c && nat_le c 0xD7A3) ≡ false = grind (arith, nat_tests) in
     record {
-      pair = no_syllable c other ∙ ap as_pair mapping ∙ ap (λ x. Some (x, 0x05BC)) same ∙ ap (λ x. Some (a, x))
-          (sym second);
+      pair = pair_as c (0x05D0 + k) 0x05BC a b (no_syllable c other ∙ ap as_pair mapping) same (sym second);
       two = ap (λ x. eqb x 0) second;
     }
 

@@ -249,6 +249,10 @@ held_by a b p false e h = found_in a b p (compositions a) (all_hold a e) h
 primary_apart : (a b p : ℕ) → primary_composite a b ≡ Some p → ApartInto a b p
 primary_apart a b p h = held_by a b p (is_empty (compositions a)) refl (sym (composite-paired_with a b) ∙ h)
 
+-- the same two parts
+pub pair_as : (c a b x y : ℕ) → decomposed c ≡ Some (a, b) → a ≡ x → b ≡ y → decomposed c ≡ Some (x, y)
+pair_as c a b x y e first second = e ∙ ap₂ (λ u v. Some (u, v)) first second
+
 v_apart : (l v : ℕ) → combines_l l ≡ true → combines_v v ≡ true → decomposed (with_v l v) ≡ Some (l, v)
 v_apart l v hl hv =
     let insl = within_bounds 0x1100 0x1112 l hl in
@@ -260,8 +264,7 @@ v_apart l v hl hv =
     let s = with_v l v in
     let first : lead s ≡ l = omega arith in
     let second : vowel s ≡ v = omega arith in
-    lv_pair s (is_s_of s (omega arith) (omega arith)) (omega arith)
-    ∙ ap (λ c. Some (c, vowel s)) first ∙ ap (λ c. Some (l, c)) second
+    pair_as s (lead s) (vowel s) l v (lv_pair s (is_s_of s (omega arith) (omega arith)) (omega arith)) first second
 
 t_apart : (s t : ℕ) → is_lv s ≡ true → combines_t t ≡ true → decomposed (with_t s t) ≡ Some (s, t)
 t_apart s t hs ht =
@@ -278,8 +281,7 @@ t_apart s t hs ht =
     let some : eqb ((u - 0xAC00) % 28) 0 ≡ false = grind (arith, nat_tests) in
     let first : u - (u - 0xAC00) % 28 ≡ s = omega arith in
     let second : trail u ≡ t = omega arith in
-    t_pair u (is_s_of u (omega arith) (omega arith)) some
-    ∙ ap (λ c. Some (c, trail u)) first ∙ ap (λ c. Some (s, c)) second
+    pair_as u (u - (u - 0xAC00) % 28) (trail u) s t (t_pair u (is_s_of u (omega arith) (omega arith)) some) first second
 
 composed_as : (a b c : ℕ) (lv lvt : Bool) → (combines_l a && combines_v b) ≡ lv → (is_lv a && combines_t b) ≡ lvt
     → cond lv (Some (with_v a b)) (cond lvt (Some (with_t a b)) (primary_composite a b)) ≡ Some c → ApartInto a b c
