@@ -1,5 +1,5 @@
 -- Full decompositions and equivalent texts, and where the law ends.
-use Rattle.std.specs.Prelude.{◌≡◌, ℕ, ◌==◌, not, ◌&&◌, ◌||◌, Bool, true, false, List, [], ◌∷◌, ◌++◌, find, map, replicate, Option, None, Some, option_map, if◌then◌else◌, refl}
+use Rattle.std.specs.Prelude.{◌≡◌, ℕ, ◌==◌, not, ◌&&◌, ◌||◌, true, false, List, [], ◌∷◌, ◌++◌, find, map, replicate, Option, None, Some, option_map, if◌then◌else◌, refl}
 use Rattle.std.specs.List.{enumerate_from, list_any}
 use Rattle.std.specs.Option.{option_map_or}
 use Rattle.rustybuzz_shapers.specs.declared.shaper.hb_ot_shaper_t.{hb_ot_shaper_t}
@@ -9,7 +9,6 @@ use Rattle.shapers_base.specs.declared.plan.record.NormalizationMode.TheVariants
 use Rattle.shapers_buffer.specs.declared.buffer.category.hb_unicode_general_category_t.{hb_unicode_general_category_t}
 use Rattle.shapers_buffer.specs.declared.buffer.category.hb_unicode_general_category_t.TheVariants.{Lo, Mn}
 use Rattle.shapers_buffer.specs.declared.buffer.glyph.hb_glyph_info_t.{hb_glyph_info_t}
-use Rattle.shapers_buffer.specs.declared.buffer.level.BufferClusterLevel.{BufferClusterLevel}
 use Rattle.shapers_buffer.specs.declared.buffer.level.BufferClusterLevel.TheVariants.{MonotoneGraphemes}
 use Rattle.shapers_buffer.specs.Glyph.{characters, default_glyph}
 use Rattle.shapers_normal.specs.Context.{Context}
@@ -17,7 +16,7 @@ use Rattle.shapers_normal.specs.Normalization.{normalized}
 use Rattle.shapers_normal.specs.Properties.{as_character}
 use Rattle.shapers_normal.specs.declared.ot_shape_normalize.normalizing.Rounds.TheVariants.{Always}
 use Rattle.shapers_normalize.specs.ByShaper.{ordered_for}
-use Rattle.shapers_equivalence.specs.Equivalence.{apart_in_steps, full_decomposition, fully_decomposed, in_order, with_marks_of}
+use Rattle.shapers_equivalence.specs.Equivalence.{apart_in_steps, full_decomposition, fully_decomposed, ordered_by_classes, with_marks_of}
 use Rattle.shapers_equivalence.specs.Laws.{has_short_runs, in_canonical_order, mark_class}
 
 -- Unicode's pairs of some characters: the Angstrom sign comes apart into one, 0344 is a mark, 0958
@@ -25,8 +24,11 @@ use Rattle.shapers_equivalence.specs.Laws.{has_short_runs, in_canonical_order, m
 abbrev rows : List (ℕ × ℕ × ℕ)
 rows =
     (0xC1, 0x41, 0x301) ∷ (0xC5, 0x41, 0x30A) ∷ (0x212B, 0xC5, 0) ∷ (0x1E9B, 0x17F, 0x307) ∷ (0xAC01, 0xAC00, 0x11A8)
-    ∷ (0xAC00, 0x1100, 0x1161) ∷ (0x958, 0x915, 0x93C) ∷ (0x9CB, 0x9C7, 0x9BE) ∷ (0x622, 0x627, 0x653) ∷ (0x623, 0x627, 0x654) ∷ (0x1EA1, 0x61, 0x323) ∷ (0x344, 0x308, 0x301) ∷ (0x1D15F, 0x1D158, 0x1D165) ∷ (0x1D164, 0x1D15F, 0x1D172)
-    ∷ (0xE001, 0xE000, 0x301) ∷ (0xE002, 0xE001, 0x301) ∷ (0xE003, 0xE002, 0x301) ∷ (0xE004, 0xE003, 0x301) ∷ (0xE005, 0xE004, 0x301)
+    ∷ (0xAC00, 0x1100, 0x1161) ∷ (0x958, 0x915, 0x93C) ∷ (0x9CB, 0x9C7, 0x9BE) ∷ (0x622, 0x627, 0x653) ∷
+    (0x623, 0x627, 0x654) ∷ (0x1EA1, 0x61, 0x323) ∷ (0x344, 0x308, 0x301) ∷ (0x1D15F, 0x1D158, 0x1D165) ∷
+    (0x1D164, 0x1D15F, 0x1D172)
+    ∷ (0xE001, 0xE000, 0x301) ∷ (0xE002, 0xE001, 0x301) ∷ (0xE003, 0xE002, 0x301) ∷ (0xE004, 0xE003, 0x301) ∷
+    (0xE005, 0xE004, 0x301)
     ∷ (0xE006, 0xE005, 0x301) ∷ (0xE007, 0xE006, 0x301) ∷ (0xE008, 0xE007, 0x301) ∷ (0xE009, 0xE008, 0x301) ∷ []
 
 abbrev pairs : ℕ → Option (ℕ × ℕ)
@@ -34,9 +36,14 @@ pairs c = option_map (λ p. (p.1, p.2)) (find (λ p. p.0 == c) rows)
 
 -- what isn't excluded composes
 abbrev whole_of : ℕ → ℕ → Option ℕ
-whole_of a b = option_map (λ p. p.0) (find (λ p. (p.1 == a && p.2 == b) && not (p.0 == 0x958 || p.0 == 0x344 || p.0 == 0x1D15F || p.0 == 0x1D164 || p.2 == 0)) rows)
+whole_of a b = option_map (λ p. p.0) (find
+    (λ p. (p.1 == a && p.2 == b) && not
+    (p.0 == 0x958 || p.0 == 0x344 || p.0 == 0x1D15F || p.0 == 0x1D164 || p.2 == 0)) rows)
 
-full_decompositions : map (full_decomposition pairs) (0x41 ∷ 0xC5 ∷ 0x212B ∷ 0x1E9B ∷ 0xAC01 ∷ 0x958 ∷ 0x9CB ∷ 0x344 ∷ []) ≡ (0x41 ∷ []) ∷ (0x41 ∷ 0x30A ∷ []) ∷ (0x41 ∷ 0x30A ∷ []) ∷ (0x17F ∷ 0x307 ∷ []) ∷ (0x1100 ∷ 0x1161 ∷ 0x11A8 ∷ []) ∷ (0x915 ∷ 0x93C ∷ []) ∷ (0x9C7 ∷ 0x9BE ∷ []) ∷ (0x308 ∷ 0x301 ∷ []) ∷ []
+full_decompositions : map (full_decomposition pairs)
+    (0x41 ∷ 0xC5 ∷ 0x212B ∷ 0x1E9B ∷ 0xAC01 ∷ 0x958 ∷ 0x9CB ∷ 0x344 ∷ []) ≡ (0x41 ∷ []) ∷ (0x41 ∷ 0x30A ∷ []) ∷
+    (0x41 ∷ 0x30A ∷ []) ∷ (0x17F ∷ 0x307 ∷ []) ∷ (0x1100 ∷ 0x1161 ∷ 0x11A8 ∷ []) ∷ (0x915 ∷ 0x93C ∷ []) ∷
+    (0x9C7 ∷ 0x9BE ∷ []) ∷ (0x308 ∷ 0x301 ∷ []) ∷ []
 full_decompositions = refl
 
 -- in no steps, and in one
@@ -59,8 +66,10 @@ text_apart = refl
 -- classes as the shapers have them
 abbrev mark_classes : List (ℕ × ℕ)
 mark_classes =
-    (0x301, 230) ∷ (0x305, 230) ∷ (0x307, 230) ∷ (0x308, 230) ∷ (0x30A, 230) ∷ (0x344, 230) ∷ (0x316, 220) ∷ (0x323, 220) ∷ (0x93C, 7)
-    ∷ (0x9BE, 0) ∷ (0x653, 230) ∷ (0x654, 230) ∷ (0x658, 230) ∷ (0x64E, 31) ∷ (0x5B7, 20) ∷ (0x5B0, 22) ∷ (0xFE01, 0) ∷ (0x1D165, 216) ∷ (0x1D172, 216) ∷ []
+    (0x301, 230) ∷ (0x305, 230) ∷ (0x307, 230) ∷ (0x308, 230) ∷ (0x30A, 230) ∷ (0x344, 230) ∷ (0x316, 220) ∷
+    (0x323, 220) ∷ (0x93C, 7)
+    ∷ (0x9BE, 0) ∷ (0x653, 230) ∷ (0x654, 230) ∷ (0x658, 230) ∷ (0x64E, 31) ∷ (0x5B7, 20) ∷ (0x5B0, 22) ∷ (0xFE01, 0) ∷
+    (0x1D165, 216) ∷ (0x1D172, 216) ∷ []
 
 abbrev class_in : ℕ → ℕ
 class_in c = option_map_or (λ p. p.1) (find (λ p. p.0 == c) mark_classes) 0
@@ -74,24 +83,29 @@ letters_alone = refl
 
 -- 1E9B 0323 and 017F 0323 0307 are one but for the order of marks of other classes; 0041 0301 030A
 -- and 0041 030A 0301 aren't, nor are 0301 0041 and 0041 0301
-other_classes : map (λ k. with_marks_of class_in k (fully_decomposed pairs (0x1E9B ∷ 0x323 ∷ []))) (0 ∷ 220 ∷ 230 ∷ []) ≡ map (λ k. with_marks_of class_in k (0x17F ∷ 0x323 ∷ 0x307 ∷ [])) (0 ∷ 220 ∷ 230 ∷ [])
+other_classes : map (λ k. with_marks_of class_in k (fully_decomposed pairs (0x1E9B ∷ 0x323 ∷ []))) (0 ∷ 220 ∷ 230 ∷ [])
+    ≡ map (λ k. with_marks_of class_in k (0x17F ∷ 0x323 ∷ 0x307 ∷ [])) (0 ∷ 220 ∷ 230 ∷ [])
 other_classes = refl
 
-one_class : map (with_marks_of class_in 230) ((0x41 ∷ 0x301 ∷ 0x30A ∷ []) ∷ (0x41 ∷ 0x30A ∷ 0x301 ∷ []) ∷ []) ≡ (0x41 ∷ 0x301 ∷ 0x30A ∷ []) ∷ (0x41 ∷ 0x30A ∷ 0x301 ∷ []) ∷ []
+one_class : map (with_marks_of class_in 230) ((0x41 ∷ 0x301 ∷ 0x30A ∷ []) ∷ (0x41 ∷ 0x30A ∷ 0x301 ∷ []) ∷ []) ≡
+    (0x41 ∷ 0x301 ∷ 0x30A ∷ []) ∷ (0x41 ∷ 0x30A ∷ 0x301 ∷ []) ∷ []
 one_class = refl
 
-over_a_letter : map (with_marks_of class_in 230) ((0x301 ∷ 0x41 ∷ []) ∷ (0x41 ∷ 0x301 ∷ []) ∷ []) ≡ (0x301 ∷ 0x41 ∷ []) ∷ (0x41 ∷ 0x301 ∷ []) ∷ []
+over_a_letter : map (with_marks_of class_in 230) ((0x301 ∷ 0x41 ∷ []) ∷ (0x41 ∷ 0x301 ∷ []) ∷ []) ≡
+    (0x301 ∷ 0x41 ∷ []) ∷ (0x41 ∷ 0x301 ∷ []) ∷ []
 over_a_letter = refl
 
 -- each run class by class, those of one class in their order; marks in front, classes 1 and 255
-ordered : in_order class_in (0x307 ∷ 0x323 ∷ 0x41 ∷ 0x301 ∷ 0x316 ∷ 0x30A ∷ 0x323 ∷ 0x42 ∷ []) ≡ 0x323 ∷ 0x307 ∷ 0x41 ∷ 0x316 ∷ 0x323 ∷ 0x301 ∷ 0x30A ∷ 0x42 ∷ []
+ordered : ordered_by_classes class_in (0x307 ∷ 0x323 ∷ 0x41 ∷ 0x301 ∷ 0x316 ∷ 0x30A ∷ 0x323 ∷ 0x42 ∷ [])
+    ≡ 0x323 ∷ 0x307 ∷ 0x41 ∷ 0x316 ∷ 0x323 ∷ 0x301 ∷ 0x30A ∷ 0x42 ∷ []
 ordered = refl
 
-all_classes : in_order (λ c. c) (255 ∷ 1 ∷ 0 ∷ 2 ∷ []) ≡ 1 ∷ 255 ∷ 0 ∷ 2 ∷ []
+all_classes : ordered_by_classes (λ c. c) (255 ∷ 1 ∷ 0 ∷ 2 ∷ []) ≡ 1 ∷ 255 ∷ 0 ∷ 2 ∷ []
 all_classes = refl
 
 -- the second of two neighbours in no lesser class, or in class 0
-orders : map in_canonical_order ([] ∷ (230 ∷ []) ∷ (220 ∷ 230 ∷ []) ∷ (230 ∷ 230 ∷ []) ∷ (230 ∷ 0 ∷ 220 ∷ []) ∷ (230 ∷ 220 ∷ []) ∷ (0 ∷ 230 ∷ 7 ∷ []) ∷ []) ≡ true ∷ true ∷ true ∷ true ∷ true ∷ false ∷ false ∷ []
+orders : map in_canonical_order ([] ∷ (230 ∷ []) ∷ (220 ∷ 230 ∷ []) ∷ (230 ∷ 230 ∷ []) ∷ (230 ∷ 0 ∷ 220 ∷ []) ∷
+    (230 ∷ 220 ∷ []) ∷ (0 ∷ 230 ∷ 7 ∷ []) ∷ []) ≡ true ∷ true ∷ true ∷ true ∷ true ∷ false ∷ false ∷ []
 orders = refl
 
 -- ---- a context of these, with a font that has every character
@@ -115,7 +129,8 @@ whole = record {
 }
 
 abbrev text : List ℕ → List hb_glyph_info_t
-text cs = map (λ p. let g : hb_glyph_info_t = record (as_character whole p.1 0 default_glyph) { cluster = p.0 } in g) (enumerate_from 0 cs)
+text cs = map (λ p. let g : hb_glyph_info_t = record (as_character whole p.1 0 default_glyph) { cluster = p.0 } in g)
+    (enumerate_from 0 cs)
 
 abbrev normal : List ℕ → List ℕ
 normal cs = characters (normalized whole Always MonotoneGraphemes (text cs))
@@ -131,7 +146,8 @@ short_runs = refl
 unsorted : normal (0x41 ∷ 0x305 ∷ (replicate 31 0x316 ++ 0x301 ∷ [])) ≡ 0xC1 ∷ 0x305 ∷ replicate 31 0x316
 unsorted = refl
 
-sorted_run : normal (0x41 ∷ 0x305 ∷ (replicate 30 0x316 ++ 0x301 ∷ [])) ≡ 0x41 ∷ (replicate 30 0x316 ++ 0x305 ∷ 0x301 ∷ [])
+sorted_run : normal (0x41 ∷ 0x305 ∷ (replicate 30 0x316 ++ 0x301 ∷ [])) ≡ 0x41 ∷
+    (replicate 30 0x316 ++ 0x305 ∷ 0x301 ∷ [])
 sorted_run = refl
 
 -- ---- shapers with an order of their own
@@ -167,7 +183,8 @@ blocked_below = refl
 abbrev in_class_220 : hb_glyph_info_t → hb_glyph_info_t
 in_class_220 g = record g { modified_combining_class = 220 }
 
-other_class : characters (normalized whole Always MonotoneGraphemes (text (0x41 ∷ []) ++ (map in_class_220 (text (0x305 ∷ [])) ++ text (0x301 ∷ [])))) ≡ 0xC1 ∷ 0x305 ∷ []
+other_class : characters (normalized whole Always MonotoneGraphemes
+    (text (0x41 ∷ []) ++ (map in_class_220 (text (0x305 ∷ [])) ++ text (0x301 ∷ [])))) ≡ 0xC1 ∷ 0x305 ∷ []
 other_class = refl
 
 -- a character and a selector of which the font has the form
@@ -188,14 +205,19 @@ split_vowel = refl
 
 -- a note that the font lacks comes apart as far as the font has it, and then further
 abbrev without_note : Context
-without_note = record whole { nominal = λ c. if c == 0x1D164 then None else (let glyph : GlyphId = record { 0 = c } in Some glyph) }
+without_note = record whole {
+  nominal = λ c. if c == 0x1D164 then None else
+      (let glyph : GlyphId = record { 0 = c } in Some glyph);
+}
 
 once : characters (normalized without_note Always MonotoneGraphemes (text (0x1D164 ∷ []))) ≡ 0x1D15F ∷ 0x1D172 ∷ []
 once = refl
 
-again : characters (normalized without_note Always MonotoneGraphemes (text (0x1D15F ∷ 0x1D172 ∷ []))) ≡ 0x1D158 ∷ 0x1D165 ∷ 0x1D172 ∷ []
+again : characters (normalized without_note Always MonotoneGraphemes (text (0x1D15F ∷ 0x1D172 ∷ [])))
+    ≡ 0x1D158 ∷ 0x1D165 ∷ 0x1D172 ∷ []
 again = refl
 
 -- a text that is apart, in order, stays so for a shaper that composes nothing
-apart_stays : characters (normalized (record whole { mode = NONE }) Always MonotoneGraphemes (text (0x41 ∷ 0x316 ∷ 0x301 ∷ []))) ≡ 0x41 ∷ 0x316 ∷ 0x301 ∷ []
+apart_stays : characters (normalized (record whole { mode = NONE }) Always MonotoneGraphemes
+    (text (0x41 ∷ 0x316 ∷ 0x301 ∷ []))) ≡ 0x41 ∷ 0x316 ∷ 0x301 ∷ []
 apart_stays = refl

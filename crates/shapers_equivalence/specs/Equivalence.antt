@@ -48,16 +48,16 @@ marks_by_class class ms = flat_map (λ k. filter (λ c. class c == k) ms) (range
 
 -- a text in canonical order: each run of marks class by class (D109); first the marks of the run so
 -- far, and then the text behind them
-abbrev pub in_order_behind : (ℕ → ℕ) → List ℕ → List ℕ → List ℕ
-in_order_behind class ms [] = marks_by_class class ms
-in_order_behind class ms (c ∷ cs) =
-    if class c == 0 then marks_by_class class ms ++ c ∷ in_order_behind class [] cs
-    else in_order_behind class (ms ++ c ∷ []) cs
+abbrev pub by_classes_behind : (ℕ → ℕ) → List ℕ → List ℕ → List ℕ
+by_classes_behind class ms [] = marks_by_class class ms
+by_classes_behind class ms (c ∷ cs) =
+    if class c == 0 then marks_by_class class ms ++ c ∷ by_classes_behind class [] cs
+    else by_classes_behind class (ms ++ c ∷ []) cs
 
-abbrev pub in_order : (ℕ → ℕ) → List ℕ → List ℕ
-in_order class cs = in_order_behind class [] cs
+abbrev pub ordered_by_classes : (ℕ → ℕ) → List ℕ → List ℕ
+ordered_by_classes class cs = by_classes_behind class [] cs
 
 -- Texts that are one but for the order of marks are the same in canonical order.
 abbrev pub OrdersAlike : Type 0
 OrdersAlike = (class : ℕ → ℕ) (cs ds : List ℕ) →
-    SameButForOrder class cs ds → in_order class cs ≡ in_order class ds
+    SameButForOrder class cs ds → ordered_by_classes class cs ≡ ordered_by_classes class ds

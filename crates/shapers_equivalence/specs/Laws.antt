@@ -90,8 +90,8 @@ OrdersMarksEquivalently = (pairs : CharacterPairs) (context : Context)
     CanonicallyEquivalent pairs (mark_class context)
     (characters (before_composing context level gs)) (characters gs)
 
--- A text is canonically equivalent to what it becomes, if the second round leaves marks in order, or
--- if nothing is composed.
+-- A text is canonically equivalent to what it becomes, if the second round leaves marks in order,
+-- or if nothing is composed.
 abbrev pub NormalizesEquivalently : Type 0
 NormalizesEquivalently = (pairs : CharacterPairs) (context : Context) (rounds : Rounds)
     (level : BufferClusterLevel) (gs : List hb_glyph_info_t) →

@@ -23,9 +23,9 @@ abbrev pub LeavesMarks : Context → Type 0
 LeavesMarks context = (level : BufferClusterLevel) (s e : ℕ) (gs : List hb_glyph_info_t) →
     s < e → e ≤ length gs → context.reordered level s e gs ≡ gs
 
--- A text of which nothing comes apart, whose marks stand in the order of their classes, and in which
--- nothing composes if the shaper composes: each glyph gets its number, lookups may pass over the
--- grapheme joiners that kept nothing apart, and all else stays.
+-- A text of which nothing comes apart, whose marks stand in the order of their classes, and in
+-- which nothing composes if the shaper composes: each glyph gets its number, lookups may pass over
+-- the grapheme joiners that kept nothing apart, and all else stays.
 abbrev pub TextsInFormStay : Type 0
 TextsInFormStay = (context : Context) (rounds : Rounds) (level : BufferClusterLevel)
     (gs : List hb_glyph_info_t) →

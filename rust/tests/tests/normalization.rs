@@ -95,12 +95,17 @@ fn characters(column: &str) -> String {
 
 /// The text as a shaper has it that takes every letter apart and has no rule of its own.
 fn normalized(plan: &Plan, text: &str) -> String {
+    normalized_by(Shaper::Myanmar, plan, text)
+}
+
+/// The text as a shaper has it.
+fn normalized_by(shaper: Shaper, plan: &Plan, text: &str) -> String {
     let mut buffer = Buffer::from_text(text, &UnicodeTables).unwrap();
     let settings = NormalizeSettings {
         rounds: Rounds::Always,
         ..NormalizeSettings::default()
     };
-    let shaper = Some(Shaper::Myanmar);
+    let shaper = Some(shaper);
     ot_shape_normalize(shaper, plan, &Whole, &UnicodeTables, &settings, &mut buffer).unwrap();
     let glyphs = buffer.glyphs().iter();
     glyphs
@@ -151,15 +156,41 @@ fn reason(classes: &Classes, whole: &str, ours: &str) -> Option<Reason> {
     }
 }
 
+/// A plan without features.
+fn plan() -> Plan {
+    let map = Map::from_slices(Global, &[], &[], &[], 0, None, false);
+    Plan::new(None, map.unwrap().unwrap())
+}
+
+/// The smallest texts that aren't canonically equivalent to what they become (docs/LAWS.md).
+#[test]
+fn texts_that_change() {
+    let below = "\u{316}".repeat(31);
+    let long = format!("A\u{305}{below}\u{301}");
+    let passed = format!("\u{C1}\u{305}{below}");
+    let alef = "\u{627}\u{658}\u{653}";
+    let points = "a\u{5B7}\u{5B0}\u{316}\u{323}";
+    let plan = plan();
+    let rows = [
+        (Shaper::Myanmar, long.as_str(), passed.as_str()),
+        (Shaper::Arabic, alef, "\u{622}\u{658}"),
+        (Shaper::Myanmar, alef, alef),
+        (Shaper::Hebrew, points, "\u{1EA1}\u{5B7}\u{316}\u{5B0}"),
+        (Shaper::Myanmar, points, points),
+        (Shaper::Khmer, "\u{17BE}", "\u{17C1}\u{17BE}"),
+    ];
+    let classes = classes();
+    for (shaper, text, becomes) in rows {
+        assert_eq!(normalized_by(shaper, &plan, text), becomes);
+        let stays = decomposed(&classes, text) == decomposed(&classes, becomes);
+        assert_eq!(stays, text == becomes);
+    }
+}
+
 #[test]
 fn each_line_is_composed_or_has_a_reason() {
     let classes = classes();
-    let plan = Plan::new(
-        None,
-        Map::from_slices(Global, &[], &[], &[], 0, None, false)
-            .unwrap()
-            .unwrap(),
-    );
+    let plan = plan();
     let mut composed = 0;
     let mut others: BTreeMap<Reason, usize> = BTreeMap::new();
     for [text, whole, apart] in lines() {
