@@ -6,7 +6,7 @@ use crate::generated::shapers_buffer::buffer::Span;
 
 /// What an edit leaves of a text of syllables: the glyphs in front and behind that come out as
 /// before. What lies between them, of the old text and of the new, is what is shaped again.
-#[derive(Clone, Copy, Debug, PartialEq, Eq)]
+#[derive(Clone, Copy, Debug, PartialEq, Eq, Hash)]
 pub struct Unaffected {
     /// How many glyphs in front.
     pub front: usize,
