@@ -51,15 +51,29 @@ impl Glyphs for hb_font_t<'_> {
         self.would_apply_any(&[lookup], glyphs, zero_context)
     }
 
+    // (of the features that Indic asks for, a font has no lookups of most)
+    #[inline]
     fn would_apply_any(&self, lookups: &[u16], glyphs: &[GlyphId], zero_context: bool) -> bool {
-        let Some(gsub) = self.gsub.as_ref() else {
-            return false;
-        };
-        let mut room = [ttf_parser::GlyphId(0); 8];
-        let glyphs = glyphs_in(&mut room, glyphs);
-        let context = WouldApplyContext { glyphs, zero_context };
-        lookups.iter().filter_map(|lookup| gsub.get_lookup(*lookup)).any(|lookup| lookup.would_apply(&context))
+        !lookups.is_empty() && any_would_apply(self, lookups, glyphs, zero_context)
     }
+}
+
+fn any_would_apply(font: &hb_font_t, lookups: &[u16], glyphs: &[GlyphId], zero_context: bool) -> bool {
+    if let [a, b] = *glyphs {
+        let two = [ttf_parser::GlyphId(a.0), ttf_parser::GlyphId(b.0)];
+        return any_applies(font, lookups, &two, zero_context);
+    }
+    let mut room = [ttf_parser::GlyphId(0); 8];
+    any_applies(font, lookups, glyphs_in(&mut room, glyphs), zero_context)
+}
+
+#[inline]
+fn any_applies(font: &hb_font_t, lookups: &[u16], glyphs: &[ttf_parser::GlyphId], zero_context: bool) -> bool {
+    let Some(gsub) = font.gsub.as_ref() else {
+        return false;
+    };
+    let context = WouldApplyContext { glyphs, zero_context };
+    lookups.iter().filter_map(|lookup| gsub.get_lookup(*lookup)).any(|lookup| lookup.would_apply(&context))
 }
 
 /// These as rustybuzz's glyphs: hooks query two or three.

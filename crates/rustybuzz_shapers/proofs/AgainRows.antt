@@ -40,7 +40,8 @@ rewritten_once gs = preprocessed wide_font true MonotoneGraphemes gs
 hangul_tone : characters (rewritten_once (text (0xAC00 ∷ 0x302E ∷ []))) ≡ 0x302E ∷ 0xAC00 ∷ []
 hangul_tone = refl
 
-hangul_tone_again : characters (rewritten_once (rewritten_once (text (0xAC00 ∷ 0x302E ∷ [])))) ≡ 0x302E ∷ 0x25CC ∷ 0xAC00 ∷ []
+hangul_tone_again : characters (rewritten_once (rewritten_once (text (0xAC00 ∷ 0x302E ∷ [])))) ≡ 0x302E ∷ 0x25CC
+    ∷ 0xAC00 ∷ []
 hangul_tone_again = refl
 
 -- Hebrew: of two triples of marks each time the first one changes
@@ -56,13 +57,15 @@ swapped gs = run_step MonotoneGraphemes (hebrew_mark_step 0 6 gs) gs
 hebrew_marks : classes (swapped (of_classes (20 ∷ 22 ∷ 25 ∷ 20 ∷ 22 ∷ 25 ∷ []))) ≡ 20 ∷ 25 ∷ 22 ∷ 20 ∷ 22 ∷ 25 ∷ []
 hebrew_marks = refl
 
-hebrew_marks_again : classes (swapped (swapped (of_classes (20 ∷ 22 ∷ 25 ∷ 20 ∷ 22 ∷ 25 ∷ [])))) ≡ 20 ∷ 25 ∷ 22 ∷ 20 ∷ 25 ∷ 22 ∷ []
+hebrew_marks_again : classes (swapped (swapped (of_classes (20 ∷ 22 ∷ 25 ∷ 20 ∷ 22 ∷ 25 ∷ [])))) ≡ 20 ∷ 25 ∷ 22 ∷ 20
+    ∷ 25 ∷ 22 ∷ []
 hebrew_marks_again = refl
 
 -- Arabic: a modifier of class 230 before one of class 220 comes first, in a class below 220, and so
 -- the other passes it then; marks in the order of their classes have no such neighbours
 abbrev modifiers_turned : List hb_glyph_info_t
-modifiers_turned = record default_glyph { glyph_id = 0x0654; modified_combining_class = 230 } ∷ record default_glyph { glyph_id = 0x0655; modified_combining_class = 220 } ∷ []
+modifiers_turned = record default_glyph { glyph_id = 0x0654; modified_combining_class = 230 }
+    ∷ record default_glyph { glyph_id = 0x0655; modified_combining_class = 220 } ∷ []
 
 arabic_marks : characters (marks_reordered 0 2 modifiers_turned) ≡ 0x0654 ∷ 0x0655 ∷ []
 arabic_marks = refl
@@ -73,7 +76,9 @@ arabic_marks_again = refl
 -- The universal shaper: of two vowels before the base, the last comes first each time. Categories:
 -- base 1, vowel before the base 22
 abbrev base_and_vowels : List hb_glyph_info_t
-base_and_vowels = record default_glyph { glyph_id = 0; syllable = 0x12; category = 1 } ∷ record default_glyph { glyph_id = 1; syllable = 0x12; category = 22 } ∷ record default_glyph { glyph_id = 2; syllable = 0x12; category = 22 } ∷ []
+base_and_vowels = record default_glyph { glyph_id = 0; syllable = 0x12; category = 1 }
+    ∷ record default_glyph { glyph_id = 1; syllable = 0x12; category = 22 }
+    ∷ record default_glyph { glyph_id = 2; syllable = 0x12; category = 22 } ∷ []
 
 two_vowels : characters (universal_order base_and_vowels) ≡ 2 ∷ 1 ∷ 0 ∷ []
 two_vowels = refl

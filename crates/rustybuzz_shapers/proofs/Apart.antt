@@ -23,12 +23,14 @@ none_new : (gs ms : List hb_glyph_info_t) → clusters ms ≡ clusters gs → No
 none_new gs ms same = subst (λ cs. All (Contains (clusters gs)) cs) (sym same) (All-contains_itself (clusters gs))
 
 unchanged : (old new : Buffer) → new ≡ old → NoNewCluster old.glyphs new.glyphs
-unchanged old new is = subst (λ (b : Buffer). NoNewCluster old.glyphs b.glyphs) (sym is) (All-contains_itself (clusters old.glyphs))
+unchanged old new is =
+    subst (λ (b : Buffer). NoNewCluster old.glyphs b.glyphs) (sym is) (All-contains_itself (clusters old.glyphs))
 
 flagged_none : (gs ms : List hb_glyph_info_t) → OnlyFlagsAdded gs ms → NoNewCluster gs ms
 flagged_none gs ms added = none_new gs ms (same_clusters gs ms added)
 
-preprocessing : (shaper : hb_ot_shaper_t) (plan : hb_ot_shape_plan_t) (font : Font) (old new : Buffer) → PreprocessKeeps shaper plan font old new → NoNewCluster old.glyphs new.glyphs
+preprocessing : (shaper : hb_ot_shaper_t) (plan : hb_ot_shape_plan_t) (font : Font) (old new : Buffer)
+    → PreprocessKeeps shaper plan font old new → NoNewCluster old.glyphs new.glyphs
 preprocessing Arabic plan font old new k = unchanged old new k.1
 preprocessing Hangul plan font old new k = k.0.made.old_clusters
 preprocessing Hebrew plan font old new k = unchanged old new k.1
@@ -39,7 +41,8 @@ preprocessing MyanmarZawgyi plan font old new k = unchanged old new k.1
 preprocessing Thai plan font old new k = k.0.made.old_clusters
 preprocessing Universal plan font old new k = unchanged old new k
 
-marks : (shaper : hb_ot_shaper_t) (start end : ℕ) (old new : Buffer) → MarksKeep shaper start end old new → NoNewCluster old.glyphs new.glyphs
+marks : (shaper : hb_ot_shaper_t) (start end : ℕ) (old new : Buffer) → MarksKeep shaper start end old new
+    → NoNewCluster old.glyphs new.glyphs
 marks Arabic start end old new k = k.in_clusters.at_all_levels.old_clusters
 marks Hangul start end old new k = unchanged old new k.1
 marks Hebrew start end old new k = k.in_clusters.at_all_levels.old_clusters
@@ -53,10 +56,13 @@ marks Universal start end old new k = unchanged old new k.1
 copies_none : (olds news : List hb_glyph_info_t) → AreCopies olds news → NoNewCluster olds news
 copies_none olds [] k = All-nil (Contains (clusters olds))
 copies_none olds (new ∷ news) k =
-    let there : Contains (clusters olds) k.0.0.cluster = Contains-map (λ (g : hb_glyph_info_t). g.cluster) olds k.0.0 k.0.1.0 in
-    All-cons (Contains (clusters olds)) new.cluster (clusters news) (subst (Contains (clusters olds)) (sym k.0.1.1.same) there) (copies_none olds news k.1)
+    let there : Contains (clusters olds) k.0.0.cluster =
+    Contains-map (λ (g : hb_glyph_info_t). g.cluster) olds k.0.0 k.0.1.0 in
+    All-cons (Contains (clusters olds)) new.cluster (clusters news)
+    (subst (Contains (clusters olds)) (sym k.0.1.1.same) there) (copies_none olds news k.1)
 
-postprocessing : (shaper : hb_ot_shaper_t) (plan : hb_ot_shape_plan_t) (font : Font) (old new : Buffer) → PostprocessKeeps shaper plan font old new → NoNewCluster old.glyphs new.glyphs
+postprocessing : (shaper : hb_ot_shaper_t) (plan : hb_ot_shape_plan_t) (font : Font) (old new : Buffer)
+    → PostprocessKeeps shaper plan font old new → NoNewCluster old.glyphs new.glyphs
 postprocessing Arabic plan font old new k = copies_none old.glyphs new.glyphs k.0
 postprocessing Hangul plan font old new k = unchanged old new k.1
 postprocessing Hebrew plan font old new k = unchanged old new k.1
@@ -68,7 +74,8 @@ postprocessing Thai plan font old new k = unchanged old new k.1
 postprocessing Universal plan font old new k = unchanged old new k.1
 
 pub hooks_make_no_cluster : HooksMakeNoCluster
-hooks_make_no_cluster = record { preprocessing = preprocessing; marks = marks; masks = flagged_none; postprocessing = postprocessing }
+hooks_make_no_cluster =
+    record { preprocessing = preprocessing; marks = marks; masks = flagged_none; postprocessing = postprocessing }
 
 pub pauses_make_no_cluster : PausesMakeNoCluster
 pauses_make_no_cluster SetupSyllablesIndic plan font spans old new k = none_new old.glyphs new.glyphs k.1
@@ -88,12 +95,18 @@ pauses_make_no_cluster ClearSubstitutionFlags plan font spans old new k = flagge
 pauses_make_no_cluster ArabicFallbackShape plan font spans old new k = flagged_none old.glyphs new.glyphs k
 
 -- where the text had the cluster of a glyph
-old_place : (gs xs : List hb_glyph_info_t) (i : ℕ) → i < length xs → NoNewCluster gs xs → (k : ℕ) × (k < length gs) × (slice_index (clusters gs) k ≡ slice_index (clusters xs) i)
+old_place : (gs xs : List hb_glyph_info_t) (i : ℕ) → i < length xs → NoNewCluster gs xs → (k : ℕ) × (k < length gs)
+    × (slice_index (clusters gs) k ≡ slice_index (clusters xs) i)
 old_place gs xs i inside none =
     let cluster : hb_glyph_info_t → ℕ = λ g. g.cluster in
-    let found = All-get_or (Contains (clusters gs)) (clusters xs) i 0 (omega (arith, inside, length-map xs cluster)) none in
-    let n = length-map gs cluster in
-    (found.0, omega (arith, n, found.1), get_or_default (clusters gs) found.0 0 (get_or (clusters xs) i 0) found.1 ∙ found.2)
+    let found = All-get_or (Contains (clusters gs)) (clusters xs) i 0 (omega (arith, inside, length-map xs cluster))
+    none in
+    let n = length-map gs cluster in (
+      found.0,
+      omega (arith, n, found.1),
+      get_or_default (clusters gs) found.0 0 (get_or (clusters xs) i 0) found.1
+          ∙ found.2,
+    )
 
 pub halves_stay_apart : HalvesStayApart
 halves_stay_apart gs hs xs ys first second none i j il jl same =

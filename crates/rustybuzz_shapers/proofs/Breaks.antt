@@ -32,7 +32,9 @@ same_views one two front back e f = ap (λ b. views b back) (sym e) ∙ ap (view
 same_view : (one front : Buffer) → one ≡ front → order_view front.glyphs ≡ order_view one.glyphs
 same_view one front e = ap (λ (b : Buffer). order_view b.glyphs) (sym e)
 
-arabic_breaks : (plan : hb_ot_shape_plan_t) (tables : CharacterTables) (n : ℕ) (old new one two : Buffer) → SetInHalves Arabic plan tables n old new one two → BreaksAsFlagged (breaks_of plan.plan_data) (masks_of plan.plan_data) plan.script tables n old new one two
+arabic_breaks : (plan : hb_ot_shape_plan_t) (tables : CharacterTables) (n : ℕ) (old new one two : Buffer)
+    → SetInHalves Arabic plan tables n old new one two
+    → BreaksAsFlagged (breaks_of plan.plan_data) (masks_of plan.plan_data) plan.script tables n old new one two
 arabic_breaks plan tables n old new one two set =
     let breaks = breaks_of plan.plan_data in
     let masks = masks_of plan.plan_data in
@@ -40,60 +42,83 @@ arabic_breaks plan tables n old new one two set =
     let joining = tables.joining in
     let general = tables.general in
     let front = buffer_joined breaks masks script joining general (front_at n old) in
-    let same = same_views one two front (buffer_joined breaks masks script joining general (back_at n old)) set.first.0 set.second.0 in
+    let same = same_views one two front (buffer_joined breaks masks script joining general (back_at n old)) set.first.0
+    set.second.0 in
     let same_first = same_view one front set.first.0 in
     let keeps = first-as_flagged breaks masks script joining general old new set.whole.0 n set.inside.0 set.inside.1 in
     record {
-      clear = λ clear spared. breaks-where_clear breaks masks script joining general old new set.whole.0 n set.inside.0 set.inside.1 clear spared ∙ same;
-      needless = λ e fresh silent may. none-needless breaks masks script joining general old new set.whole.0 e fresh silent n set.inside.0 set.inside.1 (may ∙ sym same);
+      clear = λ clear spared. breaks-where_clear breaks masks script joining general old new set.whole.0 n set.inside.0
+          set.inside.1 clear spared ∙ same;
+      needless = λ e fresh silent may. none-needless breaks masks script joining general old new set.whole.0 e fresh
+          silent n set.inside.0 set.inside.1 (may ∙ sym same);
       first = λ clear. keeps.0 clear ∙ same_first;
       first_needless = λ e fresh silent kept. keeps.1 e fresh silent (kept ∙ sym same_first);
     }
 
 -- the halves of a buffer with its categories
-categories-front : (tables : CharacterTables) (n : ℕ) (b : Buffer) → with_categories tables (front_at n b) ≡ front_at n (with_categories tables b)
-categories-front tables n b = ap (λ gs. let c : Buffer = record b { glyphs = gs; after = [] } in c) (sym (take-map (categorized tables.universal) n b.glyphs))
+categories-front : (tables : CharacterTables) (n : ℕ) (b : Buffer) → with_categories tables (front_at n b)
+    ≡ front_at n (with_categories tables b)
+categories-front tables n b =
+    ap (λ gs. let c : Buffer = record b { glyphs = gs; after = [] } in c)
+    (sym (take-map (categorized tables.universal) n b.glyphs))
 
-categories-back : (tables : CharacterTables) (n : ℕ) (b : Buffer) → with_categories tables (back_at n b) ≡ back_at n (with_categories tables b)
-categories-back tables n b = ap (λ gs. let c : Buffer = record b { glyphs = gs; before = [] } in c) (sym (drop-map (categorized tables.universal) n b.glyphs))
+categories-back : (tables : CharacterTables) (n : ℕ) (b : Buffer) → with_categories tables (back_at n b)
+    ≡ back_at n (with_categories tables b)
+categories-back tables n b =
+    ap (λ gs. let c : Buffer = record b { glyphs = gs; before = [] } in c)
+    (sym (drop-map (categorized tables.universal) n b.glyphs))
 
 -- categories leave a fresh text fresh
-fresh_stays : (tables : CharacterTables) (masks : List ℕ) (b : Buffer) → IsFresh masks b.glyphs → IsFresh masks (with_categories tables b).glyphs
+fresh_stays : (tables : CharacterTables) (masks : List ℕ) (b : Buffer) → IsFresh masks b.glyphs
+    → IsFresh masks (with_categories tables b).glyphs
 fresh_stays tables masks b fresh =
     let change = categorized tables.universal in
-    let kept : clusters (map change b.glyphs) ≡ clusters b.glyphs = map-map (λ (g : hb_glyph_info_t). g.cluster) change b.glyphs in
+    let kept : clusters (map change b.glyphs) ≡ clusters b.glyphs =
+    map-map (λ (g : hb_glyph_info_t). g.cluster) change b.glyphs in
     record {
       single = subst IsStrictlyMonotone (sym kept) fresh.single;
-      unflagged = all-mapped (λ g. is_unsafe g ≡ false) (λ g. is_unsafe g ≡ false) change b.glyphs (λ g k. k) fresh.unflagged;
+      unflagged = all-mapped (λ g. is_unsafe g ≡ false) (λ g. is_unsafe g ≡ false) change b.glyphs (λ g k. k)
+          fresh.unflagged;
       unmasked = fresh.unmasked;
     }
 
-universal_breaks : (plan : hb_ot_shape_plan_t) (tables : CharacterTables) (n : ℕ) (old new one two : Buffer) (joins : arabic_shape_plan_t) → arabic_of plan.plan_data ≡ Some joins → SetInHalves Universal plan tables n old new one two → BreaksAsFlagged joins.break_flags joins.mask_array plan.script tables n old new one two
+universal_breaks : (plan : hb_ot_shape_plan_t) (tables : CharacterTables) (n : ℕ) (old new one two : Buffer)
+    (joins : arabic_shape_plan_t) → arabic_of plan.plan_data ≡ Some joins
+    → SetInHalves Universal plan tables n old new one two
+    → BreaksAsFlagged joins.break_flags joins.mask_array plan.script tables n old new one two
 universal_breaks plan tables n old new one two joins is set =
     let breaks = joins.break_flags in
     let masks = joins.mask_array in
     let script = plan.script in
     let joining = tables.joining in
     let general = tables.general in
-    let whole : MasksAreSet (Some joins) script tables old new = subst (λ o. MasksAreSet o script tables old new) is set.whole in
-    let first : MasksAreSet (Some joins) script tables (front_at n old) one = subst (λ o. MasksAreSet o script tables (front_at n old) one) is set.first in
-    let second : MasksAreSet (Some joins) script tables (back_at n old) two = subst (λ o. MasksAreSet o script tables (back_at n old) two) is set.second in
+    let whole : MasksAreSet (Some joins) script tables old new =
+    subst (λ o. MasksAreSet o script tables old new) is set.whole in
+    let first : MasksAreSet (Some joins) script tables (front_at n old) one =
+    subst (λ o. MasksAreSet o script tables (front_at n old) one) is set.first in
+    let second : MasksAreSet (Some joins) script tables (back_at n old) two =
+    subst (λ o. MasksAreSet o script tables (back_at n old) two) is set.second in
     let before = with_categories tables old in
-    let inside : n < length before.glyphs = omega (arith, length-map old.glyphs (categorized tables.universal), set.inside.1) in
+    let inside : n < length before.glyphs =
+    omega (arith, length-map old.glyphs (categorized tables.universal), set.inside.1) in
     let front = first.0 ∙ ap (buffer_joined breaks masks script joining general) (categories-front tables n old) in
     let back = second.0 ∙ ap (buffer_joined breaks masks script joining general) (categories-back tables n old) in
-    let same = same_views one two (buffer_joined breaks masks script joining general (front_at n before)) (buffer_joined breaks masks script joining general (back_at n before)) front back in
+    let same = same_views one two (buffer_joined breaks masks script joining general (front_at n before))
+    (buffer_joined breaks masks script joining general (back_at n before)) front back in
     let same_first = same_view one (buffer_joined breaks masks script joining general (front_at n before)) front in
     let still = fresh_stays tables masks old in
     let text = sym (text_stays tables joining general old) in
     let silent_stays = subst (SelectorsAreTransparent script) text in
     let keeps = first-as_flagged breaks masks script joining general before new whole.0 n set.inside.0 inside in
     record {
-      clear = λ clear spared. breaks-where_clear breaks masks script joining general before new whole.0 n set.inside.0 inside clear (subst (λ text. IsSpared breaks script text n) text spared) ∙ same;
-      needless = λ e fresh silent may. none-needless breaks masks script joining general before new whole.0 e (still fresh) (silent_stays silent) n set.inside.0 inside (may ∙ sym same);
+      clear = λ clear spared. breaks-where_clear breaks masks script joining general before new whole.0 n set.inside.0
+          inside clear (subst (λ text. IsSpared breaks script text n) text spared) ∙ same;
+      needless = λ e fresh silent may. none-needless breaks masks script joining general before new whole.0 e
+          (still fresh) (silent_stays silent) n set.inside.0 inside (may ∙ sym same);
       first = λ clear. keeps.0 clear ∙ same_first;
       first_needless = λ e fresh silent kept. keeps.1 e (still fresh) (silent_stays silent) (kept ∙ sym same_first);
     }
 
 pub texts_break : TextsBreakAsFlagged
-texts_break plan tables n old new one two = (arabic_breaks plan tables n old new one two, universal_breaks plan tables n old new one two)
+texts_break plan tables n old new one two =
+    (arabic_breaks plan tables n old new one two, universal_breaks plan tables n old new one two)

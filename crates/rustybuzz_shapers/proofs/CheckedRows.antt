@@ -12,18 +12,23 @@ use Rattle.rustybuzz_shapers.specs.declared.shaper.checked.Condition.TheVariants
 use Rattle.rustybuzz_shapers.specs.declared.shaper.hb_ot_shaper_t.TheVariants.{Arabic, Hebrew, Thai}
 
 -- positions come first, whatever else isn't met
-positions_first : (plan : hb_ot_shape_plan_t) (b : Buffer) → (b.positions ≡ [] → ⊥) → StopsAt {T = Unit {0}} (masks_ask Arabic plan b) (Err (call.Condition Positions))
+positions_first : (plan : hb_ot_shape_plan_t) (b : Buffer) → (b.positions ≡ [] → ⊥)
+    → StopsAt {T = Unit {0}} (masks_ask Arabic plan b) (Err (call.Condition Positions))
 positions_first plan b placed = (tt, placed)
 
 -- then data, then glyphs
-data_next : (plan : hb_ot_shape_plan_t) (b : Buffer) → b.positions ≡ [] → (IsArabic plan.plan_data → ⊥) → StopsAt {T = Unit {0}} (masks_ask Arabic plan b) (Err (call.Condition PlanData))
+data_next : (plan : hb_ot_shape_plan_t) (b : Buffer) → b.positions ≡ [] → (IsArabic plan.plan_data → ⊥)
+    → StopsAt {T = Unit {0}} (masks_ask Arabic plan b) (Err (call.Condition PlanData))
 data_next plan b unplaced other = ((unplaced, tt, tt), other)
 
-glyphs_last : (plan : hb_ot_shape_plan_t) (b : Buffer) → b.positions ≡ [] → IsArabic plan.plan_data → (GlyphsFit Arabic plan b.glyphs → ⊥) → StopsAt {T = Unit {0}} (masks_ask Arabic plan b) (Err (call.Condition Glyphs))
+glyphs_last : (plan : hb_ot_shape_plan_t) (b : Buffer) → b.positions ≡ [] → IsArabic plan.plan_data
+    → (GlyphsFit Arabic plan b.glyphs → ⊥)
+    → StopsAt {T = Unit {0}} (masks_ask Arabic plan b) (Err (call.Condition Glyphs))
 glyphs_last plan b unplaced data_of others = ((unplaced, tt, tt, data_of), others)
 
 -- Thai asks for no positions alone; so does its preprocessing, also where it refuses
-masks_of_thai : (plan : hb_ot_shape_plan_t) (b : Buffer) → b.positions ≡ [] → StopsAt {T = Unit {0}} (masks_ask Thai plan b) (Ok (tt))
+masks_of_thai : (plan : hb_ot_shape_plan_t) (b : Buffer) → b.positions ≡ []
+    → StopsAt {T = Unit {0}} (masks_ask Thai plan b) (Ok (tt))
 masks_of_thai plan b unplaced = ((unplaced, tt, tt, tt, tt), tt)
 
 refused : (b : Buffer) → b.positions ≡ [] → StopsAt {T = Unit {0}} (preprocess_asks b) (Err (call.Refused Memory))
@@ -33,16 +38,22 @@ refused b unplaced = ((unplaced, tt, tt, tt, tt), tt)
 falling : (b : Buffer) → b.positions ≡ [] → StopsAt {T = Unit {0}} (marks_ask Hebrew 3 2 b) (Err (call.Condition Range))
 falling b unplaced = (unplaced, λ rises. omega (arith, rises.0))
 
-too_many : (b : Buffer) → b.positions ≡ [] → 33 ≤ length b.glyphs → StopsAt {T = Unit {0}} (marks_ask Arabic 0 33 b) (Err (call.Condition Marks))
+too_many : (b : Buffer) → b.positions ≡ [] → 33 ≤ length b.glyphs
+    → StopsAt {T = Unit {0}} (marks_ask Arabic 0 33 b) (Err (call.Condition Marks))
 too_many b unplaced long = ((unplaced, (omega arith, long)), λ few. omega (arith, few))
 
 -- the stretch asks for data and glyph numbers
-stretched : (plan : hb_ot_shape_plan_t) (b : Buffer) → length b.positions ≡ length b.glyphs → IsArabic plan.plan_data → All (λ g. g.glyph_id ≤ 65535) b.glyphs → StopsAt {T = Unit {0}} (postprocess_asks Arabic plan b) (Ok (tt))
+stretched : (plan : hb_ot_shape_plan_t) (b : Buffer) → length b.positions ≡ length b.glyphs → IsArabic plan.plan_data
+    → All (λ g. g.glyph_id ≤ 65535) b.glyphs → StopsAt {T = Unit {0}} (postprocess_asks Arabic plan b) (Ok (tt))
 stretched plan b placed data_of numbers = ((placed, tt, tt, data_of, numbers), tt)
 
 -- a pause that reads no data asks for none, but of kinds
-kinds : (plan : hb_ot_shape_plan_t) (b : Buffer) → b.positions ≡ [] → StopsAt {T = Unit {0}} (pause_asks RecordPref plan (record { len = 1; kind = 16 } ∷ []) b) (Err (call.Condition SpanKinds))
-kinds plan b unplaced = ((unplaced, tt, tt, tt, tt), λ all. omega (arith, all 0 (record { len = 1; kind = 16 }) (omega arith)))
+kinds : (plan : hb_ot_shape_plan_t) (b : Buffer) → b.positions ≡ []
+    → StopsAt {T = Unit {0}} (pause_asks RecordPref plan (record { len = 1; kind = 16 } ∷ []) b)
+    (Err (call.Condition SpanKinds))
+kinds plan b unplaced =
+    ((unplaced, tt, tt, tt, tt), λ all. omega (arith, all 0 (record { len = 1; kind = 16 }) (omega arith)))
 
-stch : (plan : hb_ot_shape_plan_t) (b : Buffer) → b.positions ≡ [] → (IsArabic plan.plan_data → ⊥) → StopsAt {T = Unit {0}} (pause_asks RecordStch plan [] b) (Err (call.Condition PlanData))
+stch : (plan : hb_ot_shape_plan_t) (b : Buffer) → b.positions ≡ [] → (IsArabic plan.plan_data → ⊥)
+    → StopsAt {T = Unit {0}} (pause_asks RecordStch plan [] b) (Err (call.Condition PlanData))
 stch plan b unplaced other = ((unplaced, tt, tt), other)

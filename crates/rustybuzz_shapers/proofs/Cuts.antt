@@ -21,7 +21,8 @@ use Rattle.rustybuzz_shapers.specs.Pauses.{Reordered, by_initial, by_khmer, by_m
 pub khmer_is_cut : KhmerCutsBetweenSpans → IsCut SetupSyllablesKhmer ReorderKhmer by_khmer
 khmer_is_cut law plan font spans unread old mid new kinds set_up reordered =
     let r = by_khmer plan font mid in
-    law (order_in plan.plan_data) r.circles spans old new kinds (subst (λ (b : Buffer). Reordered r b new) set_up reordered)
+    law (order_in plan.plan_data) r.circles spans old new kinds
+    (subst (λ (b : Buffer). Reordered r b new) set_up reordered)
 
 pub myanmar_is_cut : MyanmarCutsBetweenSpans → IsCut SetupSyllablesMyanmar ReorderMyanmar (λ plan. by_myanmar)
 myanmar_is_cut law plan font spans unread old mid new kinds set_up reordered =
@@ -31,13 +32,16 @@ myanmar_is_cut law plan font spans unread old mid new kinds set_up reordered =
 pub universal_is_cut : UniversalCutsBetweenSpans → UniversalIsCut
 universal_is_cut law plan font spans unread old mid new kinds set_up reordered =
     let r = by_universal font mid in
-    law plan.plan_data plan.ot_map r.circles spans old new kinds (subst (λ (b : Buffer). Reordered r b new) set_up reordered)
+    law plan.plan_data plan.ot_map r.circles spans old new kinds
+    (subst (λ (b : Buffer). Reordered r b new) set_up reordered)
 
 pub indic_is_cut : InitialCutsBetweenSpans → IsCut SetupSyllablesIndic InitialReordering by_initial
 indic_is_cut law plan font spans unread old mid new kinds set_up reordered =
     let m = plan.ot_map in
     let p = indic_in plan in
-    subst (λ (b : Buffer). let r = by_initial plan font b in CutsBetweenSpans unnumbered unsafe_spans (paused_order r.circles r.order) (paused_clusters r.circles r.steps old.level) spans old.glyphs new.glyphs) (sym set_up)
+    subst (λ (b : Buffer). let r = by_initial plan font b in CutsBetweenSpans unnumbered unsafe_spans
+    (paused_order r.circles r.order) (paused_clusters r.circles r.steps old.level) spans old.glyphs new.glyphs)
+    (sym set_up)
     (law font m p spans old new kinds (subst (λ (b : Buffer). InitiallyReordered font m p b new) set_up reordered.1))
 
 pub indic_is_cut_after_both : OrderByFontLaws → OrderByFontReadsNoSerials → FinalCutsBetweenSpans → IndicIsCutAfterBoth
@@ -46,4 +50,5 @@ indic_is_cut_after_both laws reads law plan font spans unread old mid reordered 
     let p = indic_in plan in
     let r = by_initial plan font mid in
     law (final.final_rules font p) r.order r.steps r.circles spans old reordered new
-    (laws font m p mid.script) (reads font m p mid.script) kinds (subst (λ (b : Buffer). Reordered r b reordered) set_up first.0) last
+    (laws font m p mid.script) (reads font m p mid.script) kinds
+    (subst (λ (b : Buffer). Reordered r b reordered) set_up first.0) last

@@ -30,27 +30,42 @@ use Rattle.rustybuzz_shapers.specs.Hooks.{MasksSet}
 use Rattle.rustybuzz_shapers.specs.declared.shaper.hb_ot_shaper_t.{hb_ot_shaper_t}
 use Rattle.rustybuzz_shapers.specs.declared.shaper.hb_ot_shaper_t.TheVariants.{Arabic, Hangul, Hebrew, Indic, Khmer, Myanmar, MyanmarZawgyi, Thai, Universal}
 
-each_changed : (change : hb_glyph_info_t → hb_glyph_info_t) → ((g : hb_glyph_info_t) → FlagsAdded g (change g)) → (old new : Buffer) → new ≡ record old { glyphs = map change old.glyphs } → OnlyFlagsAdded old.glyphs new.glyphs
-each_changed change adds old new is = subst (λ (b : Buffer). OnlyFlagsAdded old.glyphs b.glyphs) (sym is) (changed_added change adds old.glyphs)
+each_changed : (change : hb_glyph_info_t → hb_glyph_info_t) → ((g : hb_glyph_info_t) → FlagsAdded g (change g))
+    → (old new : Buffer) → new ≡ record old { glyphs = map change old.glyphs } → OnlyFlagsAdded old.glyphs new.glyphs
+each_changed change adds old new is =
+    subst (λ (b : Buffer). OnlyFlagsAdded old.glyphs b.glyphs) (sym is) (changed_added change adds old.glyphs)
 
 pub unchanged_added : (old new : Buffer) → new ≡ old → OnlyFlagsAdded old.glyphs new.glyphs
 unchanged_added old new is = subst (λ (b : Buffer). OnlyFlagsAdded old.glyphs b.glyphs) (sym is) (same_added old.glyphs)
 
-universal_added : (arabic : Option arabic_shape_plan_t) (script : Option Script) (tables : CharacterTables) (old new : Buffer) → MasksAreSet arabic script tables old new → OnlyFlagsAdded old.glyphs new.glyphs
-universal_added None script tables old new is = each_changed (categorized tables.universal) (λ g. added_same g (categorized tables.universal g) refl refl) old new is
+universal_added : (arabic : Option arabic_shape_plan_t) (script : Option Script) (tables : CharacterTables)
+    (old new : Buffer) → MasksAreSet arabic script tables old new → OnlyFlagsAdded old.glyphs new.glyphs
+universal_added None script tables old new is =
+    each_changed (categorized tables.universal) (λ g. added_same g (categorized tables.universal g) refl refl) old new
+    is
 universal_added (Some p) script tables old new is =
     let mid = with_categories tables old in
     all_added_on old.glyphs mid.glyphs new.glyphs
-    (changed_added (categorized tables.universal) (λ g. added_same g (categorized tables.universal g) refl refl) old.glyphs)
+    (changed_added (categorized tables.universal) (λ g. added_same g (categorized tables.universal g) refl refl)
+    old.glyphs)
     (joined_added p.break_flags p.mask_array script tables.joining tables.general mid new is.0)
 
-pub masks_added : (shaper : hb_ot_shaper_t) (plan : hb_ot_shape_plan_t) (tables : CharacterTables) (old new : Buffer) → MasksSet shaper plan tables old new → OnlyFlagsAdded old.glyphs new.glyphs
-masks_added Arabic plan tables old new is = joined_added (breaks_of plan.plan_data) (masks_of plan.plan_data) plan.script tables.joining tables.general old new is.0
-masks_added Hangul plan tables old new is = each_changed (with_numbered_mask (masks_kept plan.plan_data)) (jamo_mask_added (masks_kept plan.plan_data)) old new is
+pub masks_added : (shaper : hb_ot_shaper_t) (plan : hb_ot_shape_plan_t) (tables : CharacterTables) (old new : Buffer)
+    → MasksSet shaper plan tables old new → OnlyFlagsAdded old.glyphs new.glyphs
+masks_added Arabic plan tables old new is =
+    joined_added (breaks_of plan.plan_data) (masks_of plan.plan_data) plan.script tables.joining tables.general old new
+    is.0
+masks_added Hangul plan tables old new is =
+    each_changed (with_numbered_mask (masks_kept plan.plan_data)) (jamo_mask_added (masks_kept plan.plan_data)) old new
+    is
 masks_added Hebrew plan tables old new is = unchanged_added old new is.1
-masks_added Indic plan tables old new is = each_changed (with_category_and_position tables) (λ g. added_same g (with_category_and_position tables g) refl refl) old new is
-masks_added Khmer plan tables old new is = each_changed (with_category tables) (λ g. added_same g (with_category tables g) refl refl) old new is
-masks_added Myanmar plan tables old new is = each_changed (with_category tables) (λ g. added_same g (with_category tables g) refl refl) old new is
+masks_added Indic plan tables old new is =
+    each_changed (with_category_and_position tables) (λ g. added_same g (with_category_and_position tables g) refl refl)
+    old new is
+masks_added Khmer plan tables old new is =
+    each_changed (with_category tables) (λ g. added_same g (with_category tables g) refl refl) old new is
+masks_added Myanmar plan tables old new is =
+    each_changed (with_category tables) (λ g. added_same g (with_category tables g) refl refl) old new is
 masks_added MyanmarZawgyi plan tables old new is = unchanged_added old new is.1
 masks_added Thai plan tables old new is = unchanged_added old new is.1
 masks_added Universal plan tables old new is = universal_added (arabic_of plan.plan_data) plan.script tables old new is
@@ -59,7 +74,8 @@ masks_added Universal plan tables old new is = universal_added (arabic_of plan.p
 first_added : (c : ℕ) (gs : List hb_glyph_info_t) → OnlyFlagsAdded gs (first_recorded c gs)
 first_added c [] = tt
 first_added c (g ∷ gs) =
-    elim (is_substituted g.marks) as (λ b. OnlyFlagsAdded (g ∷ gs) (cond b (in_category c g ∷ gs) (g ∷ first_recorded c gs))) [
+    elim (is_substituted g.marks) as (λ b. OnlyFlagsAdded (g ∷ gs)
+    (cond b (in_category c g ∷ gs) (g ∷ first_recorded c gs))) [
       | true ↦ (added_same g (in_category c g) refl refl, same_added gs)
       | false ↦ (added_same g g refl refl, first_added c gs)
     ]
@@ -67,25 +83,40 @@ first_added c (g ∷ gs) =
 rphf_added : (mask : ℕ) (gs : List hb_glyph_info_t) → OnlyFlagsAdded gs (rphf_recorded mask gs)
 rphf_added mask gs =
     let n = prefix_len (has_bits mask) gs in
-    subst (λ xs. OnlyFlagsAdded xs (first_recorded R (take n gs) ++ drop n gs)) (take-append-drop n gs) (all_append FlagsAdded (take n gs) (first_recorded R (take n gs)) (drop n gs) (drop n gs) (first_added R (take n gs)) (same_added (drop n gs)))
+    subst (λ xs. OnlyFlagsAdded xs (first_recorded R (take n gs) ++ drop n gs)) (take-append-drop n gs)
+    (all_append FlagsAdded (take n gs) (first_recorded R (take n gs)) (drop n gs) (drop n gs)
+    (first_added R (take n gs)) (same_added (drop n gs)))
 
-pub rphf_record_added : (mask : ℕ) (old new : Buffer) → new ≡ with_rphf_recorded mask old → OnlyFlagsAdded old.glyphs new.glyphs
-rphf_record_added mask old new is = subst (λ (b : Buffer). OnlyFlagsAdded old.glyphs b.glyphs) (sym is) (by_syllables (rphf_recorded mask) (rphf_added mask) old.glyphs)
+pub rphf_record_added : (mask : ℕ) (old new : Buffer) → new ≡ with_rphf_recorded mask old
+    → OnlyFlagsAdded old.glyphs new.glyphs
+rphf_record_added mask old new is =
+    subst (λ (b : Buffer). OnlyFlagsAdded old.glyphs b.glyphs) (sym is)
+    (by_syllables (rphf_recorded mask) (rphf_added mask) old.glyphs)
 
 pub pref_record_added : (old new : Buffer) → new ≡ with_pref_recorded old → OnlyFlagsAdded old.glyphs new.glyphs
-pref_record_added old new is = subst (λ (b : Buffer). OnlyFlagsAdded old.glyphs b.glyphs) (sym is) (by_syllables (first_recorded VPre) (first_added VPre) old.glyphs)
+pref_record_added old new is =
+    subst (λ (b : Buffer). OnlyFlagsAdded old.glyphs b.glyphs) (sym is)
+    (by_syllables (first_recorded VPre) (first_added VPre) old.glyphs)
 
 tile_added : (g : hb_glyph_info_t) → FlagsAdded g (recorded g)
-tile_added g = elim (is_multiplied g.marks) as (λ b. FlagsAdded g (cond b (record g { auxiliary = tile_action g.lig_comp }) g)) [ true ↦ added_same g (record g { auxiliary = tile_action g.lig_comp }) refl refl | false ↦ added_same g g refl refl ]
+tile_added g =
+    elim (is_multiplied g.marks) as (λ b. FlagsAdded g (cond b (record g { auxiliary = tile_action g.lig_comp }) g)) [
+      | true ↦ added_same g (record g { auxiliary = tile_action g.lig_comp }) refl refl
+      | false ↦ added_same g g refl refl
+    ]
 
-pub tiles_added : (kept : PlanData) (old new : Buffer) → new ≡ tiles_recorded kept old → OnlyFlagsAdded old.glyphs new.glyphs
+pub tiles_added : (kept : PlanData) (old new : Buffer) → new ≡ tiles_recorded kept old
+    → OnlyFlagsAdded old.glyphs new.glyphs
 tiles_added kept old new is =
     subst (λ (b : Buffer). OnlyFlagsAdded old.glyphs b.glyphs) (sym is)
-    (elim (has_stch kept) as (λ s. OnlyFlagsAdded old.glyphs (let b : Buffer = cond s (with_tiles old) old in b.glyphs)) [ true ↦ changed_added recorded tile_added old.glyphs | false ↦ same_added old.glyphs ])
+    (elim (has_stch kept) as (λ s. OnlyFlagsAdded old.glyphs (let b : Buffer = cond s (with_tiles old) old in b.glyphs))
+    [ true ↦ changed_added recorded tile_added old.glyphs | false ↦ same_added old.glyphs ])
 
 -- bytes and marks cleared
-pub bytes_cleared : (old new : Buffer) → new ≡ record old { glyphs = map (in_syllable 0) old.glyphs } → OnlyFlagsAdded old.glyphs new.glyphs
+pub bytes_cleared : (old new : Buffer) → new ≡ record old { glyphs = map (in_syllable 0) old.glyphs }
+    → OnlyFlagsAdded old.glyphs new.glyphs
 bytes_cleared old new is = each_changed (in_syllable 0) (λ g. added_same g (in_syllable 0 g) refl refl) old new is
 
-pub marks_cleared : (old new : Buffer) → new ≡ record old { glyphs = map unsubstituted old.glyphs } → OnlyFlagsAdded old.glyphs new.glyphs
+pub marks_cleared : (old new : Buffer) → new ≡ record old { glyphs = map unsubstituted old.glyphs }
+    → OnlyFlagsAdded old.glyphs new.glyphs
 marks_cleared old new is = each_changed unsubstituted (λ g. added_same g (unsubstituted g) refl refl) old new is

@@ -23,64 +23,100 @@ use Rattle.rustybuzz_shapers.proofs.HangulItems.{EachBeside, outputs_local, outp
 use Rattle.rustybuzz_shapers.proofs.ThaiClusterHalves.{merged_halves}
 
 -- joining changes no order view
-plain_joined : (level : BufferClusterLevel) (font : Font) (circles : Bool) (place skip : ℕ) (us : List ℕ) (gs : List hb_glyph_info_t) → order_view (all_joined level (items_from (first_item font circles) place skip us) gs) ≡ order_view gs
+plain_joined : (level : BufferClusterLevel) (font : Font) (circles : Bool) (place skip : ℕ) (us : List ℕ)
+    (gs : List hb_glyph_info_t) → order_view (all_joined level (items_from (first_item font circles) place skip us) gs)
+    ≡ order_view gs
 plain_joined level font circles place skip [] gs = refl
 plain_joined level font circles place zero (u ∷ us) gs =
     let item = first_item font circles (u ∷ us) in
     plain_joined level font circles (place + 1) (item_len item - 1) us (item_joined level place item gs)
     ∙ order_view-merge_all level (item_stretches level item place) (unsafe_all (unsafe_stretches level item place) gs)
-    ∙ map-unsafe plain (λ g. ap (λ (m : ℕ). let r : hb_glyph_info_t = record g { cluster = 0; mask = m } in r) (without_flags-or g.mask 3 refl)) level item place gs
+    ∙ map-unsafe plain (λ g. ap (λ (m : ℕ). let r : hb_glyph_info_t = record g { cluster = 0; mask = m } in r)
+    (without_flags-or g.mask 3 refl)) level item place gs
 plain_joined level font circles place (suc skip) (u ∷ us) gs = plain_joined level font circles (place + 1) skip us gs
 
-order_made : (font : Font) (circles : Bool) (level : BufferClusterLevel) (gs : List hb_glyph_info_t) → order_view (preprocessed font circles level gs) ≡ outputs glyph_copies (items font circles (characters gs)) (order_view gs)
+order_made : (font : Font) (circles : Bool) (level : BufferClusterLevel) (gs : List hb_glyph_info_t)
+    → order_view (preprocessed font circles level gs)
+    ≡ outputs glyph_copies (items font circles (characters gs)) (order_view gs)
 order_made font circles level gs =
     let cut = items font circles (characters gs) in
-    outputs-map plain glyph_copies glyph_copies (record { character = λ u g. refl; jamo = λ n g. refl }) cut (all_joined level cut gs)
+    outputs-map plain glyph_copies glyph_copies (record { character = λ u g. refl; jamo = λ n g. refl }) cut
+    (all_joined level cut gs)
     ∙ ap (outputs glyph_copies cut) (plain_joined level font circles 0 0 (characters gs) gs)
 
-pub clusters_made : (font : Font) (circles : Bool) (level : BufferClusterLevel) (gs : List hb_glyph_info_t) → clusters (preprocessed font circles level gs) ≡ outputs place_copies (items font circles (characters gs)) (clusters (merge_all level (stretches level (items font circles (characters gs))) gs))
+pub clusters_made : (font : Font) (circles : Bool) (level : BufferClusterLevel) (gs : List hb_glyph_info_t)
+    → clusters (preprocessed font circles level gs)
+    ≡ outputs place_copies (items font circles (characters gs))
+    (clusters (merge_all level (stretches level (items font circles (characters gs))) gs))
 clusters_made font circles level gs =
     let cut = items font circles (characters gs) in
-    outputs-map (λ (g : hb_glyph_info_t). g.cluster) glyph_copies place_copies (record { character = λ u g. refl; jamo = λ n g. refl }) cut (all_joined level cut gs)
+    outputs-map (λ (g : hb_glyph_info_t). g.cluster) glyph_copies place_copies
+    (record { character = λ u g. refl; jamo = λ n g. refl }) cut (all_joined level cut gs)
     ∙ ap (outputs place_copies cut) (clusters-all_joined level cut gs)
 
 -- the stretches end within the text
-ends_from : (level : BufferClusterLevel) (font : Font) (circles : Bool) (n place skip : ℕ) (us : List ℕ) → place + length us ≤ n → skip ≤ length us → EndWithin n (stretches level (items_from (first_item font circles) place skip us))
+ends_from : (level : BufferClusterLevel) (font : Font) (circles : Bool) (n place skip : ℕ) (us : List ℕ)
+    → place + length us ≤ n → skip ≤ length us
+    → EndWithin n (stretches level (items_from (first_item font circles) place skip us))
 ends_from level font circles n place skip [] within few = tt
 ends_from level font circles n place zero (u ∷ us) within few =
     let item = first_item font circles (u ∷ us) in
     let fits = first_item-within font circles (u ∷ us) (omega arith) in
     let some = taken_some item.unit in
-    end_within-append n (item_stretches level item place) (stretches level (items_from (first_item font circles) (place + 1) (item_len item - 1) us))
+    end_within-append n (item_stretches level item place)
+    (stretches level (items_from (first_item font circles) (place + 1) (item_len item - 1) us))
     (item_ends level item.unit item.tone place n (omega (arith, fits, within)))
-    (ends_from level font circles n (place + 1) (item_len item - 1) us (omega (arith, within)) (omega (arith, fits, some)))
-ends_from level font circles n place (suc skip) (u ∷ us) within few = ends_from level font circles n (place + 1) skip us (omega (arith, within)) (omega (arith, few))
+    (ends_from level font circles n (place + 1) (item_len item - 1) us (omega (arith, within))
+    (omega (arith, fits, some)))
+ends_from level font circles n place (suc skip) (u ∷ us) within few =
+    ends_from level font circles n (place + 1) skip us (omega (arith, within)) (omega (arith, few))
 
-pub ends_within : (level : BufferClusterLevel) (font : Font) (circles : Bool) (gs : List hb_glyph_info_t) → EndWithin (length gs) (stretches level (items font circles (characters gs)))
-ends_within level font circles gs = ends_from level font circles (length gs) 0 0 (characters gs) (omega (arith, length-characters gs)) (omega arith)
+pub ends_within : (level : BufferClusterLevel) (font : Font) (circles : Bool) (gs : List hb_glyph_info_t)
+    → EndWithin (length gs) (stretches level (items font circles (characters gs)))
+ends_within level font circles gs =
+    ends_from level font circles (length gs) 0 0 (characters gs) (omega (arith, length-characters gs)) (omega arith)
 
 -- the outputs of both halves' items
-outputs_halves : {X : Type 0} (c : Copying X) (level : BufferClusterLevel) (font : Font) (circles : Bool) (xs ys : List X) (us vs : List ℕ) → length us ≡ length xs → EachBeside font circles (length us) 0 0 (us ++ vs) → outputs c (items font circles (us ++ vs)) (xs ++ ys) ≡ outputs c (items font circles us) xs ++ outputs c (items font circles vs) ys
+outputs_halves : {X : Type 0} (c : Copying X) (level : BufferClusterLevel) (font : Font) (circles : Bool)
+    (xs ys : List X) (us vs : List ℕ) → length us ≡ length xs → EachBeside font circles (length us) 0 0 (us ++ vs)
+    → outputs c (items font circles (us ++ vs)) (xs ++ ys) ≡ outputs c (items font circles us) xs
+    ++ outputs c (items font circles vs) ys
 outputs_halves c level font circles xs ys us vs long beside =
     let n = length xs + 0 in
     let same : length us ≡ n = omega (arith, long) in
-    (split_there c level font circles (xs ++ ys) 0 0 n us vs (omega (arith, long)) (omega arith) (subst (λ k. EachBeside font circles k 0 0 (us ++ vs)) same beside)).made
-    ∙ ap (λ zs. zs ++ outputs c (items_from (first_item font circles) n 0 vs) (xs ++ ys)) (outputs_local c font circles xs ys 0 0 us (omega (arith, long)) (omega arith))
+    (split_there c level font circles (xs ++ ys) 0 0 n us vs (omega (arith, long)) (omega arith)
+    (subst (λ k. EachBeside font circles k 0 0 (us ++ vs)) same beside)).made
+    ∙ ap (λ zs. zs ++ outputs c (items_from (first_item font circles) n 0 vs) (xs ++ ys))
+    (outputs_local c font circles xs ys 0 0 us (omega (arith, long)) (omega arith))
     ∙ ap (λ zs. outputs c (items font circles us) xs ++ zs) (outputs_past c font circles xs ys 0 0 vs)
 
-read_halves : (font : Font) (circles : Bool) (gs hs : List hb_glyph_info_t) → IsBetweenItems font circles (characters (gs ++ hs)) (length gs) → EachBeside font circles (length (characters gs)) 0 0 (characters gs ++ characters hs)
-read_halves font circles gs hs between = subst (λ k. EachBeside font circles k 0 0 (characters gs ++ characters hs)) (sym (length-characters gs)) (subst (λ us. IsBetweenItems font circles us (length gs)) (map-append (λ (g : hb_glyph_info_t). g.glyph_id) gs hs) between)
+read_halves : (font : Font) (circles : Bool) (gs hs : List hb_glyph_info_t)
+    → IsBetweenItems font circles (characters (gs ++ hs)) (length gs)
+    → EachBeside font circles (length (characters gs)) 0 0 (characters gs ++ characters hs)
+read_halves font circles gs hs between =
+    subst (λ k. EachBeside font circles k 0 0 (characters gs ++ characters hs)) (sym (length-characters gs))
+    (subst (λ us. IsBetweenItems font circles us (length gs)) (map-append (λ (g : hb_glyph_info_t). g.glyph_id) gs hs)
+    between)
 
-pub hangul_order_halves : (font : Font) (circles : Bool) (level : BufferClusterLevel) (gs hs : List hb_glyph_info_t) → IsBetweenItems font circles (characters (gs ++ hs)) (length gs) → order_view (preprocessed font circles level (gs ++ hs)) ≡ order_view (preprocessed font circles level gs) ++ order_view (preprocessed font circles level hs)
+pub hangul_order_halves : (font : Font) (circles : Bool) (level : BufferClusterLevel) (gs hs : List hb_glyph_info_t)
+    → IsBetweenItems font circles (characters (gs ++ hs)) (length gs)
+    → order_view (preprocessed font circles level (gs ++ hs)) ≡ order_view (preprocessed font circles level gs)
+    ++ order_view (preprocessed font circles level hs)
 hangul_order_halves font circles level gs hs between =
     order_made font circles level (gs ++ hs)
-    ∙ ap (λ us. outputs glyph_copies (items font circles us) (order_view (gs ++ hs))) (map-append (λ (g : hb_glyph_info_t). g.glyph_id) gs hs)
+    ∙ ap (λ us. outputs glyph_copies (items font circles us) (order_view (gs ++ hs)))
+    (map-append (λ (g : hb_glyph_info_t). g.glyph_id) gs hs)
     ∙ ap (outputs glyph_copies (items font circles (characters gs ++ characters hs))) (map-append plain gs hs)
-    ∙ outputs_halves glyph_copies level font circles (order_view gs) (order_view hs) (characters gs) (characters hs) (length-characters gs ∙ sym (length-map gs plain)) (read_halves font circles gs hs between)
-    ∙ ap (λ zs. zs ++ outputs glyph_copies (items font circles (characters hs)) (order_view hs)) (sym (order_made font circles level gs))
+    ∙ outputs_halves glyph_copies level font circles (order_view gs) (order_view hs) (characters gs) (characters hs)
+    (length-characters gs ∙ sym (length-map gs plain)) (read_halves font circles gs hs between)
+    ∙ ap (λ zs. zs ++ outputs glyph_copies (items font circles (characters hs)) (order_view hs))
+    (sym (order_made font circles level gs))
     ∙ ap (λ zs. order_view (preprocessed font circles level gs) ++ zs) (sym (order_made font circles level hs))
 
-pub hangul_clusters_halves : (font : Font) (circles : Bool) (level : BufferClusterLevel) (gs hs : List hb_glyph_info_t) → IsBetweenItems font circles (characters (gs ++ hs)) (length gs) → ShareNone gs hs → clusters (preprocessed font circles level (gs ++ hs)) ≡ clusters (preprocessed font circles level gs) ++ clusters (preprocessed font circles level hs)
+pub hangul_clusters_halves : (font : Font) (circles : Bool) (level : BufferClusterLevel) (gs hs : List hb_glyph_info_t)
+    → IsBetweenItems font circles (characters (gs ++ hs)) (length gs) → ShareNone gs hs
+    → clusters (preprocessed font circles level (gs ++ hs)) ≡ clusters (preprocessed font circles level gs)
+    ++ clusters (preprocessed font circles level hs)
 hangul_clusters_halves font circles level gs hs between none =
     let us = characters gs in
     let vs = characters hs in
@@ -91,18 +127,25 @@ hangul_clusters_halves font circles level gs hs between none =
     let long = length-characters gs in
     let same : length us ≡ n = omega (arith, long) in
     let sts : stretches level (items font circles (us ++ vs)) ≡ one ++ shifted (length gs) two =
-    (split_there place_copies level font circles [] 0 0 n us vs (omega (arith, long)) (omega arith) (subst (λ k. EachBeside font circles k 0 0 (us ++ vs)) same beside)).merged
+    (split_there place_copies level font circles
+    [] 0 0 n us vs (omega (arith, long)) (omega arith)
+    (subst (λ k. EachBeside font circles k 0 0 (us ++ vs)) same beside)).merged
     ∙ ap (λ xs. one ++ xs) (stretches_past level font circles (length gs) 0 0 vs) in
     let first = merge_all level one gs in
     let second = merge_all level two hs in
     let ends = ends_within level font circles gs in
-    let both : clusters (merge_all level (stretches level (items font circles (us ++ vs))) (gs ++ hs)) ≡ clusters first ++ clusters second =
+    let both : clusters (merge_all level (stretches level (items font circles (us ++ vs))) (gs ++ hs)) ≡ clusters first
+    ++ clusters second =
     ap (λ xs. clusters (merge_all level xs (gs ++ hs))) sts
     ∙ ap clusters (merged_halves level one two gs hs ends (ends_within level font circles hs) none)
     ∙ map-append (λ (g : hb_glyph_info_t). g.cluster) first second in
     clusters_made font circles level (gs ++ hs)
-    ∙ ap (λ ws. outputs place_copies (items font circles ws) (clusters (merge_all level (stretches level (items font circles ws)) (gs ++ hs)))) (map-append (λ (g : hb_glyph_info_t). g.glyph_id) gs hs)
+    ∙ ap (λ ws. outputs place_copies (items font circles ws)
+    (clusters (merge_all level (stretches level (items font circles ws)) (gs ++ hs))))
+    (map-append (λ (g : hb_glyph_info_t). g.glyph_id) gs hs)
     ∙ ap (outputs place_copies (items font circles (us ++ vs))) both
-    ∙ outputs_halves place_copies level font circles (clusters first) (clusters second) us vs (long ∙ sym (length-map first (λ (g : hb_glyph_info_t). g.cluster) ∙ length-merge_all level one gs ends)) beside
-    ∙ ap (λ zs. zs ++ outputs place_copies (items font circles vs) (clusters second)) (sym (clusters_made font circles level gs))
+    ∙ outputs_halves place_copies level font circles (clusters first) (clusters second) us vs (long
+    ∙ sym (length-map first (λ (g : hb_glyph_info_t). g.cluster) ∙ length-merge_all level one gs ends)) beside
+    ∙ ap (λ zs. zs ++ outputs place_copies (items font circles vs) (clusters second))
+    (sym (clusters_made font circles level gs))
     ∙ ap (λ zs. clusters (preprocessed font circles level gs) ++ zs) (sym (clusters_made font circles level hs))

@@ -11,23 +11,32 @@ use Rattle.shapers_hangul.proofs.Outputs.{length-preprocessed}
 use Rattle.shapers_hangul.proofs.Walks.{length-characters, length-item_output}
 
 -- a unit becomes at most three glyphs for each character that it takes
-thrice : (font : Font) (circles : Bool) (u v t : ℕ) → output_len (first_unit font circles u v t) ≤ 3 * taken (first_unit font circles u v t)
+thrice : (font : Font) (circles : Bool) (u v t : ℕ) → output_len (first_unit font circles u v t)
+    ≤ 3 * taken (first_unit font circles u v t)
 thrice font circles u v t =
     either (λ x. output_len x ≤ 3 * taken x) (is_tone u) _ _
-    (λ _. either (λ x. output_len x ≤ 3 * taken x) (circles && has_nominal font dotted_circle) _ _ (λ _. either (λ x. output_len x ≤ 3 * taken x) (is_narrow font u) _ _ (λ _. omega arith) (λ _. omega arith)) (λ _. omega arith))
+    (λ _. either (λ x. output_len x ≤ 3 * taken x) (circles && has_nominal font dotted_circle) _ _
+    (λ _. either (λ x. output_len x ≤ 3 * taken x) (is_narrow font u) _ _ (λ _. omega arith) (λ _. omega arith))
+    (λ _. omega arith))
     (λ _. either (λ x. output_len x ≤ 3 * taken x) (is_l u && is_v v) _ _
     (λ _. either (λ x. output_len x ≤ 3 * taken x) (is_t t) _ _
-    (λ _. either (λ x. output_len x ≤ 3 * taken x) ((combines_l u && (combines_v v && combines_t t)) && has_nominal font (with_t (with_v u v) t)) _ _ (λ _. omega arith) (λ _. omega arith))
-    (λ _. either (λ x. output_len x ≤ 3 * taken x) ((combines_l u && combines_v v) && has_nominal font (with_v u v)) _ _ (λ _. omega arith) (λ _. omega arith)))
+    (λ _. either (λ x. output_len x ≤ 3 * taken x) ((combines_l u && (combines_v v && combines_t t))
+    && has_nominal font (with_t (with_v u v) t)) _ _ (λ _. omega arith) (λ _. omega arith))
+    (λ _. either (λ x. output_len x ≤ 3 * taken x) ((combines_l u && combines_v v) && has_nominal font (with_v u v)) _ _
+    (λ _. omega arith) (λ _. omega arith)))
     (λ _. either (λ x. output_len x ≤ 3 * taken x) (is_s u) _ _
-    (λ _. either (λ x. output_len x ≤ 3 * taken x) ((is_lv u && combines_t v) && has_nominal font (with_t u v)) _ _ (λ _. omega arith)
-    (λ _. either (λ x. output_len x ≤ 3 * taken x) (not (has_nominal font u) && has_jamo_of font u) _ _ (λ _. either (λ x. output_len x ≤ 3 * taken x) (is_lv u) _ _ (λ _. omega arith) (λ _. omega arith))
+    (λ _. either (λ x. output_len x ≤ 3 * taken x) ((is_lv u && combines_t v) && has_nominal font (with_t u v)) _ _
+    (λ _. omega arith)
+    (λ _. either (λ x. output_len x ≤ 3 * taken x) (not (has_nominal font u) && has_jamo_of font u) _ _
+    (λ _. either (λ x. output_len x ≤ 3 * taken x) (is_lv u) _ _ (λ _. omega arith) (λ _. omega arith))
     (λ _. either (λ x. output_len x ≤ 3 * taken x) ((is_lv u && is_t v) && has_jamo_of font u) _ _ (λ _. omega arith)
     (λ _. either (λ x. output_len x ≤ 3 * taken x) (has_nominal font u) _ _ (λ _. omega arith) (λ _. omega arith)))))
     (λ _. omega arith)))
 
 -- the outputs of the items of a text's end
-from_place : {X : Type 0} (c : Copying X) (font : Font) (circles : Bool) (xs : List X) (place skip : ℕ) (us : List ℕ) → place + length us ≡ length xs → skip ≤ length us → length (outputs c (items_from (first_item font circles) place skip us) xs) + 3 * skip ≤ 3 * length us
+from_place : {X : Type 0} (c : Copying X) (font : Font) (circles : Bool) (xs : List X) (place skip : ℕ) (us : List ℕ)
+    → place + length us ≡ length xs → skip ≤ length us
+    → length (outputs c (items_from (first_item font circles) place skip us) xs) + 3 * skip ≤ 3 * length us
 from_place c font circles xs place zero [] all within = omega arith
 from_place c font circles xs place (suc skip) [] all within = absurd (omega arith)
 from_place c font circles xs place zero (u ∷ us) all within =
@@ -39,13 +48,15 @@ from_place c font circles xs place zero (u ∷ us) all within =
     let here = length-item_output c item (drop place xs) (omega (arith, fits, left, all)) in
     let most = thrice font circles u (get_or us 0 0) (get_or us 1 0) in
     let joined = length-append (item_output c item (drop place xs)) (outputs c rest xs) in
-    let later = from_place c font circles xs (place + 1) (item_len item - 1) us (omega (arith, all)) (omega (arith, fits, some)) in
+    let later = from_place c font circles xs (place + 1) (item_len item - 1) us (omega (arith, all))
+    (omega (arith, fits, some)) in
     omega (arith, here, most, joined, later, some)
 from_place c font circles xs place (suc skip) (u ∷ us) all within =
     let later = from_place c font circles xs (place + 1) skip us (omega (arith, all)) (omega (arith, within)) in
     omega (arith, later)
 
-pub hangul_long : (font : Font) (circles : Bool) (level : BufferClusterLevel) (gs : List hb_glyph_info_t) → length (preprocessed font circles level gs) ≤ 3 * length gs
+pub hangul_long : (font : Font) (circles : Bool) (level : BufferClusterLevel) (gs : List hb_glyph_info_t)
+    → length (preprocessed font circles level gs) ≤ 3 * length gs
 hangul_long font circles level gs =
     let n = length-characters gs in
     let all = from_place glyph_copies font circles gs 0 0 (characters gs) (omega (arith, n)) (omega arith) in

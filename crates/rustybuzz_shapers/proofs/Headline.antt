@@ -14,16 +14,21 @@ use Rattle.rustybuzz_shapers.specs.Headline.{ActionsByRule, ActsByRule}
 use Rattle.rustybuzz_shapers.specs.Hooks.{MasksSet}
 use Rattle.rustybuzz_shapers.specs.declared.shaper.hb_ot_shaper_t.TheVariants.{Arabic, Universal}
 
-arabic_acts : (plan : hb_ot_shape_plan_t) (tables : CharacterTables) (old new : Buffer) → MasksSet Arabic plan tables old new → ActsByRule plan.script tables old new
+arabic_acts : (plan : hb_ot_shape_plan_t) (tables : CharacterTables) (old new : Buffer)
+    → MasksSet Arabic plan tables old new → ActsByRule plan.script tables old new
 arabic_acts plan tables old new set = record {
-  rule = forms_left (breaks_of plan.plan_data) (masks_of plan.plan_data) plan.script tables.joining tables.general old new set.0;
+  rule = forms_left (breaks_of plan.plan_data) (masks_of plan.plan_data) plan.script tables.joining tables.general old
+      new set.0;
   halves = set.1;
   copied = copied-cut plan.script tables.joining tables.general old;
 }
 
-universal_acts : (plan : hb_ot_shape_plan_t) (tables : CharacterTables) (old new : Buffer) (joins : arabic_shape_plan_t) → arabic_of plan.plan_data ≡ Some joins → MasksSet Universal plan tables old new → ActsByRule plan.script tables old new
+universal_acts : (plan : hb_ot_shape_plan_t) (tables : CharacterTables) (old new : Buffer) (joins : arabic_shape_plan_t)
+    → arabic_of plan.plan_data ≡ Some joins → MasksSet Universal plan tables old new
+    → ActsByRule plan.script tables old new
 universal_acts plan tables old new joins is set =
-    let joined : MasksAreSet (Some joins) plan.script tables old new = subst (λ o. MasksAreSet o plan.script tables old new) is set in
+    let joined : MasksAreSet (Some joins) plan.script tables old new =
+    subst (λ o. MasksAreSet o plan.script tables old new) is set in
     let before = with_categories tables old in
     record {
       rule = forms_left joins.break_flags joins.mask_array plan.script tables.joining tables.general before new joined.0

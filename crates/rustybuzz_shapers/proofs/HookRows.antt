@@ -19,51 +19,73 @@ lacks : {X : Type 0} {x : X} → Lacking false (x ≡ x)
 lacks = (refl, refl)
 
 -- Thai and Hangul rewrite the text; Indic and the universal shaper leave it to the caller; the others have no such hook
-answers : map preprocess_answer (Arabic ∷ Hangul ∷ Hebrew ∷ Indic ∷ Khmer ∷ Myanmar ∷ MyanmarZawgyi ∷ Thai ∷ Universal ∷ []) ≡ None ∷ Some Done ∷ None ∷ Some CallerRunsVowelConstraints ∷ None ∷ None ∷ None ∷ Some Done ∷ Some CallerRunsVowelConstraints ∷ []
+answers : map preprocess_answer (Arabic ∷ Hangul ∷ Hebrew ∷ Indic ∷ Khmer ∷ Myanmar ∷ MyanmarZawgyi ∷ Thai ∷ Universal
+    ∷ []) ≡ None ∷ Some Done ∷ None ∷ Some CallerRunsVowelConstraints ∷ None ∷ None ∷ None ∷ Some Done
+    ∷ Some CallerRunsVowelConstraints ∷ []
 answers = refl
 
 -- no data in the plan
-no_data : (plan : hb_ot_shape_plan_t) → map (λ shaper. data_created shaper plan) (Hebrew ∷ Myanmar ∷ MyanmarZawgyi ∷ Thai ∷ []) ≡ None ∷ None ∷ None ∷ None ∷ []
+no_data : (plan : hb_ot_shape_plan_t)
+    → map (λ shaper. data_created shaper plan) (Hebrew ∷ Myanmar ∷ MyanmarZawgyi ∷ Thai ∷ []) ≡ None ∷ None ∷ None
+    ∷ None ∷ []
 no_data plan = refl
 
 -- where there are none the plan stays, and else they take the place of what it had
 plan_stays : (plan : hb_ot_shape_plan_t) → with_created None plan ≡ plan
 plan_stays plan = refl
 
-plan_changes : (plan : hb_ot_shape_plan_t) (kept : PlanData) → with_created (Some kept) plan ≡ record plan { plan_data = kept }
+plan_changes : (plan : hb_ot_shape_plan_t) (kept : PlanData) → with_created (Some kept) plan
+    ≡ record plan { plan_data = kept }
 plan_changes plan kept = refl
 
 -- where letters join and where they don't
-data_of_khmer : (plan : hb_ot_shape_plan_t) → data_created Khmer plan ≡ Some (data_of.Khmer (record { mask_array = khmer_masks plan.ot_map }))
+data_of_khmer : (plan : hb_ot_shape_plan_t)
+    → data_created Khmer plan ≡ Some (data_of.Khmer (record { mask_array = khmer_masks plan.ot_map }))
 data_of_khmer plan = refl
 
-data_of_indic : (plan : hb_ot_shape_plan_t) → data_created Indic plan ≡ Some (data_of.Indic (indic_plan plan.base_search plan.script plan.ot_map))
+data_of_indic : (plan : hb_ot_shape_plan_t)
+    → data_created Indic plan ≡ Some (data_of.Indic (indic_plan plan.base_search plan.script plan.ot_map))
 data_of_indic plan = refl
 
 -- the text stays before normalization, also where it is left to the caller
-text_stays : (plan : hb_ot_shape_plan_t) (font : Font) (b : Buffer) → Preprocessed Arabic plan font b b × Preprocessed Hebrew plan font b b × Preprocessed Indic plan font b b × Preprocessed Khmer plan font b b × Preprocessed Myanmar plan font b b × Preprocessed MyanmarZawgyi plan font b b × Preprocessed Universal plan font b b
+text_stays : (plan : hb_ot_shape_plan_t) (font : Font) (b : Buffer) → Preprocessed Arabic plan font b b
+    × Preprocessed Hebrew plan font b b × Preprocessed Indic plan font b b × Preprocessed Khmer plan font b b
+    × Preprocessed Myanmar plan font b b × Preprocessed MyanmarZawgyi plan font b b
+    × Preprocessed Universal plan font b b
 text_stays plan font b = (lacks, lacks, refl, lacks, lacks, lacks, refl)
 
 -- the glyphs stay after positioning
-glyphs_stay : (plan : hb_ot_shape_plan_t) (font : Font) (b : Buffer) → Postprocessed Hangul plan font b b × Postprocessed Hebrew plan font b b × Postprocessed Indic plan font b b × Postprocessed Khmer plan font b b × Postprocessed Myanmar plan font b b × Postprocessed MyanmarZawgyi plan font b b × Postprocessed Thai plan font b b × Postprocessed Universal plan font b b
+glyphs_stay : (plan : hb_ot_shape_plan_t) (font : Font) (b : Buffer) → Postprocessed Hangul plan font b b
+    × Postprocessed Hebrew plan font b b × Postprocessed Indic plan font b b × Postprocessed Khmer plan font b b
+    × Postprocessed Myanmar plan font b b × Postprocessed MyanmarZawgyi plan font b b × Postprocessed Thai plan font b b
+    × Postprocessed Universal plan font b b
 glyphs_stay plan font b = (lacks, lacks, lacks, lacks, lacks, lacks, lacks, lacks)
 
 -- but for Arabic's marks that stretch
-marks_stretch : (plan : hb_ot_shape_plan_t) (font : Font) (b : Buffer) → Postprocessed Arabic plan font b (marks_stretched font (start_of plan.plan_data) b)
+marks_stretch : (plan : hb_ot_shape_plan_t) (font : Font) (b : Buffer)
+    → Postprocessed Arabic plan font b (marks_stretched font (start_of plan.plan_data) b)
 marks_stretch plan font b = refl
 
 -- no two characters compose
-no_pair : (plan : hb_ot_shape_plan_t) (tables : CharacterTables) (x y : ℕ) → Composed Arabic plan tables x y None × Composed Hangul plan tables x y None × Composed Myanmar plan tables x y None × Composed MyanmarZawgyi plan tables x y None × Composed Thai plan tables x y None
+no_pair : (plan : hb_ot_shape_plan_t) (tables : CharacterTables) (x y : ℕ) → Composed Arabic plan tables x y None
+    × Composed Hangul plan tables x y None × Composed Myanmar plan tables x y None
+    × Composed MyanmarZawgyi plan tables x y None × Composed Thai plan tables x y None
 no_pair plan tables x y = (lacks, lacks, lacks, lacks, lacks)
 
 -- no character decomposes
-no_parts : (plan : hb_ot_shape_plan_t) (tables : CharacterTables) (x : ℕ) → Decomposed Arabic plan tables x None × Decomposed Hangul plan tables x None × Decomposed Hebrew plan tables x None × Decomposed Myanmar plan tables x None × Decomposed MyanmarZawgyi plan tables x None × Decomposed Thai plan tables x None × Decomposed Universal plan tables x None
+no_parts : (plan : hb_ot_shape_plan_t) (tables : CharacterTables) (x : ℕ) → Decomposed Arabic plan tables x None
+    × Decomposed Hangul plan tables x None × Decomposed Hebrew plan tables x None
+    × Decomposed Myanmar plan tables x None × Decomposed MyanmarZawgyi plan tables x None
+    × Decomposed Thai plan tables x None × Decomposed Universal plan tables x None
 no_parts plan tables x = (lacks, lacks, lacks, lacks, lacks, lacks, lacks)
 
 -- masks stay
-masks_stay : (plan : hb_ot_shape_plan_t) (tables : CharacterTables) (b : Buffer) → MasksSet Hebrew plan tables b b × MasksSet MyanmarZawgyi plan tables b b × MasksSet Thai plan tables b b
+masks_stay : (plan : hb_ot_shape_plan_t) (tables : CharacterTables) (b : Buffer) → MasksSet Hebrew plan tables b b
+    × MasksSet MyanmarZawgyi plan tables b b × MasksSet Thai plan tables b b
 masks_stay plan tables b = (lacks, lacks, lacks)
 
 -- marks stay in their order
-marks_stay : (b : Buffer) → MarksReordered Hangul 1 3 b b × MarksReordered Indic 1 3 b b × MarksReordered Khmer 1 3 b b × MarksReordered Myanmar 1 3 b b × MarksReordered MyanmarZawgyi 1 3 b b × MarksReordered Thai 1 3 b b × MarksReordered Universal 1 3 b b
+marks_stay : (b : Buffer) → MarksReordered Hangul 1 3 b b × MarksReordered Indic 1 3 b b × MarksReordered Khmer 1 3 b b
+    × MarksReordered Myanmar 1 3 b b × MarksReordered MyanmarZawgyi 1 3 b b × MarksReordered Thai 1 3 b b
+    × MarksReordered Universal 1 3 b b
 marks_stay b = (lacks, lacks, lacks, lacks, lacks, lacks, lacks)

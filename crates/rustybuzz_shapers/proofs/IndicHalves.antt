@@ -28,23 +28,36 @@ use Rattle.rustybuzz_shapers.specs.Monotone.{IndicKeepsHalves}
 use Rattle.rustybuzz_shapers.specs.Pauses.{by_initial}
 
 -- steps make no cluster
-own : (level : BufferClusterLevel) (steps : List Step) (gs : List hb_glyph_info_t) → FitSteps (length gs) steps → All (Contains (clusters gs)) (joined_steps level steps (clusters gs))
-own level steps gs fit = (all-joined_steps (Contains (clusters gs)) level (length gs) steps (clusters gs) (length-map gs (λ (g : hb_glyph_info_t). g.cluster)) fit (All-contains_itself (clusters gs))).1
+own : (level : BufferClusterLevel) (steps : List Step) (gs : List hb_glyph_info_t) → FitSteps (length gs) steps
+    → All (Contains (clusters gs)) (joined_steps level steps (clusters gs))
+own level steps gs fit =
+    (all-joined_steps (Contains (clusters gs)) level (length gs) steps (clusters gs)
+    (length-map gs (λ (g : hb_glyph_info_t). g.cluster)) fit (All-contains_itself (clusters gs))).1
 
 -- the steps of a text's syllables fit it
-steps_fit : (order : List hb_glyph_info_t → List hb_glyph_info_t) (steps : List hb_glyph_info_t → List Step) (level : BufferClusterLevel) (gs : List hb_glyph_info_t) → ReorderLaws order steps → FitSteps (length gs) (text_steps steps (order_view gs))
+steps_fit : (order : List hb_glyph_info_t → List hb_glyph_info_t) (steps : List hb_glyph_info_t
+    → List Step) (level : BufferClusterLevel) (gs : List hb_glyph_info_t) → ReorderLaws order steps
+    → FitSteps (length gs) (text_steps steps (order_view gs))
 steps_fit order steps level gs laws =
     let pieces = pieces_of steps (syllables (order_view gs)) in
-    let whole : sum_by (λ piece. piece.0) pieces ≡ length gs = sum-syllables steps (order_view gs) ∙ length-map gs plain in
-    subst (FitSteps (length gs)) (sym (text_steps-long steps gs)) (along_holds level pieces gs (omega (arith, whole)) (each_piece FitsStep steps laws.fits (syllables (order_view gs)))).fit
+    let whole : sum_by (λ piece. piece.0) pieces ≡ length gs = sum-syllables steps (order_view gs)
+    ∙ length-map gs plain in
+    subst (FitSteps (length gs)) (sym (text_steps-long steps gs))
+    (along_holds level pieces gs (omega (arith, whole))
+    (each_piece FitsStep steps laws.fits (syllables (order_view gs)))).fit
 
-paused_own : (circles : Option DottedCircles) (order : List hb_glyph_info_t → List hb_glyph_info_t) (steps : List hb_glyph_info_t → List Step) (level : BufferClusterLevel) (gs : List hb_glyph_info_t) → ReorderLaws order steps → All (Contains (clusters gs)) (paused_clusters circles steps level gs)
+paused_own : (circles : Option DottedCircles) (order : List hb_glyph_info_t → List hb_glyph_info_t)
+    (steps : List hb_glyph_info_t → List Step) (level : BufferClusterLevel) (gs : List hb_glyph_info_t)
+    → ReorderLaws order steps → All (Contains (clusters gs)) (paused_clusters circles steps level gs)
 paused_own circles order steps level gs laws =
     let opened = circled circles gs in
     let sts = text_steps steps (order_view opened) in
     let new = run_steps level sts opened in
     let are = clusters-run_steps level sts opened in
-    subst (All (Contains (clusters gs))) are (no_new_cluster circles gs new (subst (All (Contains (clusters opened))) (sym are) (own level sts opened (steps_fit order steps level opened laws))))
+    subst (All (Contains (clusters gs))) are
+    (no_new_cluster circles gs new
+    (subst (All (Contains (clusters opened))) (sym are)
+    (own level sts opened (steps_fit order steps level opened laws))))
 
 pub indic_keeps_halves : IndicKeepsHalves
 indic_keeps_halves InitialReordering plan font spans old new indic k gs hs text border none =
@@ -64,7 +77,8 @@ indic_keeps_halves InitialReordering plan font spans old new indic k gs hs text 
     )
 indic_keeps_halves FinalReordering plan font spans old new indic k gs hs text border none =
     let r = final_rules font (indic_in plan) in
-    let made = λ (xs : List hb_glyph_info_t). joined_steps old.level (final_text_steps r old.script xs) (clusters xs) in (
+    let made = λ (xs : List hb_glyph_info_t). joined_steps old.level (final_text_steps r old.script xs)
+    (clusters xs) in (
       made gs,
       (
         made hs,

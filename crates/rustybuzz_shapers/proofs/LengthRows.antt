@@ -25,10 +25,12 @@ jamo_font = record {
   offers = λ tag. false;
 }
 
-growths : map growth (Arabic ∷ Hangul ∷ Hebrew ∷ Indic ∷ Khmer ∷ Myanmar ∷ MyanmarZawgyi ∷ Thai ∷ Universal ∷ []) ≡ 1 ∷ 3 ∷ 1 ∷ 2 ∷ 2 ∷ 2 ∷ 1 ∷ 2 ∷ 2 ∷ []
+growths : map growth (Arabic ∷ Hangul ∷ Hebrew ∷ Indic ∷ Khmer ∷ Myanmar ∷ MyanmarZawgyi ∷ Thai ∷ Universal ∷ [])
+    ≡ 1 ∷ 3 ∷ 1 ∷ 2 ∷ 2 ∷ 2 ∷ 1 ∷ 2 ∷ 2 ∷ []
 growths = refl
 
-pause_growths : map pause_growth (InitialReordering ∷ FinalReordering ∷ ReorderKhmer ∷ ReorderMyanmar ∷ ReorderUse ∷ RecordStch ∷ []) ≡ 2 ∷ 1 ∷ 2 ∷ 2 ∷ 2 ∷ 1 ∷ []
+pause_growths : map pause_growth (InitialReordering ∷ FinalReordering ∷ ReorderKhmer ∷ ReorderMyanmar ∷ ReorderUse
+    ∷ RecordStch ∷ []) ≡ 2 ∷ 1 ∷ 2 ∷ 2 ∷ 2 ∷ 1 ∷ []
 pause_growths = refl
 
 -- one syllable character, three jamo
@@ -36,7 +38,9 @@ three_jamo : length (preprocessed jamo_font true MonotoneGraphemes (character 0x
 three_jamo = refl
 
 -- a consonant with a mark and SARA AM: one longer; SARA AM alone: twice as long
-one_am : length (preprocessed_text false (λ u. false) MonotoneGraphemes (character 0x0E19 ∷ character 0x0E49 ∷ character 0x0E33 ∷ [])) ≡ 4
+one_am : length
+    (preprocessed_text false (λ u. false) MonotoneGraphemes (character 0x0E19 ∷ character 0x0E49 ∷ character 0x0E33
+    ∷ [])) ≡ 4
 one_am = refl
 
 am_alone : length (preprocessed_text false (λ u. false) MonotoneGraphemes (character 0x0E33 ∷ [])) ≡ 2

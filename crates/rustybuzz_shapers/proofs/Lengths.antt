@@ -39,7 +39,8 @@ same_long old new is = ap (λ (b : Buffer). length b.glyphs) is
 abbrev ams_in : List hb_glyph_info_t → ℕ
 ams_in gs = count_by (λ g. is_sara_am g.glyph_id) gs
 
-one_or_two : (b : Bool) (g : hb_glyph_info_t) → length (if b then nikhahit g ∷ (sara_aa g ∷ []) else g ∷ []) ≡ 1 + cond b 1 0
+one_or_two : (b : Bool) (g : hb_glyph_info_t) → length (if b then nikhahit g ∷ (sara_aa g ∷ []) else g ∷ [])
+    ≡ 1 + cond b 1 0
 one_or_two true g = refl
 one_or_two false g = refl
 
@@ -51,14 +52,16 @@ parts_long (g ∷ gs) =
     let more = sum_by-cons (λ (x : hb_glyph_info_t). cond (is_sara_am x.glyph_id) 1 0) g gs in
     omega (arith, joined, here, more, parts_long gs)
 
-thai_long : (plan : hb_ot_shape_plan_t) (font : Font) (old new : Buffer) → Preprocessed Thai plan font old new → length new.glyphs ≡ length old.glyphs + ams_in old.glyphs
+thai_long : (plan : hb_ot_shape_plan_t) (font : Font) (old new : Buffer) → Preprocessed Thai plan font old new
+    → length new.glyphs ≡ length old.glyphs + ams_in old.glyphs
 thai_long plan font old new is =
     let forms = asks_for_forms plan in
     let made = preprocessed_text forms (has_nominal font) old.level old.glyphs in
     let parts = flat_map (in_parts glyph_rule) old.glyphs in
     ap (λ (b : Buffer). length b.glyphs) is
     ∙ sym (length-map made (kept_view forms))
-    ∙ length_permutation (map (kept_view forms) parts) (map (kept_view forms) made) (kept_in_two forms (has_nominal font) old.level old.glyphs)
+    ∙ length_permutation (map (kept_view forms) parts) (map (kept_view forms) made)
+    (kept_in_two forms (has_nominal font) old.level old.glyphs)
     ∙ length-map parts (kept_view forms)
     ∙ parts_long old.glyphs
 
@@ -80,7 +83,8 @@ preprocessing_grows Universal plan font old new k = same_long old new k
 flags_long : (gs ms : List hb_glyph_info_t) → OnlyFlagsAdded gs ms → length ms ≡ length gs + 0
 flags_long gs ms added = let same = length_all_zip FlagsAdded gs ms added in omega (arith, same)
 
-circled_long : (circles : Option DottedCircles) (gs : List hb_glyph_info_t) → length (circled circles gs) ≡ length gs + broken_in circles gs
+circled_long : (circles : Option DottedCircles) (gs : List hb_glyph_info_t)
+    → length (circled circles gs) ≡ length gs + broken_in circles gs
 circled_long None gs = omega arith
 circled_long (Some rule) gs = length-with_circles rule gs
 
@@ -89,10 +93,14 @@ pauses_grow SetupSyllablesIndic plan font spans old new k = flags_long old.glyph
 pauses_grow SetupSyllablesKhmer plan font spans old new k = flags_long old.glyphs new.glyphs k.2
 pauses_grow SetupSyllablesMyanmar plan font spans old new k = flags_long old.glyphs new.glyphs k.2
 pauses_grow SetupSyllablesUse plan font spans old new k = flags_long old.glyphs new.glyphs k.2
-pauses_grow InitialReordering plan font spans old new k = k.0.text.glyphs.same_length ∙ circled_long (pause_circles InitialReordering plan font old) old.glyphs
-pauses_grow ReorderKhmer plan font spans old new k = k.0.text.glyphs.same_length ∙ circled_long (pause_circles ReorderKhmer plan font old) old.glyphs
-pauses_grow ReorderMyanmar plan font spans old new k = k.0.text.glyphs.same_length ∙ circled_long (pause_circles ReorderMyanmar plan font old) old.glyphs
-pauses_grow ReorderUse plan font spans old new k = k.0.text.glyphs.same_length ∙ circled_long (pause_circles ReorderUse plan font old) old.glyphs
+pauses_grow InitialReordering plan font spans old new k = k.0.text.glyphs.same_length
+    ∙ circled_long (pause_circles InitialReordering plan font old) old.glyphs
+pauses_grow ReorderKhmer plan font spans old new k = k.0.text.glyphs.same_length
+    ∙ circled_long (pause_circles ReorderKhmer plan font old) old.glyphs
+pauses_grow ReorderMyanmar plan font spans old new k = k.0.text.glyphs.same_length
+    ∙ circled_long (pause_circles ReorderMyanmar plan font old) old.glyphs
+pauses_grow ReorderUse plan font spans old new k = k.0.text.glyphs.same_length
+    ∙ circled_long (pause_circles ReorderUse plan font old) old.glyphs
 pauses_grow FinalReordering plan font spans old new k =
     let same = length_permutation (map (λ g. g.glyph_id) old.glyphs) (map (λ g. g.glyph_id) new.glyphs) k.0.numbers in
     let n = length-map old.glyphs (λ g. g.glyph_id) in
@@ -106,7 +114,8 @@ pauses_grow ClearSubstitutionFlags plan font spans old new k = flags_long old.gl
 pauses_grow ArabicFallbackShape plan font spans old new k = flags_long old.glyphs new.glyphs k
 
 -- ROOM
-enough : {T : Type 0} (limit wanted : ℕ) (r : Result T ShaperError) → wanted ≤ limit → RefusesLength limit wanted r → IsOkUnless r Memory
+enough : {T : Type 0} (limit wanted : ℕ) (r : Result T ShaperError) → wanted ≤ limit → RefusesLength limit wanted r
+    → IsOkUnless r Memory
 enough limit wanted (Ok x) fits h = tt
 enough limit wanted (Err Memory) fits h = refl
 enough limit wanted (Err TooLong) fits h = absurd (omega (arith, fits, h))
@@ -143,7 +152,8 @@ broken_has_some : (kind : ℕ) (piece : List hb_glyph_info_t) → cond (is_of_ki
 broken_has_some kind [] = omega arith
 broken_has_some kind (g ∷ gs) = let one = at_most_one (is_of_kind kind (g ∷ gs)) in omega (arith, one)
 
-few_broken : (kind : ℕ) (pieces : List (List hb_glyph_info_t)) → count_by (is_of_kind kind) pieces ≤ length (flat_map (λ piece. piece) pieces)
+few_broken : (kind : ℕ) (pieces : List (List hb_glyph_info_t)) → count_by (is_of_kind kind) pieces
+    ≤ length (flat_map (λ piece. piece) pieces)
 few_broken kind [] = omega arith
 few_broken kind (piece ∷ pieces) =
     let more = sum_by-cons (λ (p : List hb_glyph_info_t). cond (is_of_kind kind p) 1 0) piece pieces in
@@ -173,24 +183,32 @@ same_err e f (Err x) one two = cc
 other : {T : Type 0} (r : Result T ShaperError) (e : ShaperError) → e ≢ TooLong → r ≡ Err e → r ≢ Err TooLong
 other r e apart h is = apart (same_err e TooLong r h is)
 
-by_spans : (b : Bool) (r : Result Bool ShaperError) → RefusesInput (if b then None else Some SpansDontCover) r → r ≢ Err TooLong
+by_spans : (b : Bool) (r : Result Bool ShaperError) → RefusesInput (if b then None else Some SpansDontCover) r
+    → r ≢ Err TooLong
 by_spans true r h is = not_err r h is
 by_spans false r h is = other r SpansDontCover (λ e. absurd cc) h is
 
-reordering : (found : Option ℕ) (circles : Option DottedCircles) (old : Buffer) (r : Result Bool ShaperError) → length old.glyphs * 2 ≤ old.max_len → RefusesReordering (option_map (λ place. UnknownSyllable place) found) circles old r → r ≢ Err TooLong
+reordering : (found : Option ℕ) (circles : Option DottedCircles) (old : Buffer) (r : Result Bool ShaperError)
+    → length old.glyphs * 2 ≤ old.max_len
+    → RefusesReordering (option_map (λ place. UnknownSyllable place) found) circles old r → r ≢ Err TooLong
 reordering None circles old r room k is =
     let fits = circles_fit circles old.glyphs in
     not_long r (enough old.max_len (length (circled circles old.glyphs)) r (omega (arith, fits, room)) k.0) is
 reordering (Some place) circles old r room k is = other r (UnknownSyllable place) (λ e. absurd cc) k.0 is
 
 pub pauses_have_room : PausesHaveRoom
-pauses_have_room SetupSyllablesIndic font spans old r room k is = by_spans (spans_cover (length old.glyphs) spans) r k is
-pauses_have_room SetupSyllablesKhmer font spans old r room k is = by_spans (spans_cover (length old.glyphs) spans) r k is
-pauses_have_room SetupSyllablesMyanmar font spans old r room k is = by_spans (spans_cover (length old.glyphs) spans) r k is
+pauses_have_room SetupSyllablesIndic font spans old r room k is =
+    by_spans (spans_cover (length old.glyphs) spans) r k is
+pauses_have_room SetupSyllablesKhmer font spans old r room k is =
+    by_spans (spans_cover (length old.glyphs) spans) r k is
+pauses_have_room SetupSyllablesMyanmar font spans old r room k is =
+    by_spans (spans_cover (length old.glyphs) spans) r k is
 pauses_have_room SetupSyllablesUse font spans old r room k is = by_spans (spans_cover (length old.glyphs) spans) r k is
-pauses_have_room InitialReordering font spans old r room k is = reordering (unknown_syllable 5 old.glyphs) _ old r room k is
+pauses_have_room InitialReordering font spans old r room k is =
+    reordering (unknown_syllable 5 old.glyphs) _ old r room k is
 pauses_have_room ReorderKhmer font spans old r room k is = reordering (unknown_syllable 2 old.glyphs) _ old r room k is
-pauses_have_room ReorderMyanmar font spans old r room k is = reordering (unknown_syllable 3 old.glyphs) _ old r room k is
+pauses_have_room ReorderMyanmar font spans old r room k is =
+    reordering (unknown_syllable 3 old.glyphs) _ old r room k is
 pauses_have_room ReorderUse font spans old r room k is = reordering None _ old r room k is
 pauses_have_room FinalReordering font spans old r room k is = not_err r k is
 pauses_have_room RecordStch font spans old r room k is = not_err r k is

@@ -19,7 +19,8 @@ use Rattle.shapers_stretch.proofs.Sums.{total-append, total_cons}
 use Rattle.rustybuzz_shapers.specs.Stretched.{LineAdvances, advance_of}
 
 advances-append : (xs ys : List Cell) → advance_of (xs ++ ys) ≡ advance_of xs +ℤ advance_of ys
-advances-append xs ys = ap total (map-append (λ (c : Cell). c.1.x_advance) xs ys) ∙ total-append (map (λ c. c.1.x_advance) xs) (map (λ c. c.1.x_advance) ys)
+advances-append xs ys = ap total (map-append (λ (c : Cell). c.1.x_advance) xs ys)
+    ∙ total-append (map (λ c. c.1.x_advance) xs) (map (λ c. c.1.x_advance) ys)
 
 advances-reverse : (xs : List Cell) → advance_of (reverse xs) ≡ advance_of xs
 advances-reverse [] = refl
@@ -45,12 +46,14 @@ none_there [] none = refl
 none_there (x ∷ xs) none = absurd (false≢true (sym none ∙ lt-ltb 0 (suc (length xs)) (omega arith)))
 
 -- a part: what it became is as wide as what stands before its tiles
-part_advance : (how : Laying) (part piece : List Cell) → PartIsLaid how part piece → advance_of piece +ℤ advance_of (tiles_of part) ≡ advance_of part
+part_advance : (how : Laying) (part piece : List Cell) → PartIsLaid how part piece
+    → advance_of piece +ℤ advance_of (tiles_of part) ≡ advance_of part
 part_advance how part piece laid =
     elim (cases_Bool (has_run part)) [
       | inl some ↦
           let run = laid.1 some in
-          let whole = ap advance_of (sym (take-append-drop _ part)) ∙ advances-append (before_tiles part) (tiles_of part) in
+          let whole = ap advance_of (sym (take-append-drop _ part))
+          ∙ advances-append (before_tiles part) (tiles_of part) in
           let parts = ap advance_of run.joined ∙ advances-append run.front (reverse run.copies) in
           let front = by_positions run.front (before_tiles part) run.front_positions in
           let copies = advances-reverse run.copies ∙ ap total run.advances ∙ no_advance (length run.copies) in
@@ -61,7 +64,9 @@ part_advance how part piece laid =
           omega (arith, ints, same, tiles)
     ]
 
-parts_advance : (how : Laying) (parts pieces : List (List Cell)) → AllZip (PartIsLaid how) parts pieces → advance_of (flat_map (λ piece. piece) pieces) +ℤ total (map (λ part. advance_of (tiles_of part)) parts) ≡ advance_of (flat_map (λ part. part) parts)
+parts_advance : (how : Laying) (parts pieces : List (List Cell)) → AllZip (PartIsLaid how) parts pieces
+    → advance_of (flat_map (λ piece. piece) pieces) +ℤ total (map (λ part. advance_of (tiles_of part)) parts)
+    ≡ advance_of (flat_map (λ part. part) parts)
 parts_advance how [] [] laid = refl
 parts_advance how [] (q ∷ qs) laid = absurd laid
 parts_advance how (p ∷ ps) [] laid = absurd laid
@@ -78,14 +83,17 @@ in_any_order : (right_to_left : Bool) (xs : List Cell) → advance_of (in_workin
 in_any_order true xs = refl
 in_any_order false xs = advances-reverse xs
 
-zipped_advances : (gs : List hb_glyph_info_t) (ps : List GlyphPosition) → length ps ≡ length gs → map (λ (c : Cell). c.1.x_advance) (zip gs ps) ≡ map (λ p. p.x_advance) ps
+zipped_advances : (gs : List hb_glyph_info_t) (ps : List GlyphPosition) → length ps ≡ length gs
+    → map (λ (c : Cell). c.1.x_advance) (zip gs ps) ≡ map (λ p. p.x_advance) ps
 zipped_advances [] [] same = refl
 zipped_advances [] (p ∷ ps) same = absurd (omega arith)
 zipped_advances (g ∷ gs) [] same = absurd (omega arith)
 zipped_advances (g ∷ gs) (p ∷ ps) same = ap (λ (xs : List ℤ). p.x_advance ∷ xs) (zipped_advances gs ps (omega arith))
 
-of_buffer : (b : Buffer) → length b.positions ≡ length b.glyphs → advance_of (cells_in_order b) ≡ total (map (λ p. p.x_advance) b.positions)
-of_buffer b same = in_any_order (runs_leftward b.direction) (zip b.glyphs b.positions) ∙ ap total (zipped_advances b.glyphs b.positions same)
+of_buffer : (b : Buffer) → length b.positions ≡ length b.glyphs → advance_of (cells_in_order b)
+    ≡ total (map (λ p. p.x_advance) b.positions)
+of_buffer b same = in_any_order (runs_leftward b.direction) (zip b.glyphs b.positions)
+    ∙ ap total (zipped_advances b.glyphs b.positions same)
 
 pub line_advances : LineAdvances
 line_advances plan font old new marked both is =

@@ -30,7 +30,8 @@ at_place [] i d l = absurd (omega arith)
 at_place (x ∷ xs) zero d l = refl
 at_place (x ∷ xs) (suc i) d l = at_place xs i d (omega (arith, l))
 
-pub rising_after : (cs : List ℕ) (sts : List (ℕ × ℕ)) (after : List ℕ) → ExactCuts cs sts after → IsRising cs → IsRising after
+pub rising_after : (cs : List ℕ) (sts : List (ℕ × ℕ)) (after : List ℕ) → ExactCuts cs sts after → IsRising cs
+    → IsRising after
 rising_after cs sts after x up i j d l m =
     let n = x.same_length in
     let jn : j < length cs = omega (arith, m, n) in
@@ -42,14 +43,16 @@ rising_after cs sts after x up i j d l m =
     let own = x.least i i (omega (arith, l, jn)) (omega (arith, l, jn)) (λ k b c. absurd (omega (arith, b, c))) in
     let later : get_or cs i 0 ≤ get_or cs q 0 = up i q 0 a r.1 in
     omega (arith, own, later))
-    (λ (a : q ≤ i). x.least i q (omega (arith, l, jn)) r.1 (λ k b c. r.2 k (omega (arith, b, l, a)) (omega (arith, c, l, a))))
+    (λ (a : q ≤ i). x.least i q (omega (arith, l, jn)) r.1
+    (λ k b c. r.2 k (omega (arith, b, l, a)) (omega (arith, c, l, a))))
     (cases_lt i q) in
     let e = r.3 in
     let f = at_place after i d (omega (arith, l, m)) in
     let g = at_place after j d m in
     omega (arith, here, e, f, g)
 
-pub falling_after : (cs : List ℕ) (sts : List (ℕ × ℕ)) (after : List ℕ) → ExactCuts cs sts after → IsFalling cs → IsFalling after
+pub falling_after : (cs : List ℕ) (sts : List (ℕ × ℕ)) (after : List ℕ) → ExactCuts cs sts after → IsFalling cs
+    → IsFalling after
 falling_after cs sts after x down i j d l m =
     let n = x.same_length in
     let jn : j < length cs = omega (arith, m, n) in
@@ -77,19 +80,23 @@ pub same_monotone : (cs js : List ℕ) → js ≡ cs → StaysMonotone cs js
 same_monotone cs js e = (λ h. subst IsRising (sym e) h, λ h. subst IsFalling (sym e) h)
 
 pub unchanged_monotone : (old new : Buffer) → new ≡ old → StaysMonotone (clusters old.glyphs) (clusters new.glyphs)
-unchanged_monotone old new is = same_monotone (clusters old.glyphs) (clusters new.glyphs) (ap (λ (b : Buffer). clusters b.glyphs) is)
+unchanged_monotone old new is =
+    same_monotone (clusters old.glyphs) (clusters new.glyphs) (ap (λ (b : Buffer). clusters b.glyphs) is)
 
 pub same_clusters : (gs ms : List hb_glyph_info_t) → OnlyFlagsAdded gs ms → clusters ms ≡ clusters gs
 same_clusters [] [] h = refl
 same_clusters [] (m ∷ ms) h = absurd h
 same_clusters (g ∷ gs) [] h = absurd h
-same_clusters (g ∷ gs) (m ∷ ms) h = ap (λ (c : ℕ). c ∷ clusters ms) h.0.same ∙ ap (λ (cs : List ℕ). g.cluster ∷ cs) (same_clusters gs ms h.1)
+same_clusters (g ∷ gs) (m ∷ ms) h = ap (λ (c : ℕ). c ∷ clusters ms) h.0.same
+    ∙ ap (λ (cs : List ℕ). g.cluster ∷ cs) (same_clusters gs ms h.1)
 
 pub flags_monotone : (gs ms : List hb_glyph_info_t) → OnlyFlagsAdded gs ms → StaysMonotone (clusters gs) (clusters ms)
 flags_monotone gs ms h = same_monotone (clusters gs) (clusters ms) (same_clusters gs ms h)
 
 -- a reordering that merges before it moves, through any view
-pub merged_monotone : (view : hb_glyph_info_t → hb_glyph_info_t) (level : BufferClusterLevel) (steps : List Step) (gs ms : List hb_glyph_info_t) → merges level ≡ true → ReorderedHold view level steps gs ms → StaysMonotone (clusters gs) (clusters ms)
+pub merged_monotone : (view : hb_glyph_info_t → hb_glyph_info_t) (level : BufferClusterLevel) (steps : List Step)
+    (gs ms : List hb_glyph_info_t) → merges level ≡ true → ReorderedHold view level steps gs ms
+    → StaysMonotone (clusters gs) (clusters ms)
 merged_monotone view level steps gs ms m h =
     let x = h.in_clusters.where_merging m in (
       λ up. rising_after (clusters gs) (all_first steps) (clusters ms) (x.exact (inl up)) up,
@@ -97,8 +104,10 @@ merged_monotone view level steps gs ms m h =
     )
 
 pub marks_stay_monotone : MarksStayMonotone
-marks_stay_monotone Arabic start end old new m k = merged_monotone without_class old.level (text_step start end old.glyphs ∷ []) old.glyphs new.glyphs m k
-marks_stay_monotone Hebrew start end old new m k = merged_monotone whole old.level (hebrew_mark_step start end old.glyphs ∷ []) old.glyphs new.glyphs m k
+marks_stay_monotone Arabic start end old new m k =
+    merged_monotone without_class old.level (text_step start end old.glyphs ∷ []) old.glyphs new.glyphs m k
+marks_stay_monotone Hebrew start end old new m k =
+    merged_monotone whole old.level (hebrew_mark_step start end old.glyphs ∷ []) old.glyphs new.glyphs m k
 marks_stay_monotone Hangul start end old new m k = unchanged_monotone old new k.1
 marks_stay_monotone Indic start end old new m k = unchanged_monotone old new k.1
 marks_stay_monotone Khmer start end old new m k = unchanged_monotone old new k.1
@@ -108,21 +117,28 @@ marks_stay_monotone Thai start end old new m k = unchanged_monotone old new k.1
 marks_stay_monotone Universal start end old new m k = unchanged_monotone old new k.1
 
 pub pauses_stay_monotone : PausesStayMonotone
-pauses_stay_monotone SetupSyllablesIndic plan font spans old new i m k = same_monotone (clusters old.glyphs) (clusters new.glyphs) k.1
-pauses_stay_monotone SetupSyllablesKhmer plan font spans old new i m k = same_monotone (clusters old.glyphs) (clusters new.glyphs) k.1
-pauses_stay_monotone SetupSyllablesMyanmar plan font spans old new i m k = same_monotone (clusters old.glyphs) (clusters new.glyphs) k.1
-pauses_stay_monotone SetupSyllablesUse plan font spans old new i m k = same_monotone (clusters old.glyphs) (clusters new.glyphs) k.1
+pauses_stay_monotone SetupSyllablesIndic plan font spans old new i m k =
+    same_monotone (clusters old.glyphs) (clusters new.glyphs) k.1
+pauses_stay_monotone SetupSyllablesKhmer plan font spans old new i m k =
+    same_monotone (clusters old.glyphs) (clusters new.glyphs) k.1
+pauses_stay_monotone SetupSyllablesMyanmar plan font spans old new i m k =
+    same_monotone (clusters old.glyphs) (clusters new.glyphs) k.1
+pauses_stay_monotone SetupSyllablesUse plan font spans old new i m k =
+    same_monotone (clusters old.glyphs) (clusters new.glyphs) k.1
 pauses_stay_monotone InitialReordering plan font spans old new i m k = absurd (cc)
 pauses_stay_monotone FinalReordering plan font spans old new i m k = absurd (cc)
 pauses_stay_monotone ReorderKhmer plan font spans old new i m k =
     let opened = circled (by_khmer plan font old).circles old.glyphs in
-    merged_monotone carried old.level (text_steps (by_khmer plan font old).steps (order_view opened)) opened new.glyphs m k.1.1.0
+    merged_monotone carried old.level (text_steps (by_khmer plan font old).steps (order_view opened)) opened new.glyphs
+    m k.1.1.0
 pauses_stay_monotone ReorderMyanmar plan font spans old new i m k =
     let opened = circled (by_myanmar font old).circles old.glyphs in
-    merged_monotone carried old.level (text_steps (by_myanmar font old).steps (order_view opened)) opened new.glyphs m k.1.1
+    merged_monotone carried old.level (text_steps (by_myanmar font old).steps (order_view opened)) opened new.glyphs m
+    k.1.1
 pauses_stay_monotone ReorderUse plan font spans old new i m k =
     let opened = circled (by_universal font old).circles old.glyphs in
-    merged_monotone carried old.level (text_steps (by_universal font old).steps (order_view opened)) opened new.glyphs m k.1.1
+    merged_monotone carried old.level (text_steps (by_universal font old).steps (order_view opened)) opened new.glyphs m
+    k.1.1
 pauses_stay_monotone RecordStch plan font spans old new i m k = flags_monotone old.glyphs new.glyphs k
 pauses_stay_monotone RecordRphf plan font spans old new i m k = flags_monotone old.glyphs new.glyphs k
 pauses_stay_monotone RecordPref plan font spans old new i m k = flags_monotone old.glyphs new.glyphs k
@@ -161,28 +177,43 @@ to_pairs R (x ∷ xs) h (suc i) zero d l m = absurd (omega arith)
 to_pairs R (x ∷ xs) h (suc i) (suc j) d l m = to_pairs R xs h.1 i j d (omega (arith, l)) (omega (arith, m))
 
 -- behind the same glyphs
-all_front : (P : ℕ → Type 0) (s xs ys : List hb_glyph_info_t) → (AllByRecursion P (clusters xs) → AllByRecursion P (clusters ys)) → AllByRecursion P (clusters (s ++ xs)) → AllByRecursion P (clusters (s ++ ys))
+all_front : (P : ℕ → Type 0) (s xs ys : List hb_glyph_info_t)
+    → (AllByRecursion P (clusters xs) → AllByRecursion P (clusters ys)) → AllByRecursion P (clusters (s ++ xs))
+    → AllByRecursion P (clusters (s ++ ys))
 all_front P [] xs ys f h = f h
 all_front P (g ∷ s) xs ys f h = (h.0, all_front P s xs ys f h.1)
 
-ordered_front : (R : ℕ → ℕ → Type 0) (s xs ys : List hb_glyph_info_t) → ((x : ℕ) → AllByRecursion (R x) (clusters xs) → AllByRecursion (R x) (clusters ys)) → (Ordered R (clusters xs) → Ordered R (clusters ys)) → Ordered R (clusters (s ++ xs)) → Ordered R (clusters (s ++ ys))
+ordered_front : (R : ℕ → ℕ → Type 0) (s xs ys : List hb_glyph_info_t)
+    → ((x : ℕ) → AllByRecursion (R x) (clusters xs) → AllByRecursion (R x) (clusters ys))
+    → (Ordered R (clusters xs) → Ordered R (clusters ys)) → Ordered R (clusters (s ++ xs))
+    → Ordered R (clusters (s ++ ys))
 ordered_front R [] xs ys all f h = f h
-ordered_front R (g ∷ s) xs ys all f h = (all_front (R g.cluster) s xs ys (all g.cluster) h.0, ordered_front R s xs ys all f h.1)
+ordered_front R (g ∷ s) xs ys all f h =
+    (all_front (R g.cluster) s xs ys (all g.cluster) h.0, ordered_front R s xs ys all f h.1)
 
 -- a circle behind at most one repha doubles the cluster of the first glyph
-circle_clusters : (circle g : hb_glyph_info_t) (gs rest : List hb_glyph_info_t) (n : ℕ) → n ≤ 1 → clusters ((take n (g ∷ gs) ++ circle_in (g ∷ gs) circle ∷ drop n (g ∷ gs)) ++ rest) ≡ g.cluster ∷ clusters ((g ∷ gs) ++ rest)
+circle_clusters : (circle g : hb_glyph_info_t) (gs rest : List hb_glyph_info_t) (n : ℕ) → n ≤ 1
+    → clusters ((take n (g ∷ gs) ++ circle_in (g ∷ gs) circle ∷ drop n (g ∷ gs)) ++ rest)
+    ≡ g.cluster ∷ clusters ((g ∷ gs) ++ rest)
 circle_clusters circle g gs rest zero l = refl
 circle_clusters circle g gs rest (suc zero) l = refl
 circle_clusters circle g gs rest (suc (suc n)) l = absurd (omega arith)
 
 -- what holds of the clusters of a syllable, holds of them with a circle
-piece_circled : (P : List ℕ → Type 0) (rule : DottedCircles) (s rest : List hb_glyph_info_t) → rephas_len rule.repha s ≤ 1 → ((g : hb_glyph_info_t) (gs : List hb_glyph_info_t) → s ≡ g ∷ gs → P (clusters (s ++ rest)) → P (g.cluster ∷ clusters (s ++ rest))) → P (clusters (s ++ rest)) → P (clusters (circled_syllable rule s ++ rest))
+piece_circled : (P : List ℕ → Type 0) (rule : DottedCircles) (s rest : List hb_glyph_info_t)
+    → rephas_len rule.repha s ≤ 1
+    → ((g : hb_glyph_info_t) (gs : List hb_glyph_info_t) → s ≡ g ∷ gs → P (clusters (s ++ rest))
+    → P (g.cluster ∷ clusters (s ++ rest))) → P (clusters (s ++ rest)) → P (clusters (circled_syllable rule s ++ rest))
 piece_circled P rule [] rest few double h = h
 piece_circled P rule (g ∷ gs) rest few double h =
-    cond_both (is_of_kind rule.broken_kind (g ∷ gs)) (with_circle rule (g ∷ gs)) (g ∷ gs) (λ xs. P (clusters (xs ++ rest)))
-    (λ _. subst P (sym (circle_clusters rule.circle g gs rest (rephas_len rule.repha (g ∷ gs)) few)) (double g gs refl h)) (λ _. h)
+    cond_both (is_of_kind rule.broken_kind (g ∷ gs)) (with_circle rule (g ∷ gs)) (g ∷ gs)
+    (λ xs. P (clusters (xs ++ rest)))
+    (λ _. subst P (sym (circle_clusters rule.circle g gs rest (rephas_len rule.repha (g ∷ gs)) few))
+    (double g gs refl h)) (λ _. h)
 
-pieces_all : (P : ℕ → Type 0) (rule : DottedCircles) (pieces : List (List hb_glyph_info_t)) → AllByRecursion (λ s. rephas_len rule.repha s ≤ 1) pieces → AllByRecursion P (clusters (flat_map (λ s. s) pieces)) → AllByRecursion P (clusters (flat_map (circled_syllable rule) pieces))
+pieces_all : (P : ℕ → Type 0) (rule : DottedCircles) (pieces : List (List hb_glyph_info_t))
+    → AllByRecursion (λ s. rephas_len rule.repha s ≤ 1) pieces → AllByRecursion P (clusters (flat_map (λ s. s) pieces))
+    → AllByRecursion P (clusters (flat_map (circled_syllable rule) pieces))
 pieces_all P rule [] few h = h
 pieces_all P rule (s ∷ pieces) few h =
     let xs = flat_map (λ p. p) pieces in
@@ -191,27 +222,43 @@ pieces_all P rule (s ∷ pieces) few h =
     (λ g gs e i. (subst (λ p. AllByRecursion P (clusters (p ++ ys)) → P g.cluster) (sym e) (λ u. u.0) i, i))
     (all_front P s xs ys (pieces_all P rule pieces few.1) h)
 
-pieces_ordered : (R : ℕ → ℕ → Type 0) → ((x : ℕ) → R x x) → (rule : DottedCircles) (pieces : List (List hb_glyph_info_t)) → AllByRecursion (λ s. rephas_len rule.repha s ≤ 1) pieces → Ordered R (clusters (flat_map (λ s. s) pieces)) → Ordered R (clusters (flat_map (circled_syllable rule) pieces))
+pieces_ordered : (R : ℕ → ℕ → Type 0) → ((x : ℕ) → R x x)
+    → (rule : DottedCircles) (pieces : List (List hb_glyph_info_t))
+    → AllByRecursion (λ s. rephas_len rule.repha s ≤ 1) pieces → Ordered R (clusters (flat_map (λ s. s) pieces))
+    → Ordered R (clusters (flat_map (circled_syllable rule) pieces))
 pieces_ordered R same rule [] few h = h
 pieces_ordered R same rule (s ∷ pieces) few h =
     let xs = flat_map (λ p. p) pieces in
     let ys = flat_map (circled_syllable rule) pieces in
     piece_circled (Ordered R) rule s ys few.0
-    (λ g gs e i. (subst (λ p. Ordered R (clusters (p ++ ys)) → AllByRecursion (R g.cluster) (clusters (p ++ ys))) (sym e) (λ u. (same g.cluster, u.0)) i, i))
+    (λ g gs e i. (
+      subst (λ p. Ordered R (clusters (p ++ ys)) → AllByRecursion (R g.cluster) (clusters (p ++ ys)))
+          (sym e) (λ u. (same g.cluster, u.0)) i,
+      i,
+    ))
     (ordered_front R s xs ys (λ x. pieces_all (R x) rule pieces few.1) (pieces_ordered R same rule pieces few.1) h)
 
-circled_pairs : (R : ℕ → ℕ → Type 0) → ((x : ℕ) → R x x) → (rule : DottedCircles) (gs : List hb_glyph_info_t) → AllByRecursion (λ s. rephas_len rule.repha s ≤ 1) (syllables gs) → AllPairs R (clusters gs) → AllPairs R (clusters (with_circles rule gs))
+circled_pairs : (R : ℕ → ℕ → Type 0) → ((x : ℕ) → R x x) → (rule : DottedCircles) (gs : List hb_glyph_info_t)
+    → AllByRecursion (λ s. rephas_len rule.repha s ≤ 1) (syllables gs) → AllPairs R (clusters gs)
+    → AllPairs R (clusters (with_circles rule gs))
 circled_pairs R same rule gs few h =
     to_pairs R (clusters (with_circles rule gs))
-    (pieces_ordered R same rule (syllables gs) few (subst (λ xs. Ordered R (clusters xs)) (sym (joined-syllables gs)) (from_pairs R (clusters gs) h)))
+    (pieces_ordered R same rule (syllables gs) few
+    (subst (λ xs. Ordered R (clusters xs)) (sym (joined-syllables gs)) (from_pairs R (clusters gs) h)))
 
 pub circles_stay_monotone : CirclesStayMonotone
-circles_stay_monotone rule gs few = (circled_pairs (λ a b. a ≤ b) (λ x. omega arith) rule gs few, circled_pairs (λ a b. b ≤ a) (λ x. omega arith) rule gs few)
+circles_stay_monotone rule gs few = (
+  circled_pairs (λ a b. a ≤ b) (λ x. omega arith) rule gs few,
+  circled_pairs (λ a b. b ≤ a) (λ x. omega arith) rule
+      gs few,
+)
 
 -- two rephas with clusters of their own: the circle behind them has the first one's
 two_rephas : List hb_glyph_info_t
-two_rephas = record default_glyph { category = 18; syllable = 7; cluster = 0 } ∷ record default_glyph { category = 18; syllable = 7; cluster = 1 } ∷ []
+two_rephas = record default_glyph { category = 18; syllable = 7; cluster = 0 }
+    ∷ record default_glyph { category = 18; syllable = 7; cluster = 1 } ∷ []
 
-circle_behind_two : clusters (with_circle (record { broken_kind = 7; circle = default_glyph; repha = Some 18 }) two_rephas) ≡ 0 ∷ 1 ∷ 0 ∷ []
+circle_behind_two : clusters (with_circle (record { broken_kind = 7; circle = default_glyph; repha = Some 18 })
+    two_rephas) ≡ 0 ∷ 1 ∷ 0 ∷ []
 unfolding two_rephas
 circle_behind_two = refl

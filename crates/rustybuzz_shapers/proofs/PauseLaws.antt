@@ -14,15 +14,19 @@ use Rattle.shapers_syllabic.proofs.ReorderingLaws.{text_reordered}
 use Rattle.shapers_syllabic.proofs.Serials.{serials_dont_count}
 use Rattle.rustybuzz_shapers.specs.Pauses.{CarriedAtBorders, Reordered, Reordering, ReorderingKeeps}
 
-carried_at_borders : (r : Reordering) (old new : Buffer) → ReadsNoSerials r.order r.steps → PauseCutsAtBorders r.circles r.order r.steps old new → CarriedAtBorders r old new
+carried_at_borders : (r : Reordering) (old new : Buffer) → ReadsNoSerials r.order r.steps
+    → PauseCutsAtBorders r.circles r.order r.steps old new → CarriedAtBorders r old new
 carried_at_borders r old new reads cuts gs hs xs ys text border one two none =
     let made = paused_carried r.circles r.steps old.level in
     ap (map unnumbered) ((cuts gs hs text border).moved none)
     ∙ map-append unnumbered (made gs) (made hs)
-    ∙ ap (λ zs. zs ++ map unnumbered (made hs)) (serials_dont_count r.circles r.order r.steps old.level gs xs reads one).moved
-    ∙ ap (λ zs. map unnumbered (made xs) ++ zs) (serials_dont_count r.circles r.order r.steps old.level hs ys reads two).moved
+    ∙ ap (λ zs. zs ++ map unnumbered (made hs))
+    (serials_dont_count r.circles r.order r.steps old.level gs xs reads one).moved
+    ∙ ap (λ zs. map unnumbered (made xs) ++ zs)
+    (serials_dont_count r.circles r.order r.steps old.level hs ys reads two).moved
 
-reordering_keeps : (r : Reordering) (old new : Buffer) → ReorderLaws r.order r.steps → ReadsNoSerials r.order r.steps → Reordered r old new → ReorderingKeeps r old new
+reordering_keeps : (r : Reordering) (old new : Buffer) → ReorderLaws r.order r.steps → ReadsNoSerials r.order r.steps
+    → Reordered r old new → ReorderingKeeps r old new
 reordering_keeps r old new laws reads done =
     let opened : Buffer = record old { glyphs = circled r.circles old.glyphs } in
     let text = text_reordered r.order r.steps opened new laws done in
@@ -36,7 +40,9 @@ reordering_keeps r old new laws reads done =
     }
 
 -- so of a pause that may refuse, with what else it keeps
-pub on_kept : (P : Type 0) (result : Result Bool ShaperError) (r : Reordering) (old new : Buffer) → ReorderLaws r.order r.steps → ReadsNoSerials r.order r.steps → OnOk result (Reordered r old new) → OnOk result P → OnOk result (ReorderingKeeps r old new × P)
+pub on_kept : (P : Type 0) (result : Result Bool ShaperError) (r : Reordering) (old new : Buffer)
+    → ReorderLaws r.order r.steps → ReadsNoSerials r.order r.steps → OnOk result (Reordered r old new) → OnOk result P
+    → OnOk result (ReorderingKeeps r old new × P)
 on_kept P (Ok _) r old new laws reads done more = (reordering_keeps r old new laws reads done, more)
 on_kept P (Err _) r old new laws reads done more = tt
 

@@ -19,7 +19,8 @@ no_mask mask none = eqb-true mask 0 (is_so (mask == 0) none)
 
 pub stays : (pause : Pause) (plan : hb_ot_shape_plan_t) → may_change pause plan ≡ false → PauseStays pause plan
 stays RecordStch plan none font spans old new is = is ∙ ap (λ b. if b then with_tiles old else old) none
-stays RecordRphf plan none font spans old new is = is ∙ ap (λ m. with_rphf_recorded m old) (no_mask (rphf_of plan.plan_data) none) ∙ nothing_recorded old
+stays RecordRphf plan none font spans old new is =
+    is ∙ ap (λ m. with_rphf_recorded m old) (no_mask (rphf_of plan.plan_data) none) ∙ nothing_recorded old
 stays ArabicFallbackShape plan none font spans old new is = is
 stays SetupSyllablesIndic plan none font spans old new is = absurd cc
 stays SetupSyllablesKhmer plan none font spans old new is = absurd cc

@@ -21,13 +21,15 @@ nine = Arabic ∷ Hangul ∷ Hebrew ∷ Indic ∷ Khmer ∷ Myanmar ∷ MyanmarZ
 abbrev hebr : hb_tag_t
 hebr = record { 0 = codes "hebr" }
 
-normalization : map normalizes nine ≡ mode.AUTO ∷ mode.NONE ∷ mode.AUTO ∷ mode.CD ∷ mode.CD ∷ mode.CD ∷ mode.NONE ∷ mode.AUTO ∷ mode.CD ∷ []
+normalization : map normalizes nine ≡ mode.AUTO ∷ mode.NONE ∷ mode.AUTO ∷ mode.CD ∷ mode.CD ∷ mode.CD ∷ mode.NONE
+    ∷ mode.AUTO ∷ mode.CD ∷ []
 normalization = refl
 
 gpos_tags : map wants_gpos_script nine ≡ None ∷ None ∷ Some hebr ∷ None ∷ None ∷ None ∷ None ∷ None ∷ None ∷ []
 gpos_tags = refl
 
-zero_width_marks : map zeroes_marks nine ≡ zeroing.GDEF_LATE ∷ zeroing.NONE ∷ zeroing.GDEF_LATE ∷ zeroing.NONE ∷ zeroing.NONE ∷ zeroing.GDEF_EARLY ∷ zeroing.NONE ∷ zeroing.GDEF_LATE ∷ zeroing.GDEF_EARLY ∷ []
+zero_width_marks : map zeroes_marks nine ≡ zeroing.GDEF_LATE ∷ zeroing.NONE ∷ zeroing.GDEF_LATE ∷ zeroing.NONE
+    ∷ zeroing.NONE ∷ zeroing.GDEF_EARLY ∷ zeroing.NONE ∷ zeroing.GDEF_LATE ∷ zeroing.GDEF_EARLY ∷ []
 zero_width_marks = refl
 
 fallback_positions : map places_marks nine ≡ true ∷ false ∷ true ∷ false ∷ false ∷ false ∷ false ∷ false ∷ false ∷ []
@@ -37,10 +39,12 @@ fallback_positions = refl
 lists : map (λ shaper. collected shaper (Some (record { 0 = codes "Arab" })) false) nine ≡ Some (arabic_list true false) ∷ Some hangul_list ∷ None ∷ Some indic_list ∷ Some khmer_list ∷ Some myanmar_list ∷ None ∷ None ∷ Some universal_list ∷ []
 lists = refl
 
-lists_of_others : map (λ shaper. collected shaper None true) nine ≡ Some (arabic_list false true) ∷ Some hangul_list ∷ None ∷ Some indic_list ∷ Some khmer_list ∷ Some myanmar_list ∷ None ∷ None ∷ Some universal_list ∷ []
+lists_of_others : map (λ shaper. collected shaper None true) nine ≡ Some (arabic_list false true) ∷ Some hangul_list
+    ∷ None ∷ Some indic_list ∷ Some khmer_list ∷ Some myanmar_list ∷ None ∷ None ∷ Some universal_list ∷ []
 lists_of_others = refl
 
-overrides : map overridden nine ≡ None ∷ Some hangul_overrides ∷ None ∷ Some indic_overrides ∷ Some khmer_overrides ∷ None ∷ None ∷ None ∷ None ∷ []
+overrides : map overridden nine ≡ None ∷ Some hangul_overrides ∷ None ∷ Some indic_overrides ∷ Some khmer_overrides
+    ∷ None ∷ None ∷ None ∷ None ∷ []
 overrides = refl
 
 -- requests come behind those that are there, and where there are none the planner stays

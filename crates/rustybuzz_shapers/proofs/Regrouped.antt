@@ -24,30 +24,56 @@ use Rattle.shapers_myanmar.specs.Proved.MyanmarLaws.{myanmar_laws}
 use Rattle.shapers_universal.specs.Proved.UniversalView.{universal_laws}
 use Rattle.rustybuzz_shapers.specs.Regrouped.{SyllablesRegrouped}
 
-numbers_kept : (gs hs : List hb_glyph_info_t) → IsPermutation (seen carried gs) (seen carried hs) → IsPermutation (map (λ g. g.glyph_id) gs) (map (λ g. g.glyph_id) hs)
+numbers_kept : (gs hs : List hb_glyph_info_t) → IsPermutation (seen carried gs) (seen carried hs)
+    → IsPermutation (map (λ g. g.glyph_id) gs) (map (λ g. g.glyph_id) hs)
 numbers_kept gs hs kept =
     let number = λ (g : hb_glyph_info_t). g.glyph_id in
     subst (λ ns. IsPermutation ns (map number hs)) (numbers-seen gs)
-    (subst (IsPermutation (map number (seen carried gs))) (numbers-seen hs) (IsPermutation-map number (seen carried gs) (seen carried hs) kept))
+    (subst (IsPermutation (map number (seen carried gs))) (numbers-seen hs)
+    (IsPermutation-map number (seen carried gs) (seen carried hs) kept))
 
-numbers_by : (meaning : List hb_glyph_info_t → List hb_glyph_info_t) (steps : List hb_glyph_info_t → List Step) (old new : Buffer) → ReorderLaws meaning steps → SyllablesReordered meaning steps old new → IsPermutation (map (λ g. g.glyph_id) old.glyphs) (map (λ g. g.glyph_id) new.glyphs)
-numbers_by meaning steps old new laws done = numbers_kept old.glyphs new.glyphs (text_reordered meaning steps old new laws done).kept
+numbers_by : (meaning : List hb_glyph_info_t → List hb_glyph_info_t) (steps : List hb_glyph_info_t
+    → List Step) (old new : Buffer) → ReorderLaws meaning steps → SyllablesReordered meaning steps old new
+    → IsPermutation (map (λ g. g.glyph_id) old.glyphs) (map (λ g. g.glyph_id) new.glyphs)
+numbers_by meaning steps old new laws done =
+    numbers_kept old.glyphs new.glyphs (text_reordered meaning steps old new laws done).kept
 
 -- of each syllable by itself
-each_kept : (meaning : List hb_glyph_info_t → List hb_glyph_info_t) (steps : List hb_glyph_info_t → List Step) → ReorderLaws meaning steps → (syl : List hb_glyph_info_t) → IsPermutation (map (λ g. g.glyph_id) syl) (map (λ g. g.glyph_id) (meaning syl))
+each_kept : (meaning : List hb_glyph_info_t → List hb_glyph_info_t) (steps : List hb_glyph_info_t → List Step)
+    → ReorderLaws meaning steps → (syl : List hb_glyph_info_t)
+    → IsPermutation (map (λ g. g.glyph_id) syl) (map (λ g. g.glyph_id) (meaning syl))
 each_kept meaning steps laws syl =
     numbers_kept syl (meaning syl)
-    (subst (IsPermutation (seen carried syl)) (seen-run_steps carried carried_hides Characters (steps syl) syl ∙ sym (laws.agrees syl))
+    (subst (IsPermutation (seen carried syl)) (seen-run_steps carried carried_hides Characters (steps syl) syl
+    ∙ sym (laws.agrees syl))
     (seen-permuted carried carried_hides Characters (steps syl) syl (laws.fits syl) (laws.permutes syl)))
 
 pub syllables_regrouped : SyllablesRegrouped
 syllables_regrouped InitialReordering plan font spans old new done =
     let laws = order_by_font_laws font plan.ot_map (indic_in plan) old.script in
     record { order = done.0.order; numbers = numbers_by _ _ _ new laws done.0; each = each_kept _ _ laws }
-syllables_regrouped ReorderKhmer plan font spans old new done = let laws = khmer_laws (order_in plan.plan_data) in record { order = done.order; numbers = numbers_by _ _ _ new laws done; each = each_kept _ _ laws }
-syllables_regrouped ReorderMyanmar plan font spans old new done = record { order = done.order; numbers = numbers_by _ _ _ new myanmar_laws done; each = each_kept _ _ myanmar_laws }
-syllables_regrouped ReorderUse plan font spans old new done = record { order = done.order; numbers = numbers_by _ _ _ new universal_laws done; each = each_kept _ _ universal_laws }
-syllables_regrouped FinalReordering plan font spans old new done = record { order = done.order; numbers = (finally_kept (final_rules font (indic_in plan)) old new done).numbers; each = each_kept _ _ (final_laws (final_rules font (indic_in plan)) old.script) }
+syllables_regrouped ReorderKhmer plan font spans old new done = let laws =
+    khmer_laws (order_in plan.plan_data) in record {
+      order = done.order;
+      numbers = numbers_by _ _ _ new laws done;
+      each
+          = each_kept _ _ laws;
+    }
+syllables_regrouped ReorderMyanmar plan font spans old new done =
+    record { order = done.order; numbers = numbers_by _ _ _ new myanmar_laws done; each = each_kept _ _ myanmar_laws }
+syllables_regrouped ReorderUse plan font spans old new done =
+    record {
+      order = done.order;
+      numbers = numbers_by _ _ _ new universal_laws done;
+      each = each_kept _ _ universal_laws;
+    }
+syllables_regrouped FinalReordering plan font spans old new done =
+    record {
+      order = done.order;
+      numbers = (finally_kept (final_rules font (indic_in plan)) old new done).numbers;
+      each
+          = each_kept _ _ (final_laws (final_rules font (indic_in plan)) old.script);
+    }
 syllables_regrouped SetupSyllablesIndic plan font spans old new done = tt
 syllables_regrouped SetupSyllablesKhmer plan font spans old new done = tt
 syllables_regrouped SetupSyllablesMyanmar plan font spans old new done = tt

@@ -34,7 +34,9 @@ of_cells cs = map (λ c. c.0.cluster) cs
 -- one number, as often as may be
 all_reversed : (P : ℕ → Type 0) (xs : List ℕ) → AllByRecursion P xs → AllByRecursion P (reverse xs)
 all_reversed P [] own = tt
-all_reversed P (x ∷ xs) own = subst (AllByRecursion P) (sym (reverse-append (x ∷ []) xs)) (all_append P (reverse xs) (x ∷ []) (all_reversed P xs own.1) (own.0, tt))
+all_reversed P (x ∷ xs) own =
+    subst (AllByRecursion P) (sym (reverse-append (x ∷ []) xs))
+    (all_append P (reverse xs) (x ∷ []) (all_reversed P xs own.1) (own.0, tt))
 
 same_ordered : (R : ℕ → ℕ → Type 0) → OfItself R → (x : ℕ) (ys : List ℕ) → AllByRecursion (λ y. y ≡ x) ys → Ordered R ys
 same_ordered R self x [] same = tt
@@ -43,7 +45,8 @@ same_ordered R self x (y ∷ ys) same = (
   same_ordered R self x ys same.1,
 )
 
-keeps_same : (R : ℕ → ℕ → Type 0) → OfItself R → (x : ℕ) (ys : List ℕ) → AllByRecursion (λ y. y ≡ x) ys → KeepsEach R (x ∷ []) ys
+keeps_same : (R : ℕ → ℕ → Type 0) → OfItself R → (x : ℕ) (ys : List ℕ) → AllByRecursion (λ y. y ≡ x) ys
+    → KeepsEach R (x ∷ []) ys
 keeps_same R self x ys same P = record {
   all = λ own. all_weaker (λ y. y ≡ x) P (λ y is. subst P (sym is) own.0) ys same;
   ordered = λ own. same_ordered R self x ys same;
@@ -61,13 +64,19 @@ many_copies : (n : ℕ) (c : Copy) → AllByRecursion (λ y. y ≡ c.tile.0.clus
 many_copies zero c = tt
 many_copies (suc n) c = (refl, many_copies n c)
 
-tile_copies : (font : Font) (part : List Cell) (c : Cell) → AllByRecursion (λ y. y ≡ c.0.cluster) (of_copies (copies_of font (run_of_part font part) c))
+tile_copies : (font : Font) (part : List Cell) (c : Cell)
+    → AllByRecursion (λ y. y ≡ c.0.cluster) (of_copies (copies_of font (run_of_part font part) c))
 tile_copies font part c =
-    let more : Copy = record { tile = c; move = width_of font c.0 -ℤ overlap (run_of_part font part) } in
-    (refl, elim (repeats c.0) as (λ b. AllByRecursion (λ y. y ≡ c.0.cluster) (of_copies (cond b (replicate (times_added (run_of_part font part)) more) []))) [ true ↦ many_copies (times_added (run_of_part font part)) more | false ↦ tt ])
+    let more : Copy = record { tile = c; move = width_of font c.0 -ℤ overlap (run_of_part font part) } in (
+      refl,
+      elim (repeats c.0) as (λ b. AllByRecursion (λ y. y ≡ c.0.cluster)
+          (of_copies (cond b (replicate (times_added (run_of_part font part)) more) [])))
+          [ true ↦ many_copies (times_added (run_of_part font part)) more | false ↦ tt ],
+    )
 
 -- those of all tiles, the last ones first, turned round
-tiles_keep : (R : ℕ → ℕ → Type 0) → OfItself R → (font : Font) (part : List Cell) (ts : List Cell) → KeepsEach R (of_cells ts) (reverse (of_copies (flat_map (copies_of font (run_of_part font part)) (reverse ts))))
+tiles_keep : (R : ℕ → ℕ → Type 0) → OfItself R → (font : Font) (part : List Cell) (ts : List Cell)
+    → KeepsEach R (of_cells ts) (reverse (of_copies (flat_map (copies_of font (run_of_part font part)) (reverse ts))))
 tiles_keep R self font part [] = λ P. keeps_itself P R [] [] refl
 tiles_keep R self font part (t ∷ ts) =
     let f = copies_of font (run_of_part font part) in
@@ -75,22 +84,31 @@ tiles_keep R self font part (t ∷ ts) =
     let rest = of_copies (flat_map f (reverse ts)) in
     let is : reverse (of_copies (flat_map f (reverse (t ∷ ts)))) ≡ reverse one ++ reverse rest =
     ap (λ cs. reverse (of_copies (flat_map f cs))) (reverse-append (t ∷ []) ts)
-    ∙ ap (λ cs. reverse (of_copies cs)) (flat_map-append f (reverse ts) (t ∷ []) ∙ ap (λ cs. flat_map f (reverse ts) ++ cs) (append-nil (f t)))
+    ∙ ap (λ cs. reverse (of_copies cs)) (flat_map-append f (reverse ts) (t ∷ [])
+    ∙ ap (λ cs. flat_map f (reverse ts) ++ cs) (append-nil (f t)))
     ∙ ap reverse (map-append (λ (c : Copy). c.tile.0.cluster) (flat_map f (reverse ts)) (f t))
     ∙ reverse-append rest one in
-    keeps_becomes R (of_cells (t ∷ ts)) (reverse one ++ reverse rest) (reverse (of_copies (flat_map f (reverse (t ∷ ts))))) (sym is)
-    (keeps_both R (t.0.cluster ∷ []) (of_cells ts) (reverse one) (reverse rest) (keeps_same R self t.0.cluster (reverse one) (all_reversed (λ y. y ≡ t.0.cluster) one (tile_copies font part t))) (tiles_keep R self font part ts))
+    keeps_becomes R (of_cells (t ∷ ts)) (reverse one ++ reverse rest)
+    (reverse (of_copies (flat_map f (reverse (t ∷ ts))))) (sym is)
+    (keeps_both R (t.0.cluster ∷ []) (of_cells ts) (reverse one) (reverse rest)
+    (keeps_same R self t.0.cluster (reverse one)
+    (all_reversed (λ y. y ≡ t.0.cluster) one (tile_copies font part t))) (tiles_keep R self font part ts))
 
 -- laid, they have the same clusters
-laid_clusters : (right_to_left : Bool) (from : ℤ) (before cs : List Copy) → of_cells (map (λ p. laid_at (offset right_to_left from p.0 p.1) p.1.tile) (each_after before cs)) ≡ of_copies cs
+laid_clusters : (right_to_left : Bool) (from : ℤ) (before cs : List Copy)
+    → of_cells (map (λ p. laid_at (offset right_to_left from p.0 p.1) p.1.tile) (each_after before cs)) ≡ of_copies cs
 laid_clusters right_to_left from before [] = refl
-laid_clusters right_to_left from before (c ∷ cs) = ap (λ ns. c.tile.0.cluster ∷ ns) (laid_clusters right_to_left from (before ++ c ∷ []) cs)
+laid_clusters right_to_left from before (c ∷ cs) =
+    ap (λ ns. c.tile.0.cluster ∷ ns) (laid_clusters right_to_left from (before ++ c ∷ []) cs)
 
-run_keeps : (R : ℕ → ℕ → Type 0) → OfItself R → (how : Laying) (part : List Cell) (ts : List Cell) → KeepsEach R (of_cells ts) (of_cells (reverse (laid_run how (run_of_part how.font part) ts)))
+run_keeps : (R : ℕ → ℕ → Type 0) → OfItself R → (how : Laying) (part : List Cell) (ts : List Cell)
+    → KeepsEach R (of_cells ts) (of_cells (reverse (laid_run how (run_of_part how.font part) ts)))
 run_keeps R self how part ts =
     let from = start how.choice how.right_to_left (run_of_part how.font part) in
-    keeps_becomes R (of_cells ts) (reverse (of_copies (copies how.font (run_of_part how.font part) ts))) (of_cells (reverse (laid_run how (run_of_part how.font part) ts)))
-    (ap reverse (sym (laid_clusters how.right_to_left from [] (copies how.font (run_of_part how.font part) ts))) ∙ sym (map-reverse (λ (c : Cell). c.0.cluster) (laid_run how (run_of_part how.font part) ts)))
+    keeps_becomes R (of_cells ts) (reverse (of_copies (copies how.font (run_of_part how.font part) ts)))
+    (of_cells (reverse (laid_run how (run_of_part how.font part) ts)))
+    (ap reverse (sym (laid_clusters how.right_to_left from [] (copies how.font (run_of_part how.font part) ts)))
+    ∙ sym (map-reverse (λ (c : Cell). c.0.cluster) (laid_run how (run_of_part how.font part) ts)))
     (tiles_keep R self how.font part ts)
 
 -- flags change no cluster
@@ -100,26 +118,36 @@ flag_if false g = refl
 
 flagged_clusters : (m : ℕ) (cs : List Cell) → of_cells (map (flag_cell m) cs) ≡ of_cells cs
 flagged_clusters m [] = refl
-flagged_clusters m (c ∷ cs) = ap (λ n. n ∷ of_cells (map (flag_cell m) cs)) (flag_if (c.0.cluster == m) c.0) ∙ ap (λ ns. c.0.cluster ∷ ns) (flagged_clusters m cs)
+flagged_clusters m (c ∷ cs) = ap (λ n. n ∷ of_cells (map (flag_cell m) cs)) (flag_if (c.0.cluster == m) c.0)
+    ∙ ap (λ ns. c.0.cluster ∷ ns) (flagged_clusters m cs)
 
 -- A PART
-over_keeps : (R : ℕ → ℕ → Type 0) → OfItself R → (how : Laying) (part : List Cell) (word tiles : List Cell) → KeepsEach R (of_cells word ++ of_cells tiles) (of_cells (stretched_over how (run_of_part how.font part) word tiles))
+over_keeps : (R : ℕ → ℕ → Type 0) → OfItself R → (how : Laying) (part : List Cell) (word tiles : List Cell)
+    → KeepsEach R (of_cells word ++ of_cells tiles)
+    (of_cells (stretched_over how (run_of_part how.font part) word tiles))
 over_keeps R self how part word tiles =
     let m = least (clusters (glyphs_of (word ++ tiles))) in
     let whole = unbroken (word ++ tiles) in
     let front = take (length word) whole in
     let back = drop (length word) whole in
     let word_is : of_cells front ≡ of_cells word =
-    ap of_cells (ap (take (length word)) (unbroken_is (word ++ tiles) ∙ map-append (flag_cell m) word tiles) ∙ take_at (map (flag_cell m) word) (map (flag_cell m) tiles) (length word) (length-map word (flag_cell m)))
+    ap of_cells (ap (take (length word)) (unbroken_is (word ++ tiles) ∙ map-append (flag_cell m) word tiles)
+    ∙ take_at (map (flag_cell m) word) (map (flag_cell m) tiles) (length word) (length-map word (flag_cell m)))
     ∙ flagged_clusters m word in
-    let tiles_are_so : of_cells tiles ≡ of_cells back = sym (ap of_cells (tiles_are word tiles) ∙ flagged_clusters m tiles) in
-    keeps_becomes R (of_cells word ++ of_cells tiles) (of_cells front ++ of_cells (reverse (laid_run how (run_of_part how.font part) back))) (of_cells (stretched_over how (run_of_part how.font part) word tiles))
+    let tiles_are_so : of_cells tiles ≡ of_cells back =
+    sym (ap of_cells (tiles_are word tiles) ∙ flagged_clusters m tiles) in
+    keeps_becomes R (of_cells word ++ of_cells tiles)
+    (of_cells front ++ of_cells (reverse (laid_run how (run_of_part how.font part) back)))
+    (of_cells (stretched_over how (run_of_part how.font part) word tiles))
     (sym (map-append (λ (c : Cell). c.0.cluster) front (reverse (laid_run how (run_of_part how.font part) back))))
-    (keeps_both R (of_cells word) (of_cells tiles) (of_cells front) (of_cells (reverse (laid_run how (run_of_part how.font part) back)))
+    (keeps_both R (of_cells word) (of_cells tiles) (of_cells front)
+    (of_cells (reverse (laid_run how (run_of_part how.font part) back)))
     (λ P. keeps_itself P R (of_cells word) (of_cells front) word_is)
-    (keeps_by R (of_cells tiles) (of_cells back) (of_cells (reverse (laid_run how (run_of_part how.font part) back))) tiles_are_so (run_keeps R self how part back)))
+    (keeps_by R (of_cells tiles) (of_cells back) (of_cells (reverse (laid_run how (run_of_part how.font part) back)))
+    tiles_are_so (run_keeps R self how part back)))
 
-part_keeps : (R : ℕ → ℕ → Type 0) → OfItself R → (how : Laying) (part : List Cell) → KeepsEach R (of_cells part) (of_cells (stretched_part how part))
+part_keeps : (R : ℕ → ℕ → Type 0) → OfItself R → (how : Laying) (part : List Cell)
+    → KeepsEach R (of_cells part) (of_cells (stretched_part how part))
 part_keeps R self how part P =
     let z = run_of_part how.font part in
     let front = before_word part in
@@ -129,43 +157,77 @@ part_keeps R self how part P =
     elim (cases_Bool (has_run part)) [
       | inl some ↦
           let is : stretched_part how part ≡ made = ap (λ b. cond (not b) part made) some in
-          let whole : part ≡ front ++ (word ++ tiles) = sym (sym (append_assoc front word tiles) ∙ ap (λ xs. xs ++ tiles) (take-append-drop _ (before_tiles part)) ∙ take-append-drop _ part) in
-          let cs : of_cells part ≡ of_cells front ++ (of_cells word ++ of_cells tiles) = ap of_cells whole ∙ map-append (λ (c : Cell). c.0.cluster) front (word ++ tiles) ∙ ap (λ ns. of_cells front ++ ns) (map-append (λ (c : Cell). c.0.cluster) word tiles) in
-          keeps_becomes R (of_cells part) (of_cells front ++ of_cells (stretched_over how z word tiles)) (of_cells (stretched_part how part)) (sym (ap of_cells is ∙ map-append (λ (c : Cell). c.0.cluster) front (stretched_over how z word tiles)))
-          (keeps_by R (of_cells part) (of_cells front ++ (of_cells word ++ of_cells tiles)) (of_cells front ++ of_cells (stretched_over how z word tiles)) cs
-          (keeps_both R (of_cells front) (of_cells word ++ of_cells tiles) (of_cells front) (of_cells (stretched_over how z word tiles)) (λ Q. keeps_itself Q R (of_cells front) (of_cells front) refl) (over_keeps R self how part word tiles))) P
-      | inr none ↦ keeps_itself P R (of_cells part) (of_cells (stretched_part how part)) (ap (λ b. of_cells (cond (not b) part made)) none)
+          let whole : part ≡ front ++ (word ++ tiles) =
+          sym (sym (append_assoc front word tiles)
+          ∙ ap (λ xs. xs ++ tiles) (take-append-drop _ (before_tiles part)) ∙ take-append-drop _ part) in
+          let cs : of_cells part ≡ of_cells front ++ (of_cells word ++ of_cells tiles) = ap of_cells whole
+          ∙ map-append (λ (c : Cell). c.0.cluster) front (word ++ tiles)
+          ∙ ap (λ ns. of_cells front ++ ns) (map-append (λ (c : Cell). c.0.cluster) word tiles) in
+          keeps_becomes R (of_cells part) (of_cells front ++ of_cells (stretched_over how z word tiles))
+          (of_cells (stretched_part how part))
+          (sym (ap of_cells is ∙ map-append (λ (c : Cell). c.0.cluster) front (stretched_over how z word tiles)))
+          (keeps_by R (of_cells part) (of_cells front ++ (of_cells word ++ of_cells tiles))
+          (of_cells front ++ of_cells (stretched_over how z word tiles)) cs
+          (keeps_both R (of_cells front) (of_cells word ++ of_cells tiles) (of_cells front)
+          (of_cells (stretched_over how z word tiles))
+          (λ Q. keeps_itself Q R (of_cells front) (of_cells front) refl) (over_keeps R self how part word tiles))) P
+      | inr none ↦ keeps_itself P R (of_cells part) (of_cells (stretched_part how part))
+          (ap (λ b. of_cells (cond (not b) part made)) none)
     ]
 
-parts_keep : (R : ℕ → ℕ → Type 0) → OfItself R → (how : Laying) (parts : List (List Cell)) → KeepsEach R (of_cells (flat_map (λ part. part) parts)) (of_cells (flat_map (stretched_part how) parts))
+parts_keep : (R : ℕ → ℕ → Type 0) → OfItself R → (how : Laying) (parts : List (List Cell))
+    → KeepsEach R (of_cells (flat_map (λ part. part) parts)) (of_cells (flat_map (stretched_part how) parts))
 parts_keep R self how [] = λ P. keeps_itself P R [] [] refl
 parts_keep R self how (p ∷ ps) =
     let xs = flat_map (λ part. part) ps in
     let ys = flat_map (stretched_part how) ps in
-    keeps_becomes R (of_cells (p ++ xs)) (of_cells (stretched_part how p) ++ of_cells ys) (of_cells (stretched_part how p ++ ys)) (sym (map-append (λ (c : Cell). c.0.cluster) (stretched_part how p) ys))
-    (keeps_by R (of_cells (p ++ xs)) (of_cells p ++ of_cells xs) (of_cells (stretched_part how p) ++ of_cells ys) (map-append (λ (c : Cell). c.0.cluster) p xs)
-    (keeps_both R (of_cells p) (of_cells xs) (of_cells (stretched_part how p)) (of_cells ys) (part_keeps R self how p) (parts_keep R self how ps)))
+    keeps_becomes R (of_cells (p ++ xs)) (of_cells (stretched_part how p) ++ of_cells ys)
+    (of_cells (stretched_part how p ++ ys)) (sym (map-append (λ (c : Cell). c.0.cluster) (stretched_part how p) ys))
+    (keeps_by R (of_cells (p ++ xs)) (of_cells p ++ of_cells xs) (of_cells (stretched_part how p) ++ of_cells ys)
+    (map-append (λ (c : Cell). c.0.cluster) p xs)
+    (keeps_both R (of_cells p) (of_cells xs) (of_cells (stretched_part how p)) (of_cells ys) (part_keeps R self how p)
+    (parts_keep R self how ps)))
 
 -- THE BUFFER, whose cells may stand the other way round
 ordered_reversed : (R : ℕ → ℕ → Type 0) (xs : List ℕ) → Ordered R xs → Ordered (λ a b. R b a) (reverse xs)
 ordered_reversed R [] own = tt
 ordered_reversed R (x ∷ xs) own =
     subst (Ordered (λ a b. R b a)) (sym (reverse-append (x ∷ []) xs))
-    (ordered_append (λ a b. R b a) (reverse xs) (x ∷ []) (ordered_reversed R xs own.1) (tt, tt) (all_weaker (R x) (λ y. AllByRecursion (λ b. R b y) (x ∷ [])) (λ y is. (is, tt)) (reverse xs) (all_reversed (R x) xs own.0)))
+    (ordered_append (λ a b. R b a) (reverse xs) (x ∷ []) (ordered_reversed R xs own.1) (tt, tt)
+    (all_weaker (R x) (λ y. AllByRecursion (λ b. R b y) (x ∷ [])) (λ y is. (is, tt)) (reverse xs)
+    (all_reversed (R x) xs own.0)))
 
-zipped_clusters : (gs : List hb_glyph_info_t) (ps : List GlyphPosition) → length ps ≡ length gs → of_cells (zip gs ps) ≡ clusters gs
+zipped_clusters : (gs : List hb_glyph_info_t) (ps : List GlyphPosition) → length ps ≡ length gs
+    → of_cells (zip gs ps) ≡ clusters gs
 zipped_clusters [] ps same = refl
 zipped_clusters (g ∷ gs) [] same = absurd (omega arith)
 zipped_clusters (g ∷ gs) (p ∷ ps) same = ap (λ ns. g.cluster ∷ ns) (zipped_clusters gs ps (omega arith))
 
-in_order : (R : ℕ → ℕ → Type 0) → OfItself R → (how : Laying) (right_to_left : Bool) (cells : List Cell) → flat_map (λ part. part) (parts_of_text (in_working_order right_to_left cells)) ≡ in_working_order right_to_left cells → Ordered R (of_cells cells) → Ordered R (of_cells (in_working_order right_to_left (stretched how (in_working_order right_to_left cells))))
-in_order R self how true cells whole own = (parts_keep R self how (parts_of_text cells) (λ x. Unit {0})).ordered (subst (λ cs. Ordered R (of_cells cs)) (sym whole) own)
+in_order : (R : ℕ → ℕ → Type 0) → OfItself R → (how : Laying) (right_to_left : Bool) (cells : List Cell)
+    → flat_map (λ part. part) (parts_of_text (in_working_order right_to_left cells))
+    ≡ in_working_order right_to_left cells → Ordered R (of_cells cells)
+    → Ordered R (of_cells (in_working_order right_to_left (stretched how (in_working_order right_to_left cells))))
+in_order R self how true cells whole own =
+    (parts_keep R self how (parts_of_text cells) (λ x. Unit {0})).ordered
+    (subst (λ cs. Ordered R (of_cells cs)) (sym whole) own)
 in_order R self how false cells whole own =
-    let turned : Ordered (λ a b. R b a) (of_cells (reverse cells)) = subst (Ordered (λ a b. R b a)) (sym (map-reverse (λ (c : Cell). c.0.cluster) cells)) (ordered_reversed R (of_cells cells) own) in
-    let made = (parts_keep (λ a b. R b a) self how (parts_of_text (reverse cells)) (λ x. Unit {0})).ordered (subst (λ cs. Ordered (λ a b. R b a) (of_cells cs)) (sym whole) turned) in
-    subst (Ordered R) (sym (map-reverse (λ (c : Cell). c.0.cluster) (stretched how (reverse cells)))) (ordered_reversed (λ a b. R b a) (of_cells (stretched how (reverse cells))) made)
+    let turned : Ordered (λ a b. R b a) (of_cells (reverse cells)) =
+    subst (Ordered (λ a b. R b a)) (sym (map-reverse (λ (c : Cell). c.0.cluster) cells))
+    (ordered_reversed R (of_cells cells) own) in
+    let made = (parts_keep (λ a b. R b a) self how (parts_of_text (reverse cells)) (λ x. Unit {0})).ordered
+    (subst (λ cs. Ordered (λ a b. R b a) (of_cells cs)) (sym whole) turned) in
+    subst (Ordered R) (sym (map-reverse (λ (c : Cell). c.0.cluster) (stretched how (reverse cells))))
+    (ordered_reversed (λ a b. R b a) (of_cells (stretched how (reverse cells))) made)
 
-arabic_monotone : (plan : hb_ot_shape_plan_t) (font : Font) (old new : Buffer) → length old.positions ≡ length old.glyphs → (b : Bool) → old.stch ≡ b → new ≡ cond b (with_cells (in_working_order (runs_leftward old.direction) (stretched (laying font (start_of plan.plan_data) old) (cells_in_order old))) old) old → new ≡ cond old.stch (with_cells (in_working_order (runs_leftward old.direction) (stretched (laying font (start_of plan.plan_data) old) (cells_in_order old))) old) old → StaysMonotone (clusters old.glyphs) (clusters new.glyphs)
+arabic_monotone : (plan : hb_ot_shape_plan_t) (font : Font) (old new : Buffer)
+    → length old.positions ≡ length old.glyphs → (b : Bool) → old.stch ≡ b
+    → new ≡ cond b
+    (with_cells (in_working_order (runs_leftward old.direction)
+    (stretched (laying font (start_of plan.plan_data) old) (cells_in_order old))) old) old
+    → new ≡ cond old.stch
+    (with_cells (in_working_order (runs_leftward old.direction)
+    (stretched (laying font (start_of plan.plan_data) old) (cells_in_order old))) old) old
+    → StaysMonotone (clusters old.glyphs) (clusters new.glyphs)
 arabic_monotone plan font old new both false marked is done = unchanged_monotone old new is
 arabic_monotone plan font old new both true marked is done =
     let r = runs_leftward old.direction in
@@ -174,8 +236,14 @@ arabic_monotone plan font old new both true marked is done =
     let after = in_working_order r (stretched how (in_working_order r cells)) in
     let whole = (stretch_is_as_wide font (start_of plan.plan_data) old new marked both done).1.before in
     let before = zipped_clusters old.glyphs old.positions both in
-    let now : clusters new.glyphs ≡ of_cells after = ap (λ (b : Buffer). clusters b.glyphs) is ∙ map-map (λ (g : hb_glyph_info_t). g.cluster) (λ (c : Cell). c.0) after in
-    let turned : (R : ℕ → ℕ → Type 0) → OfItself R → AllPairs R (clusters old.glyphs) → AllPairs R (clusters new.glyphs) = λ R self own. to_pairs R (clusters new.glyphs) (subst (Ordered R) (sym now) (in_order R self how r cells whole (subst (Ordered R) (sym before) (from_pairs R (clusters old.glyphs) own)))) in
+    let now : clusters new.glyphs ≡ of_cells after = ap (λ (b : Buffer). clusters b.glyphs) is
+    ∙ map-map (λ (g : hb_glyph_info_t). g.cluster) (λ (c : Cell). c.0) after in
+    let turned : (R : ℕ → ℕ → Type 0) → OfItself R → AllPairs R (clusters old.glyphs)
+    → AllPairs R (clusters new.glyphs) =
+    λ R self own. to_pairs R (clusters new.glyphs)
+    (subst (Ordered R) (sym now)
+    (in_order R self how r cells whole
+    (subst (Ordered R) (sym before) (from_pairs R (clusters old.glyphs) own)))) in
     (turned (λ a b. a ≤ b) (λ x. omega arith), turned (λ a b. b ≤ a) (λ x. omega arith))
 
 pub stretch_stays_monotone : StretchStaysMonotone

@@ -18,10 +18,12 @@ abbrev with_forms : List hb_glyph_info_t → List hb_glyph_info_t
 with_forms gs = preprocessed_text true (λ u. true) MonotoneGraphemes gs
 
 -- between two above-base marks: NIKHAHIT goes before both
-between_marks : characters (plainly (glyph 0x0E49 0 ∷ glyph 0x0E49 1 ∷ glyph 0x0E33 2 ∷ [])) ≡ 0x0E4D ∷ 0x0E49 ∷ 0x0E49 ∷ 0x0E32 ∷ []
+between_marks : characters (plainly (glyph 0x0E49 0 ∷ glyph 0x0E49 1 ∷ glyph 0x0E33 2 ∷ [])) ≡ 0x0E4D ∷ 0x0E49 ∷ 0x0E49
+    ∷ 0x0E32 ∷ []
 between_marks = refl
 
-between_marks_halves : characters (plainly (glyph 0x0E49 0 ∷ []) ++ plainly (glyph 0x0E49 1 ∷ glyph 0x0E33 2 ∷ [])) ≡ 0x0E49 ∷ 0x0E4D ∷ 0x0E49 ∷ 0x0E32 ∷ []
+between_marks_halves : characters (plainly (glyph 0x0E49 0 ∷ []) ++ plainly (glyph 0x0E49 1 ∷ glyph 0x0E33 2 ∷ []))
+    ≡ 0x0E49 ∷ 0x0E4D ∷ 0x0E49 ∷ 0x0E32 ∷ []
 between_marks_halves = refl
 
 -- before SARA AM: that shares the cluster of the letter before it
@@ -35,7 +37,8 @@ before_sara_am_halves = refl
 before_mark : characters (with_forms (glyph 0x0E0D 0 ∷ glyph 0x0E38 1 ∷ [])) ≡ 0xF70F ∷ 0x0E38 ∷ []
 before_mark = refl
 
-before_mark_halves : characters (with_forms (glyph 0x0E0D 0 ∷ []) ++ with_forms (glyph 0x0E38 1 ∷ [])) ≡ 0x0E0D ∷ 0xF718 ∷ []
+before_mark_halves : characters (with_forms (glyph 0x0E0D 0 ∷ []) ++ with_forms (glyph 0x0E38 1 ∷ [])) ≡ 0x0E0D ∷ 0xF718
+    ∷ []
 before_mark_halves = refl
 
 -- inside a Hangul syllable

@@ -17,13 +17,18 @@ nothing_made : (forms : Bool) (has : ℕ → Bool) (level : BufferClusterLevel) 
 nothing_made true has level = refl
 nothing_made false has level = refl
 
-made_halves : (forms : Bool) (has : ℕ → Bool) (level : BufferClusterLevel) (gs hs : List hb_glyph_info_t) → OpensFreely forms hs → PreprocessedHalves gs hs (preprocessed_text forms has level gs) (preprocessed_text forms has level hs) (preprocessed_text forms has level (gs ++ hs))
+made_halves : (forms : Bool) (has : ℕ → Bool) (level : BufferClusterLevel) (gs hs : List hb_glyph_info_t)
+    → OpensFreely forms hs
+    → PreprocessedHalves gs hs (preprocessed_text forms has level gs) (preprocessed_text forms has level hs)
+    (preprocessed_text forms has level (gs ++ hs))
 made_halves forms has level gs [] free =
     let made = preprocessed_text forms has level in
     let whole : made (gs ++ []) ≡ made gs = ap made (append-nil gs) in
     record {
-      order = ap order_view whole ∙ sym (append-nil (order_view (made gs))) ∙ ap (λ xs. order_view (made gs) ++ order_view xs) (sym (nothing_made forms has level));
-      in_clusters = λ none. ap clusters whole ∙ sym (append-nil (clusters (made gs))) ∙ ap (λ xs. clusters (made gs) ++ clusters xs) (sym (nothing_made forms has level));
+      order = ap order_view whole ∙ sym (append-nil (order_view (made gs)))
+          ∙ ap (λ xs. order_view (made gs) ++ order_view xs) (sym (nothing_made forms has level));
+      in_clusters = λ none. ap clusters whole ∙ sym (append-nil (clusters (made gs)))
+          ∙ ap (λ xs. clusters (made gs) ++ clusters xs) (sym (nothing_made forms has level));
     }
 made_halves forms has level gs (h ∷ hs) free = record {
   order = thai_order_halves forms has level gs h hs free.0 free.1.0 free.1.1;

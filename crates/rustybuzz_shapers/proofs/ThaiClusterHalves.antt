@@ -43,8 +43,11 @@ merging_fits n sts within = record {
 all_picked : (n : ℕ) (gs : List hb_glyph_info_t) → length gs ≡ n → pick (range_with_len 0 n) gs ≡ gs
 all_picked n gs same = pick-range 0 n gs (omega (arith, same)) ∙ take_all n gs (omega (arith, same))
 
-only_merged : (level : BufferClusterLevel) (n : ℕ) (sts : List (ℕ × ℕ)) (gs : List hb_glyph_info_t) → length gs ≡ n → EndWithin n sts → run_step level (merging n sts) gs ≡ merge_all level sts gs
-only_merged level n sts gs same within = all_picked n (merge_all level sts gs) (length-merge_all level sts gs (subst (λ k. EndWithin k sts) (sym same) within) ∙ same)
+only_merged : (level : BufferClusterLevel) (n : ℕ) (sts : List (ℕ × ℕ)) (gs : List hb_glyph_info_t) → length gs ≡ n
+    → EndWithin n sts → run_step level (merging n sts) gs ≡ merge_all level sts gs
+only_merged level n sts gs same within =
+    all_picked n (merge_all level sts gs)
+    (length-merge_all level sts gs (subst (λ k. EndWithin k sts) (sym same) within) ∙ same)
 
 none_added : (n : ℕ) → 0 + n ≡ n
 none_added n = omega arith
@@ -63,10 +66,19 @@ shifted_within : (s n : ℕ) (sts : List (ℕ × ℕ)) → EndWithin n sts → E
 shifted_within s n [] within = tt
 shifted_within s n (st ∷ sts) within = (omega (arith, within.0), shifted_within s n sts within.1)
 
-widened_is : (s e n : ℕ) (sts : List (ℕ × ℕ)) → s ≤ e → e ≤ n → widened s e n (merging (e - s) sts) ≡ merging n (shifted s sts)
-widened_is s e n sts low high = ap (λ (ps : List ℕ). let step : Step = record { merged_first = shifted s sts; places = ps; merged_then = [] } in step) (sym (range-three s e n low high))
+widened_is : (s e n : ℕ) (sts : List (ℕ × ℕ)) → s ≤ e → e ≤ n → widened s e n (merging (e - s) sts)
+    ≡ merging n (shifted s sts)
+widened_is s e n sts low high =
+    ap (λ (ps : List ℕ). let step : Step = record {
+      merged_first = shifted s sts;
+      places = ps;
+      merged_then =
+          [];
+    } in step) (sym (range-three s e n low high))
 
-pub merged_halves : (level : BufferClusterLevel) (one two : List (ℕ × ℕ)) (gs hs : List hb_glyph_info_t) → EndWithin (length gs) one → EndWithin (length hs) two → ShareNone gs hs → merge_all level (one ++ shifted (length gs) two) (gs ++ hs) ≡ merge_all level one gs ++ merge_all level two hs
+pub merged_halves : (level : BufferClusterLevel) (one two : List (ℕ × ℕ)) (gs hs : List hb_glyph_info_t)
+    → EndWithin (length gs) one → EndWithin (length hs) two → ShareNone gs hs
+    → merge_all level (one ++ shifted (length gs) two) (gs ++ hs) ≡ merge_all level one gs ++ merge_all level two hs
 merged_halves level one two gs hs first second none =
     let a = length gs in
     let n = a + length hs in
@@ -75,42 +87,57 @@ merged_halves level one two gs hs first second none =
     let wide : EndWithin n one = grown one first in
     let there = shifted_within a (length hs) two second in
     let mid = merge_all level one (gs ++ hs) in
-    let ms : length mid ≡ n = length-merge_all level one (gs ++ hs) (subst (λ k. EndWithin k one) (sym long) wide) ∙ long in
+    let ms : length mid ≡ n = length-merge_all level one (gs ++ hs) (subst (λ k. EndWithin k one) (sym long) wide)
+    ∙ long in
     merge_all-append level one (shifted a two) (gs ++ hs)
     ∙ sym (only_merged level n (shifted a two) mid ms there)
     ∙ ap (run_step level (merging n (shifted a two))) (sym (only_merged level n one (gs ++ hs) long wide))
-    ∙ ap (λ (step : Step). run_steps level (merging n one ∷ step ∷ []) (gs ++ hs)) (sym (widened_is a n n two (omega arith) (omega arith)))
-    ∙ ap (λ (sts : List (ℕ × ℕ)). run_steps level (merging n sts ∷ widened a n n (merging (n - a) two) ∷ []) (gs ++ hs)) (sym (unshifted one))
-    ∙ ap (λ (step : Step). run_steps level (step ∷ widened a n n (merging (n - a) two) ∷ []) (gs ++ hs)) (sym (widened_is 0 a n one (omega arith) (omega arith)))
-    ∙ ap (λ (m : ℕ). run_steps level (widened 0 a n (merging m one) ∷ widened a n n (merging (n - a) two) ∷ []) (gs ++ hs)) (none_taken a)
-    ∙ halves level a n (merging a one ∷ []) (merging (n - a) two ∷ []) gs hs refl refl (merging_fits a one first, tt) (merging_fits (n - a) two (subst (λ k. EndWithin k two) (sym b) second), tt) none
+    ∙ ap (λ (step : Step). run_steps level (merging n one ∷ step ∷ []) (gs ++ hs))
+    (sym (widened_is a n n two (omega arith) (omega arith)))
+    ∙ ap (λ (sts : List (ℕ × ℕ)). run_steps level (merging n sts ∷ widened a n n (merging (n - a) two) ∷ []) (gs ++ hs))
+    (sym (unshifted one))
+    ∙ ap (λ (step : Step). run_steps level (step ∷ widened a n n (merging (n - a) two) ∷ []) (gs ++ hs))
+    (sym (widened_is 0 a n one (omega arith) (omega arith)))
+    ∙ ap (λ (m : ℕ). run_steps level (widened 0 a n (merging m one) ∷ widened a n n (merging (n - a) two) ∷ [])
+    (gs ++ hs)) (none_taken a)
+    ∙ halves level a n (merging a one ∷ []) (merging (n - a) two ∷ []) gs hs refl refl (merging_fits a one first, tt)
+    (merging_fits (n - a) two (subst (λ k. EndWithin k two) (sym b) second), tt) none
     ∙ ap (λ xs. xs ++ run_steps level (merging (n - a) two ∷ []) hs) (only_merged level a one gs refl first)
-    ∙ ap (λ xs. merge_all level one gs ++ xs) (only_merged level (n - a) two hs (sym b) (subst (λ k. EndWithin k two) (sym b) second))
+    ∙ ap (λ xs. merge_all level one gs ++ xs)
+    (only_merged level (n - a) two hs (sym b) (subst (λ k. EndWithin k two) (sym b) second))
   where
     grown : (sts : List (ℕ × ℕ)) → EndWithin (length gs) sts → EndWithin (length gs + length hs) sts
     grown [] within = tt
     grown (st ∷ sts) within = (omega (arith, within.0), grown sts within.1)
 
 -- STRETCHES of Thai: those of the second half are shifted
-one_stretch : (b c : Bool) (n l k : ℕ) → k ≤ l → 0 < l → (if b then (n + l - k, n + l + 1) ∷ [] else if c then (n + l - 1, n + l + 1) ∷ [] else []) ≡ shifted n (if b then (l - k, l + 1) ∷ [] else if c then (l - 1, l + 1) ∷ [] else [])
+one_stretch : (b c : Bool) (n l k : ℕ) → k ≤ l → 0 < l
+    → (if b then (n + l - k, n + l + 1) ∷ [] else if c then (n + l - 1, n + l + 1) ∷ [] else [])
+    ≡ shifted n (if b then (l - k, l + 1) ∷ [] else if c then (l - 1, l + 1) ∷ [] else [])
 one_stretch true c n l k few some =
     ap (λ (p : ℕ). (p, n + l + 1) ∷ []) (omega (arith, few)) ∙ ap (λ (p : ℕ). (n + (l - k), p) ∷ []) (omega arith)
 one_stretch false true n l k few some =
     ap (λ (p : ℕ). (p, n + l + 1) ∷ []) (omega (arith, some)) ∙ ap (λ (p : ℕ). (n + (l - 1), p) ∷ []) (omega arith)
 one_stretch false false n l k few some = refl
 
-same_stretch : (level : BufferClusterLevel) (n l k : ℕ) → k ≤ l → 0 < l → stretch_of_sara_am level (n + l) k ≡ shifted n (stretch_of_sara_am level l k)
+same_stretch : (level : BufferClusterLevel) (n l k : ℕ) → k ≤ l → 0 < l → stretch_of_sara_am level (n + l) k
+    ≡ shifted n (stretch_of_sara_am level l k)
 same_stretch level n l k few some =
     let far = lt-ltb 0 (n + l) (omega (arith, some)) in
     let near = lt-ltb 0 l some in
-    ap (λ (b : Bool). if nat_lt 0 k then (n + l - k, n + l + 1) ∷ [] else if joins_before level && b then (n + l - 1, n + l + 1) ∷ [] else []) (far ∙ sym near)
+    ap (λ (b : Bool). if nat_lt 0 k then (n + l - k, n + l + 1) ∷ [] else if joins_before level
+    && b then (n + l - 1, n + l + 1) ∷ [] else []) (far ∙ sym near)
     ∙ one_stretch (nat_lt 0 k) (joins_before level && nat_lt 0 l) n l k few some
 
-at_place : (level : BufferClusterLevel) (am : Bool) (n l k : ℕ) → k ≤ l → 0 < l → (if am then stretch_of_sara_am level (n + l) k else []) ≡ shifted n (if am then stretch_of_sara_am level l k else [])
+at_place : (level : BufferClusterLevel) (am : Bool) (n l k : ℕ) → k ≤ l → 0 < l
+    → (if am then stretch_of_sara_am level (n + l) k else [])
+    ≡ shifted n (if am then stretch_of_sara_am level l k else [])
 at_place level true n l k few some = same_stretch level n l k few some
 at_place level false n l k few some = refl
 
-each_shifted : (level : BufferClusterLevel) (us : List ℕ) (v : ℕ) (ms vs : List ℕ) → is_above_base v ≡ false → stretches_of_each level (each_after (us ++ v ∷ ms) vs) ≡ shifted (length us) (stretches_of_each level (each_after (v ∷ ms) vs))
+each_shifted : (level : BufferClusterLevel) (us : List ℕ) (v : ℕ) (ms vs : List ℕ) → is_above_base v ≡ false
+    → stretches_of_each level (each_after (us ++ v ∷ ms) vs)
+    ≡ shifted (length us) (stretches_of_each level (each_after (v ∷ ms) vs))
 each_shifted level us v ms [] low = refl
 each_shifted level us v ms (w ∷ vs) low =
     let n = length us in
@@ -126,33 +153,48 @@ each_shifted level us v ms (w ∷ vs) low =
     ap (λ sts. sts ++ rest) here
     ∙ ap (λ b. shifted n own ++ stretches_of_each level (each_after b vs)) (append_assoc us (v ∷ ms) (w ∷ []))
     ∙ ap (λ sts. shifted n own ++ sts) (each_shifted level us v (ms ++ w ∷ []) vs low)
-    ∙ sym (map-append (λ (st : ℕ × ℕ). (n + st.0, n + st.1)) own (stretches_of_each level (each_after (v ∷ (ms ++ w ∷ [])) vs)))
-    ∙ ap (λ p. shifted n (stretches_at level l w p ++ stretches_of_each level (each_after (v ∷ (ms ++ w ∷ [])) vs))) (sym (suffix_len_stop is_above_base [] v ms low))
+    ∙ sym (map-append (λ (st : ℕ × ℕ). (n + st.0, n + st.1)) own
+    (stretches_of_each level (each_after (v ∷ (ms ++ w ∷ [])) vs)))
+    ∙ ap (λ p. shifted n (stretches_at level l w p ++ stretches_of_each level (each_after (v ∷ (ms ++ w ∷ [])) vs)))
+    (sym (suffix_len_stop is_above_base [] v ms low))
 
-each_after-append : (before us vs : List ℕ) → each_after before (us ++ vs) ≡ each_after before us ++ each_after (before ++ us) vs
+each_after-append : (before us vs : List ℕ) → each_after before (us ++ vs) ≡ each_after before us
+    ++ each_after (before ++ us) vs
 each_after-append before [] vs = ap (λ b. each_after b vs) (sym (append-nil before))
-each_after-append before (u ∷ us) vs = ap (λ xs. (before, u) ∷ xs) (each_after-append (before ++ u ∷ []) us vs ∙ ap (λ b. each_after (before ++ u ∷ []) us ++ each_after b vs) (append_assoc before (u ∷ []) us))
+each_after-append before (u ∷ us) vs =
+    ap (λ xs. (before, u) ∷ xs) (each_after-append (before ++ u ∷ []) us vs
+    ∙ ap (λ b. each_after (before ++ u ∷ []) us ++ each_after b vs) (append_assoc before (u ∷ []) us))
 
 none_first : (level : BufferClusterLevel) (n v k : ℕ) → is_sara_am v ≡ false → stretches_at level n v k ≡ []
 none_first level n v k other = ap (λ (b : Bool). if b then stretch_of_sara_am level n k else []) other
 
-stretches_halves : (level : BufferClusterLevel) (us : List ℕ) (v : ℕ) (vs : List ℕ) → is_above_base v ≡ false → is_sara_am v ≡ false → sara_am_stretches level (us ++ v ∷ vs) ≡ sara_am_stretches level us ++ shifted (length us) (sara_am_stretches level (v ∷ vs))
+stretches_halves : (level : BufferClusterLevel) (us : List ℕ) (v : ℕ) (vs : List ℕ) → is_above_base v ≡ false
+    → is_sara_am v ≡ false → sara_am_stretches level (us ++ v ∷ vs) ≡ sara_am_stretches level us
+    ++ shifted (length us) (sara_am_stretches level (v ∷ vs))
 stretches_halves level us v vs low other =
     let f = λ (p : List ℕ × ℕ). stretches_at level (length p.0) p.1 (suffix_len is_above_base p.0) in
     ap (flat_map f) (each_after-append [] us (v ∷ vs))
     ∙ flat_map-append f (each_after [] us) (each_after us (v ∷ vs))
-    ∙ ap (λ sts. sara_am_stretches level us ++ (sts ++ stretches_of_each level (each_after (us ++ v ∷ []) vs))) (none_first level (length us) v (suffix_len is_above_base us) other)
+    ∙ ap (λ sts. sara_am_stretches level us ++ (sts ++ stretches_of_each level (each_after (us ++ v ∷ []) vs)))
+    (none_first level (length us) v (suffix_len is_above_base us) other)
     ∙ ap (λ sts. sara_am_stretches level us ++ sts) (each_shifted level us v [] vs low)
-    ∙ ap (λ sts. sara_am_stretches level us ++ shifted (length us) (sts ++ stretches_of_each level (each_after (v ∷ []) vs))) (sym (none_first level 0 v 0 other))
+    ∙ ap (λ sts. sara_am_stretches level us
+    ++ shifted (length us) (sts ++ stretches_of_each level (each_after (v ∷ []) vs)))
+    (sym (none_first level 0 v 0 other))
 
 -- THE REWRITING
-two_halves : (gs ms : List hb_glyph_info_t) (h : hb_glyph_info_t) (hs : List hb_glyph_info_t) → characters ms ≡ characters (h ∷ hs) → is_above_base h.glyph_id ≡ false → is_sara_am h.glyph_id ≡ false → glyphs_in_two (gs ++ ms) ≡ glyphs_in_two gs ++ glyphs_in_two ms
+two_halves : (gs ms : List hb_glyph_info_t) (h : hb_glyph_info_t) (hs : List hb_glyph_info_t)
+    → characters ms ≡ characters (h ∷ hs) → is_above_base h.glyph_id ≡ false → is_sara_am h.glyph_id ≡ false
+    → glyphs_in_two (gs ++ ms) ≡ glyphs_in_two gs ++ glyphs_in_two ms
 two_halves gs [] h hs same low other = absurd cc
 two_halves gs (m ∷ ms) h hs same low other =
     let first : m.glyph_id ≡ h.glyph_id = ap (λ us. get_or us 0 0) same in
     (cut_at glyph_rule gs m ms (ap is_above_base first ∙ low) (ap is_sara_am first ∙ other)).whole
 
-plain_halves : (has : ℕ → Bool) (level : BufferClusterLevel) (gs : List hb_glyph_info_t) (h : hb_glyph_info_t) (hs : List hb_glyph_info_t) → is_above_base h.glyph_id ≡ false → is_sara_am h.glyph_id ≡ false → ShareNone gs (h ∷ hs) → preprocessed_text false has level (gs ++ h ∷ hs) ≡ preprocessed_text false has level gs ++ preprocessed_text false has level (h ∷ hs)
+plain_halves : (has : ℕ → Bool) (level : BufferClusterLevel) (gs : List hb_glyph_info_t) (h : hb_glyph_info_t)
+    (hs : List hb_glyph_info_t) → is_above_base h.glyph_id ≡ false → is_sara_am h.glyph_id ≡ false
+    → ShareNone gs (h ∷ hs) → preprocessed_text false has level (gs ++ h ∷ hs) ≡ preprocessed_text false has level gs
+    ++ preprocessed_text false has level (h ∷ hs)
 plain_halves has level gs h hs low other none =
     let one = sara_am_stretches level (characters gs) in
     let two = sara_am_stretches level (characters (h ∷ hs)) in
@@ -162,18 +204,29 @@ plain_halves has level gs h hs low other none =
     ∙ stretches_halves level (characters gs) h.glyph_id (characters hs) low other
     ∙ ap (λ k. one ++ shifted k two) n in
     ap (λ xs. glyphs_in_two (merge_all level xs (gs ++ h ∷ hs))) sts
-    ∙ ap glyphs_in_two (merged_halves level one two gs (h ∷ hs) (stretches_within level gs) (stretches_within level (h ∷ hs)) none)
-    ∙ two_halves (merge_all level one gs) (merge_all level two (h ∷ hs)) h hs (characters-merge_all level two (h ∷ hs)) low other
+    ∙ ap glyphs_in_two
+    (merged_halves level one two gs (h ∷ hs) (stretches_within level gs) (stretches_within level (h ∷ hs)) none)
+    ∙ two_halves (merge_all level one gs) (merge_all level two (h ∷ hs)) h hs (characters-merge_all level two (h ∷ hs))
+    low other
 
 -- the clusters are those without the forms
-formless : (forms has_forms : Bool) (has : ℕ → Bool) (level : BufferClusterLevel) (gs : List hb_glyph_info_t) → forms ≡ has_forms → clusters (preprocessed_text forms has level gs) ≡ clusters (preprocessed_text false has level gs)
-formless forms true has level gs is = ap (λ b. clusters (preprocessed_text b has level gs)) is ∙ (forms_hold has level gs).clusters_stay
+formless : (forms has_forms : Bool) (has : ℕ → Bool) (level : BufferClusterLevel) (gs : List hb_glyph_info_t)
+    → forms ≡ has_forms → clusters (preprocessed_text forms has level gs)
+    ≡ clusters (preprocessed_text false has level gs)
+formless forms true has level gs is = ap (λ b. clusters (preprocessed_text b has level gs)) is
+    ∙ (forms_hold has level gs).clusters_stay
 formless forms false has level gs is = ap (λ b. clusters (preprocessed_text b has level gs)) is
 
-pub thai_clusters_halves : (forms : Bool) (has : ℕ → Bool) (level : BufferClusterLevel) (gs : List hb_glyph_info_t) (h : hb_glyph_info_t) (hs : List hb_glyph_info_t) → is_above_base h.glyph_id ≡ false → is_sara_am h.glyph_id ≡ false → ShareNone gs (h ∷ hs) → clusters (preprocessed_text forms has level (gs ++ h ∷ hs)) ≡ clusters (preprocessed_text forms has level gs) ++ clusters (preprocessed_text forms has level (h ∷ hs))
+pub thai_clusters_halves : (forms : Bool) (has : ℕ → Bool) (level : BufferClusterLevel) (gs : List hb_glyph_info_t)
+    (h : hb_glyph_info_t) (hs : List hb_glyph_info_t) → is_above_base h.glyph_id ≡ false → is_sara_am h.glyph_id ≡ false
+    → ShareNone gs (h ∷ hs) → clusters (preprocessed_text forms has level (gs ++ h ∷ hs))
+    ≡ clusters (preprocessed_text forms has level gs) ++ clusters (preprocessed_text forms has level (h ∷ hs))
 thai_clusters_halves forms has level gs h hs low other none =
     formless forms forms has level (gs ++ h ∷ hs) refl
     ∙ ap clusters (plain_halves has level gs h hs low other none)
-    ∙ map-append (λ (g : hb_glyph_info_t). g.cluster) (preprocessed_text false has level gs) (preprocessed_text false has level (h ∷ hs))
-    ∙ ap (λ cs. cs ++ clusters (preprocessed_text false has level (h ∷ hs))) (sym (formless forms forms has level gs refl))
-    ∙ ap (λ cs. clusters (preprocessed_text forms has level gs) ++ cs) (sym (formless forms forms has level (h ∷ hs) refl))
+    ∙ map-append (λ (g : hb_glyph_info_t). g.cluster) (preprocessed_text false has level gs)
+    (preprocessed_text false has level (h ∷ hs))
+    ∙ ap (λ cs. cs ++ clusters (preprocessed_text false has level (h ∷ hs)))
+    (sym (formless forms forms has level gs refl))
+    ∙ ap (λ cs. clusters (preprocessed_text forms has level gs) ++ cs)
+    (sym (formless forms forms has level (h ∷ hs) refl))

@@ -25,7 +25,8 @@ use Rattle.rustybuzz_shapers.specs.Monotone.{StaysMonotone, ThaiStaysMonotone}
 use Rattle.rustybuzz_shapers.proofs.Monotone.{Ordered, to_pairs}
 
 -- lists of places in an order R, one after the other
-pub all_append : (P : ℕ → Type 0) (xs ys : List ℕ) → AllByRecursion P xs → AllByRecursion P ys → AllByRecursion P (xs ++ ys)
+pub all_append : (P : ℕ → Type 0) (xs ys : List ℕ) → AllByRecursion P xs → AllByRecursion P ys
+    → AllByRecursion P (xs ++ ys)
 all_append P [] ys own more = more
 all_append P (x ∷ xs) ys own more = (own.0, all_append P xs ys own.1 more)
 
@@ -33,9 +34,11 @@ pub all_weaker : (P Q : ℕ → Type 0) → ((x : ℕ) → P x → Q x) → (xs 
 all_weaker P Q weaker [] own = tt
 all_weaker P Q weaker (x ∷ xs) own = (weaker x own.0, all_weaker P Q weaker xs own.1)
 
-pub ordered_append : (R : ℕ → ℕ → Type 0) (xs ys : List ℕ) → Ordered R xs → Ordered R ys → AllByRecursion (λ x. AllByRecursion (R x) ys) xs → Ordered R (xs ++ ys)
+pub ordered_append : (R : ℕ → ℕ → Type 0) (xs ys : List ℕ) → Ordered R xs → Ordered R ys
+    → AllByRecursion (λ x. AllByRecursion (R x) ys) xs → Ordered R (xs ++ ys)
 ordered_append R [] ys first second across = second
-ordered_append R (x ∷ xs) ys first second across = (all_append (R x) xs ys first.0 across.0, ordered_append R xs ys first.1 second across.1)
+ordered_append R (x ∷ xs) ys first second across =
+    (all_append (R x) xs ys first.0 across.0, ordered_append R xs ys first.1 second across.1)
 
 -- an order of n places that climbs with them
 abbrev Climbs : (ℕ → ℕ → Type 0) → ℕ → Type 0
@@ -49,14 +52,18 @@ ordered_range R n climbs a (suc k) within = (
 )
 
 -- the sources of a text, one more character at the end
-sources_push : (us : List ℕ) (u : ℕ) → is_sara_am u ≡ false → sara_am_sources (us ++ u ∷ []) ≡ sara_am_sources us ++ length us ∷ []
+sources_push : (us : List ℕ) (u : ℕ) → is_sara_am u ≡ false → sara_am_sources (us ++ u ∷ []) ≡ sara_am_sources us
+    ++ length us ∷ []
 sources_push us u other =
     let first : ℕ × ℕ → ℕ = λ p. p.0 in
     ap (λ ps. map first (in_two place_rule ps)) (enumerate-append us (u ∷ []))
     ∙ ap (map first) (in_two_push place_rule (enumerate_from 0 us) (length us, u) other)
     ∙ map-append first (in_two place_rule (enumerate_from 0 us)) ((length us, u) ∷ [])
 
-sources_push_am : (us : List ℕ) (u : ℕ) → is_sara_am u ≡ true → sara_am_sources (us ++ u ∷ []) ≡ sara_am_sources (before_last_run is_above_base us) ++ ((length us ∷ range_with_len (length us - suffix_len is_above_base us) (suffix_len is_above_base us)) ++ length us ∷ [])
+sources_push_am : (us : List ℕ) (u : ℕ) → is_sara_am u ≡ true → sara_am_sources (us ++ u ∷ [])
+    ≡ sara_am_sources (before_last_run is_above_base us)
+    ++ ((length us ∷ range_with_len (length us - suffix_len is_above_base us) (suffix_len is_above_base us))
+    ++ length us ∷ [])
 sources_push_am us u am =
     let first : ℕ × ℕ → ℕ = λ p. p.0 in
     ap (λ ps. map first (in_two place_rule ps)) (enumerate-append us (u ∷ []))
@@ -75,20 +82,29 @@ record Fronts (R : ℕ → ℕ → Type 0) (us : List ℕ) : Type 0 where
 
 -- places that a SARA AM moves over
 abbrev Together : (ℕ → ℕ → Type 0) → List ℕ → Type 0
-Together R all = (xs : List ℕ) (u : ℕ) (ys : List ℕ) → all ≡ xs ++ u ∷ ys → is_sara_am u ≡ true → (q : ℕ) → length xs - suffix_len is_above_base xs ≤ q → q < length xs → R (length xs) q
+Together R all = (xs : List ℕ) (u : ℕ) (ys : List ℕ) → all ≡ xs ++ u ∷ ys → is_sara_am u ≡ true → (q : ℕ)
+    → length xs - suffix_len is_above_base xs ≤ q → q < length xs → R (length xs) q
 
-fronted_push : (R : ℕ → ℕ → Type 0) (n : ℕ) → Climbs R n → (us : List ℕ) (u : ℕ) → length us < n → is_sara_am u ≡ false → Fronted R us → Fronted R (us ++ u ∷ [])
+fronted_push : (R : ℕ → ℕ → Type 0) (n : ℕ) → Climbs R n → (us : List ℕ) (u : ℕ) → length us < n → is_sara_am u ≡ false
+    → Fronted R us → Fronted R (us ++ u ∷ [])
 fronted_push R n climbs us u inside other f =
     let k = length us in
     let more = length_push us u in
     let src = sara_am_sources us in
-    subst (λ ps. Ordered R ps × AllByRecursion (λ p. p < length (us ++ u ∷ [])) ps → Fronted R (us ++ u ∷ [])) (sources_push us u other)
+    subst (λ ps. Ordered R ps × AllByRecursion (λ p. p < length (us ++ u ∷ [])) ps → Fronted R (us ++ u ∷ []))
+    (sources_push us u other)
     (λ both. record { ordered = both.0; below = both.1 }) (
-      ordered_append R src (k ∷ []) f.ordered (tt, tt) (all_weaker (λ p. p < k) (λ p. AllByRecursion (R p) (k ∷ [])) (λ p low. (climbs p k (omega (arith, low)) inside, tt)) src f.below),
-      all_append (λ p. p < length (us ++ u ∷ [])) src (k ∷ []) (all_weaker (λ p. p < k) (λ p. p < length (us ++ u ∷ [])) (λ p low. omega (arith, low, more)) src f.below) (omega (arith, more), tt),
+      ordered_append R src (k ∷ []) f.ordered (tt, tt)
+          (all_weaker (λ p. p < k) (λ p. AllByRecursion (R p) (k ∷ []))
+          (λ p low. (climbs p k (omega (arith, low)) inside, tt)) src f.below),
+      all_append (λ p. p < length (us ++ u ∷ [])) src (k ∷ [])
+          (all_weaker (λ p. p < k) (λ p. p < length (us ++ u ∷ [])) (λ p low. omega (arith, low, more)) src f.below)
+          (omega (arith, more), tt),
     )
 
-fronted_am : (R : ℕ → ℕ → Type 0) (n : ℕ) → Climbs R n → (us : List ℕ) (u : ℕ) → length us < n → is_sara_am u ≡ true → ((q : ℕ) → length us - suffix_len is_above_base us ≤ q → q < length us → R (length us) q) → Fronted R (before_last_run is_above_base us) → Fronted R (us ++ u ∷ [])
+fronted_am : (R : ℕ → ℕ → Type 0) (n : ℕ) → Climbs R n → (us : List ℕ) (u : ℕ) → length us < n → is_sara_am u ≡ true
+    → ((q : ℕ) → length us - suffix_len is_above_base us ≤ q → q < length us → R (length us) q)
+    → Fronted R (before_last_run is_above_base us) → Fronted R (us ++ u ∷ [])
 fronted_am R n climbs us u inside am near f =
     let k = length us in
     let w = suffix_len is_above_base us in
@@ -100,14 +116,31 @@ fronted_am R n climbs us u inside am near f =
     let src = sara_am_sources b in
     let last = (k ∷ run) ++ k ∷ [] in
     let at_end : R k k = climbs k k (omega arith) inside in
-    let tail : Ordered R (run ++ k ∷ []) = ordered_append R run (k ∷ []) (ordered_range R n climbs (k - w) w (omega (arith, few, inside))) (tt, tt) (all-range (λ p. AllByRecursion (R p) (k ∷ [])) (k - w) w (λ p low high. (climbs p k (omega (arith, high, few)) inside, tt))) in
-    let front : AllByRecursion (R k) (run ++ k ∷ []) = all_append (R k) run (k ∷ []) (all-range (R k) (k - w) w (λ p low high. near p low (omega (arith, high, few)))) (at_end, tt) in
+    let tail : Ordered R (run ++ k ∷ []) =
+    ordered_append R run (k ∷ []) (ordered_range R n climbs (k - w) w (omega (arith, few, inside))) (tt, tt)
+    (all-range (λ p. AllByRecursion (R p) (k ∷ [])) (k - w) w
+    (λ p low high. (climbs p k (omega (arith, high, few)) inside, tt))) in
+    let front : AllByRecursion (R k) (run ++ k ∷ []) =
+    all_append (R k) run (k ∷ [])
+    (all-range (R k) (k - w) w (λ p low high. near p low (omega (arith, high, few)))) (at_end, tt) in
     let here : Ordered R last = (front, tail) in
-    let places : (P : ℕ → Type 0) → ((p : ℕ) → k - w ≤ p → p ≤ k → P p) → AllByRecursion P last = λ P each. (each k (omega arith) (omega arith), all_append P run (k ∷ []) (all-range P (k - w) w (λ p low high. each p low (omega (arith, high, few)))) (each k (omega arith) (omega arith), tt)) in
-    subst (λ ps. Ordered R ps × AllByRecursion (λ p. p < length (us ++ u ∷ [])) ps → Fronted R (us ++ u ∷ [])) (sources_push_am us u am)
+    let places : (P : ℕ → Type 0) → ((p : ℕ) → k - w ≤ p → p ≤ k → P p) → AllByRecursion P last =
+    λ P each. (
+      each k (omega arith) (omega arith),
+      all_append P run (k ∷ [])
+          (all-range P (k - w) w (λ p low high. each p low (omega (arith, high, few))))
+          (each k (omega arith) (omega arith), tt),
+    ) in
+    subst (λ ps. Ordered R ps × AllByRecursion (λ p. p < length (us ++ u ∷ [])) ps → Fronted R (us ++ u ∷ []))
+    (sources_push_am us u am)
     (λ both. record { ordered = both.0; below = both.1 }) (
-      ordered_append R src last f.ordered here (all_weaker (λ p. p < length b) (λ p. AllByRecursion (R p) last) (λ p low. places (R p) (λ q least most. climbs p q (omega (arith, low, short, least)) (omega (arith, most, inside)))) src f.below),
-      all_append (λ p. p < length (us ++ u ∷ [])) src last (all_weaker (λ p. p < length b) (λ p. p < length (us ++ u ∷ [])) (λ p low. omega (arith, low, short, more)) src f.below) (places (λ p. p < length (us ++ u ∷ [])) (λ p least most. omega (arith, most, more))),
+      ordered_append R src last f.ordered here
+          (all_weaker (λ p. p < length b) (λ p. AllByRecursion (R p) last)
+          (λ p low. places (R p)
+          (λ q least most. climbs p q (omega (arith, low, short, least)) (omega (arith, most, inside)))) src f.below),
+      all_append (λ p. p < length (us ++ u ∷ [])) src last
+          (all_weaker (λ p. p < length b) (λ p. p < length (us ++ u ∷ [])) (λ p low. omega (arith, low, short, more))
+          src f.below) (places (λ p. p < length (us ++ u ∷ [])) (λ p least most. omega (arith, most, more))),
     )
 
 -- it climbs if it holds of each place and itself, and of each place and a later one
@@ -118,7 +151,9 @@ climbing R same n climbs p q low most =
       | inr least ↦ subst (R p) (omega (arith, low, least)) (same p)
     ]
 
-fronts_push : (R : ℕ → ℕ → Type 0) (all : List ℕ) → Climbs R (length all) → Together R all → (us : List ℕ) (u : ℕ) → ((ys : List ℕ) → all ≡ us ++ ys → Fronts R us) → (ys : List ℕ) → all ≡ (us ++ u ∷ []) ++ ys → Fronts R (us ++ u ∷ [])
+fronts_push : (R : ℕ → ℕ → Type 0) (all : List ℕ) → Climbs R (length all) → Together R all → (us : List ℕ) (u : ℕ)
+    → ((ys : List ℕ) → all ≡ us ++ ys → Fronts R us) → (ys : List ℕ) → all ≡ (us ++ u ∷ []) ++ ys
+    → Fronts R (us ++ u ∷ [])
 fronts_push R all climbs near us u earlier ys split =
     let text = split ∙ append_assoc us (u ∷ []) ys in
     let f = earlier (u ∷ ys) text in
@@ -131,48 +166,75 @@ fronts_push R all climbs near us u earlier ys split =
     record {
       whole = whole;
       before =
-          elim (is_above_base u) as (λ b. is_above_base u ≡ b → Fronted R (before_last_run is_above_base (us ++ u ∷ []))) [
+          elim (is_above_base u) as (λ b. is_above_base u ≡ b
+          → Fronted R (before_last_run is_above_base (us ++ u ∷ []))) [
             | true ↦ λ mark. subst (Fronted R) (sym (before_last_run_yes is_above_base us u mark)) f.before
             | false ↦ λ letter. subst (Fronted R) (sym (before_last_run_no is_above_base us u letter)) whole
           ] refl;
     }
 
-sources_ordered : (R : ℕ → ℕ → Type 0) (all : List ℕ) → Climbs R (length all) → Together R all → Ordered R (sara_am_sources all) × AllByRecursion (λ p. p < length all) (sara_am_sources all)
+sources_ordered : (R : ℕ → ℕ → Type 0) (all : List ℕ) → Climbs R (length all) → Together R all
+    → Ordered R (sara_am_sources all) × AllByRecursion (λ p. p < length all) (sara_am_sources all)
 sources_ordered R all climbs near =
     let nothing : Fronted R [] = record { ordered = tt; below = tt } in
-    let f = from_end (λ us. (ys : List ℕ) → all ≡ us ++ ys → Fronts R us) (λ ys split. record { whole = nothing; before = nothing }) (fronts_push R all climbs near) all [] (sym (append-nil all)) in
+    let f = from_end (λ us. (ys : List ℕ) → all ≡ us ++ ys
+    → Fronts R us) (λ ys split. record { whole = nothing; before = nothing }) (fronts_push R all climbs near)
+    all [] (sym (append-nil all)) in
     (f.whole.ordered, f.whole.below)
 
 -- the clusters at those places
-all_picked : (P : ℕ → Type 0) (ps cs : List ℕ) → AllByRecursion (λ p. P (get_or cs p 0)) ps → AllByRecursion (λ p. p < length cs) ps → AllByRecursion P (pick ps cs)
+all_picked : (P : ℕ → Type 0) (ps cs : List ℕ) → AllByRecursion (λ p. P (get_or cs p 0)) ps
+    → AllByRecursion (λ p. p < length cs) ps → AllByRecursion P (pick ps cs)
 all_picked P [] cs own below = tt
-all_picked P (p ∷ ps) cs own below = subst (AllByRecursion P) (sym (pick-within 0 p ps cs below.0)) (own.0, all_picked P ps cs own.1 below.1)
+all_picked P (p ∷ ps) cs own below =
+    subst (AllByRecursion P) (sym (pick-within 0 p ps cs below.0)) (own.0, all_picked P ps cs own.1 below.1)
 
-picked : (S : ℕ → ℕ → Type 0) (ps cs : List ℕ) → Ordered (λ p q. S (get_or cs p 0) (get_or cs q 0)) ps → AllByRecursion (λ p. p < length cs) ps → Ordered S (pick ps cs)
+picked : (S : ℕ → ℕ → Type 0) (ps cs : List ℕ) → Ordered (λ p q. S (get_or cs p 0) (get_or cs q 0)) ps
+    → AllByRecursion (λ p. p < length cs) ps → Ordered S (pick ps cs)
 picked S [] cs ordered below = tt
 picked S (p ∷ ps) cs ordered below =
-    subst (Ordered S) (sym (pick-within 0 p ps cs below.0)) (all_picked (S (get_or cs p 0)) ps cs ordered.0 below.1, picked S ps cs ordered.1 below.1)
+    subst (Ordered S) (sym (pick-within 0 p ps cs below.0))
+    (all_picked (S (get_or cs p 0)) ps cs ordered.0 below.1, picked S ps cs ordered.1 below.1)
 
 -- a SARA AM and the marks that its NIKHAHIT passes share a cluster
-ends : (sts : List (ℕ × ℕ)) (k : ℕ) (st : ℕ × ℕ) → get_or sts k st ≡ st → ((get_or sts k st).0 ≡ st.0) × ((get_or sts k st).1 ≡ st.1)
+ends : (sts : List (ℕ × ℕ)) (k : ℕ) (st : ℕ × ℕ) → get_or sts k st ≡ st → ((get_or sts k st).0 ≡ st.0)
+    × ((get_or sts k st).1 ≡ st.1)
 ends sts k st at = (ap (λ (p : ℕ × ℕ). p.0) at, ap (λ (p : ℕ × ℕ). p.1) at)
 
-passed_share : (level : BufferClusterLevel) → merges level ≡ true → (gs : List hb_glyph_info_t) (xs : List ℕ) (u : ℕ) (ys : List ℕ) → characters gs ≡ xs ++ u ∷ ys → is_sara_am u ≡ true → (q : ℕ) → length xs - suffix_len is_above_base xs ≤ q → q < length xs → get_or (joined_all level (sara_am_stretches level (characters gs)) (clusters gs)) q 0 ≡ get_or (joined_all level (sara_am_stretches level (characters gs)) (clusters gs)) (length xs) 0
+passed_share : (level : BufferClusterLevel) → merges level ≡ true
+    → (gs : List hb_glyph_info_t) (xs : List ℕ) (u : ℕ) (ys : List ℕ) → characters gs ≡ xs ++ u ∷ ys
+    → is_sara_am u ≡ true → (q : ℕ) → length xs - suffix_len is_above_base xs ≤ q → q < length xs
+    → get_or (joined_all level (sara_am_stretches level (characters gs)) (clusters gs)) q 0
+    ≡ get_or (joined_all level (sara_am_stretches level (characters gs)) (clusters gs)) (length xs) 0
 passed_share level m gs xs u ys split am q low high =
     let n = length xs in
     let w = suffix_len is_above_base xs in
     let st : ℕ × ℕ = (n - w, n + 1) in
     let sts = sara_am_stretches level (characters gs) in
     let some : 0 < w = omega (arith, low, high) in
-    let merged : Contains (stretches_at level n u w) st = let test = lt-ltb 0 w some in rw (am, test) (0, omega arith, refl) in
-    let there : Contains sts st = subst (λ vs. Contains (sara_am_stretches level vs) st) (sym split) (Contains-flat_map _ (each_after [] (xs ++ u ∷ ys)) (xs, u) st (Contains-each_after [] xs u ys) merged) in
+    let merged : Contains (stretches_at level n u w) st = let test =
+    lt-ltb 0 w some in rw (am, test) (0, omega arith, refl) in
+    let there : Contains sts st =
+    subst (λ vs. Contains (sara_am_stretches level vs) st) (sym split)
+    (Contains-flat_map _ (each_after [] (xs ++ u ∷ ys)) (xs, u) st (Contains-each_after [] xs u ys) merged) in
     let (first, second) = ends sts there.0 st there.2 in
     let long = length-map gs (λ (g : hb_glyph_info_t). g.cluster) in
-    let inside : n < length (clusters gs) = omega (arith, long, sym (length-map gs (λ (g : hb_glyph_info_t). g.glyph_id)) ∙ ap length split, length-append xs (u ∷ ys)) in
-    let held = held_by sts there.0 st there.1 n q (omega (arith, first)) (omega (arith, second)) (omega (arith, first, low)) (omega (arith, second, high)) in
-    held_share level m sts (clusters gs) (subst (λ k. EndWithin k sts) (sym long) (stretches_within level gs)) n q inside (omega (arith, inside, high)) held q (omega arith) (omega arith)
+    let inside : n < length (clusters gs) =
+    omega (
+      arith,
+      long,
+      sym (length-map gs (λ (g : hb_glyph_info_t). g.glyph_id))
+          ∙ ap length split,
+      length-append xs (u ∷ ys),
+    ) in
+    let held = held_by sts there.0 st there.1 n q (omega (arith, first)) (omega (arith, second))
+    (omega (arith, first, low)) (omega (arith, second, high)) in
+    held_share level m sts (clusters gs) (subst (λ k. EndWithin k sts) (sym long) (stretches_within level gs)) n q
+    inside (omega (arith, inside, high)) held q (omega arith) (omega arith)
 
-thai_monotone : (level : BufferClusterLevel) → merges level ≡ true → (gs : List hb_glyph_info_t) (js : List ℕ) → ClustersMade level (sara_am_stretches level (characters gs)) (sara_am_sources (characters gs)) (clusters gs) js → StaysMonotone (clusters gs) js
+thai_monotone : (level : BufferClusterLevel) → merges level ≡ true → (gs : List hb_glyph_info_t) (js : List ℕ)
+    → ClustersMade level (sara_am_stretches level (characters gs)) (sara_am_sources (characters gs)) (clusters gs) js
+    → StaysMonotone (clusters gs) js
 thai_monotone level m gs js made =
     let us = characters gs in
     let cs = clusters gs in
@@ -181,16 +243,27 @@ thai_monotone level m gs js made =
     let long = length-map gs (λ (g : hb_glyph_info_t). g.cluster) in
     let chars = length-map gs (λ (g : hb_glyph_info_t). g.glyph_id) in
     let within : EndWithin (length cs) sts = subst (λ k. EndWithin k sts) (sym long) (stretches_within level gs) in
-    let ordered : (S : ℕ → ℕ → Type 0) → ((a : ℕ) → S a a) → ((p q : ℕ) → p < q → q < length M → S (get_or M p 0) (get_or M q 0)) → length M ≡ length cs → Ordered S js = λ S same climbs as_long.
+    let ordered : (S : ℕ → ℕ → Type 0) → ((a : ℕ) → S a a)
+    → ((p q : ℕ) → p < q → q < length M → S (get_or M p 0) (get_or M q 0)) → length M ≡ length cs
+    → Ordered S js = λ S same climbs as_long.
     let R : ℕ → ℕ → Type 0 = λ p q. S (get_or M p 0) (get_or M q 0) in
-    let all = sources_ordered R us (climbing R (λ p. same (get_or M p 0)) (length us) (λ p q less most. climbs p q less (omega (arith, most, long, chars, as_long)))) (λ xs u ys split am q low high. subst (λ c. S (get_or M (length xs) 0) c) (sym (passed_share level m gs xs u ys split am q low high)) (same (get_or M (length xs) 0))) in
-    subst (Ordered S) (sym made.clusters_are) (picked S (sara_am_sources us) M all.0 (all_weaker (λ p. p < length us) (λ p. p < length M) (λ p low. omega (arith, low, long, chars, as_long)) (sara_am_sources us) all.1)) in (
+    let all = sources_ordered R us
+    (climbing R (λ p. same (get_or M p 0)) (length us)
+    (λ p q less most. climbs p q less (omega (arith, most, long, chars, as_long))))
+    (λ xs u ys split am q low high. subst (λ c. S (get_or M (length xs) 0) c)
+    (sym (passed_share level m gs xs u ys split am q low high)) (same (get_or M (length xs) 0))) in
+    subst (Ordered S) (sym made.clusters_are)
+    (picked S (sara_am_sources us) M all.0
+    (all_weaker (λ p. p < length us) (λ p. p < length M) (λ p low. omega (arith, low, long, chars, as_long))
+    (sara_am_sources us) all.1)) in (
       λ up.
           let upM = stays_rising level sts cs within up in
-          to_pairs (λ a b. a ≤ b) js (ordered (λ a b. a ≤ b) (λ a. omega arith) (λ p q less most. upM p q 0 less most) (exact_cuts level m sts cs within (inl up)).same_length),
+          to_pairs (λ a b. a ≤ b) js (ordered (λ a b. a ≤ b) (λ a. omega arith) (λ p q less most. upM p q 0 less most)
+          (exact_cuts level m sts cs within (inl up)).same_length),
       λ down.
           let downM = stays_falling level sts cs within down in
-          to_pairs (λ a b. b ≤ a) js (ordered (λ a b. b ≤ a) (λ a. omega arith) (λ p q less most. downM p q 0 less most) (exact_cuts level m sts cs within (inr down)).same_length),
+          to_pairs (λ a b. b ≤ a) js (ordered (λ a b. b ≤ a) (λ a. omega arith) (λ p q less most. downM p q 0 less most)
+          (exact_cuts level m sts cs within (inr down)).same_length),
     )
 
 pub thai_stays_monotone : ThaiStaysMonotone

@@ -10,7 +10,8 @@ use Rattle.rustybuzz_shapers.specs.declared.shaper.hb_ot_shaper_t.TheVariants.{A
 row_arabic : (kept : PlanData) → LettersJoin Arabic kept
 row_arabic kept = tt
 
-row_universal : (joins : arabic_shape_plan_t) → LettersJoin Universal (data_of.Universal (record { rphf_mask = 0; arabic_plan = Some joins }))
+row_universal : (joins : arabic_shape_plan_t)
+    → LettersJoin Universal (data_of.Universal (record { rphf_mask = 0; arabic_plan = Some joins }))
 row_universal joins = refl
 
 row_without : LettersJoin Universal (data_of.Universal (record { rphf_mask = 0; arabic_plan = None })) → ⊥
@@ -19,5 +20,7 @@ row_without joins = false≢true joins
 row_no_data : LettersJoin Universal data_of.None → ⊥
 row_no_data joins = false≢true joins
 
-row_others : (kept : PlanData) → (LettersJoin Hangul kept → ⊥) × (LettersJoin Hebrew kept → ⊥) × (LettersJoin Indic kept → ⊥) × (LettersJoin Khmer kept → ⊥) × (LettersJoin Myanmar kept → ⊥) × (LettersJoin MyanmarZawgyi kept → ⊥) × (LettersJoin Thai kept → ⊥)
+row_others : (kept : PlanData) → (LettersJoin Hangul kept → ⊥) × (LettersJoin Hebrew kept → ⊥)
+    × (LettersJoin Indic kept → ⊥) × (LettersJoin Khmer kept → ⊥) × (LettersJoin Myanmar kept → ⊥)
+    × (LettersJoin MyanmarZawgyi kept → ⊥) × (LettersJoin Thai kept → ⊥)
 row_others kept = (λ h. h, λ h. h, λ h. h, λ h. h, λ h. h, λ h. h, λ h. h)

@@ -194,6 +194,17 @@ may_change RecordRphf plan = not (rphf_of plan.plan_data == 0)
 may_change ArabicFallbackShape plan = false
 may_change _ plan = true
 
+-- whether the pause sets up or reorders syllables: all but the records, the two that clear, and the
+-- fallback of Arabic
+abbrev pub is_syllabic : Pause → Bool
+is_syllabic RecordStch = false
+is_syllabic RecordRphf = false
+is_syllabic RecordPref = false
+is_syllabic SyllabicClearVar = false
+is_syllabic ClearSubstitutionFlags = false
+is_syllabic ArabicFallbackShape = false
+is_syllabic _ = true
+
 -- whatever the font, spans and buffer, the pause leaves the buffer as it is
 abbrev pub PauseStays : Pause → hb_ot_shape_plan_t → Type 0
 PauseStays pause plan =

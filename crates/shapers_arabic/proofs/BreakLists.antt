@@ -16,34 +16,42 @@ use Rattle.shapers_arabic.proofs.LostForms.{lost, first-keeps, first-kept, secon
 
 pub as-code : AsCodeLaw
 as-code before ts us after some =
-    let here = joining-held before ts us after some in
-    (λ free. first-keeps before ts (us ++ after) (sym here ∙ free), λ kept. here ∙ first-kept before ts (us ++ after) kept)
+    let here = joining-held before ts us after some in (
+      λ free. first-keeps before ts (us ++ after) (sym here ∙ free),
+      λ kept. here
+          ∙ first-kept before ts (us ++ after) kept,
+    )
 
--- the whole in its halves
-in_halves : (before ts us after : List hb_arabic_joining_type_t) → forms before (ts ++ us) after ≡ forms before ts (us ++ after) ++ forms (reverse ts ++ before) us after
-in_halves = forms-append
-
-first_half_breaks : (before ts us after : List hb_arabic_joining_type_t) → MayBreak before ts us after → forms before ts (us ++ after) ≡ forms before ts []
+first_half_breaks : (before ts us after : List hb_arabic_joining_type_t) → MayBreak before ts us after
+    → forms before ts (us ++ after) ≡ forms before ts []
 first_half_breaks before ts us after e =
     let n = length ts in
-    sym (take_at (forms before ts (us ++ after)) (forms (reverse ts ++ before) us after) n (length-forms before ts (us ++ after)))
+    sym (take_at (forms before ts (us ++ after)) (forms (reverse ts ++ before) us after) n
+    (length-forms before ts (us ++ after)))
     ∙ ap (take n) (sym (forms-append before ts us after) ∙ e)
     ∙ take_at (forms before ts []) (forms [] us after) n (length-forms before ts [])
 
-second_half_breaks : (before ts us after : List hb_arabic_joining_type_t) → MayBreak before ts us after → forms (reverse ts ++ before) us after ≡ forms [] us after
+second_half_breaks : (before ts us after : List hb_arabic_joining_type_t) → MayBreak before ts us after
+    → forms (reverse ts ++ before) us after ≡ forms [] us after
 second_half_breaks before ts us after e =
     let n = length ts in
-    sym (drop_at (forms before ts (us ++ after)) (forms (reverse ts ++ before) us after) n (length-forms before ts (us ++ after)))
+    sym (drop_at (forms before ts (us ++ after)) (forms (reverse ts ++ before) us after) n
+    (length-forms before ts (us ++ after)))
     ∙ ap (drop n) (sym (forms-append before ts us after) ∙ e)
     ∙ drop_at (forms before ts []) (forms [] us after) n (length-forms before ts [])
 
 -- the flags of Sound at the border: the first half loses a form, or the second
-sound-held : (before ts us after : List hb_arabic_joining_type_t) → 0 < length ts → 0 < length us → held_by_calls (length ts) (sound_flags before (ts ++ us) after) ≡ (changed before (nearest_letter (reverse ts)) (nearest (us ++ after)) || lost (nearest (reverse ts ++ before)) us after)
+sound-held : (before ts us after : List hb_arabic_joining_type_t) → 0 < length ts → 0 < length us
+    → held_by_calls (length ts) (sound_flags before (ts ++ us) after)
+    ≡ (changed before (nearest_letter (reverse ts)) (nearest (us ++ after))
+    || lost (nearest (reverse ts ++ before)) us after)
 sound-held before ts us after some more =
     let k = nearest_letter (reverse ts) in
     let c = changed before k (nearest (us ++ after)) in
-    list_any-append (forbids (length ts)) (joining_flags before (ts ++ us) after) (form_flags_along before [] (ts ++ us) after)
-    ∙ ap (λ b. b || held_by_calls (length ts) (form_flags_along before [] (ts ++ us) after)) (joining-held before ts us after more)
+    list_any-append (forbids (length ts)) (joining_flags before (ts ++ us) after) (form_flags_along before
+    [] (ts ++ us) after)
+    ∙ ap (λ b. b || held_by_calls (length ts) (form_flags_along before [] (ts ++ us) after))
+    (joining-held before ts us after more)
     ∙ ap (λ b. c || b) (forms-held before ts us after some)
     ∙ takes-lost before k (nearest (reverse ts ++ before)) us after (fits before (reverse ts))
 
@@ -58,5 +66,6 @@ exact before ts us after some more =
           forms-append before ts us after
           ∙ ap (λ fs. fs ++ forms (reverse ts ++ before) us after) (first-keeps before ts (us ++ after) neither.0)
           ∙ ap (λ fs. forms before ts [] ++ fs) (second-keeps (reverse ts ++ before) [] us after refl neither.1),
-      λ may. here ∙ or_from c l (first-kept before ts (us ++ after) (first_half_breaks before ts us after may)) (second-kept (reverse ts ++ before) [] us after refl (second_half_breaks before ts us after may)),
+      λ may. here ∙ or_from c l (first-kept before ts (us ++ after) (first_half_breaks before ts us after may))
+          (second-kept (reverse ts ++ before) [] us after refl (second_half_breaks before ts us after may)),
     )

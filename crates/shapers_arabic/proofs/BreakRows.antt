@@ -57,7 +57,8 @@ late_forms = refl
 late_at : at (sound_flags [] (R ∷ GroupAlaph ∷ D ∷ []) []) ≡ false ∷ true ∷ false ∷ []
 late_at = refl
 
--- no law of concatenation where the second text has no letter and something follows it: D T alone and U T before R have no flag at T, and D T before R has another form of D
+-- no law of concatenation where the second text has no letter and something follows it: D T alone
+-- and U T before R have no flag at T, and D T before R has another form of D
 alone_flags : joining_flags [] (D ∷ T ∷ []) [] ≡ UnsafeToConcat 0 1 ∷ []
 alone_flags = refl
 
@@ -85,7 +86,8 @@ five = refl
 selector : selector_flags [] ((0x1820, INIT) ∷ (0x180B, NONE) ∷ (0x1820, FINA) ∷ []) ≡ UnsafeToBreak 0 2 ∷ []
 selector = refl
 
-two_selectors : selector_flags [] ((0x1820, INIT) ∷ (0x180B, NONE) ∷ (0x180C, NONE) ∷ []) ≡ UnsafeToBreak 0 2 ∷ UnsafeToBreak 1 3 ∷ []
+two_selectors : selector_flags [] ((0x1820, INIT) ∷ (0x180B, NONE) ∷ (0x180C, NONE) ∷ []) ≡ UnsafeToBreak 0 2
+    ∷ UnsafeToBreak 1 3 ∷ []
 two_selectors = refl
 
 same_form : selector_flags [] ((0x180B, NONE) ∷ (0x180C, NONE) ∷ []) ≡ []
@@ -103,7 +105,8 @@ masks_tatweel : map (λ g. g.mask) (flags_called false true (sound_flags [] (D �
 unfolding two
 masks_tatweel = refl
 
--- R, then a selector that a table gives the type of Alaph: flagged by FIN2 and by the copy, and yet the halves are the whole
+-- R, then a selector that a table gives the type of Alaph: flagged by FIN2 and by the copy, and yet
+-- the halves are the whole
 odd_selector : forms [] (R ∷ GroupAlaph ∷ []) [] ≡ ISOL ∷ FIN2 ∷ []
 odd_selector = refl
 

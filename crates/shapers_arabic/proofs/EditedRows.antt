@@ -45,7 +45,8 @@ row_inserted = refl
 row_deleted : edited 1 2 [] (buffer_of (4 ∷ 5 ∷ 6 ∷ [])) ≡ buffer_of (4 ∷ 6 ∷ [])
 row_deleted = refl
 
--- the same but for place 1: what is before place k doesn't count, nor selectors directly behind it, with the script Mongolian
+-- the same but for place 1: what is before place k doesn't count, nor selectors directly behind it,
+-- with the script Mongolian
 row_same : SameBut {T = ℕ} None 0 1 (4 ∷ 5 ∷ 6 ∷ []) (1 ∷ 2 ∷ 3 ∷ []) (1 ∷ 9 ∷ 3 ∷ [])
 row_same = (refl, refl)
 
@@ -71,61 +72,77 @@ row_later_selector : SameBut {T = ℕ} mong 0 0 (4 ∷ 5 ∷ 0x180B ∷ []) (1 �
 row_later_selector same = eqb-false 3 9 refl (at 1 _ _ same.1)
 
 -- forms of glyphs
-form_at : (i : ℕ) (xs ys : List hb_glyph_info_t) → xs ≡ ys → get_or (map (λ g. g.auxiliary) xs) i 0 ≡ get_or (map (λ g. g.auxiliary) ys) i 0
+form_at : (i : ℕ) (xs ys : List hb_glyph_info_t) → xs ≡ ys → get_or (map (λ g. g.auxiliary) xs) i 0
+    ≡ get_or (map (λ g. g.auxiliary) ys) i 0
 form_at i xs ys e = ap (λ gs. get_or (map (λ g. g.auxiliary) gs) i 0) e
 
 -- before an edit: without a letter nothing may change, not even selectors; else no letter but the last, and no mark
 row_no_letter : StayBefore mong (T ∷ T ∷ []) (3 ∷ 0x180B ∷ []) (in_forms (7 ∷ 7 ∷ [])) (in_forms (7 ∷ 0 ∷ [])) → ⊥
 row_no_letter stay = eqb-false 7 0 refl (form_at 1 _ _ (stay.none refl))
 
-row_earlier_letter : StayBefore None (D ∷ D ∷ T ∷ []) (1 ∷ 1 ∷ 3 ∷ []) (in_forms (0 ∷ 0 ∷ 7 ∷ [])) (in_forms (6 ∷ 0 ∷ 7 ∷ [])) → ⊥
+row_earlier_letter : StayBefore None (D ∷ D ∷ T ∷ []) (1 ∷ 1 ∷ 3 ∷ []) (in_forms (0 ∷ 0 ∷ 7 ∷ []))
+    (in_forms (6 ∷ 0 ∷ 7 ∷ [])) → ⊥
 row_earlier_letter stay = eqb-false 0 6 refl (form_at 0 _ _ (stay.last (D ∷ []) (T ∷ []) D refl refl refl).0)
 
-row_mark_behind : StayBefore None (D ∷ D ∷ T ∷ []) (1 ∷ 1 ∷ 3 ∷ []) (in_forms (0 ∷ 0 ∷ 7 ∷ [])) (in_forms (0 ∷ 0 ∷ 0 ∷ [])) → ⊥
+row_mark_behind : StayBefore None (D ∷ D ∷ T ∷ []) (1 ∷ 1 ∷ 3 ∷ []) (in_forms (0 ∷ 0 ∷ 7 ∷ []))
+    (in_forms (0 ∷ 0 ∷ 0 ∷ [])) → ⊥
 row_mark_behind stay = eqb-false 7 0 refl (form_at 0 _ _ (stay.last (D ∷ []) (T ∷ []) D refl refl refl).1)
 
-row_selector_behind : StayBefore mong (D ∷ T ∷ T ∷ []) (1 ∷ 3 ∷ 0x180B ∷ []) (in_forms (0 ∷ 7 ∷ 7 ∷ [])) (in_forms (0 ∷ 7 ∷ 0 ∷ [])) → ⊥
+row_selector_behind : StayBefore mong (D ∷ T ∷ T ∷ []) (1 ∷ 3 ∷ 0x180B ∷ []) (in_forms (0 ∷ 7 ∷ 7 ∷ []))
+    (in_forms (0 ∷ 7 ∷ 0 ∷ [])) → ⊥
 row_selector_behind stay = eqb-false 7 0 refl (form_at 1 _ _ (stay.last [] (T ∷ T ∷ []) D refl refl refl).1)
 
--- behind an edit: without a letter only selectors that open the part may change; else no letter but the first, and no mark
-row_no_letter_behind : StayBehind mong (T ∷ T ∷ []) (0x180B ∷ 3 ∷ []) (in_forms (7 ∷ 7 ∷ [])) (in_forms (0 ∷ 0 ∷ [])) → ⊥
+-- behind an edit: without a letter only selectors that open the part may change; else no letter but
+-- the first, and no mark
+row_no_letter_behind : StayBehind mong (T ∷ T ∷ []) (0x180B ∷ 3 ∷ []) (in_forms (7 ∷ 7 ∷ [])) (in_forms (0 ∷ 0 ∷ []))
+    → ⊥
 row_no_letter_behind stay = eqb-false 7 0 refl (form_at 0 _ _ (stay.none refl))
 
 row_opening : StayBehind None (T ∷ T ∷ []) (0x180B ∷ 3 ∷ []) (in_forms (7 ∷ 7 ∷ [])) (in_forms (0 ∷ 7 ∷ [])) → ⊥
 row_opening stay = eqb-false 7 0 refl (form_at 0 _ _ (stay.none refl))
 
-row_mark_before : StayBehind None (T ∷ D ∷ D ∷ []) (3 ∷ 1 ∷ 1 ∷ []) (in_forms (7 ∷ 0 ∷ 0 ∷ [])) (in_forms (0 ∷ 0 ∷ 0 ∷ [])) → ⊥
+row_mark_before : StayBehind None (T ∷ D ∷ D ∷ []) (3 ∷ 1 ∷ 1 ∷ []) (in_forms (7 ∷ 0 ∷ 0 ∷ []))
+    (in_forms (0 ∷ 0 ∷ 0 ∷ [])) → ⊥
 row_mark_before stay = eqb-false 7 0 refl (form_at 0 _ _ (stay.first (T ∷ []) (D ∷ []) D refl refl refl).0)
 
-row_selector_before : StayBehind mong (T ∷ T ∷ D ∷ []) (3 ∷ 0x180B ∷ 1 ∷ []) (in_forms (7 ∷ 7 ∷ 0 ∷ [])) (in_forms (7 ∷ 0 ∷ 0 ∷ [])) → ⊥
+row_selector_before : StayBehind mong (T ∷ T ∷ D ∷ []) (3 ∷ 0x180B ∷ 1 ∷ []) (in_forms (7 ∷ 7 ∷ 0 ∷ []))
+    (in_forms (7 ∷ 0 ∷ 0 ∷ [])) → ⊥
 row_selector_before stay = eqb-false 7 0 refl (form_at 1 _ _ (stay.first (T ∷ T ∷ []) [] D refl refl refl).0)
 
-row_later_letter : StayBehind None (T ∷ D ∷ D ∷ []) (3 ∷ 1 ∷ 1 ∷ []) (in_forms (7 ∷ 0 ∷ 0 ∷ [])) (in_forms (7 ∷ 0 ∷ 1 ∷ [])) → ⊥
+row_later_letter : StayBehind None (T ∷ D ∷ D ∷ []) (3 ∷ 1 ∷ 1 ∷ []) (in_forms (7 ∷ 0 ∷ 0 ∷ []))
+    (in_forms (7 ∷ 0 ∷ 1 ∷ [])) → ⊥
 row_later_letter stay = eqb-false 0 1 refl (form_at 0 _ _ (stay.first (T ∷ []) (D ∷ []) D refl refl refl).1)
 
 -- a text and its parts: two glyphs for the one at place 1
-row_part_before : StayNear None joining_of 1 2 2 (text (3 ∷ 1 ∷ 3 ∷ [])) (in_forms (7 ∷ 0 ∷ 7 ∷ [])) (in_forms (0 ∷ 0 ∷ 0 ∷ 7 ∷ [])) → ⊥
+row_part_before : StayNear None joining_of 1 2 2 (text (3 ∷ 1 ∷ 3 ∷ [])) (in_forms (7 ∷ 0 ∷ 7 ∷ []))
+    (in_forms (0 ∷ 0 ∷ 0 ∷ 7 ∷ [])) → ⊥
 row_part_before near = eqb-false 7 0 refl (form_at 0 _ _ (near.before.none refl))
 
-row_part_behind : StayNear None joining_of 1 2 2 (text (3 ∷ 1 ∷ 3 ∷ [])) (in_forms (7 ∷ 0 ∷ 7 ∷ [])) (in_forms (7 ∷ 0 ∷ 0 ∷ 0 ∷ [])) → ⊥
+row_part_behind : StayNear None joining_of 1 2 2 (text (3 ∷ 1 ∷ 3 ∷ [])) (in_forms (7 ∷ 0 ∷ 7 ∷ []))
+    (in_forms (7 ∷ 0 ∷ 0 ∷ 0 ∷ [])) → ⊥
 row_part_behind near = eqb-false 7 0 refl (form_at 0 _ _ (near.behind.none refl))
 
 -- what an edit reaches: D for U between two D, and taken out again; marks don't shield
 abbrev forms_after : Option Script → Buffer → List ℕ
 forms_after script b = map (λ g. g.auxiliary) (buffer_joined AsCode [] script joining_of letters b).glyphs
 
-row_apart : forms_after None (buffer_of (1 ∷ 1 ∷ 3 ∷ 9 ∷ 3 ∷ 1 ∷ 1 ∷ [])) ≡ INIT ∷ FINA ∷ NONE ∷ NONE ∷ NONE ∷ INIT ∷ FINA ∷ []
+row_apart : forms_after None (buffer_of (1 ∷ 1 ∷ 3 ∷ 9 ∷ 3 ∷ 1 ∷ 1 ∷ [])) ≡ INIT ∷ FINA ∷ NONE ∷ NONE ∷ NONE ∷ INIT
+    ∷ FINA ∷ []
 row_apart = refl
 
-row_near : forms_after None (edited 3 4 (text (1 ∷ [])) (buffer_of (1 ∷ 1 ∷ 3 ∷ 9 ∷ 3 ∷ 1 ∷ 1 ∷ []))) ≡ INIT ∷ MEDI ∷ NONE ∷ MEDI ∷ NONE ∷ MEDI ∷ FINA ∷ []
+row_near : forms_after None (edited 3 4 (text (1 ∷ [])) (buffer_of (1 ∷ 1 ∷ 3 ∷ 9 ∷ 3 ∷ 1 ∷ 1 ∷ [])))
+    ≡ INIT ∷ MEDI ∷ NONE ∷ MEDI ∷ NONE ∷ MEDI ∷ FINA ∷ []
 row_near = refl
 
-row_out : forms_after None (edited 3 4 [] (buffer_of (1 ∷ 1 ∷ 3 ∷ 9 ∷ 3 ∷ 1 ∷ 1 ∷ []))) ≡ INIT ∷ MEDI ∷ NONE ∷ NONE ∷ MEDI ∷ FINA ∷ []
+row_out : forms_after None (edited 3 4 [] (buffer_of (1 ∷ 1 ∷ 3 ∷ 9 ∷ 3 ∷ 1 ∷ 1 ∷ []))) ≡ INIT ∷ MEDI ∷ NONE ∷ NONE
+    ∷ MEDI ∷ FINA ∷ []
 row_out = refl
 
 -- with the script Mongolian the selectors behind the letter before the edit, and behind the edit, go with them
-row_copied : forms_after mong (buffer_of (1 ∷ 0x180B ∷ 9 ∷ 0x180B ∷ 1 ∷ 0x180B ∷ [])) ≡ ISOL ∷ ISOL ∷ NONE ∷ NONE ∷ ISOL ∷ ISOL ∷ []
+row_copied : forms_after mong (buffer_of (1 ∷ 0x180B ∷ 9 ∷ 0x180B ∷ 1 ∷ 0x180B ∷ [])) ≡ ISOL ∷ ISOL ∷ NONE ∷ NONE ∷ ISOL
+    ∷ ISOL ∷ []
 row_copied = refl
 
-row_copied_near : forms_after mong (edited 2 3 (text (1 ∷ [])) (buffer_of (1 ∷ 0x180B ∷ 9 ∷ 0x180B ∷ 1 ∷ 0x180B ∷ []))) ≡ INIT ∷ INIT ∷ MEDI ∷ MEDI ∷ FINA ∷ FINA ∷ []
+row_copied_near : forms_after mong (edited 2 3 (text (1 ∷ [])) (buffer_of (1 ∷ 0x180B ∷ 9 ∷ 0x180B ∷ 1 ∷ 0x180B ∷ [])))
+    ≡ INIT ∷ INIT ∷ MEDI ∷ MEDI ∷ FINA ∷ FINA ∷ []
 row_copied_near = refl

@@ -1,4 +1,5 @@
--- What joining leaves of small texts and of their first letter alone, written out from the rule; fresh texts and transparent selectors.
+-- What joining leaves of small texts and of their first letter alone, written out from the rule;
+-- fresh texts and transparent selectors.
 use Rattle.std.specs.Prelude.{◌≡◌, ◌==◌, ℕ, List, [], ◌∷◌, map, Option, None, Some, codes, if◌then◌else◌, refl, true, false}
 use Rattle.std.proofs.Common.{arith, zero, suc, ◌<◌, inl, inr, ap}
 use Rattle.std.specs.List.{slice_index_or}
@@ -36,7 +37,8 @@ abbrev masks : List ℕ
 masks = 8 ∷ 16 ∷ 32 ∷ 64 ∷ 128 ∷ 256 ∷ 512 ∷ 0 ∷ []
 
 abbrev glyph : ℕ → ℕ → hb_glyph_info_t
-glyph c cluster = let g : hb_glyph_info_t = record default_glyph { glyph_id = c; cluster = cluster; general_category = Lo } in g
+glyph c cluster = let g : hb_glyph_info_t =
+    record default_glyph { glyph_id = c; cluster = cluster; general_category = Lo } in g
 
 -- two letters in clusters that rise, or that fall
 abbrev rising : ℕ → ℕ → Buffer
@@ -64,7 +66,8 @@ sound_alaph = refl
 clear_alaph : IsClear (after AsCode None (rising 0x715 0x710)).glyphs 1
 clear_alaph = record { differ = λ e. absurd (omega (arith, e)); unflagged = refl }
 
-first_alaph : FirstKeepsAt AsCode masks None type_of letter (rising 0x715 0x710) (after AsCode None (rising 0x715 0x710)) 1
+first_alaph : FirstKeepsAt AsCode masks None type_of letter (rising 0x715 0x710)
+    (after AsCode None (rising 0x715 0x710)) 1
 first_alaph = refl
 
 -- D D: the first has INIT, and alone ISOL; the flag stands in the second glyph, or where clusters fall in the first
@@ -87,7 +90,8 @@ not_first_falling kept = absurd (let e : (6 ∷ []) ≡ 0 ∷ [] = ap (map (λ (
 sound_falling : left Sound None (falling 0x715 0x710) ≡ 11 ∷ 64 ∷ []
 sound_falling = refl
 
--- D, selector: the copied form is flagged with Sound, though the first keeps its own; with the script Syriac nothing is copied
+-- D, selector: the copied form is flagged with Sound, though the first keeps its own; with the
+-- script Syriac nothing is copied
 code_selector : left AsCode mong (rising 1 0x180B) ≡ 8 ∷ 8 ∷ []
 code_selector = refl
 
@@ -131,7 +135,12 @@ ones zero (suc (suc j)) d low high = absurd (omega arith)
 ones (suc i) j d low high = absurd (omega arith)
 
 fresh : IsFresh masks (falling 1 1).glyphs
-fresh = record { single = inr ones; unflagged = (refl, (refl, tt)); unmasked = (refl, (refl, (refl, (refl, (refl, (refl, (refl, (refl, tt)))))))) }
+fresh = record {
+  single = inr ones;
+  unflagged = (refl, (refl, tt));
+  unmasked =
+      (refl, (refl, (refl, (refl, (refl, (refl, (refl, (refl, tt))))))));
+}
 
 not_single : IsFresh masks (glyph 1 0 ∷ glyph 1 0 ∷ []) → ⊥
 not_single f = elim f.single [

@@ -1,4 +1,5 @@
--- The flags of joining, computed on values written out from the rule: which letter changes which, whole texts, and glyphs.
+-- The flags of joining, computed on values written out from the rule: which letter changes which,
+-- whole texts, and glyphs.
 use Rattle.std.specs.Prelude.{◌≡◌, ℕ, Bool, true, false, List, [], ◌∷◌, ◌++◌, map, replicate, None, Some, if◌then◌else◌, ◌==◌, refl}
 use Rattle.shapers_buffer.specs.Buffer.{Buffer, new_buffer}
 use Rattle.shapers_buffer.specs.Glyph.{default_glyph}
@@ -60,16 +61,20 @@ rish_changes : changed GroupDalathRish ≡ replicate 7 never
 unfolding changed befores letters
 rish_changes = refl
 
-can_changes : map (λ b. map (λ own. can_change [] (letter own b)) letters) befores ≡ replicate 2 (false ∷ true ∷ false ∷ true ∷ false ∷ false ∷ []) ++ replicate 5 (false ∷ true ∷ false ∷ true ∷ true ∷ false ∷ [])
+can_changes : map (λ b. map (λ own. can_change [] (letter own b)) letters) befores
+    ≡ replicate 2 (false ∷ true ∷ false ∷ true ∷ false ∷ false ∷ [])
+    ++ replicate 5 (false ∷ true ∷ false ∷ true ∷ true ∷ false ∷ [])
 unfolding befores letters
 can_changes = refl
 
 -- of the table's states 2 to 5 wait
-waiting : map waits (Start ∷ Closed ∷ Initial ∷ Medial ∷ JoinedAlaph ∷ LaterAlaph ∷ DalathRish ∷ []) ≡ false ∷ false ∷ true ∷ true ∷ true ∷ true ∷ false ∷ []
+waiting : map waits (Start ∷ Closed ∷ Initial ∷ Medial ∷ JoinedAlaph ∷ LaterAlaph ∷ DalathRish ∷ []) ≡ false ∷ false
+    ∷ true ∷ true ∷ true ∷ true ∷ false ∷ []
 waiting = refl
 
 -- what stands before a letter: the text's own nearest letter, else the context's
-by_context : map (λ k. changes_form (D ∷ []) k R) (letter GroupAlaph [] ∷ letter GroupAlaph (T ∷ []) ∷ letter GroupAlaph (U ∷ D ∷ []) ∷ []) ≡ true ∷ true ∷ false ∷ []
+by_context : map (λ k. changes_form (D ∷ []) k R) (letter GroupAlaph [] ∷ letter GroupAlaph (T ∷ [])
+    ∷ letter GroupAlaph (U ∷ D ∷ []) ∷ []) ≡ true ∷ true ∷ false ∷ []
 by_context = refl
 
 by_text : changes_form (U ∷ []) (letter GroupAlaph (T ∷ D ∷ [])) R ≡ true
@@ -82,7 +87,8 @@ found = refl
 not_found : nearest_letter (T ∷ T ∷ []) ≡ None
 not_found = refl
 
--- two letters: 4 for a join, 2 for no concatenation, 0 for nothing; each type behind each, by what stands before the first
+-- two letters: 4 for a join, 2 for no concatenation, 0 for nothing; each type behind each, by what
+-- stands before the first
 kind : List FlagCall → ℕ
 kind [] = 0
 kind (UnsafeToBreak s e ∷ calls) = 1
@@ -107,16 +113,19 @@ on = 2 ∷ 2 ∷ 4 ∷ 4 ∷ 4 ∷ 4 ∷ []
 abbrev nothing : List ℕ
 nothing = 0 ∷ 0 ∷ 0 ∷ 0 ∷ 0 ∷ 0 ∷ []
 
-all_pairs : map pairs letters ≡ replicate 7 back ∷ replicate 7 on ∷ replicate 7 back ∷ replicate 7 on ∷ (back ∷ back ∷ replicate 5 on) ∷ replicate 7 back ∷ []
+all_pairs : map pairs letters ≡ replicate 7 back ∷ replicate 7 on ∷ replicate 7 back ∷ replicate 7 on
+    ∷ (back ∷ back ∷ replicate 5 on) ∷ replicate 7 back ∷ []
 unfolding pairs befores letters kind
 all_pairs = refl
 
-all_ends : map ends letters ≡ replicate 7 nothing ∷ replicate 7 on ∷ replicate 7 nothing ∷ replicate 7 on ∷ (nothing ∷ nothing ∷ replicate 5 on) ∷ replicate 7 nothing ∷ []
+all_ends : map ends letters ≡ replicate 7 nothing ∷ replicate 7 on ∷ replicate 7 nothing ∷ replicate 7 on
+    ∷ (nothing ∷ nothing ∷ replicate 5 on) ∷ replicate 7 nothing ∷ []
 unfolding ends befores letters kind
 all_ends = refl
 
 -- first letters: those that join back, from the text's start
-firsts : map (λ t. joining_flags [] (t ∷ []) []) letters ≡ [] ∷ [] ∷ (UnsafeToConcat 0 1 ∷ []) ∷ (UnsafeToConcat 0 1 ∷ []) ∷ (UnsafeToConcat 0 1 ∷ []) ∷ (UnsafeToConcat 0 1 ∷ []) ∷ []
+firsts : map (λ t. joining_flags [] (t ∷ []) []) letters ≡ [] ∷ [] ∷ (UnsafeToConcat 0 1 ∷ [])
+    ∷ (UnsafeToConcat 0 1 ∷ []) ∷ (UnsafeToConcat 0 1 ∷ []) ∷ (UnsafeToConcat 0 1 ∷ []) ∷ []
 unfolding letters
 firsts = refl
 
@@ -130,19 +139,23 @@ no_text : joining_flags (D ∷ []) [] (D ∷ []) ≡ []
 no_text = refl
 
 -- whole texts, one call after another
-three_ds : joining_flags [] (D ∷ D ∷ D ∷ []) [] ≡ UnsafeToConcat 0 1 ∷ SafeToInsertTatweel 0 2 ∷ SafeToInsertTatweel 1 3 ∷ []
+three_ds : joining_flags [] (D ∷ D ∷ D ∷ []) [] ≡ UnsafeToConcat 0 1 ∷ SafeToInsertTatweel 0 2 ∷ SafeToInsertTatweel 1 3
+    ∷ []
 three_ds = refl
 
-over_a_mark : joining_flags [] (D ∷ T ∷ R ∷ T ∷ D ∷ []) [] ≡ UnsafeToConcat 0 1 ∷ SafeToInsertTatweel 0 3 ∷ UnsafeToConcat 2 5 ∷ []
+over_a_mark : joining_flags [] (D ∷ T ∷ R ∷ T ∷ D ∷ []) [] ≡ UnsafeToConcat 0 1 ∷ SafeToInsertTatweel 0 3
+    ∷ UnsafeToConcat 2 5 ∷ []
 over_a_mark = refl
 
 l_waits : joining_flags [] (L ∷ T ∷ U ∷ L ∷ []) [] ≡ UnsafeToConcat 0 3 ∷ []
 l_waits = refl
 
-rish_alaph_d : joining_flags [] (GroupDalathRish ∷ GroupAlaph ∷ D ∷ []) [] ≡ UnsafeToConcat 0 1 ∷ UnsafeToConcat 0 2 ∷ SafeToInsertTatweel 1 3 ∷ []
+rish_alaph_d : joining_flags [] (GroupDalathRish ∷ GroupAlaph ∷ D ∷ []) [] ≡ UnsafeToConcat 0 1 ∷ UnsafeToConcat 0 2
+    ∷ SafeToInsertTatweel 1 3 ∷ []
 rish_alaph_d = refl
 
-r_alaph_l : joining_flags [] (R ∷ GroupAlaph ∷ L ∷ []) [] ≡ UnsafeToConcat 0 1 ∷ UnsafeToConcat 0 2 ∷ UnsafeToConcat 1 3 ∷ []
+r_alaph_l : joining_flags [] (R ∷ GroupAlaph ∷ L ∷ []) [] ≡ UnsafeToConcat 0 1 ∷ UnsafeToConcat 0 2 ∷ UnsafeToConcat 1 3
+    ∷ []
 r_alaph_l = refl
 
 alaph_l : joining_flags [] (GroupAlaph ∷ L ∷ []) [] ≡ UnsafeToConcat 0 1 ∷ []
@@ -166,7 +179,19 @@ marks_behind = refl
 
 -- a glyph in a form: all else stays, and its mask gains the form's
 abbrev full : hb_glyph_info_t
-full = record { glyph_id = 0x916; cluster = 5; mask = 0x13; var = 0x7A; syllable = 0x24; category = 1; auxiliary = 3; general_category = Mn; modified_combining_class = 9; lig_comp = 2; marks = record { 0 = 31 } }
+full = record {
+  glyph_id = 0x916;
+  cluster = 5;
+  mask = 0x13;
+  var = 0x7A;
+  syllable = 0x24;
+  category = 1;
+  auxiliary = 3;
+  general_category = Mn;
+  modified_combining_class = 9;
+  lig_comp = 2;
+  marks = record { 0 = 31 };
+}
 
 in_its_form : with_form (0x100 ∷ 0x210 ∷ []) 1 full ≡ record full { auxiliary = 1; mask = 0x213 }
 in_its_form = refl
@@ -176,12 +201,22 @@ abbrev joining_of : ℕ → hb_arabic_joining_type_t
 joining_of c = if c == 1 then D else if c == 2 then R else if c == 3 then L else if c == 4 then T else U
 
 abbrev text_with : ℕ → List ℕ → List (ℕ × ℕ) → List ℕ → Buffer
-text_with flags before gs after = let b : Buffer = record (new_buffer 9) { glyphs = map (λ p. let g : hb_glyph_info_t = record default_glyph { glyph_id = p.0; cluster = p.1 } in g) gs; before = before; after = after; flags = record { 0 = flags } } in b
+text_with flags before gs after = let b : Buffer =
+    record (new_buffer 9) {
+      glyphs = map (λ p. let g : hb_glyph_info_t = record default_glyph { glyph_id = p.0; cluster = p.1 } in g) gs;
+      before = before;
+      after = after;
+      flags = record { 0 = flags };
+    } in b
 
 abbrev masks_after : Buffer → List ℕ
-masks_after b = map (λ g. g.mask) (buffer_joined AsCode (0 ∷ 0x20 ∷ 0 ∷ 0 ∷ 0x80 ∷ 0 ∷ 0x10 ∷ 0 ∷ []) None joining_of (λ c. Lo) b).glyphs
+masks_after b =
+    map (λ g. g.mask) (buffer_joined AsCode (0 ∷ 0x20 ∷ 0 ∷ 0 ∷ 0x80 ∷ 0 ∷ 0x10 ∷ 0 ∷ []) None joining_of (λ c. Lo)
+    b).glyphs
 
-by_buffer_flags : map (λ flags. masks_after (text_with flags [] ((1, 0) ∷ (1, 1) ∷ (1, 2) ∷ []) [])) (0 ∷ 0x40 ∷ 0x80 ∷ 0xC0 ∷ []) ≡ (0x10 ∷ 0x83 ∷ 0x23 ∷ []) ∷ (0x12 ∷ 0x83 ∷ 0x23 ∷ []) ∷ (0x10 ∷ 0x84 ∷ 0x24 ∷ []) ∷ (0x12 ∷ 0x84 ∷ 0x24 ∷ []) ∷ []
+by_buffer_flags : map (λ flags. masks_after (text_with flags [] ((1, 0) ∷ (1, 1) ∷ (1, 2) ∷ []) []))
+    (0 ∷ 0x40 ∷ 0x80 ∷ 0xC0 ∷ []) ≡ (0x10 ∷ 0x83 ∷ 0x23 ∷ []) ∷ (0x12 ∷ 0x83 ∷ 0x23 ∷ []) ∷ (0x10 ∷ 0x84 ∷ 0x24 ∷ [])
+    ∷ (0x12 ∷ 0x84 ∷ 0x24 ∷ []) ∷ []
 by_buffer_flags = refl
 
 falling_clusters : masks_after (text_with 0xC0 [] ((1, 1) ∷ (1, 0) ∷ []) []) ≡ 0x16 ∷ 0x20 ∷ []

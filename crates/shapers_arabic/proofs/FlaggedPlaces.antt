@@ -37,12 +37,15 @@ pub and_false : (b x : Bool) → x ≡ false → (b && x) ≡ false
 and_false b x e = and_right b x e
 
 -- one pair of letters
-one_held : (b c : Bool) (s e p : ℕ) → held_by_calls p (cond b (SafeToInsertTatweel s e ∷ []) (cond c (UnsafeToConcat s e ∷ []) [])) ≡ (b && (ltb s p && ltb p e))
+one_held : (b c : Bool) (s e p : ℕ)
+    → held_by_calls p (cond b (SafeToInsertTatweel s e ∷ []) (cond c (UnsafeToConcat s e ∷ []) []))
+    ≡ (b && (ltb s p && ltb p e))
 one_held true c s e p = or_none (ltb s p && ltb p e)
 one_held false true s e p = refl
 one_held false false s e p = refl
 
-pub break_held : (b : Bool) (s e p : ℕ) → held_by_calls p (cond b (UnsafeToBreak s e ∷ []) []) ≡ (b && (ltb s p && ltb p e))
+pub break_held : (b : Bool) (s e p : ℕ) → held_by_calls p (cond b (UnsafeToBreak s e ∷ []) [])
+    ≡ (b && (ltb s p && ltb p e))
 break_held true s e p = or_none (ltb s p && ltb p e)
 break_held false s e p = refl
 
@@ -60,7 +63,8 @@ stands-before [] p h = tt
 stands-before (T ∷ ts) p h = stands-before ts p (omega arith)
 stands-before (t ∷ ts) p h = omega arith
 
-stands-from : (ts passed : List hb_arabic_joining_type_t) (p : ℕ) → p ≤ length passed → StandsFrom (nearest_letter passed) p → StandsFrom (nearest_letter (ts ++ passed)) p
+stands-from : (ts passed : List hb_arabic_joining_type_t) (p : ℕ) → p ≤ length passed
+    → StandsFrom (nearest_letter passed) p → StandsFrom (nearest_letter (ts ++ passed)) p
 stands-from [] passed p h f = f
 stands-from (T ∷ ts) passed p h f = stands-from ts passed p h f
 stands-from (t ∷ ts) passed p h f = omega (arith, length-append ts passed)
@@ -71,53 +75,80 @@ changed context None t = false
 changed context (Some k) None = false
 changed context (Some k) (Some t) = changes_form context k t
 
-letter-past : (context : List hb_arabic_joining_type_t) (o : Option Letter) (t : hb_arabic_joining_type_t) (e p : ℕ) → e ≤ p → held_by_calls p (letter_flags context o t e) ≡ false
+letter-past : (context : List hb_arabic_joining_type_t) (o : Option Letter) (t : hb_arabic_joining_type_t) (e p : ℕ)
+    → e ≤ p → held_by_calls p (letter_flags context o t e) ≡ false
 letter-past context None t e p h = one_held false (joins_back (Some t)) 0 e p
-letter-past context (Some k) t e p h = one_held (changes_form context k t) (joins_back (Some t) || can_change context k) (length k.before) e p ∙ and_false (changes_form context k t) _ (past (length k.before) p e h)
+letter-past context (Some k) t e p h =
+    one_held (changes_form context k t) (joins_back (Some t) || can_change context k) (length k.before) e p
+    ∙ and_false (changes_form context k t) _ (past (length k.before) p e h)
 
-letter-from : (context : List hb_arabic_joining_type_t) (o : Option Letter) (t : hb_arabic_joining_type_t) (e p : ℕ) → StandsFrom o p → held_by_calls p (letter_flags context o t e) ≡ false
+letter-from : (context : List hb_arabic_joining_type_t) (o : Option Letter) (t : hb_arabic_joining_type_t) (e p : ℕ)
+    → StandsFrom o p → held_by_calls p (letter_flags context o t e) ≡ false
 letter-from context None t e p h = absurd h
-letter-from context (Some k) t e p h = one_held (changes_form context k t) (joins_back (Some t) || can_change context k) (length k.before) e p ∙ and_false (changes_form context k t) _ (ahead (length k.before) p e h)
+letter-from context (Some k) t e p h =
+    one_held (changes_form context k t) (joins_back (Some t) || can_change context k) (length k.before) e p
+    ∙ and_false (changes_form context k t) _ (ahead (length k.before) p e h)
 
-letter-here : (context : List hb_arabic_joining_type_t) (o : Option Letter) (t : hb_arabic_joining_type_t) (e p : ℕ) → StandsBefore o p → p < e → held_by_calls p (letter_flags context o t e) ≡ changed context o (Some t)
+letter-here : (context : List hb_arabic_joining_type_t) (o : Option Letter) (t : hb_arabic_joining_type_t) (e p : ℕ)
+    → StandsBefore o p → p < e → held_by_calls p (letter_flags context o t e) ≡ changed context o (Some t)
 letter-here context None t e p h i = one_held false (joins_back (Some t)) 0 e p
-letter-here context (Some k) t e p h i = one_held (changes_form context k t) (joins_back (Some t) || can_change context k) (length k.before) e p ∙ and_true (changes_form context k t) _ (inside (length k.before) p e h i)
+letter-here context (Some k) t e p h i =
+    one_held (changes_form context k t) (joins_back (Some t) || can_change context k) (length k.before) e p
+    ∙ and_true (changes_form context k t) _ (inside (length k.before) p e h i)
 
-end-from : (context : List hb_arabic_joining_type_t) (o : Option Letter) (t : Option hb_arabic_joining_type_t) (e p : ℕ) → StandsFrom o p → held_by_calls p (end_flags context o t e) ≡ false
+end-from : (context : List hb_arabic_joining_type_t) (o : Option Letter) (t : Option hb_arabic_joining_type_t) (e p : ℕ)
+    → StandsFrom o p → held_by_calls p (end_flags context o t e) ≡ false
 end-from context None t e p h = absurd h
 end-from context (Some k) None e p h = refl
-end-from context (Some k) (Some t) e p h = one_held (changes_form context k t) (can_change context k) (length k.before) e p ∙ and_false (changes_form context k t) _ (ahead (length k.before) p e h)
+end-from context (Some k) (Some t) e p h =
+    one_held (changes_form context k t) (can_change context k) (length k.before) e p
+    ∙ and_false (changes_form context k t) _ (ahead (length k.before) p e h)
 
-end-here : (context : List hb_arabic_joining_type_t) (o : Option Letter) (t : Option hb_arabic_joining_type_t) (e p : ℕ) → StandsBefore o p → p < e → held_by_calls p (end_flags context o t e) ≡ changed context o t
+end-here : (context : List hb_arabic_joining_type_t) (o : Option Letter) (t : Option hb_arabic_joining_type_t) (e p : ℕ)
+    → StandsBefore o p → p < e → held_by_calls p (end_flags context o t e) ≡ changed context o t
 end-here context None t e p h i = refl
 end-here context (Some k) None e p h i = refl
-end-here context (Some k) (Some t) e p h i = one_held (changes_form context k t) (can_change context k) (length k.before) e p ∙ and_true (changes_form context k t) _ (inside (length k.before) p e h i)
+end-here context (Some k) (Some t) e p h i =
+    one_held (changes_form context k t) (can_change context k) (length k.before) e p
+    ∙ and_true (changes_form context k t) _ (inside (length k.before) p e h i)
 
 -- the calls along a text: before place p, behind its next letter, and there
-along-past : (context passed ts : List hb_arabic_joining_type_t) (p : ℕ) → length passed + length ts ≤ p → held_by_calls p (flags_along context passed ts) ≡ false
+along-past : (context passed ts : List hb_arabic_joining_type_t) (p : ℕ) → length passed + length ts ≤ p
+    → held_by_calls p (flags_along context passed ts) ≡ false
 along-past context passed [] p h = refl
 along-past context passed (T ∷ ts) p h = along-past context (T ∷ passed) ts p (omega arith)
 along-past context passed (t ∷ ts) p h =
     let calls = letter_flags context (nearest_letter passed) t (suc (length passed)) in
     list_any-append (forbids p) calls (flags_along context (t ∷ passed) ts)
-    ∙ or_with (held_by_calls p calls) (held_by_calls p (flags_along context (t ∷ passed) ts)) false (letter-past context (nearest_letter passed) t (suc (length passed)) p (omega arith)) (along-past context (t ∷ passed) ts p (omega arith))
+    ∙ or_with (held_by_calls p calls) (held_by_calls p (flags_along context (t ∷ passed) ts)) false
+    (letter-past context (nearest_letter passed) t (suc (length passed)) p (omega arith))
+    (along-past context (t ∷ passed) ts p (omega arith))
 
-along-from : (context passed ts : List hb_arabic_joining_type_t) (p : ℕ) → p ≤ length passed → StandsFrom (nearest_letter passed) p → held_by_calls p (flags_along context passed ts) ≡ false
+along-from : (context passed ts : List hb_arabic_joining_type_t) (p : ℕ) → p ≤ length passed
+    → StandsFrom (nearest_letter passed) p → held_by_calls p (flags_along context passed ts) ≡ false
 along-from context passed [] p h f = refl
 along-from context passed (T ∷ ts) p h f = along-from context (T ∷ passed) ts p (omega arith) f
 along-from context passed (t ∷ ts) p h f =
     let calls = letter_flags context (nearest_letter passed) t (suc (length passed)) in
     list_any-append (forbids p) calls (flags_along context (t ∷ passed) ts)
-    ∙ or_with (held_by_calls p calls) (held_by_calls p (flags_along context (t ∷ passed) ts)) false (letter-from context (nearest_letter passed) t (suc (length passed)) p f) (along-from context (t ∷ passed) ts p (omega arith) h)
+    ∙ or_with (held_by_calls p calls) (held_by_calls p (flags_along context (t ∷ passed) ts)) false
+    (letter-from context (nearest_letter passed) t (suc (length passed)) p f)
+    (along-from context (t ∷ passed) ts p (omega arith) h)
 
-pub turned : (t : hb_arabic_joining_type_t) (ts passed : List hb_arabic_joining_type_t) → reverse (t ∷ ts) ++ passed ≡ reverse ts ++ (t ∷ passed)
+pub turned : (t : hb_arabic_joining_type_t) (ts passed : List hb_arabic_joining_type_t)
+    → reverse (t ∷ ts) ++ passed ≡ reverse ts ++ (t ∷ passed)
 turned t ts passed = ap (λ r. r ++ passed) (reverse-append (t ∷ []) ts) ∙ append_assoc (reverse ts) (t ∷ []) passed
 
 -- with those at the text's end
-along-here : (context passed ts after : List hb_arabic_joining_type_t) (e p : ℕ) → p ≤ length passed → p < e → StandsBefore (nearest_letter passed) p → (held_by_calls p (flags_along context passed ts) || held_by_calls p (end_flags context (nearest_letter (reverse ts ++ passed)) (nearest after) e)) ≡ changed context (nearest_letter passed) (nearest (ts ++ after))
+along-here : (context passed ts after : List hb_arabic_joining_type_t) (e p : ℕ) → p ≤ length passed → p < e
+    → StandsBefore (nearest_letter passed) p
+    → (held_by_calls p (flags_along context passed ts)
+    || held_by_calls p (end_flags context (nearest_letter (reverse ts ++ passed)) (nearest after) e))
+    ≡ changed context (nearest_letter passed) (nearest (ts ++ after))
 along-here context passed [] after e p h i b = end-here context (nearest_letter passed) (nearest after) e p b i
 along-here context passed (T ∷ ts) after e p h i b =
-    ap (λ us. held_by_calls p (flags_along context (T ∷ passed) ts) || held_by_calls p (end_flags context (nearest_letter us) (nearest after) e)) (turned T ts passed)
+    ap (λ us. held_by_calls p (flags_along context (T ∷ passed) ts)
+    || held_by_calls p (end_flags context (nearest_letter us) (nearest after) e)) (turned T ts passed)
     ∙ along-here context (T ∷ passed) ts after e p (omega arith) i b
 along-here context passed (t ∷ ts) after e p h i b =
     let calls = letter_flags context (nearest_letter passed) t (suc (length passed)) in
@@ -125,27 +156,38 @@ along-here context passed (t ∷ ts) after e p h i b =
     let last = reverse (t ∷ ts) ++ passed in
     let here : held_by_calls p (calls ++ rest) ≡ changed context (nearest_letter passed) (Some t) =
     list_any-append (forbids p) calls rest
-    ∙ or_with (held_by_calls p calls) (held_by_calls p rest) (changed context (nearest_letter passed) (Some t)) (letter-here context (nearest_letter passed) t (suc (length passed)) p b (omega arith)) (along-from context (t ∷ passed) ts p (omega arith) h) in
+    ∙ or_with (held_by_calls p calls) (held_by_calls p rest) (changed context (nearest_letter passed) (Some t))
+    (letter-here context (nearest_letter passed) t (suc (length passed)) p b (omega arith))
+    (along-from context (t ∷ passed) ts p (omega arith) h) in
     let behind : held_by_calls p (end_flags context (nearest_letter last) (nearest after) e) ≡ false =
     ap (λ us. held_by_calls p (end_flags context (nearest_letter us) (nearest after) e)) (turned t ts passed)
-    ∙ end-from context (nearest_letter (reverse ts ++ (t ∷ passed))) (nearest after) e p (stands-from (reverse ts) (t ∷ passed) p (omega arith) h) in
-    or_with (held_by_calls p (calls ++ rest)) (held_by_calls p (end_flags context (nearest_letter last) (nearest after) e)) (changed context (nearest_letter passed) (Some t)) here behind
+    ∙ end-from context (nearest_letter (reverse ts ++ (t ∷ passed))) (nearest after) e p
+    (stands-from (reverse ts) (t ∷ passed) p (omega arith) h) in
+    or_with (held_by_calls p (calls ++ rest))
+    (held_by_calls p (end_flags context (nearest_letter last) (nearest after) e))
+    (changed context (nearest_letter passed) (Some t)) here behind
 
 -- joining's own calls, at the border of two parts of a text
-pub joining-held : (context ts us after : List hb_arabic_joining_type_t) → 0 < length us → held_by_calls (length ts) (joining_flags context (ts ++ us) after) ≡ changed context (nearest_letter (reverse ts)) (nearest (us ++ after))
+pub joining-held : (context ts us after : List hb_arabic_joining_type_t) → 0 < length us
+    → held_by_calls (length ts) (joining_flags context (ts ++ us) after)
+    ≡ changed context (nearest_letter (reverse ts)) (nearest (us ++ after))
 joining-held context ts us after some =
     let p = length ts in
     let e = length (ts ++ us) in
     let passed = reverse ts in
     let first = flags_along context [] ts in
     let last = end_flags context (nearest_letter (reverse (ts ++ us))) (nearest after) e in
-    let parts : flags_along context [] (ts ++ us) ≡ first ++ flags_along context passed us = flags_along-append context [] ts us ∙ ap (λ r. first ++ flags_along context r us) (append-nil passed) in
+    let parts : flags_along context [] (ts ++ us) ≡ first ++ flags_along context passed us = flags_along-append context
+    [] ts us ∙ ap (λ r. first ++ flags_along context r us) (append-nil passed) in
     let along : held_by_calls p (flags_along context [] (ts ++ us)) ≡ held_by_calls p (flags_along context passed us) =
-    ap (held_by_calls p) parts ∙ list_any-append (forbids p) first (flags_along context passed us) ∙ ap (λ b. b || held_by_calls p (flags_along context passed us)) (along-past context [] ts p (omega arith)) in
+    ap (held_by_calls p) parts ∙ list_any-append (forbids p) first (flags_along context passed us)
+    ∙ ap (λ b. b || held_by_calls p (flags_along context passed us)) (along-past context [] ts p (omega arith)) in
     list_any-append (forbids p) (flags_along context [] (ts ++ us)) last
     ∙ ap (λ b. b || held_by_calls p last) along
-    ∙ ap (λ r. held_by_calls p (flags_along context passed us) || held_by_calls p (end_flags context (nearest_letter r) (nearest after) e)) (reverse-append ts us)
-    ∙ along-here context passed us after e p (omega (arith, length-reverse ts)) (omega (arith, length-append ts us)) (stands-before passed p (omega (arith, length-reverse ts)))
+    ∙ ap (λ r. held_by_calls p (flags_along context passed us)
+    || held_by_calls p (end_flags context (nearest_letter r) (nearest after) e)) (reverse-append ts us)
+    ∙ along-here context passed us after e p (omega (arith, length-reverse ts)) (omega (arith, length-append ts us))
+    (stands-before passed p (omega (arith, length-reverse ts)))
 
 -- the calls of Sound at a letter in this form
 abbrev pub takes : Option Letter → ℕ → Bool
@@ -154,64 +196,93 @@ takes (Some k) form = is_second_or_third form
 
 form-past : (o : Option Letter) (form e p : ℕ) → e ≤ p → held_by_calls p (form_flags o form e) ≡ false
 form-past None form e p h = break_held (is_taken form) 0 e p ∙ and_false (is_taken form) _ (past 0 p e h)
-form-past (Some k) form e p h = break_held (is_second_or_third form) (length k.before) e p ∙ and_false (is_second_or_third form) _ (past (length k.before) p e h)
+form-past (Some k) form e p h = break_held (is_second_or_third form) (length k.before) e p
+    ∙ and_false (is_second_or_third form) _ (past (length k.before) p e h)
 
 form-from : (o : Option Letter) (form e p : ℕ) → StandsFrom o p → held_by_calls p (form_flags o form e) ≡ false
 form-from None form e p h = absurd h
-form-from (Some k) form e p h = break_held (is_second_or_third form) (length k.before) e p ∙ and_false (is_second_or_third form) _ (ahead (length k.before) p e h)
+form-from (Some k) form e p h = break_held (is_second_or_third form) (length k.before) e p
+    ∙ and_false (is_second_or_third form) _ (ahead (length k.before) p e h)
 
-form-here : (o : Option Letter) (form e p : ℕ) → 0 < p → StandsBefore o p → p < e → held_by_calls p (form_flags o form e) ≡ takes o form
+form-here : (o : Option Letter) (form e p : ℕ) → 0 < p → StandsBefore o p → p < e
+    → held_by_calls p (form_flags o form e) ≡ takes o form
 form-here None form e p z h i = break_held (is_taken form) 0 e p ∙ and_true (is_taken form) _ (inside 0 p e z i)
-form-here (Some k) form e p z h i = break_held (is_second_or_third form) (length k.before) e p ∙ and_true (is_second_or_third form) _ (inside (length k.before) p e h i)
+form-here (Some k) form e p z h i = break_held (is_second_or_third form) (length k.before) e p
+    ∙ and_true (is_second_or_third form) _ (inside (length k.before) p e h i)
 
-forms-past : (context passed ts after : List hb_arabic_joining_type_t) (p : ℕ) → length passed + length ts ≤ p → held_by_calls p (form_flags_along context passed ts after) ≡ false
+forms-past : (context passed ts after : List hb_arabic_joining_type_t) (p : ℕ) → length passed + length ts ≤ p
+    → held_by_calls p (form_flags_along context passed ts after) ≡ false
 forms-past context passed [] after p h = refl
 forms-past context passed (T ∷ ts) after p h = forms-past context (T ∷ passed) ts after p (omega arith)
 forms-past context passed (t ∷ ts) after p h =
     let form = act (nearest (passed ++ context)) t (nearest (ts ++ after)) in
     let calls = form_flags (nearest_letter passed) form (suc (length passed)) in
     list_any-append (forbids p) calls (form_flags_along context (t ∷ passed) ts after)
-    ∙ or_with (held_by_calls p calls) (held_by_calls p (form_flags_along context (t ∷ passed) ts after)) false (form-past (nearest_letter passed) form (suc (length passed)) p (omega arith)) (forms-past context (t ∷ passed) ts after p (omega arith))
+    ∙ or_with (held_by_calls p calls) (held_by_calls p (form_flags_along context (t ∷ passed) ts after)) false
+    (form-past (nearest_letter passed) form (suc (length passed)) p (omega arith))
+    (forms-past context (t ∷ passed) ts after p (omega arith))
 
-forms-from : (context passed ts after : List hb_arabic_joining_type_t) (p : ℕ) → p ≤ length passed → StandsFrom (nearest_letter passed) p → held_by_calls p (form_flags_along context passed ts after) ≡ false
+forms-from : (context passed ts after : List hb_arabic_joining_type_t) (p : ℕ) → p ≤ length passed
+    → StandsFrom (nearest_letter passed) p → held_by_calls p (form_flags_along context passed ts after) ≡ false
 forms-from context passed [] after p h f = refl
 forms-from context passed (T ∷ ts) after p h f = forms-from context (T ∷ passed) ts after p (omega arith) f
 forms-from context passed (t ∷ ts) after p h f =
     let form = act (nearest (passed ++ context)) t (nearest (ts ++ after)) in
     let calls = form_flags (nearest_letter passed) form (suc (length passed)) in
     list_any-append (forbids p) calls (form_flags_along context (t ∷ passed) ts after)
-    ∙ or_with (held_by_calls p calls) (held_by_calls p (form_flags_along context (t ∷ passed) ts after)) false (form-from (nearest_letter passed) form (suc (length passed)) p f) (forms-from context (t ∷ passed) ts after p (omega arith) h)
+    ∙ or_with (held_by_calls p calls) (held_by_calls p (form_flags_along context (t ∷ passed) ts after)) false
+    (form-from (nearest_letter passed) form (suc (length passed)) p f)
+    (forms-from context (t ∷ passed) ts after p (omega arith) h)
 
 -- whether Sound's calls reach the first letter of a text from the letter before it
-abbrev pub first_takes : Option Letter → Option hb_arabic_joining_type_t → List hb_arabic_joining_type_t → List hb_arabic_joining_type_t → Bool
+abbrev pub first_takes : Option Letter → Option hb_arabic_joining_type_t → List hb_arabic_joining_type_t
+    → List hb_arabic_joining_type_t → Bool
 first_takes o before [] after = false
-first_takes o before (t ∷ ts) after = cond (is_transparent t) (first_takes o before ts after) (takes o (act before t (nearest (ts ++ after))))
+first_takes o before (t ∷ ts) after =
+    cond (is_transparent t) (first_takes o before ts after) (takes o (act before t (nearest (ts ++ after))))
 
-forms-here : (context passed ts after : List hb_arabic_joining_type_t) (p : ℕ) → 0 < p → p ≤ length passed → StandsBefore (nearest_letter passed) p → held_by_calls p (form_flags_along context passed ts after) ≡ first_takes (nearest_letter passed) (nearest (passed ++ context)) ts after
+forms-here : (context passed ts after : List hb_arabic_joining_type_t) (p : ℕ) → 0 < p → p ≤ length passed
+    → StandsBefore (nearest_letter passed) p → held_by_calls p (form_flags_along context passed ts after)
+    ≡ first_takes (nearest_letter passed) (nearest (passed ++ context)) ts after
 forms-here context passed [] after p z h b = refl
 forms-here context passed (T ∷ ts) after p z h b = forms-here context (T ∷ passed) ts after p z (omega arith) b
 forms-here context passed (t ∷ ts) after p z h b =
     let form = act (nearest (passed ++ context)) t (nearest (ts ++ after)) in
     let calls = form_flags (nearest_letter passed) form (suc (length passed)) in
     list_any-append (forbids p) calls (form_flags_along context (t ∷ passed) ts after)
-    ∙ or_with (held_by_calls p calls) (held_by_calls p (form_flags_along context (t ∷ passed) ts after)) (takes (nearest_letter passed) form) (form-here (nearest_letter passed) form (suc (length passed)) p z b (omega arith)) (forms-from context (t ∷ passed) ts after p (omega arith) h)
+    ∙ or_with (held_by_calls p calls) (held_by_calls p (form_flags_along context (t ∷ passed) ts after))
+    (takes (nearest_letter passed) form)
+    (form-here (nearest_letter passed) form (suc (length passed)) p z b (omega arith))
+    (forms-from context (t ∷ passed) ts after p (omega arith) h)
 
-forms-append : (context passed xs ys after : List hb_arabic_joining_type_t) → form_flags_along context passed (xs ++ ys) after ≡ form_flags_along context passed xs (ys ++ after) ++ form_flags_along context (reverse xs ++ passed) ys after
+forms-append : (context passed xs ys after : List hb_arabic_joining_type_t)
+    → form_flags_along context passed (xs ++ ys) after ≡ form_flags_along context passed xs (ys ++ after)
+    ++ form_flags_along context (reverse xs ++ passed) ys after
 forms-append context passed [] ys after = refl
 forms-append context passed (x ∷ xs) ys after =
-    let here : List hb_arabic_joining_type_t → List FlagCall = λ us. cond (is_transparent x) [] (form_flags (nearest_letter passed) (act (nearest (passed ++ context)) x (nearest us)) (suc (length passed))) in
+    let here : List hb_arabic_joining_type_t → List FlagCall = λ us. cond (is_transparent x)
+    [] (form_flags (nearest_letter passed) (act (nearest (passed ++ context)) x (nearest us))
+    (suc (length passed))) in
     let first = here (xs ++ (ys ++ after)) in
     ap (λ us. here us ++ form_flags_along context (x ∷ passed) (xs ++ ys) after) (append_assoc xs ys after)
-    ∙ ap (λ calls. first ++ calls) (forms-append context (x ∷ passed) xs ys after ∙ ap (λ us. form_flags_along context (x ∷ passed) xs (ys ++ after) ++ form_flags_along context us ys after) (sym (turned x xs passed)))
-    ∙ sym (append_assoc first (form_flags_along context (x ∷ passed) xs (ys ++ after)) (form_flags_along context (reverse (x ∷ xs) ++ passed) ys after))
+    ∙ ap (λ calls. first ++ calls) (forms-append context (x ∷ passed) xs ys after
+    ∙ ap (λ us. form_flags_along context (x ∷ passed) xs (ys ++ after) ++ form_flags_along context us ys after)
+    (sym (turned x xs passed)))
+    ∙ sym (append_assoc first (form_flags_along context (x ∷ passed) xs (ys ++ after))
+    (form_flags_along context (reverse (x ∷ xs) ++ passed) ys after))
 
 -- those calls, at the border of two parts of a text
-pub forms-held : (context ts us after : List hb_arabic_joining_type_t) → 0 < length ts → held_by_calls (length ts) (form_flags_along context [] (ts ++ us) after) ≡ first_takes (nearest_letter (reverse ts)) (nearest (reverse ts ++ context)) us after
+pub forms-held : (context ts us after : List hb_arabic_joining_type_t) → 0 < length ts
+    → held_by_calls (length ts) (form_flags_along context [] (ts ++ us) after)
+    ≡ first_takes (nearest_letter (reverse ts)) (nearest (reverse ts ++ context)) us after
 forms-held context ts us after some =
     let p = length ts in
     let passed = reverse ts in
     let first = form_flags_along context [] ts (us ++ after) in
-    ap (held_by_calls p) (forms-append context [] ts us after ∙ ap (λ r. first ++ form_flags_along context r us after) (append-nil passed))
+    ap (held_by_calls p) (forms-append context [] ts us after
+    ∙ ap (λ r. first ++ form_flags_along context r us after) (append-nil passed))
     ∙ list_any-append (forbids p) first (form_flags_along context passed us after)
-    ∙ ap (λ b. b || held_by_calls p (form_flags_along context passed us after)) (forms-past context [] ts (us ++ after) p (omega arith))
-    ∙ forms-here context passed us after p some (omega (arith, length-reverse ts)) (stands-before passed p (omega (arith, length-reverse ts)))
+    ∙ ap (λ b. b || held_by_calls p (form_flags_along context passed us after)) (forms-past context
+    [] ts (us ++ after) p (omega arith))
+    ∙ forms-here context passed us after p some (omega (arith, length-reverse ts))
+    (stands-before passed p (omega (arith, length-reverse ts)))

@@ -17,21 +17,31 @@ use Rattle.shapers_base.specs.declared.plan.breaks.BreakFlags.{BreakFlags}
 use Rattle.shapers_arabic.proofs.SoundOrder.{calls-in_order}
 use Rattle.shapers_arabic.proofs.JoiningLaws.{length-forms_of, text_long}
 
-formed_added : (masks fs : List ℕ) (gs : List hb_glyph_info_t) → length fs ≡ length gs → OnlyFlagsAdded gs (with_joining_forms masks fs gs)
+formed_added : (masks fs : List ℕ) (gs : List hb_glyph_info_t) → length fs ≡ length gs
+    → OnlyFlagsAdded gs (with_joining_forms masks fs gs)
 formed_added masks [] [] long = tt
 formed_added masks [] (g ∷ gs) long = absurd (omega arith)
 formed_added masks (f ∷ fs) [] long = absurd (omega arith)
-formed_added masks (f ∷ fs) (g ∷ gs) long = (record { same = refl; kept = λ k _. keeps-with_bits (slice_index masks f) g k }, formed_added masks fs gs (omega arith))
+formed_added masks (f ∷ fs) (g ∷ gs) long = (
+  record { same = refl; kept = λ k _. keeps-with_bits (slice_index masks f) g k },
+  formed_added masks fs gs
+      (omega arith),
+)
 
-pub joined_added : (breaks : BreakFlags) (masks : List ℕ) (script : Option Script) (joining : ℕ → hb_arabic_joining_type_t) (general : ℕ → hb_unicode_general_category_t) (old new : Buffer) → new ≡ buffer_joined breaks masks script joining general old → OnlyFlagsAdded old.glyphs new.glyphs
+pub joined_added : (breaks : BreakFlags) (masks : List ℕ) (script : Option Script) (joining : ℕ
+    → hb_arabic_joining_type_t) (general : ℕ → hb_unicode_general_category_t) (old new : Buffer)
+    → new ≡ buffer_joined breaks masks script joining general old → OnlyFlagsAdded old.glyphs new.glyphs
 joined_added breaks masks script joining general old new is =
     let text = text_of joining general old in
     let fs = forms_of script text in
     let calls = flag_calls breaks script text in
     let formed = with_joining_forms masks fs old.glyphs in
-    let long = length-forms_of script text (text_long joining general old) ∙ length-map old.glyphs (λ g. resolved (joining g.glyph_id) g.general_category) in
+    let long = length-forms_of script text (text_long joining general old)
+    ∙ length-map old.glyphs (λ g. resolved (joining g.glyph_id) g.general_category) in
     let concat = has_flag flags_concat old.flags in
     let tatweel = has_flag flags_tatweel old.flags in
     let flagged = flags_called concat tatweel calls formed in
     subst (λ (b : Buffer). OnlyFlagsAdded old.glyphs b.glyphs) (sym is)
-    (all_added_on old.glyphs formed flagged (formed_added masks fs old.glyphs long) (alone_added formed flagged (flags_called-alone concat tatweel calls formed (calls-in_order breaks script text))))
+    (all_added_on old.glyphs formed flagged (formed_added masks fs old.glyphs long)
+    (alone_added formed flagged
+    (flags_called-alone concat tatweel calls formed (calls-in_order breaks script text))))

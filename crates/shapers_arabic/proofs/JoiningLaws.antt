@@ -19,27 +19,35 @@ use Rattle.shapers_arabic.proofs.SelectedLists.{length-selected, selected-append
 use Rattle.shapers_arabic.proofs.JoiningLists.{forms-contexts, length-forms, forms-append}
 
 -- so two texts before differ in the selectors that open the text alone
-pub selected-opening : (before others : List (ℕ × ℕ)) (cs fs : List ℕ) → drop (prefix_len is_selector cs) (selected before (zip cs fs)) ≡ drop (prefix_len is_selector cs) (selected others (zip cs fs))
+pub selected-opening : (before others : List (ℕ × ℕ)) (cs fs : List ℕ)
+    → drop (prefix_len is_selector cs) (selected before (zip cs fs))
+    ≡ drop (prefix_len is_selector cs) (selected others (zip cs fs))
 selected-opening before others [] fs = refl
 selected-opening before others (c ∷ cs) [] = refl
 selected-opening before others (c ∷ cs) (f ∷ fs) =
     let n = prefix_len is_selector cs in
     let places = zip cs fs in
-    elim (is_selector c) as (λ b. is_selector c ≡ b → drop (cond b (1 + n) 0) (cond b (form_behind before f) f ∷ selected ((c, f) ∷ before) places) ≡ drop (cond b (1 + n) 0) (cond b (form_behind others f) f ∷ selected ((c, f) ∷ others) places)) [
+    elim (is_selector c) as (λ b. is_selector c ≡ b
+    → drop (cond b (1 + n) 0) (cond b (form_behind before f) f ∷ selected ((c, f) ∷ before) places)
+    ≡ drop (cond b (1 + n) 0) (cond b (form_behind others f) f ∷ selected ((c, f) ∷ others) places)) [
       | true ↦ λ e.
           let more : 1 + n ≡ suc n = omega arith in
           ap (λ k. drop k (form_behind before f ∷ selected ((c, f) ∷ before) places)) more
           ∙ selected-opening ((c, f) ∷ before) ((c, f) ∷ others) cs fs
           ∙ sym (ap (λ k. drop k (form_behind others f ∷ selected ((c, f) ∷ others) places)) more)
-      | false ↦ λ e. ap (λ gs. f ∷ gs) (selected-same ((c, f) ∷ before) ((c, f) ∷ others) places (λ own. ap (λ b. cond b (form_behind before f) f) e ∙ sym (ap (λ b. cond b (form_behind others f) f) e)))
+      | false ↦ λ e. ap (λ gs. f ∷ gs)
+          (selected-same ((c, f) ∷ before) ((c, f) ∷ others) places (λ own. ap (λ b. cond b (form_behind before f) f) e
+          ∙ sym (ap (λ b. cond b (form_behind others f) f) e)))
     ] refl
 
 -- forms that fall into two parts, by the rule or with the selectors
 pub record InParts (b : Bool) (n : ℕ) (characters whole cs fs ds gs : List ℕ) : Type 0 where
   pub first : take n (cond b (selected [] (zip characters whole)) whole) ≡ cond b (selected [] (zip cs fs)) fs
-  pub second : drop (n + cond b (prefix_len is_selector ds) 0) (cond b (selected [] (zip characters whole)) whole) ≡ drop (cond b (prefix_len is_selector ds) 0) (cond b (selected [] (zip ds gs)) gs)
+  pub second : drop (n + cond b (prefix_len is_selector ds) 0) (cond b (selected [] (zip characters whole)) whole)
+      ≡ drop (cond b (prefix_len is_selector ds) 0) (cond b (selected [] (zip ds gs)) gs)
 
-pub in-parts : (b : Bool) (n : ℕ) (characters whole cs fs ds gs : List ℕ) → characters ≡ cs ++ ds → whole ≡ fs ++ gs → length cs ≡ n → length fs ≡ n → InParts b n characters whole cs fs ds gs
+pub in-parts : (b : Bool) (n : ℕ) (characters whole cs fs ds gs : List ℕ) → characters ≡ cs ++ ds → whole ≡ fs ++ gs
+    → length cs ≡ n → length fs ≡ n → InParts b n characters whole cs fs ds gs
 in-parts false n characters whole cs fs ds gs c w l m =
     let none : n + 0 ≡ n = omega arith in
     record {
@@ -50,15 +58,19 @@ in-parts true n characters whole cs fs ds gs c w l m =
     let front = selected [] (zip cs fs) in
     let back = selected (reverse (zip cs fs) ++ []) (zip ds gs) in
     let k = prefix_len is_selector ds in
-    let both : selected [] (zip characters whole) ≡ front ++ back = ap (λ xs. selected [] (zip xs whole)) c ∙ ap (λ xs. selected [] (zip (cs ++ ds) xs)) w ∙ ap (selected []) (zip-append cs ds fs gs (m ∙ sym l)) ∙ selected-append [] (zip cs fs) (zip ds gs) in
+    let both : selected [] (zip characters whole) ≡ front ++ back = ap (λ xs. selected [] (zip xs whole)) c
+    ∙ ap (λ xs. selected [] (zip (cs ++ ds) xs)) w ∙ ap (selected []) (zip-append cs ds fs gs (m ∙ sym l))
+    ∙ selected-append [] (zip cs fs) (zip ds gs) in
     let long : length front ≡ n = length-selected [] (zip cs fs) ∙ omega (arith, length-zip cs fs) in
     record {
       first = ap (take n) both ∙ take_at front back n long;
-      second = sym (drop-drop k n (selected [] (zip characters whole))) ∙ ap (λ xs. drop k (drop n xs)) both ∙ ap (drop k) (drop_at front back n long) ∙ selected-opening (reverse (zip cs fs) ++ []) [] ds gs;
+      second = sym (drop-drop k n (selected [] (zip characters whole))) ∙ ap (λ xs. drop k (drop n xs)) both
+          ∙ ap (drop k) (drop_at front back n long) ∙ selected-opening (reverse (zip cs fs) ++ []) [] ds gs;
     }
 
 -- the law
-pub holds-cut : (script : Option Script) (text : Text) → length text.characters ≡ length text.types → HoldsCut script text (forms_of script text)
+pub holds-cut : (script : Option Script) (text : Text) → length text.characters ≡ length text.types
+    → HoldsCut script text (forms_of script text)
 holds-cut script text long n inner_after inner_before h s =
     let ts = take n text.types in
     let us = drop n text.types in
@@ -67,43 +79,64 @@ holds-cut script text long n inner_after inner_before h s =
     let whole : forms text.before text.types text.after ≡ fs ++ gs =
     ap (λ xs. forms text.before xs text.after) (sym (take-append-drop n text.types))
     ∙ forms-append text.before ts us text.after
-    ∙ ap (λ xs. xs ++ forms (reverse ts ++ text.before) us text.after) (forms-contexts text.before text.before ts (us ++ text.after) inner_after refl (sym s.onward))
-    ∙ ap (λ xs. fs ++ xs) (forms-contexts (reverse ts ++ text.before) inner_before us text.after text.after (sym s.backward) refl) in
-    let parts = in-parts (is_mongolian script) n text.characters (forms text.before text.types text.after) (take n text.characters) fs (drop n text.characters) gs (sym (take-append-drop n text.characters)) whole (length-take-le n text.characters (omega arith)) (length-forms text.before ts inner_after ∙ length-take-le n text.types h) in
+    ∙ ap (λ xs. xs ++ forms (reverse ts ++ text.before) us text.after)
+    (forms-contexts text.before text.before ts (us ++ text.after) inner_after refl (sym s.onward))
+    ∙ ap (λ xs. fs ++ xs) (forms-contexts (reverse ts ++ text.before) inner_before us text.after text.after
+    (sym s.backward) refl) in
+    let parts = in-parts (is_mongolian script) n text.characters (forms text.before text.types text.after)
+    (take n text.characters) fs (drop n text.characters) gs (sym (take-append-drop n text.characters)) whole
+    (length-take-le n text.characters (omega arith)) (length-forms text.before ts inner_after
+    ∙ length-take-le n text.types h) in
     record { first = parts.first; second = parts.second }
 
-pub length-forms_of : (script : Option Script) (text : Text) → length text.characters ≡ length text.types → length (forms_of script text) ≡ length text.types
+pub length-forms_of : (script : Option Script) (text : Text) → length text.characters ≡ length text.types
+    → length (forms_of script text) ≡ length text.types
 length-forms_of script text long =
     let by_rule = forms text.before text.types text.after in
     let all : length by_rule ≡ length text.types = length-forms text.before text.types text.after in
-    elim (is_mongolian script) as (λ b. length (cond b (selected [] (zip text.characters by_rule)) by_rule) ≡ length text.types) [
+    elim (is_mongolian script) as (λ b. length (cond b (selected [] (zip text.characters by_rule)) by_rule)
+    ≡ length text.types) [
       | true ↦ length-selected [] (zip text.characters by_rule) ∙ omega (arith, length-zip text.characters by_rule)
       | false ↦ all
     ]
 
 -- the auxiliary bytes that joining left are the forms of the text
-pub text_long : (joining : ℕ → hb_arabic_joining_type_t) (general : ℕ → hb_unicode_general_category_t) (old : Buffer) → let text = text_of joining general old in length text.characters ≡ length text.types
-text_long joining general old = length-map old.glyphs (λ g. g.glyph_id) ∙ sym (length-map old.glyphs (λ g. resolved (joining g.glyph_id) g.general_category))
+pub text_long : (joining : ℕ → hb_arabic_joining_type_t) (general : ℕ → hb_unicode_general_category_t) (old : Buffer)
+    → let text = text_of joining general old in length text.characters ≡ length text.types
+text_long joining general old = length-map old.glyphs (λ g. g.glyph_id)
+    ∙ sym (length-map old.glyphs (λ g. resolved (joining g.glyph_id) g.general_category))
 
-pub forms_left : (breaks : BreakFlags) (masks : List ℕ) (script : Option Script) (joining : ℕ → hb_arabic_joining_type_t) (general : ℕ → hb_unicode_general_category_t) (old new : Buffer) → new ≡ buffer_joined breaks masks script joining general old → map (λ g. g.auxiliary) new.glyphs ≡ forms_of script (text_of joining general old)
+pub forms_left : (breaks : BreakFlags) (masks : List ℕ) (script : Option Script) (joining : ℕ
+    → hb_arabic_joining_type_t) (general : ℕ → hb_unicode_general_category_t) (old new : Buffer)
+    → new ≡ buffer_joined breaks masks script joining general old → map (λ g. g.auxiliary) new.glyphs
+    ≡ forms_of script (text_of joining general old)
 forms_left breaks masks script joining general old new is =
     let text = text_of joining general old in
     let calls = flag_calls breaks script text in
-    let types_long : length text.types ≡ length old.glyphs = length-map old.glyphs (λ g. resolved (joining g.glyph_id) g.general_category) in
-    let fs_long : length old.glyphs ≡ length (forms_of script text) = sym types_long ∙ sym (length-forms_of script text (text_long joining general old)) in
-    ap (λ (b : Buffer). map (λ g. g.auxiliary) b.glyphs) is ∙ forms-joined masks (forms_of script text) old.flags calls old.glyphs fs_long (calls-in_order breaks script text)
+    let types_long : length text.types ≡ length old.glyphs =
+    length-map old.glyphs (λ g. resolved (joining g.glyph_id) g.general_category) in
+    let fs_long : length old.glyphs ≡ length (forms_of script text) = sym types_long
+    ∙ sym (length-forms_of script text (text_long joining general old)) in
+    ap (λ (b : Buffer). map (λ g. g.auxiliary) b.glyphs) is
+    ∙ forms-joined masks (forms_of script text) old.flags calls old.glyphs fs_long
+    (calls-in_order breaks script text)
 
 -- what joining left is cut as the forms are
-pub cut-joined : (breaks : BreakFlags) (masks : List ℕ) (script : Option Script) (joining : ℕ → hb_arabic_joining_type_t) (general : ℕ → hb_unicode_general_category_t) (old new : Buffer) → new ≡ buffer_joined breaks masks script joining general old → CutsAsHalves script joining general old new
+pub cut-joined : (breaks : BreakFlags) (masks : List ℕ) (script : Option Script) (joining : ℕ
+    → hb_arabic_joining_type_t) (general : ℕ → hb_unicode_general_category_t) (old new : Buffer)
+    → new ≡ buffer_joined breaks masks script joining general old → CutsAsHalves script joining general old new
 cut-joined breaks masks script joining general old new is =
     let text = text_of joining general old in
-    subst (λ fs. HoldsCut script text fs) (sym (forms_left breaks masks script joining general old new is)) (holds-cut script text (text_long joining general old))
+    subst (λ fs. HoldsCut script text fs) (sym (forms_left breaks masks script joining general old new is))
+    (holds-cut script text (text_long joining general old))
 
 -- a front that shows a type shows the nearest
-pub nearest-of_front : (ts us : List hb_arabic_joining_type_t) → is_some (nearest ts) ≡ true → nearest (ts ++ us) ≡ nearest ts
+pub nearest-of_front : (ts us : List hb_arabic_joining_type_t) → is_some (nearest ts) ≡ true
+    → nearest (ts ++ us) ≡ nearest ts
 nearest-of_front [] us e = cc
 nearest-of_front (t ∷ ts) us e =
-    elim (is_transparent t) as (λ b. is_some (cond b (nearest ts) (Some t)) ≡ true → cond b (nearest (ts ++ us)) (Some t) ≡ cond b (nearest ts) (Some t)) [
+    elim (is_transparent t) as (λ b. is_some (cond b (nearest ts) (Some t)) ≡ true
+    → cond b (nearest (ts ++ us)) (Some t) ≡ cond b (nearest ts) (Some t)) [
       | true ↦ λ d. nearest-of_front ts us d
       | false ↦ λ d. refl
     ] e
@@ -119,37 +152,54 @@ copied-show n text onward backward = record {
 }
 
 -- the table's types of glyphs that agree with it are the stored ones
-types-agree : (joining : ℕ → hb_arabic_joining_type_t) (general : ℕ → hb_unicode_general_category_t) (gs : List hb_glyph_info_t) → AgreesWithTable general gs → context_types joining general (map (λ g. g.glyph_id) gs) ≡ stored_types joining gs
+types-agree : (joining : ℕ → hb_arabic_joining_type_t) (general : ℕ → hb_unicode_general_category_t)
+    (gs : List hb_glyph_info_t) → AgreesWithTable general gs → context_types joining general (map (λ g. g.glyph_id) gs)
+    ≡ stored_types joining gs
 types-agree joining general [] all = refl
 types-agree joining general (g ∷ gs) all =
-    ap (λ category. resolved (joining g.glyph_id) category ∷ context_types joining general (map (λ h. h.glyph_id) gs)) (sym all.0) ∙ ap (λ ts. resolved (joining g.glyph_id) g.general_category ∷ ts) (types-agree joining general gs all.1)
+    ap (λ category. resolved (joining g.glyph_id) category ∷ context_types joining general (map (λ h. h.glyph_id) gs))
+    (sym all.0) ∙ ap (λ ts. resolved (joining g.glyph_id) g.general_category ∷ ts)
+    (types-agree joining general gs all.1)
 
-agrees-take : (general : ℕ → hb_unicode_general_category_t) (n : ℕ) (gs : List hb_glyph_info_t) → AgreesWithTable general gs → AgreesWithTable general (take n gs)
+agrees-take : (general : ℕ → hb_unicode_general_category_t) (n : ℕ) (gs : List hb_glyph_info_t)
+    → AgreesWithTable general gs → AgreesWithTable general (take n gs)
 agrees-take general zero gs all = tt
 agrees-take general (suc n) [] all = tt
 agrees-take general (suc n) (g ∷ gs) all = (all.0, agrees-take general n gs all.1)
 
-agrees-drop : (general : ℕ → hb_unicode_general_category_t) (n : ℕ) (gs : List hb_glyph_info_t) → AgreesWithTable general gs → AgreesWithTable general (drop n gs)
+agrees-drop : (general : ℕ → hb_unicode_general_category_t) (n : ℕ) (gs : List hb_glyph_info_t)
+    → AgreesWithTable general gs → AgreesWithTable general (drop n gs)
 agrees-drop general zero gs all = all
 agrees-drop general (suc n) [] all = tt
 agrees-drop general (suc n) (g ∷ gs) all = agrees-drop general n gs all.1
 
 -- what a copied context shows: the types of the text there
-copied-after : (joining : ℕ → hb_arabic_joining_type_t) (general : ℕ → hb_unicode_general_category_t) (gs : List hb_glyph_info_t) (cs : List ℕ) → AgreesWithTable general gs → context_types joining general (take 5 (map (λ g. g.glyph_id) gs ++ cs)) ≡ take 5 (stored_types joining gs ++ context_types joining general cs)
+copied-after : (joining : ℕ → hb_arabic_joining_type_t) (general : ℕ → hb_unicode_general_category_t)
+    (gs : List hb_glyph_info_t) (cs : List ℕ) → AgreesWithTable general gs
+    → context_types joining general (take 5 (map (λ g. g.glyph_id) gs ++ cs))
+    ≡ take 5 (stored_types joining gs ++ context_types joining general cs)
 copied-after joining general gs cs all =
     let type_of = λ (c : ℕ). resolved (joining c) (general c) in
     sym (take-map type_of 5 (map (λ g. g.glyph_id) gs ++ cs))
-    ∙ ap (take 5) (map-append type_of (map (λ g. g.glyph_id) gs) cs ∙ ap (λ ts. ts ++ context_types joining general cs) (types-agree joining general gs all))
+    ∙ ap (take 5) (map-append type_of (map (λ g. g.glyph_id) gs) cs
+    ∙ ap (λ ts. ts ++ context_types joining general cs) (types-agree joining general gs all))
 
-copied-before : (joining : ℕ → hb_arabic_joining_type_t) (general : ℕ → hb_unicode_general_category_t) (gs : List hb_glyph_info_t) (cs : List ℕ) → AgreesWithTable general gs → context_types joining general (take 5 (reverse (map (λ g. g.glyph_id) gs) ++ cs)) ≡ take 5 (reverse (stored_types joining gs) ++ context_types joining general cs)
+copied-before : (joining : ℕ → hb_arabic_joining_type_t) (general : ℕ → hb_unicode_general_category_t)
+    (gs : List hb_glyph_info_t) (cs : List ℕ) → AgreesWithTable general gs
+    → context_types joining general (take 5 (reverse (map (λ g. g.glyph_id) gs) ++ cs))
+    ≡ take 5 (reverse (stored_types joining gs) ++ context_types joining general cs)
 copied-before joining general gs cs all =
     let type_of = λ (c : ℕ). resolved (joining c) (general c) in
     sym (take-map type_of 5 (reverse (map (λ g. g.glyph_id) gs) ++ cs))
-    ∙ ap (take 5) (map-append type_of (reverse (map (λ g. g.glyph_id) gs)) cs ∙ ap (λ ts. ts ++ context_types joining general cs) (map-reverse type_of (map (λ g. g.glyph_id) gs) ∙ ap reverse (types-agree joining general gs all)))
+    ∙ ap (take 5) (map-append type_of (reverse (map (λ g. g.glyph_id) gs)) cs
+    ∙ ap (λ ts. ts ++ context_types joining general cs) (map-reverse type_of (map (λ g. g.glyph_id) gs)
+    ∙ ap reverse (types-agree joining general gs all)))
 
 -- the forms of a text by its parts
-abbrev forms_by : Option Script → List hb_arabic_joining_type_t → List ℕ → List hb_arabic_joining_type_t → List hb_arabic_joining_type_t → List ℕ
-forms_by script before characters types after = forms_of script (record { before = before; characters = characters; types = types; after = after })
+abbrev forms_by : Option Script → List hb_arabic_joining_type_t → List ℕ → List hb_arabic_joining_type_t
+    → List hb_arabic_joining_type_t → List ℕ
+forms_by script before characters types after =
+    forms_of script (record { before = before; characters = characters; types = types; after = after })
 
 pub copied-cut : CopiedContextsCut
 copied-cut script joining general b n h all onward backward =
@@ -161,21 +211,29 @@ copied-cut script joining general b n h all onward backward =
     let back : drop n text.types ≡ stored_types joining (drop n gs) = drop-map type_of n gs in
     let inner_after = take 5 (drop n text.types ++ text.after) in
     let inner_before = take 5 (reverse (take n text.types) ++ text.before) in
-    let shown = copied-show n text (subst (λ ts. Shows (ts ++ text.after)) (sym back) onward) (subst (λ ts. Shows (reverse ts ++ text.before)) (sym front) backward) in
+    let shown = copied-show n text (subst (λ ts. Shows (ts ++ text.after)) (sym back) onward)
+    (subst (λ ts. Shows (reverse ts ++ text.before)) (sym front) backward) in
     let long : length text.characters ≡ length text.types = length-map gs ids ∙ sym (length-map gs type_of) in
     let within : n ≤ length text.types = omega (arith, length-map gs type_of) in
     let cut = holds-cut script text long n inner_after inner_before within shown in
-    let after_is : inner_after ≡ context_types joining general (take 5 (map ids (drop n gs) ++ b.after)) = ap (λ ts. take 5 (ts ++ text.after)) back ∙ sym (copied-after joining general (drop n gs) b.after (agrees-drop general n gs all)) in
-    let before_is : inner_before ≡ context_types joining general (take 5 (reverse (map ids (take n gs)) ++ b.before)) = ap (λ ts. take 5 (reverse ts ++ text.before)) front ∙ sym (copied-before joining general (take n gs) b.before (agrees-take general n gs all)) in
-    let first_is : forms_of script (first_half n inner_after text) ≡ forms_of script (text_of joining general (first_of n b)) =
+    let after_is : inner_after ≡ context_types joining general (take 5 (map ids (drop n gs) ++ b.after)) =
+    ap (λ ts. take 5 (ts ++ text.after)) back
+    ∙ sym (copied-after joining general (drop n gs) b.after (agrees-drop general n gs all)) in
+    let before_is : inner_before ≡ context_types joining general (take 5 (reverse (map ids (take n gs)) ++ b.before)) =
+    ap (λ ts. take 5 (reverse ts ++ text.before)) front
+    ∙ sym (copied-before joining general (take n gs) b.before (agrees-take general n gs all)) in
+    let first_is : forms_of script (first_half n inner_after text)
+    ≡ forms_of script (text_of joining general (first_of n b)) =
     ap (λ cs. forms_by script text.before cs (take n text.types) inner_after) (take-map ids n gs)
     ∙ ap (λ ts. forms_by script text.before (map ids (take n gs)) ts inner_after) front
     ∙ ap (forms_by script text.before (map ids (take n gs)) (stored_types joining (take n gs))) after_is in
-    let second_is : forms_of script (second_half n inner_before text) ≡ forms_of script (text_of joining general (second_of n b)) =
+    let second_is : forms_of script (second_half n inner_before text)
+    ≡ forms_of script (text_of joining general (second_of n b)) =
     ap (λ cs. forms_by script inner_before cs (drop n text.types) text.after) (drop-map ids n gs)
     ∙ ap (λ ts. forms_by script inner_before (map ids (drop n gs)) ts text.after) back
     ∙ ap (λ ts. forms_by script ts (map ids (drop n gs)) (stored_types joining (drop n gs)) text.after) before_is in
-    let Q : List ℕ → Type 0 = λ cs. drop (n + opening script cs) (forms_of script text) ≡ drop (opening script cs) (forms_of script (second_half n inner_before text)) in
+    let Q : List ℕ → Type 0 = λ cs. drop (n + opening script cs) (forms_of script text)
+    ≡ drop (opening script cs) (forms_of script (second_half n inner_before text)) in
     record {
       first = cut.first ∙ first_is;
       second = subst Q (drop-map ids n gs) cut.second ∙ ap (drop (opening script (map ids (drop n gs)))) second_is;

@@ -9,7 +9,8 @@ use Rattle.shapers_arabic.specs.declared.ot_shaper_arabic.joining.State.TheVaria
 use Rattle.shapers_arabic.specs.declared.ot_shaper_arabic.arabic_action_t.TheConstants.{NONE}
 
 -- the form that the next letter gives
-pub gives_previous : (before : Option hb_arabic_joining_type_t) (own t : hb_arabic_joining_type_t) → kept_or (cell (state_of before own) t).0 (act before own None) ≡ act before own (Some t)
+pub gives_previous : (before : Option hb_arabic_joining_type_t) (own t : hb_arabic_joining_type_t)
+    → kept_or (cell (state_of before own) t).0 (act before own None) ≡ act before own (Some t)
 gives_previous before U U = refl
 gives_previous before U _ = refl
 gives_previous before L U = refl
@@ -32,7 +33,8 @@ gives_previous before _ U = refl
 gives_previous before _ _ = refl
 
 -- a letter's own form, as long as none follows
-pub gives_own : (before : Option hb_arabic_joining_type_t) (own t : hb_arabic_joining_type_t) → (cell (state_of before own) t).1 ≡ act (Some own) t None
+pub gives_own : (before : Option hb_arabic_joining_type_t) (own t : hb_arabic_joining_type_t)
+    → (cell (state_of before own) t).1 ≡ act (Some own) t None
 gives_own before U U = refl
 gives_own before U _ = refl
 gives_own before L U = refl
@@ -59,7 +61,8 @@ gives_first U = refl
 gives_first _ = refl
 
 -- the state behind a letter
-pub gives_state : (before : Option hb_arabic_joining_type_t) (own t : hb_arabic_joining_type_t) → (cell (state_of before own) t).2 ≡ state_of (Some own) t
+pub gives_state : (before : Option hb_arabic_joining_type_t) (own t : hb_arabic_joining_type_t)
+    → (cell (state_of before own) t).2 ≡ state_of (Some own) t
 gives_state before U U = refl
 gives_state before U _ = refl
 gives_state before L U = refl
@@ -86,7 +89,8 @@ gives_first_state U = refl
 gives_first_state _ = refl
 
 -- the next letter gives a form exactly where it changes the form of the letter before it
-pub gives_change : (before : Option hb_arabic_joining_type_t) (own t : hb_arabic_joining_type_t) → eqb (cell (state_of before own) t).0 NONE ≡ eqb (act before own (Some t)) (act before own None)
+pub gives_change : (before : Option hb_arabic_joining_type_t) (own t : hb_arabic_joining_type_t)
+    → eqb (cell (state_of before own) t).0 NONE ≡ eqb (act before own (Some t)) (act before own None)
 gives_change before U U = refl
 gives_change before U _ = refl
 gives_change before L U = refl
@@ -120,10 +124,13 @@ gives_change before _ _ = refl
 
 -- whether some letter changes the form of one behind this type
 abbrev can_change_behind : Option hb_arabic_joining_type_t → hb_arabic_joining_type_t → Bool
-can_change_behind before own = list_any (λ t. not (eqb (act before own (Some t)) (act before own None))) (U ∷ L ∷ R ∷ D ∷ GroupAlaph ∷ GroupDalathRish ∷ [])
+can_change_behind before own =
+    list_any (λ t. not (eqb (act before own (Some t)) (act before own None)))
+    (U ∷ L ∷ R ∷ D ∷ GroupAlaph ∷ GroupDalathRish ∷ [])
 
 -- a state waits for the next letter exactly where some letter changes the form of the one that left it
-pub waits_for_change : (before : Option hb_arabic_joining_type_t) (own : hb_arabic_joining_type_t) → waits (state_of before own) ≡ can_change_behind before own
+pub waits_for_change : (before : Option hb_arabic_joining_type_t) (own : hb_arabic_joining_type_t)
+    → waits (state_of before own) ≡ can_change_behind before own
 waits_for_change before U = refl
 waits_for_change before L = refl
 waits_for_change None R = refl

@@ -33,42 +33,72 @@ last_letter : (ts : List hb_arabic_joining_type_t) → (nearest ts ≡ None) ⊎
 last_letter [] = inl refl
 last_letter (T ∷ ts) = elim (last_letter ts) [
   | inl none ↦ inl none
-  | inr l ↦ inr (record { front = T ∷ l.front; own = l.own; tail = l.tail; split = ap (λ us. T ∷ us) l.split; letter = l.letter; rest = l.rest })
+  | inr l ↦ inr
+      (record {
+        front = T ∷ l.front;
+        own = l.own;
+        tail = l.tail;
+        split = ap (λ us. T ∷ us) l.split;
+        letter = l.letter;
+        rest = l.rest;
+      })
 ]
 last_letter (t ∷ ts) = elim (last_letter ts) [
   | inl none ↦ inr (record { front = []; own = t; tail = ts; split = refl; letter = refl; rest = none })
-  | inr l ↦ inr (record { front = t ∷ l.front; own = l.own; tail = l.tail; split = ap (λ us. t ∷ us) l.split; letter = l.letter; rest = l.rest })
+  | inr l ↦ inr
+      (record {
+        front = t ∷ l.front;
+        own = l.own;
+        tail = l.tail;
+        split = ap (λ us. t ∷ us) l.split;
+        letter = l.letter;
+        rest = l.rest;
+      })
 ]
 
-last-seen : (ts : List hb_arabic_joining_type_t) (l : LastLetter ts) → nearest_letter (reverse ts) ≡ Some (record { own = l.own; before = reverse l.front })
+last-seen : (ts : List hb_arabic_joining_type_t) (l : LastLetter ts)
+    → nearest_letter (reverse ts) ≡ Some (record { own = l.own; before = reverse l.front })
 last-seen ts l =
-    ap nearest_letter (ap reverse l.split ∙ reverse-append l.front (l.own ∷ l.tail) ∙ ap (λ us. us ++ reverse l.front) (reverse-append (l.own ∷ []) l.tail) ∙ append_assoc (reverse l.tail) (l.own ∷ []) (reverse l.front))
+    ap nearest_letter (ap reverse l.split ∙ reverse-append l.front (l.own ∷ l.tail)
+    ∙ ap (λ us. us ++ reverse l.front) (reverse-append (l.own ∷ []) l.tail)
+    ∙ append_assoc (reverse l.tail) (l.own ∷ []) (reverse l.front))
     ∙ letter-transparent (reverse l.tail) (l.own ∷ reverse l.front) (nearest-reverse l.tail l.rest)
-    ∙ ap (λ b. cond b (nearest_letter (reverse l.front)) (Some (record { own = l.own; before = reverse l.front }))) l.letter
+    ∙ ap (λ b. cond b (nearest_letter (reverse l.front)) (Some (record { own = l.own; before = reverse l.front })))
+    l.letter
 
 -- the first half: it keeps its forms without what follows exactly where its last letter does
 middle : (xs zs : List ℕ) (a b : ℕ) → xs ++ a ∷ zs ≡ xs ++ b ∷ zs → a ≡ b
 middle [] zs a b e = cc
 middle (x ∷ xs) zs a b e = middle xs zs a b (cc)
 
-changed-from : (context front : List hb_arabic_joining_type_t) (own : hb_arabic_joining_type_t) (o : Option hb_arabic_joining_type_t) → let k : Letter = record { own = own; before = reverse front } in changed context (Some k) o ≡ false → act (nearest (reverse front ++ context)) own o ≡ act (nearest (reverse front ++ context)) own None
+changed-from : (context front : List hb_arabic_joining_type_t) (own : hb_arabic_joining_type_t)
+    (o : Option hb_arabic_joining_type_t) → let k : Letter =
+    record { own = own; before = reverse front } in changed context (Some k) o ≡ false
+    → act (nearest (reverse front ++ context)) own o ≡ act (nearest (reverse front ++ context)) own None
 changed-from context front own None e = refl
 changed-from context front own (Some t) e = same _ _ e
 
-changed-to : (context front : List hb_arabic_joining_type_t) (own : hb_arabic_joining_type_t) (o : Option hb_arabic_joining_type_t) → act (nearest (reverse front ++ context)) own o ≡ act (nearest (reverse front ++ context)) own None → let k : Letter = record { own = own; before = reverse front } in changed context (Some k) o ≡ false
+changed-to : (context front : List hb_arabic_joining_type_t) (own : hb_arabic_joining_type_t)
+    (o : Option hb_arabic_joining_type_t) → act (nearest (reverse front ++ context)) own o
+    ≡ act (nearest (reverse front ++ context)) own None → let k : Letter =
+    record { own = own; before = reverse front } in changed context (Some k) o ≡ false
 changed-to context front own None e = refl
 changed-to context front own (Some t) e = not_apart _ _ e
 
-no-forms : (context ts after : List hb_arabic_joining_type_t) → nearest ts ≡ None → forms context ts after ≡ forms context ts []
+no-forms : (context ts after : List hb_arabic_joining_type_t) → nearest ts ≡ None
+    → forms context ts after ≡ forms context ts []
 no-forms context [] after e = refl
 no-forms context (T ∷ ts) after e = ap (λ fs. NONE ∷ fs) (no-forms (T ∷ context) ts after e)
 no-forms context (t ∷ ts) after e = cc
 
-pub first-keeps : (context ts after : List hb_arabic_joining_type_t) → changed context (nearest_letter (reverse ts)) (nearest after) ≡ false → forms context ts after ≡ forms context ts []
+pub first-keeps : (context ts after : List hb_arabic_joining_type_t)
+    → changed context (nearest_letter (reverse ts)) (nearest after) ≡ false → forms context ts after ≡ forms context ts
+    []
 first-keeps context ts after e = elim (last_letter ts) [
   | inl none ↦ no-forms context ts after none
   | inr l ↦
-      let at = changed-from context l.front l.own (nearest after) (sym (ap (λ o. changed context o (nearest after)) (last-seen ts l)) ∙ e) in
+      let at = changed-from context l.front l.own (nearest after)
+      (sym (ap (λ o. changed context o (nearest after)) (last-seen ts l)) ∙ e) in
       ap (λ us. forms context us after) l.split
       ∙ forms-parts context l.front l.own l.tail after l.letter l.rest
       ∙ ap (λ a. forms context l.front (l.own ∷ []) ++ a ∷ replicate (length l.tail) NONE) at
@@ -76,31 +106,40 @@ first-keeps context ts after e = elim (last_letter ts) [
       ∙ sym (ap (λ us. forms context us []) l.split)
 ]
 
-pub first-kept : (context ts after : List hb_arabic_joining_type_t) → forms context ts after ≡ forms context ts [] → changed context (nearest_letter (reverse ts)) (nearest after) ≡ false
+pub first-kept : (context ts after : List hb_arabic_joining_type_t) → forms context ts after ≡ forms context ts []
+    → changed context (nearest_letter (reverse ts)) (nearest after) ≡ false
 first-kept context ts after e = elim (last_letter ts) [
   | inl none ↦ ap (λ o. changed context o (nearest after)) (no_letter (reverse ts) (nearest-reverse ts none))
   | inr l ↦
-      let parts : forms context l.front (l.own ∷ []) ++ act (nearest (reverse l.front ++ context)) l.own (nearest after) ∷ replicate (length l.tail) NONE ≡ forms context l.front (l.own ∷ []) ++ act (nearest (reverse l.front ++ context)) l.own None ∷ replicate (length l.tail) NONE =
+      let parts : forms context l.front (l.own ∷ []) ++ act (nearest (reverse l.front ++ context)) l.own (nearest after)
+      ∷ replicate (length l.tail) NONE ≡ forms context l.front (l.own ∷ [])
+      ++ act (nearest (reverse l.front ++ context)) l.own None ∷ replicate (length l.tail) NONE =
       sym (ap (λ us. forms context us after) l.split ∙ forms-parts context l.front l.own l.tail after l.letter l.rest)
       ∙ e
       ∙ (ap (λ us. forms context us []) l.split ∙ forms-parts context l.front l.own l.tail [] l.letter l.rest) in
       ap (λ o. changed context o (nearest after)) (last-seen ts l)
-      ∙ changed-to context l.front l.own (nearest after) (middle (forms context l.front (l.own ∷ [])) (replicate (length l.tail) NONE) _ _ parts)
+      ∙ changed-to context l.front l.own (nearest after)
+      (middle (forms context l.front (l.own ∷ [])) (replicate (length l.tail) NONE) _ _ parts)
 ]
 
 -- the second half: whether its first letter has another form without what stands before
 abbrev pub lost : Option hb_arabic_joining_type_t → List hb_arabic_joining_type_t → List hb_arabic_joining_type_t → Bool
 lost before [] after = false
-lost before (t ∷ ts) after = cond (is_transparent t) (lost before ts after) (not (eqb (act before t (nearest (ts ++ after))) (act None t (nearest (ts ++ after)))))
+lost before (t ∷ ts) after =
+    cond (is_transparent t) (lost before ts after)
+    (not (eqb (act before t (nearest (ts ++ after))) (act None t (nearest (ts ++ after)))))
 
-pub second-keeps : (seen others us after : List hb_arabic_joining_type_t) → nearest others ≡ None → lost (nearest seen) us after ≡ false → forms seen us after ≡ forms others us after
+pub second-keeps : (seen others us after : List hb_arabic_joining_type_t) → nearest others ≡ None
+    → lost (nearest seen) us after ≡ false → forms seen us after ≡ forms others us after
 second-keeps seen others [] after n e = refl
 second-keeps seen others (T ∷ us) after n e = ap (λ fs. NONE ∷ fs) (second-keeps (T ∷ seen) (T ∷ others) us after n e)
 second-keeps seen others (t ∷ us) after n e =
     ap (λ a. a ∷ forms (t ∷ seen) us after) (same _ _ e ∙ sym (ap (λ o. act o t (nearest (us ++ after))) n))
-    ∙ ap (λ fs. act (nearest others) t (nearest (us ++ after)) ∷ fs) (forms-contexts (t ∷ seen) (t ∷ others) us after after refl refl)
+    ∙ ap (λ fs. act (nearest others) t (nearest (us ++ after)) ∷ fs)
+    (forms-contexts (t ∷ seen) (t ∷ others) us after after refl refl)
 
-pub second-kept : (seen others us after : List hb_arabic_joining_type_t) → nearest others ≡ None → forms seen us after ≡ forms others us after → lost (nearest seen) us after ≡ false
+pub second-kept : (seen others us after : List hb_arabic_joining_type_t) → nearest others ≡ None
+    → forms seen us after ≡ forms others us after → lost (nearest seen) us after ≡ false
 second-kept seen others [] after n e = refl
 second-kept seen others (T ∷ us) after n e = second-kept (T ∷ seen) (T ∷ others) us after n (cc)
 second-kept seen others (t ∷ us) after n e =
@@ -112,11 +151,17 @@ abbrev pub act_by : Option hb_arabic_joining_type_t → hb_arabic_joining_type_t
 act_by before t true = act before t (Some R)
 act_by before t false = act before t None
 
-pub act-by : (before : Option hb_arabic_joining_type_t) (t : hb_arabic_joining_type_t) (after : Option hb_arabic_joining_type_t) → act before t after ≡ act_by before t (joins_back after)
-act-by before L after = elim (joins_back after) as (λ b. form false b ≡ act_by before L b) [ true ↦ refl | false ↦ refl ]
-act-by before D after = elim (joins_back after) as (λ b. form (joins_on before) b ≡ act_by before D b) [ true ↦ refl | false ↦ refl ]
-act-by before GroupAlaph after = elim (joins_back after) as (λ b. cond b (alaph_inside before) (alaph_after before) ≡ act_by before GroupAlaph b) [ true ↦ refl | false ↦ refl ]
-act-by before t after = elim (joins_back after) as (λ b. act before t None ≡ act_by before t b) [ true ↦ refl | false ↦ refl ]
+pub act-by : (before : Option hb_arabic_joining_type_t) (t : hb_arabic_joining_type_t)
+    (after : Option hb_arabic_joining_type_t) → act before t after ≡ act_by before t (joins_back after)
+act-by before L after = elim (joins_back after) as (λ b. form false b ≡ act_by before L b)
+    [ true ↦ refl | false ↦ refl ]
+act-by before D after = elim (joins_back after) as (λ b. form (joins_on before) b ≡ act_by before D b)
+    [ true ↦ refl | false ↦ refl ]
+act-by before GroupAlaph after =
+    elim (joins_back after) as (λ b. cond b (alaph_inside before) (alaph_after before) ≡ act_by before GroupAlaph b)
+    [ true ↦ refl | false ↦ refl ]
+act-by before t after = elim (joins_back after) as (λ b. act before t None ≡ act_by before t b)
+    [ true ↦ refl | false ↦ refl ]
 
 -- the first letter of the text: the forms that it can take from the context
 alaph-takes : (b : Option hb_arabic_joining_type_t) → is_taken (alaph_after b) ≡ not (eqb (alaph_after b) ISOL)
@@ -124,26 +169,35 @@ alaph-takes None = refl
 alaph-takes (Some U) = refl
 alaph-takes (Some _) = refl
 
-first-takes : (b : Option hb_arabic_joining_type_t) (t : hb_arabic_joining_type_t) (joins : Bool) → is_taken (act_by b t joins) ≡ not (eqb (act_by b t joins) (act_by None t joins))
+first-takes : (b : Option hb_arabic_joining_type_t) (t : hb_arabic_joining_type_t) (joins : Bool)
+    → is_taken (act_by b t joins) ≡ not (eqb (act_by b t joins) (act_by None t joins))
 first-takes b U true = refl
 first-takes b L true = refl
 first-takes b T true = refl
 first-takes b X true = refl
-first-takes b GroupAlaph true = elim (joins_on b) as (λ j. is_taken (cond j MED2 ISOL) ≡ not (eqb (cond j MED2 ISOL) ISOL)) [ true ↦ refl | false ↦ refl ]
-first-takes b D true = elim (joins_on b) as (λ j. is_taken (form j true) ≡ not (eqb (form j true) (form false true))) [ true ↦ refl | false ↦ refl ]
-first-takes b t true = elim (joins_on b) as (λ j. is_taken (form j false) ≡ not (eqb (form j false) (form false false))) [ true ↦ refl | false ↦ refl ]
+first-takes b GroupAlaph true =
+    elim (joins_on b) as (λ j. is_taken (cond j MED2 ISOL) ≡ not (eqb (cond j MED2 ISOL) ISOL))
+    [ true ↦ refl | false ↦ refl ]
+first-takes b D true = elim (joins_on b) as (λ j. is_taken (form j true) ≡ not (eqb (form j true) (form false true)))
+    [ true ↦ refl | false ↦ refl ]
+first-takes b t true = elim (joins_on b) as (λ j. is_taken (form j false) ≡ not (eqb (form j false) (form false false)))
+    [ true ↦ refl | false ↦ refl ]
 first-takes b U false = refl
 first-takes b L false = refl
 first-takes b T false = refl
 first-takes b X false = refl
 first-takes b GroupAlaph false = alaph-takes b
-first-takes b t false = elim (joins_on b) as (λ j. is_taken (form j false) ≡ not (eqb (form j false) (form false false))) [ true ↦ refl | false ↦ refl ]
+first-takes b t false =
+    elim (joins_on b) as (λ j. is_taken (form j false) ≡ not (eqb (form j false) (form false false)))
+    [ true ↦ refl | false ↦ refl ]
 
 -- two letters: where the second leaves the form of the first as it is, it takes one from it as FIN2 or FIN3 alone
 abbrev change : Option hb_arabic_joining_type_t → hb_arabic_joining_type_t → hb_arabic_joining_type_t → Bool
 change b own t = not (eqb (act b own (Some t)) (act b own None))
 
-pair-takes : (b : Option hb_arabic_joining_type_t) (own t : hb_arabic_joining_type_t) (joins : Bool) → (change b own t || is_second_or_third (act_by (Some own) t joins)) ≡ (change b own t || not (eqb (act_by (Some own) t joins) (act_by None t joins)))
+pair-takes : (b : Option hb_arabic_joining_type_t) (own t : hb_arabic_joining_type_t) (joins : Bool)
+    → (change b own t || is_second_or_third (act_by (Some own) t joins))
+    ≡ (change b own t || not (eqb (act_by (Some own) t joins) (act_by None t joins)))
 pair-takes b own U true = refl
 pair-takes b own T true = refl
 pair-takes b own X true = refl
@@ -153,7 +207,10 @@ pair-takes b own T false = refl
 pair-takes b own X false = refl
 pair-takes b own L false = refl
 pair-takes b L t joins = refl
-pair-takes b D t joins = elim (joins_on b) as (λ j. (not (eqb (form j true) (form j false)) || is_second_or_third (act_by (Some D) t joins)) ≡ (not (eqb (form j true) (form j false)) || not (eqb (act_by (Some D) t joins) (act_by None t joins)))) [ true ↦ refl | false ↦ refl ]
+pair-takes b D t joins =
+    elim (joins_on b) as (λ j. (not (eqb (form j true) (form j false)) || is_second_or_third (act_by (Some D) t joins))
+    ≡ (not (eqb (form j true) (form j false)) || not (eqb (act_by (Some D) t joins) (act_by None t joins))))
+    [ true ↦ refl | false ↦ refl ]
 pair-takes b own t true = refl
 pair-takes b own t false = refl
 
@@ -167,13 +224,19 @@ fits context [] = tt
 fits context (T ∷ ts) = fits context ts
 fits context (t ∷ ts) = refl
 
--- beside joining's own calls, those of Sound reach the first letter of the second half exactly where it has another form without what stands before
-pub takes-lost : (context : List hb_arabic_joining_type_t) (o : Option Letter) (before : Option hb_arabic_joining_type_t) (us after : List hb_arabic_joining_type_t) → Fits o before → (changed context o (nearest (us ++ after)) || first_takes o before us after) ≡ (changed context o (nearest (us ++ after)) || lost before us after)
+-- beside joining's own calls, those of Sound reach the first letter of the second half exactly
+-- where it has another form without what stands before
+pub takes-lost : (context : List hb_arabic_joining_type_t) (o : Option Letter)
+    (before : Option hb_arabic_joining_type_t) (us after : List hb_arabic_joining_type_t) → Fits o before
+    → (changed context o (nearest (us ++ after)) || first_takes o before us after)
+    ≡ (changed context o (nearest (us ++ after)) || lost before us after)
 takes-lost context o before [] after f = refl
 takes-lost context o before (T ∷ us) after f = takes-lost context o before us after f
 takes-lost context None before (t ∷ us) after f =
     let n = nearest (us ++ after) in
-    ap is_taken (act-by before t n) ∙ first-takes before t (joins_back n) ∙ ap (λ a. not (eqb a (act_by None t (joins_back n)))) (sym (act-by before t n)) ∙ ap (λ a. not (eqb (act before t n) a)) (sym (act-by None t n))
+    ap is_taken (act-by before t n) ∙ first-takes before t (joins_back n)
+    ∙ ap (λ a. not (eqb a (act_by None t (joins_back n)))) (sym (act-by before t n))
+    ∙ ap (λ a. not (eqb (act before t n) a)) (sym (act-by None t n))
 takes-lost context (Some k) before (t ∷ us) after f =
     let n = nearest (us ++ after) in
     let b = nearest (k.before ++ context) in

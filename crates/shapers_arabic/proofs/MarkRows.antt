@@ -33,38 +33,48 @@ hamza_above = refl
 abbrev five : List hb_glyph_info_t
 five = map mark ((0x064E, 31, 0) ∷ (0x0655, 220, 1) ∷ (0x065C, 220, 2) ∷ (0x0654, 230, 3) ∷ (0x0653, 230, 4) ∷ [])
 
-both_hamzas : view (with_modifiers_first (split_marks five)) ≡ (0x0655, 25) ∷ (0x0654, 26) ∷ (0x064E, 31) ∷ (0x065C, 220) ∷ (0x0653, 230) ∷ []
+both_hamzas : view (with_modifiers_first (split_marks five)) ≡ (0x0655, 25) ∷ (0x0654, 26) ∷ (0x064E, 31)
+    ∷ (0x065C, 220) ∷ (0x0653, 230) ∷ []
 both_hamzas = refl
 
-their_clusters : clusters (run_step MonotoneGraphemes (arabic_mark_step (split_marks five)) five) ≡ 0 ∷ 0 ∷ 0 ∷ 0 ∷ 4 ∷ []
+their_clusters : clusters (run_step MonotoneGraphemes (arabic_mark_step (split_marks five)) five) ≡ 0 ∷ 0 ∷ 0 ∷ 0 ∷ 4
+    ∷ []
 their_clusters = refl
 
-their_places : map (λ g. g.glyph_id) (run_step MonotoneGraphemes (arabic_mark_step (split_marks five)) five) ≡ 0x0655 ∷ 0x0654 ∷ 0x064E ∷ 0x065C ∷ 0x0653 ∷ []
+their_places : map (λ g. g.glyph_id) (run_step MonotoneGraphemes (arabic_mark_step (split_marks five)) five)
+    ≡ 0x0655 ∷ 0x0654 ∷ 0x064E ∷ 0x065C ∷ 0x0653 ∷ []
 their_places = refl
 
-clusters_at_characters : clusters (run_step Characters (arabic_mark_step (split_marks five)) five) ≡ 1 ∷ 3 ∷ 0 ∷ 2 ∷ 4 ∷ []
+clusters_at_characters : clusters (run_step Characters (arabic_mark_step (split_marks five)) five) ≡ 1 ∷ 3 ∷ 0 ∷ 2 ∷ 4
+    ∷ []
 clusters_at_characters = refl
 
 -- the class decides, and the list
-of_another_class : map (is_modifier_of 220) (map mark ((0x0655, 220, 0) ∷ (0x0655, 230, 0) ∷ (0x0656, 220, 0) ∷ (0x08F3, 220, 0) ∷ [])) ≡ true ∷ false ∷ false ∷ true ∷ []
+of_another_class : map (is_modifier_of 220)
+    (map mark ((0x0655, 220, 0) ∷ (0x0655, 230, 0) ∷ (0x0656, 220, 0) ∷ (0x08F3, 220, 0) ∷ [])) ≡ true ∷ false ∷ false
+    ∷ true ∷ []
 of_another_class = refl
 
 -- the list, mark by mark
-the_modifiers : modifiers ≡ 1620 ∷ 1621 ∷ 1624 ∷ 1756 ∷ 1763 ∷ 1767 ∷ 1768 ∷ 2250 ∷ 2251 ∷ 2253 ∷ 2254 ∷ 2255 ∷ 2259 ∷ 2291 ∷ []
+the_modifiers : modifiers ≡ 1620 ∷ 1621 ∷ 1624 ∷ 1756 ∷ 1763 ∷ 1767 ∷ 1768 ∷ 2250 ∷ 2251 ∷ 2253 ∷ 2254 ∷ 2255 ∷ 2259
+    ∷ 2291 ∷ []
 the_modifiers = refl
 
 above : ABOVE ≡ 230
 above = refl
 
 -- a bound is no class below it
-bounds : map (has_lower_class 220) (map mark ((0x064E, 219, 0) ∷ (0x064E, 220, 0) ∷ (0x064E, 0, 0) ∷ [])) ≡ true ∷ false ∷ true ∷ []
+bounds : map (has_lower_class 220) (map mark ((0x064E, 219, 0) ∷ (0x064E, 220, 0) ∷ (0x064E, 0, 0) ∷ []))
+    ≡ true ∷ false ∷ true ∷ []
 bounds = refl
 
 -- the five parts
 abbrev parts : List hb_glyph_info_t → List (List (ℕ × ℕ))
-parts gs = let s = split_marks gs in view s.low ∷ view s.modifiers_below ∷ view s.middle ∷ view s.modifiers_above ∷ view s.rest ∷ []
+parts gs = let s = split_marks gs in view s.low ∷ view s.modifiers_below ∷ view s.middle ∷ view s.modifiers_above
+    ∷ view s.rest ∷ []
 
-parts_of_five : parts five ≡ ((0x064E, 31) ∷ []) ∷ ((0x0655, 220) ∷ []) ∷ ((0x065C, 220) ∷ []) ∷ ((0x0654, 230) ∷ []) ∷ ((0x0653, 230) ∷ []) ∷ []
+parts_of_five : parts five ≡ ((0x064E, 31) ∷ []) ∷ ((0x0655, 220) ∷ []) ∷ ((0x065C, 220) ∷ []) ∷ ((0x0654, 230) ∷ [])
+    ∷ ((0x0653, 230) ∷ []) ∷ []
 parts_of_five = refl
 
 -- modifiers behind another mark of 220 are in no part of theirs, nor those of 230 behind another of 230
@@ -75,16 +85,19 @@ none_comes_forward : view (with_modifiers_first (split_marks hidden)) ≡ view h
 unfolding hidden
 none_comes_forward = refl
 
-no_parts : parts hidden ≡ [] ∷ [] ∷ ((0x065C, 220) ∷ (0x0655, 220) ∷ []) ∷ [] ∷ ((0x0653, 230) ∷ (0x0654, 230) ∷ (0x0655, 220) ∷ []) ∷ []
+no_parts : parts hidden ≡ [] ∷ [] ∷ ((0x065C, 220) ∷ (0x0655, 220) ∷ []) ∷ []
+    ∷ ((0x0653, 230) ∷ (0x0654, 230) ∷ (0x0655, 220) ∷ []) ∷ []
 unfolding hidden
 no_parts = refl
 
 -- a class above 230 ends all parts but the last
-ended : parts (map mark ((0x0654, 232, 0) ∷ (0x0654, 230, 1) ∷ [])) ≡ [] ∷ [] ∷ [] ∷ [] ∷ ((0x0654, 232) ∷ (0x0654, 230) ∷ []) ∷ []
+ended : parts (map mark ((0x0654, 232, 0) ∷ (0x0654, 230, 1) ∷ [])) ≡ [] ∷ [] ∷ [] ∷ []
+    ∷ ((0x0654, 232) ∷ (0x0654, 230) ∷ []) ∷ []
 ended = refl
 
 -- what merges: nothing for modifiers that aren't there
-passed_rows : passed 1 2 3 4 ∷ passed 1 0 3 4 ∷ passed 1 2 3 0 ∷ passed 1 0 3 0 ∷ [] ≡ ((0, 3) ∷ (2, 10) ∷ []) ∷ ((0, 8) ∷ []) ∷ ((0, 3) ∷ []) ∷ [] ∷ []
+passed_rows : passed 1 2 3 4 ∷ passed 1 0 3 4 ∷ passed 1 2 3 0 ∷ passed 1 0 3 0 ∷ [] ≡ ((0, 3) ∷ (2, 10) ∷ [])
+    ∷ ((0, 8) ∷ []) ∷ ((0, 3) ∷ []) ∷ [] ∷ []
 passed_rows = refl
 
 merged_for_rows : merged_for 0 3 5 ∷ merged_for 1 3 5 ∷ merged_for 2 3 5 ∷ [] ≡ [] ∷ ((3, 5) ∷ []) ∷ ((3, 5) ∷ []) ∷ []
@@ -93,12 +106,15 @@ merged_for_rows = refl
 places_row : places_moved 1 2 3 1 2 ≡ 1 ∷ 2 ∷ 6 ∷ 0 ∷ 3 ∷ 4 ∷ 5 ∷ 7 ∷ 8 ∷ []
 places_row = refl
 
-step_row : arabic_mark_step (split_marks five) ≡ record { merged_first = (0, 2) ∷ (1, 4) ∷ []; places = 1 ∷ 3 ∷ 0 ∷ 2 ∷ 4 ∷ []; merged_then = [] }
+step_row : arabic_mark_step (split_marks five)
+    ≡ record { merged_first = (0, 2) ∷ (1, 4) ∷ []; places = 1 ∷ 3 ∷ 0 ∷ 2 ∷ 4 ∷ []; merged_then = [] }
 step_row = refl
 
 -- with a base before and a letter behind: the step over all places, and the whole text
 abbrev text : List ℕ → List hb_glyph_info_t
-text (a ∷ (b ∷ (c ∷ (d ∷ (e ∷ (f ∷ (g ∷ []))))))) = map mark ((0x0628, 0, a) ∷ (0x064E, 31, b) ∷ (0x0655, 220, c) ∷ (0x065C, 220, d) ∷ (0x0654, 230, e) ∷ (0x0653, 230, f) ∷ (0x0628, 0, g) ∷ [])
+text (a ∷ (b ∷ (c ∷ (d ∷ (e ∷ (f ∷ (g ∷ []))))))) =
+    map mark ((0x0628, 0, a) ∷ (0x064E, 31, b) ∷ (0x0655, 220, c) ∷ (0x065C, 220, d) ∷ (0x0654, 230, e)
+    ∷ (0x0653, 230, f) ∷ (0x0628, 0, g) ∷ [])
 text _ = []
 
 abbrev rising : List hb_glyph_info_t
@@ -107,40 +123,50 @@ rising = text (0 ∷ 1 ∷ 2 ∷ 3 ∷ 4 ∷ 5 ∷ 6 ∷ [])
 abbrev reordered : BufferClusterLevel → List ℕ → List hb_glyph_info_t
 reordered level cs = marks_reordered 1 6 (marks_merged level 1 6 (text cs))
 
-text_step_row : text_step 1 6 rising ≡ record { merged_first = (1, 3) ∷ (2, 5) ∷ []; places = 0 ∷ 2 ∷ 4 ∷ 1 ∷ 3 ∷ 5 ∷ 6 ∷ []; merged_then = [] }
+text_step_row : text_step 1 6 rising
+    ≡ record { merged_first = (1, 3) ∷ (2, 5) ∷ []; places = 0 ∷ 2 ∷ 4 ∷ 1 ∷ 3 ∷ 5 ∷ 6 ∷ []; merged_then = [] }
 text_step_row = refl
 
-text_row : view (reordered MonotoneGraphemes (0 ∷ 1 ∷ 2 ∷ 3 ∷ 4 ∷ 5 ∷ 6 ∷ [])) ≡ (0x0628, 0) ∷ (0x0655, 25) ∷ (0x0654, 26) ∷ (0x064E, 31) ∷ (0x065C, 220) ∷ (0x0653, 230) ∷ (0x0628, 0) ∷ []
+text_row : view (reordered MonotoneGraphemes (0 ∷ 1 ∷ 2 ∷ 3 ∷ 4 ∷ 5 ∷ 6 ∷ [])) ≡ (0x0628, 0) ∷ (0x0655, 25)
+    ∷ (0x0654, 26) ∷ (0x064E, 31) ∷ (0x065C, 220) ∷ (0x0653, 230) ∷ (0x0628, 0) ∷ []
 text_row = refl
 
 -- its clusters at each level, rising, falling and repeated
-graphemes_rising : clusters (reordered MonotoneGraphemes (0 ∷ 1 ∷ 2 ∷ 3 ∷ 4 ∷ 5 ∷ 6 ∷ [])) ≡ 0 ∷ 1 ∷ 1 ∷ 1 ∷ 1 ∷ 5 ∷ 6 ∷ []
+graphemes_rising : clusters (reordered MonotoneGraphemes (0 ∷ 1 ∷ 2 ∷ 3 ∷ 4 ∷ 5 ∷ 6 ∷ [])) ≡ 0 ∷ 1 ∷ 1 ∷ 1 ∷ 1 ∷ 5 ∷ 6
+    ∷ []
 graphemes_rising = refl
 
-characters_rising : clusters (reordered MonotoneCharacters (0 ∷ 1 ∷ 2 ∷ 3 ∷ 4 ∷ 5 ∷ 6 ∷ [])) ≡ 0 ∷ 1 ∷ 1 ∷ 1 ∷ 1 ∷ 5 ∷ 6 ∷ []
+characters_rising : clusters (reordered MonotoneCharacters (0 ∷ 1 ∷ 2 ∷ 3 ∷ 4 ∷ 5 ∷ 6 ∷ [])) ≡ 0 ∷ 1 ∷ 1 ∷ 1 ∷ 1 ∷ 5 ∷ 6
+    ∷ []
 characters_rising = refl
 
 unmerged_rising : clusters (reordered Characters (0 ∷ 1 ∷ 2 ∷ 3 ∷ 4 ∷ 5 ∷ 6 ∷ [])) ≡ 0 ∷ 2 ∷ 4 ∷ 1 ∷ 3 ∷ 5 ∷ 6 ∷ []
 unmerged_rising = refl
 
-graphemes_falling : clusters (reordered MonotoneGraphemes (6 ∷ 5 ∷ 4 ∷ 3 ∷ 2 ∷ 1 ∷ 0 ∷ [])) ≡ 6 ∷ 2 ∷ 2 ∷ 2 ∷ 2 ∷ 1 ∷ 0 ∷ []
+graphemes_falling : clusters (reordered MonotoneGraphemes (6 ∷ 5 ∷ 4 ∷ 3 ∷ 2 ∷ 1 ∷ 0 ∷ [])) ≡ 6 ∷ 2 ∷ 2 ∷ 2 ∷ 2 ∷ 1 ∷ 0
+    ∷ []
 graphemes_falling = refl
 
-characters_falling : clusters (reordered MonotoneCharacters (6 ∷ 5 ∷ 4 ∷ 3 ∷ 2 ∷ 1 ∷ 0 ∷ [])) ≡ 6 ∷ 2 ∷ 2 ∷ 2 ∷ 2 ∷ 1 ∷ 0 ∷ []
+characters_falling : clusters (reordered MonotoneCharacters (6 ∷ 5 ∷ 4 ∷ 3 ∷ 2 ∷ 1 ∷ 0 ∷ [])) ≡ 6 ∷ 2 ∷ 2 ∷ 2 ∷ 2 ∷ 1
+    ∷ 0 ∷ []
 characters_falling = refl
 
 unmerged_falling : clusters (reordered Characters (6 ∷ 5 ∷ 4 ∷ 3 ∷ 2 ∷ 1 ∷ 0 ∷ [])) ≡ 6 ∷ 4 ∷ 2 ∷ 5 ∷ 3 ∷ 1 ∷ 0 ∷ []
 unmerged_falling = refl
 
 -- a merge reaches back and on over the clusters of its ends
-graphemes_repeated : clusters (reordered MonotoneGraphemes (3 ∷ 3 ∷ 2 ∷ 2 ∷ 1 ∷ 1 ∷ 1 ∷ [])) ≡ 1 ∷ 1 ∷ 1 ∷ 1 ∷ 1 ∷ 1 ∷ 1 ∷ []
+graphemes_repeated : clusters (reordered MonotoneGraphemes (3 ∷ 3 ∷ 2 ∷ 2 ∷ 1 ∷ 1 ∷ 1 ∷ [])) ≡ 1 ∷ 1 ∷ 1 ∷ 1 ∷ 1 ∷ 1 ∷ 1
+    ∷ []
 graphemes_repeated = refl
 
 unmerged_repeated : clusters (reordered Characters (3 ∷ 3 ∷ 2 ∷ 2 ∷ 1 ∷ 1 ∷ 1 ∷ [])) ≡ 3 ∷ 2 ∷ 1 ∷ 3 ∷ 2 ∷ 1 ∷ 1 ∷ []
 unmerged_repeated = refl
 
 -- with modifiers of one class alone one stretch merges
-one_merge : clusters (marks_reordered 0 3 (marks_merged MonotoneGraphemes 0 3 (map mark ((0x064E, 31, 0) ∷ (0x0655, 220, 1) ∷ (0x0653, 230, 2) ∷ [])))) ≡ 0 ∷ 0 ∷ 2 ∷ []
+one_merge : clusters
+    (marks_reordered 0 3
+    (marks_merged MonotoneGraphemes 0 3 (map mark ((0x064E, 31, 0) ∷ (0x0655, 220, 1) ∷ (0x0653, 230, 2) ∷ []))))
+    ≡ 0 ∷ 0 ∷ 2 ∷ []
 one_merge = refl
 
 hamza_above_merged : clusters (marks_reordered 0 2 (marks_merged MonotoneGraphemes 0 2 two)) ≡ 0 ∷ 0 ∷ []
@@ -162,7 +188,8 @@ full = record {
   marks = record { 0 = 31 };
 }
 
-kept_fields : marks_reordered 0 2 (marks_merged MonotoneGraphemes 0 2 (mark (0x064E, 31, 5) ∷ full ∷ [])) ≡ record full { mask = 16; cluster = 5; modified_combining_class = 25 } ∷ mark (0x064E, 31, 5) ∷ []
+kept_fields : marks_reordered 0 2 (marks_merged MonotoneGraphemes 0 2 (mark (0x064E, 31, 5) ∷ full ∷ []))
+    ≡ record full { mask = 16; cluster = 5; modified_combining_class = 25 } ∷ mark (0x064E, 31, 5) ∷ []
 kept_fields = refl
 
 -- an empty stretch, and one of 32 modifiers
@@ -185,10 +212,12 @@ many_unmerged : clusters (marks_reordered 0 32 (marks_merged Characters 0 32 man
 many_unmerged = refl
 
 -- words of the code
-passed_by_row : passed_by (record { low = 1; modifiers_below = 2; middle = 3; modifiers_above = 4 }) ≡ (0, 3) ∷ (2, 10) ∷ []
+passed_by_row : passed_by (record { low = 1; modifiers_below = 2; middle = 3; modifiers_above = 4 }) ≡ (0, 3) ∷ (2, 10)
+    ∷ []
 passed_by_row = refl
 
-last_first_row : view (last_marks_first 2 25 five) ≡ (0x0654, 25) ∷ (0x0653, 25) ∷ (0x064E, 31) ∷ (0x0655, 220) ∷ (0x065C, 220) ∷ []
+last_first_row : view (last_marks_first 2 25 five) ≡ (0x0654, 25) ∷ (0x0653, 25) ∷ (0x064E, 31) ∷ (0x0655, 220)
+    ∷ (0x065C, 220) ∷ []
 last_first_row = refl
 
 hidden_class : without_class full ≡ record full { modified_combining_class = 0 }

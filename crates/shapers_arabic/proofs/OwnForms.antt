@@ -17,11 +17,13 @@ use Rattle.shapers_arabic.proofs.Selectors.{selectors-free}
 abbrev pub Silent : List ℕ → List hb_arabic_joining_type_t → Type 0
 Silent cs ts = AllByRecursion (λ p. is_selector p.0 ≡ true → is_transparent p.1 ≡ true) (zip cs ts)
 
-pub silent-halves : (cs ds : List ℕ) (ts us : List hb_arabic_joining_type_t) → length ts ≡ length cs → Silent (cs ++ ds) (ts ++ us) → Silent cs ts × Silent ds us
+pub silent-halves : (cs ds : List ℕ) (ts us : List hb_arabic_joining_type_t) → length ts ≡ length cs
+    → Silent (cs ++ ds) (ts ++ us) → Silent cs ts × Silent ds us
 silent-halves [] ds [] us e all = (tt, all)
 silent-halves [] ds (t ∷ ts) us e all = absurd (omega arith)
 silent-halves (c ∷ cs) ds [] us e all = absurd (omega arith)
-silent-halves (c ∷ cs) ds (t ∷ ts) us e all = let rest = silent-halves cs ds ts us (omega arith) all.1 in ((all.0, rest.0), rest.1)
+silent-halves (c ∷ cs) ds (t ∷ ts) us e all = let rest =
+    silent-halves cs ds ts us (omega arith) all.1 in ((all.0, rest.0), rest.1)
 
 -- each selector of these characters has no form
 Formless : List ℕ → List ℕ → Type 0
@@ -33,14 +35,20 @@ act-transparent : (t : hb_arabic_joining_type_t) → is_transparent t ≡ true �
 act-transparent T e = refl
 act-transparent _ e = cc
 
-formless : (cs : List ℕ) (before ts after : List hb_arabic_joining_type_t) → Silent cs ts → Formless cs (forms before ts after)
+formless : (cs : List ℕ) (before ts after : List hb_arabic_joining_type_t) → Silent cs ts
+    → Formless cs (forms before ts after)
 unfolding Formless
 formless [] before ts after all = tt
 formless (c ∷ cs) before [] after all = tt
-formless (c ∷ cs) before (t ∷ ts) after all = (λ s. ap (λ x. act (nearest before) x (nearest (ts ++ after))) (act-transparent t (all.0 s)), formless cs (t ∷ before) ts after all.1)
+formless (c ∷ cs) before (t ∷ ts) after all = (
+  λ s. ap (λ x. act (nearest before) x (nearest (ts ++ after))) (act-transparent t (all.0 s)),
+  formless cs
+      (t ∷ before) ts after all.1,
+)
 
 -- so equal copies come from equal forms, whatever stood before
-copied-own : (before others : List (ℕ × ℕ)) (cs fs hs : List ℕ) → length fs ≡ length cs → length hs ≡ length cs → Formless cs fs → Formless cs hs → selected before (zip cs fs) ≡ selected others (zip cs hs) → fs ≡ hs
+copied-own : (before others : List (ℕ × ℕ)) (cs fs hs : List ℕ) → length fs ≡ length cs → length hs ≡ length cs
+    → Formless cs fs → Formless cs hs → selected before (zip cs fs) ≡ selected others (zip cs hs) → fs ≡ hs
 unfolding Formless
 copied-own before others [] [] [] l m p q e = refl
 copied-own before others [] [] (h ∷ hs) l m p q e = absurd (omega arith)
@@ -48,11 +56,14 @@ copied-own before others [] (f ∷ fs) hs l m p q e = absurd (omega arith)
 copied-own before others (c ∷ cs) [] hs l m p q e = absurd (omega arith)
 copied-own before others (c ∷ cs) (f ∷ fs) [] l m p q e = absurd (omega arith)
 copied-own before others (c ∷ cs) (f ∷ fs) (h ∷ hs) l m p q e =
-    let first : f ≡ h = elim (is_selector c) as (λ b. is_selector c ≡ b → cond b (form_behind before f) f ≡ cond b (form_behind others h) h → f ≡ h) [
+    let first : f ≡ h =
+    elim (is_selector c) as (λ b. is_selector c ≡ b → cond b (form_behind before f) f
+    ≡ cond b (form_behind others h) h → f ≡ h) [
       | true ↦ λ s k. p.0 s ∙ sym (q.0 s)
       | false ↦ λ s k. k
     ] refl (ap (λ xs. get_or xs 0 0) e) in
-    let rest : fs ≡ hs = copied-own ((c, f) ∷ before) ((c, h) ∷ others) cs fs hs (omega arith) (omega arith) p.1 q.1 (ap (drop 1) e) in
+    let rest : fs ≡ hs = copied-own ((c, f) ∷ before) ((c, h) ∷ others) cs fs hs (omega arith) (omega arith) p.1 q.1
+    (ap (drop 1) e) in
     ap (λ x. x ∷ fs) first ∙ ap (λ xs. h ∷ xs) rest
 
 -- two lists in parts of equal lengths
@@ -63,20 +74,30 @@ equal-parts xs ys us vs long e = (
 )
 
 -- the first half of a text, with the script Mongolian or another one
-pub first-own : (b : Bool) (cs : List ℕ) (before ts after behind : List hb_arabic_joining_type_t) → length ts ≡ length cs → (b ≡ true → Silent cs ts) → let fs = forms before ts after in let hs = forms before ts behind in cond b (selected [] (zip cs fs)) fs ≡ cond b (selected [] (zip cs hs)) hs → fs ≡ hs
+pub first-own : (b : Bool) (cs : List ℕ) (before ts after behind : List hb_arabic_joining_type_t)
+    → length ts ≡ length cs → (b ≡ true → Silent cs ts) → let fs = forms before ts after in let hs =
+    forms before ts behind in cond b (selected [] (zip cs fs)) fs ≡ cond b (selected [] (zip cs hs)) hs → fs ≡ hs
 first-own false cs before ts after behind long silent e = e
 first-own true cs before ts after behind long silent e =
-    copied-own [] [] cs (forms before ts after) (forms before ts behind) (length-forms before ts after ∙ long) (length-forms before ts behind ∙ long) (formless cs before ts after (silent refl)) (formless cs before ts behind (silent refl)) e
+    copied-own [] [] cs (forms before ts after) (forms before ts behind) (length-forms before ts after ∙ long)
+    (length-forms before ts behind ∙ long) (formless cs before ts after (silent refl))
+    (formless cs before ts behind (silent refl)) e
 
--- both halves: the forms by the rule are those of the halves, and no selector that opens the second copies a form but its own
+-- both halves: the forms by the rule are those of the halves, and no selector that opens the second
+-- copies a form but its own
 pub record OwnForms (b : Bool) (cs ds fs gs hs ks : List ℕ) : Type 0 where
   pub first : fs ≡ hs
   pub second : gs ≡ ks
   pub free : held_by_calls (length cs) (cond b (selector_flags [] (zip (cs ++ ds) (fs ++ gs))) []) ≡ false
 
-pub halves-own : (b : Bool) (cs ds : List ℕ) (before ts us after behind inner : List hb_arabic_joining_type_t) → 0 < length cs → length ts ≡ length cs → length us ≡ length ds → (b ≡ true → Silent (cs ++ ds) (ts ++ us)) → let fs = forms before ts behind in let gs = forms inner us after in let hs = forms before ts [] in let ks = forms [] us after in cond b (selected [] (zip (cs ++ ds) (fs ++ gs))) (fs ++ gs) ≡ cond b (selected [] (zip cs hs)) hs ++ cond b (selected [] (zip ds ks)) ks → OwnForms b cs ds fs gs hs ks
+pub halves-own : (b : Bool) (cs ds : List ℕ) (before ts us after behind inner : List hb_arabic_joining_type_t)
+    → 0 < length cs → length ts ≡ length cs → length us ≡ length ds → (b ≡ true → Silent (cs ++ ds) (ts ++ us))
+    → let fs = forms before ts behind in let gs = forms inner us after in let hs = forms before ts [] in let ks =
+    forms [] us after in cond b (selected [] (zip (cs ++ ds) (fs ++ gs))) (fs ++ gs)
+    ≡ cond b (selected [] (zip cs hs)) hs ++ cond b (selected [] (zip ds ks)) ks → OwnForms b cs ds fs gs hs ks
 halves-own false cs ds before ts us after behind inner some long more silent e =
-    let parts = equal-parts (forms before ts behind) (forms inner us after) (forms before ts []) (forms [] us after) (length-forms before ts behind ∙ sym (length-forms before ts [])) e in
+    let parts = equal-parts (forms before ts behind) (forms inner us after) (forms before ts []) (forms [] us after)
+    (length-forms before ts behind ∙ sym (length-forms before ts [])) e in
     record { first = parts.0; second = parts.1; free = refl }
 halves-own true cs ds before ts us after behind inner some long more silent e =
     let fs = forms before ts behind in
@@ -90,11 +111,16 @@ halves-own true cs ds before ts us after behind inner some long more silent e =
     let both = silent-halves cs ds ts us long (silent refl) in
     let seen = reverse (zip cs fs) ++ [] in
     let zipped = zip-append cs ds fs gs f_long in
-    let all : selected [] (zip cs fs) ++ selected seen (zip ds gs) ≡ selected [] (zip cs hs) ++ selected [] (zip ds ks) = sym (selected-append [] (zip cs fs) (zip ds gs)) ∙ ap (selected []) (sym zipped) ∙ e in
-    let same : length (selected [] (zip cs fs)) ≡ length (selected [] (zip cs hs)) = length-selected [] (zip cs fs) ∙ omega (arith, length-zip cs fs, length-zip cs hs) ∙ sym (length-selected [] (zip cs hs)) in
-    let parts = equal-parts (selected [] (zip cs fs)) (selected seen (zip ds gs)) (selected [] (zip cs hs)) (selected [] (zip ds ks)) same all in
-    let one = copied-own [] [] cs fs hs f_long h_long (formless cs before ts behind both.0) (formless cs before ts [] both.0) parts.0 in
-    let two = copied-own seen [] ds gs ks g_long k_long (formless ds inner us after both.1) (formless ds [] us after both.1) parts.1 in
+    let all : selected [] (zip cs fs) ++ selected seen (zip ds gs) ≡ selected [] (zip cs hs) ++ selected
+    [] (zip ds ks) = sym (selected-append [] (zip cs fs) (zip ds gs)) ∙ ap (selected []) (sym zipped) ∙ e in
+    let same : length (selected [] (zip cs fs)) ≡ length (selected [] (zip cs hs)) = length-selected [] (zip cs fs)
+    ∙ omega (arith, length-zip cs fs, length-zip cs hs) ∙ sym (length-selected [] (zip cs hs)) in
+    let parts = equal-parts (selected [] (zip cs fs)) (selected seen (zip ds gs)) (selected [] (zip cs hs)) (selected
+    [] (zip ds ks)) same all in
+    let one = copied-own [] [] cs fs hs f_long h_long (formless cs before ts behind both.0) (formless cs before ts
+    [] both.0) parts.0 in
+    let two = copied-own seen
+    [] ds gs ks g_long k_long (formless ds inner us after both.1) (formless ds [] us after both.1) parts.1 in
     let at : length (zip cs fs) ≡ length cs = omega (arith, length-zip cs fs) in
     record {
       first = one;
@@ -102,5 +128,6 @@ halves-own true cs ds before ts us after behind inner some long more silent e =
       free =
           ap (λ ps. held_by_calls (length cs) (selector_flags [] ps)) zipped
           ∙ ap (λ n. held_by_calls n (selector_flags [] (zip cs fs ++ zip ds gs))) (sym at)
-          ∙ selectors-free (zip cs fs) (zip ds gs) (omega arith) (parts.1 ∙ ap (λ xs. selected [] (zip ds xs)) (sym two));
+          ∙ selectors-free (zip cs fs) (zip ds gs) (omega arith) (parts.1
+          ∙ ap (λ xs. selected [] (zip ds xs)) (sym two));
     }

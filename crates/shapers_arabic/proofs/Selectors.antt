@@ -22,57 +22,83 @@ copies before c a = is_selector c && not (eqb (form_behind before a) a)
 abbrev call : List (ℕ × ℕ) → ℕ → ℕ → List FlagCall
 call before c a = cond (copies before c a) (UnsafeToBreak (length before - 1) (suc (length before)) ∷ []) []
 
-selectors-past : (before places : List (ℕ × ℕ)) (p : ℕ) → length before + length places ≤ p → held_by_calls p (selector_flags before places) ≡ false
+selectors-past : (before places : List (ℕ × ℕ)) (p : ℕ) → length before + length places ≤ p
+    → held_by_calls p (selector_flags before places) ≡ false
 selectors-past before [] p h = refl
 selectors-past before ((c, a) ∷ places) p h =
     list_any-append (forbids p) (call before c a) (selector_flags ((c, a) ∷ before) places)
-    ∙ or_with (held_by_calls p (call before c a)) (held_by_calls p (selector_flags ((c, a) ∷ before) places)) false (break_held (copies before c a) (length before - 1) (suc (length before)) p ∙ and_false (copies before c a) _ (past (length before - 1) p (suc (length before)) (omega arith))) (selectors-past ((c, a) ∷ before) places p (omega arith))
+    ∙ or_with (held_by_calls p (call before c a)) (held_by_calls p (selector_flags ((c, a) ∷ before) places)) false
+    (break_held (copies before c a) (length before - 1) (suc (length before)) p
+    ∙ and_false (copies before c a) _ (past (length before - 1) p (suc (length before)) (omega arith)))
+    (selectors-past ((c, a) ∷ before) places p (omega arith))
 
-selectors-from : (before places : List (ℕ × ℕ)) (p : ℕ) → p < length before → held_by_calls p (selector_flags before places) ≡ false
+selectors-from : (before places : List (ℕ × ℕ)) (p : ℕ) → p < length before
+    → held_by_calls p (selector_flags before places) ≡ false
 selectors-from before [] p h = refl
 selectors-from before ((c, a) ∷ places) p h =
     list_any-append (forbids p) (call before c a) (selector_flags ((c, a) ∷ before) places)
-    ∙ or_with (held_by_calls p (call before c a)) (held_by_calls p (selector_flags ((c, a) ∷ before) places)) false (break_held (copies before c a) (length before - 1) (suc (length before)) p ∙ and_false (copies before c a) _ (ahead (length before - 1) p (suc (length before)) (omega arith))) (selectors-from ((c, a) ∷ before) places p (omega arith))
+    ∙ or_with (held_by_calls p (call before c a)) (held_by_calls p (selector_flags ((c, a) ∷ before) places)) false
+    (break_held (copies before c a) (length before - 1) (suc (length before)) p
+    ∙ and_false (copies before c a) _ (ahead (length before - 1) p (suc (length before)) (omega arith)))
+    (selectors-from ((c, a) ∷ before) places p (omega arith))
 
-selectors-here : (before places : List (ℕ × ℕ)) (c a p : ℕ) → 0 < p → p ≡ length before → held_by_calls p (selector_flags before ((c, a) ∷ places)) ≡ copies before c a
+selectors-here : (before places : List (ℕ × ℕ)) (c a p : ℕ) → 0 < p → p ≡ length before
+    → held_by_calls p (selector_flags before ((c, a) ∷ places)) ≡ copies before c a
 selectors-here before places c a p pos at =
     list_any-append (forbids p) (call before c a) (selector_flags ((c, a) ∷ before) places)
-    ∙ or_with (held_by_calls p (call before c a)) (held_by_calls p (selector_flags ((c, a) ∷ before) places)) (copies before c a) (break_held (copies before c a) (length before - 1) (suc (length before)) p ∙ and_true (copies before c a) _ (inside (length before - 1) p (suc (length before)) (omega arith) (omega arith))) (selectors-from ((c, a) ∷ before) places p (omega arith))
+    ∙ or_with (held_by_calls p (call before c a)) (held_by_calls p (selector_flags ((c, a) ∷ before) places))
+    (copies before c a) (break_held (copies before c a) (length before - 1) (suc (length before)) p
+    ∙ and_true (copies before c a) _
+    (inside (length before - 1) p (suc (length before)) (omega arith) (omega arith)))
+    (selectors-from ((c, a) ∷ before) places p (omega arith))
 
 turned_places : (x : ℕ × ℕ) (xs before : List (ℕ × ℕ)) → reverse xs ++ (x ∷ before) ≡ reverse (x ∷ xs) ++ before
-turned_places x xs before = sym (ap (λ r. r ++ before) (reverse-append (x ∷ []) xs) ∙ append_assoc (reverse xs) (x ∷ []) before)
+turned_places x xs before =
+    sym (ap (λ r. r ++ before) (reverse-append (x ∷ []) xs) ∙ append_assoc (reverse xs) (x ∷ []) before)
 
-selectors-append : (before xs ys : List (ℕ × ℕ)) → selector_flags before (xs ++ ys) ≡ selector_flags before xs ++ selector_flags (reverse xs ++ before) ys
+selectors-append : (before xs ys : List (ℕ × ℕ)) → selector_flags before (xs ++ ys) ≡ selector_flags before xs
+    ++ selector_flags (reverse xs ++ before) ys
 selectors-append before [] ys = refl
 selectors-append before ((c, a) ∷ xs) ys =
-    ap (λ calls. call before c a ++ calls) (selectors-append ((c, a) ∷ before) xs ys ∙ ap (λ us. selector_flags ((c, a) ∷ before) xs ++ selector_flags us ys) (turned_places (c, a) xs before))
-    ∙ sym (append_assoc (call before c a) (selector_flags ((c, a) ∷ before) xs) (selector_flags (reverse ((c, a) ∷ xs) ++ before) ys))
+    ap (λ calls. call before c a ++ calls) (selectors-append ((c, a) ∷ before) xs ys
+    ∙ ap (λ us. selector_flags ((c, a) ∷ before) xs ++ selector_flags us ys) (turned_places (c, a) xs before))
+    ∙ sym (append_assoc (call before c a) (selector_flags ((c, a) ∷ before) xs)
+    (selector_flags (reverse ((c, a) ∷ xs) ++ before) ys))
 
 pub selectors-in_order : (before places : List (ℕ × ℕ)) → AllByRecursion InOrder (selector_flags before places)
 selectors-in_order before [] = tt
 selectors-in_order before ((c, a) ∷ places) =
-    let here : AllByRecursion InOrder (call before c a) = elim (copies before c a) as (λ b. AllByRecursion InOrder (cond b (UnsafeToBreak (length before - 1) (suc (length before)) ∷ []) [])) [ true ↦ (omega arith, tt) | false ↦ tt ] in
-    all-append InOrder (call before c a) (selector_flags ((c, a) ∷ before) places) here (selectors-in_order ((c, a) ∷ before) places)
+    let here : AllByRecursion InOrder (call before c a) =
+    elim (copies before c a) as (λ b. AllByRecursion InOrder
+    (cond b (UnsafeToBreak (length before - 1) (suc (length before)) ∷ []) []))
+    [ true ↦ (omega arith, tt) | false ↦ tt ] in
+    all-append InOrder (call before c a) (selector_flags ((c, a) ∷ before) places) here
+    (selectors-in_order ((c, a) ∷ before) places)
 
 -- where the first place copies no form but its own, nothing before the text counts
-own-form : (before : List (ℕ × ℕ)) (c a : ℕ) → copies before c a ≡ false → cond (is_selector c) (form_behind before a) a ≡ a
-own-form before c a e = elim (is_selector c) as (λ b. (b && not (eqb (form_behind before a) a)) ≡ false → cond b (form_behind before a) a ≡ a) [
-  | true ↦ λ f. eqb-true (form_behind before a) a (not-false _ f)
-  | false ↦ λ f. refl
-] e
+own-form : (before : List (ℕ × ℕ)) (c a : ℕ) → copies before c a ≡ false → cond (is_selector c) (form_behind before a) a
+    ≡ a
+own-form before c a e = elim (is_selector c) as (λ b. (b && not (eqb (form_behind before a) a)) ≡ false
+    → cond b (form_behind before a) a ≡ a) [
+      | true ↦ λ f. eqb-true (form_behind before a) a (not-false _ f)
+      | false ↦ λ f. refl
+    ] e
 
 always : (b : Bool) (a : ℕ) → cond b a a ≡ a
 always true a = refl
 always false a = refl
 
-selected-from : (before places : List (ℕ × ℕ)) (c a : ℕ) → copies before c a ≡ false → selected before ((c, a) ∷ places) ≡ selected [] ((c, a) ∷ places)
+selected-from : (before places : List (ℕ × ℕ)) (c a : ℕ) → copies before c a ≡ false → selected before ((c, a) ∷ places)
+    ≡ selected [] ((c, a) ∷ places)
 selected-from before places c a e =
     let own = own-form before c a e in
     let alone = always (is_selector c) a in
     ap (λ x. x ∷ selected ((c, a) ∷ before) places) (own ∙ sym alone)
-    ∙ ap (λ fs. cond (is_selector c) a a ∷ fs) (selected-same ((c, a) ∷ before) ((c, a) ∷ []) places (λ o. own ∙ sym alone))
+    ∙ ap (λ fs. cond (is_selector c) a a ∷ fs)
+    (selected-same ((c, a) ∷ before) ((c, a) ∷ []) places (λ o. own ∙ sym alone))
 
-in-halves : (xs ys : List (ℕ × ℕ)) → 0 < length xs → IsFree (selector_flags [] (xs ++ ys)) (length xs) → selected [] (xs ++ ys) ≡ selected [] xs ++ selected [] ys
+in-halves : (xs ys : List (ℕ × ℕ)) → 0 < length xs → IsFree (selector_flags [] (xs ++ ys)) (length xs)
+    → selected [] (xs ++ ys) ≡ selected [] xs ++ selected [] ys
 in-halves xs [] pos free = selected-append [] xs []
 in-halves xs ((c, a) ∷ ys) pos free =
     let before = reverse xs in
@@ -80,7 +106,8 @@ in-halves xs ((c, a) ∷ ys) pos free =
     let here : copies before c a ≡ false =
     sym (selectors-here before ys c a p pos (sym (length-reverse xs)))
     ∙ sym (
-    ap (held_by_calls p) (selectors-append [] xs ((c, a) ∷ ys) ∙ ap (λ r. selector_flags [] xs ++ selector_flags r ((c, a) ∷ ys)) (append-nil before))
+    ap (held_by_calls p) (selectors-append [] xs ((c, a) ∷ ys)
+    ∙ ap (λ r. selector_flags [] xs ++ selector_flags r ((c, a) ∷ ys)) (append-nil before))
     ∙ list_any-append (forbids p) (selector_flags [] xs) (selector_flags before ((c, a) ∷ ys))
     ∙ ap (λ b. b || held_by_calls p (selector_flags before ((c, a) ∷ ys))) (selectors-past [] xs p (omega arith)))
     ∙ free in
@@ -89,23 +116,31 @@ in-halves xs ((c, a) ∷ ys) pos free =
     ∙ ap (λ fs. selected [] xs ++ fs) (selected-from before ys c a here)
 
 -- characters and forms in two parts
-pub selected-halves : (cs ds fs gs : List ℕ) → length fs ≡ length cs → 0 < length cs → IsFree (selector_flags [] (zip (cs ++ ds) (fs ++ gs))) (length cs) → selected [] (zip (cs ++ ds) (fs ++ gs)) ≡ selected [] (zip cs fs) ++ selected [] (zip ds gs)
+pub selected-halves : (cs ds fs gs : List ℕ) → length fs ≡ length cs → 0 < length cs
+    → IsFree (selector_flags [] (zip (cs ++ ds) (fs ++ gs))) (length cs) → selected [] (zip (cs ++ ds) (fs ++ gs))
+    ≡ selected [] (zip cs fs) ++ selected [] (zip ds gs)
 selected-halves cs ds fs gs same some free =
     let xs = zip cs fs in
     let parts = zip-append cs ds fs gs same in
     let long : length xs ≡ length cs = omega (arith, length-zip cs fs) in
     ap (selected []) parts
-    ∙ in-halves xs (zip ds gs) (omega arith) (ap (λ n. held_by_calls n (selector_flags [] (xs ++ zip ds gs))) long ∙ ap (λ ps. held_by_calls (length cs) (selector_flags [] ps)) (sym parts) ∙ free)
+    ∙ in-halves xs (zip ds gs) (omega arith) (ap (λ n. held_by_calls n (selector_flags [] (xs ++ zip ds gs))) long
+    ∙ ap (λ ps. held_by_calls (length cs) (selector_flags [] ps)) (sym parts) ∙ free)
 
 -- the other way round: where the second half copies nothing from the first, no flag stands between the two
-no-copy : (before : List (ℕ × ℕ)) (c a : ℕ) → cond (is_selector c) (form_behind before a) a ≡ cond (is_selector c) a a → copies before c a ≡ false
-no-copy before c a e = elim (is_selector c) as (λ b. cond b (form_behind before a) a ≡ cond b a a → (b && not (eqb (form_behind before a) a)) ≡ false) [
-  | true ↦ λ f. ap not (eq-eqb (form_behind before a) a f)
-  | false ↦ λ f. refl
-] e
+no-copy : (before : List (ℕ × ℕ)) (c a : ℕ) → cond (is_selector c) (form_behind before a) a ≡ cond (is_selector c) a a
+    → copies before c a ≡ false
+no-copy before c a e =
+    elim (is_selector c) as (λ b. cond b (form_behind before a) a ≡ cond b a a
+    → (b && not (eqb (form_behind before a) a)) ≡ false) [
+      | true ↦ λ f. ap not (eq-eqb (form_behind before a) a f)
+      | false ↦ λ f. refl
+    ] e
 
-pub selectors-free : (xs ys : List (ℕ × ℕ)) → 0 < length xs → selected (reverse xs ++ []) ys ≡ selected [] ys → IsFree (selector_flags [] (xs ++ ys)) (length xs)
-selectors-free xs [] pos e = ap (λ ps. held_by_calls (length xs) (selector_flags [] ps)) (append-nil xs) ∙ selectors-past [] xs (length xs) (omega arith)
+pub selectors-free : (xs ys : List (ℕ × ℕ)) → 0 < length xs → selected (reverse xs ++ []) ys ≡ selected [] ys
+    → IsFree (selector_flags [] (xs ++ ys)) (length xs)
+selectors-free xs [] pos e = ap (λ ps. held_by_calls (length xs) (selector_flags [] ps)) (append-nil xs)
+    ∙ selectors-past [] xs (length xs) (omega arith)
 selectors-free xs ((c, a) ∷ ys) pos e =
     let before = reverse xs ++ [] in
     let p = length xs in

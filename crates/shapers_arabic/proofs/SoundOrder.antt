@@ -24,13 +24,20 @@ form-in_order : (o : Option Letter) (form n : ℕ) → StandsBefore o n → AllB
 form-in_order None form n h = one-in_order (is_taken form) 0 (suc n) (omega arith)
 form-in_order (Some k) form n h = one-in_order (is_second_or_third form) (length k.before) (suc n) (omega arith)
 
-along-in_order : (context passed ts after : List hb_arabic_joining_type_t) → AllByRecursion InOrder (form_flags_along context passed ts after)
+along-in_order : (context passed ts after : List hb_arabic_joining_type_t)
+    → AllByRecursion InOrder (form_flags_along context passed ts after)
 along-in_order context passed [] after = tt
 along-in_order context passed (t ∷ ts) after =
     let form = act (nearest (passed ++ context)) t (nearest (ts ++ after)) in
     let calls = form_flags (nearest_letter passed) form (suc (length passed)) in
-    let here : AllByRecursion InOrder (cond (is_transparent t) [] calls) = elim (is_transparent t) as (λ b. AllByRecursion InOrder (cond b [] calls)) [ true ↦ tt | false ↦ form-in_order (nearest_letter passed) form (length passed) (stands-before passed (length passed) (omega arith)) ] in
-    all-append InOrder (cond (is_transparent t) [] calls) (form_flags_along context (t ∷ passed) ts after) here (along-in_order context (t ∷ passed) ts after)
+    let here : AllByRecursion InOrder (cond (is_transparent t) [] calls) =
+    elim (is_transparent t) as (λ b. AllByRecursion InOrder (cond b [] calls)) [
+      | true ↦ tt
+      | false ↦ form-in_order (nearest_letter passed) form (length passed)
+          (stands-before passed (length passed) (omega arith))
+    ] in
+    all-append InOrder (cond (is_transparent t) [] calls) (form_flags_along context (t ∷ passed) ts after) here
+    (along-in_order context (t ∷ passed) ts after)
 
 pub added-in_order : (script : Option Script) (text : Text) → AllByRecursion InOrder (added_calls script text)
 added-in_order script text =
@@ -42,6 +49,9 @@ added-in_order script text =
       | false ↦ all-append InOrder first [] ordered tt
     ]
 
-pub calls-in_order : (breaks : BreakFlags) (script : Option Script) (text : Text) → AllByRecursion InOrder (flag_calls breaks script text)
+pub calls-in_order : (breaks : BreakFlags) (script : Option Script) (text : Text)
+    → AllByRecursion InOrder (flag_calls breaks script text)
 calls-in_order AsCode script text = joining-in_order text.before text.types text.after
-calls-in_order Sound script text = all-append InOrder (joining_flags text.before text.types text.after) (added_calls script text) (joining-in_order text.before text.types text.after) (added-in_order script text)
+calls-in_order Sound script text =
+    all-append InOrder (joining_flags text.before text.types text.after) (added_calls script text)
+    (joining-in_order text.before text.types text.after) (added-in_order script text)

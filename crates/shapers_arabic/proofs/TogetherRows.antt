@@ -29,13 +29,21 @@ text n [] = []
 text n (c ∷ cs) = record default_glyph { glyph_id = c; cluster = n } ∷ text (suc n) cs
 
 abbrev buffer_of : ℕ → List ℕ → List ℕ → List ℕ → Buffer
-buffer_of flags before cs after = let b : Buffer = record (new_buffer 9) { flags = record { 0 = flags }; glyphs = text 0 cs; before = before; after = after } in b
+buffer_of flags before cs after = let b : Buffer =
+    record (new_buffer 9) { flags = record { 0 = flags }; glyphs = text 0 cs; before = before; after = after } in b
 
--- what is put together: two glyphs of the first text, two of the second, and the outer contexts; all else is the first buffer's
+-- what is put together: two glyphs of the first text, two of the second, and the outer contexts;
+-- all else is the first buffer's
 abbrev both : Buffer
-both = together_at 2 1 (buffer_of 0x40 (7 ∷ []) (1 ∷ 2 ∷ 3 ∷ []) (8 ∷ [])) (buffer_of 0 (9 ∷ []) (4 ∷ 5 ∷ 6 ∷ []) (10 ∷ []))
+both = together_at 2 1 (buffer_of 0x40 (7 ∷ []) (1 ∷ 2 ∷ 3 ∷ []) (8 ∷ []))
+    (buffer_of 0 (9 ∷ []) (4 ∷ 5 ∷ 6 ∷ []) (10 ∷ []))
 
-row_both : both ≡ record (buffer_of 0x40 (7 ∷ []) [] (10 ∷ [])) { glyphs = record default_glyph { glyph_id = 1; cluster = 0 } ∷ record default_glyph { glyph_id = 2; cluster = 1 } ∷ record default_glyph { glyph_id = 5; cluster = 1 } ∷ record default_glyph { glyph_id = 6; cluster = 2 } ∷ [] }
+row_both : both
+    ≡ record (buffer_of 0x40 (7 ∷ []) [] (10 ∷ [])) {
+      glyphs = record default_glyph { glyph_id = 1; cluster = 0 }
+          ∷ record default_glyph { glyph_id = 2; cluster = 1 } ∷ record default_glyph { glyph_id = 5; cluster = 1 }
+          ∷ record default_glyph { glyph_id = 6; cluster = 2 } ∷ [];
+    }
 row_both = refl
 
 -- glyphs with a letter, with none behind them, and with a letter behind them alone
@@ -55,33 +63,42 @@ glyph c a m k = record default_glyph { glyph_id = c; auxiliary = a; mask = m; cl
 abbrev mong : Option Script
 mong = Some (record { 0 = codes "Mong" })
 
-other_forms : (i : ℕ) (xs ys : List hb_glyph_info_t) → xs ≡ ys → get_or (map (λ g. g.auxiliary) xs) i 0 ≡ get_or (map (λ g. g.auxiliary) ys) i 0
+other_forms : (i : ℕ) (xs ys : List hb_glyph_info_t) → xs ≡ ys → get_or (map (λ g. g.auxiliary) xs) i 0
+    ≡ get_or (map (λ g. g.auxiliary) ys) i 0
 other_forms i xs ys e = ap (λ gs. get_or (map (λ g. g.auxiliary) gs) i 0) e
 
-other_masks : (i : ℕ) (xs ys : List hb_glyph_info_t) → xs ≡ ys → get_or (map (λ g. g.mask) xs) i 0 ≡ get_or (map (λ g. g.mask) ys) i 0
+other_masks : (i : ℕ) (xs ys : List hb_glyph_info_t) → xs ≡ ys → get_or (map (λ g. g.mask) xs) i 0
+    ≡ get_or (map (λ g. g.mask) ys) i 0
 other_masks i xs ys e = ap (λ gs. get_or (map (λ g. g.mask) gs) i 0) e
 
 -- clusters and glyph flags may differ, and what isn't taken; a form or another mask may not
-row_kept : KeepsParts None 1 1 (glyph 1 0 8 0 ∷ glyph 9 9 9 9 ∷ []) (glyph 9 9 9 9 ∷ glyph 2 1 16 1 ∷ []) (glyph 1 0 11 5 ∷ glyph 2 1 20 3 ∷ [])
+row_kept : KeepsParts None 1 1 (glyph 1 0 8 0 ∷ glyph 9 9 9 9 ∷ []) (glyph 9 9 9 9 ∷ glyph 2 1 16 1 ∷ [])
+    (glyph 1 0 11 5 ∷ glyph 2 1 20 3 ∷ [])
 row_kept = record { first = refl; second = refl }
 
-row_first_form : KeepsParts None 1 1 (glyph 1 0 8 0 ∷ []) (glyph 9 9 9 9 ∷ glyph 2 1 16 1 ∷ []) (glyph 1 6 8 0 ∷ glyph 2 1 16 1 ∷ []) → ⊥
+row_first_form : KeepsParts None 1 1 (glyph 1 0 8 0 ∷ []) (glyph 9 9 9 9 ∷ glyph 2 1 16 1 ∷ [])
+    (glyph 1 6 8 0 ∷ glyph 2 1 16 1 ∷ []) → ⊥
 row_first_form kept = eqb-false 6 0 refl (other_forms 0 _ _ kept.first)
 
-row_second_form : KeepsParts None 1 1 (glyph 1 0 8 0 ∷ []) (glyph 9 9 9 9 ∷ glyph 2 1 16 1 ∷ []) (glyph 1 0 8 0 ∷ glyph 2 0 16 1 ∷ []) → ⊥
+row_second_form : KeepsParts None 1 1 (glyph 1 0 8 0 ∷ []) (glyph 9 9 9 9 ∷ glyph 2 1 16 1 ∷ [])
+    (glyph 1 0 8 0 ∷ glyph 2 0 16 1 ∷ []) → ⊥
 row_second_form kept = eqb-false 0 1 refl (other_forms 0 _ _ kept.second)
 
-row_second_mask : KeepsParts None 1 1 (glyph 1 0 8 0 ∷ []) (glyph 9 9 9 9 ∷ glyph 2 1 16 1 ∷ []) (glyph 1 0 8 0 ∷ glyph 2 1 8 1 ∷ []) → ⊥
+row_second_mask : KeepsParts None 1 1 (glyph 1 0 8 0 ∷ []) (glyph 9 9 9 9 ∷ glyph 2 1 16 1 ∷ [])
+    (glyph 1 0 8 0 ∷ glyph 2 1 8 1 ∷ []) → ⊥
 row_second_mask kept = eqb-false 8 16 refl (other_masks 0 _ _ kept.second)
 
 -- selectors that open the second part may differ with the script Mongolian, a later one and other scripts' may not
-row_selector : KeepsParts mong 1 1 (glyph 1 0 8 0 ∷ []) (glyph 9 9 9 9 ∷ glyph 0x180B 7 0 1 ∷ glyph 1 0 8 2 ∷ []) (glyph 1 0 8 0 ∷ glyph 0x180B 0 8 1 ∷ glyph 1 0 8 2 ∷ [])
+row_selector : KeepsParts mong 1 1 (glyph 1 0 8 0 ∷ []) (glyph 9 9 9 9 ∷ glyph 0x180B 7 0 1 ∷ glyph 1 0 8 2 ∷ [])
+    (glyph 1 0 8 0 ∷ glyph 0x180B 0 8 1 ∷ glyph 1 0 8 2 ∷ [])
 row_selector = record { first = refl; second = refl }
 
-row_other_script : KeepsParts None 1 1 (glyph 1 0 8 0 ∷ []) (glyph 9 9 9 9 ∷ glyph 0x180B 7 0 1 ∷ glyph 1 0 8 2 ∷ []) (glyph 1 0 8 0 ∷ glyph 0x180B 0 8 1 ∷ glyph 1 0 8 2 ∷ []) → ⊥
+row_other_script : KeepsParts None 1 1 (glyph 1 0 8 0 ∷ []) (glyph 9 9 9 9 ∷ glyph 0x180B 7 0 1 ∷ glyph 1 0 8 2 ∷ [])
+    (glyph 1 0 8 0 ∷ glyph 0x180B 0 8 1 ∷ glyph 1 0 8 2 ∷ []) → ⊥
 row_other_script kept = eqb-false 0 7 refl (other_forms 0 _ _ kept.second)
 
-row_later_selector : KeepsParts mong 1 1 (glyph 1 0 8 0 ∷ []) (glyph 9 9 9 9 ∷ glyph 1 0 8 1 ∷ glyph 0x180B 7 0 2 ∷ []) (glyph 1 0 8 0 ∷ glyph 1 0 8 1 ∷ glyph 0x180B 0 0 2 ∷ []) → ⊥
+row_later_selector : KeepsParts mong 1 1 (glyph 1 0 8 0 ∷ []) (glyph 9 9 9 9 ∷ glyph 1 0 8 1 ∷ glyph 0x180B 7 0 2 ∷ [])
+    (glyph 1 0 8 0 ∷ glyph 1 0 8 1 ∷ glyph 0x180B 0 0 2 ∷ []) → ⊥
 row_later_selector kept = eqb-false 0 7 refl (other_forms 1 _ _ kept.second)
 
 -- forms, and masks, after joining with no masks of forms
@@ -94,7 +111,8 @@ forms_after b = map (λ g. g.auxiliary) (after b).glyphs
 abbrev masks_after : Buffer → List ℕ
 masks_after b = map (λ g. g.mask) (after b).glyphs
 
--- each condition is needed. A second buffer that wants no flags of concatenation: D of D U before D of U D, which looks bare
+-- each condition is needed. A second buffer that wants no flags of concatenation: D of D U before D
+-- of U D, which looks bare
 row_unwanted : IsBare (after (buffer_of 0 [] (9 ∷ 1 ∷ []) [])).glyphs 1
 row_unwanted = record { clear = record { differ = λ e. absurd (omega arith); unflagged = refl }; joinable = refl }
 
@@ -104,7 +122,8 @@ row_wanted = refl
 row_apart : forms_after (buffer_of 0x40 [] (1 ∷ 9 ∷ []) []) ≡ ISOL ∷ NONE ∷ []
 row_apart = refl
 
-row_joined : forms_after (together_at 1 1 (buffer_of 0x40 [] (1 ∷ 9 ∷ []) []) (buffer_of 0 [] (9 ∷ 1 ∷ []) [])) ≡ INIT ∷ FINA ∷ []
+row_joined : forms_after (together_at 1 1 (buffer_of 0x40 [] (1 ∷ 9 ∷ []) []) (buffer_of 0 [] (9 ∷ 1 ∷ []) []))
+    ≡ INIT ∷ FINA ∷ []
 row_joined = refl
 
 -- the first border has flag 1: D of D D before U of U U, which is bare
@@ -117,7 +136,8 @@ row_bare = refl
 row_lost : forms_after (buffer_of 0x40 [] (1 ∷ 1 ∷ []) []) ≡ INIT ∷ FINA ∷ []
 row_lost = refl
 
-row_lost_together : forms_after (together_at 1 1 (buffer_of 0x40 [] (1 ∷ 1 ∷ []) []) (buffer_of 0x40 [] (9 ∷ 9 ∷ []) [])) ≡ ISOL ∷ NONE ∷ []
+row_lost_together : forms_after (together_at 1 1 (buffer_of 0x40 [] (1 ∷ 1 ∷ []) []) (buffer_of 0x40 [] (9 ∷ 9 ∷ [])
+    [])) ≡ ISOL ∷ NONE ∷ []
 row_lost_together = refl
 
 -- no letter but the one that follows: D of D T before T of U T before R
@@ -127,12 +147,14 @@ row_no_flag = refl
 row_alone : forms_after (buffer_of 0x40 [] (1 ∷ 3 ∷ []) []) ≡ ISOL ∷ NONE ∷ []
 row_alone = refl
 
-row_followed : forms_after (together_at 1 1 (buffer_of 0x40 [] (1 ∷ 3 ∷ []) []) (buffer_of 0x40 [] (9 ∷ 3 ∷ []) (2 ∷ []))) ≡ INIT ∷ NONE ∷ []
+row_followed : forms_after
+    (together_at 1 1 (buffer_of 0x40 [] (1 ∷ 3 ∷ []) []) (buffer_of 0x40 [] (9 ∷ 3 ∷ []) (2 ∷ []))) ≡ INIT ∷ NONE ∷ []
 row_followed = refl
 
 -- the first border's flag 2 forbids nothing: D of D U, unsafe to concatenate, before U of U U
 row_concat : masks_after (buffer_of 0x40 [] (1 ∷ 9 ∷ []) []) ≡ 2 ∷ 2 ∷ []
 row_concat = refl
 
-row_stays : forms_after (together_at 1 1 (buffer_of 0x40 [] (1 ∷ 9 ∷ []) []) (buffer_of 0x40 [] (9 ∷ 9 ∷ []) [])) ≡ ISOL ∷ NONE ∷ []
+row_stays : forms_after (together_at 1 1 (buffer_of 0x40 [] (1 ∷ 9 ∷ []) []) (buffer_of 0x40 [] (9 ∷ 9 ∷ []) []))
+    ≡ ISOL ∷ NONE ∷ []
 row_stays = refl

@@ -16,7 +16,16 @@ pstf = record { 0 = codes "pstf" }
 
 -- a map with two features by one tag, and three stages over four lookups
 abbrev small : Map
-small = record { features = record { tag = blwf; mask = 16; stage = 1 } ∷ record { tag = blwf; mask = 32; stage = 2 } ∷ []; stages = record { start = 0; end = 1 } ∷ record { start = 1; end = 3 } ∷ record { start = 3; end = 4 } ∷ []; lookups = 5 ∷ 6 ∷ 7 ∷ 8 ∷ []; global = 0; chosen = None; found = true }
+small = record {
+  features = record { tag = blwf; mask = 16; stage = 1 } ∷ record { tag = blwf; mask = 32; stage = 2 }
+      ∷ [];
+  stages = record { start = 0; end = 1 } ∷ record { start = 1; end = 3 } ∷ record { start = 3; end = 4 }
+      ∷ [];
+  lookups = 5 ∷ 6 ∷ 7 ∷ 8 ∷ [];
+  global = 0;
+  chosen = None;
+  found = true;
+}
 
 can_be_small : can_be_map small ≡ true
 can_be_small = refl
@@ -68,7 +77,8 @@ last_range = refl
 range_beyond : range_of 3 small ≡ record { start = 0; end = 0 }
 range_beyond = refl
 
-stage_beyond : lookups_in (range_for pstf (record small { features = record { tag = pstf; mask = 8; stage = 3 } ∷ [] })) small ≡ []
+stage_beyond : lookups_in (range_for pstf (record small { features = record { tag = pstf; mask = 8; stage = 3 } ∷ [] }))
+    small ≡ []
 stage_beyond = refl
 
 joiner_flags : added (F_MANUAL_JOINERS) "blwf" ≡ Feature blwf 12 1

@@ -7,17 +7,24 @@ use Rattle.shapers_base.specs.declared.plan.pause.Pause.TheVariants as pause
 use Rattle.shapers_base.specs.declared.plan.pause.TheConstants.Pause as all_pauses
 
 -- pauses, 0 to 14
-first_pauses : map (slice_get pauses) (0 ∷ 1 ∷ 2 ∷ 3 ∷ 4 ∷ 5 ∷ 6 ∷ 7 ∷ []) ≡ Some pause.SetupSyllablesIndic ∷ Some pause.SetupSyllablesKhmer ∷ Some pause.SetupSyllablesMyanmar ∷ Some pause.SetupSyllablesUse ∷ Some pause.InitialReordering ∷ Some pause.ReorderKhmer ∷ Some pause.ReorderMyanmar ∷ Some pause.ReorderUse ∷ []
+first_pauses : map (slice_get pauses) (0 ∷ 1 ∷ 2 ∷ 3 ∷ 4 ∷ 5 ∷ 6 ∷ 7 ∷ []) ≡ Some pause.SetupSyllablesIndic
+    ∷ Some pause.SetupSyllablesKhmer ∷ Some pause.SetupSyllablesMyanmar ∷ Some pause.SetupSyllablesUse
+    ∷ Some pause.InitialReordering ∷ Some pause.ReorderKhmer ∷ Some pause.ReorderMyanmar ∷ Some pause.ReorderUse ∷ []
 first_pauses = refl
 
-last_pauses : map (slice_get pauses) (8 ∷ 9 ∷ 10 ∷ 11 ∷ 12 ∷ 13 ∷ 14 ∷ 15 ∷ []) ≡ Some pause.FinalReordering ∷ Some pause.RecordStch ∷ Some pause.RecordRphf ∷ Some pause.RecordPref ∷ Some pause.SyllabicClearVar ∷ Some pause.ClearSubstitutionFlags ∷ Some pause.ArabicFallbackShape ∷ None ∷ []
+last_pauses : map (slice_get pauses) (8 ∷ 9 ∷ 10 ∷ 11 ∷ 12 ∷ 13 ∷ 14 ∷ 15 ∷ []) ≡ Some pause.FinalReordering
+    ∷ Some pause.RecordStch ∷ Some pause.RecordRphf ∷ Some pause.RecordPref ∷ Some pause.SyllabicClearVar
+    ∷ Some pause.ClearSubstitutionFlags ∷ Some pause.ArabicFallbackShape ∷ None ∷ []
 last_pauses = refl
 
 -- joining types, 0 to 8 without 6
-joining_numbers : map joining_number (joins.U ∷ joins.L ∷ joins.R ∷ joins.D ∷ joins.GroupAlaph ∷ joins.GroupDalathRish ∷ joins.T ∷ joins.X ∷ []) ≡ 0 ∷ 1 ∷ 2 ∷ 3 ∷ 4 ∷ 5 ∷ 7 ∷ 8 ∷ []
+joining_numbers : map joining_number (joins.U ∷ joins.L ∷ joins.R ∷ joins.D ∷ joins.GroupAlaph ∷ joins.GroupDalathRish
+    ∷ joins.T ∷ joins.X ∷ []) ≡ 0 ∷ 1 ∷ 2 ∷ 3 ∷ 4 ∷ 5 ∷ 7 ∷ 8 ∷ []
 joining_numbers = refl
 
-joining_types_by_number : map (λ n. find (λ t. joining_number t == n) joining_types) (0 ∷ 1 ∷ 2 ∷ 3 ∷ 4 ∷ 5 ∷ 6 ∷ 7 ∷ 8 ∷ 9 ∷ []) ≡ Some joins.U ∷ Some joins.L ∷ Some joins.R ∷ Some joins.D ∷ Some joins.GroupAlaph ∷ Some joins.GroupDalathRish ∷ None ∷ Some joins.T ∷ Some joins.X ∷ None ∷ []
+joining_types_by_number : map (λ n. find (λ t. joining_number t == n) joining_types) (0 ∷ 1 ∷ 2 ∷ 3 ∷ 4 ∷ 5 ∷ 6 ∷ 7 ∷ 8
+    ∷ 9 ∷ []) ≡ Some joins.U ∷ Some joins.L ∷ Some joins.R ∷ Some joins.D ∷ Some joins.GroupAlaph
+    ∷ Some joins.GroupDalathRish ∷ None ∷ Some joins.T ∷ Some joins.X ∷ None ∷ []
 joining_types_by_number = refl
 
 -- the lists that the program has are these

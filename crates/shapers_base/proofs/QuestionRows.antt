@@ -12,12 +12,22 @@ pstf = record { 0 = codes "pstf" }
 
 -- two lookups in the stage of blwf, between one before and one after them
 abbrev small : Map
-small = record { features = record { tag = blwf; mask = 16; stage = 1 } ∷ []; stages = record { start = 0; end = 1 } ∷ record { start = 1; end = 3 } ∷ record { start = 3; end = 4 } ∷ []; lookups = 5 ∷ 6 ∷ 7 ∷ 8 ∷ []; global = 0; chosen = None; found = true }
+small = record {
+  features = record { tag = blwf; mask = 16; stage = 1 } ∷ [];
+  stages = record { start = 0; end = 1 }
+      ∷ record { start = 1; end = 3 } ∷ record { start = 3; end = 4 } ∷ [];
+  lookups = 5 ∷ 6 ∷ 7 ∷ 8 ∷ [];
+  global =
+      0;
+  chosen = None;
+  found = true;
+}
 
 asked : question_for blwf true small ≡ record { lookups = record { start = 1; end = 3 }; zero_context = true }
 asked = refl
 
-asked_of_no_feature : question_for pstf false small ≡ record { lookups = record { start = 0; end = 0 }; zero_context = false }
+asked_of_no_feature : question_for pstf false small
+    ≡ record { lookups = record { start = 0; end = 0 }; zero_context = false }
 asked_of_no_feature = refl
 
 -- yes where one of the two applies, the second alone too; no where only others do
@@ -37,10 +47,13 @@ no_feature : would_by (λ _ _ _. true) small (question_for pstf false small) [] 
 no_feature = refl
 
 -- the context is the question's, and the glyphs are the caller's
-context_left_out : would_by (λ _ _ zero. zero) small (question_for blwf true small) [] ∷ would_by (λ _ _ zero. zero) small (question_for blwf false small) [] ∷ [] ≡ true ∷ false ∷ []
+context_left_out : would_by (λ _ _ zero. zero) small (question_for blwf true small)
+    [] ∷ would_by (λ _ _ zero. zero) small (question_for blwf false small) [] ∷ [] ≡ true ∷ false ∷ []
 context_left_out = refl
 
-of_two_glyphs : would_by (λ _ glyphs _. length glyphs == 2) small (question_for blwf true small) (record { 0 = 1 } ∷ record { 0 = 2 } ∷ []) ∷ would_by (λ _ glyphs _. length glyphs == 2) small (question_for blwf true small) (record { 0 = 1 } ∷ []) ∷ [] ≡ true ∷ false ∷ []
+of_two_glyphs : would_by (λ _ glyphs _. length glyphs == 2) small (question_for blwf true small)
+    (record { 0 = 1 } ∷ record { 0 = 2 } ∷ []) ∷ would_by (λ _ glyphs _. length glyphs == 2) small
+    (question_for blwf true small) (record { 0 = 1 } ∷ []) ∷ [] ≡ true ∷ false ∷ []
 of_two_glyphs = refl
 
 -- a range that leaves the list counts as far as it goes

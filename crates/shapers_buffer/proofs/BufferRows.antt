@@ -13,11 +13,35 @@ use Rattle.shapers_buffer.specs.Glyph.{clusters, default_glyph, default_position
 
 -- a glyph whose fields are all set
 abbrev full : hb_glyph_info_t
-full = record { glyph_id = 0x916; cluster = 5; mask = 0x1F; var = 0x7A; syllable = 0x24; category = 1; auxiliary = 3; general_category = Mn; modified_combining_class = 9; lig_comp = 2; marks = record { 0 = 31 } }
+full = record {
+  glyph_id = 0x916;
+  cluster = 5;
+  mask = 0x1F;
+  var = 0x7A;
+  syllable = 0x24;
+  category = 1;
+  auxiliary = 3;
+  general_category = Mn;
+  modified_combining_class = 9;
+  lig_comp = 2;
+  marks = record { 0 = 31 };
+}
 
 -- the default glyph is all zero, of category Cc, without marks
 abbrev blank : hb_glyph_info_t
-blank = record { glyph_id = 0; cluster = 0; mask = 0; var = 0; syllable = 0; category = 0; auxiliary = 0; general_category = Cc; modified_combining_class = 0; lig_comp = 0; marks = record { 0 = 0 } }
+blank = record {
+  glyph_id = 0;
+  cluster = 0;
+  mask = 0;
+  var = 0;
+  syllable = 0;
+  category = 0;
+  auxiliary = 0;
+  general_category = Cc;
+  modified_combining_class = 0;
+  lig_comp = 0;
+  marks = record { 0 = 0 };
+}
 
 glyph_by_default : default_glyph ≡ blank
 glyph_by_default = refl
@@ -39,7 +63,22 @@ ZERO : zero.ZERO ≡ nowhere
 ZERO = refl
 
 -- a new buffer is empty, reads from left to right, and has the first level, no flag, no script, no context and no mark
-new : new_buffer 7 ≡ record { glyphs = []; positions = []; direction = LeftToRight; script = None; level = MonotoneGraphemes; flags = record { 0 = 0 }; before = []; after = []; broken = false; stch = false; max_len = 7; places = [] }
+new : new_buffer 7
+    ≡ record {
+      glyphs = [];
+      positions = [];
+      direction = LeftToRight;
+      script = None;
+      level = MonotoneGraphemes;
+      flags =
+          record { 0 = 0 };
+      before = [];
+      after = [];
+      broken = false;
+      stch = false;
+      max_len = 7;
+      places = [];
+    }
 new = refl
 
 -- a buffer of two glyphs whose fields are all set
@@ -47,10 +86,15 @@ abbrev whole : Buffer
 whole = record { glyphs = full ∷ default_glyph ∷ []; positions = position_from 10 ∷ position_from 20 ∷ []; direction = RightToLeft; script = Some (record { 0 = codes "Thai" }); level = Characters; flags = record { 0 = 0xE0 }; before = 1 ∷ 2 ∷ []; after = 3 ∷ []; broken = true; stch = true; max_len = 50; places = 1 ∷ [] }
 
 -- growth: default glyphs, and zero positions unless there are none
-grown_by_two : grown 2 whole ≡ record whole { glyphs = full ∷ blank ∷ blank ∷ blank ∷ []; positions = position_from 10 ∷ position_from 20 ∷ nowhere ∷ nowhere ∷ [] }
+grown_by_two : grown 2 whole ≡ record whole {
+  glyphs = full ∷ blank ∷ blank ∷ blank ∷ [];
+  positions = position_from 10
+      ∷ position_from 20 ∷ nowhere ∷ nowhere ∷ [];
+}
 grown_by_two = refl
 
-grown_without_positions : grown 2 (record whole { positions = [] }) ≡ record whole { glyphs = full ∷ blank ∷ blank ∷ blank ∷ []; positions = [] }
+grown_without_positions : grown 2 (record whole { positions = [] })
+    ≡ record whole { glyphs = full ∷ blank ∷ blank ∷ blank ∷ []; positions = [] }
 grown_without_positions = refl
 
 grown_by_none : grown 0 whole ≡ whole
@@ -60,20 +104,24 @@ grown_from_none : grown 1 (new_buffer 7) ≡ record (new_buffer 7) { glyphs = bl
 grown_from_none = refl
 
 -- one place copied to another, with its position, and nothing else
-copied_up : copied_to 0 1 whole ≡ record whole { glyphs = full ∷ full ∷ []; positions = position_from 10 ∷ position_from 10 ∷ [] }
+copied_up : copied_to 0 1 whole
+    ≡ record whole { glyphs = full ∷ full ∷ []; positions = position_from 10 ∷ position_from 10 ∷ [] }
 copied_up = refl
 
-copied_down : copied_to 1 0 whole ≡ record whole { glyphs = blank ∷ blank ∷ []; positions = position_from 20 ∷ position_from 20 ∷ [] }
+copied_down : copied_to 1 0 whole
+    ≡ record whole { glyphs = blank ∷ blank ∷ []; positions = position_from 20 ∷ position_from 20 ∷ [] }
 copied_down = refl
 
-copied_without_positions : copied_to 0 1 (record whole { positions = [] }) ≡ record whole { glyphs = full ∷ full ∷ []; positions = [] }
+copied_without_positions : copied_to 0 1 (record whole { positions = [] })
+    ≡ record whole { glyphs = full ∷ full ∷ []; positions = [] }
 copied_without_positions = refl
 
 copied_to_itself : copied_to 1 1 whole ≡ whole
 copied_to_itself = refl
 
 -- positions: none, or one a glyph
-positions_that_can_be : map (λ ps. can_be_positions ps whole) ([] ∷ (nowhere ∷ []) ∷ (nowhere ∷ nowhere ∷ []) ∷ (nowhere ∷ nowhere ∷ nowhere ∷ []) ∷ []) ≡ true ∷ false ∷ true ∷ false ∷ []
+positions_that_can_be : map (λ ps. can_be_positions ps whole) ([] ∷ (nowhere ∷ []) ∷ (nowhere ∷ nowhere ∷ [])
+    ∷ (nowhere ∷ nowhere ∷ nowhere ∷ []) ∷ []) ≡ true ∷ false ∷ true ∷ false ∷ []
 positions_that_can_be = refl
 
 -- the buffer but for its placement list
@@ -84,12 +132,14 @@ without_places = refl
 seen : order_view (full ∷ default_glyph ∷ []) ≡ record full { cluster = 0; mask = 0x18 } ∷ default_glyph ∷ []
 seen = refl
 
-seen_masks : map without_flags (0 ∷ 1 ∷ 2 ∷ 4 ∷ 7 ∷ 8 ∷ 9 ∷ 15 ∷ 16 ∷ 0xFFFFFFFF ∷ []) ≡ 0 ∷ 0 ∷ 0 ∷ 0 ∷ 0 ∷ 8 ∷ 8 ∷ 8 ∷ 16 ∷ 0xFFFFFFF8 ∷ []
+seen_masks : map without_flags (0 ∷ 1 ∷ 2 ∷ 4 ∷ 7 ∷ 8 ∷ 9 ∷ 15 ∷ 16 ∷ 0xFFFFFFFF ∷ []) ≡ 0 ∷ 0 ∷ 0 ∷ 0 ∷ 0 ∷ 8 ∷ 8 ∷ 8
+    ∷ 16 ∷ 0xFFFFFFF8 ∷ []
 seen_masks = refl
 
 seen_clusters : clusters (full ∷ default_glyph ∷ []) ≡ 5 ∷ 0 ∷ []
 seen_clusters = refl
 
 -- a merge changes of a glyph its cluster and, with that, its glyph flags; nothing of one that keeps its cluster
-merged_glyphs : merge MonotoneCharacters 0 2 (full ∷ record full { cluster = 4 } ∷ full ∷ []) ≡ record full { cluster = 4; mask = 0x18 } ∷ record full { cluster = 4 } ∷ full ∷ []
+merged_glyphs : merge MonotoneCharacters 0 2 (full ∷ record full { cluster = 4 } ∷ full ∷ [])
+    ≡ record full { cluster = 4; mask = 0x18 } ∷ record full { cluster = 4 } ∷ full ∷ []
 merged_glyphs = refl

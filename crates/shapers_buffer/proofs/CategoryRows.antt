@@ -7,11 +7,14 @@ use Rattle.shapers_buffer.specs.declared.buffer.category.hb_unicode_general_cate
 
 -- by the names of the Unicode Character Database
 abbrev all_thirty : List hb_unicode_general_category_t
-all_thirty = Cc ∷ Cf ∷ Cn ∷ Co ∷ Cs ∷ Ll ∷ Lm ∷ Lo ∷ Lt ∷ Lu ∷ Mc ∷ Me ∷ Mn ∷ Nd ∷ Nl ∷ No ∷ Pc ∷ Pd ∷ Pe ∷ Pf ∷ Pi ∷ Po ∷ Ps ∷ Sc ∷ Sk ∷ Sm ∷ So ∷ Zl ∷ Zp ∷ Zs ∷ []
+all_thirty = Cc ∷ Cf ∷ Cn ∷ Co ∷ Cs ∷ Ll ∷ Lm ∷ Lo ∷ Lt ∷ Lu ∷ Mc ∷ Me ∷ Mn ∷ Nd ∷ Nl ∷ No ∷ Pc ∷ Pd ∷ Pe ∷ Pf ∷ Pi ∷ Po
+    ∷ Ps ∷ Sc ∷ Sk ∷ Sm ∷ So ∷ Zl ∷ Zp ∷ Zs ∷ []
 
 in_order : ALL ≡ all_thirty
 in_order = refl
 
 -- Mc, Me and Mn alone
-marks : map is_mark all_thirty ≡ false ∷ false ∷ false ∷ false ∷ false ∷ false ∷ false ∷ false ∷ false ∷ false ∷ true ∷ true ∷ true ∷ false ∷ false ∷ false ∷ false ∷ false ∷ false ∷ false ∷ false ∷ false ∷ false ∷ false ∷ false ∷ false ∷ false ∷ false ∷ false ∷ false ∷ []
+marks : map is_mark all_thirty ≡ false ∷ false ∷ false ∷ false ∷ false ∷ false ∷ false ∷ false ∷ false ∷ false ∷ true
+    ∷ true ∷ true ∷ false ∷ false ∷ false ∷ false ∷ false ∷ false ∷ false ∷ false ∷ false ∷ false ∷ false ∷ false
+    ∷ false ∷ false ∷ false ∷ false ∷ false ∷ []
 marks = refl

@@ -19,7 +19,19 @@ masks gs = map (λ g. g.mask) gs
 
 -- a glyph whose fields are all set
 abbrev full : hb_glyph_info_t
-full = record { glyph_id = 0x916; cluster = 5; mask = 0x1F; var = 0x7A; syllable = 0x24; category = 1; auxiliary = 3; general_category = Mn; modified_combining_class = 9; lig_comp = 2; marks = record { 0 = 31 } }
+full = record {
+  glyph_id = 0x916;
+  cluster = 5;
+  mask = 0x1F;
+  var = 0x7A;
+  syllable = 0x24;
+  category = 1;
+  auxiliary = 3;
+  general_category = Mn;
+  modified_combining_class = 9;
+  lig_comp = 2;
+  marks = record { 0 = 31 };
+}
 
 -- of clusters that fall, rise and repeat: every place outside the least cluster, wherever that stands and however often
 falls : masks (flagged 3 (text (3 ∷ 2 ∷ 1 ∷ []))) ≡ 3 ∷ 3 ∷ 0 ∷ []
@@ -88,18 +100,22 @@ tatweel_unasked : masks (tatweel_inside false 1 4 (text (1 ∷ 2 ∷ 3 ∷ 4 ∷
 tatweel_unasked = refl
 
 -- all other fields stay
-break_keeps : unsafe_inside 0 2 (default_glyph ∷ record full { mask = 0x18 } ∷ []) ≡ default_glyph ∷ record full { mask = 0x1B } ∷ []
+break_keeps : unsafe_inside 0 2 (default_glyph ∷ record full { mask = 0x18 } ∷ []) ≡ default_glyph
+    ∷ record full { mask = 0x1B } ∷ []
 break_keeps = refl
 
 concat_keeps : unsafe_to_concat_in true 0 1 (record full { mask = 0x18 } ∷ []) ≡ record full { mask = 0x1A } ∷ []
 concat_keeps = refl
 
-tatweel_keeps : tatweel_inside true 0 2 (default_glyph ∷ record full { mask = 0x18 } ∷ []) ≡ default_glyph ∷ record full { mask = 0x1C } ∷ []
+tatweel_keeps : tatweel_inside true 0 2 (default_glyph ∷ record full { mask = 0x18 } ∷ []) ≡ default_glyph
+    ∷ record full { mask = 0x1C } ∷ []
 tatweel_keeps = refl
 
 -- which flags a buffer asks for: each by its own bit, whatever the others are
-asked : map (λ flag. asks flag (record (new_buffer 1) { flags = record { 0 = 0x60 } })) (0x20 ∷ 0x40 ∷ 0x80 ∷ []) ≡ true ∷ true ∷ false ∷ []
+asked : map (λ flag. asks flag (record (new_buffer 1) { flags = record { 0 = 0x60 } })) (0x20 ∷ 0x40 ∷ 0x80 ∷ [])
+    ≡ true ∷ true ∷ false ∷ []
 asked = refl
 
-asked_alone : map (λ bits. has_flag 0x40 (record { 0 = bits })) (0 ∷ 0x20 ∷ 0x40 ∷ 0x80 ∷ 0xA0 ∷ 0xC0 ∷ []) ≡ false ∷ false ∷ true ∷ false ∷ false ∷ true ∷ []
+asked_alone : map (λ bits. has_flag 0x40 (record { 0 = bits })) (0 ∷ 0x20 ∷ 0x40 ∷ 0x80 ∷ 0xA0 ∷ 0xC0 ∷ [])
+    ≡ false ∷ false ∷ true ∷ false ∷ false ∷ true ∷ []
 asked_alone = refl

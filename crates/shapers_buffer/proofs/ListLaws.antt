@@ -10,51 +10,70 @@ use Rattle.std.proofs.lemmas.Grind.{reverse_onto}
 use Rattle.shapers_buffer.specs.Lists.{cut_after, last_run, before_last_run}
 
 -- the longest end, where one more element stands at the end
-pub suffix_len_yes : {X : Type 0} (test : X → Bool) (xs : List X) (x : X) → test x ≡ true → suffix_len test (xs ++ x ∷ []) ≡ 1 + suffix_len test xs
+pub suffix_len_yes : {X : Type 0} (test : X → Bool) (xs : List X) (x : X) → test x ≡ true
+    → suffix_len test (xs ++ x ∷ []) ≡ 1 + suffix_len test xs
 suffix_len_yes test xs x h = rw (reverse-append xs (x ∷ []), h)
 
-pub suffix_len_no : {X : Type 0} (test : X → Bool) (xs : List X) (x : X) → test x ≡ false → suffix_len test (xs ++ x ∷ []) ≡ 0
+pub suffix_len_no : {X : Type 0} (test : X → Bool) (xs : List X) (x : X) → test x ≡ false
+    → suffix_len test (xs ++ x ∷ []) ≡ 0
 suffix_len_no test xs x h = rw (reverse-append xs (x ∷ []), h)
 
-prefix_len_stop : {X : Type 0} (test : X → Bool) (xs : List X) (a : X) (ys : List X) → test a ≡ false → prefix_len test (xs ++ a ∷ ys) ≡ prefix_len test xs
+prefix_len_stop : {X : Type 0} (test : X → Bool) (xs : List X) (a : X) (ys : List X) → test a ≡ false
+    → prefix_len test (xs ++ a ∷ ys) ≡ prefix_len test xs
 prefix_len_stop test [] a ys h = rw h
 prefix_len_stop test (x ∷ xs) a ys h = ap (λ n. cond (test x) (1 + n) 0) (prefix_len_stop test xs a ys h)
 
 -- what stands before an element that fails doesn't matter
-pub suffix_len_stop : {X : Type 0} (test : X → Bool) (xs : List X) (a : X) (ys : List X) → test a ≡ false → suffix_len test (xs ++ a ∷ ys) ≡ suffix_len test ys
+pub suffix_len_stop : {X : Type 0} (test : X → Bool) (xs : List X) (a : X) (ys : List X) → test a ≡ false
+    → suffix_len test (xs ++ a ∷ ys) ≡ suffix_len test ys
 suffix_len_stop test xs a ys h =
-    ap (prefix_len test) (reverse-append xs (a ∷ ys) ∙ ap (λ r. r ++ reverse xs) (reverse_onto ys a []) ∙ append_assoc (reverse ys) (a ∷ []) (reverse xs)) ∙ prefix_len_stop test (reverse ys) a (reverse xs) h
+    ap (prefix_len test) (reverse-append xs (a ∷ ys) ∙ ap (λ r. r ++ reverse xs) (reverse_onto ys a [])
+    ∙ append_assoc (reverse ys) (a ∷ []) (reverse xs)) ∙ prefix_len_stop test (reverse ys) a (reverse xs) h
 
-pub last_run_yes : {X : Type 0} (test : X → Bool) (xs : List X) (x : X) → test x ≡ true → last_run test (xs ++ x ∷ []) ≡ last_run test xs ++ x ∷ []
+pub last_run_yes : {X : Type 0} (test : X → Bool) (xs : List X) (x : X) → test x ≡ true → last_run test (xs ++ x ∷ [])
+    ≡ last_run test xs ++ x ∷ []
 last_run_yes test xs x h =
-    let cut : length (xs ++ x ∷ []) - suffix_len test (xs ++ x ∷ []) ≡ length xs - suffix_len test xs = omega (arith, length_push xs x, suffix_len_yes test xs x h, suffix_len-le-length test xs) in
+    let cut : length (xs ++ x ∷ []) - suffix_len test (xs ++ x ∷ []) ≡ length xs - suffix_len test xs =
+    omega (arith, length_push xs x, suffix_len_yes test xs x h, suffix_len-le-length test xs) in
     let within : length xs - suffix_len test xs ≤ length xs = omega arith in
     ap (λ k. drop k (xs ++ x ∷ [])) cut ∙ drop-append-le _ xs (x ∷ []) within
 
-pub before_last_run_yes : {X : Type 0} (test : X → Bool) (xs : List X) (x : X) → test x ≡ true → before_last_run test (xs ++ x ∷ []) ≡ before_last_run test xs
+pub before_last_run_yes : {X : Type 0} (test : X → Bool) (xs : List X) (x : X) → test x ≡ true
+    → before_last_run test (xs ++ x ∷ []) ≡ before_last_run test xs
 before_last_run_yes test xs x h =
-    let cut : length (xs ++ x ∷ []) - suffix_len test (xs ++ x ∷ []) ≡ length xs - suffix_len test xs = omega (arith, length_push xs x, suffix_len_yes test xs x h, suffix_len-le-length test xs) in
+    let cut : length (xs ++ x ∷ []) - suffix_len test (xs ++ x ∷ []) ≡ length xs - suffix_len test xs =
+    omega (arith, length_push xs x, suffix_len_yes test xs x h, suffix_len-le-length test xs) in
     let within : length xs - suffix_len test xs ≤ length xs = omega arith in
     ap (λ k. take k (xs ++ x ∷ [])) cut ∙ take-append-le _ xs (x ∷ []) within
 
-pub last_run_no : {X : Type 0} (test : X → Bool) (xs : List X) (x : X) → test x ≡ false → last_run test (xs ++ x ∷ []) ≡ []
+pub last_run_no : {X : Type 0} (test : X → Bool) (xs : List X) (x : X) → test x ≡ false → last_run test (xs ++ x ∷ [])
+    ≡ []
 last_run_no test xs x h =
-    let past : length (xs ++ x ∷ []) ≤ length (xs ++ x ∷ []) - suffix_len test (xs ++ x ∷ []) = omega (arith, suffix_len_no test xs x h) in
+    let past : length (xs ++ x ∷ []) ≤ length (xs ++ x ∷ []) - suffix_len test (xs ++ x ∷ []) =
+    omega (arith, suffix_len_no test xs x h) in
     drop_all _ (xs ++ x ∷ []) past
 
-pub before_last_run_no : {X : Type 0} (test : X → Bool) (xs : List X) (x : X) → test x ≡ false → before_last_run test (xs ++ x ∷ []) ≡ xs ++ x ∷ []
+pub before_last_run_no : {X : Type 0} (test : X → Bool) (xs : List X) (x : X) → test x ≡ false
+    → before_last_run test (xs ++ x ∷ []) ≡ xs ++ x ∷ []
 before_last_run_no test xs x h =
-    let past : length (xs ++ x ∷ []) ≤ length (xs ++ x ∷ []) - suffix_len test (xs ++ x ∷ []) = omega (arith, suffix_len_no test xs x h) in
+    let past : length (xs ++ x ∷ []) ≤ length (xs ++ x ∷ []) - suffix_len test (xs ++ x ∷ []) =
+    omega (arith, suffix_len_no test xs x h) in
     take_all _ (xs ++ x ∷ []) past
 
-pub last_run_stop : {X : Type 0} (test : X → Bool) (xs : List X) (a : X) (ys : List X) → test a ≡ false → last_run test (xs ++ a ∷ ys) ≡ last_run test ys
+pub last_run_stop : {X : Type 0} (test : X → Bool) (xs : List X) (a : X) (ys : List X) → test a ≡ false
+    → last_run test (xs ++ a ∷ ys) ≡ last_run test ys
 last_run_stop test xs a ys h =
-    let cut : length (xs ++ a ∷ ys) - suffix_len test (xs ++ a ∷ ys) ≡ length xs + suc (length ys - suffix_len test ys) = omega (arith, length-append xs (a ∷ ys), suffix_len_stop test xs a ys h, suffix_len-le-length test ys) in
+    let cut : length (xs ++ a ∷ ys) - suffix_len test (xs ++ a ∷ ys)
+    ≡ length xs + suc (length ys - suffix_len test ys) =
+    omega (arith, length-append xs (a ∷ ys), suffix_len_stop test xs a ys h, suffix_len-le-length test ys) in
     ap (λ k. drop k (xs ++ a ∷ ys)) cut ∙ drop-append-add xs (a ∷ ys) (suc (length ys - suffix_len test ys))
 
-pub before_last_run_stop : {X : Type 0} (test : X → Bool) (xs : List X) (a : X) (ys : List X) → test a ≡ false → before_last_run test (xs ++ a ∷ ys) ≡ xs ++ a ∷ before_last_run test ys
+pub before_last_run_stop : {X : Type 0} (test : X → Bool) (xs : List X) (a : X) (ys : List X) → test a ≡ false
+    → before_last_run test (xs ++ a ∷ ys) ≡ xs ++ a ∷ before_last_run test ys
 before_last_run_stop test xs a ys h =
-    let cut : length (xs ++ a ∷ ys) - suffix_len test (xs ++ a ∷ ys) ≡ length xs + suc (length ys - suffix_len test ys) = omega (arith, length-append xs (a ∷ ys), suffix_len_stop test xs a ys h, suffix_len-le-length test ys) in
+    let cut : length (xs ++ a ∷ ys) - suffix_len test (xs ++ a ∷ ys)
+    ≡ length xs + suc (length ys - suffix_len test ys) =
+    omega (arith, length-append xs (a ∷ ys), suffix_len_stop test xs a ys h, suffix_len-le-length test ys) in
     ap (λ k. take k (xs ++ a ∷ ys)) cut ∙ take-append-add xs (a ∷ ys) (suc (length ys - suffix_len test ys))
 
 -- a list that isn't empty has a first piece
@@ -69,29 +88,34 @@ cut_after_some test x xs =
       | false ↦ onto_first_some x (cut_after test xs)
     ]
 
-cut_after_middle : {X : Type 0} (test : X → Bool) (xs : List X) (a : X) (ys : List X) → 0 < length (cut_after test (xs ++ a ∷ ys))
+cut_after_middle : {X : Type 0} (test : X → Bool) (xs : List X) (a : X) (ys : List X)
+    → 0 < length (cut_after test (xs ++ a ∷ ys))
 cut_after_middle test [] a ys = cut_after_some test a ys
 cut_after_middle test (x ∷ xs) a ys = cut_after_some test x (xs ++ a ∷ ys)
 
-onto_first-append : {X : Type 0} (x : X) (pieces rest : List (List X)) → 0 < length pieces → onto_first x (pieces ++ rest) ≡ onto_first x pieces ++ rest
+onto_first-append : {X : Type 0} (x : X) (pieces rest : List (List X)) → 0 < length pieces
+    → onto_first x (pieces ++ rest) ≡ onto_first x pieces ++ rest
 onto_first-append x [] rest h = absurd (omega arith)
 onto_first-append x (piece ∷ pieces) rest h = refl
 
 -- the text before and after a cut is cut for itself
-pub cut_after-append : {X : Type 0} (test : X → Bool) (xs : List X) (a : X) (ys : List X) → test a ≡ true → cut_after test (xs ++ a ∷ ys) ≡ cut_after test (xs ++ a ∷ []) ++ cut_after test ys
+pub cut_after-append : {X : Type 0} (test : X → Bool) (xs : List X) (a : X) (ys : List X) → test a ≡ true
+    → cut_after test (xs ++ a ∷ ys) ≡ cut_after test (xs ++ a ∷ []) ++ cut_after test ys
 cut_after-append test [] a ys h = rw h refl
 cut_after-append test (x ∷ xs) a ys h =
     let whole = cut_after test (xs ++ a ∷ ys) in
     let front = cut_after test (xs ++ a ∷ []) in
     let rest = cut_after test ys in
     let same : whole ≡ front ++ rest = cut_after-append test xs a ys h in
-    elim (test x) as (λ b. cond b ((x ∷ []) ∷ whole) (onto_first x whole) ≡ cond b ((x ∷ []) ∷ front) (onto_first x front) ++ rest) [
+    elim (test x) as (λ b. cond b ((x ∷ []) ∷ whole) (onto_first x whole)
+    ≡ cond b ((x ∷ []) ∷ front) (onto_first x front) ++ rest) [
       | true ↦ ap (λ zs. (x ∷ []) ∷ zs) same
       | false ↦ ap (onto_first x) same ∙ onto_first-append x front rest (cut_after_middle test xs a [])
     ]
 
 -- a list none of which passes, and one more element, is one piece
-pub cut_after_none : {X : Type 0} (test : X → Bool) (xs : List X) (x : X) → list_any test xs ≡ false → cut_after test (xs ++ x ∷ []) ≡ (xs ++ x ∷ []) ∷ []
+pub cut_after_none : {X : Type 0} (test : X → Bool) (xs : List X) (x : X) → list_any test xs ≡ false
+    → cut_after test (xs ++ x ∷ []) ≡ (xs ++ x ∷ []) ∷ []
 cut_after_none test [] x h =
     elim (test x) as (λ b. cond b ((x ∷ []) ∷ []) ((x ∷ []) ∷ []) ≡ (x ∷ []) ∷ []) [ true ↦ refl | false ↦ refl ]
 cut_after_none test (y ∷ xs) x h =
@@ -112,7 +136,15 @@ pub last_pass : {X : Type 0} (test : X → Bool) (xs : List X) → (list_any tes
 last_pass test [] = inl refl
 last_pass test (x ∷ xs) =
     elim (last_pass test xs) [
-      | inr p ↦ inr (record { before = x ∷ p.before; element = p.element; after = p.after; parts = ap (λ zs. x ∷ zs) p.parts; passes = p.passes; none_after = p.none_after })
+      | inr p ↦ inr
+          (record {
+            before = x ∷ p.before;
+            element = p.element;
+            after = p.after;
+            parts = ap (λ zs. x ∷ zs) p.parts;
+            passes = p.passes;
+            none_after = p.none_after;
+          })
       | inl none ↦ elim (test x) as (λ b. test x ≡ b → ((b || list_any test xs) ≡ false) ⊎ LastPass test (x ∷ xs)) [
         | true ↦ λ h. inr (record { before = []; element = x; after = xs; parts = refl; passes = h; none_after = none })
         | false ↦ λ h. inl none
@@ -120,14 +152,18 @@ last_pass test (x ∷ xs) =
     ]
 
 -- parts of a list none of which passes
-pub none_in_front : {X : Type 0} (test : X → Bool) (n : ℕ) (xs : List X) → list_any test xs ≡ false → list_any test (take n xs) ≡ false
+pub none_in_front : {X : Type 0} (test : X → Bool) (n : ℕ) (xs : List X) → list_any test xs ≡ false
+    → list_any test (take n xs) ≡ false
 none_in_front test n xs none =
-    (or_parts _ _ (sym (list_any-append test (take n xs) (drop n xs)) ∙ ap (list_any test) (take-append-drop n xs) ∙ none)).0
+    (or_parts _ _ (sym (list_any-append test (take n xs) (drop n xs)) ∙ ap (list_any test) (take-append-drop n xs)
+    ∙ none)).0
 
-pub none_pushed : {X : Type 0} (test : X → Bool) (xs : List X) (x : X) → list_any test xs ≡ false → test x ≡ false → list_any test (xs ++ x ∷ []) ≡ false
+pub none_pushed : {X : Type 0} (test : X → Bool) (xs : List X) (x : X) → list_any test xs ≡ false → test x ≡ false
+    → list_any test (xs ++ x ∷ []) ≡ false
 none_pushed test xs x none fails = list_any-append test xs (x ∷ []) ∙ or_from _ _ none (or_from _ _ fails refl)
 
-pub none_before_push : {X : Type 0} (test : X → Bool) (xs : List X) (x : X) → list_any test (xs ++ x ∷ []) ≡ false → (list_any test xs ≡ false) × (test x ≡ false)
+pub none_before_push : {X : Type 0} (test : X → Bool) (xs : List X) (x : X) → list_any test (xs ++ x ∷ []) ≡ false
+    → (list_any test xs ≡ false) × (test x ≡ false)
 none_before_push test xs x none =
     let parts = or_parts _ _ (sym (list_any-append test xs (x ∷ [])) ∙ none) in
     (parts.0, (or_parts _ _ parts.1).0)
@@ -147,15 +183,18 @@ last_of (x ∷ xs) =
     ]
 
 -- a law of lists from their ends
-back : {X : Type 0} (P : List X → Type 0) → P [] → ((xs : List X) (x : X) → P xs → P (xs ++ x ∷ [])) → (xs : List X) → P (reverse xs)
+back : {X : Type 0} (P : List X → Type 0) → P [] → ((xs : List X) (x : X) → P xs → P (xs ++ x ∷ [])) → (xs : List X)
+    → P (reverse xs)
 back P start next [] = start
 back P start next (x ∷ xs) = subst P (sym (reverse_onto xs x [])) (next (reverse xs) x (back P start next xs))
 
-pub from_end : {X : Type 0} (P : List X → Type 0) → P [] → ((xs : List X) (x : X) → P xs → P (xs ++ x ∷ [])) → (xs : List X) → P xs
+pub from_end : {X : Type 0} (P : List X → Type 0) → P [] → ((xs : List X) (x : X) → P xs → P (xs ++ x ∷ []))
+    → (xs : List X) → P xs
 from_end P start next xs = subst P (reverse-reverse xs) (back P start next (reverse xs))
 
 -- one more element counted
-pub count_push : {X : Type 0} (test : X → Bool) (xs : List X) (x : X) (b : Bool) → test x ≡ b → count_by test (xs ++ x ∷ []) ≡ count_by test xs + cond b 1 0
+pub count_push : {X : Type 0} (test : X → Bool) (xs : List X) (x : X) (b : Bool) → test x ≡ b
+    → count_by test (xs ++ x ∷ []) ≡ count_by test xs + cond b 1 0
 count_push test xs x b h = sum_by_push (λ y. cond (test y) 1 0) xs x ∙ ap (λ c. count_by test xs + cond c 1 0) h
 
 no_one : (b : Bool) (n : ℕ) → cond b 1 0 + n ≡ 0 → b ≡ false
@@ -172,4 +211,5 @@ none_from_count test (x ∷ xs) h =
 pub count_from_none : {X : Type 0} (test : X → Bool) (xs : List X) → list_any test xs ≡ false → count_by test xs ≡ 0
 count_from_none test [] h = refl
 count_from_none test (x ∷ xs) h =
-    sum_by-cons (λ y. cond (test y) 1 0) x xs ∙ ap (λ b. cond b 1 0 + count_by test xs) (or_parts _ _ h).0 ∙ ap (λ n. 0 + n) (count_from_none test xs (or_parts _ _ h).1)
+    sum_by-cons (λ y. cond (test y) 1 0) x xs ∙ ap (λ b. cond b 1 0 + count_by test xs) (or_parts _ _ h).0
+    ∙ ap (λ n. 0 + n) (count_from_none test xs (or_parts _ _ h).1)

@@ -9,49 +9,64 @@ use Rattle.shapers_buffer.specs.Lists.{cut_after, last_run, before_last_run, eac
 
 pub map-reverse : {X Y : Type 0} (f : X → Y) (xs : List X) → map f (reverse xs) ≡ reverse (map f xs)
 map-reverse f [] = refl
-map-reverse f (x ∷ xs) = ap (map f) (reverse-append (x ∷ []) xs) ∙ map_push f (reverse xs) x ∙ ap (λ l. l ++ f x ∷ []) (map-reverse f xs) ∙ sym (reverse-append (f x ∷ []) (map f xs))
+map-reverse f (x ∷ xs) = ap (map f) (reverse-append (x ∷ []) xs) ∙ map_push f (reverse xs) x
+    ∙ ap (λ l. l ++ f x ∷ []) (map-reverse f xs) ∙ sym (reverse-append (f x ∷ []) (map f xs))
 
 -- changes that a view doesn't see, and that it sees as they are
-pub map-hidden : {X Y : Type 0} (view : X → Y) (f : X → X) → ((x : X) → view (f x) ≡ view x) → (xs : List X) → map view (map f xs) ≡ map view xs
+pub map-hidden : {X Y : Type 0} (view : X → Y) (f : X → X) → ((x : X) → view (f x) ≡ view x) → (xs : List X)
+    → map view (map f xs) ≡ map view xs
 map-hidden view f hides [] = refl
-map-hidden view f hides (x ∷ xs) = ap (λ y. y ∷ map view (map f xs)) (hides x) ∙ ap (λ ys. view x ∷ ys) (map-hidden view f hides xs)
+map-hidden view f hides (x ∷ xs) = ap (λ y. y ∷ map view (map f xs)) (hides x)
+    ∙ ap (λ ys. view x ∷ ys) (map-hidden view f hides xs)
 
-pub map-seen : {X : Type 0} (view f : X → X) → ((x : X) → view (f x) ≡ f (view x)) → (xs : List X) → map view (map f xs) ≡ map f (map view xs)
+pub map-seen : {X : Type 0} (view f : X → X) → ((x : X) → view (f x) ≡ f (view x)) → (xs : List X)
+    → map view (map f xs) ≡ map f (map view xs)
 map-seen view f same [] = refl
-map-seen view f same (x ∷ xs) = ap (λ y. y ∷ map view (map f xs)) (same x) ∙ ap (λ ys. f (view x) ∷ ys) (map-seen view f same xs)
+map-seen view f same (x ∷ xs) = ap (λ y. y ∷ map view (map f xs)) (same x)
+    ∙ ap (λ ys. f (view x) ∷ ys) (map-seen view f same xs)
 
 -- the longest front and the longest end of a mapped list, and what stands before it
-pub prefix_len-map : {X Y : Type 0} (test : Y → Bool) (f : X → Y) (xs : List X) → prefix_len test (map f xs) ≡ prefix_len (λ x. test (f x)) xs
+pub prefix_len-map : {X Y : Type 0} (test : Y → Bool) (f : X → Y) (xs : List X)
+    → prefix_len test (map f xs) ≡ prefix_len (λ x. test (f x)) xs
 prefix_len-map test f [] = refl
 prefix_len-map test f (x ∷ xs) = ap (λ n. cond (test (f x)) (1 + n) 0) (prefix_len-map test f xs)
 
-pub prefix_len-seen : {X : Type 0} (test : X → Bool) (view : X → X) → ((x : X) → test (view x) ≡ test x) → (xs : List X) → prefix_len test (map view xs) ≡ prefix_len test xs
+pub prefix_len-seen : {X : Type 0} (test : X → Bool) (view : X → X) → ((x : X) → test (view x) ≡ test x) → (xs : List X)
+    → prefix_len test (map view xs) ≡ prefix_len test xs
 prefix_len-seen test view same [] = refl
-prefix_len-seen test view same (x ∷ xs) = ap (λ b. cond b (1 + prefix_len test (map view xs)) 0) (same x) ∙ ap (λ n. cond (test x) (1 + n) 0) (prefix_len-seen test view same xs)
+prefix_len-seen test view same (x ∷ xs) = ap (λ b. cond b (1 + prefix_len test (map view xs)) 0) (same x)
+    ∙ ap (λ n. cond (test x) (1 + n) 0) (prefix_len-seen test view same xs)
 
-pub suffix_len-map : {X Y : Type 0} (test : Y → Bool) (f : X → Y) (xs : List X) → suffix_len test (map f xs) ≡ suffix_len (λ x. test (f x)) xs
+pub suffix_len-map : {X Y : Type 0} (test : Y → Bool) (f : X → Y) (xs : List X)
+    → suffix_len test (map f xs) ≡ suffix_len (λ x. test (f x)) xs
 suffix_len-map test f xs = ap (prefix_len test) (sym (map-reverse f xs)) ∙ prefix_len-map test f (reverse xs)
 
-run_start : {X Y : Type 0} (test : Y → Bool) (f : X → Y) (xs : List X) → length (map f xs) - suffix_len test (map f xs) ≡ length xs - suffix_len (λ x. test (f x)) xs
+run_start : {X Y : Type 0} (test : Y → Bool) (f : X → Y) (xs : List X) → length (map f xs) - suffix_len test (map f xs)
+    ≡ length xs - suffix_len (λ x. test (f x)) xs
 run_start test f xs = omega (arith, length-map xs f, suffix_len-map test f xs)
 
-pub last_run-map : {X Y : Type 0} (test : Y → Bool) (f : X → Y) (xs : List X) → last_run test (map f xs) ≡ map f (last_run (λ x. test (f x)) xs)
+pub last_run-map : {X Y : Type 0} (test : Y → Bool) (f : X → Y) (xs : List X)
+    → last_run test (map f xs) ≡ map f (last_run (λ x. test (f x)) xs)
 last_run-map test f xs = ap (λ n. drop n (map f xs)) (run_start test f xs) ∙ drop-map f _ xs
 
-pub before_last_run-map : {X Y : Type 0} (test : Y → Bool) (f : X → Y) (xs : List X) → before_last_run test (map f xs) ≡ map f (before_last_run (λ x. test (f x)) xs)
+pub before_last_run-map : {X Y : Type 0} (test : Y → Bool) (f : X → Y) (xs : List X) → before_last_run test (map f xs)
+    ≡ map f (before_last_run (λ x. test (f x)) xs)
 before_last_run-map test f xs = ap (λ n. take n (map f xs)) (run_start test f xs) ∙ take-map f _ xs
 
 -- a mapped list, cut
-onto_first-map : {X Y : Type 0} (f : X → Y) (x : X) (pieces : List (List X)) → map (map f) (onto_first x pieces) ≡ onto_first (f x) (map (map f) pieces)
+onto_first-map : {X Y : Type 0} (f : X → Y) (x : X) (pieces : List (List X)) → map (map f) (onto_first x pieces)
+    ≡ onto_first (f x) (map (map f) pieces)
 onto_first-map f x [] = refl
 onto_first-map f x (piece ∷ pieces) = refl
 
-pub cut_after-map : {X Y : Type 0} (test : Y → Bool) (f : X → Y) (xs : List X) → cut_after test (map f xs) ≡ map (map f) (cut_after (λ x. test (f x)) xs)
+pub cut_after-map : {X Y : Type 0} (test : Y → Bool) (f : X → Y) (xs : List X)
+    → cut_after test (map f xs) ≡ map (map f) (cut_after (λ x. test (f x)) xs)
 cut_after-map test f [] = refl
 cut_after-map test f (x ∷ xs) =
     let rest = cut_after-map test f xs in
     let pieces = cut_after (λ y. test (f y)) xs in
-    elim (test (f x)) as (λ b. cond b ((f x ∷ []) ∷ cut_after test (map f xs)) (onto_first (f x) (cut_after test (map f xs))) ≡ map (map f) (cond b ((x ∷ []) ∷ pieces) (onto_first x pieces))) [
+    elim (test (f x)) as (λ b. cond b ((f x ∷ []) ∷ cut_after test (map f xs))
+    (onto_first (f x) (cut_after test (map f xs))) ≡ map (map f) (cond b ((x ∷ []) ∷ pieces) (onto_first x pieces))) [
       | true ↦ ap (λ ps. (f x ∷ []) ∷ ps) rest
       | false ↦ ap (onto_first (f x)) rest ∙ sym (onto_first-map f x pieces)
     ]
@@ -61,26 +76,33 @@ pub values-enumerate_from : {X : Type 0} (n : ℕ) (xs : List X) → map (λ p. 
 values-enumerate_from n [] = refl
 values-enumerate_from n (x ∷ xs) = ap (λ ys. x ∷ ys) (values-enumerate_from (n + 1) xs)
 
-pub places-enumerate_from : {X : Type 0} (n : ℕ) (xs : List X) → map (λ p. p.0) (enumerate_from n xs) ≡ range_with_len n (length xs)
+pub places-enumerate_from : {X : Type 0} (n : ℕ) (xs : List X) → map (λ p. p.0) (enumerate_from n xs)
+    ≡ range_with_len n (length xs)
 places-enumerate_from n [] = refl
 places-enumerate_from n (x ∷ xs) = ap (λ ps. n ∷ ps) (places-enumerate_from (n + 1) xs)
 
-enumerate_from-append : {X : Type 0} (n : ℕ) (xs ys : List X) → enumerate_from n (xs ++ ys) ≡ enumerate_from n xs ++ enumerate_from (n + length xs) ys
+enumerate_from-append : {X : Type 0} (n : ℕ) (xs ys : List X) → enumerate_from n (xs ++ ys) ≡ enumerate_from n xs
+    ++ enumerate_from (n + length xs) ys
 enumerate_from-append n [] ys = let same : n ≡ n + 0 = omega arith in ap (λ k. enumerate_from k ys) same
 enumerate_from-append n (x ∷ xs) ys =
     let same : n + 1 + length xs ≡ n + suc (length xs) = omega arith in
-    ap (λ es. (n, x) ∷ es) (enumerate_from-append (n + 1) xs ys ∙ ap (λ k. enumerate_from (n + 1) xs ++ enumerate_from k ys) same)
+    ap (λ es. (n, x) ∷ es) (enumerate_from-append (n + 1) xs ys
+    ∙ ap (λ k. enumerate_from (n + 1) xs ++ enumerate_from k ys) same)
 
-pub enumerate-append : {X : Type 0} (xs ys : List X) → enumerate_from 0 (xs ++ ys) ≡ enumerate_from 0 xs ++ enumerate_from (length xs) ys
-enumerate-append xs ys = let same : 0 + length xs ≡ length xs = omega arith in enumerate_from-append 0 xs ys ∙ ap (λ n. enumerate_from 0 xs ++ enumerate_from n ys) same
+pub enumerate-append : {X : Type 0} (xs ys : List X) → enumerate_from 0 (xs ++ ys) ≡ enumerate_from 0 xs
+    ++ enumerate_from (length xs) ys
+enumerate-append xs ys = let same : 0 + length xs ≡ length xs = omega arith in enumerate_from-append 0 xs ys
+    ∙ ap (λ n. enumerate_from 0 xs ++ enumerate_from n ys) same
 
-pub take-enumerate_from : {X : Type 0} (n k : ℕ) (xs : List X) → take k (enumerate_from n xs) ≡ enumerate_from n (take k xs)
+pub take-enumerate_from : {X : Type 0} (n k : ℕ) (xs : List X) → take k (enumerate_from n xs)
+    ≡ enumerate_from n (take k xs)
 take-enumerate_from n zero xs = refl
 take-enumerate_from n (suc k) [] = refl
 take-enumerate_from n (suc k) (x ∷ xs) = ap (λ es. (n, x) ∷ es) (take-enumerate_from (n + 1) k xs)
 
 pub drop-range : (a n k : ℕ) → drop k (range_with_len a n) ≡ range_with_len (a + k) (n - k)
-drop-range a n zero = let same : a ≡ a + 0 = omega arith in let many : n ≡ n - 0 = omega arith in ap (λ k. range_with_len k n) same ∙ ap (range_with_len (a + 0)) many
+drop-range a n zero = let same : a ≡ a + 0 = omega arith in let many : n ≡ n - 0 =
+    omega arith in ap (λ k. range_with_len k n) same ∙ ap (range_with_len (a + 0)) many
 drop-range a zero (suc k) = let none : 0 ≡ 0 - suc k = omega arith in ap (range_with_len (a + suc k)) none
 drop-range a (suc n) (suc k) =
     let same : a + 1 + k ≡ a + suc k = omega arith in
@@ -88,15 +110,25 @@ drop-range a (suc n) (suc k) =
     drop-range (a + 1) n k ∙ ap (λ i. range_with_len i (n - k)) same ∙ ap (range_with_len (a + suc k)) many
 
 -- the longest end of a numbered list, and what stands before it
-numbered_run_start : {X : Type 0} (test : X → Bool) (n : ℕ) (xs : List X) → length (enumerate_from n xs) - suffix_len (λ p. test p.1) (enumerate_from n xs) ≡ length xs - suffix_len test xs
+numbered_run_start : {X : Type 0} (test : X → Bool) (n : ℕ) (xs : List X)
+    → length (enumerate_from n xs) - suffix_len (λ p. test p.1) (enumerate_from n xs) ≡ length xs - suffix_len test xs
 numbered_run_start test n xs =
     let es = enumerate_from n xs in
-    omega (arith, length-enumerate_from n xs, sym (suffix_len-map test (λ p. p.1) es) ∙ ap (suffix_len test) (values-enumerate_from n xs))
+    omega (
+      arith,
+      length-enumerate_from n xs,
+      sym (suffix_len-map test (λ p. p.1) es)
+          ∙ ap (suffix_len test) (values-enumerate_from n xs),
+    )
 
-pub before_last_run-enumerate_from : {X : Type 0} (test : X → Bool) (n : ℕ) (xs : List X) → before_last_run (λ p. test p.1) (enumerate_from n xs) ≡ enumerate_from n (before_last_run test xs)
-before_last_run-enumerate_from test n xs = ap (λ k. take k (enumerate_from n xs)) (numbered_run_start test n xs) ∙ take-enumerate_from n _ xs
+pub before_last_run-enumerate_from : {X : Type 0} (test : X → Bool) (n : ℕ) (xs : List X)
+    → before_last_run (λ p. test p.1) (enumerate_from n xs) ≡ enumerate_from n (before_last_run test xs)
+before_last_run-enumerate_from test n xs = ap (λ k. take k (enumerate_from n xs)) (numbered_run_start test n xs)
+    ∙ take-enumerate_from n _ xs
 
-pub places-last_run : {X : Type 0} (test : X → Bool) (xs : List X) → map (λ p. p.0) (last_run (λ p. test p.1) (enumerate_from 0 xs)) ≡ range_with_len (length xs - suffix_len test xs) (suffix_len test xs)
+pub places-last_run : {X : Type 0} (test : X → Bool) (xs : List X)
+    → map (λ p. p.0) (last_run (λ p. test p.1) (enumerate_from 0 xs))
+    ≡ range_with_len (length xs - suffix_len test xs) (suffix_len test xs)
 places-last_run test xs =
     let es = enumerate_from 0 xs in
     let start = length xs - suffix_len test xs in
@@ -110,44 +142,62 @@ places-last_run test xs =
     ∙ ap (range_with_len start) many
 
 -- what holds of all, and what is contained, in joined and mapped lists and in ranges
-pub all-append : {X : Type 0} (P : X → Type 0) (xs ys : List X) → AllByRecursion P xs → AllByRecursion P ys → AllByRecursion P (xs ++ ys)
+pub all-append : {X : Type 0} (P : X → Type 0) (xs ys : List X) → AllByRecursion P xs → AllByRecursion P ys
+    → AllByRecursion P (xs ++ ys)
 all-append P [] ys h i = i
 all-append P (x ∷ xs) ys h i = (h.0, all-append P xs ys h.1 i)
 
-pub all-mapped : {X Y : Type 0} (P : X → Type 0) (Q : Y → Type 0) (f : X → Y) (xs : List X) → ((x : X) → P x → Q (f x)) → AllByRecursion P xs → AllByRecursion Q (map f xs)
+pub all-mapped : {X Y : Type 0} (P : X → Type 0) (Q : Y → Type 0) (f : X → Y) (xs : List X) → ((x : X) → P x → Q (f x))
+    → AllByRecursion P xs → AllByRecursion Q (map f xs)
 all-mapped P Q f [] g h = tt
 all-mapped P Q f (x ∷ xs) g h = (g x h.0, all-mapped P Q f xs g h.1)
 
 pub all-range : (P : ℕ → Type 0) (a k : ℕ) → ((p : ℕ) → a ≤ p → p < a + k → P p) → AllByRecursion P (range_with_len a k)
 all-range P a zero h = tt
-all-range P a (suc k) h = (h a (omega arith) (omega arith), all-range P (a + 1) k (λ p x y. h p (omega arith) (omega arith)))
+all-range P a (suc k) h =
+    (h a (omega arith) (omega arith), all-range P (a + 1) k (λ p x y. h p (omega arith) (omega arith)))
 
-pub all-flat_map : {X Y : Type 0} (Q : X → Type 0) (P : Y → Type 0) (f : X → List Y) → ((x : X) → Q x → AllByRecursion P (f x)) → (xs : List X) → AllByRecursion Q xs → AllByRecursion P (flat_map f xs)
+pub all-flat_map : {X Y : Type 0} (Q : X → Type 0) (P : Y → Type 0) (f : X → List Y)
+    → ((x : X) → Q x → AllByRecursion P (f x)) → (xs : List X) → AllByRecursion Q xs → AllByRecursion P (flat_map f xs)
 all-flat_map Q P f each [] all = tt
-all-flat_map Q P f each (x ∷ xs) all = all-append P (f x) (flat_map f xs) (each x all.0) (all-flat_map Q P f each xs all.1)
+all-flat_map Q P f each (x ∷ xs) all =
+    all-append P (f x) (flat_map f xs) (each x all.0) (all-flat_map Q P f each xs all.1)
 
-pub Contains-flat_map : {X Y : Type 0} (f : X → List Y) (xs : List X) (x : X) (y : Y) → Contains xs x → Contains (f x) y → Contains (flat_map f xs) y
+pub Contains-flat_map : {X Y : Type 0} (f : X → List Y) (xs : List X) (x : X) (y : Y) → Contains xs x → Contains (f x) y
+    → Contains (flat_map f xs) y
 Contains-flat_map f [] x y (k, inside, at) among = absurd (omega arith)
-Contains-flat_map f (z ∷ xs) x y (zero, inside, at) among = Contains-append_left (f z) (flat_map f xs) y (subst (λ w. Contains (f w) y) (sym at) among)
-Contains-flat_map f (z ∷ xs) x y (suc k, inside, at) among = Contains-append_right (f z) (flat_map f xs) y (Contains-flat_map f xs x y (k, omega arith, at) among)
+Contains-flat_map f (z ∷ xs) x y (zero, inside, at) among =
+    Contains-append_left (f z) (flat_map f xs) y (subst (λ w. Contains (f w) y) (sym at) among)
+Contains-flat_map f (z ∷ xs) x y (suc k, inside, at) among =
+    Contains-append_right (f z) (flat_map f xs) y (Contains-flat_map f xs x y (k, omega arith, at) among)
 
 -- each element with what stands before it: one more, one among them, all of them
-pub each_after-push : {X : Type 0} (before xs : List X) (x : X) → each_after before (xs ++ x ∷ []) ≡ each_after before xs ++ (before ++ xs, x) ∷ []
+pub each_after-push : {X : Type 0} (before xs : List X) (x : X) → each_after before (xs ++ x ∷ [])
+    ≡ each_after before xs ++ (before ++ xs, x) ∷ []
 each_after-push before [] x = ap (λ ys. (ys, x) ∷ []) (sym (append-nil before))
-each_after-push before (y ∷ xs) x = ap (λ ps. (before, y) ∷ ps) (each_after-push (before ++ y ∷ []) xs x ∙ ap (λ ys. each_after (before ++ y ∷ []) xs ++ (ys, x) ∷ []) (append_assoc before (y ∷ []) xs))
+each_after-push before (y ∷ xs) x =
+    ap (λ ps. (before, y) ∷ ps) (each_after-push (before ++ y ∷ []) xs x
+    ∙ ap (λ ys. each_after (before ++ y ∷ []) xs ++ (ys, x) ∷ []) (append_assoc before (y ∷ []) xs))
 
-pub Contains-each_after : {X : Type 0} (before xs : List X) (x : X) (ys : List X) → Contains (each_after before (xs ++ x ∷ ys)) (before ++ xs, x)
-Contains-each_after before [] x ys = subst (λ zs. Contains (each_after before (x ∷ ys)) (zs, x)) (sym (append-nil before)) (0, omega arith, refl)
+pub Contains-each_after : {X : Type 0} (before xs : List X) (x : X) (ys : List X)
+    → Contains (each_after before (xs ++ x ∷ ys)) (before ++ xs, x)
+Contains-each_after before [] x ys =
+    subst (λ zs. Contains (each_after before (x ∷ ys)) (zs, x)) (sym (append-nil before)) (0, omega arith, refl)
 Contains-each_after before (y ∷ xs) x ys =
-    let (k, inside, at) = subst (λ zs. Contains (each_after (before ++ y ∷ []) (xs ++ x ∷ ys)) (zs, x)) (append_assoc before (y ∷ []) xs) (Contains-each_after (before ++ y ∷ []) xs x ys) in
+    let (k, inside, at) =
+    subst (λ zs. Contains (each_after (before ++ y ∷ []) (xs ++ x ∷ ys)) (zs, x))
+    (append_assoc before (y ∷ []) xs) (Contains-each_after (before ++ y ∷ []) xs x ys) in
     (suc k, omega arith, at)
 
-pub all-each_after : {X : Type 0} (m : ℕ) (before xs : List X) → length before + length xs ≤ m → AllByRecursion (λ p. length p.0 < m) (each_after before xs)
+pub all-each_after : {X : Type 0} (m : ℕ) (before xs : List X) → length before + length xs ≤ m
+    → AllByRecursion (λ p. length p.0 < m) (each_after before xs)
 all-each_after m before [] within = tt
-all-each_after m before (x ∷ xs) within = (omega arith, all-each_after m (before ++ x ∷ []) xs (omega (arith, length_push before x)))
+all-each_after m before (x ∷ xs) within =
+    (omega arith, all-each_after m (before ++ x ∷ []) xs (omega (arith, length_push before x)))
 
 -- whether any element of a mapped list passes
-pub list_any-map : {X Y : Type 0} (test : Y → Bool) (f : X → Y) (xs : List X) → list_any test (map f xs) ≡ list_any (λ x. test (f x)) xs
+pub list_any-map : {X Y : Type 0} (test : Y → Bool) (f : X → Y) (xs : List X)
+    → list_any test (map f xs) ≡ list_any (λ x. test (f x)) xs
 list_any-map test f [] = refl
 list_any-map test f (x ∷ xs) = ap (λ b. test (f x) || b) (list_any-map test f xs)
 

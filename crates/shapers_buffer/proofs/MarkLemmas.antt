@@ -31,7 +31,8 @@ all_but-same : (k : ℕ) → k < 8 → bit_at (all_but k) k ≡ 0
 all_but-same k small = bit_at_not w8 (2 ^ k) k (pow-lt small) small ∙ ap (λ bit. 1 - bit) (bit_at-pow_same k)
 
 all_but-other : (k j : ℕ) → k < 8 → j < 8 → j ≢ k → bit_at (all_but k) j ≡ 1
-all_but-other k j small at other = bit_at_not w8 (2 ^ k) j (pow-lt small) at ∙ ap (λ bit. 1 - bit) (bit_at-pow_other k j other)
+all_but-other k j small at other = bit_at_not w8 (2 ^ k) j (pow-lt small) at
+    ∙ ap (λ bit. 1 - bit) (bit_at-pow_other k j other)
 
 -- a bit that is set, and the others
 set_same : (byte k : ℕ) → bit_at (bit_or byte (2 ^ k)) k ≡ 1
@@ -45,7 +46,8 @@ cleared_same : (byte k : ℕ) → k < 8 → bit_at (bit_and byte (all_but k)) k 
 cleared_same byte k small = bit_at_and byte (all_but k) k ∙ omega (arith, all_but-same k small)
 
 cleared_other : (byte k j : ℕ) → k < 8 → j < 8 → j ≢ k → bit_at (bit_and byte (all_but k)) j ≡ bit_at byte j
-cleared_other byte k j small at other = bit_at_and byte (all_but k) j ∙ omega (arith, all_but-other k j small at other, bit_at-lt byte j)
+cleared_other byte k j small at other = bit_at_and byte (all_but k) j
+    ∙ omega (arith, all_but-other k j small at other, bit_at-lt byte j)
 
 pub marks_are_set_alone : MarksAreSetAlone
 marks_are_set_alone k true marks small a_byte = record {
@@ -54,11 +56,13 @@ marks_are_set_alone k true marks small a_byte = record {
   a_byte = or_lt 8 marks.0 (2 ^ k) a_byte (pow-lt small);
 }
 marks_are_set_alone k false marks small a_byte = record {
-  its_own = read_by_bit (without_mark (2 ^ k) marks) k ∙ ap (λ bit. bit * 2 ^ k == 2 ^ k) (cleared_same marks.0 k small) ∙ is_off k;
+  its_own = read_by_bit (without_mark (2 ^ k) marks) k ∙ ap (λ bit. bit * 2 ^ k == 2 ^ k) (cleared_same marks.0 k small)
+      ∙ is_off k;
   others = λ j at other. same_mark (without_mark (2 ^ k) marks) marks j (cleared_other marks.0 k j small at other);
   a_byte = omega (arith, and_le_l marks.0 (255 - 2 ^ k));
 }
 
 -- a mark set first and then cleared is cleared
-pub cleared_after_set : (mark : ℕ) (marks : GlyphMarks) → bit_and mark (255 - mark) ≡ 0 → without_mark mark (with_mark mark marks) ≡ without_mark mark marks
+pub cleared_after_set : (mark : ℕ) (marks : GlyphMarks) → bit_and mark (255 - mark) ≡ 0
+    → without_mark mark (with_mark mark marks) ≡ without_mark mark marks
 cleared_after_set mark marks apart = λ i. record { 0 = and_or_apart (255 - mark) marks.0 mark apart i }

@@ -8,7 +8,8 @@ use Rattle.std.proofs.lemmas.Bool.{cases_lt}
 use Rattle.shapers_buffer.proofs.MappedLists.{all-range}
 use Rattle.shapers_buffer.specs.Places.{pick}
 
-pub pick-within : {X : Type 0} (d : X) (p : ℕ) (ps : List ℕ) (xs : List X) → p < length xs → pick (p ∷ ps) xs ≡ get_or xs p d ∷ pick ps xs
+pub pick-within : {X : Type 0} (d : X) (p : ℕ) (ps : List ℕ) (xs : List X) → p < length xs
+    → pick (p ∷ ps) xs ≡ get_or xs p d ∷ pick ps xs
 pick-within d p ps xs h = ap (λ o. cons_option o (pick ps xs)) (slice_get-get_or xs p d h)
 
 pick-past : {X : Type 0} (p : ℕ) (ps : List ℕ) (xs : List X) → length xs ≤ p → pick (p ∷ ps) xs ≡ pick ps xs
@@ -23,26 +24,32 @@ pub some_element : {X : Type 0} (xs : List X) → ((length xs ≡ 0) ⊎ X)
 some_element [] = inl refl
 some_element (x ∷ xs) = inr x
 
-pub length-pick : {X : Type 0} (ps : List ℕ) (xs : List X) → AllByRecursion (λ p. p < length xs) ps → length (pick ps xs) ≡ length ps
+pub length-pick : {X : Type 0} (ps : List ℕ) (xs : List X) → AllByRecursion (λ p. p < length xs) ps
+    → length (pick ps xs) ≡ length ps
 length-pick [] xs h = refl
 length-pick (p ∷ ps) xs h = elim (some_element xs) [
   | inl e ↦ absurd (omega (arith, h.0))
   | inr d ↦ ap length (pick-within d p ps xs h.0) ∙ ap suc (length-pick ps xs h.1)
 ]
 
-pub get_or-pick : {X : Type 0} (d : X) (ps : List ℕ) (xs : List X) → AllByRecursion (λ p. p < length xs) ps → (k : ℕ) → k < length ps → get_or (pick ps xs) k d ≡ get_or xs (get_or ps k 0) d
+pub get_or-pick : {X : Type 0} (d : X) (ps : List ℕ) (xs : List X) → AllByRecursion (λ p. p < length xs) ps → (k : ℕ)
+    → k < length ps → get_or (pick ps xs) k d ≡ get_or xs (get_or ps k 0) d
 get_or-pick d [] xs h k l = absurd (omega arith)
 get_or-pick d (p ∷ ps) xs h zero l = ap (λ ys. get_or ys 0 d) (pick-within d p ps xs h.0)
-get_or-pick d (p ∷ ps) xs h (suc k) l = ap (λ ys. get_or ys (suc k) d) (pick-within d p ps xs h.0) ∙ get_or-pick d ps xs h.1 k (omega arith)
+get_or-pick d (p ∷ ps) xs h (suc k) l = ap (λ ys. get_or ys (suc k) d) (pick-within d p ps xs h.0)
+    ∙ get_or-pick d ps xs h.1 k (omega arith)
 
-map-cons_option : {X Y : Type 0} (f : X → Y) (o : Option X) (xs : List X) → cons_option (option_map f o) (map f xs) ≡ map f (cons_option o xs)
+map-cons_option : {X Y : Type 0} (f : X → Y) (o : Option X) (xs : List X) → cons_option (option_map f o) (map f xs)
+    ≡ map f (cons_option o xs)
 map-cons_option f None xs = refl
 map-cons_option f (Some x) xs = refl
 
 pub pick-map : {X Y : Type 0} (f : X → Y) (ps : List ℕ) (xs : List X) → pick ps (map f xs) ≡ map f (pick ps xs)
 pick-map f [] xs = refl
 pick-map f (p ∷ ps) xs =
-    ap (λ o. cons_option o (pick ps (map f xs))) (slice_get-map f xs p) ∙ ap (cons_option (option_map f (slice_get xs p))) (pick-map f ps xs) ∙ map-cons_option f (slice_get xs p) (pick ps xs)
+    ap (λ o. cons_option o (pick ps (map f xs))) (slice_get-map f xs p)
+    ∙ ap (cons_option (option_map f (slice_get xs p))) (pick-map f ps xs)
+    ∙ map-cons_option f (slice_get xs p) (pick ps xs)
 
 pub pick-append : {X : Type 0} (ps qs : List ℕ) (xs : List X) → pick (ps ++ qs) xs ≡ pick ps xs ++ pick qs xs
 pick-append ps qs xs = filter_map-append (slice_get xs) ps qs
@@ -52,7 +59,8 @@ within_at n [] h k l = absurd (omega arith)
 within_at n (p ∷ ps) h zero l = h.0
 within_at n (p ∷ ps) h (suc k) l = within_at n ps h.1 k (omega arith)
 
-pub pick-pick : {X : Type 0} (qs ps : List ℕ) (xs : List X) → AllByRecursion (λ p. p < length xs) ps → pick qs (pick ps xs) ≡ pick (pick qs ps) xs
+pub pick-pick : {X : Type 0} (qs ps : List ℕ) (xs : List X) → AllByRecursion (λ p. p < length xs) ps
+    → pick qs (pick ps xs) ≡ pick (pick qs ps) xs
 pick-pick [] ps xs h = refl
 pick-pick (q ∷ qs) ps xs h = elim (cases_lt q (length ps)) [
   | inl l ↦ elim (some_element xs) [
@@ -61,27 +69,35 @@ pick-pick (q ∷ qs) ps xs h = elim (cases_lt q (length ps)) [
         pick-within d q qs (pick ps xs) (omega (arith, length-pick ps xs h))
         ∙ ap (λ x. x ∷ pick qs (pick ps xs)) (get_or-pick d ps xs h q l)
         ∙ ap (λ ys. get_or xs (get_or ps q 0) d ∷ ys) (pick-pick qs ps xs h)
-        ∙ sym (ap (λ ys. pick ys xs) (pick-within 0 q qs ps l) ∙ pick-within d (get_or ps q 0) (pick qs ps) xs (within_at (length xs) ps h q l))
+        ∙ sym (ap (λ ys. pick ys xs) (pick-within 0 q qs ps l)
+        ∙ pick-within d (get_or ps q 0) (pick qs ps) xs (within_at (length xs) ps h q l))
   ]
-  | inr l ↦ pick-past q qs (pick ps xs) (omega (arith, length-pick ps xs h)) ∙ pick-pick qs ps xs h ∙ ap (λ ys. pick ys xs) (sym (pick-past q qs ps l))
+  | inr l ↦ pick-past q qs (pick ps xs) (omega (arith, length-pick ps xs h)) ∙ pick-pick qs ps xs h
+      ∙ ap (λ ys. pick ys xs) (sym (pick-past q qs ps l))
 ]
 
 pub within_picked : (n : ℕ) (qs ps : List ℕ) → AllByRecursion (λ p. p < n) ps → AllByRecursion (λ p. p < n) (pick qs ps)
 within_picked n [] ps h = tt
 within_picked n (q ∷ qs) ps h = elim (cases_lt q (length ps)) [
-  | inl l ↦ let P : List ℕ → Type 0 = AllByRecursion (λ p. p < n) in subst P (sym (pick-within 0 q qs ps l)) (within_at n ps h q l, within_picked n qs ps h)
-  | inr l ↦ let P : List ℕ → Type 0 = AllByRecursion (λ p. p < n) in subst P (sym (pick-past q qs ps l)) (within_picked n qs ps h)
+  | inl l ↦ let P : List ℕ → Type 0 =
+      AllByRecursion (λ p. p < n) in subst P (sym (pick-within 0 q qs ps l))
+      (within_at n ps h q l, within_picked n qs ps h)
+  | inr l ↦ let P : List ℕ → Type 0 =
+      AllByRecursion (λ p. p < n) in subst P (sym (pick-past q qs ps l)) (within_picked n qs ps h)
 ]
 
 pub within_range : (a k n : ℕ) → a + k ≤ n → AllByRecursion (λ p. p < n) (range_with_len a k)
 within_range a k n h = all-range (λ p. p < n) a k (λ p low high. omega arith)
 
 -- the places from a on, k of them, give that stretch
-pub pick-range : {X : Type 0} (a k : ℕ) (xs : List X) → a + k ≤ length xs → pick (range_with_len a k) xs ≡ take k (drop a xs)
+pub pick-range : {X : Type 0} (a k : ℕ) (xs : List X) → a + k ≤ length xs → pick (range_with_len a k) xs
+    ≡ take k (drop a xs)
 pick-range a zero xs h = refl
 pick-range a (suc k) xs h = elim (some_element xs) [
   | inl e ↦ absurd (omega arith)
-  | inr d ↦ pick-within d a (range_with_len (a + 1) k) xs (omega arith) ∙ ap (λ ys. get_or xs a d ∷ ys) (pick-range (a + 1) k xs (omega arith)) ∙ sym (ap (take (suc k)) (drop_more xs a d (omega arith)))
+  | inr d ↦ pick-within d a (range_with_len (a + 1) k) xs (omega arith)
+      ∙ ap (λ ys. get_or xs a d ∷ ys) (pick-range (a + 1) k xs (omega arith))
+      ∙ sym (ap (take (suc k)) (drop_more xs a d (omega arith)))
 ]
 
 pub pick-all : {X : Type 0} (n : ℕ) (xs : List X) → length xs ≡ n → pick (range_with_len 0 n) xs ≡ xs
@@ -94,23 +110,28 @@ BothHave R None (Some y) = ⊥
 BothHave R (Some x) None = ⊥
 BothHave R (Some x) (Some y) = R x y
 
-get_zip : {X Y : Type 0} (R : X → Y → Type 0) (p : ℕ) (xs : List X) (ys : List Y) → AllZip R xs ys → BothHave R (slice_get xs p) (slice_get ys p)
+get_zip : {X Y : Type 0} (R : X → Y → Type 0) (p : ℕ) (xs : List X) (ys : List Y) → AllZip R xs ys
+    → BothHave R (slice_get xs p) (slice_get ys p)
 get_zip R p [] [] h = tt
 get_zip R p [] (y ∷ ys) h = absurd h
 get_zip R p (x ∷ xs) [] h = absurd h
 get_zip R zero (x ∷ xs) (y ∷ ys) h = h.0
 get_zip R (suc p) (x ∷ xs) (y ∷ ys) h = get_zip R p xs ys h.1
 
-cons_zip : {X Y : Type 0} (R : X → Y → Type 0) (o : Option X) (u : Option Y) (xs : List X) (ys : List Y) → BothHave R o u → AllZip R xs ys → AllZip R (cons_option o xs) (cons_option u ys)
+cons_zip : {X Y : Type 0} (R : X → Y → Type 0) (o : Option X) (u : Option Y) (xs : List X) (ys : List Y)
+    → BothHave R o u → AllZip R xs ys → AllZip R (cons_option o xs) (cons_option u ys)
 cons_zip R None None xs ys h i = i
 cons_zip R None (Some y) xs ys h i = absurd h
 cons_zip R (Some x) None xs ys h i = absurd h
 cons_zip R (Some x) (Some y) xs ys h i = (h, i)
 
-pick-cons_zip : {X Y : Type 0} (R : X → Y → Type 0) (p : ℕ) (ps : List ℕ) (xs : List X) (ys : List Y) → AllZip R xs ys → AllZip R (pick ps xs) (pick ps ys) → AllZip R (pick (p ∷ ps) xs) (pick (p ∷ ps) ys)
-pick-cons_zip R p ps xs ys h i = cons_zip R (slice_get xs p) (slice_get ys p) (pick ps xs) (pick ps ys) (get_zip R p xs ys h) i
+pick-cons_zip : {X Y : Type 0} (R : X → Y → Type 0) (p : ℕ) (ps : List ℕ) (xs : List X) (ys : List Y) → AllZip R xs ys
+    → AllZip R (pick ps xs) (pick ps ys) → AllZip R (pick (p ∷ ps) xs) (pick (p ∷ ps) ys)
+pick-cons_zip R p ps xs ys h i =
+    cons_zip R (slice_get xs p) (slice_get ys p) (pick ps xs) (pick ps ys) (get_zip R p xs ys h) i
 
 -- what holds place by place holds of what is picked at the same places
-pub AllZip-pick : {X Y : Type 0} (R : X → Y → Type 0) (ps : List ℕ) (xs : List X) (ys : List Y) → AllZip R xs ys → AllZip R (pick ps xs) (pick ps ys)
+pub AllZip-pick : {X Y : Type 0} (R : X → Y → Type 0) (ps : List ℕ) (xs : List X) (ys : List Y) → AllZip R xs ys
+    → AllZip R (pick ps xs) (pick ps ys)
 AllZip-pick R [] xs ys h = tt
 AllZip-pick R (p ∷ ps) xs ys h = pick-cons_zip R p ps xs ys h (AllZip-pick R ps xs ys h)

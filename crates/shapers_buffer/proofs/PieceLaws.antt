@@ -9,43 +9,61 @@ use Rattle.shapers_buffer.proofs.ListLaws.{last_pass, last_of, cut_after-append,
 use Rattle.shapers_buffer.proofs.MappedLists.{map-reverse, cut_after-map}
 
 -- a piece, by its last
-opened_push : {X : Type 0} (test : X → Bool) (rule : List X → X → List X) (xs : List X) (x : X) → opened_back test rule (reverse (xs ++ x ∷ [])) ≡ cond (test x) (rule xs x) (xs ++ x ∷ [])
+opened_push : {X : Type 0} (test : X → Bool) (rule : List X → X → List X) (xs : List X) (x : X)
+    → opened_back test rule (reverse (xs ++ x ∷ [])) ≡ cond (test x) (rule xs x) (xs ++ x ∷ [])
 opened_push test rule xs x =
-    ap (opened_back test rule) (reverse-append xs (x ∷ [])) ∙ rw (reverse-reverse xs, reverse_onto (reverse xs) x []) (rw (reverse-reverse xs) refl)
+    ap (opened_back test rule) (reverse-append xs (x ∷ []))
+    ∙ rw (reverse-reverse xs, reverse_onto (reverse xs) x []) (rw (reverse-reverse xs) refl)
 
 -- one piece
-pub one_piece : {X : Type 0} (test : X → Bool) (rule : List X → X → List X) (xs : List X) (x : X) → list_any test xs ≡ false → opened_pieces test rule (xs ++ x ∷ []) ≡ cond (test x) (rule xs x) (xs ++ x ∷ [])
+pub one_piece : {X : Type 0} (test : X → Bool) (rule : List X → X → List X) (xs : List X) (x : X)
+    → list_any test xs ≡ false → opened_pieces test rule (xs ++ x ∷ []) ≡ cond (test x) (rule xs x) (xs ++ x ∷ [])
 one_piece test rule xs x none =
-    ap (flat_map (λ piece. opened_back test rule (reverse piece))) (cut_after_none test xs x none) ∙ append-nil _ ∙ opened_push test rule xs x
+    ap (flat_map (λ piece. opened_back test rule (reverse piece))) (cut_after_none test xs x none) ∙ append-nil _
+    ∙ opened_push test rule xs x
 
 -- where none passes, the list stays
-pub opened_pieces-none : {X : Type 0} (test : X → Bool) (rule : List X → X → List X) (xs : List X) → list_any test xs ≡ false → opened_pieces test rule xs ≡ xs
+pub opened_pieces-none : {X : Type 0} (test : X → Bool) (rule : List X → X → List X) (xs : List X)
+    → list_any test xs ≡ false → opened_pieces test rule xs ≡ xs
 opened_pieces-none test rule xs none =
     elim (last_of xs) [
       | inl e ↦ ap (opened_pieces test rule) e ∙ sym e
       | inr p ↦
           let parts = none_before_push test p.front p.last (sym (ap (list_any test) p.parts) ∙ none) in
-          ap (opened_pieces test rule) p.parts ∙ one_piece test rule p.front p.last parts.0 ∙ ap (λ b. cond b (rule p.front p.last) (p.front ++ p.last ∷ [])) parts.1 ∙ sym p.parts
+          ap (opened_pieces test rule) p.parts ∙ one_piece test rule p.front p.last parts.0
+          ∙ ap (λ b. cond b (rule p.front p.last) (p.front ++ p.last ∷ [])) parts.1 ∙ sym p.parts
     ]
 
 -- what stands up to an element that passes, and behind it, is opened for itself
-pub opened_pieces-append : {X : Type 0} (test : X → Bool) (rule : List X → X → List X) (xs : List X) (a : X) (ys : List X) → test a ≡ true → opened_pieces test rule (xs ++ a ∷ ys) ≡ opened_pieces test rule (xs ++ a ∷ []) ++ opened_pieces test rule ys
-opened_pieces-append test rule xs a ys h = ap (flat_map (λ piece. opened_back test rule (reverse piece))) (cut_after-append test xs a ys h) ∙ flat_map-append (λ piece. opened_back test rule (reverse piece)) (cut_after test (xs ++ a ∷ [])) (cut_after test ys)
+pub opened_pieces-append : {X : Type 0} (test : X → Bool) (rule : List X → X → List X) (xs : List X) (a : X)
+    (ys : List X) → test a ≡ true → opened_pieces test rule (xs ++ a ∷ ys) ≡ opened_pieces test rule (xs ++ a ∷ [])
+    ++ opened_pieces test rule ys
+opened_pieces-append test rule xs a ys h =
+    ap (flat_map (λ piece. opened_back test rule (reverse piece))) (cut_after-append test xs a ys h)
+    ∙ flat_map-append (λ piece. opened_back test rule (reverse piece)) (cut_after test (xs ++ a ∷ []))
+    (cut_after test ys)
 
 -- one more element that fails
-push_after : {X : Type 0} (test : X → Bool) (rule : List X → X → List X) (before : List X) (a : X) (after : List X) (x : X) → test a ≡ true → list_any test after ≡ false → test x ≡ false → opened_pieces test rule ((before ++ a ∷ after) ++ x ∷ []) ≡ opened_pieces test rule (before ++ a ∷ after) ++ x ∷ []
+push_after : {X : Type 0} (test : X → Bool) (rule : List X → X → List X) (before : List X) (a : X) (after : List X)
+    (x : X) → test a ≡ true → list_any test after ≡ false → test x ≡ false
+    → opened_pieces test rule ((before ++ a ∷ after) ++ x ∷ []) ≡ opened_pieces test rule (before ++ a ∷ after) ++ x
+    ∷ []
 push_after test rule before a after x h none fails =
     ap (opened_pieces test rule) (append_assoc before (a ∷ after) (x ∷ []))
     ∙ opened_pieces-append test rule before a (after ++ x ∷ []) h
-    ∙ ap (λ zs. opened_pieces test rule (before ++ a ∷ []) ++ zs) (opened_pieces-none test rule (after ++ x ∷ []) (none_pushed test after x none fails))
+    ∙ ap (λ zs. opened_pieces test rule (before ++ a ∷ []) ++ zs)
+    (opened_pieces-none test rule (after ++ x ∷ []) (none_pushed test after x none fails))
     ∙ sym (append_assoc (opened_pieces test rule (before ++ a ∷ [])) after (x ∷ []))
-    ∙ ap (λ zs. (opened_pieces test rule (before ++ a ∷ []) ++ zs) ++ x ∷ []) (sym (opened_pieces-none test rule after none))
+    ∙ ap (λ zs. (opened_pieces test rule (before ++ a ∷ []) ++ zs) ++ x ∷ [])
+    (sym (opened_pieces-none test rule after none))
     ∙ ap (λ zs. zs ++ x ∷ []) (sym (opened_pieces-append test rule before a after h))
 
-pub opened_pieces-push : {X : Type 0} (test : X → Bool) (rule : List X → X → List X) (xs : List X) (x : X) → test x ≡ false → opened_pieces test rule (xs ++ x ∷ []) ≡ opened_pieces test rule xs ++ x ∷ []
+pub opened_pieces-push : {X : Type 0} (test : X → Bool) (rule : List X → X → List X) (xs : List X) (x : X)
+    → test x ≡ false → opened_pieces test rule (xs ++ x ∷ []) ≡ opened_pieces test rule xs ++ x ∷ []
 opened_pieces-push test rule xs x fails =
     elim (last_pass test xs) [
-      | inl none ↦ opened_pieces-none test rule (xs ++ x ∷ []) (none_pushed test xs x none fails) ∙ ap (λ zs. zs ++ x ∷ []) (sym (opened_pieces-none test rule xs none))
+      | inl none ↦ opened_pieces-none test rule (xs ++ x ∷ []) (none_pushed test xs x none fails)
+          ∙ ap (λ zs. zs ++ x ∷ []) (sym (opened_pieces-none test rule xs none))
       | inr p ↦
           ap (λ zs. opened_pieces test rule (zs ++ x ∷ [])) p.parts
           ∙ push_after test rule p.before p.element p.after x p.passes p.none_after fails
@@ -53,15 +71,21 @@ opened_pieces-push test rule xs x fails =
     ]
 
 -- a rule that f leads to another: the pieces of a mapped list
-opened_back-map : {X Y : Type 0} (f : X → Y) (test : Y → Bool) (rule : List X → X → List X) (other : List Y → Y → List Y) → ((xs : List X) (x : X) → map f (rule xs x) ≡ other (map f xs) (f x)) → (xs : List X) → map f (opened_back (λ x. test (f x)) rule xs) ≡ opened_back test other (map f xs)
+opened_back-map : {X Y : Type 0} (f : X → Y) (test : Y → Bool) (rule : List X → X → List X) (other : List Y → Y
+    → List Y) → ((xs : List X) (x : X) → map f (rule xs x) ≡ other (map f xs) (f x)) → (xs : List X)
+    → map f (opened_back (λ x. test (f x)) rule xs) ≡ opened_back test other (map f xs)
 opened_back-map f test rule other leads [] = refl
 opened_back-map f test rule other leads (x ∷ before) =
-    elim (test (f x)) as (λ b. map f (cond b (rule (reverse before) x) (reverse (x ∷ before))) ≡ cond b (other (reverse (map f before)) (f x)) (reverse (map f (x ∷ before)))) [
+    elim (test (f x)) as (λ b. map f (cond b (rule (reverse before) x) (reverse (x ∷ before)))
+    ≡ cond b (other (reverse (map f before)) (f x)) (reverse (map f (x ∷ before)))) [
       | true ↦ leads (reverse before) x ∙ ap (λ zs. other zs (f x)) (map-reverse f before)
       | false ↦ map-reverse f (x ∷ before)
     ]
 
-pieces-map : {X Y : Type 0} (f : X → Y) (test : Y → Bool) (rule : List X → X → List X) (other : List Y → Y → List Y) → ((xs : List X) (x : X) → map f (rule xs x) ≡ other (map f xs) (f x)) → (pieces : List (List X)) → map f (flat_map (λ piece. opened_back (λ x. test (f x)) rule (reverse piece)) pieces) ≡ flat_map (λ piece. opened_back test other (reverse piece)) (map (map f) pieces)
+pieces-map : {X Y : Type 0} (f : X → Y) (test : Y → Bool) (rule : List X → X → List X) (other : List Y → Y → List Y)
+    → ((xs : List X) (x : X) → map f (rule xs x) ≡ other (map f xs) (f x)) → (pieces : List (List X))
+    → map f (flat_map (λ piece. opened_back (λ x. test (f x)) rule (reverse piece)) pieces)
+    ≡ flat_map (λ piece. opened_back test other (reverse piece)) (map (map f) pieces)
 pieces-map f test rule other leads [] = refl
 pieces-map f test rule other leads (piece ∷ pieces) =
     let back = opened_back (λ x. test (f x)) rule in
@@ -71,6 +95,9 @@ pieces-map f test rule other leads (piece ∷ pieces) =
     ∙ ap (λ zs. zs ++ rest) (opened_back-map f test rule other leads (reverse piece))
     ∙ ap (λ zs. opened_back test other zs ++ rest) (map-reverse f piece)
 
-pub opened_pieces-map : {X Y : Type 0} (f : X → Y) (test : Y → Bool) (rule : List X → X → List X) (other : List Y → Y → List Y) → ((xs : List X) (x : X) → map f (rule xs x) ≡ other (map f xs) (f x)) → (xs : List X) → map f (opened_pieces (λ x. test (f x)) rule xs) ≡ opened_pieces test other (map f xs)
+pub opened_pieces-map : {X Y : Type 0} (f : X → Y) (test : Y → Bool) (rule : List X → X → List X) (other : List Y → Y
+    → List Y) → ((xs : List X) (x : X) → map f (rule xs x) ≡ other (map f xs) (f x)) → (xs : List X)
+    → map f (opened_pieces (λ x. test (f x)) rule xs) ≡ opened_pieces test other (map f xs)
 opened_pieces-map f test rule other leads xs =
-    pieces-map f test rule other leads (cut_after (λ x. test (f x)) xs) ∙ ap (flat_map (λ piece. opened_back test other (reverse piece))) (sym (cut_after-map test f xs))
+    pieces-map f test rule other leads (cut_after (λ x. test (f x)) xs)
+    ∙ ap (flat_map (λ piece. opened_back test other (reverse piece))) (sym (cut_after-map test f xs))

@@ -84,13 +84,15 @@ listed_places : places_of Listed 1 4 (0 ∷ 2 ∷ 3 ∷ 1 ∷ []) ≡ 2 ∷ 3 �
 listed_places = refl
 
 -- what a placement makes of a list: what stands outside stays
-placed_coming : placed_by {X = ℕ} (Forward 2 3 2) 1 6 [] (10 ∷ 11 ∷ 12 ∷ 13 ∷ 14 ∷ 15 ∷ 16 ∷ []) ≡ 10 ∷ 11 ∷ 13 ∷ 14 ∷ 12 ∷ 15 ∷ 16 ∷ []
+placed_coming : placed_by {X = ℕ} (Forward 2 3 2) 1 6 [] (10 ∷ 11 ∷ 12 ∷ 13 ∷ 14 ∷ 15 ∷ 16 ∷ []) ≡ 10 ∷ 11 ∷ 13 ∷ 14
+    ∷ 12 ∷ 15 ∷ 16 ∷ []
 placed_coming = refl
 
 placed_staying : placed_by {X = ℕ} Stays 1 3 (2 ∷ 1 ∷ 0 ∷ []) (10 ∷ 11 ∷ 12 ∷ 13 ∷ []) ≡ 10 ∷ 11 ∷ 12 ∷ 13 ∷ []
 placed_staying = refl
 
-placed_listed : placed_by {X = ℕ} Listed 1 4 (0 ∷ 2 ∷ 3 ∷ 1 ∷ []) (10 ∷ 11 ∷ 12 ∷ 13 ∷ 14 ∷ []) ≡ 10 ∷ 12 ∷ 13 ∷ 11 ∷ 14 ∷ []
+placed_listed : placed_by {X = ℕ} Listed 1 4 (0 ∷ 2 ∷ 3 ∷ 1 ∷ []) (10 ∷ 11 ∷ 12 ∷ 13 ∷ 14 ∷ []) ≡ 10 ∷ 12 ∷ 13 ∷ 11 ∷ 14
+    ∷ []
 placed_listed = refl
 
 brought : brought_forward {X = ℕ} 1 3 2 (10 ∷ 11 ∷ 12 ∷ 13 ∷ 14 ∷ 15 ∷ []) ≡ 10 ∷ 13 ∷ 14 ∷ 11 ∷ 12 ∷ 15 ∷ []

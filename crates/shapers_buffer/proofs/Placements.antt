@@ -1,31 +1,29 @@
 -- Placements: a stretch that comes forward in parts, as a rotation and as places; what permutes;
 -- what a placement makes of a list; maps.
-use Rattle.std.proofs.Common.{◌≡◌, ℕ, ◌+◌, ◌-◌, ◌<◌, ◌≤◌, List, [], ◌∷◌, ◌++◌, length, map, take, drop, get_or, refl, sym, ap, subst, ◌∙◌, arith, append_assoc}
+use Rattle.std.proofs.Common.{◌≡◌, ℕ, ◌+◌, ◌-◌, ◌<◌, ◌≤◌, List, [], ◌∷◌, ◌++◌, length, take, drop, get_or, refl, sym, ap, subst, ◌∙◌, arith, append_assoc}
 use Rattle.std.specs.List.{range_with_len, slice_rotate_right}
 use Rattle.std.specs.List.Sorted.{IsPermutation}
-use Rattle.std.specs.List.{drop-map, take-map}
 use Rattle.std.proofs.Math.Seq.{take-add}
-use Rattle.std.proofs.lemmas.List.{append-nil, drop-drop, drop_all, drop_at, drop_more, length-append, length-drop, length-take-le, map-append, take-append-drop, take_all, take_at, take_more}
+use Rattle.std.proofs.lemmas.List.{append-nil, drop-drop, drop_all, drop_at, drop_more, length-append, length-drop, length-take-le, take-append-drop, take_all, take_at, take_more}
 use Rattle.std.proofs.lemmas.List.FromFn.{length-range_with_len}
-use Rattle.std.proofs.lemmas.List.Sorted.{IsPermutation-append_comm, IsPermutation-append_left, IsPermutation-append_right, IsPermutation-refl, length_permutation}
-use Rattle.shapers_buffer.specs.Buffer.{Buffer}
+use Rattle.std.proofs.lemmas.List.Sorted.{IsPermutation-append_comm, IsPermutation-append_left, IsPermutation-append_right, length_permutation}
 use Rattle.shapers_buffer.specs.Clusters.{stretch_of, with_stretch}
-use Rattle.shapers_buffer.specs.declared.buffer.glyph.hb_glyph_info_t.{hb_glyph_info_t}
 use Rattle.shapers_buffer.specs.Lists.{first_last}
-use Rattle.shapers_buffer.specs.Places.{PartsChangePlaces, PlacesEachOnce, brought_forward, pick, placed_by, places_of}
-use Rattle.shapers_buffer.specs.declared.buffer.placement.Placement.{Placement}
+use Rattle.shapers_buffer.specs.Places.{PartsChangePlaces, PlacesEachOnce, brought_forward, pick, placed_by}
 use Rattle.shapers_buffer.specs.declared.buffer.placement.Placement.TheVariants.{Forward, Stays}
-use Rattle.shapers_buffer.proofs.ClusterLemmas.{length-stretch, map-stretch, three_parts}
-use Rattle.shapers_buffer.proofs.Picks.{pick-append, pick-map, pick-range}
+use Rattle.shapers_buffer.proofs.ClusterLemmas.{length-stretch, three_parts}
+use Rattle.shapers_buffer.proofs.Picks.{pick-append, pick-range}
 use Rattle.shapers_buffer.proofs.Ranges.{range-append}
 
 -- A STRETCH of three parts, changed
-pub with_stretch_at : {X : Type 0} (f : List X → List X) (a b c : List X) (s e : ℕ) → length a ≡ s → s + length b ≡ e → with_stretch s e f (a ++ (b ++ c)) ≡ a ++ (f b ++ c)
+pub with_stretch_at : {X : Type 0} (f : List X → List X) (a b c : List X) (s e : ℕ) → length a ≡ s → s + length b ≡ e
+    → with_stretch s e f (a ++ (b ++ c)) ≡ a ++ (f b ++ c)
 with_stretch_at f a b c s e la lb =
     let xs = a ++ (b ++ c) in
     let front : (a ++ b) ++ c ≡ xs = append_assoc a b c in
     let lf : length (a ++ b) ≡ e = length-append a b ∙ omega (arith, la, lb) in
-    let inside : stretch_of s e xs ≡ b = ap (take (e - s)) (drop_at a (b ++ c) s la) ∙ take_at b c (e - s) (omega (arith, lb)) in
+    let inside : stretch_of s e xs ≡ b = ap (take (e - s)) (drop_at a (b ++ c) s la)
+    ∙ take_at b c (e - s) (omega (arith, lb)) in
     ap (λ ys. ys ++ (f (stretch_of s e xs) ++ drop e xs)) (take_at a (b ++ c) s la)
     ∙ ap (λ ys. a ++ (f ys ++ drop e xs)) inside
     ∙ ap (λ ys. a ++ (f b ++ ys)) (sym (ap (drop e) front) ∙ drop_at (a ++ b) c e lf)
@@ -41,7 +39,8 @@ pub record FourParts {X : Type 0} (to from count : ℕ) (xs : List X) : Type 0 w
   pub second : to + length passed ≡ from
   pub third : length coming ≡ count
 
-pub in_four : {X : Type 0} (to from count : ℕ) (xs : List X) → to ≤ from → from + count ≤ length xs → FourParts to from count xs
+pub in_four : {X : Type 0} (to from count : ℕ) (xs : List X) → to ≤ from → from + count ≤ length xs
+    → FourParts to from count xs
 in_four to from count xs h l =
     let ys = drop to xs in
     let zs = drop (from - to) ys in
@@ -60,7 +59,8 @@ in_four to from count xs h l =
       third = length-take-le count zs (omega arith);
     }
 
-pub brought_parts : {X : Type 0} (a b c d : List X) (to from count : ℕ) → length a ≡ to → to + length b ≡ from → length c ≡ count → brought_forward to from count (a ++ (b ++ (c ++ d))) ≡ a ++ (c ++ (b ++ d))
+pub brought_parts : {X : Type 0} (a b c d : List X) (to from count : ℕ) → length a ≡ to → to + length b ≡ from
+    → length c ≡ count → brought_forward to from count (a ++ (b ++ (c ++ d))) ≡ a ++ (c ++ (b ++ d))
 brought_parts a b c d to from count la lb lc =
     let xs = a ++ (b ++ (c ++ d)) in
     let front = a ++ b in
@@ -77,7 +77,8 @@ brought_parts a b c d to from count la lb lc =
     ap (take (from - to)) (drop_at a (b ++ (c ++ d)) to la) ∙ take_at b (c ++ d) (from - to) lb2 in
     let behind : drop (from + count) xs ≡ d =
     sym (ap (drop (from + count)) as_three) ∙ drop_at (front ++ c) d (from + count) lx in
-    ap (λ ys. ys ++ (stretch_of from (from + count) xs ++ (stretch_of to from xs ++ drop (from + count) xs))) (take_at a (b ++ (c ++ d)) to la)
+    ap (λ ys. ys ++ (stretch_of from (from + count) xs ++ (stretch_of to from xs ++ drop (from + count) xs)))
+    (take_at a (b ++ (c ++ d)) to la)
     ∙ ap (λ ys. a ++ (ys ++ (stretch_of to from xs ++ drop (from + count) xs))) coming
     ∙ ap (λ ys. a ++ (c ++ (ys ++ drop (from + count) xs))) passed
     ∙ ap (λ ys. a ++ (c ++ (b ++ ys))) behind
@@ -95,7 +96,8 @@ rotated_none xs =
     let n = length xs - 0 in
     sym (ap (λ ys. ys ++ take n xs) (drop_all n xs (omega arith)) ∙ take_all n xs (omega arith))
 
-pub rotated_more : {X : Type 0} (xs : List X) (k : ℕ) (d : X) → k < length xs → slice_rotate_right (slice_rotate_right xs k) 1 ≡ slice_rotate_right xs (k + 1)
+pub rotated_more : {X : Type 0} (xs : List X) (k : ℕ) (d : X) → k < length xs
+    → slice_rotate_right (slice_rotate_right xs k) 1 ≡ slice_rotate_right xs (k + 1)
 rotated_more xs k d within =
     let j = length xs - (k + 1) in
     let up : length xs - k ≡ j + 1 = omega arith in
@@ -111,7 +113,8 @@ rotated_more xs k d within =
 pub turned_none : {X : Type 0} (xs : List X) → xs ≡ drop 0 xs ++ take 0 xs
 turned_none xs = sym (append-nil xs)
 
-pub turned_more : {X : Type 0} (xs : List X) (k : ℕ) (d : X) → k < length xs → drop 1 (drop k xs ++ take k xs) ++ take 1 (drop k xs ++ take k xs) ≡ drop (k + 1) xs ++ take (k + 1) xs
+pub turned_more : {X : Type 0} (xs : List X) (k : ℕ) (d : X) → k < length xs
+    → drop 1 (drop k xs ++ take k xs) ++ take 1 (drop k xs ++ take k xs) ≡ drop (k + 1) xs ++ take (k + 1) xs
 turned_more xs k d within =
     let y = get_or xs k d in
     ap (λ ys. drop 1 (ys ++ take k xs) ++ take 1 (ys ++ take k xs)) (drop_more xs k d within)
@@ -119,15 +122,19 @@ turned_more xs k d within =
     ∙ ap (λ ys. drop (k + 1) xs ++ ys) (sym (take_more xs k d within))
 
 -- a stretch rotated by what comes
-pub rotated_stretch : {X : Type 0} (to from count : ℕ) (xs : List X) → to ≤ from → from + count ≤ length xs → with_stretch to (from + count) (λ ys. slice_rotate_right ys count) xs ≡ brought_forward to from count xs
+pub rotated_stretch : {X : Type 0} (to from count : ℕ) (xs : List X) → to ≤ from → from + count ≤ length xs
+    → with_stretch to (from + count) (λ ys. slice_rotate_right ys count) xs ≡ brought_forward to from count xs
 rotated_stretch to from count xs h l =
     let p = in_four to from count xs h l in
     let second = p.second in
     let third = p.third in
-    let three : p.before ++ ((p.passed ++ p.coming) ++ p.behind) ≡ xs = ap (λ ys. p.before ++ ys) (append_assoc p.passed p.coming p.behind) ∙ p.whole in
-    let both : to + length (p.passed ++ p.coming) ≡ from + count = omega (arith, length-append p.passed p.coming, second, third) in
+    let three : p.before ++ ((p.passed ++ p.coming) ++ p.behind) ≡ xs =
+    ap (λ ys. p.before ++ ys) (append_assoc p.passed p.coming p.behind) ∙ p.whole in
+    let both : to + length (p.passed ++ p.coming) ≡ from + count =
+    omega (arith, length-append p.passed p.coming, second, third) in
     ap (with_stretch to (from + count) (λ ys. slice_rotate_right ys count)) (sym three)
-    ∙ with_stretch_at (λ ys. slice_rotate_right ys count) p.before (p.passed ++ p.coming) p.behind to (from + count) p.first both
+    ∙ with_stretch_at (λ ys. slice_rotate_right ys count) p.before (p.passed ++ p.coming) p.behind to (from + count)
+    p.first both
     ∙ ap (λ ys. p.before ++ (ys ++ p.behind)) (last_first p.passed p.coming count p.third)
     ∙ ap (λ ys. p.before ++ ys) (append_assoc p.coming p.passed p.behind)
     ∙ sym (brought_parts p.before p.passed p.coming p.behind to from count p.first p.second p.third)
@@ -139,14 +146,17 @@ first_goes_back [] b n = absurd (omega arith)
 first_goes_back (x ∷ []) b n = refl
 first_goes_back (x ∷ (y ∷ a)) b n = absurd (omega arith)
 
-pub gone_back : {X : Type 0} (at count : ℕ) (xs : List X) → at + 1 + count ≤ length xs → brought_forward at (at + 1) count xs ≡ with_stretch at (at + 1 + count) first_last xs
+pub gone_back : {X : Type 0} (at count : ℕ) (xs : List X) → at + 1 + count ≤ length xs
+    → brought_forward at (at + 1) count xs ≡ with_stretch at (at + 1 + count) first_last xs
 gone_back at count xs l =
     let p = in_four at (at + 1) count xs (omega arith) l in
     let second = p.second in
     let third = p.third in
     let one : length p.passed ≡ 1 = omega (arith, second) in
-    let three : p.before ++ ((p.passed ++ p.coming) ++ p.behind) ≡ xs = ap (λ ys. p.before ++ ys) (append_assoc p.passed p.coming p.behind) ∙ p.whole in
-    let both : at + length (p.passed ++ p.coming) ≡ at + 1 + count = omega (arith, length-append p.passed p.coming, second, third) in
+    let three : p.before ++ ((p.passed ++ p.coming) ++ p.behind) ≡ xs =
+    ap (λ ys. p.before ++ ys) (append_assoc p.passed p.coming p.behind) ∙ p.whole in
+    let both : at + length (p.passed ++ p.coming) ≡ at + 1 + count =
+    omega (arith, length-append p.passed p.coming, second, third) in
     ap (brought_forward at (at + 1) count) (sym p.whole)
     ∙ brought_parts p.before p.passed p.coming p.behind at (at + 1) count p.first p.second p.third
     ∙ ap (λ ys. p.before ++ ys) (sym (append_assoc p.coming p.passed p.behind))
@@ -166,9 +176,11 @@ range_at : (s m e : ℕ) → s ≤ m → m ≤ e → range_with_len s (e - s) �
 range_at s m e h l =
     let n : e - s ≡ (m - s) + (e - m) = omega arith in
     let at : s + (m - s) ≡ m = omega arith in
-    ap (range_with_len s) n ∙ range-append s (m - s) (e - m) ∙ ap (λ k. range_with_len s (m - s) ++ range_with_len k (e - m)) at
+    ap (range_with_len s) n ∙ range-append s (m - s) (e - m)
+    ∙ ap (λ k. range_with_len s (m - s) ++ range_with_len k (e - m)) at
 
-pub forward_permutes : (to from count s e : ℕ) (places : List ℕ) → s ≤ to → to ≤ from → from + count ≤ e → PlacesEachOnce (Forward to from count) s e places
+pub forward_permutes : (to from count s e : ℕ) (places : List ℕ) → s ≤ to → to ≤ from → from + count ≤ e
+    → PlacesEachOnce (Forward to from count) s e places
 forward_permutes to from count s e places h l m =
     let a = range_with_len s (to - s) in
     let b = range_with_len to (from - to) in
@@ -181,11 +193,9 @@ forward_permutes to from count s e places h l m =
     ∙ ap (λ ys. b ++ ys) (range_at from (from + count) e (omega arith) m ∙ ap (λ k. range_with_len from k ++ d) n)) in
     subst (λ ys. IsPermutation ys (a ++ (c ++ (b ++ d)))) (sym four) (parts_permute a b c d)
 
-pub stays_permutes : (s e : ℕ) (places : List ℕ) → PlacesEachOnce Stays s e places
-stays_permutes s e places = IsPermutation-refl (range_with_len s (e - s))
-
 -- where each place is said once, what comes forward stands in the syllable
-pub forward_inside : (to from count s e : ℕ) (places : List ℕ) → s ≤ e → PlacesEachOnce (Forward to from count) s e places → (s ≤ to) × (to ≤ from) × (from + count ≤ e)
+pub forward_inside : (to from count s e : ℕ) (places : List ℕ) → s ≤ e
+    → PlacesEachOnce (Forward to from count) s e places → (s ≤ to) × (to ≤ from) × (from + count ≤ e)
 forward_inside to from count s e places h each =
     let a = range_with_len s (to - s) in
     let b = range_with_len to (from - to) in
@@ -200,15 +210,19 @@ forward_inside to from count s e places h each =
     let nc = length-range_with_len from count in
     let nd = length-range_with_len (from + count) (e - (from + count)) in
     let ns = length-range_with_len s (e - s) in
-    let all : (to - s) + (count + ((from - to) + (e - (from + count)))) ≡ e - s = omega (arith, n, n1, n2, n3, na, nb, nc, nd, ns) in
+    let all : (to - s) + (count + ((from - to) + (e - (from + count)))) ≡ e - s =
+    omega (arith, n, n1, n2, n3, na, nb, nc, nd, ns) in
     (omega (arith, all, h), omega (arith, all, h), omega (arith, all, h))
 
 -- WHAT A PLACEMENT MAKES of a list
-pub placed_stays : {X : Type 0} (s e : ℕ) (places : List ℕ) (xs : List X) → s ≤ e → e ≤ length xs → placed_by Stays s e places xs ≡ xs
+pub placed_stays : {X : Type 0} (s e : ℕ) (places : List ℕ) (xs : List X) → s ≤ e → e ≤ length xs
+    → placed_by Stays s e places xs ≡ xs
 placed_stays s e places xs h l =
     ap (λ ys. take s xs ++ (ys ++ drop e xs)) (pick-range s (e - s) xs (omega arith)) ∙ three_parts s e xs h
 
-pub placed_forward : {X : Type 0} (to from count s e : ℕ) (places : List ℕ) (xs : List X) → s ≤ to → to ≤ from → from + count ≤ e → e ≤ length xs → placed_by (Forward to from count) s e places xs ≡ brought_forward to from count xs
+pub placed_forward : {X : Type 0} (to from count s e : ℕ) (places : List ℕ) (xs : List X) → s ≤ to → to ≤ from
+    → from + count ≤ e → e ≤ length xs → placed_by (Forward to from count) s e places xs
+    ≡ brought_forward to from count xs
 placed_forward to from count s e places xs h l m n =
     let a = range_with_len s (to - s) in
     let b = range_with_len to (from - to) in
@@ -234,44 +248,25 @@ placed_forward to from count s e places xs h l m n =
     ∙ ap (λ ys. passed ++ ys) (pick-range k (e - k) xs (omega arith)))) in
     let before : front ++ head ≡ take to xs = sym (take-add s (to - s) xs) ∙ ap (λ i. take i xs) n2 in
     let behind : last ++ rest ≡ drop k xs =
-    ap (λ ys. last ++ ys) (sym (drop-drop (e - k) k xs ∙ ap (λ i. drop i xs) n3)) ∙ take-append-drop (e - k) (drop k xs) in
+    ap (λ ys. last ++ ys) (sym (drop-drop (e - k) k xs ∙ ap (λ i. drop i xs) n3))
+    ∙ take-append-drop (e - k) (drop k xs) in
     ap (λ ys. front ++ (ys ++ rest)) read
     ∙ ap (λ ys. front ++ ys) (append_assoc head (coming ++ (passed ++ last)) rest
-    ∙ ap (λ ys. head ++ ys) (append_assoc coming (passed ++ last) rest ∙ ap (λ ys. coming ++ ys) (append_assoc passed last rest ∙ ap (λ ys. passed ++ ys) behind)))
+    ∙ ap (λ ys. head ++ ys) (append_assoc coming (passed ++ last) rest
+    ∙ ap (λ ys. coming ++ ys) (append_assoc passed last rest ∙ ap (λ ys. passed ++ ys) behind)))
     ∙ sym (append_assoc front head (coming ++ (passed ++ drop k xs)))
     ∙ ap (λ ys. ys ++ (coming ++ (passed ++ drop k xs))) before
 
 pub parts_change_places : PartsChangePlaces
 parts_change_places a b c d s e places h l n =
     let all = length-append a (b ++ (c ++ d)) in
-    placed_forward (length a) (length a + length b) (length c) s e places (a ++ (b ++ (c ++ d))) h (omega arith) (omega arith) n
+    placed_forward (length a) (length a + length b) (length c) s e places (a ++ (b ++ (c ++ d))) h (omega arith)
+    (omega arith) n
     ∙ brought_parts a b c d (length a) (length a + length b) (length c) refl refl refl
 
--- MAPS
-pub map-brought_forward : {X Y : Type 0} (f : X → Y) (to from count : ℕ) (xs : List X) → map f (brought_forward to from count xs) ≡ brought_forward to from count (map f xs)
-map-brought_forward f to from count xs =
-    let k = from + count in
-    let coming = stretch_of from k xs in
-    let passed = stretch_of to from xs in
-    map-append f (take to xs) (coming ++ (passed ++ drop k xs))
-    ∙ ap (λ ys. ys ++ map f (coming ++ (passed ++ drop k xs))) (sym (take-map f to xs))
-    ∙ ap (λ ys. take to (map f xs) ++ ys) (map-append f coming (passed ++ drop k xs)
-    ∙ ap (λ ys. ys ++ map f (passed ++ drop k xs)) (map-stretch f from k xs)
-    ∙ ap (λ ys. stretch_of from k (map f xs) ++ ys) (map-append f passed (drop k xs)
-    ∙ ap (λ ys. ys ++ map f (drop k xs)) (map-stretch f to from xs)
-    ∙ ap (λ ys. stretch_of to from (map f xs) ++ ys) (sym (drop-map f k xs))))
-
-pub map-placed_by : {X Y : Type 0} (f : X → Y) (placement : Placement) (s e : ℕ) (places : List ℕ) (xs : List X) → map f (placed_by placement s e places xs) ≡ placed_by placement s e places (map f xs)
-map-placed_by f placement s e places xs =
-    let ps = places_of placement s e places in
-    map-append f (take s xs) (pick ps xs ++ drop e xs)
-    ∙ ap (λ ys. ys ++ map f (pick ps xs ++ drop e xs)) (sym (take-map f s xs))
-    ∙ ap (λ ys. take s (map f xs) ++ ys) (map-append f (pick ps xs) (drop e xs)
-    ∙ ap (λ ys. ys ++ map f (drop e xs)) (sym (pick-map f ps xs))
-    ∙ ap (λ ys. pick ps (map f xs) ++ ys) (sym (drop-map f e xs)))
-
 -- WITHIN A SYLLABLE
-pub brought_within : {X : Type 0} (to from count s e : ℕ) (xs : List X) → to ≤ from → from + count ≤ e - s → s ≤ e → e ≤ length xs → with_stretch s e (brought_forward to from count) xs ≡ brought_forward (s + to) (s + from) count xs
+pub brought_within : {X : Type 0} (to from count s e : ℕ) (xs : List X) → to ≤ from → from + count ≤ e - s → s ≤ e
+    → e ≤ length xs → with_stretch s e (brought_forward to from count) xs ≡ brought_forward (s + to) (s + from) count xs
 brought_within to from count s e xs h l m n =
     let ys = stretch_of s e xs in
     let ly : length ys ≡ e - s = length-stretch s e xs n in
@@ -280,7 +275,8 @@ brought_within to from count s e xs h l m n =
     let rest = drop e xs in
     let lf : length front ≡ s = length-take-le s xs (omega arith) in
     let inside : brought_forward to from count ys ≡ p.before ++ (p.coming ++ (p.passed ++ p.behind)) =
-    ap (brought_forward to from count) (sym p.whole) ∙ brought_parts p.before p.passed p.coming p.behind to from count p.first p.second p.third in
+    ap (brought_forward to from count) (sym p.whole)
+    ∙ brought_parts p.before p.passed p.coming p.behind to from count p.first p.second p.third in
     let parts : (front ++ p.before) ++ (p.passed ++ (p.coming ++ (p.behind ++ rest))) ≡ xs =
     append_assoc front p.before (p.passed ++ (p.coming ++ (p.behind ++ rest)))
     ∙ ap (λ zs. front ++ zs) (ap (λ zs. p.before ++ (p.passed ++ zs)) (sym (append_assoc p.coming p.behind rest))
@@ -290,48 +286,9 @@ brought_within to from count s e xs h l m n =
     ∙ three_parts s e xs m in
     ap (λ zs. front ++ (zs ++ rest)) inside
     ∙ ap (λ zs. front ++ zs) (append_assoc p.before (p.coming ++ (p.passed ++ p.behind)) rest
-    ∙ ap (λ zs. p.before ++ zs) (append_assoc p.coming (p.passed ++ p.behind) rest ∙ ap (λ zs. p.coming ++ zs) (append_assoc p.passed p.behind rest)))
+    ∙ ap (λ zs. p.before ++ zs) (append_assoc p.coming (p.passed ++ p.behind) rest
+    ∙ ap (λ zs. p.coming ++ zs) (append_assoc p.passed p.behind rest)))
     ∙ sym (append_assoc front p.before (p.coming ++ (p.passed ++ (p.behind ++ rest))))
-    ∙ sym (brought_parts (front ++ p.before) p.passed p.coming (p.behind ++ rest) (s + to) (s + from) count (length-append front p.before ∙ omega (arith, lf, p.first)) (omega (arith, p.second)) p.third)
+    ∙ sym (brought_parts (front ++ p.before) p.passed p.coming (p.behind ++ rest) (s + to) (s + from) count
+    (length-append front p.before ∙ omega (arith, lf, p.first)) (omega (arith, p.second)) p.third)
     ∙ ap (brought_forward (s + to) (s + from) count) parts
-
-pub length-brought_forward : {X : Type 0} (to from count : ℕ) (xs : List X) → to ≤ from → from + count ≤ length xs → length (brought_forward to from count xs) ≡ length xs
-length-brought_forward to from count xs h l =
-    let p = in_four to from count xs h l in
-    let is : brought_forward to from count xs ≡ p.before ++ (p.coming ++ (p.passed ++ p.behind)) =
-    ap (brought_forward to from count) (sym p.whole) ∙ brought_parts p.before p.passed p.coming p.behind to from count p.first p.second p.third in
-    ap length is
-    ∙ length_permutation (p.before ++ (p.passed ++ (p.coming ++ p.behind))) (p.before ++ (p.coming ++ (p.passed ++ p.behind))) (parts_permute p.before p.passed p.coming p.behind)
-    ∙ ap length p.whole
-
-pub placed_within : {X : Type 0} (to from count s e : ℕ) (places : List ℕ) (xs : List X) → s ≤ e → e ≤ length xs → to ≤ from → from + count ≤ e - s → placed_by (Forward (s + to) (s + from) count) s e places xs ≡ with_stretch s e (brought_forward to from count) xs
-placed_within to from count s e places xs h l m n =
-    placed_forward (s + to) (s + from) count s e places xs (omega arith) (omega arith) (omega arith) l
-    ∙ sym (brought_within to from count s e xs m n h l)
-
--- the last of a stretch in front, and the first behind
-pub placed_last : {X : Type 0} (s e : ℕ) (places : List ℕ) (xs : List X) → s < e → e ≤ length xs → placed_by (Forward s (e - 1) 1) s e places xs ≡ with_stretch s e (λ ys. slice_rotate_right ys 1) xs
-placed_last s e places xs h l =
-    let end : e - 1 + 1 ≡ e = omega arith in
-    placed_forward s (e - 1) 1 s e places xs (omega arith) (omega arith) (omega arith) l
-    ∙ sym (rotated_stretch s (e - 1) 1 xs (omega arith) (omega arith))
-    ∙ ap (λ k. with_stretch s k (λ ys. slice_rotate_right ys 1) xs) end
-
-pub placed_back : {X : Type 0} (s e : ℕ) (places : List ℕ) (xs : List X) → s < e → e ≤ length xs → placed_by (Forward s (s + 1) (e - (s + 1))) s e places xs ≡ with_stretch s e first_last xs
-placed_back s e places xs h l =
-    let end : s + 1 + (e - (s + 1)) ≡ e = omega arith in
-    placed_forward s (s + 1) (e - (s + 1)) s e places xs (omega arith) (omega arith) (omega arith) l
-    ∙ gone_back s (e - (s + 1)) xs (omega arith)
-    ∙ ap (λ k. with_stretch s k first_last xs) end
-
--- IN A BUFFER: a placement applied alone, and after a change of glyphs
-pub applied : (b n : Buffer) (placement : Placement) (s e : ℕ) (gs : List hb_glyph_info_t) → n ≡ record b { glyphs = placed_by placement s e b.places b.glyphs } → placed_by placement s e b.places b.glyphs ≡ gs → n ≡ record b { glyphs = gs; places = n.places }
-applied b n placement s e gs is so =
-    let whole : n ≡ record b { glyphs = gs } = is ∙ ap (λ (xs : List hb_glyph_info_t). let r : Buffer = record b { glyphs = xs } in r) so in
-    whole ∙ ap (λ (ps : List ℕ). let r : Buffer = record b { glyphs = gs; places = ps } in r) (sym (ap (λ (r : Buffer). r.places) whole))
-
-pub applied_after : (b m n : Buffer) (placement : Placement) (s e : ℕ) (gs : List hb_glyph_info_t) (f : List hb_glyph_info_t → List hb_glyph_info_t) → m ≡ record b { glyphs = gs } → n ≡ record m { glyphs = placed_by placement s e m.places m.glyphs } → placed_by placement s e m.places m.glyphs ≡ f m.glyphs → n ≡ record b { glyphs = f gs }
-applied_after b m n placement s e gs f before is so =
-    is
-    ∙ ap (λ (xs : List hb_glyph_info_t). let r : Buffer = record m { glyphs = xs } in r) so
-    ∙ ap (λ (r : Buffer). let t : Buffer = record r { glyphs = f r.glyphs } in t) before

@@ -48,7 +48,8 @@ at_graphemes = refl
 stays : merge Characters 1 3 (text (0 ∷ 1 ∷ 2 ∷ 2 ∷ 3 ∷ [])) ≡ text (0 ∷ 1 ∷ 2 ∷ 2 ∷ 3 ∷ [])
 stays = refl
 
--- both ends move over repeated clusters, as far as these go, and no further: a cluster that comes again behind another one stays
+-- both ends move over repeated clusters, as far as these go, and no further: a cluster that comes
+-- again behind another one stays
 reach : low 2 4 (text (7 ∷ 5 ∷ 5 ∷ 3 ∷ 3 ∷ 7 ∷ [])) ≡ 1
 reach = refl
 
@@ -73,9 +74,22 @@ one_cluster = refl
 
 -- a glyph whose fields are all set keeps them, but for its cluster and the low three bits of its mask
 abbrev full : ℕ → ℕ → hb_glyph_info_t
-full c m = record { glyph_id = 1; cluster = c; mask = m; var = 0x7A; syllable = 2; category = 3; auxiliary = 4; general_category = Mn; modified_combining_class = 5; lig_comp = 6; marks = record { 0 = 31 } }
+full c m = record {
+  glyph_id = 1;
+  cluster = c;
+  mask = m;
+  var = 0x7A;
+  syllable = 2;
+  category = 3;
+  auxiliary = 4;
+  general_category = Mn;
+  modified_combining_class = 5;
+  lig_comp = 6;
+  marks = record { 0 = 31 };
+}
 
-all_fields : merge MonotoneGraphemes 0 2 (full 4 255 ∷ full 3 255 ∷ full 3 7 ∷ full 9 7 ∷ []) ≡ full 3 248 ∷ full 3 255 ∷ full 3 7 ∷ full 9 7 ∷ []
+all_fields : merge MonotoneGraphemes 0 2 (full 4 255 ∷ full 3 255 ∷ full 3 7 ∷ full 9 7 ∷ []) ≡ full 3 248 ∷ full 3 255
+    ∷ full 3 7 ∷ full 9 7 ∷ []
 all_fields = refl
 
 -- an empty stretch and one of one place merge nothing: no neighbour of them changes
@@ -86,11 +100,14 @@ one_place : merge MonotoneGraphemes 1 2 (text (1 ∷ 3 ∷ 3 ∷ 3 ∷ [])) ≡ 
 one_place = refl
 
 -- sixteen spans of one glyph: the serial goes from 15 to 1
-serials : span_bytes 0 (span 1 4 ∷ span 1 0 ∷ span 1 0 ∷ span 1 0 ∷ span 1 0 ∷ span 1 0 ∷ span 1 0 ∷ span 1 0 ∷ span 1 0 ∷ span 1 0 ∷ span 1 0 ∷ span 1 0 ∷ span 1 0 ∷ span 1 0 ∷ span 1 0 ∷ span 1 4 ∷ []) ≡ 0x14 ∷ 0x20 ∷ 0x30 ∷ 0x40 ∷ 0x50 ∷ 0x60 ∷ 0x70 ∷ 0x80 ∷ 0x90 ∷ 0xA0 ∷ 0xB0 ∷ 0xC0 ∷ 0xD0 ∷ 0xE0 ∷ 0xF0 ∷ 0x14 ∷ []
+serials : span_bytes 0 (span 1 4 ∷ span 1 0 ∷ span 1 0 ∷ span 1 0 ∷ span 1 0 ∷ span 1 0 ∷ span 1 0 ∷ span 1 0 ∷ span 1 0
+    ∷ span 1 0 ∷ span 1 0 ∷ span 1 0 ∷ span 1 0 ∷ span 1 0 ∷ span 1 0 ∷ span 1 4 ∷ []) ≡ 0x14 ∷ 0x20 ∷ 0x30 ∷ 0x40
+    ∷ 0x50 ∷ 0x60 ∷ 0x70 ∷ 0x80 ∷ 0x90 ∷ 0xA0 ∷ 0xB0 ∷ 0xC0 ∷ 0xD0 ∷ 0xE0 ∷ 0xF0 ∷ 0x14 ∷ []
 serials = refl
 
 -- a span of two glyphs and one of one
-two_spans : bytes (with_bytes (text (0 ∷ 1 ∷ 2 ∷ [])) (span_bytes 0 (span 2 0 ∷ span 1 4 ∷ []))) ≡ 0x10 ∷ 0x10 ∷ 0x24 ∷ []
+two_spans : bytes (with_bytes (text (0 ∷ 1 ∷ 2 ∷ [])) (span_bytes 0 (span 2 0 ∷ span 1 4 ∷ []))) ≡ 0x10 ∷ 0x10 ∷ 0x24
+    ∷ []
 two_spans = refl
 
 -- spans of sum 3 over 4 glyphs, an empty span, and spans that cover
@@ -104,10 +121,13 @@ covers : spans_cover 3 (span 1 0 ∷ span 2 0 ∷ []) ≡ true
 covers = refl
 
 -- the flags inside a stretch leave its least cluster out
-flags_inside : masks (unsafe_inside 1 4 (map (λ c. let g : hb_glyph_info_t = record default_glyph { cluster = c } in g) (0 ∷ 1 ∷ 1 ∷ 2 ∷ 3 ∷ []))) ≡ 0 ∷ 0 ∷ 0 ∷ 3 ∷ 0 ∷ []
+flags_inside : masks
+    (unsafe_inside 1 4 (map (λ c. let g : hb_glyph_info_t = record default_glyph { cluster = c } in g)
+    (0 ∷ 1 ∷ 1 ∷ 2 ∷ 3 ∷ []))) ≡ 0 ∷ 0 ∷ 0 ∷ 3 ∷ 0 ∷ []
 flags_inside = refl
 
--- calls of all three kinds one after another: bits add up; what the buffer doesn't ask for gives none, or no break in place of a join
+-- calls of all three kinds one after another: bits add up; what the buffer doesn't ask for gives
+-- none, or no break in place of a join
 abbrev some_calls : List FlagCall
 some_calls = UnsafeToBreak 0 3 ∷ UnsafeToConcat 1 4 ∷ SafeToInsertTatweel 2 5 ∷ []
 
@@ -121,5 +141,6 @@ none_asked : masks (flags_called false false some_calls (unflagged (0 ∷ 1 ∷ 
 none_asked = refl
 
 -- syllables are cut between different bytes
-three_syllables : map (λ gs. length gs) (syllables (with_bytes (text (0 ∷ 1 ∷ 2 ∷ 3 ∷ 4 ∷ [])) (16 ∷ 16 ∷ 32 ∷ 16 ∷ 16 ∷ []))) ≡ 2 ∷ 1 ∷ 2 ∷ []
+three_syllables : map (λ gs. length gs)
+    (syllables (with_bytes (text (0 ∷ 1 ∷ 2 ∷ 3 ∷ 4 ∷ [])) (16 ∷ 16 ∷ 32 ∷ 16 ∷ 16 ∷ []))) ≡ 2 ∷ 1 ∷ 2 ∷ []
 three_syllables = refl

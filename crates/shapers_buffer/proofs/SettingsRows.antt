@@ -24,13 +24,18 @@ settled before after = refl
 a_text : (before after : Bor (List ℕ)) → with_text (record default_glyph { glyph_id = 65 } ∷ default_glyph ∷ []) [] (given before after) one ≡ record { glyphs = record default_glyph { glyph_id = 65 } ∷ default_glyph ∷ []; positions = []; direction = RightToLeft; script = Some (record { 0 = codes "Thai" }); level = Characters; flags = record { 0 = 0xE0 }; before = take 5 before.now; after = take 5 after.now; broken = true; stch = true; max_len = 50; places = 1 ∷ [] }
 a_text before after = refl
 
-placed_text : (before after : Bor (List ℕ)) → with_text (default_glyph ∷ []) (record default_position { x_advance = pos 9 } ∷ []) (given before after) one ≡ record (with_settings (given before after) one) { positions = record default_position { x_advance = pos 9 } ∷ [] }
+placed_text : (before after : Bor (List ℕ))
+    → with_text (default_glyph ∷ []) (record default_position { x_advance = pos 9 } ∷ []) (given before after) one
+    ≡ record (with_settings (given before after) one) { positions = record default_position { x_advance = pos 9 } ∷ [] }
 placed_text before after = refl
 
 -- positions of two glyphs: none or two
-paired : map (λ ps. are_paired ps (default_glyph ∷ default_glyph ∷ [])) ([] ∷ (default_position ∷ []) ∷ (default_position ∷ default_position ∷ []) ∷ (default_position ∷ default_position ∷ default_position ∷ []) ∷ []) ≡ true ∷ false ∷ true ∷ false ∷ []
+paired : map (λ ps. are_paired ps (default_glyph ∷ default_glyph ∷ []))
+    ([] ∷ (default_position ∷ []) ∷ (default_position ∷ default_position ∷ [])
+    ∷ (default_position ∷ default_position ∷ default_position ∷ []) ∷ []) ≡ true ∷ false ∷ true ∷ false ∷ []
 paired = refl
 
 -- code points at the bounds of the surrogates and of Unicode
-characters_of : map character_of (0 ∷ 0x41 ∷ 0xD7FF ∷ 0xD800 ∷ 0xDFFF ∷ 0xE000 ∷ 0x10FFFF ∷ 0x110000 ∷ 0xFFFFFFFF ∷ []) ≡ 0 ∷ 0x41 ∷ 0xD7FF ∷ 0xFFFD ∷ 0xFFFD ∷ 0xE000 ∷ 0x10FFFF ∷ 0xFFFD ∷ 0xFFFD ∷ []
+characters_of : map character_of (0 ∷ 0x41 ∷ 0xD7FF ∷ 0xD800 ∷ 0xDFFF ∷ 0xE000 ∷ 0x10FFFF ∷ 0x110000 ∷ 0xFFFFFFFF ∷ [])
+    ≡ 0 ∷ 0x41 ∷ 0xD7FF ∷ 0xFFFD ∷ 0xFFFD ∷ 0xE000 ∷ 0x10FFFF ∷ 0xFFFD ∷ 0xFFFD ∷ []
 characters_of = refl

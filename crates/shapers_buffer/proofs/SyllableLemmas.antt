@@ -7,19 +7,38 @@ use Rattle.shapers_buffer.specs.Clusters.{with_stretch}
 use Rattle.shapers_buffer.specs.Syllables.{in_syllable, with_bytes}
 
 -- one byte for the first n glyphs, and the other bytes for the rest
-pub with_bytes-replicate : (n byte : ℕ) (gs : List hb_glyph_info_t) (bytes : List ℕ) → n ≤ length gs → with_bytes gs (replicate n byte ++ bytes) ≡ map (in_syllable byte) (take n gs) ++ with_bytes (drop n gs) bytes
+pub with_bytes-replicate : (n byte : ℕ) (gs : List hb_glyph_info_t) (bytes : List ℕ) → n ≤ length gs
+    → with_bytes gs (replicate n byte ++ bytes) ≡ map (in_syllable byte) (take n gs) ++ with_bytes (drop n gs) bytes
 with_bytes-replicate zero byte gs bytes h = refl
 with_bytes-replicate (suc n) byte [] bytes h = absurd (omega arith)
-with_bytes-replicate (suc n) byte (g ∷ gs) bytes h = ap (λ xs. in_syllable byte g ∷ xs) (with_bytes-replicate n byte gs bytes (omega arith))
+with_bytes-replicate (suc n) byte (g ∷ gs) bytes h =
+    ap (λ xs. in_syllable byte g ∷ xs) (with_bytes-replicate n byte gs bytes (omega arith))
 
 -- after a span of n glyphs
-pub bytes_next : (gs : List hb_glyph_info_t) (start n byte : ℕ) (bytes : List ℕ) → start + n ≤ length gs → let hs = with_stretch start (start + n) (map (in_syllable byte)) gs in take (start + n) hs ++ with_bytes (drop (start + n) hs) bytes ≡ take start gs ++ with_bytes (drop start gs) (replicate n byte ++ bytes)
+pub bytes_next : (gs : List hb_glyph_info_t) (start n byte : ℕ) (bytes : List ℕ) → start + n ≤ length gs → let hs =
+    with_stretch start (start + n) (map (in_syllable byte)) gs in take (start + n) hs
+    ++ with_bytes (drop (start + n) hs) bytes ≡ take start gs ++ with_bytes (drop start gs) (replicate n byte ++ bytes)
 bytes_next gs start n byte bytes h =
     let size : start + n - start ≡ n = omega arith in
     let front = take start gs in
     let middle = map (in_syllable byte) (take n (drop start gs)) in
     let rest = drop (start + n) gs in
-    let hs_is : with_stretch start (start + n) (map (in_syllable byte)) gs ≡ (front ++ middle) ++ rest = rw (size, append_assoc) refl in
+    let hs_is : with_stretch start (start + n) (map (in_syllable byte)) gs ≡ (front ++ middle) ++ rest =
+    rw (size, append_assoc) refl in
     let room : n ≤ length (drop start gs) = grind (arith, common_steps) in
-    let long : length (front ++ middle) ≡ start + n = rw (length-append front middle, length-map (take n (drop start gs)) (in_syllable byte), length-take-le start gs (omega arith), length-take-le n (drop start gs) room) refl in
-    rw (hs_is, take_at (front ++ middle) rest (start + n) long, drop_at (front ++ middle) rest (start + n) long, with_bytes-replicate n byte (drop start gs) bytes room, drop-drop n start gs, append_assoc) refl
+    let long : length (front ++ middle) ≡ start + n =
+    rw (
+      length-append front middle,
+      length-map (take n (drop start gs)) (in_syllable byte),
+      length-take-le start
+          gs (omega arith),
+      length-take-le n (drop start gs) room,
+    ) refl in
+    rw (
+      hs_is,
+      take_at (front ++ middle) rest (start + n) long,
+      drop_at (front ++ middle) rest (start + n) long,
+      with_bytes-replicate n byte (drop start gs) bytes room,
+      drop-drop n start gs,
+      append_assoc,
+    ) refl

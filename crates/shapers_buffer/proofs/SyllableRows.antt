@@ -13,7 +13,8 @@ abbrev of_bytes : List ℕ → List hb_glyph_info_t
 of_bytes bytes = map (λ byte. let g : hb_glyph_info_t = record default_glyph { syllable = byte } in g) bytes
 
 abbrev of_rows : List (ℕ × ℕ) → List hb_glyph_info_t
-of_rows rows = map (λ row. let g : hb_glyph_info_t = record default_glyph { syllable = row.0; cluster = row.1 } in g) rows
+of_rows rows = map (λ row. let g : hb_glyph_info_t = record default_glyph { syllable = row.0; cluster = row.1 } in g)
+    rows
 
 abbrev bytes : List hb_glyph_info_t → List ℕ
 bytes gs = map (λ g. g.syllable) gs
@@ -27,10 +28,23 @@ spans rows = map span rows
 
 -- a glyph whose fields are all set
 abbrev full : hb_glyph_info_t
-full = record { glyph_id = 0x916; cluster = 5; mask = 0x1F; var = 0x7A; syllable = 0x24; category = 1; auxiliary = 3; general_category = Mn; modified_combining_class = 9; lig_comp = 2; marks = record { 0 = 31 } }
+full = record {
+  glyph_id = 0x916;
+  cluster = 5;
+  mask = 0x1F;
+  var = 0x7A;
+  syllable = 0x24;
+  category = 1;
+  auxiliary = 3;
+  general_category = Mn;
+  modified_combining_class = 9;
+  lig_comp = 2;
+  marks = record { 0 = 31 };
+}
 
 -- syllables are longest runs of equal bytes; a byte that comes again is a syllable of its own
-cut : map bytes (syllables (of_bytes (0x10 ∷ 0x10 ∷ 0x24 ∷ 0x10 ∷ 0x14 ∷ 0x14 ∷ 0x14 ∷ []))) ≡ (0x10 ∷ 0x10 ∷ []) ∷ (0x24 ∷ []) ∷ (0x10 ∷ []) ∷ (0x14 ∷ 0x14 ∷ 0x14 ∷ []) ∷ []
+cut : map bytes (syllables (of_bytes (0x10 ∷ 0x10 ∷ 0x24 ∷ 0x10 ∷ 0x14 ∷ 0x14 ∷ 0x14 ∷ []))) ≡ (0x10 ∷ 0x10 ∷ [])
+    ∷ (0x24 ∷ []) ∷ (0x10 ∷ []) ∷ (0x14 ∷ 0x14 ∷ 0x14 ∷ []) ∷ []
 cut = refl
 
 cut_one : map bytes (syllables (of_bytes (0 ∷ 0 ∷ []))) ≡ (0 ∷ 0 ∷ []) ∷ []
@@ -39,19 +53,23 @@ cut_one = refl
 cut_none : syllables [] ≡ []
 cut_none = refl
 
-cut_keeps : syllables (full ∷ full ∷ record full { syllable = 0x25 } ∷ []) ≡ (full ∷ full ∷ []) ∷ (record full { syllable = 0x25 } ∷ []) ∷ []
+cut_keeps : syllables (full ∷ full ∷ record full { syllable = 0x25 } ∷ []) ≡ (full ∷ full ∷ [])
+    ∷ (record full { syllable = 0x25 } ∷ []) ∷ []
 cut_keeps = refl
 
 -- the length of the first
-first_len : map (λ bs. first_syllable_len (of_bytes bs)) ([] ∷ (5 ∷ []) ∷ (5 ∷ 5 ∷ 6 ∷ 5 ∷ []) ∷ (5 ∷ 6 ∷ []) ∷ []) ≡ 0 ∷ 1 ∷ 2 ∷ 1 ∷ []
+first_len : map (λ bs. first_syllable_len (of_bytes bs)) ([] ∷ (5 ∷ []) ∷ (5 ∷ 5 ∷ 6 ∷ 5 ∷ []) ∷ (5 ∷ 6 ∷ []) ∷ [])
+    ≡ 0 ∷ 1 ∷ 2 ∷ 1 ∷ []
 first_len = refl
 
 -- the kind is the byte's low four bits, each of the sixteen
-kinds : map kind_of (0 ∷ 0x11 ∷ 0x22 ∷ 0x33 ∷ 0x44 ∷ 0x55 ∷ 0x66 ∷ 0x77 ∷ 0x88 ∷ 0x99 ∷ 0xAA ∷ 0xBB ∷ 0xCC ∷ 0xDD ∷ 0xEE ∷ 0xFF ∷ []) ≡ 0 ∷ 1 ∷ 2 ∷ 3 ∷ 4 ∷ 5 ∷ 6 ∷ 7 ∷ 8 ∷ 9 ∷ 10 ∷ 11 ∷ 12 ∷ 13 ∷ 14 ∷ 15 ∷ []
+kinds : map kind_of (0 ∷ 0x11 ∷ 0x22 ∷ 0x33 ∷ 0x44 ∷ 0x55 ∷ 0x66 ∷ 0x77 ∷ 0x88 ∷ 0x99 ∷ 0xAA ∷ 0xBB ∷ 0xCC ∷ 0xDD ∷ 0xEE
+    ∷ 0xFF ∷ []) ≡ 0 ∷ 1 ∷ 2 ∷ 3 ∷ 4 ∷ 5 ∷ 6 ∷ 7 ∷ 8 ∷ 9 ∷ 10 ∷ 11 ∷ 12 ∷ 13 ∷ 14 ∷ 15 ∷ []
 kinds = refl
 
 -- serial 1 to 15, then 1 again
-serials : map (λ i. span_byte i (span (1, 4))) (0 ∷ 1 ∷ 13 ∷ 14 ∷ 15 ∷ 16 ∷ 29 ∷ 30 ∷ []) ≡ 0x14 ∷ 0x24 ∷ 0xE4 ∷ 0xF4 ∷ 0x14 ∷ 0x24 ∷ 0xF4 ∷ 0x14 ∷ []
+serials : map (λ i. span_byte i (span (1, 4))) (0 ∷ 1 ∷ 13 ∷ 14 ∷ 15 ∷ 16 ∷ 29 ∷ 30 ∷ []) ≡ 0x14 ∷ 0x24 ∷ 0xE4 ∷ 0xF4
+    ∷ 0x14 ∷ 0x24 ∷ 0xF4 ∷ 0x14 ∷ []
 serials = refl
 
 -- each span's byte as often as it is long
@@ -62,10 +80,12 @@ span_wrap : span_bytes 13 (spans ((1, 1) ∷ (2, 2) ∷ (1, 3) ∷ (1, 4) ∷ []
 span_wrap = refl
 
 -- spans cover n glyphs where none is empty and their lengths sum up to n
-covering : map (λ n. spans_cover n (spans ((2, 0) ∷ (1, 4) ∷ []))) (0 ∷ 2 ∷ 3 ∷ 4 ∷ []) ≡ false ∷ false ∷ true ∷ false ∷ []
+covering : map (λ n. spans_cover n (spans ((2, 0) ∷ (1, 4) ∷ []))) (0 ∷ 2 ∷ 3 ∷ 4 ∷ []) ≡ false ∷ false ∷ true ∷ false
+    ∷ []
 covering = refl
 
-covering_empty : map (spans_cover 2) (spans ((0, 0) ∷ (2, 0) ∷ []) ∷ spans ((2, 0) ∷ (0, 0) ∷ []) ∷ spans ((1, 0) ∷ (0, 0) ∷ (1, 0) ∷ []) ∷ spans ((1, 0) ∷ (1, 0) ∷ []) ∷ []) ≡ false ∷ false ∷ false ∷ true ∷ []
+covering_empty : map (spans_cover 2) (spans ((0, 0) ∷ (2, 0) ∷ []) ∷ spans ((2, 0) ∷ (0, 0) ∷ [])
+    ∷ spans ((1, 0) ∷ (0, 0) ∷ (1, 0) ∷ []) ∷ spans ((1, 0) ∷ (1, 0) ∷ []) ∷ []) ≡ false ∷ false ∷ false ∷ true ∷ []
 covering_empty = refl
 
 covering_none : map (λ n. spans_cover n []) (0 ∷ 1 ∷ []) ≡ true ∷ false ∷ []
@@ -75,28 +95,35 @@ covering_none = refl
 abbrev three : Buffer
 three = record (new_buffer 100) { glyphs = of_rows ((0, 0) ∷ (0, 1) ∷ (0, 2) ∷ []) }
 
-refusals : map (λ rows. spans_refusal (spans rows) three) (((2, 0) ∷ []) ∷ ((2, 0) ∷ (1, 0) ∷ []) ∷ ((3, 0) ∷ (0, 0) ∷ []) ∷ ((4, 0) ∷ []) ∷ []) ≡ Some SpansDontCover ∷ None ∷ Some SpansDontCover ∷ Some SpansDontCover ∷ []
+refusals : map (λ rows. spans_refusal (spans rows) three) (((2, 0) ∷ []) ∷ ((2, 0) ∷ (1, 0) ∷ [])
+    ∷ ((3, 0) ∷ (0, 0) ∷ []) ∷ ((4, 0) ∷ []) ∷ []) ≡ Some SpansDontCover ∷ None ∷ Some SpansDontCover
+    ∷ Some SpansDontCover ∷ []
 refusals = refl
 
 -- the spans' bytes; the mark of a broken syllable comes where a span has that kind, and is never cleared
-spans_broken : with_spans (spans ((2, 0) ∷ (1, 4) ∷ [])) 4 three ≡ record three { glyphs = of_rows ((0x10, 0) ∷ (0x10, 1) ∷ (0x24, 2) ∷ []); broken = true }
+spans_broken : with_spans (spans ((2, 0) ∷ (1, 4) ∷ [])) 4 three
+    ≡ record three { glyphs = of_rows ((0x10, 0) ∷ (0x10, 1) ∷ (0x24, 2) ∷ []); broken = true }
 spans_broken = refl
 
-spans_whole : with_spans (spans ((2, 0) ∷ (1, 4) ∷ [])) 5 three ≡ record three { glyphs = of_rows ((0x10, 0) ∷ (0x10, 1) ∷ (0x24, 2) ∷ []) }
+spans_whole : with_spans (spans ((2, 0) ∷ (1, 4) ∷ [])) 5 three
+    ≡ record three { glyphs = of_rows ((0x10, 0) ∷ (0x10, 1) ∷ (0x24, 2) ∷ []) }
 spans_whole = refl
 
-spans_keep_mark : with_spans (spans ((3, 0) ∷ [])) 4 (record three { broken = true }) ≡ record three { glyphs = of_rows ((0x10, 0) ∷ (0x10, 1) ∷ (0x10, 2) ∷ []); broken = true }
+spans_keep_mark : with_spans (spans ((3, 0) ∷ [])) 4 (record three { broken = true })
+    ≡ record three { glyphs = of_rows ((0x10, 0) ∷ (0x10, 1) ∷ (0x10, 2) ∷ []); broken = true }
 spans_keep_mark = refl
 
 -- bytes change nothing else, and reach as far as they go
-bytes_keep : with_bytes (full ∷ full ∷ full ∷ []) (0x10 ∷ 0x21 ∷ []) ≡ record full { syllable = 0x10 } ∷ record full { syllable = 0x21 } ∷ full ∷ []
+bytes_keep : with_bytes (full ∷ full ∷ full ∷ []) (0x10 ∷ 0x21 ∷ []) ≡ record full { syllable = 0x10 }
+    ∷ record full { syllable = 0x21 } ∷ full ∷ []
 bytes_keep = refl
 
 byte_keeps : in_syllable 0 full ≡ record full { syllable = 0 }
 byte_keeps = refl
 
 -- the first glyph of a kind above the last known one
-unknown : map (λ last. unknown_syllable last (of_bytes (0x10 ∷ 0x24 ∷ 0x35 ∷ 0x4F ∷ []))) (3 ∷ 4 ∷ 5 ∷ 14 ∷ 15 ∷ []) ≡ Some 1 ∷ Some 2 ∷ Some 3 ∷ Some 3 ∷ None ∷ []
+unknown : map (λ last. unknown_syllable last (of_bytes (0x10 ∷ 0x24 ∷ 0x35 ∷ 0x4F ∷ []))) (3 ∷ 4 ∷ 5 ∷ 14 ∷ 15 ∷ [])
+    ≡ Some 1 ∷ Some 2 ∷ Some 3 ∷ Some 3 ∷ None ∷ []
 unknown = refl
 
 unknown_first : unknown_syllable 5 (of_bytes (0x16 ∷ 0x16 ∷ 0x26 ∷ [])) ≡ Some 0
@@ -105,5 +132,6 @@ unknown_first = refl
 unknown_none : unknown_syllable 5 [] ≡ None
 unknown_none = refl
 
-unknown_refused : map (λ last. unknown_refusal last (of_bytes (0x10 ∷ 0x24 ∷ []))) (3 ∷ 4 ∷ []) ≡ Some (UnknownSyllable 1) ∷ None ∷ []
+unknown_refused : map (λ last. unknown_refusal last (of_bytes (0x10 ∷ 0x24 ∷ []))) (3 ∷ 4 ∷ [])
+    ≡ Some (UnknownSyllable 1) ∷ None ∷ []
 unknown_refused = refl

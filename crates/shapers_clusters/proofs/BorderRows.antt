@@ -6,7 +6,8 @@ use Rattle.shapers_buffer.specs.GlyphFlags.{FlagCall, UnsafeToBreak, UnsafeToCon
 use Rattle.shapers_buffer.specs.declared.buffer.glyph.hb_glyph_info_t.{hb_glyph_info_t}
 use Rattle.shapers_clusters.specs.Borders.{forbids_border, IsOpen, is_unsafe_to_concat, IsBare}
 
--- borders before places 0 to 4 that each call over places 1 and 2 forbids: a break and a tatweel between the two, a concatenation before both
+-- borders before places 0 to 4 that each call over places 1 and 2 forbids: a break and a tatweel
+-- between the two, a concatenation before both
 at : FlagCall → List Bool
 at call = map (λ p. forbids_border p call) (0 ∷ 1 ∷ 2 ∷ 3 ∷ 4 ∷ [])
 
@@ -36,7 +37,8 @@ row_second_call free = false≢true (sym free)
 glyph : ℕ → ℕ → hb_glyph_info_t
 glyph c m = record default_glyph { cluster = c; mask = m }
 
-row_flag : map (λ m. is_unsafe_to_concat (glyph 0 m)) (0 ∷ 1 ∷ 2 ∷ 3 ∷ 4 ∷ 5 ∷ 8 ∷ []) ≡ false ∷ false ∷ true ∷ true ∷ false ∷ false ∷ false ∷ []
+row_flag : map (λ m. is_unsafe_to_concat (glyph 0 m)) (0 ∷ 1 ∷ 2 ∷ 3 ∷ 4 ∷ 5 ∷ 8 ∷ []) ≡ false ∷ false ∷ true ∷ true
+    ∷ false ∷ false ∷ false ∷ []
 unfolding glyph
 row_flag = refl
 
@@ -49,7 +51,8 @@ row_falling : IsBare (glyph 2 2 ∷ glyph 1 0 ∷ glyph 0 2 ∷ []) 1
 unfolding glyph
 row_falling = record { clear = record { differ = λ e. absurd (omega arith); unflagged = refl }; joinable = refl }
 
--- no border is bare inside a cluster, before a glyph with flag 2, before a cluster with a later one, or where the greater cluster has flag 1 or 4
+-- no border is bare inside a cluster, before a glyph with flag 2, before a cluster with a later
+-- one, or where the greater cluster has flag 1 or 4
 row_inside : IsBare (glyph 0 0 ∷ glyph 0 0 ∷ []) 1 → ⊥
 unfolding glyph
 row_inside bare = bare.clear.differ refl
@@ -79,6 +82,7 @@ unfolding glyph
 row_greater bare = false≢true (sym bare.clear.unflagged)
 
 -- R behind U, each a cluster of its own: its flag of concatenation is on its own place alone
-row_called : map (λ g. g.mask) (flags_called true false (UnsafeToConcat 1 2 ∷ []) (glyph 0 0 ∷ glyph 1 0 ∷ glyph 2 0 ∷ [])) ≡ 0 ∷ 2 ∷ 0 ∷ []
+row_called : map (λ g. g.mask)
+    (flags_called true false (UnsafeToConcat 1 2 ∷ []) (glyph 0 0 ∷ glyph 1 0 ∷ glyph 2 0 ∷ [])) ≡ 0 ∷ 2 ∷ 0 ∷ []
 unfolding glyph
 row_called = refl

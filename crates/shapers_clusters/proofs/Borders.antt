@@ -28,7 +28,8 @@ put-two mask =
     omega (arith, bit_at_or mask 2 1, two, below)
 
 -- one call, and any calls
-concat-puts : (tatweel : Bool) (call : FlagCall) (gs : List hb_glyph_info_t) (p : ℕ) → p < length gs → forbids_concat p call ≡ true → 0 < bit_at 1 (get_or (flag_called true tatweel call gs) p default_glyph).mask
+concat-puts : (tatweel : Bool) (call : FlagCall) (gs : List hb_glyph_info_t) (p : ℕ) → p < length gs
+    → forbids_concat p call ≡ true → 0 < bit_at 1 (get_or (flag_called true tatweel call gs) p default_glyph).mask
 concat-puts tatweel (UnsafeToBreak s e) gs p h f = absurd (false≢true f)
 concat-puts tatweel (UnsafeToConcat s e) gs p h f =
     let (a, b) = and_parts (leb s p) (ltb p e) f in
@@ -36,7 +37,9 @@ concat-puts tatweel (UnsafeToConcat s e) gs p h f =
     omega (arith, ap (λ (g : hb_glyph_info_t). bit_at 1 g.mask) is, put-two (get_or gs p default_glyph).mask)
 concat-puts tatweel (SafeToInsertTatweel s e) gs p h f = absurd (false≢true f)
 
-concats-put : (tatweel : Bool) (calls : List FlagCall) (gs : List hb_glyph_info_t) (p : ℕ) → AllByRecursion InOrder calls → p < length gs → list_any (forbids_concat p) calls ≡ true → 0 < bit_at 1 (get_or (flags_called true tatweel calls gs) p default_glyph).mask
+concats-put : (tatweel : Bool) (calls : List FlagCall) (gs : List hb_glyph_info_t) (p : ℕ)
+    → AllByRecursion InOrder calls → p < length gs → list_any (forbids_concat p) calls ≡ true
+    → 0 < bit_at 1 (get_or (flags_called true tatweel calls gs) p default_glyph).mask
 concats-put tatweel [] gs p all h f = absurd (false≢true f)
 concats-put tatweel (call ∷ calls) gs p all h f =
     let once = flag_called true tatweel call gs in
@@ -44,23 +47,27 @@ concats-put tatweel (call ∷ calls) gs p all h f =
     elim (or_cases (forbids_concat p call) (list_any (forbids_concat p) calls) f) [
       | inl here ↦
           let rest = flags_called-alone true tatweel calls once all.1 in
-          let kept = AllZip-get_or KeepsBits once (flags_called true tatweel calls once) p default_glyph default_glyph rest.none_lost (omega arith) in
+          let kept = AllZip-get_or KeepsBits once (flags_called true tatweel calls once) p default_glyph default_glyph
+          rest.none_lost (omega arith) in
           omega (arith, concat-puts tatweel call gs p h here, kept 1)
       | inr later ↦ concats-put tatweel calls once p all.1 (omega arith) later
     ]
 
 -- what forbids neither forbids no border
-neither-call : (call : FlagCall) (p : ℕ) → forbids p call ≡ false → forbids_concat p call ≡ false → forbids_border p call ≡ false
+neither-call : (call : FlagCall) (p : ℕ) → forbids p call ≡ false → forbids_concat p call ≡ false
+    → forbids_border p call ≡ false
 neither-call (UnsafeToBreak s e) p f c = f
 neither-call (UnsafeToConcat s e) p f c = c
 neither-call (SafeToInsertTatweel s e) p f c = f
 
-neither-open : (calls : List FlagCall) (p : ℕ) → IsFree calls p → list_any (forbids_concat p) calls ≡ false → IsOpen calls p
+neither-open : (calls : List FlagCall) (p : ℕ) → IsFree calls p → list_any (forbids_concat p) calls ≡ false
+    → IsOpen calls p
 neither-open [] p f c = refl
 neither-open (call ∷ calls) p f c =
     let x = or_parts (forbids p call) (held_by_calls p calls) f in
     let y = or_parts (forbids_concat p call) (list_any (forbids_concat p) calls) c in
-    or_from (forbids_border p call) (list_any (forbids_border p) calls) (neither-call call p x.0 y.0) (neither-open calls p x.1 y.1)
+    or_from (forbids_border p call) (list_any (forbids_border p) calls) (neither-call call p x.0 y.0)
+    (neither-open calls p x.1 y.1)
 
 -- so no such call stands at a bare border
 pub bare-borders : BareLaw
@@ -73,5 +80,6 @@ bare-borders tatweel calls gs p all pos within bare =
     let none = false_from_ne_true (list_any (forbids_concat p) calls) (λ f.
     let bit = concats-put tatweel calls gs p all within f in
     let one : bit_at 1 (get_or new p default_glyph).mask ≡ 1 = omega arith in
-    both_ways _ bare.joinable (list_any_at (λ g. eqb g.cluster c && is_unsafe_to_concat g) new p default_glyph here (and_from _ _ (eq-eqb _ _ (sym own)) (eq-eqb _ _ one)))) in
+    both_ways _ bare.joinable (list_any_at (λ g. eqb g.cluster c && is_unsafe_to_concat g) new p default_glyph here
+    (and_from _ _ (eq-eqb _ _ (sym own)) (eq-eqb _ _ one)))) in
     neither-open calls p (clear-places true tatweel calls gs p all pos within bare.clear) none

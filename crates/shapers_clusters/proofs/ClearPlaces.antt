@@ -34,7 +34,8 @@ at : List hb_glyph_info_t → ℕ → hb_glyph_info_t
 at gs k = get_or gs k default_glyph
 
 -- a place inside a stretch that is changed glyph by glyph
-pub in-stretch : (f : hb_glyph_info_t → hb_glyph_info_t) (s e k : ℕ) (gs : List hb_glyph_info_t) (d : hb_glyph_info_t) → s ≤ k → k < e → k < length gs → get_or (with_stretch s e (map f) gs) k d ≡ f (get_or gs k d)
+pub in-stretch : (f : hb_glyph_info_t → hb_glyph_info_t) (s e k : ℕ) (gs : List hb_glyph_info_t) (d : hb_glyph_info_t)
+    → s ≤ k → k < e → k < length gs → get_or (with_stretch s e (map f) gs) k d ≡ f (get_or gs k d)
 in-stretch f s e k gs d low high within =
     let front = take s gs in
     let part = stretch_of s e gs in
@@ -50,15 +51,24 @@ in-stretch f s e k gs d low high within =
     ∙ ap f (get_or-take (e - s) (drop s gs) n d (omega arith) ∙ get_or-drop s gs n d ∙ ap (λ i. get_or gs i d) there)
 
 -- the least cluster of a stretch is at most that of each place in it
-least-in : (s e j : ℕ) (gs : List hb_glyph_info_t) (d : hb_glyph_info_t) → s ≤ j → j < e → j < length gs → least (clusters (stretch_of s e gs)) ≤ (get_or gs j d).cluster
+least-in : (s e j : ℕ) (gs : List hb_glyph_info_t) (d : hb_glyph_info_t) → s ≤ j → j < e → j < length gs
+    → least (clusters (stretch_of s e gs)) ≤ (get_or gs j d).cluster
 least-in s e j gs d low high within =
     let part = stretch_of s e gs in
     let n = j - s in
     let inner : n < length part = omega (arith, length-take (e - s) (drop s gs), length-drop s gs) in
     let there : s + n ≡ j = omega arith in
-    let is : get_or part n d ≡ get_or gs j d = get_or-take (e - s) (drop s gs) n d (omega arith) ∙ get_or-drop s gs n d ∙ ap (λ i. get_or gs i d) there in
-    let value : get_or (clusters part) n 0 ≡ (get_or gs j d).cluster = get_or-map (λ (g : hb_glyph_info_t). g.cluster) part n d 0 inner ∙ ap (λ (g : hb_glyph_info_t). g.cluster) is in
-    omega (arith, value, least-le (clusters part) n (omega (arith, length-map part (λ (g : hb_glyph_info_t). g.cluster))))
+    let is : get_or part n d ≡ get_or gs j d = get_or-take (e - s) (drop s gs) n d (omega arith) ∙ get_or-drop s gs n d
+    ∙ ap (λ i. get_or gs i d) there in
+    let value : get_or (clusters part) n 0 ≡ (get_or gs j d).cluster =
+    get_or-map (λ (g : hb_glyph_info_t). g.cluster) part n d 0 inner
+    ∙ ap (λ (g : hb_glyph_info_t). g.cluster) is in
+    omega (
+      arith,
+      value,
+      least-le (clusters part) n
+          (omega (arith, length-map part (λ (g : hb_glyph_info_t). g.cluster))),
+    )
 
 -- the flag of a glyph above the least cluster
 abbrev Puts : ℕ → Type 0
@@ -76,18 +86,25 @@ put-four mask =
     let below : bit_at 2 mask ≤ 1 = omega arith in
     omega (arith, bit_at_or mask 4 2, four, below)
 
-put-above : (bits : ℕ) → Puts bits → (m : ℕ) (g : hb_glyph_info_t) → m < g.cluster → 0 < unsafe_bits (with_bits_off bits m g).mask
-put-above bits puts m g h = elim (eqb g.cluster m) as (λ b. eqb g.cluster m ≡ b → 0 < unsafe_bits (let r : hb_glyph_info_t = cond b g (with_bits bits g) in r).mask) [
-  | true ↦ λ e. absurd (omega (arith, eqb-true g.cluster m e))
-  | false ↦ λ e. puts g.mask
-] refl
+put-above : (bits : ℕ) → Puts bits → (m : ℕ) (g : hb_glyph_info_t) → m < g.cluster
+    → 0 < unsafe_bits (with_bits_off bits m g).mask
+put-above bits puts m g h =
+    elim (eqb g.cluster m) as (λ b. eqb g.cluster m ≡ b
+    → 0 < unsafe_bits (let r : hb_glyph_info_t = cond b g (with_bits bits g) in r).mask) [
+      | true ↦ λ e. absurd (omega (arith, eqb-true g.cluster m e))
+      | false ↦ λ e. puts g.mask
+    ] refl
 
 -- one call that reaches over both places
-call-puts : (bits : ℕ) → Puts bits → (s e k j : ℕ) (gs : List hb_glyph_info_t) (d : hb_glyph_info_t) → s ≤ k → k < e → s ≤ j → j < e → k < length gs → j < length gs → (get_or gs j d).cluster < (get_or gs k d).cluster → 0 < unsafe_bits (get_or (with_stretch s e (flagged bits) gs) k d).mask
+call-puts : (bits : ℕ) → Puts bits → (s e k j : ℕ) (gs : List hb_glyph_info_t) (d : hb_glyph_info_t) → s ≤ k → k < e
+    → s ≤ j → j < e → k < length gs → j < length gs → (get_or gs j d).cluster < (get_or gs k d).cluster
+    → 0 < unsafe_bits (get_or (with_stretch s e (flagged bits) gs) k d).mask
 call-puts bits puts s e k j gs d a b c f within inside less =
     let m = least (clusters (stretch_of s e gs)) in
     let low = least-in s e j gs d c f inside in
-    subst (λ (g : hb_glyph_info_t). 0 < unsafe_bits g.mask) (sym (in-stretch (with_bits_off bits m) s e k gs d a b within)) (put-above bits puts m (get_or gs k d) (omega arith))
+    subst (λ (g : hb_glyph_info_t). 0 < unsafe_bits g.mask)
+    (sym (in-stretch (with_bits_off bits m) s e k gs d a b within))
+    (put-above bits puts m (get_or gs k d) (omega arith))
 
 -- the two places that meet at p
 record Meet (k j p : ℕ) (gs : List hb_glyph_info_t) : Type 0 where
@@ -103,10 +120,12 @@ unfolding at
 cluster-at gs k h = get_or-map (λ (g : hb_glyph_info_t). g.cluster) gs k default_glyph 0 h
 
 pub length-same : (gs hs : List hb_glyph_info_t) → clusters hs ≡ clusters gs → length hs ≡ length gs
-length-same gs hs e = sym (length-map hs (λ (g : hb_glyph_info_t). g.cluster)) ∙ ap length e ∙ length-map gs (λ (g : hb_glyph_info_t). g.cluster)
+length-same gs hs e = sym (length-map hs (λ (g : hb_glyph_info_t). g.cluster)) ∙ ap length e
+    ∙ length-map gs (λ (g : hb_glyph_info_t). g.cluster)
 
 -- one call
-break-puts_at : (bits : ℕ) → Puts bits → (s e : ℕ) (gs : List hb_glyph_info_t) (k j p : ℕ) → 0 < p → Meet k j p gs → (ltb s p && ltb p e) ≡ true → 0 < unsafe_bits (at (with_stretch s e (flagged bits) gs) k).mask
+break-puts_at : (bits : ℕ) → Puts bits → (s e : ℕ) (gs : List hb_glyph_info_t) (k j p : ℕ) → 0 < p → Meet k j p gs
+    → (ltb s p && ltb p e) ≡ true → 0 < unsafe_bits (at (with_stretch s e (flagged bits) gs) k).mask
 unfolding at
 break-puts_at bits puts s e gs k j p pos m f =
     let (b, c) = and_parts (ltb s p) (ltb p e) f in
@@ -120,16 +139,25 @@ break-puts_at bits puts s e gs k j p pos m f =
     let less = m.less in
     let k_in : k < length gs = omega arith in
     let j_in : j < length gs = omega arith in
-    call-puts bits puts s e k j gs default_glyph (omega arith) (omega arith) (omega arith) (omega arith) k_in j_in (omega (arith, get_or-map (λ (g : hb_glyph_info_t). g.cluster) gs k default_glyph 0 k_in, get_or-map (λ (g : hb_glyph_info_t). g.cluster) gs j default_glyph 0 j_in))
+    call-puts bits puts s e k j gs default_glyph (omega arith) (omega arith) (omega arith) (omega arith) k_in j_in
+    (omega (
+      arith,
+      get_or-map (λ (g : hb_glyph_info_t). g.cluster) gs k default_glyph 0 k_in,
+      get_or-map
+          (λ (g : hb_glyph_info_t). g.cluster) gs j default_glyph 0 j_in,
+    ))
 
-call-puts_at : (concat tatweel : Bool) (call : FlagCall) (gs : List hb_glyph_info_t) (k j p : ℕ) → 0 < p → Meet k j p gs → forbids p call ≡ true → 0 < unsafe_bits (at (flag_called concat tatweel call gs) k).mask
+call-puts_at : (concat tatweel : Bool) (call : FlagCall) (gs : List hb_glyph_info_t) (k j p : ℕ) → 0 < p → Meet k j p gs
+    → forbids p call ≡ true → 0 < unsafe_bits (at (flag_called concat tatweel call gs) k).mask
 call-puts_at concat tatweel (UnsafeToBreak s e) gs k j p pos m f = break-puts_at 3 put-three s e gs k j p pos m f
 call-puts_at concat tatweel (UnsafeToConcat s e) gs k j p pos m f = absurd (false≢true f)
 call-puts_at concat true (SafeToInsertTatweel s e) gs k j p pos m f = break-puts_at 4 put-four s e gs k j p pos m f
 call-puts_at concat false (SafeToInsertTatweel s e) gs k j p pos m f = break-puts_at 3 put-three s e gs k j p pos m f
 
 -- any calls
-calls-put_at : (concat tatweel : Bool) (calls : List FlagCall) (gs : List hb_glyph_info_t) (k j p : ℕ) → AllByRecursion InOrder calls → 0 < p → Meet k j p gs → held_by_calls p calls ≡ true → 0 < unsafe_bits (at (flags_called concat tatweel calls gs) k).mask
+calls-put_at : (concat tatweel : Bool) (calls : List FlagCall) (gs : List hb_glyph_info_t) (k j p : ℕ)
+    → AllByRecursion InOrder calls → 0 < p → Meet k j p gs → held_by_calls p calls ≡ true
+    → 0 < unsafe_bits (at (flags_called concat tatweel calls gs) k).mask
 unfolding at
 calls-put_at concat tatweel [] gs k j p all pos m f = absurd (false≢true f)
 calls-put_at concat tatweel (call ∷ calls) gs k j p all pos m f =
@@ -143,7 +171,8 @@ calls-put_at concat tatweel (call ∷ calls) gs k j p all pos m f =
           let kt = m.k_to in
           let within = m.within in
           let now = call-puts_at concat tatweel call gs k j p pos m here in
-          let kept = AllZip-get_or KeepsBits once (flags_called concat tatweel calls once) k default_glyph default_glyph rest.none_lost (omega arith) in
+          let kept = AllZip-get_or KeepsBits once (flags_called concat tatweel calls once) k default_glyph default_glyph
+          rest.none_lost (omega arith) in
           let first = kept 0 in
           let third = kept 2 in
           omega (arith, now, first, third)
@@ -154,14 +183,26 @@ calls-put_at concat tatweel (call ∷ calls) gs k j p all pos m f =
           let jf = m.j_from in
           let jt = m.j_to in
           let within = m.within in
-          let next : Meet k j p once = record { k_from = kf; k_to = kt; j_from = jf; j_to = jt; within = omega arith; less = subst P (sym same) m.less } in
+          let next : Meet k j p once =
+          record {
+            k_from = kf;
+            k_to = kt;
+            j_from = jf;
+            j_to = jt;
+            within = omega arith;
+            less = subst P
+                (sym same) m.less;
+          } in
           calls-put_at concat tatweel calls once k j p all.1 pos next later
     ]
 
 -- so no such call stands at a clear place
-found : (gs : List hb_glyph_info_t) (p k c : ℕ) → k < length gs → (at gs k).cluster ≡ c → 0 < unsafe_bits (at gs k).mask → list_any (λ g. eqb g.cluster c && is_unsafe g) gs ≡ true
+found : (gs : List hb_glyph_info_t) (p k c : ℕ) → k < length gs → (at gs k).cluster ≡ c → 0 < unsafe_bits (at gs k).mask
+    → list_any (λ g. eqb g.cluster c && is_unsafe g) gs ≡ true
 unfolding at
-found gs p k c h e b = list_any_at (λ g. eqb g.cluster c && is_unsafe g) gs k default_glyph h (and_from _ _ (eq-eqb _ _ e) (unsafe-from (get_or gs k default_glyph) b))
+found gs p k c h e b =
+    list_any_at (λ g. eqb g.cluster c && is_unsafe g) gs k default_glyph h
+    (and_from _ _ (eq-eqb _ _ e) (unsafe-from (get_or gs k default_glyph) b))
 
 pub clear-places : ClearLaw
 clear-places concat tatweel calls gs p all pos within clear =
@@ -174,10 +215,32 @@ clear-places concat tatweel calls gs p all pos within clear =
       | inl e ↦ clear.differ e
       | inr (inl less) ↦
           let P : List ℕ → Type 0 = λ cs. get_or cs (p - 1) 0 < get_or cs p 0 in
-          let m : Meet p (p - 1) p gs = record { k_from = omega arith; k_to = omega arith; j_from = omega arith; j_to = omega arith; within = within; less = subst P same less } in
-          both_ways _ clear.unflagged (found new p p (greater new p) (omega arith) (omega (arith, cluster-at new p (omega arith))) (calls-put_at concat tatweel calls gs p (p - 1) p all pos m f))
+          let m : Meet p (p - 1) p gs =
+          record {
+            k_from = omega arith;
+            k_to = omega arith;
+            j_from = omega arith;
+            j_to = omega arith;
+            within =
+                within;
+            less = subst P same less;
+          } in
+          both_ways _ clear.unflagged
+          (found new p p (greater new p) (omega arith) (omega (arith, cluster-at new p (omega arith)))
+          (calls-put_at concat tatweel calls gs p (p - 1) p all pos m f))
       | inr (inr more) ↦
           let P : List ℕ → Type 0 = λ cs. get_or cs p 0 < get_or cs (p - 1) 0 in
-          let m : Meet (p - 1) p p gs = record { k_from = omega arith; k_to = omega arith; j_from = omega arith; j_to = omega arith; within = within; less = subst P same more } in
-          both_ways _ clear.unflagged (found new p (p - 1) (greater new p) (omega arith) (omega (arith, cluster-at new (p - 1) (omega arith))) (calls-put_at concat tatweel calls gs (p - 1) p p all pos m f))
+          let m : Meet (p - 1) p p gs =
+          record {
+            k_from = omega arith;
+            k_to = omega arith;
+            j_from = omega arith;
+            j_to = omega arith;
+            within =
+                within;
+            less = subst P same more;
+          } in
+          both_ways _ clear.unflagged
+          (found new p (p - 1) (greater new p) (omega arith) (omega (arith, cluster-at new (p - 1) (omega arith)))
+          (calls-put_at concat tatweel calls gs (p - 1) p p all pos m f))
     ])

@@ -26,7 +26,8 @@ abbrev pub spreading : ℕ → ℕ → List ℕ → List ℕ
 spreading s e cs =
     let middle = stretch_of s e cs in
     let m = least middle in
-    reverse (flood (opening_run middle) m (reverse (take s cs))) ++ (map (λ _. m) middle ++ flood (opening_run (reverse middle)) m (drop e cs))
+    reverse (flood (opening_run middle) m (reverse (take s cs)))
+    ++ (map (λ _. m) middle ++ flood (opening_run (reverse middle)) m (drop e cs))
 
 -- the least of a list is at most each of it, and is one of it
 fold_min-start : (c : ℕ) (cs : List ℕ) → fold min c cs ≤ c
@@ -42,7 +43,12 @@ fold_min-among : (c : ℕ) (cs : List ℕ) → (k : ℕ) × (k < suc (length cs)
 fold_min-among c [] = (0, omega arith, refl)
 fold_min-among c (x ∷ cs) =
     let (k, h, e) = fold_min-among (min c x) cs in
-    elim k as (λ k. k < suc (length cs) → get_or (min c x ∷ cs) k 0 ≡ fold min (min c x) cs → (j : ℕ) × (j < suc (suc (length cs))) × (get_or (c ∷ x ∷ cs) j 0 ≡ fold min (min c x) cs)) [ zero ↦ λ h e. elim (cases_lt x c) [ inl l ↦ (1, omega arith, omega (arith, e)) | inr l ↦ (0, omega arith, omega (arith, e)) ] | suc k ↦ λ h e. (suc (suc k), omega arith, e) ] h e
+    elim k as (λ k. k < suc (length cs) → get_or (min c x ∷ cs) k 0 ≡ fold min (min c x) cs
+    → (j : ℕ) × (j < suc (suc (length cs))) × (get_or (c ∷ x ∷ cs) j 0 ≡ fold min (min c x) cs)) [
+      | zero ↦ λ h e. elim (cases_lt x c)
+          [ inl l ↦ (1, omega arith, omega (arith, e)) | inr l ↦ (0, omega arith, omega (arith, e)) ]
+      | suc k ↦ λ h e. (suc (suc k), omega arith, e)
+    ] h e
 
 pub least-le : (cs : List ℕ) (k : ℕ) → k < length cs → least cs ≤ get_or cs k 0
 least-le [] k h = omega arith
@@ -72,25 +78,36 @@ pub clusters-put : (m : ℕ) (gs : List hb_glyph_info_t) → clusters (map (in_c
 clusters-put m [] = refl
 clusters-put m (g ∷ gs) = let h = cluster-in_cluster m g in let i = clusters-put m gs in cc
 
-map-if : {X Y : Type 0} (f : X → Y) (b : Bool) (x y : X) (z w : Y) → f x ≡ z → f y ≡ w → f (if b then x else y) ≡ (if b then z else w)
+map-if : {X Y : Type 0} (f : X → Y) (b : Bool) (x y : X) (z w : Y) → f x ≡ z → f y ≡ w
+    → f (if b then x else y) ≡ (if b then z else w)
 map-if f true x y z w h i = h
 map-if f false x y z w h i = i
 
-clusters-merged : (s e : ℕ) (gs : List hb_glyph_info_t) → clusters (flood_merged s e gs) ≡ (let middle = stretch_of s e (clusters gs) in let m = least middle in reverse (flood (opening_run middle) m (reverse (take s (clusters gs)))) ++ (map (λ _. m) middle ++ flood (opening_run (reverse middle)) m (drop e (clusters gs))))
-clusters-merged s e gs = simp (map-append, map-reverse, clusters-flooded, clusters-put, take-map, drop-map, opening-clusters)
+clusters-merged : (s e : ℕ) (gs : List hb_glyph_info_t) → clusters (flood_merged s e gs)
+    ≡ (let middle = stretch_of s e (clusters gs) in let m = least middle in reverse
+    (flood (opening_run middle) m (reverse (take s (clusters gs))))
+    ++ (map (λ _. m) middle ++ flood (opening_run (reverse middle)) m (drop e (clusters gs))))
+clusters-merged s e gs =
+    simp (map-append, map-reverse, clusters-flooded, clusters-put, take-map, drop-map, opening-clusters)
 
-clusters-flood : (level : BufferClusterLevel) (s e : ℕ) (gs : List hb_glyph_info_t) → clusters (merge level s e gs) ≡ (if merges level && not (nat_lt (e - s) 2) then spreading s e (clusters gs) else clusters gs)
-clusters-flood level s e gs = ap clusters (merge_is level s e gs) ∙ map-if clusters (merges level && not (nat_lt (e - s) 2)) (flood_merged s e gs) gs _ _ (clusters-merged s e gs) refl
+clusters-flood : (level : BufferClusterLevel) (s e : ℕ) (gs : List hb_glyph_info_t) → clusters (merge level s e gs)
+    ≡ (if merges level && not (nat_lt (e - s) 2) then spreading s e (clusters gs) else clusters gs)
+clusters-flood level s e gs = ap clusters (merge_is level s e gs)
+    ∙ map-if clusters (merges level && not (nat_lt (e - s) 2)) (flood_merged s e gs) gs _ _ (clusters-merged s e gs)
+    refl
 
 pub clusters-of_clusters : (cs : List ℕ) → clusters (map of_cluster cs) ≡ cs
 clusters-of_clusters [] = refl
 clusters-of_clusters (c ∷ cs) = ap (λ l. c ∷ l) (clusters-of_clusters cs)
 
-pub joined_is : (level : BufferClusterLevel) (s e : ℕ) (cs : List ℕ) → joined level s e cs ≡ (if merges level && not (nat_lt (e - s) 2) then spreading s e cs else cs)
-joined_is level s e cs = clusters-flood level s e (map of_cluster cs) ∙ ap (λ cs. if merges level && not (nat_lt (e - s) 2) then spreading s e cs else cs) (clusters-of_clusters cs)
+pub joined_is : (level : BufferClusterLevel) (s e : ℕ) (cs : List ℕ)
+    → joined level s e cs ≡ (if merges level && not (nat_lt (e - s) 2) then spreading s e cs else cs)
+joined_is level s e cs = clusters-flood level s e (map of_cluster cs)
+    ∙ ap (λ cs. if merges level && not (nat_lt (e - s) 2) then spreading s e cs else cs) (clusters-of_clusters cs)
 
 -- the clusters of merged glyphs are the joined clusters
-pub clusters-merge : (level : BufferClusterLevel) (s e : ℕ) (gs : List hb_glyph_info_t) → clusters (merge level s e gs) ≡ joined level s e (clusters gs)
+pub clusters-merge : (level : BufferClusterLevel) (s e : ℕ) (gs : List hb_glyph_info_t) → clusters (merge level s e gs)
+    ≡ joined level s e (clusters gs)
 clusters-merge level s e gs = clusters-flood level s e gs ∙ sym (joined_is level s e (clusters gs))
 
 -- how far a flood reaches
@@ -108,10 +125,13 @@ flood-more c m xs ys f = record {
   end = suc f.end;
   within = omega arith;
   same_length = omega arith;
-  old = λ j h. elim j as (λ j. j < suc f.end → get_or (c ∷ xs) j 0 ≡ c) [ zero ↦ λ h. refl | suc j ↦ λ h. f.old j (omega arith) ] h;
-  new = λ j h. elim j as (λ j. j < suc f.end → get_or (m ∷ ys) j 0 ≡ m) [ zero ↦ λ h. refl | suc j ↦ λ h. f.new j (omega arith) ] h;
+  old = λ j h. elim j as (λ j. j < suc f.end → get_or (c ∷ xs) j 0 ≡ c)
+      [ zero ↦ λ h. refl | suc j ↦ λ h. f.old j (omega arith) ] h;
+  new = λ j h. elim j as (λ j. j < suc f.end → get_or (m ∷ ys) j 0 ≡ m)
+      [ zero ↦ λ h. refl | suc j ↦ λ h. f.new j (omega arith) ] h;
   edge = λ h. f.edge (omega arith);
-  rest = λ j h. elim j as (λ j. suc f.end ≤ j → get_or (m ∷ ys) j 0 ≡ get_or (c ∷ xs) j 0) [ zero ↦ λ h. omega arith | suc j ↦ λ h. f.rest j (omega arith) ] h;
+  rest = λ j h. elim j as (λ j. suc f.end ≤ j → get_or (m ∷ ys) j 0 ≡ get_or (c ∷ xs) j 0)
+      [ zero ↦ λ h. omega arith | suc j ↦ λ h. f.rest j (omega arith) ] h;
 }
 
 flood-hit : (c m : ℕ) (xs : List ℕ) (x : ℕ) → x ≡ c → flood c m (x ∷ xs) ≡ m ∷ flood c m xs
@@ -121,13 +141,35 @@ flood-miss : (c m : ℕ) (xs : List ℕ) (x : ℕ) → x ≢ c → flood c m (x 
 flood-miss c m xs x n = grind (arith, nat_tests)
 
 flood-stops : (c m x : ℕ) (xs : List ℕ) → x ≢ c → Flood c m (x ∷ xs) (x ∷ xs)
-flood-stops c m x xs n = record { end = 0; within = omega arith; same_length = refl; old = λ j h. omega arith; new = λ j h. omega arith; edge = λ h. n; rest = λ j h. refl }
+flood-stops c m x xs n =
+    record {
+      end = 0;
+      within = omega arith;
+      same_length = refl;
+      old = λ j h. omega arith;
+      new = λ j h. omega arith;
+      edge
+          = λ h. n;
+      rest = λ j h. refl;
+    }
 
 pub flood-is : (c m : ℕ) (xs : List ℕ) → Flood c m xs (flood c m xs)
-flood-is c m [] = record { end = 0; within = omega arith; same_length = refl; old = λ j h. omega arith; new = λ j h. omega arith; edge = λ h. omega arith; rest = λ j h. refl }
+flood-is c m [] =
+    record {
+      end = 0;
+      within = omega arith;
+      same_length = refl;
+      old = λ j h. omega arith;
+      new = λ j h. omega arith;
+      edge
+          = λ h. omega arith;
+      rest = λ j h. refl;
+    }
 flood-is c m (x ∷ xs) =
     let P : List ℕ → Type 0 = λ ys. Flood c m (x ∷ xs) ys in
     elim (cases_eq x c) [
-      | inl e ↦ subst P (sym (flood-hit c m xs x e)) (let Q : ℕ → Type 0 = λ x. Flood c m (x ∷ xs) (m ∷ flood c m xs) in subst Q (sym e) (flood-more c m xs (flood c m xs) (flood-is c m xs)))
+      | inl e ↦ subst P (sym (flood-hit c m xs x e)) (let Q : ℕ
+          → Type 0 = λ x. Flood c m (x ∷ xs) (m ∷ flood c m xs) in subst Q (sym e)
+          (flood-more c m xs (flood c m xs) (flood-is c m xs)))
       | inr n ↦ subst P (sym (flood-miss c m xs x n)) (flood-stops c m x xs n)
     ]

@@ -2,7 +2,6 @@
 use Rattle.std.proofs.Common.{ℕ, suc, ◌-◌, ◌%◌, ◌<◌, ◌≤◌, ◌≡◌, inl, inr, length, get_or, List, [], ◌∷◌, ◌++◌, map, reverse, take, drop, sym, ◌∙◌, ap, subst, arith, length-take, length-drop}
 use Rattle.std.specs.List.{AllByRecursion, AllZip}
 use Rattle.std.proofs.lemmas.List.{reverse-append, reverse-reverse}
-use Rattle.std.proofs.lemmas.List.Elements.{AllZip-get_or}
 use Rattle.std.proofs.lemmas.Bool.{cases_eq, cases_lt}
 use Rattle.std.proofs.lemmas.Bool.Decides.{nat_tests}
 use Rattle.shapers_buffer.specs.declared.buffer.glyph.hb_glyph_info_t.{hb_glyph_info_t}
@@ -18,7 +17,8 @@ use Rattle.shapers_buffer.proofs.ClusterLemmas.{flood_merged, three_parts}
 in_cluster-same : (g : hb_glyph_info_t) → in_cluster g.cluster g ≡ g
 in_cluster-same g = grind (arith, nat_tests)
 
-in_cluster-other : (m : ℕ) (g : hb_glyph_info_t) → m < g.cluster → in_cluster m g ≡ record g { cluster = m; mask = without_flags g.mask }
+in_cluster-other : (m : ℕ) (g : hb_glyph_info_t) → m < g.cluster
+    → in_cluster m g ≡ record g { cluster = m; mask = without_flags g.mask }
 in_cluster-other m g h = grind (arith, nat_tests)
 
 falls-same : (g : hb_glyph_info_t) → FallsTo g g
@@ -27,23 +27,33 @@ falls-same g = (omega arith, sym (in_cluster-same g))
 -- the glyph in a cluster that isn't higher
 falls_into : (m : ℕ) (g : hb_glyph_info_t) → m ≤ g.cluster → FallsTo g (in_cluster m g)
 falls_into m g h = elim (cases_lt m g.cluster) [
-  | inl l ↦ let P : hb_glyph_info_t → Type 0 = FallsTo g in subst P (sym (in_cluster-other m g l)) (omega arith, sym (in_cluster-other m g l))
-  | inr l ↦ let P : ℕ → Type 0 = λ m. FallsTo g (in_cluster m g) in let e : g.cluster ≡ m = omega arith in subst P e (let Q : hb_glyph_info_t → Type 0 = FallsTo g in subst Q (sym (in_cluster-same g)) (falls-same g))
+  | inl l ↦ let P : hb_glyph_info_t → Type 0 =
+      FallsTo g in subst P (sym (in_cluster-other m g l)) (omega arith, sym (in_cluster-other m g l))
+  | inr l ↦ let P : ℕ → Type 0 = λ m. FallsTo g (in_cluster m g) in let e : g.cluster ≡ m =
+      omega arith in subst P e (let Q : hb_glyph_info_t
+      → Type 0 = FallsTo g in subst Q (sym (in_cluster-same g)) (falls-same g))
 ]
 
-in_cluster-twice : (a b : ℕ) (g : hb_glyph_info_t) → a ≤ b → b ≤ g.cluster → in_cluster a (in_cluster b g) ≡ in_cluster a g
+in_cluster-twice : (a b : ℕ) (g : hb_glyph_info_t) → a ≤ b → b ≤ g.cluster → in_cluster a (in_cluster b g)
+    ≡ in_cluster a g
 in_cluster-twice a b g h i = elim (cases_lt b g.cluster) [
-  | inr l ↦ let e : g.cluster ≡ b = omega arith in ap (in_cluster a) (ap (λ k. in_cluster k g) (sym e) ∙ in_cluster-same g)
+  | inr l ↦ let e : g.cluster ≡ b =
+      omega arith in ap (in_cluster a) (ap (λ k. in_cluster k g) (sym e) ∙ in_cluster-same g)
   | inl l ↦ elim (cases_lt a b) [
-    | inl k ↦ ap (in_cluster a) (in_cluster-other b g l) ∙ in_cluster-other a (record g { cluster = b; mask = without_flags g.mask }) k
-        ∙ ap (λ (x : ℕ). record g { cluster = a; mask = x }) (without_flags-twice g.mask) ∙ sym (in_cluster-other a g (omega arith))
-    | inr k ↦ let e : b ≡ a = omega arith in ap (λ k. in_cluster k (in_cluster b g)) (sym e) ∙ ap (in_cluster b) (in_cluster-other b g l) ∙ in_cluster-same (record g { cluster = b; mask = without_flags g.mask })
+    | inl k ↦ ap (in_cluster a) (in_cluster-other b g l)
+        ∙ in_cluster-other a (record g { cluster = b; mask = without_flags g.mask }) k
+        ∙ ap (λ (x : ℕ). record g { cluster = a; mask = x }) (without_flags-twice g.mask)
+        ∙ sym (in_cluster-other a g (omega arith))
+    | inr k ↦ let e : b ≡ a = omega arith in ap (λ k. in_cluster k (in_cluster b g)) (sym e)
+        ∙ ap (in_cluster b) (in_cluster-other b g l)
+        ∙ in_cluster-same (record g { cluster = b; mask = without_flags g.mask })
         ∙ sym (in_cluster-other b g l) ∙ ap (λ k. in_cluster k g) e
   ]
 ]
 
 falls_on : (x y z : hb_glyph_info_t) → FallsTo x y → FallsTo y z → FallsTo x z
-falls_on x y z h i = (omega (arith, h.0, i.0), i.1 ∙ ap (in_cluster z.cluster) h.1 ∙ in_cluster-twice z.cluster y.cluster x i.0 h.0)
+falls_on x y z h i =
+    (omega (arith, h.0, i.0), i.1 ∙ ap (in_cluster z.cluster) h.1 ∙ in_cluster-twice z.cluster y.cluster x i.0 h.0)
 
 flags-without : (n : ℕ) → without_flags n % 8 ≡ 0
 flags-without n = omega arith
@@ -59,7 +69,9 @@ pub all_same : (gs : List hb_glyph_info_t) → AllZip FallsTo gs gs
 all_same [] = tt
 all_same (g ∷ gs) = (falls-same g, all_same gs)
 
-pub all_over : {X Y Z : Type 0} (R : X → Y → Type 0) (S : Y → Z → Type 0) (T : X → Z → Type 0) → ((x : X) (y : Y) (z : Z) → R x y → S y z → T x z) → (xs : List X) (ys : List Y) (zs : List Z) → AllZip R xs ys → AllZip S ys zs → AllZip T xs zs
+pub all_over : {X Y Z : Type 0} (R : X → Y → Type 0) (S : Y → Z → Type 0) (T : X → Z → Type 0)
+    → ((x : X) (y : Y) (z : Z) → R x y → S y z → T x z) → (xs : List X) (ys : List Y) (zs : List Z) → AllZip R xs ys
+    → AllZip S ys zs → AllZip T xs zs
 all_over R S T f [] [] [] h i = tt
 all_over R S T f [] [] (z ∷ zs) h i = absurd i
 all_over R S T f [] (y ∷ ys) zs h i = absurd h
@@ -67,7 +79,8 @@ all_over R S T f (x ∷ xs) [] zs h i = absurd h
 all_over R S T f (x ∷ xs) (y ∷ ys) [] h i = absurd i
 all_over R S T f (x ∷ xs) (y ∷ ys) (z ∷ zs) h i = (f x y z h.0 i.0, all_over R S T f xs ys zs h.1 i.1)
 
-all_weaker : {X Y : Type 0} (R S : X → Y → Type 0) → ((x : X) (y : Y) → R x y → S x y) → (xs : List X) (ys : List Y) → AllZip R xs ys → AllZip S xs ys
+all_weaker : {X Y : Type 0} (R S : X → Y → Type 0) → ((x : X) (y : Y) → R x y → S x y) → (xs : List X) (ys : List Y)
+    → AllZip R xs ys → AllZip S xs ys
 all_weaker R S f [] [] h = tt
 all_weaker R S f [] (y ∷ ys) h = absurd h
 all_weaker R S f (x ∷ xs) [] h = absurd h
@@ -76,7 +89,8 @@ all_weaker R S f (x ∷ xs) (y ∷ ys) h = (f x y h.0, all_weaker R S f xs ys h.
 pub all_on : (xs ys zs : List hb_glyph_info_t) → AllZip FallsTo xs ys → AllZip FallsTo ys zs → AllZip FallsTo xs zs
 all_on xs ys zs h i = all_over FallsTo FallsTo FallsTo falls_on xs ys zs h i
 
-pub all_append : {X : Type 0} (R : X → X → Type 0) (xs ys zs ws : List X) → AllZip R xs ys → AllZip R zs ws → AllZip R (xs ++ zs) (ys ++ ws)
+pub all_append : {X : Type 0} (R : X → X → Type 0) (xs ys zs ws : List X) → AllZip R xs ys → AllZip R zs ws
+    → AllZip R (xs ++ zs) (ys ++ ws)
 all_append R [] [] zs ws h i = i
 all_append R [] (y ∷ ys) zs ws h i = absurd h
 all_append R (x ∷ xs) [] zs ws h i = absurd h
@@ -89,16 +103,21 @@ all_reverse R (x ∷ xs) [] h = absurd h
 all_reverse {X} R (x ∷ xs) (y ∷ ys) h =
     let P : List X → Type 0 = λ l. AllZip R l (reverse (y ∷ ys)) in
     let Q : List X → Type 0 = λ l. AllZip R (reverse xs ++ x ∷ []) l in
-    subst P (sym (reverse-append (x ∷ []) xs)) (subst Q (sym (reverse-append (y ∷ []) ys)) (all_append R (reverse xs) (reverse ys) (x ∷ []) (y ∷ []) (all_reverse R xs ys h.1) (h.0, tt)))
+    subst P (sym (reverse-append (x ∷ []) xs))
+    (subst Q (sym (reverse-append (y ∷ []) ys))
+    (all_append R (reverse xs) (reverse ys) (x ∷ []) (y ∷ []) (all_reverse R xs ys h.1) (h.0, tt)))
 
-all_put : (m : ℕ) (gs : List hb_glyph_info_t) → ((k : ℕ) → k < length (clusters gs) → m ≤ get_or (clusters gs) k 0) → AllZip FallsTo gs (map (in_cluster m) gs)
+all_put : (m : ℕ) (gs : List hb_glyph_info_t) → ((k : ℕ) → k < length (clusters gs) → m ≤ get_or (clusters gs) k 0)
+    → AllZip FallsTo gs (map (in_cluster m) gs)
 all_put m [] h = tt
 all_put m (g ∷ gs) h = (falls_into m g (h 0 (omega arith)), all_put m gs (λ k l. h (suc k) (omega arith)))
 
-pub flooded-hit : (c m : ℕ) (g : hb_glyph_info_t) (gs : List hb_glyph_info_t) → g.cluster ≡ c → flooded c m (g ∷ gs) ≡ in_cluster m g ∷ flooded c m gs
+pub flooded-hit : (c m : ℕ) (g : hb_glyph_info_t) (gs : List hb_glyph_info_t) → g.cluster ≡ c
+    → flooded c m (g ∷ gs) ≡ in_cluster m g ∷ flooded c m gs
 flooded-hit c m g gs e = grind (arith, nat_tests)
 
-pub flooded-miss : (c m : ℕ) (g : hb_glyph_info_t) (gs : List hb_glyph_info_t) → (g.cluster ≡ c → ⊥) → flooded c m (g ∷ gs) ≡ g ∷ gs
+pub flooded-miss : (c m : ℕ) (g : hb_glyph_info_t) (gs : List hb_glyph_info_t) → (g.cluster ≡ c → ⊥)
+    → flooded c m (g ∷ gs) ≡ g ∷ gs
 flooded-miss c m g gs e = grind (arith, nat_tests)
 
 all_flooded : (c m : ℕ) (gs : List hb_glyph_info_t) → m ≤ c → AllZip FallsTo gs (flooded c m gs)
@@ -114,36 +133,47 @@ least-first : (gs : List hb_glyph_info_t) → 0 < length gs → least (clusters 
 least-first [] h = omega arith
 least-first (g ∷ gs) h = least-le (clusters (g ∷ gs)) 0 (omega arith)
 
-merged-falls : (s e : ℕ) (gs : List hb_glyph_info_t) → 1 < e - s → e ≤ length gs → AllZip FallsTo gs (flood_merged s e gs)
+merged-falls : (s e : ℕ) (gs : List hb_glyph_info_t) → 1 < e - s → e ≤ length gs
+    → AllZip FallsTo gs (flood_merged s e gs)
 merged-falls s e gs h l =
     let middle = stretch_of s e gs in
     let m = least (clusters middle) in
     let n : length middle ≡ e - s = omega (arith, length-take (e - s) (drop s gs), length-drop s gs) in
     let P : List hb_glyph_info_t → Type 0 = λ xs. AllZip FallsTo xs (flood_merged s e gs) in
-    let Q : List hb_glyph_info_t → Type 0 = λ xs. AllZip FallsTo xs (reverse (flooded (first_cluster middle) m (reverse (take s gs)))) in
+    let Q : List hb_glyph_info_t → Type 0 =
+    λ xs. AllZip FallsTo xs (reverse (flooded (first_cluster middle) m (reverse (take s gs)))) in
     subst P (three_parts s e gs (omega arith)) (all_append FallsTo (take s gs) _ _ _
-    (subst Q (reverse-reverse (take s gs)) (all_reverse FallsTo (reverse (take s gs)) _ (all_flooded (first_cluster middle) m (reverse (take s gs)) (least-first middle (omega arith)))))
-    (all_append FallsTo middle _ _ _ (all_put m middle (λ k x. least-le (clusters middle) k x)) (all_flooded (last_cluster middle) m (drop e gs) (least-last middle (omega arith)))))
+    (subst Q (reverse-reverse (take s gs))
+    (all_reverse FallsTo (reverse (take s gs)) _
+    (all_flooded (first_cluster middle) m (reverse (take s gs)) (least-first middle (omega arith)))))
+    (all_append FallsTo middle _ _ _ (all_put m middle (λ k x. least-le (clusters middle) k x))
+    (all_flooded (last_cluster middle) m (drop e gs) (least-last middle (omega arith)))))
 
 -- one merge, and several: each glyph falls to the one in its place
-pub merge-falls : (level : BufferClusterLevel) (s e : ℕ) (gs : List hb_glyph_info_t) → e ≤ length gs → AllZip FallsTo gs (merge level s e gs)
+pub merge-falls : (level : BufferClusterLevel) (s e : ℕ) (gs : List hb_glyph_info_t) → e ≤ length gs
+    → AllZip FallsTo gs (merge level s e gs)
 merge-falls level s e gs l = merge_cases (AllZip FallsTo gs) level s e gs (all_same gs) (λ h. merged-falls s e gs h l)
 
-pub merge_all-falls : (level : BufferClusterLevel) (sts : List (ℕ × ℕ)) (gs : List hb_glyph_info_t) → AllByRecursion (λ st. st.1 ≤ length gs) sts → AllZip FallsTo gs (merge_all level sts gs)
+pub merge_all-falls : (level : BufferClusterLevel) (sts : List (ℕ × ℕ)) (gs : List hb_glyph_info_t)
+    → AllByRecursion (λ st. st.1 ≤ length gs) sts → AllZip FallsTo gs (merge_all level sts gs)
 merge_all-falls level [] gs h = all_same gs
 merge_all-falls level (st ∷ sts) gs h =
     let ms = merge level st.0 st.1 gs in
-    all_on gs ms (merge_all level sts ms) (merge-falls level st.0 st.1 gs h.0) (merge_all-falls level sts ms (let P : ℕ → Type 0 = λ n. AllByRecursion (λ st. st.1 ≤ n) sts in subst P (sym (length-merge level st.0 st.1 gs h.0)) h.1))
+    all_on gs ms (merge_all level sts ms) (merge-falls level st.0 st.1 gs h.0)
+    (merge_all-falls level sts ms (let P : ℕ
+    → Type 0 = λ n. AllByRecursion (λ st. st.1 ≤ n) sts in subst P (sym (length-merge level st.0 st.1 gs h.0)) h.1))
 
 -- one after another, place by place
 pub flags_on : (x y z : hb_glyph_info_t) → FlagsFall x y → FlagsFall y z → FlagsFall x z
 flags_on x y z f g = record {
   at_most = omega (arith, f.at_most, g.at_most);
-  fell = λ l. elim (cases_lt z.cluster y.cluster) [ inl k ↦ g.fell k | inr k ↦ g.kept (omega (arith, g.at_most)) ∙ f.fell (omega arith) ];
+  fell = λ l. elim (cases_lt z.cluster y.cluster)
+      [ inl k ↦ g.fell k | inr k ↦ g.kept (omega (arith, g.at_most)) ∙ f.fell (omega arith) ];
   kept = λ e. g.kept (omega (arith, f.at_most, g.at_most)) ∙ f.kept (omega (arith, f.at_most, g.at_most));
 }
 
-pub all_flags_on : (xs ys zs : List hb_glyph_info_t) → AllZip FlagsFall xs ys → AllZip FlagsFall ys zs → AllZip FlagsFall xs zs
+pub all_flags_on : (xs ys zs : List hb_glyph_info_t) → AllZip FlagsFall xs ys → AllZip FlagsFall ys zs
+    → AllZip FlagsFall xs zs
 all_flags_on xs ys zs h i = all_over FlagsFall FlagsFall FlagsFall flags_on xs ys zs h i
 
 -- a glyph that falls, and one that keeps cluster and glyph flags
@@ -152,7 +182,3 @@ all_flags_fall xs ys h = all_weaker FallsTo FlagsFall flags_fall xs ys h
 
 pub flags_kept : (x y : hb_glyph_info_t) → y.cluster ≡ x.cluster → y.mask % 8 ≡ x.mask % 8 → FlagsFall x y
 flags_kept x y c m = record { at_most = omega arith; fell = λ l. absurd (omega arith); kept = λ e. m }
-
--- the glyph at a place after merges falls from the one that stood there
-pub merge_all-at : (level : BufferClusterLevel) (sts : List (ℕ × ℕ)) (gs : List hb_glyph_info_t) → AllByRecursion (λ st. st.1 ≤ length gs) sts → (k : ℕ) (d : hb_glyph_info_t) → k < length gs → FallsTo (get_or gs k d) (get_or (merge_all level sts gs) k d)
-merge_all-at level sts gs w k d l = AllZip-get_or FallsTo gs (merge_all level sts gs) k d d (merge_all-falls level sts gs w) l

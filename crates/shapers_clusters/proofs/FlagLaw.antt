@@ -36,7 +36,8 @@ stays_on : (x y z : hb_glyph_info_t) → FlagsStay x y → FlagsStay y z → Fla
 stays_on x y z f g = record {
   at_most = omega (arith, f.at_most, g.at_most);
   kept = λ same k low.
-      le_on (bit_at k x.mask) (bit_at k y.mask) (bit_at k z.mask) (f.kept (omega (arith, f.at_most, g.at_most)) k low) (g.kept (omega (arith, f.at_most, g.at_most)) k low);
+      le_on (bit_at k x.mask) (bit_at k y.mask) (bit_at k z.mask) (f.kept (omega (arith, f.at_most, g.at_most)) k low)
+      (g.kept (omega (arith, f.at_most, g.at_most)) k low);
 }
 
 pub all_stay_on : (xs ys zs : List hb_glyph_info_t) → AllFlagsStay xs ys → AllFlagsStay ys zs → AllFlagsStay xs zs
@@ -47,16 +48,23 @@ pub all_fallen : (xs ys : List hb_glyph_info_t) → AllZip FlagsFall xs ys → A
 all_fallen [] [] h = tt
 all_fallen [] (y ∷ ys) h = absurd h
 all_fallen (x ∷ xs) [] h = absurd h
-all_fallen (x ∷ xs) (y ∷ ys) h = (record { at_most = h.0.at_most; kept = λ same. flags_kept x y (h.0.kept same) }, all_fallen xs ys h.1)
+all_fallen (x ∷ xs) (y ∷ ys) h =
+    (record { at_most = h.0.at_most; kept = λ same. flags_kept x y (h.0.kept same) }, all_fallen xs ys h.1)
 
 all_falls : (xs ys : List hb_glyph_info_t) → AllZip FallsTo xs ys → AllFlagsStay xs ys
 all_falls [] [] h = tt
 all_falls [] (y ∷ ys) h = absurd h
 all_falls (x ∷ xs) [] h = absurd h
-all_falls (x ∷ xs) (y ∷ ys) h = let f = flags_fall x y h.0 in (record { at_most = f.at_most; kept = λ same. flags_kept x y (f.kept same) }, all_falls xs ys h.1)
+all_falls (x ∷ xs) (y ∷ ys) h = let f =
+    flags_fall x y h.0 in (
+      record { at_most = f.at_most; kept = λ same. flags_kept x y (f.kept same) },
+      all_falls xs ys
+          h.1,
+    )
 
 -- glyphs whose cluster and bits stay: flags are only added
-pub all_added : (xs ys : List hb_glyph_info_t) → clusters ys ≡ clusters xs → AllZip KeepsBits xs ys → OnlyFlagsAdded xs ys
+pub all_added : (xs ys : List hb_glyph_info_t) → clusters ys ≡ clusters xs → AllZip KeepsBits xs ys
+    → OnlyFlagsAdded xs ys
 all_added [] [] same h = tt
 all_added [] (y ∷ ys) same h = absurd h
 all_added (x ∷ xs) [] same h = absurd h
@@ -67,13 +75,15 @@ pub added_stay : (xs ys : List hb_glyph_info_t) → OnlyFlagsAdded xs ys → All
 added_stay [] [] h = tt
 added_stay [] (y ∷ ys) h = absurd h
 added_stay (x ∷ xs) [] h = absurd h
-added_stay (x ∷ xs) (y ∷ ys) h = (record { at_most = omega (arith, h.0.same); kept = λ _. h.0.kept }, added_stay xs ys h.1)
+added_stay (x ∷ xs) (y ∷ ys) h =
+    (record { at_most = omega (arith, h.0.same); kept = λ _. h.0.kept }, added_stay xs ys h.1)
 
 pub alone_added : (xs ys : List hb_glyph_info_t) → FlagsAlone xs ys → OnlyFlagsAdded xs ys
 alone_added xs ys h = all_added xs ys h.same_clusters h.none_lost
 
 -- others with the same clusters and masks
-pub all_stay_as : (xs ys zs : List hb_glyph_info_t) → clusters zs ≡ clusters ys → map (λ g. g.mask) zs ≡ map (λ g. g.mask) ys → AllFlagsStay xs ys → AllFlagsStay xs zs
+pub all_stay_as : (xs ys zs : List hb_glyph_info_t) → clusters zs ≡ clusters ys
+    → map (λ g. g.mask) zs ≡ map (λ g. g.mask) ys → AllFlagsStay xs ys → AllFlagsStay xs zs
 all_stay_as [] [] [] same masks h = tt
 all_stay_as [] [] (z ∷ zs) same masks h = absurd (omega (arith, ap length same))
 all_stay_as [] (y ∷ ys) zs same masks h = absurd h
@@ -81,21 +91,32 @@ all_stay_as (x ∷ xs) [] zs same masks h = absurd h
 all_stay_as (x ∷ xs) (y ∷ ys) [] same masks h = absurd (omega (arith, ap length same))
 all_stay_as (x ∷ xs) (y ∷ ys) (z ∷ zs) same masks h =
     let c : z.cluster ≡ y.cluster = ap (λ cs. get_or cs 0 0) same in
-    let m : y.mask ≡ z.mask = sym (ap (λ ms. get_or ms 0 0) masks) in
-    (record { at_most = omega (arith, h.0.at_most, c); kept = λ e k low. subst (λ n. bit_at k x.mask ≤ bit_at k n) m (h.0.kept (sym c ∙ e) k low) }, all_stay_as xs ys zs (ap (drop 1) same) (ap (drop 1) masks) h.1)
+    let m : y.mask ≡ z.mask = sym (ap (λ ms. get_or ms 0 0) masks) in (
+      record {
+        at_most = omega (arith, h.0.at_most, c);
+        kept = λ e k low. subst (λ n. bit_at k x.mask ≤ bit_at k n) m
+            (h.0.kept (sym c ∙ e) k low);
+      },
+      all_stay_as xs ys zs (ap (drop 1) same) (ap (drop 1) masks) h.1,
+    )
 
 -- copies
-pub all_stay_picked : (places : List ℕ) (xs ys : List hb_glyph_info_t) → AllFlagsStay xs ys → AllFlagsStay (pick places xs) (pick places ys)
+pub all_stay_picked : (places : List ℕ) (xs ys : List hb_glyph_info_t) → AllFlagsStay xs ys
+    → AllFlagsStay (pick places xs) (pick places ys)
 all_stay_picked places xs ys h = AllZip-pick FlagsStay places xs ys h
 
 -- flag calls and merges
-pub unsafe_all_stays : (sts : List (ℕ × ℕ)) (gs : List hb_glyph_info_t) → AllByRecursion (λ st. st.0 ≤ st.1) sts → AllFlagsStay gs (unsafe_all sts gs)
+pub unsafe_all_stays : (sts : List (ℕ × ℕ)) (gs : List hb_glyph_info_t) → AllByRecursion (λ st. st.0 ≤ st.1) sts
+    → AllFlagsStay gs (unsafe_all sts gs)
 unsafe_all_stays [] gs h = all_stay_same gs
 unsafe_all_stays (st ∷ sts) gs h =
     let once = unsafe_inside st.0 st.1 gs in
-    all_stay_on gs once (unsafe_all sts once) (added_stay gs once (alone_added gs once (unsafe_inside-alone st.0 st.1 gs h.0))) (unsafe_all_stays sts once h.1)
+    all_stay_on gs once (unsafe_all sts once)
+    (added_stay gs once (alone_added gs once (unsafe_inside-alone st.0 st.1 gs h.0)))
+    (unsafe_all_stays sts once h.1)
 
-pub merge_all_stays : (level : BufferClusterLevel) (sts : List (ℕ × ℕ)) (gs : List hb_glyph_info_t) → AllByRecursion (λ st. st.1 ≤ length gs) sts → AllFlagsStay gs (merge_all level sts gs)
+pub merge_all_stays : (level : BufferClusterLevel) (sts : List (ℕ × ℕ)) (gs : List hb_glyph_info_t)
+    → AllByRecursion (λ st. st.1 ≤ length gs) sts → AllFlagsStay gs (merge_all level sts gs)
 merge_all_stays level sts gs h = all_falls gs (merge_all level sts gs) (merge_all-falls level sts gs h)
 
 -- flags that are added, one after another
@@ -105,11 +126,13 @@ added_on x y z f g = record {
   kept = λ k low. le_on (bit_at k x.mask) (bit_at k y.mask) (bit_at k z.mask) (f.kept k low) (g.kept k low);
 }
 
-pub all_added_on : (xs ys zs : List hb_glyph_info_t) → OnlyFlagsAdded xs ys → OnlyFlagsAdded ys zs → OnlyFlagsAdded xs zs
+pub all_added_on : (xs ys zs : List hb_glyph_info_t) → OnlyFlagsAdded xs ys → OnlyFlagsAdded ys zs
+    → OnlyFlagsAdded xs zs
 all_added_on xs ys zs f g = all_over FlagsAdded FlagsAdded FlagsAdded added_on xs ys zs f g
 
 -- a change of other fields, or one that adds bits, of each glyph
-pub changed_added : (change : hb_glyph_info_t → hb_glyph_info_t) → ((g : hb_glyph_info_t) → FlagsAdded g (change g)) → (gs : List hb_glyph_info_t) → OnlyFlagsAdded gs (map change gs)
+pub changed_added : (change : hb_glyph_info_t → hb_glyph_info_t) → ((g : hb_glyph_info_t) → FlagsAdded g (change g))
+    → (gs : List hb_glyph_info_t) → OnlyFlagsAdded gs (map change gs)
 changed_added change adds [] = tt
 changed_added change adds (g ∷ gs) = (adds g, changed_added change adds gs)
 
@@ -120,8 +143,12 @@ all_added_same : (gs : List hb_glyph_info_t) → OnlyFlagsAdded gs gs
 all_added_same [] = tt
 all_added_same (g ∷ gs) = (added_same g g refl refl, all_added_same gs)
 
-pub stretch_added : (s e : ℕ) (change : hb_glyph_info_t → hb_glyph_info_t) → ((g : hb_glyph_info_t) → FlagsAdded g (change g)) → (gs : List hb_glyph_info_t) → s ≤ e → OnlyFlagsAdded gs (with_stretch s e (map change) gs)
+pub stretch_added : (s e : ℕ) (change : hb_glyph_info_t → hb_glyph_info_t)
+    → ((g : hb_glyph_info_t) → FlagsAdded g (change g)) → (gs : List hb_glyph_info_t) → s ≤ e
+    → OnlyFlagsAdded gs (with_stretch s e (map change) gs)
 stretch_added s e change adds gs h =
     subst (λ xs. OnlyFlagsAdded xs (with_stretch s e (map change) gs)) (three_parts s e gs h)
-    (all_append FlagsAdded (take s gs) (take s gs) (stretch_of s e gs ++ drop e gs) (map change (stretch_of s e gs) ++ drop e gs) (all_added_same (take s gs))
-    (all_append FlagsAdded (stretch_of s e gs) (map change (stretch_of s e gs)) (drop e gs) (drop e gs) (changed_added change adds (stretch_of s e gs)) (all_added_same (drop e gs))))
+    (all_append FlagsAdded (take s gs) (take s gs) (stretch_of s e gs ++ drop e gs) (map change (stretch_of s e gs)
+    ++ drop e gs) (all_added_same (take s gs))
+    (all_append FlagsAdded (stretch_of s e gs) (map change (stretch_of s e gs)) (drop e gs) (drop e gs)
+    (changed_added change adds (stretch_of s e gs)) (all_added_same (drop e gs))))

@@ -23,7 +23,8 @@ flagged_few bits (g ∷ h ∷ gs) few = absurd (omega arith)
 
 pub unsafe_few : (s e : ℕ) (gs : List hb_glyph_info_t) → s ≤ e → e - s ≤ 1 → unsafe_inside s e gs ≡ gs
 unsafe_few s e gs h few =
-    ap (λ xs. take s gs ++ (xs ++ drop e gs)) (flagged_few 3 (stretch_of s e gs) (omega (arith, length-take (e - s) (drop s gs)))) ∙ three_parts s e gs h
+    ap (λ xs. take s gs ++ (xs ++ drop e gs))
+    (flagged_few 3 (stretch_of s e gs) (omega (arith, length-take (e - s) (drop s gs)))) ∙ three_parts s e gs h
 
 pub unsafe_nothing : (s : ℕ) (gs : List hb_glyph_info_t) → unsafe_inside s s gs ≡ gs
 unsafe_nothing s gs = unsafe_few s s gs (omega arith) (omega arith)
@@ -32,17 +33,21 @@ unsafe_nothing s gs = unsafe_few s s gs (omega arith) (omega arith)
 flag_twice : (mask : ℕ) → bit_or (bit_or mask 3) 3 ≡ bit_or mask 3
 flag_twice mask = omega (arith, or_add_and (bit_or mask 3) 3, and_or_self 3 mask)
 
-off_twice : (low high : ℕ) (g : hb_glyph_info_t) → low ≤ high → high ≤ g.cluster → with_bits_off 3 low (with_bits_off 3 high g) ≡ with_bits_off 3 low g
+off_twice : (low high : ℕ) (g : hb_glyph_info_t) → low ≤ high → high ≤ g.cluster
+    → with_bits_off 3 low (with_bits_off 3 high g) ≡ with_bits_off 3 low g
 off_twice low high g below within =
-    elim (eqb g.cluster high) as (λ b. eqb g.cluster high ≡ b → with_bits_off 3 low (cond b g (with_bits 3 g)) ≡ with_bits_off 3 low g) [
+    elim (eqb g.cluster high) as (λ b. eqb g.cluster high ≡ b → with_bits_off 3 low (cond b g (with_bits 3 g))
+    ≡ with_bits_off 3 low g) [
       | true ↦ λ e. refl
-      | false ↦ λ e. elim (eqb g.cluster low) as (λ c. eqb g.cluster low ≡ c → cond c (with_bits 3 g) (with_bits 3 (with_bits 3 g)) ≡ cond c g (with_bits 3 g)) [
-        | true ↦ λ d. absurd (omega (arith, eqb-false g.cluster high e, eqb-true g.cluster low d))
-        | false ↦ λ d. ap (λ n. let h : hb_glyph_info_t = record g { mask = n } in h) (flag_twice g.mask)
-      ] refl
+      | false ↦ λ e. elim (eqb g.cluster low) as (λ c. eqb g.cluster low ≡ c
+          → cond c (with_bits 3 g) (with_bits 3 (with_bits 3 g)) ≡ cond c g (with_bits 3 g)) [
+            | true ↦ λ d. absurd (omega (arith, eqb-false g.cluster high e, eqb-true g.cluster low d))
+            | false ↦ λ d. ap (λ n. let h : hb_glyph_info_t = record g { mask = n } in h) (flag_twice g.mask)
+          ] refl
     ] refl
 
-all_off_twice : (low high : ℕ) (gs : List hb_glyph_info_t) → low ≤ high → AllByRecursion (λ g. high ≤ g.cluster) gs → map (with_bits_off 3 low) (map (with_bits_off 3 high) gs) ≡ map (with_bits_off 3 low) gs
+all_off_twice : (low high : ℕ) (gs : List hb_glyph_info_t) → low ≤ high → AllByRecursion (λ g. high ≤ g.cluster) gs
+    → map (with_bits_off 3 low) (map (with_bits_off 3 high) gs) ≡ map (with_bits_off 3 low) gs
 all_off_twice low high [] below all = refl
 all_off_twice low high (g ∷ gs) below all =
     ap (λ x. x ∷ map (with_bits_off 3 low) (map (with_bits_off 3 high) gs)) (off_twice low high g below all.0)
@@ -63,36 +68,58 @@ flagged_twice (x ∷ xs) ys =
     ∙ ap (λ cs. cs ++ clusters ys) (map-flagged (λ g. g.cluster) 3 (λ g. refl) front)
     ∙ sym (map-append (λ g. g.cluster) front ys) in
     let low = least (clusters (front ++ ys)) in
-    let below : low ≤ high = omega (arith, ap least (map-append (λ g. g.cluster) front ys), least_of_front (clusters front) (clusters ys) (omega arith)) in
+    let below : low ≤ high =
+    omega (
+      arith,
+      ap least (map-append (λ g. g.cluster) front ys),
+      least_of_front (clusters front) (clusters ys)
+          (omega arith),
+    ) in
     let P : hb_glyph_info_t → Type 0 = λ g. high ≤ g.cluster in
-    let within : AllByRecursion P front = recursion_from_All P front (All-from_get_or P front x (λ k inside. omega (arith, least-le (clusters front) k (omega (arith, length-map front (λ g. g.cluster))), get_or-map (λ g. g.cluster) front k x 0 inside))) in
+    let within : AllByRecursion P front =
+    recursion_from_All P front
+    (All-from_get_or P front x
+    (λ k inside. omega (
+      arith,
+      least-le (clusters front) k (omega (arith, length-map front (λ g. g.cluster))),
+      get_or-map (λ g. g.cluster) front k x 0 inside,
+    ))) in
     ap (λ cs. map (with_bits_off 3 (least cs)) (flagged 3 front ++ ys)) same
     ∙ map-append (with_bits_off 3 low) (flagged 3 front) ys
     ∙ ap (λ zs. zs ++ map (with_bits_off 3 low) ys) (all_off_twice low high front below within)
     ∙ sym (map-append (with_bits_off 3 low) front ys)
 
-pub unsafe_parts : (s e : ℕ) (before middle after : List hb_glyph_info_t) → s ≡ length before → e ≡ length before + length middle → unsafe_inside s e (before ++ (middle ++ after)) ≡ before ++ (flagged 3 middle ++ after)
+pub unsafe_parts : (s e : ℕ) (before middle after : List hb_glyph_info_t) → s ≡ length before
+    → e ≡ length before + length middle → unsafe_inside s e (before ++ (middle ++ after))
+    ≡ before ++ (flagged 3 middle ++ after)
 unsafe_parts s e before middle after at_s at_e =
     let whole = before ++ (middle ++ after) in
     let front : take s whole ≡ before = take_at before (middle ++ after) s (sym at_s) in
     let inner : drop s whole ≡ middle ++ after = drop_at before (middle ++ after) s (sym at_s) in
     let long : length middle ≡ e - s = omega arith in
     let part : stretch_of s e whole ≡ middle = ap (take (e - s)) inner ∙ take_at middle after (e - s) long in
-    let rest : drop e whole ≡ after = ap (λ n. drop n whole) at_e ∙ drop-append-add before (middle ++ after) (length middle) ∙ drop_at middle after (length middle) refl in
+    let rest : drop e whole ≡ after = ap (λ n. drop n whole) at_e
+    ∙ drop-append-add before (middle ++ after) (length middle) ∙ drop_at middle after (length middle) refl in
     ap (λ xs. xs ++ (flagged 3 (stretch_of s e whole) ++ drop e whole)) front
     ∙ ap (λ xs. before ++ (flagged 3 xs ++ drop e whole)) part
     ∙ ap (λ xs. before ++ (flagged 3 middle ++ xs)) rest
 
-unsafe_longer_parts : (s e n : ℕ) (before first second after : List hb_glyph_info_t) → s ≡ length before → e ≡ length before + length first → n ≡ length before + (length first + length second) → unsafe_inside s n (unsafe_inside s e (before ++ (first ++ (second ++ after)))) ≡ unsafe_inside s n (before ++ (first ++ (second ++ after)))
+unsafe_longer_parts : (s e n : ℕ) (before first second after : List hb_glyph_info_t) → s ≡ length before
+    → e ≡ length before + length first → n ≡ length before + (length first + length second)
+    → unsafe_inside s n (unsafe_inside s e (before ++ (first ++ (second ++ after))))
+    ≡ unsafe_inside s n (before ++ (first ++ (second ++ after)))
 unsafe_longer_parts s e n before first second after at_s at_e at_n =
     let flags = length-map first (with_bits_off 3 (least (clusters first))) in
-    ap (unsafe_inside s n) (unsafe_parts s e before first (second ++ after) at_s at_e ∙ ap (λ xs. before ++ xs) (sym (append_assoc (flagged 3 first) second after)))
-    ∙ unsafe_parts s n before (flagged 3 first ++ second) after at_s (omega (arith, length-append (flagged 3 first) second))
+    ap (unsafe_inside s n) (unsafe_parts s e before first (second ++ after) at_s at_e
+    ∙ ap (λ xs. before ++ xs) (sym (append_assoc (flagged 3 first) second after)))
+    ∙ unsafe_parts s n before (flagged 3 first ++ second) after at_s
+    (omega (arith, length-append (flagged 3 first) second))
     ∙ ap (λ xs. before ++ (xs ++ after)) (flagged_twice first second)
     ∙ sym (unsafe_parts s n before (first ++ second) after at_s (omega (arith, length-append first second)))
     ∙ ap (λ xs. unsafe_inside s n (before ++ xs)) (append_assoc first second after)
 
-pub unsafe_longer : (s e n : ℕ) (gs : List hb_glyph_info_t) → s ≤ e → e ≤ n → n ≤ length gs → unsafe_inside s n (unsafe_inside s e gs) ≡ unsafe_inside s n gs
+pub unsafe_longer : (s e n : ℕ) (gs : List hb_glyph_info_t) → s ≤ e → e ≤ n → n ≤ length gs
+    → unsafe_inside s n (unsafe_inside s e gs) ≡ unsafe_inside s n gs
 unsafe_longer s e n gs low high within =
     let before = take s gs in
     let first = take (e - s) (drop s gs) in
@@ -100,9 +127,12 @@ unsafe_longer s e n gs low high within =
     let after = drop n gs in
     let at_e : s + (e - s) ≡ e = omega arith in
     let at_n : e + (n - e) ≡ n = omega arith in
-    let behind : drop s gs ≡ first ++ drop e gs = sym (take-append-drop (e - s) (drop s gs)) ∙ ap (λ xs. first ++ xs) (drop-drop (e - s) s gs ∙ ap (λ k. drop k gs) at_e) in
-    let rest : drop e gs ≡ second ++ after = sym (take-append-drop (n - e) (drop e gs)) ∙ ap (λ xs. second ++ xs) (drop-drop (n - e) e gs ∙ ap (λ k. drop k gs) at_n) in
-    let whole : gs ≡ before ++ (first ++ (second ++ after)) = sym (take-append-drop s gs) ∙ ap (λ xs. before ++ xs) (behind ∙ ap (λ xs. first ++ xs) rest) in
+    let behind : drop s gs ≡ first ++ drop e gs = sym (take-append-drop (e - s) (drop s gs))
+    ∙ ap (λ xs. first ++ xs) (drop-drop (e - s) s gs ∙ ap (λ k. drop k gs) at_e) in
+    let rest : drop e gs ≡ second ++ after = sym (take-append-drop (n - e) (drop e gs))
+    ∙ ap (λ xs. second ++ xs) (drop-drop (n - e) e gs ∙ ap (λ k. drop k gs) at_n) in
+    let whole : gs ≡ before ++ (first ++ (second ++ after)) = sym (take-append-drop s gs)
+    ∙ ap (λ xs. before ++ xs) (behind ∙ ap (λ xs. first ++ xs) rest) in
     let a : length before ≡ s = length-take-le s gs (omega arith) in
     let b : length first ≡ e - s = length-take-le (e - s) (drop s gs) (omega (arith, length-drop s gs)) in
     let c : length second ≡ n - e = length-take-le (n - e) (drop e gs) (omega (arith, length-drop e gs)) in
@@ -111,6 +141,7 @@ unsafe_longer s e n gs low high within =
     ∙ ap (unsafe_inside s n) (sym whole)
 
 -- several stretches, in two lists
-pub unsafe_all-append : (xs ys : List (ℕ × ℕ)) (gs : List hb_glyph_info_t) → unsafe_all (xs ++ ys) gs ≡ unsafe_all ys (unsafe_all xs gs)
+pub unsafe_all-append : (xs ys : List (ℕ × ℕ)) (gs : List hb_glyph_info_t)
+    → unsafe_all (xs ++ ys) gs ≡ unsafe_all ys (unsafe_all xs gs)
 unsafe_all-append [] ys gs = refl
 unsafe_all-append (x ∷ xs) ys gs = unsafe_all-append xs ys (unsafe_inside x.0 x.1 gs)

@@ -15,39 +15,49 @@ use Rattle.shapers_clusters.proofs.Neighbours.{in_stretch, share_all}
 use Rattle.shapers_clusters.proofs.Picks.{get_or-pick, length-pick}
 
 -- what holds of all of two lists
-pub all_split : {X : Type 0} (P : X → Type 0) (xs ys : List X) → AllByRecursion P (xs ++ ys) → AllByRecursion P xs × AllByRecursion P ys
+pub all_split : {X : Type 0} (P : X → Type 0) (xs ys : List X) → AllByRecursion P (xs ++ ys) → AllByRecursion P xs
+    × AllByRecursion P ys
 all_split P [] ys h = (tt, h)
 all_split P (x ∷ xs) ys h = (let rest = all_split P xs ys h.1 in ((h.0, rest.0), rest.1))
 
 -- neighbours that a stretch holds have equal labels, and so have places that the stretches hold together
-pub held_label : (sts : List (ℕ × ℕ)) (ls : List ℕ) → AllByRecursion (OneAlong ls) sts → (r : ℕ) → held sts r ≡ true → get_or ls (r - 1) 0 ≡ get_or ls r 0
+pub held_label : (sts : List (ℕ × ℕ)) (ls : List ℕ) → AllByRecursion (OneAlong ls) sts → (r : ℕ) → held sts r ≡ true
+    → get_or ls (r - 1) 0 ≡ get_or ls r 0
 held_label [] ls one r h = absurd (cc h)
 held_label (st ∷ sts) ls one r h = elim (in_stretch st.0 st.1 r (held sts r) h) [
   | inl a ↦ one.0 (r - 1) r (omega (arith, a.0)) (omega (arith, a.0, a.1)) (omega (arith, a.0)) a.1
   | inr rest ↦ held_label sts ls one.1 r rest
 ]
 
-between_label : (sts : List (ℕ × ℕ)) (ls : List ℕ) → AllByRecursion (OneAlong ls) sts → (p q : ℕ) → HeldBetween sts p q → get_or ls q 0 ≡ get_or ls p 0
-between_label sts ls one p q between = share_all ls p q (λ r a b. held_label sts ls one r (between r a b)) q (omega arith) (omega arith)
+between_label : (sts : List (ℕ × ℕ)) (ls : List ℕ) → AllByRecursion (OneAlong ls) sts → (p q : ℕ) → HeldBetween sts p q
+    → get_or ls q 0 ≡ get_or ls p 0
+between_label sts ls one p q between =
+    share_all ls p q (λ r a b. held_label sts ls one r (between r a b)) q (omega arith) (omega arith)
 
 -- each of n places stands somewhere in a list that takes each once
-pub taken_once : (n : ℕ) (ps : List ℕ) → IsPermutation (range_with_len 0 n) ps → (q : ℕ) → q < n → (p : ℕ) × (p < length ps) × (get_or ps p 0 ≡ q)
+pub taken_once : (n : ℕ) (ps : List ℕ) → IsPermutation (range_with_len 0 n) ps → (q : ℕ) → q < n
+    → (p : ℕ) × (p < length ps) × (get_or ps p 0 ≡ q)
 taken_once n ps perm q l =
     let range = range_with_len 0 n in
-    let all : All (Contains ps) range = All-permutation (Contains ps) ps range (IsPermutation-sym range ps perm) (All-contains_itself ps) in
+    let all : All (Contains ps) range =
+    All-permutation (Contains ps) ps range (IsPermutation-sym range ps perm) (All-contains_itself ps) in
     let (p, inside, found) = all q 0 (omega (arith, length-range_with_len 0 n)) in
     let is : get_or range q 0 ≡ q = get_or-range_with_len 0 n q 0 l ∙ omega arith in
     (p, inside, get_or_default ps p 0 (get_or range q 0) inside ∙ found ∙ is)
 
 -- the labels of a stretch stay through steps that spare it
-label_stays : (n : ℕ) (steps : List Step) (ls : List ℕ) → length ls ≡ n → FitSteps n steps → OneLabelEach steps ls → (st : ℕ × ℕ) → st.1 ≤ n → AllByRecursion (Spares n st) steps → (p : ℕ) → st.0 ≤ p → p < st.1 → get_or (moved_on steps ls) p 0 ≡ get_or ls p 0
+label_stays : (n : ℕ) (steps : List Step) (ls : List ℕ) → length ls ≡ n → FitSteps n steps → OneLabelEach steps ls
+    → (st : ℕ × ℕ) → st.1 ≤ n → AllByRecursion (Spares n st) steps → (p : ℕ) → st.0 ≤ p → p < st.1
+    → get_or (moved_on steps ls) p 0 ≡ get_or ls p 0
 label_stays n [] ls long fits each st end spares p a b = refl
 label_stays n (step ∷ steps) ls long fits each st end spares p a b =
     let one = fits.0 in
     let many = one.as_many in
-    let within : AllByRecursion (λ p. p < length ls) step.places = subst (λ k. AllByRecursion (λ p. p < k) step.places) (sym long) one.within in
+    let within : AllByRecursion (λ p. p < length ls) step.places =
+    subst (λ k. AllByRecursion (λ p. p < k) step.places) (sym long) one.within in
     let ms = pick step.places ls in
-    let picked : get_or ms p 0 ≡ get_or ls (get_or step.places p 0) 0 = get_or-pick 0 step.places ls within p (omega arith) in
+    let picked : get_or ms p 0 ≡ get_or ls (get_or step.places p 0) 0 =
+    get_or-pick 0 step.places ls within p (omega arith) in
     let here : get_or ms p 0 ≡ get_or ls p 0 = picked ∙ elim spares.0 [
       | inl stays ↦ ap (λ q. get_or ls q 0) (stays p a b)
       | inr moves ↦ between_label step.merged_first ls each.0 p (get_or step.places p 0) (moves.inside p (omega arith))
@@ -55,40 +65,63 @@ label_stays n (step ∷ steps) ls long fits each st end spares p a b =
     label_stays n steps ms (length-pick step.places ls within ∙ one.as_many) fits.1 each.2 st end spares.1 p a b ∙ here
 
 -- one label in the end, so one label before the steps that spare the stretch
-one_before : (n : ℕ) (steps : List Step) (ls : List ℕ) → length ls ≡ n → FitSteps n steps → OneLabelEach steps ls → (sts : List (ℕ × ℕ)) → AllByRecursion (λ st. st.1 ≤ n) sts → AllByRecursion (λ st. AllByRecursion (Spares n st) steps) sts → AllByRecursion (OneAlong (moved_on steps ls)) sts → AllByRecursion (OneAlong ls) sts
+one_before : (n : ℕ) (steps : List Step) (ls : List ℕ) → length ls ≡ n → FitSteps n steps → OneLabelEach steps ls
+    → (sts : List (ℕ × ℕ)) → AllByRecursion (λ st. st.1 ≤ n) sts
+    → AllByRecursion (λ st. AllByRecursion (Spares n st) steps) sts → AllByRecursion (OneAlong (moved_on steps ls)) sts
+    → AllByRecursion (OneAlong ls) sts
 one_before n steps ls long fits each [] ends spares one = tt
 one_before n steps ls long fits each (st ∷ sts) ends spares one =
-    let stays : (p : ℕ) → st.0 ≤ p → p < st.1 → get_or (moved_on steps ls) p 0 ≡ get_or ls p 0 = label_stays n steps ls long fits each st ends.0 spares.0 in
-    ((λ p q pl ph ql qh. sym (stays p pl ph) ∙ one.0 p q pl ph ql qh ∙ stays q ql qh), one_before n steps ls long fits each sts ends.1 spares.1 one.1)
+    let stays : (p : ℕ) → st.0 ≤ p → p < st.1 → get_or (moved_on steps ls) p 0 ≡ get_or ls p 0 =
+    label_stays n steps ls long fits each st ends.0 spares.0 in (
+      (λ p q pl ph ql qh. sym (stays p pl ph) ∙ one.0 p q pl ph ql qh ∙ stays q ql qh),
+      one_before n steps ls long fits
+          each sts ends.1 spares.1 one.1,
+    )
 
 -- a step that moves inside what it merged moves no label, where the stretches have one label each behind it
-label_unmoved : (n : ℕ) (step : Step) (ls : List ℕ) → length ls ≡ n → MovesMerged n step → Permutes n step → AllByRecursion (OneAlong (pick step.places ls)) step.merged_first → (q : ℕ) → q < n → get_or (pick step.places ls) q 0 ≡ get_or ls q 0
+label_unmoved : (n : ℕ) (step : Step) (ls : List ℕ) → length ls ≡ n → MovesMerged n step → Permutes n step
+    → AllByRecursion (OneAlong (pick step.places ls)) step.merged_first → (q : ℕ) → q < n
+    → get_or (pick step.places ls) q 0 ≡ get_or ls q 0
 label_unmoved n step ls long moves perm one q l =
     let fits = moves.fits in
-    let within : AllByRecursion (λ p. p < length ls) step.places = subst (λ k. AllByRecursion (λ p. p < k) step.places) (sym long) fits.within in
+    let within : AllByRecursion (λ p. p < length ls) step.places =
+    subst (λ k. AllByRecursion (λ p. p < k) step.places) (sym long) fits.within in
     let (p, inside, at) = taken_once n step.places perm q l in
-    let between : HeldBetween step.merged_first p q = subst (HeldBetween step.merged_first p) at (moves.inside p inside) in
-    between_label step.merged_first (pick step.places ls) one p q between ∙ get_or-pick 0 step.places ls within p inside ∙ ap (λ k. get_or ls k 0) at
+    let between : HeldBetween step.merged_first p q =
+    subst (HeldBetween step.merged_first p) at (moves.inside p inside) in
+    between_label step.merged_first (pick step.places ls) one p q between ∙ get_or-pick 0 step.places ls within p inside
+    ∙ ap (λ k. get_or ls k 0) at
 
-same_labels : (n : ℕ) (ls ms : List ℕ) → ((q : ℕ) → q < n → get_or ms q 0 ≡ get_or ls q 0) → (sts : List (ℕ × ℕ)) → AllByRecursion (λ st. st.1 ≤ n) sts → AllByRecursion (OneAlong ms) sts → AllByRecursion (OneAlong ls) sts
+same_labels : (n : ℕ) (ls ms : List ℕ) → ((q : ℕ) → q < n → get_or ms q 0 ≡ get_or ls q 0) → (sts : List (ℕ × ℕ))
+    → AllByRecursion (λ st. st.1 ≤ n) sts → AllByRecursion (OneAlong ms) sts → AllByRecursion (OneAlong ls) sts
 same_labels n ls ms same [] ends one = tt
 same_labels n ls ms same (st ∷ sts) ends one =
-    let end = ends.0 in
-    ((λ p q pl ph ql qh. sym (same p (omega arith)) ∙ one.0 p q pl ph ql qh ∙ same q (omega arith)), same_labels n ls ms same sts ends.1 one.1)
+    let end = ends.0 in (
+      (λ p q pl ph ql qh. sym (same p (omega arith)) ∙ one.0 p q pl ph ql qh ∙ same q (omega arith)),
+      same_labels n ls ms
+          same sts ends.1 one.1,
+    )
 
-pub labels_as_merged : (n : ℕ) (steps : List Step) (ls : List ℕ) → length ls ≡ n → FitSteps n steps → AllByRecursion (Permutes n) steps → SpareMerged n steps → AllByRecursion (OneAlong (moved_on steps ls)) (all_merged steps) → OneLabelEach steps ls
+pub labels_as_merged : (n : ℕ) (steps : List Step) (ls : List ℕ) → length ls ≡ n → FitSteps n steps
+    → AllByRecursion (Permutes n) steps → SpareMerged n steps
+    → AllByRecursion (OneAlong (moved_on steps ls)) (all_merged steps) → OneLabelEach steps ls
 labels_as_merged n [] ls long fits perm spare one = tt
 labels_as_merged n (step ∷ steps) ls long fits perm spare one =
     let fit = fits.0 in
-    let within : AllByRecursion (λ p. p < length ls) step.places = subst (λ k. AllByRecursion (λ p. p < k) step.places) (sym long) fit.within in
+    let within : AllByRecursion (λ p. p < length ls) step.places =
+    subst (λ k. AllByRecursion (λ p. p < k) step.places) (sym long) fit.within in
     let ms = pick step.places ls in
     let ml : length ms ≡ n = length-pick step.places ls within ∙ fit.as_many in
-    let parts = all_split (OneAlong (moved_on steps ms)) (step.merged_first ++ step.merged_then) (all_merged steps) one in
+    let parts = all_split (OneAlong (moved_on steps ms)) (step.merged_first ++ step.merged_then) (all_merged steps)
+    one in
     let rest = labels_as_merged n steps ms ml fits.1 perm.1 spare.2 parts.1 in
-    let ends = all-append (λ (st : ℕ × ℕ). st.1 ≤ n) step.merged_first step.merged_then fit.first_within fit.then_within in
-    let both = all_split (OneAlong ms) step.merged_first step.merged_then (one_before n steps ms ml fits.1 rest (step.merged_first ++ step.merged_then) ends spare.1 parts.0) in
+    let ends = all-append (λ (st : ℕ × ℕ). st.1 ≤ n) step.merged_first step.merged_then fit.first_within
+    fit.then_within in
+    let both = all_split (OneAlong ms) step.merged_first step.merged_then
+    (one_before n steps ms ml fits.1 rest (step.merged_first ++ step.merged_then) ends spare.1 parts.0) in
     let first : AllByRecursion (OneAlong ls) step.merged_first = elim spare.0 [
       | inl none ↦ subst (AllByRecursion (OneAlong ls)) (sym none) tt
-      | inr moves ↦ same_labels n ls ms (label_unmoved n step ls long moves perm.0 both.0) step.merged_first fit.first_within both.0
+      | inr moves ↦ same_labels n ls ms (label_unmoved n step ls long moves perm.0 both.0) step.merged_first
+          fit.first_within both.0
     ] in
     (first, both.1, rest)

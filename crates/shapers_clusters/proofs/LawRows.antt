@@ -44,7 +44,8 @@ one_label : OneAlong numbers (1, 3)
 one_label p q pl ph ql qh = omega (arith, threes p pl ph, threes q ql qh)
 
 two_labels : OneAlong numbers (1, 4) → ⊥
-two_labels same = let e : 4 ≡ 3 = same 3 2 (omega arith) (omega arith) (omega arith) (omega arith) in absurd (omega (arith, e))
+two_labels same = let e : 4 ≡ 3 =
+    same 3 2 (omega arith) (omega arith) (omega arith) (omega arith) in absurd (omega (arith, e))
 
 -- two stretches that meet in place 1 link places 0 to 2, but not 3
 chain : (r : ℕ) → 0 < r → r ≤ 2 → linked (0 ∷ 1 ∷ 2 ∷ 3 ∷ []) ((0, 2) ∷ (1, 3) ∷ []) r ≡ true
@@ -75,7 +76,8 @@ not_apart_behind alone = alone 1 2 (omega arith) (omega arith) (omega arith) (in
 not_apart_before : StandsApart 1 2 (1 ∷ 1 ∷ 2 ∷ []) → ⊥
 not_apart_before alone = alone 1 0 (omega arith) (omega arith) (omega arith) (inl (omega arith)) refl
 
--- a glyph keeps its cluster with its flags, or falls and loses them; it neither rises nor keeps flags in a fall, nor loses them without one
+-- a glyph keeps its cluster with its flags, or falls and loses them; it neither rises nor keeps
+-- flags in a fall, nor loses them without one
 abbrev glyph : ℕ → ℕ → hb_glyph_info_t
 glyph c m = record default_glyph { cluster = c; mask = m }
 
@@ -121,7 +123,8 @@ not_monotone : IsMonotone (1 ∷ 3 ∷ 2 ∷ []) → ⊥
 not_monotone (inl up) = let e : 3 ≤ 2 = up 1 2 0 (omega arith) (omega arith) in absurd (omega (arith, e))
 not_monotone (inr down) = let e : 3 ≤ 1 = down 0 1 0 (omega arith) (omega arith) in absurd (omega (arith, e))
 
--- a step that swaps places 0 and 1 unmerged spares a stretch that it leaves, and none that it enters; merged first, it spares that too
+-- a step that swaps places 0 and 1 unmerged spares a stretch that it leaves, and none that it
+-- enters; merged first, it spares that too
 abbrev swap : Step
 swap = record { merged_first = []; places = 1 ∷ 0 ∷ 2 ∷ []; merged_then = [] }
 
@@ -136,7 +139,8 @@ spared = inl left
 
 not_spared : Spares 3 (1, 3) swap → ⊥
 not_spared (inl stays) = let e : 0 ≡ 1 = stays 1 (omega arith) (omega arith) in absurd (omega (arith, e))
-not_spared (inr moves) = absurd (let e : false ≡ true = moves.inside 0 (omega arith) 1 (omega arith) (omega arith) in cc)
+not_spared (inr moves) =
+    absurd (let e : false ≡ true = moves.inside 0 (omega arith) 1 (omega arith) (omega arith) in cc)
 
 spared_inside : Spares 2 (0, 2) (record { merged_first = (0, 2) ∷ []; places = 1 ∷ 0 ∷ []; merged_then = [] })
 spared_inside = inr (moves_anywhere 2 (1 ∷ 0 ∷ []) refl (omega arith, (omega arith, tt)))

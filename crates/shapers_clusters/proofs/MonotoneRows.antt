@@ -30,7 +30,8 @@ not_both : IsStrictlyMonotone (1 ∷ 3 ∷ 2 ∷ []) → ⊥
 not_both (inl up) = let e : 3 < 2 = up 1 2 0 (omega arith) (omega arith) in absurd (omega (arith, e))
 not_both (inr down) = let e : 3 < 1 = down 0 1 0 (omega arith) (omega arith) in absurd (omega (arith, e))
 
--- clusters 2 1 0, and a call on the last two glyphs: it forbids a break between these alone, and there the flag stands in the middle glyph, whose cluster is the greater one
+-- clusters 2 1 0, and a call on the last two glyphs: it forbids a break between these alone, and
+-- there the flag stands in the middle glyph, whose cluster is the greater one
 glyph : ℕ → hb_glyph_info_t
 glyph c = record default_glyph { cluster = c }
 

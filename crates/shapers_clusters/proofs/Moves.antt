@@ -24,65 +24,93 @@ use Rattle.shapers_clusters.specs.Flags.{FallsTo}
 use Rattle.shapers_clusters.proofs.Falls.{all_on, all_same, merge_all-falls}
 
 -- What holds of a list and what some steps make of it, if each step keeps it: the list moves as the steps do.
-pub followed : {X S : Type 0} (R : List X → S → Type 0) (run : S → Step → S) (ok : Step → Type 0) → ((step : Step) (xs : List X) (s : S) → ok step → R xs s → R (pick step.places xs) (run s step)) → (old : List X) (steps : List Step) (olds : List ℕ) (s : S) → AllByRecursion ok steps → AllByRecursion (λ p. p < length old) olds → R (pick olds old) s → R (pick (moved_on steps olds) old) (fold run s steps)
+pub followed : {X S : Type 0} (R : List X → S → Type 0) (run : S → Step → S) (ok : Step → Type 0)
+    → ((step : Step) (xs : List X) (s : S) → ok step → R xs s → R (pick step.places xs) (run s step))
+    → (old : List X) (steps : List Step) (olds : List ℕ) (s : S) → AllByRecursion ok steps
+    → AllByRecursion (λ p. p < length old) olds → R (pick olds old) s
+    → R (pick (moved_on steps olds) old) (fold run s steps)
 followed R run ok keeps old [] olds s f w h = h
 followed {X} R run ok keeps old (step ∷ steps) olds s f w h =
     let P : List X → Type 0 = λ xs. R xs (run s step) in
-    followed R run ok keeps old steps (pick step.places olds) (run s step) f.1 (within_picked (length old) step.places olds w) (subst P (pick-pick step.places olds old w) (keeps step (pick olds old) s f.0 h))
+    followed R run ok keeps old steps (pick step.places olds) (run s step) f.1
+    (within_picked (length old) step.places olds w)
+    (subst P (pick-pick step.places olds old w) (keeps step (pick olds old) s f.0 h))
 
-pub followed_all : {X S : Type 0} (R : List X → S → Type 0) (run : S → Step → S) (ok : Step → Type 0) → ((step : Step) (xs : List X) (s : S) → ok step → R xs s → R (pick step.places xs) (run s step)) → (n : ℕ) (old : List X) (steps : List Step) (s : S) → length old ≡ n → AllByRecursion ok steps → R old s → R (pick (old_places n steps) old) (fold run s steps)
+pub followed_all : {X S : Type 0} (R : List X → S → Type 0) (run : S → Step → S) (ok : Step → Type 0)
+    → ((step : Step) (xs : List X) (s : S) → ok step → R xs s → R (pick step.places xs) (run s step))
+    → (n : ℕ) (old : List X) (steps : List Step) (s : S) → length old ≡ n → AllByRecursion ok steps → R old s
+    → R (pick (old_places n steps) old) (fold run s steps)
 followed_all {X} R run ok keeps n old steps s e f h =
     let P : List X → Type 0 = λ xs. R xs s in
-    followed R run ok keeps old steps (range_with_len 0 n) s f (within_range 0 n (length old) (omega arith)) (subst P (sym (pick-all n old e)) h)
+    followed R run ok keeps old steps (range_with_len 0 n) s f (within_range 0 n (length old) (omega arith))
+    (subst P (sym (pick-all n old e)) h)
 
 -- what holds of every list, one after another
-kept : {S : Type 0} (P : S → Type 0) (run : S → Step → S) (ok : Step → Type 0) → ((step : Step) (s : S) → ok step → P s → P (run s step)) → (steps : List Step) (s : S) → AllByRecursion ok steps → P s → P (fold run s steps)
+kept : {S : Type 0} (P : S → Type 0) (run : S → Step → S) (ok : Step → Type 0)
+    → ((step : Step) (s : S) → ok step → P s → P (run s step)) → (steps : List Step) (s : S) → AllByRecursion ok steps
+    → P s → P (fold run s steps)
 kept P run ok keeps [] s f h = h
 kept P run ok keeps (step ∷ steps) s f h = kept P run ok keeps steps (run s step) f.1 (keeps step s f.0 h)
 
-pub clusters-merge_all : (level : BufferClusterLevel) (sts : List (ℕ × ℕ)) (gs : List hb_glyph_info_t) → clusters (merge_all level sts gs) ≡ joined_all level sts (clusters gs)
+pub clusters-merge_all : (level : BufferClusterLevel) (sts : List (ℕ × ℕ)) (gs : List hb_glyph_info_t)
+    → clusters (merge_all level sts gs) ≡ joined_all level sts (clusters gs)
 clusters-merge_all level [] gs = refl
-clusters-merge_all level (st ∷ sts) gs = clusters-merge_all level sts _ ∙ ap (joined_all level sts) (clusters-merge level st.0 st.1 gs)
+clusters-merge_all level (st ∷ sts) gs = clusters-merge_all level sts _
+    ∙ ap (joined_all level sts) (clusters-merge level st.0 st.1 gs)
 
-clusters-run_step : (level : BufferClusterLevel) (step : Step) (gs : List hb_glyph_info_t) → clusters (run_step level step gs) ≡ joined_step level step (clusters gs)
+clusters-run_step : (level : BufferClusterLevel) (step : Step) (gs : List hb_glyph_info_t)
+    → clusters (run_step level step gs) ≡ joined_step level step (clusters gs)
 clusters-run_step level step gs =
     clusters-merge_all level step.merged_then _
-    ∙ ap (joined_all level step.merged_then) (sym (pick-map (λ g. g.cluster) step.places _) ∙ ap (pick step.places) (clusters-merge_all level step.merged_first gs))
+    ∙ ap (joined_all level step.merged_then) (sym (pick-map (λ g. g.cluster) step.places _)
+    ∙ ap (pick step.places) (clusters-merge_all level step.merged_first gs))
 
 -- the clusters of the glyphs after the steps are those that the steps make of the clusters
-pub clusters-run_steps : (level : BufferClusterLevel) (steps : List Step) (gs : List hb_glyph_info_t) → clusters (run_steps level steps gs) ≡ joined_steps level steps (clusters gs)
+pub clusters-run_steps : (level : BufferClusterLevel) (steps : List Step) (gs : List hb_glyph_info_t)
+    → clusters (run_steps level steps gs) ≡ joined_steps level steps (clusters gs)
 clusters-run_steps level [] gs = refl
-clusters-run_steps level (step ∷ steps) gs = clusters-run_steps level steps (run_step level step gs) ∙ ap (joined_steps level steps) (clusters-run_step level step gs)
+clusters-run_steps level (step ∷ steps) gs = clusters-run_steps level steps (run_step level step gs)
+    ∙ ap (joined_steps level steps) (clusters-run_step level step gs)
 
 -- the order view after the steps: what stood at the old places
-order_view-run_step : (level : BufferClusterLevel) (step : Step) (gs : List hb_glyph_info_t) → order_view (run_step level step gs) ≡ pick step.places (order_view gs)
+order_view-run_step : (level : BufferClusterLevel) (step : Step) (gs : List hb_glyph_info_t)
+    → order_view (run_step level step gs) ≡ pick step.places (order_view gs)
 order_view-run_step level step gs =
-    order_view-merge_all level step.merged_then _ ∙ sym (pick-map plain step.places _) ∙ ap (pick step.places) (order_view-merge_all level step.merged_first gs)
+    order_view-merge_all level step.merged_then _ ∙ sym (pick-map plain step.places _)
+    ∙ ap (pick step.places) (order_view-merge_all level step.merged_first gs)
 
 any_steps : (steps : List Step) → AllByRecursion (λ _. Unit {0}) steps
 any_steps [] = tt
 any_steps (step ∷ steps) = (tt, any_steps steps)
 
-pub order_view-run_steps : (level : BufferClusterLevel) (steps : List Step) (gs : List hb_glyph_info_t) → order_view (run_steps level steps gs) ≡ pick (old_places (length gs) steps) (order_view gs)
-order_view-run_steps level steps gs = followed_all (λ xs gs. order_view gs ≡ xs) (λ gs step. run_step level step gs) (λ _. Unit {0})
-    (λ step xs gs _ e. order_view-run_step level step gs ∙ ap (pick step.places) e) (length gs) (order_view gs) steps gs (length-map gs plain) (any_steps steps) refl
+pub order_view-run_steps : (level : BufferClusterLevel) (steps : List Step) (gs : List hb_glyph_info_t)
+    → order_view (run_steps level steps gs) ≡ pick (old_places (length gs) steps) (order_view gs)
+order_view-run_steps level steps gs =
+    followed_all (λ xs gs. order_view gs ≡ xs) (λ gs step. run_step level step gs) (λ _. Unit {0})
+    (λ step xs gs _ e. order_view-run_step level step gs ∙ ap (pick step.places) e) (length gs) (order_view gs) steps gs
+    (length-map gs plain) (any_steps steps) refl
 
 -- each glyph falls to what its place in the end has
-falls-run_step : (level : BufferClusterLevel) (step : Step) (gs : List hb_glyph_info_t) → FitsStep (length gs) step → AllZip FallsTo (pick step.places gs) (run_step level step gs)
+falls-run_step : (level : BufferClusterLevel) (step : Step) (gs : List hb_glyph_info_t) → FitsStep (length gs) step
+    → AllZip FallsTo (pick step.places gs) (run_step level step gs)
 falls-run_step level step gs f =
     let ms = merge_all level step.merged_first gs in
     let n : length ms ≡ length gs = length-merge_all level step.merged_first gs f.first_within in
     let P : ℕ → Type 0 = λ n. AllByRecursion (λ p. p < n) step.places in
-    let k : length (pick step.places ms) ≡ length gs = length-pick step.places ms (subst P (sym n) f.within) ∙ f.as_many in
+    let k : length (pick step.places ms) ≡ length gs = length-pick step.places ms (subst P (sym n) f.within)
+    ∙ f.as_many in
     let Q : ℕ → Type 0 = λ n. EndWithin n step.merged_then in
-    all_on (pick step.places gs) (pick step.places ms) (run_step level step gs) (AllZip-pick FallsTo step.places gs ms (merge_all-falls level step.merged_first gs f.first_within))
+    all_on (pick step.places gs) (pick step.places ms) (run_step level step gs)
+    (AllZip-pick FallsTo step.places gs ms (merge_all-falls level step.merged_first gs f.first_within))
     (merge_all-falls level step.merged_then (pick step.places ms) (subst Q (sym k) f.then_within))
 
 -- as many glyphs, each fallen from its own
 abbrev FallenFrom : ℕ → List hb_glyph_info_t → List hb_glyph_info_t → Type 0
 FallenFrom n xs gs = (length gs ≡ n) × AllZip FallsTo xs gs
 
-pub falls-run_steps : (level : BufferClusterLevel) (steps : List Step) (gs : List hb_glyph_info_t) → FitSteps (length gs) steps → (length (run_steps level steps gs) ≡ length gs) × AllZip FallsTo (pick (old_places (length gs) steps) gs) (run_steps level steps gs)
+pub falls-run_steps : (level : BufferClusterLevel) (steps : List Step) (gs : List hb_glyph_info_t)
+    → FitSteps (length gs) steps → (length (run_steps level steps gs) ≡ length gs)
+    × AllZip FallsTo (pick (old_places (length gs) steps) gs) (run_steps level steps gs)
 falls-run_steps level steps gs f =
     let n = length gs in
     let P : Step → ℕ → Type 0 = λ step n. FitsStep n step in
@@ -90,36 +118,55 @@ falls-run_steps level steps gs f =
     (λ step xs ys g h.
     let one = falls-run_step level step ys (subst (P step) (sym h.0) g) in
     let Q : ℕ → Type 0 = λ n. AllByRecursion (λ p. p < n) step.places in (
-      sym (length_all_zip FallsTo (pick step.places ys) (run_step level step ys) one) ∙ length-pick step.places ys (subst Q (sym h.0) g.within) ∙ g.as_many,
-      all_on (pick step.places xs) (pick step.places ys) (run_step level step ys) (AllZip-pick FallsTo step.places xs ys h.1) one,
+      sym (length_all_zip FallsTo (pick step.places ys) (run_step level step ys) one)
+          ∙ length-pick step.places ys (subst Q (sym h.0) g.within) ∙ g.as_many,
+      all_on (pick step.places xs) (pick step.places ys) (run_step level step ys)
+          (AllZip-pick FallsTo step.places xs ys h.1) one,
     ))
     (length gs) gs steps gs refl f (refl, all_same gs)
 
 -- where nothing merges, glyphs only move
-pub merge-unmerged : (level : BufferClusterLevel) → merges level ≡ false → (s e : ℕ) (gs : List hb_glyph_info_t) → merge level s e gs ≡ gs
+pub merge-unmerged : (level : BufferClusterLevel) → merges level ≡ false → (s e : ℕ) (gs : List hb_glyph_info_t)
+    → merge level s e gs ≡ gs
 merge-unmerged level m s e gs = ap (λ b. if b && not (nat_lt (e - s) 2) then merged s e gs else gs) m
 
-pub merge_all-unmerged : (level : BufferClusterLevel) → merges level ≡ false → (sts : List (ℕ × ℕ)) (gs : List hb_glyph_info_t) → merge_all level sts gs ≡ gs
+pub merge_all-unmerged : (level : BufferClusterLevel) → merges level ≡ false
+    → (sts : List (ℕ × ℕ)) (gs : List hb_glyph_info_t) → merge_all level sts gs ≡ gs
 merge_all-unmerged level m [] gs = refl
-merge_all-unmerged level m (st ∷ sts) gs = ap (merge_all level sts) (merge-unmerged level m st.0 st.1 gs) ∙ merge_all-unmerged level m sts gs
+merge_all-unmerged level m (st ∷ sts) gs = ap (merge_all level sts) (merge-unmerged level m st.0 st.1 gs)
+    ∙ merge_all-unmerged level m sts gs
 
-joined-unmerged : (level : BufferClusterLevel) → merges level ≡ false → (s e : ℕ) (cs : List ℕ) → joined level s e cs ≡ cs
+joined-unmerged : (level : BufferClusterLevel) → merges level ≡ false → (s e : ℕ) (cs : List ℕ)
+    → joined level s e cs ≡ cs
 joined-unmerged level m s e cs = ap clusters (merge-unmerged level m s e (map of_cluster cs)) ∙ clusters-of_clusters cs
 
-pub joined_all-unmerged : (level : BufferClusterLevel) → merges level ≡ false → (sts : List (ℕ × ℕ)) (cs : List ℕ) → joined_all level sts cs ≡ cs
+pub joined_all-unmerged : (level : BufferClusterLevel) → merges level ≡ false → (sts : List (ℕ × ℕ)) (cs : List ℕ)
+    → joined_all level sts cs ≡ cs
 joined_all-unmerged level m [] cs = refl
-joined_all-unmerged level m (st ∷ sts) cs = ap (joined_all level sts) (joined-unmerged level m st.0 st.1 cs) ∙ joined_all-unmerged level m sts cs
+joined_all-unmerged level m (st ∷ sts) cs = ap (joined_all level sts) (joined-unmerged level m st.0 st.1 cs)
+    ∙ joined_all-unmerged level m sts cs
 
-pub run_steps-unmerged : (level : BufferClusterLevel) → merges level ≡ false → (steps : List Step) (gs : List hb_glyph_info_t) → run_steps level steps gs ≡ pick (old_places (length gs) steps) gs
-run_steps-unmerged level m steps gs = followed_all (λ xs gs. gs ≡ xs) (λ gs step. run_step level step gs) (λ _. Unit {0})
-    (λ step xs gs _ e. merge_all-unmerged level m step.merged_then _ ∙ ap (pick step.places) (merge_all-unmerged level m step.merged_first gs ∙ e)) (length gs) gs steps gs refl (any_steps steps) refl
+pub run_steps-unmerged : (level : BufferClusterLevel) → merges level ≡ false
+    → (steps : List Step) (gs : List hb_glyph_info_t)
+    → run_steps level steps gs ≡ pick (old_places (length gs) steps) gs
+run_steps-unmerged level m steps gs =
+    followed_all (λ xs gs. gs ≡ xs) (λ gs step. run_step level step gs) (λ _. Unit {0})
+    (λ step xs gs _ e. merge_all-unmerged level m step.merged_then _
+    ∙ ap (pick step.places) (merge_all-unmerged level m step.merged_first gs ∙ e)) (length gs) gs steps gs refl
+    (any_steps steps) refl
 
-pub joined_steps-unmerged : (level : BufferClusterLevel) → merges level ≡ false → (steps : List Step) (cs : List ℕ) → joined_steps level steps cs ≡ pick (old_places (length cs) steps) cs
-joined_steps-unmerged level m steps cs = followed_all (λ xs cs. cs ≡ xs) (λ cs step. joined_step level step cs) (λ _. Unit {0})
-    (λ step xs cs _ e. joined_all-unmerged level m step.merged_then _ ∙ ap (pick step.places) (joined_all-unmerged level m step.merged_first cs ∙ e)) (length cs) cs steps cs refl (any_steps steps) refl
+pub joined_steps-unmerged : (level : BufferClusterLevel) → merges level ≡ false → (steps : List Step) (cs : List ℕ)
+    → joined_steps level steps cs ≡ pick (old_places (length cs) steps) cs
+joined_steps-unmerged level m steps cs =
+    followed_all (λ xs cs. cs ≡ xs) (λ cs step. joined_step level step cs) (λ _. Unit {0})
+    (λ step xs cs _ e. joined_all-unmerged level m step.merged_then _
+    ∙ ap (pick step.places) (joined_all-unmerged level m step.merged_first cs ∙ e)) (length cs) cs steps cs refl
+    (any_steps steps) refl
 
 -- moves between places that share a cluster leave the list of clusters as it is
-pub clusters_stay : (cs : List ℕ) (places : List ℕ) → length places ≡ length cs → AllByRecursion (λ p. p < length cs) places → ((p : ℕ) → p < length cs → get_or cs (get_or places p 0) 0 ≡ get_or cs p 0) → pick places cs ≡ cs
+pub clusters_stay : (cs : List ℕ) (places : List ℕ) → length places ≡ length cs
+    → AllByRecursion (λ p. p < length cs) places
+    → ((p : ℕ) → p < length cs → get_or cs (get_or places p 0) 0 ≡ get_or cs p 0) → pick places cs ≡ cs
 clusters_stay cs places n w h =
     let k = length-pick places cs w ∙ n in
     ext_get_or 0 (pick places cs) cs k (λ i l. get_or-pick 0 places cs w i (omega arith) ∙ h i (omega arith))
@@ -133,11 +180,16 @@ or_right true b h = refl
 or_right false b h = h
 
 -- places that the stretches hold together share a cluster once these are merged
-pub held_share : (level : BufferClusterLevel) → merges level ≡ true → (sts : List (ℕ × ℕ)) (cs : List ℕ) → EndWithin (length cs) sts → (p q : ℕ) → p < length cs → q < length cs → HeldBetween sts p q → ShareCluster (joined_all level sts cs) p q
-held_share level m sts cs w p q pl ql b = share_all (joined_all level sts cs) p q (λ r x y. joined_all-linked level m sts cs w r (omega arith) (omega arith) (or_right _ _ (b r x y)))
+pub held_share : (level : BufferClusterLevel) → merges level ≡ true → (sts : List (ℕ × ℕ)) (cs : List ℕ)
+    → EndWithin (length cs) sts → (p q : ℕ) → p < length cs → q < length cs → HeldBetween sts p q
+    → ShareCluster (joined_all level sts cs) p q
+held_share level m sts cs w p q pl ql b =
+    share_all (joined_all level sts cs) p q
+    (λ r x y. joined_all-linked level m sts cs w r (omega arith) (omega arith) (or_right _ _ (b r x y)))
 
 -- a step that moves only inside what it merged first joins clusters, and no more
-joined-merged_step : (level : BufferClusterLevel) → merges level ≡ true → (step : Step) (cs : List ℕ) → MovesMerged (length cs) step → joined_step level step cs ≡ joined_all level step.merged_first cs
+joined-merged_step : (level : BufferClusterLevel) → merges level ≡ true → (step : Step) (cs : List ℕ)
+    → MovesMerged (length cs) step → joined_step level step cs ≡ joined_all level step.merged_first cs
 joined-merged_step level m step cs f =
     let js = joined_all level step.merged_first cs in
     let e = f.fits.first_within in
@@ -146,13 +198,18 @@ joined-merged_step level m step cs f =
     let P : ℕ → Type 0 = λ n. AllByRecursion (λ p. p < n) step.places in
     ap (λ sts. joined_all level sts (pick step.places js)) f.nothing_then
     ∙ clusters_stay js step.places (omega arith) (subst P (sym k) f.fits.within)
-    (λ p l. held_share level m step.merged_first cs e p (get_or step.places p 0) (omega arith) (within_at (length cs) step.places f.fits.within p (omega arith)) (f.inside p (omega arith)) (get_or step.places p 0) (omega arith) (omega arith))
+    (λ p l. held_share level m step.merged_first cs e p (get_or step.places p 0) (omega arith)
+    (within_at (length cs) step.places f.fits.within p (omega arith)) (f.inside p (omega arith))
+    (get_or step.places p 0) (omega arith) (omega arith))
 
-joined_all-append : (level : BufferClusterLevel) (xs ys : List (ℕ × ℕ)) (cs : List ℕ) → joined_all level (xs ++ ys) cs ≡ joined_all level ys (joined_all level xs cs)
+joined_all-append : (level : BufferClusterLevel) (xs ys : List (ℕ × ℕ)) (cs : List ℕ) → joined_all level (xs ++ ys) cs
+    ≡ joined_all level ys (joined_all level xs cs)
 joined_all-append level [] ys cs = refl
 joined_all-append level (x ∷ xs) ys cs = joined_all-append level xs ys (joined level x.0 x.1 cs)
 
-pub joined-merged_steps : (level : BufferClusterLevel) → merges level ≡ true → (steps : List Step) (cs : List ℕ) → AllByRecursion (MovesMerged (length cs)) steps → joined_steps level steps cs ≡ joined_all level (all_first steps) cs
+pub joined-merged_steps : (level : BufferClusterLevel) → merges level ≡ true → (steps : List Step) (cs : List ℕ)
+    → AllByRecursion (MovesMerged (length cs)) steps
+    → joined_steps level steps cs ≡ joined_all level (all_first steps) cs
 joined-merged_steps level m [] cs f = refl
 joined-merged_steps level m (step ∷ steps) cs f =
     let e = joined-merged_step level m step cs f.0 in
@@ -178,31 +235,44 @@ lt_both : (a b r : ℕ) → a < r → r < b → (nat_lt a r && nat_lt r b) ≡ t
 lt_both a b r h i = grind (arith, nat_tests)
 
 -- one of the stretches holds both places
-pub held_by : (sts : List (ℕ × ℕ)) (k : ℕ) (d : ℕ × ℕ) → k < length sts → (p q : ℕ) → (get_or sts k d).0 ≤ p → p < (get_or sts k d).1 → (get_or sts k d).0 ≤ q → q < (get_or sts k d).1 → HeldBetween sts p q
-held_by sts k d l p q a b c e r x y = list_any_at (λ st. nat_lt st.0 r && nat_lt r st.1) sts k d l (lt_both (get_or sts k d).0 (get_or sts k d).1 r (omega arith) (omega arith))
+pub held_by : (sts : List (ℕ × ℕ)) (k : ℕ) (d : ℕ × ℕ) → k < length sts → (p q : ℕ) → (get_or sts k d).0 ≤ p
+    → p < (get_or sts k d).1 → (get_or sts k d).0 ≤ q → q < (get_or sts k d).1 → HeldBetween sts p q
+held_by sts k d l p q a b c e r x y =
+    list_any_at (λ st. nat_lt st.0 r && nat_lt r st.1) sts k d l
+    (lt_both (get_or sts k d).0 (get_or sts k d).1 r (omega arith) (omega arith))
 
 -- all neighbours within a stretch are held; so they are in each of the stretches
 abbrev pub HeldIn : List (ℕ × ℕ) → ℕ × ℕ → Type 0
 HeldIn sts st = (i : ℕ) → st.0 < i → i < st.1 → held sts i ≡ true
 
-more_held : (st : ℕ × ℕ) (sts xs : List (ℕ × ℕ)) → AllByRecursion (HeldIn sts) xs → AllByRecursion (HeldIn (st ∷ sts)) xs
+more_held : (st : ℕ × ℕ) (sts xs : List (ℕ × ℕ)) → AllByRecursion (HeldIn sts) xs
+    → AllByRecursion (HeldIn (st ∷ sts)) xs
 more_held st sts [] h = tt
-more_held st sts (x ∷ xs) h = (λ i a b. or_right (nat_lt st.0 i && nat_lt i st.1) (held sts i) (h.0 i a b), more_held st sts xs h.1)
+more_held st sts (x ∷ xs) h =
+    (λ i a b. or_right (nat_lt st.0 i && nat_lt i st.1) (held sts i) (h.0 i a b), more_held st sts xs h.1)
 
 pub all_held : (sts : List (ℕ × ℕ)) → AllByRecursion (HeldIn sts) sts
 all_held [] = tt
-all_held (st ∷ sts) = (λ i a b. or_left (nat_lt st.0 i && nat_lt i st.1) (held sts i) (lt_both st.0 st.1 i a b), more_held st sts sts (all_held sts))
+all_held (st ∷ sts) = (
+  λ i a b. or_left (nat_lt st.0 i && nat_lt i st.1) (held sts i) (lt_both st.0 st.1 i a b),
+  more_held st sts sts
+      (all_held sts),
+)
 
 -- a step that merges all its places first may move as it likes
-pub moves_anywhere : (n : ℕ) (places : List ℕ) → length places ≡ n → AllByRecursion (λ p. p < n) places → MovesMerged n (record { merged_first = (0, n) ∷ []; places = places; merged_then = [] })
+pub moves_anywhere : (n : ℕ) (places : List ℕ) → length places ≡ n → AllByRecursion (λ p. p < n) places
+    → MovesMerged n (record { merged_first = (0, n) ∷ []; places = places; merged_then = [] })
 moves_anywhere n places e w = record {
   fits = record { as_many = e; within = w; first_within = (omega arith, tt); then_within = tt };
-  inside = λ p l. held_by ((0, n) ∷ []) 0 (0, n) (omega arith) p (get_or places p 0) (omega arith) (omega arith) (omega arith) (within_at n places w p l);
+  inside = λ p l. held_by ((0, n) ∷ []) 0 (0, n) (omega arith) p (get_or places p 0) (omega arith) (omega arith)
+      (omega arith) (within_at n places w p l);
   nothing_then = refl;
 }
 
 -- the merged stretches lead from each place to the old place of what stands there
-held_moved : (n : ℕ) (steps : List Step) (before : List (ℕ × ℕ)) (olds : List ℕ) → length olds ≡ n → AllByRecursion (MovesMerged n) steps → ((p : ℕ) → p < n → HeldBetween before p (get_or olds p 0)) → (p : ℕ) → p < n → HeldBetween (before ++ all_first steps) p (get_or (moved_on steps olds) p 0)
+held_moved : (n : ℕ) (steps : List Step) (before : List (ℕ × ℕ)) (olds : List ℕ) → length olds ≡ n
+    → AllByRecursion (MovesMerged n) steps → ((p : ℕ) → p < n → HeldBetween before p (get_or olds p 0)) → (p : ℕ)
+    → p < n → HeldBetween (before ++ all_first steps) p (get_or (moved_on steps olds) p 0)
 held_moved n [] before olds e f h p l = held-front before [] p (get_or olds p 0) (h p l)
 held_moved n (step ∷ steps) before olds e f h p l =
     let P : ℕ → Type 0 = λ n. AllByRecursion (λ p. p < n) step.places in
@@ -217,29 +287,40 @@ held_moved n (step ∷ steps) before olds e f h p l =
     subst R (sym (get_or-pick 0 step.places olds within p (omega arith)))
     (held_over (before ++ step.merged_first) p (get_or step.places p 0) (get_or olds (get_or step.places p 0) 0)
     (held-rest before step.merged_first p (get_or step.places p 0) (f.0.inside p (omega arith)))
-    (held-front before step.merged_first (get_or step.places p 0) (get_or olds (get_or step.places p 0) 0) (h (get_or step.places p 0) (within_at n step.places f.0.fits.within p (omega arith))))))
+    (held-front before step.merged_first (get_or step.places p 0) (get_or olds (get_or step.places p 0) 0)
+    (h (get_or step.places p 0) (within_at n step.places f.0.fits.within p (omega arith))))))
     p l)
 
-held-old_places : (n : ℕ) (steps : List Step) → AllByRecursion (MovesMerged n) steps → (p : ℕ) → p < n → HeldBetween (all_first steps) p (get_or (old_places n steps) p 0)
+held-old_places : (n : ℕ) (steps : List Step) → AllByRecursion (MovesMerged n) steps → (p : ℕ) → p < n
+    → HeldBetween (all_first steps) p (get_or (old_places n steps) p 0)
 held-old_places n steps f p l = held_moved n steps [] (range_with_len 0 n) (length-range_with_len 0 n) f
-    (λ p l r x y. let e : get_or (range_with_len 0 n) p 0 ≡ p = get_or-range_with_len 0 n p 0 l ∙ omega arith in absurd (omega arith)) p l
+    (λ p l r x y. let e : get_or (range_with_len 0 n) p 0 ≡ p = get_or-range_with_len 0 n p 0 l
+    ∙ omega arith in absurd (omega arith)) p l
 
 -- the old places are as many as there are places, and are places
 pub within-old_places : (n : ℕ) (steps : List Step) → AllByRecursion (λ p. p < n) (old_places n steps)
-within-old_places n steps = kept (λ ps. AllByRecursion (λ p. p < n) ps) (λ ps step. pick step.places ps) (λ _. Unit {0}) (λ step ps _ h. within_picked n step.places ps h) steps (range_with_len 0 n) (any_steps steps) (within_range 0 n n (omega arith))
+within-old_places n steps = kept (λ ps. AllByRecursion (λ p. p < n) ps) (λ ps step. pick step.places ps) (λ _. Unit {0})
+    (λ step ps _ h. within_picked n step.places ps h) steps (range_with_len 0 n) (any_steps steps)
+    (within_range 0 n n (omega arith))
 
 pub length-old_places : (n : ℕ) (steps : List Step) → FitSteps n steps → length (old_places n steps) ≡ n
 length-old_places n steps f = kept (λ ps. length ps ≡ n) (λ ps step. pick step.places ps) (FitsStep n)
-    (λ step ps g e. let P : ℕ → Type 0 = λ n. AllByRecursion (λ p. p < n) step.places in length-pick step.places ps (subst P (sym e) g.within) ∙ g.as_many) steps (range_with_len 0 n) f (length-range_with_len 0 n)
+    (λ step ps g e. let P : ℕ
+    → Type 0 = λ n. AllByRecursion (λ p. p < n) step.places in length-pick step.places ps (subst P (sym e) g.within)
+    ∙ g.as_many) steps (range_with_len 0 n) f (length-range_with_len 0 n)
 
 -- the old places after more steps are those of the further steps, picked of those before
-pub moved_by_old_places : (n : ℕ) (steps : List Step) (places : List ℕ) → length places ≡ n → moved_on steps places ≡ pick (old_places n steps) places
+pub moved_by_old_places : (n : ℕ) (steps : List Step) (places : List ℕ) → length places ≡ n
+    → moved_on steps places ≡ pick (old_places n steps) places
 moved_by_old_places n steps places long =
-    followed_all (λ (xs s : List ℕ). s ≡ xs) (λ s step. pick step.places s) (λ _. Unit {0}) (λ step xs s _ e. ap (pick step.places) e) n places steps places long (any_steps steps) refl
+    followed_all (λ (xs s : List ℕ). s ≡ xs) (λ s step. pick step.places s) (λ _. Unit {0})
+    (λ step xs s _ e. ap (pick step.places) e) n places steps places long (any_steps steps) refl
 
-pub old_places_then : (n : ℕ) (steps more : List Step) → FitSteps n steps → old_places n (steps ++ more) ≡ pick (old_places n more) (old_places n steps)
+pub old_places_then : (n : ℕ) (steps more : List Step) → FitSteps n steps → old_places n (steps ++ more)
+    ≡ pick (old_places n more) (old_places n steps)
 old_places_then n steps more fits =
-    fold-append (λ places step. pick step.places places) (range_with_len 0 n) steps more ∙ moved_by_old_places n more (old_places n steps) (length-old_places n steps fits)
+    fold-append (λ places step. pick step.places places) (range_with_len 0 n) steps more
+    ∙ moved_by_old_places n more (old_places n steps) (length-old_places n steps fits)
 
 pub merged_fits : (n : ℕ) (steps : List Step) → AllByRecursion (MovesMerged n) steps → FitSteps n steps
 merged_fits n [] f = tt
@@ -249,31 +330,40 @@ pub end_within-append : (n : ℕ) (xs ys : List (ℕ × ℕ)) → EndWithin n xs
 end_within-append n [] ys h i = i
 end_within-append n (x ∷ xs) ys h i = (h.0, end_within-append n xs ys h.1 i)
 
-pub end_within-all_first : (n : ℕ) (steps : List Step) → AllByRecursion (MovesMerged n) steps → EndWithin n (all_first steps)
+pub end_within-all_first : (n : ℕ) (steps : List Step) → AllByRecursion (MovesMerged n) steps
+    → EndWithin n (all_first steps)
 end_within-all_first n [] f = tt
-end_within-all_first n (step ∷ steps) f = end_within-append n step.merged_first (all_first steps) f.0.fits.first_within (end_within-all_first n steps f.1)
+end_within-all_first n (step ∷ steps) f =
+    end_within-append n step.merged_first (all_first steps) f.0.fits.first_within (end_within-all_first n steps f.1)
 
 -- the cluster law: all places between a place and the old place of what stands there share one cluster
-pub share-moved : (level : BufferClusterLevel) → merges level ≡ true → (steps : List Step) (cs : List ℕ) → AllByRecursion (MovesMerged (length cs)) steps → (p : ℕ) → p < length cs → ShareCluster (joined_steps level steps cs) p (get_or (old_places (length cs) steps) p 0)
+pub share-moved : (level : BufferClusterLevel) → merges level ≡ true → (steps : List Step) (cs : List ℕ)
+    → AllByRecursion (MovesMerged (length cs)) steps → (p : ℕ) → p < length cs
+    → ShareCluster (joined_steps level steps cs) p (get_or (old_places (length cs) steps) p 0)
 share-moved level m steps cs f p l =
     let n = length cs in
     let P : List ℕ → Type 0 = λ js. ShareCluster js p (get_or (old_places (length cs) steps) p 0) in
     let k = length-old_places (length cs) steps (merged_fits (length cs) steps f) in
     subst P (sym (joined-merged_steps level m steps cs f))
-    (held_share level m (all_first steps) cs (end_within-all_first (length cs) steps f) p (get_or (old_places (length cs) steps) p 0) l
-    (within_at (length cs) (old_places (length cs) steps) (within-old_places (length cs) steps) p (omega arith)) (held-old_places (length cs) steps f p l))
+    (held_share level m (all_first steps) cs (end_within-all_first (length cs) steps f) p
+    (get_or (old_places (length cs) steps) p 0) l
+    (within_at (length cs) (old_places (length cs) steps) (within-old_places (length cs) steps) p (omega arith))
+    (held-old_places (length cs) steps f p l))
 
 -- what holds of all clusters still does
-pub all-joined : (P : ℕ → Type 0) (level : BufferClusterLevel) (sts : List (ℕ × ℕ)) (cs : List ℕ) → EndWithin (length cs) sts → All P cs → All P (joined_all level sts cs)
+pub all-joined : (P : ℕ → Type 0) (level : BufferClusterLevel) (sts : List (ℕ × ℕ)) (cs : List ℕ)
+    → EndWithin (length cs) sts → All P cs → All P (joined_all level sts cs)
 all-joined P level sts cs w h = All-from_get_or P (joined_all level sts cs) 0 (λ i l.
     let n = length-joined_all level sts cs w in
     let (q, ql, e, s) = joined_all-reached level sts cs w i (omega arith) in
     subst P (sym e) (h q 0 ql))
 
-pub all-picked : (P : ℕ → Type 0) (ps cs : List ℕ) → AllByRecursion (λ p. p < length cs) ps → All P cs → All P (pick ps cs)
+pub all-picked : (P : ℕ → Type 0) (ps cs : List ℕ) → AllByRecursion (λ p. p < length cs) ps → All P cs
+    → All P (pick ps cs)
 all-picked P ps cs w h = All-from_get_or P (pick ps cs) 0 (λ i l.
     let n = length-pick ps cs w in
-    subst P (sym (get_or-pick 0 ps cs w i (omega arith))) (h (get_or ps i 0) 0 (within_at (length cs) ps w i (omega arith))))
+    subst P (sym (get_or-pick 0 ps cs w i (omega arith)))
+    (h (get_or ps i 0) 0 (within_at (length cs) ps w i (omega arith))))
 
 -- a step of n places over as many clusters
 pub record Stepped (n : ℕ) (level : BufferClusterLevel) (step : Step) (cs : List ℕ) : Type 0 where
@@ -282,7 +372,8 @@ pub record Stepped (n : ℕ) (level : BufferClusterLevel) (step : Step) (cs : Li
   pub then_within : EndWithin (length (pick step.places (joined_all level step.merged_first cs))) step.merged_then
   pub as_many : length (joined_step level step cs) ≡ n
 
-pub stepped : (n : ℕ) (level : BufferClusterLevel) (step : Step) (cs : List ℕ) → length cs ≡ n → FitsStep n step → Stepped n level step cs
+pub stepped : (n : ℕ) (level : BufferClusterLevel) (step : Step) (cs : List ℕ) → length cs ≡ n → FitsStep n step
+    → Stepped n level step cs
 stepped n level step cs e f =
     let js = joined_all level step.merged_first cs in
     let E : ℕ → Type 0 = λ n. EndWithin n step.merged_first in
@@ -293,12 +384,24 @@ stepped n level step cs e f =
     let within = subst Q (sym jn) f.within in
     let k : length (pick step.places js) ≡ n = length-pick step.places js within ∙ f.as_many in
     let last = subst T (sym k) f.then_within in
-    record { first_within = first; within = within; then_within = last; as_many = length-joined_all level step.merged_then (pick step.places js) last ∙ k }
+    record {
+      first_within = first;
+      within = within;
+      then_within = last;
+      as_many = length-joined_all level
+          step.merged_then (pick step.places js) last ∙ k;
+    }
 
-pub all-joined_steps : (P : ℕ → Type 0) (level : BufferClusterLevel) (n : ℕ) (steps : List Step) (cs : List ℕ) → length cs ≡ n → FitSteps n steps → All P cs → (length (joined_steps level steps cs) ≡ n) × All P (joined_steps level steps cs)
-all-joined_steps P level n steps cs e f h = kept (λ cs. (length cs ≡ n) × All P cs) (λ cs step. joined_step level step cs) (FitsStep n)
+pub all-joined_steps : (P : ℕ → Type 0) (level : BufferClusterLevel) (n : ℕ) (steps : List Step) (cs : List ℕ)
+    → length cs ≡ n → FitSteps n steps → All P cs → (length (joined_steps level steps cs) ≡ n)
+    × All P (joined_steps level steps cs)
+all-joined_steps P level n steps cs e f h =
+    kept (λ cs. (length cs ≡ n) × All P cs) (λ cs step. joined_step level step cs) (FitsStep n)
     (λ step cs g h.
     let s = stepped n level step cs h.0 g in
-    let js = joined_all level step.merged_first cs in
-    (s.as_many, all-joined P level step.merged_then (pick step.places js) s.then_within (all-picked P step.places js s.within (all-joined P level step.merged_first cs s.first_within h.1))))
+    let js = joined_all level step.merged_first cs in (
+      s.as_many,
+      all-joined P level step.merged_then (pick step.places js) s.then_within
+          (all-picked P step.places js s.within (all-joined P level step.merged_first cs s.first_within h.1)),
+    ))
     steps cs f (e, h)

@@ -1,4 +1,5 @@
--- Where each glyph is a cluster of its own and clusters rise or fall, a call flags no place but those where it forbids a break.
+-- Where each glyph is a cluster of its own and clusters rise or fall, a call flags no place but
+-- those where it forbids a break.
 use Rattle.std.proofs.Common.{◌≡◌, ℕ, ◌+◌, ◌-◌, ◌<◌, ◌≤◌, ◌≢◌, Bool, true, false, cond, eqb, ltb, ◌&&◌, min, max, suc, List, [], ◌∷◌, ◌++◌, length, map, take, drop, get_or, refl, sym, ap, ◌∙◌, subst, arith, inl, inr, length-take, length-drop}
 use Rattle.std.specs.Int.Bits.{bit_or}
 use Rattle.std.specs.List.{AllByRecursion, AllPairs}
@@ -21,24 +22,32 @@ use Rattle.shapers_clusters.proofs.ClearPlaces.{held_by_calls, unsafe_bits, in-s
 pub none-unsafe : (g : hb_glyph_info_t) → is_unsafe g ≡ false → unsafe_bits g.mask ≡ 0
 none-unsafe g e =
     let both = or_parts (eqb (bit_at 0 g.mask) 1) (eqb (bit_at 2 g.mask) 1) e in
-    let x : bit_at 0 g.mask ≡ 0 = elim (cases_eq (bit_at 0 g.mask) 1) [ inl one ↦ absurd (eqb-false _ _ both.0 one) | inr n ↦ omega arith ] in
-    let y : bit_at 2 g.mask ≡ 0 = elim (cases_eq (bit_at 2 g.mask) 1) [ inl one ↦ absurd (eqb-false _ _ both.1 one) | inr n ↦ omega arith ] in
+    let x : bit_at 0 g.mask ≡ 0 = elim (cases_eq (bit_at 0 g.mask) 1)
+    [ inl one ↦ absurd (eqb-false _ _ both.0 one) | inr n ↦ omega arith ] in
+    let y : bit_at 2 g.mask ≡ 0 = elim (cases_eq (bit_at 2 g.mask) 1)
+    [ inl one ↦ absurd (eqb-false _ _ both.1 one) | inr n ↦ omega arith ] in
     omega (arith, x, y)
 
 pub unsafe-none : (g : hb_glyph_info_t) → unsafe_bits g.mask ≡ 0 → is_unsafe g ≡ false
-unsafe-none g e = or_from _ _ (ne_eqb (bit_at 0 g.mask) 1 (λ one. absurd (omega (arith, one, e)))) (ne_eqb (bit_at 2 g.mask) 1 (λ one. absurd (omega (arith, one, e))))
+unsafe-none g e =
+    or_from _ _ (ne_eqb (bit_at 0 g.mask) 1 (λ one. absurd (omega (arith, one, e))))
+    (ne_eqb (bit_at 2 g.mask) 1 (λ one. absurd (omega (arith, one, e))))
 
 -- a place outside a stretch
-before-stretch : (f : hb_glyph_info_t → hb_glyph_info_t) (s e k : ℕ) (gs : List hb_glyph_info_t) (d : hb_glyph_info_t) → k < s → k < length gs → get_or (with_stretch s e (map f) gs) k d ≡ get_or gs k d
+before-stretch : (f : hb_glyph_info_t → hb_glyph_info_t) (s e k : ℕ) (gs : List hb_glyph_info_t) (d : hb_glyph_info_t)
+    → k < s → k < length gs → get_or (with_stretch s e (map f) gs) k d ≡ get_or gs k d
 before-stretch f s e k gs d h within =
-    get_or_append_left (take s gs) (map f (stretch_of s e gs) ++ drop e gs) d k (omega (arith, length-take s gs)) ∙ get_or-take s gs k d h
+    get_or_append_left (take s gs) (map f (stretch_of s e gs) ++ drop e gs) d k (omega (arith, length-take s gs))
+    ∙ get_or-take s gs k d h
 
-behind-stretch : (f : hb_glyph_info_t → hb_glyph_info_t) (s e k : ℕ) (gs : List hb_glyph_info_t) (d : hb_glyph_info_t) → s ≤ e → e ≤ k → k < length gs → get_or (with_stretch s e (map f) gs) k d ≡ get_or gs k d
+behind-stretch : (f : hb_glyph_info_t → hb_glyph_info_t) (s e k : ℕ) (gs : List hb_glyph_info_t) (d : hb_glyph_info_t)
+    → s ≤ e → e ≤ k → k < length gs → get_or (with_stretch s e (map f) gs) k d ≡ get_or gs k d
 behind-stretch f s e k gs d order h within =
     let front = take s gs in
     let part = map f (stretch_of s e gs) in
     let a : length front ≡ s = length-take-le s gs (omega arith) in
-    let b : length part ≡ e - s = length-map (stretch_of s e gs) f ∙ length-take-le (e - s) (drop s gs) (omega (arith, length-drop s gs)) in
+    let b : length part ≡ e - s = length-map (stretch_of s e gs) f
+    ∙ length-take-le (e - s) (drop s gs) (omega (arith, length-drop s gs)) in
     let first : k ≡ length front + (k - s) = omega arith in
     let second : k - s ≡ length part + (k - e) = omega arith in
     let there : e + (k - e) ≡ k = omega arith in
@@ -50,21 +59,32 @@ behind-stretch f s e k gs d order h within =
     ∙ ap (λ i. get_or gs i d) there
 
 -- the clusters of a stretch
-cluster-at : (gs : List hb_glyph_info_t) (k : ℕ) (d : hb_glyph_info_t) → k < length gs → get_or (clusters gs) k 0 ≡ (get_or gs k d).cluster
+cluster-at : (gs : List hb_glyph_info_t) (k : ℕ) (d : hb_glyph_info_t) → k < length gs
+    → get_or (clusters gs) k 0 ≡ (get_or gs k d).cluster
 cluster-at gs k d h = get_or-map (λ (g : hb_glyph_info_t). g.cluster) gs k d 0 h
 
-length-part : (s e : ℕ) (gs : List hb_glyph_info_t) → length (clusters (stretch_of s e gs)) ≡ min (e - s) (length gs - s)
-length-part s e gs = omega (arith, length-map (stretch_of s e gs) (λ (g : hb_glyph_info_t). g.cluster), length-take (e - s) (drop s gs), length-drop s gs)
+length-part : (s e : ℕ) (gs : List hb_glyph_info_t) → length (clusters (stretch_of s e gs))
+    ≡ min (e - s) (length gs - s)
+length-part s e gs =
+    omega (
+      arith,
+      length-map (stretch_of s e gs) (λ (g : hb_glyph_info_t). g.cluster),
+      length-take (e - s) (drop s gs),
+      length-drop s gs,
+    )
 
-cluster-in : (s e k : ℕ) (gs : List hb_glyph_info_t) (d : hb_glyph_info_t) → k < length (clusters (stretch_of s e gs)) → get_or (clusters (stretch_of s e gs)) k 0 ≡ (get_or gs (s + k) d).cluster
+cluster-in : (s e k : ℕ) (gs : List hb_glyph_info_t) (d : hb_glyph_info_t) → k < length (clusters (stretch_of s e gs))
+    → get_or (clusters (stretch_of s e gs)) k 0 ≡ (get_or gs (s + k) d).cluster
 cluster-in s e k gs d inside =
     let part = stretch_of s e gs in
     let long = length-part s e gs in
-    get_or-map (λ (g : hb_glyph_info_t). g.cluster) part k d 0 (omega (arith, length-map part (λ (g : hb_glyph_info_t). g.cluster)))
+    get_or-map (λ (g : hb_glyph_info_t). g.cluster) part k d 0
+    (omega (arith, length-map part (λ (g : hb_glyph_info_t). g.cluster)))
     ∙ ap (λ (g : hb_glyph_info_t). g.cluster) (get_or-take (e - s) (drop s gs) k d (omega arith) ∙ get_or-drop s gs k d)
 
 -- where clusters rise the first glyph of a stretch has its least cluster, where they fall the last
-least-first : (s e : ℕ) (gs : List hb_glyph_info_t) (d : hb_glyph_info_t) → AllPairs (λ a b. a < b) (clusters gs) → s < e → s < length gs → least (clusters (stretch_of s e gs)) ≡ (get_or gs s d).cluster
+least-first : (s e : ℕ) (gs : List hb_glyph_info_t) (d : hb_glyph_info_t) → AllPairs (λ a b. a < b) (clusters gs)
+    → s < e → s < length gs → least (clusters (stretch_of s e gs)) ≡ (get_or gs s d).cluster
 least-first s e gs d rises h within =
     let cs = clusters (stretch_of s e gs) in
     let long = length-part s e gs in
@@ -72,14 +92,24 @@ least-first s e gs d rises h within =
     let (k, inside, is) = least-among cs some in
     let at_k = cluster-in s e k gs d inside in
     let none : s + 0 ≡ s = omega arith in
-    let at_s : get_or cs 0 0 ≡ (get_or gs s d).cluster = cluster-in s e 0 gs d some ∙ ap (λ i. (get_or gs i d).cluster) none in
+    let at_s : get_or cs 0 0 ≡ (get_or gs s d).cluster = cluster-in s e 0 gs d some
+    ∙ ap (λ i. (get_or gs i d).cluster) none in
     let low = least-le cs 0 some in
     elim (cases_lt 0 k) [
-      | inl more ↦ absurd (omega (arith, rises s (s + k) 0 (omega arith) (omega (arith, length-map gs (λ (g : hb_glyph_info_t). g.cluster))), cluster-at gs s d within, cluster-at gs (s + k) d (omega arith)))
+      | inl more ↦ absurd
+          (omega (
+            arith,
+            rises s (s + k) 0 (omega arith)
+                (omega (arith, length-map gs (λ (g : hb_glyph_info_t). g.cluster))),
+            cluster-at gs s d within,
+            cluster-at gs
+                (s + k) d (omega arith),
+          ))
       | inr first ↦ let z : k ≡ 0 = omega arith in sym (sym at_s ∙ ap (λ i. get_or cs i 0) (sym z) ∙ is)
     ]
 
-least-last : (s e : ℕ) (gs : List hb_glyph_info_t) (d : hb_glyph_info_t) → AllPairs (λ a b. b < a) (clusters gs) → s < e → e ≤ length gs → least (clusters (stretch_of s e gs)) ≡ (get_or gs (e - 1) d).cluster
+least-last : (s e : ℕ) (gs : List hb_glyph_info_t) (d : hb_glyph_info_t) → AllPairs (λ a b. b < a) (clusters gs) → s < e
+    → e ≤ length gs → least (clusters (stretch_of s e gs)) ≡ (get_or gs (e - 1) d).cluster
 least-last s e gs d falls h within =
     let cs = clusters (stretch_of s e gs) in
     let long = length-part s e gs in
@@ -89,10 +119,18 @@ least-last s e gs d falls h within =
     let (k, inside, is) = least-among cs some in
     let at_k = cluster-in s e k gs d inside in
     let there : s + n ≡ e - 1 = omega arith in
-    let at_n : get_or cs n 0 ≡ (get_or gs (e - 1) d).cluster = cluster-in s e n gs d last_in ∙ ap (λ i. (get_or gs i d).cluster) there in
+    let at_n : get_or cs n 0 ≡ (get_or gs (e - 1) d).cluster = cluster-in s e n gs d last_in
+    ∙ ap (λ i. (get_or gs i d).cluster) there in
     let low = least-le cs n last_in in
     elim (cases_lt k n) [
-      | inl less ↦ absurd (omega (arith, falls (s + k) (e - 1) 0 (omega arith) (omega (arith, length-map gs (λ (g : hb_glyph_info_t). g.cluster))), cluster-at gs (e - 1) d (omega arith), cluster-at gs (s + k) d (omega arith)))
+      | inl less ↦ absurd
+          (omega (
+            arith,
+            falls (s + k) (e - 1) 0 (omega arith)
+                (omega (arith, length-map gs (λ (g : hb_glyph_info_t). g.cluster))),
+            cluster-at gs (e - 1) d (omega arith),
+            cluster-at gs (s + k) d (omega arith),
+          ))
       | inr last ↦ let z : k ≡ n = omega arith in sym (sym at_n ∙ ap (λ i. get_or cs i 0) (sym z) ∙ is)
     ]
 
@@ -108,21 +146,27 @@ off-least bits m g e = ap (λ b. let r : hb_glyph_info_t = cond b g (with_bits b
 not-both : (s e p : ℕ) → (ltb s p && ltb p e) ≡ false → s < p → p < e → ⊥
 not-both s e p free low high = both_ways _ free (and_from (ltb s p) (ltb p e) (lt-ltb s p low) (lt-ltb p e high))
 
-has-least : (s e p k : ℕ) (gs : List hb_glyph_info_t) (d : hb_glyph_info_t) → s ≤ k → k < e → 0 < p → p < length gs → Tops p k (clusters gs) → (ltb s p && ltb p e) ≡ false → least (clusters (stretch_of s e gs)) ≡ (get_or gs k d).cluster
+has-least : (s e p k : ℕ) (gs : List hb_glyph_info_t) (d : hb_glyph_info_t) → s ≤ k → k < e → 0 < p → p < length gs
+    → Tops p k (clusters gs) → (ltb s p && ltb p e) ≡ false → least (clusters (stretch_of s e gs))
+    ≡ (get_or gs k d).cluster
 has-least s e p k gs d from inner pos within (rising rises at) free = elim (cases_lt s p) [
   | inl more ↦ absurd (not-both s e p free more (omega arith))
-  | inr here ↦ let is : s ≡ k = omega arith in least-first s e gs d rises (omega arith) (omega arith) ∙ ap (λ i. (get_or gs i d).cluster) is
+  | inr here ↦ let is : s ≡ k = omega arith in least-first s e gs d rises (omega arith) (omega arith)
+      ∙ ap (λ i. (get_or gs i d).cluster) is
 ]
 has-least s e p k gs d from inner pos within (falling falls at) free = elim (cases_lt p e) [
   | inl more ↦ absurd (not-both s e p free (omega arith) more)
-  | inr here ↦ let is : e - 1 ≡ k = omega arith in least-last s e gs d falls (omega arith) (omega arith) ∙ ap (λ i. (get_or gs i d).cluster) is
+  | inr here ↦ let is : e - 1 ≡ k = omega arith in least-last s e gs d falls (omega arith) (omega arith)
+      ∙ ap (λ i. (get_or gs i d).cluster) is
 ]
 
 top-within : (p k : ℕ) (gs : List hb_glyph_info_t) → p < length gs → Tops p k (clusters gs) → k < length gs
 top-within p k gs within (rising rises at) = omega arith
 top-within p k gs within (falling falls at) = omega arith
 
-break-spares : (bits s e p k : ℕ) (gs : List hb_glyph_info_t) (d : hb_glyph_info_t) → s ≤ e → Tops p k (clusters gs) → 0 < p → p < length gs → (ltb s p && ltb p e) ≡ false → get_or (with_stretch s e (flagged bits) gs) k d ≡ get_or gs k d
+break-spares : (bits s e p k : ℕ) (gs : List hb_glyph_info_t) (d : hb_glyph_info_t) → s ≤ e → Tops p k (clusters gs)
+    → 0 < p → p < length gs → (ltb s p && ltb p e) ≡ false → get_or (with_stretch s e (flagged bits) gs) k d
+    ≡ get_or gs k d
 break-spares bits s e p k gs d order top pos within free =
     let m = least (clusters (stretch_of s e gs)) in
     let k_in = top-within p k gs within top in
@@ -142,7 +186,8 @@ bit-two mask =
     let zero : bit_at 2 2 ≡ 0 = refl in
     omega (arith, bit_at_or mask 2 0, bit_at_or mask 2 2, none, zero)
 
-concat-spares : (asked : Bool) (s e p : ℕ) (gs : List hb_glyph_info_t) (d : hb_glyph_info_t) → s ≤ e → p < length gs → unsafe_bits (get_or (unsafe_to_concat_in asked s e gs) p d).mask ≡ unsafe_bits (get_or gs p d).mask
+concat-spares : (asked : Bool) (s e p : ℕ) (gs : List hb_glyph_info_t) (d : hb_glyph_info_t) → s ≤ e → p < length gs
+    → unsafe_bits (get_or (unsafe_to_concat_in asked s e gs) p d).mask ≡ unsafe_bits (get_or gs p d).mask
 concat-spares false s e p gs d order within = refl
 concat-spares true s e p gs d order within =
     let bit = λ (g : hb_glyph_info_t). unsafe_bits g.mask in
@@ -154,12 +199,21 @@ concat-spares true s e p gs d order within =
       ]
     ]
 
-call-spares : (concat tatweel : Bool) (call : FlagCall) (p k : ℕ) (gs : List hb_glyph_info_t) (d : hb_glyph_info_t) → InOrder call → Tops p k (clusters gs) → 0 < p → p < length gs → forbids p call ≡ false → unsafe_bits (get_or (flag_called concat tatweel call gs) k d).mask ≡ unsafe_bits (get_or gs k d).mask
-call-spares concat tatweel (UnsafeToBreak s e) p k gs d order top pos within free = ap (λ (g : hb_glyph_info_t). unsafe_bits g.mask) (break-spares 3 s e p k gs d order top pos within free)
-call-spares concat tatweel (UnsafeToConcat s e) p k gs d order top pos within free = concat-spares concat s e k gs d order (top-within p k gs within top)
-call-spares concat tatweel (SafeToInsertTatweel s e) p k gs d order top pos within free = ap (λ (g : hb_glyph_info_t). unsafe_bits g.mask) (break-spares (cond tatweel 4 3) s e p k gs d order top pos within free)
+call-spares : (concat tatweel : Bool) (call : FlagCall) (p k : ℕ) (gs : List hb_glyph_info_t) (d : hb_glyph_info_t)
+    → InOrder call → Tops p k (clusters gs) → 0 < p → p < length gs → forbids p call ≡ false
+    → unsafe_bits (get_or (flag_called concat tatweel call gs) k d).mask ≡ unsafe_bits (get_or gs k d).mask
+call-spares concat tatweel (UnsafeToBreak s e) p k gs d order top pos within free =
+    ap (λ (g : hb_glyph_info_t). unsafe_bits g.mask) (break-spares 3 s e p k gs d order top pos within free)
+call-spares concat tatweel (UnsafeToConcat s e) p k gs d order top pos within free =
+    concat-spares concat s e k gs d order (top-within p k gs within top)
+call-spares concat tatweel (SafeToInsertTatweel s e) p k gs d order top pos within free =
+    ap (λ (g : hb_glyph_info_t). unsafe_bits g.mask)
+    (break-spares (cond tatweel 4 3) s e p k gs d order top pos within free)
 
-calls-spare : (concat tatweel : Bool) (calls : List FlagCall) (p k : ℕ) (gs : List hb_glyph_info_t) (d : hb_glyph_info_t) → AllByRecursion InOrder calls → Tops p k (clusters gs) → 0 < p → p < length gs → IsFree calls p → unsafe_bits (get_or (flags_called concat tatweel calls gs) k d).mask ≡ unsafe_bits (get_or gs k d).mask
+calls-spare : (concat tatweel : Bool) (calls : List FlagCall) (p k : ℕ) (gs : List hb_glyph_info_t)
+    (d : hb_glyph_info_t) → AllByRecursion InOrder calls → Tops p k (clusters gs) → 0 < p → p < length gs
+    → IsFree calls p → unsafe_bits (get_or (flags_called concat tatweel calls gs) k d).mask
+    ≡ unsafe_bits (get_or gs k d).mask
 calls-spare concat tatweel [] p k gs d all top pos within free = refl
 calls-spare concat tatweel (call ∷ calls) p k gs d all top pos within free =
     let once = flag_called concat tatweel call gs in
@@ -170,7 +224,8 @@ calls-spare concat tatweel (call ∷ calls) p k gs d all top pos within free =
     calls-spare concat tatweel calls p k once d all.1 (subst P (sym same) top) pos (omega arith) both.1
     ∙ call-spares concat tatweel call p k gs d all.0 top pos within both.0
 
-apart : (k p : ℕ) (cs : List ℕ) → IsStrictlyMonotone cs → k < length cs → p < length cs → k ≢ p → get_or cs k 0 ≡ get_or cs p 0 → ⊥
+apart : (k p : ℕ) (cs : List ℕ) → IsStrictlyMonotone cs → k < length cs → p < length cs → k ≢ p
+    → get_or cs k 0 ≡ get_or cs p 0 → ⊥
 apart k p cs (inl rises) h i n e = elim (cases_order k p) [
   | inl same ↦ n same
   | inr (inl less) ↦ absurd (omega (arith, rises k p 0 less i))
@@ -183,7 +238,11 @@ apart k p cs (inr falls) h i n e = elim (cases_order k p) [
 ]
 
 -- so a free place is clear: the place with the greater cluster has no flag, and no other has that cluster
-clear-at : (concat tatweel : Bool) (calls : List FlagCall) (gs : List hb_glyph_info_t) (p k : ℕ) → AllByRecursion InOrder calls → IsStrictlyMonotone (clusters gs) → AllByRecursion (λ g. is_unsafe g ≡ false) gs → 0 < p → p < length gs → IsFree calls p → Tops p k (clusters gs) → max (get_or (clusters gs) (p - 1) 0) (get_or (clusters gs) p 0) ≡ get_or (clusters gs) k 0 → IsClear (flags_called concat tatweel calls gs) p
+clear-at : (concat tatweel : Bool) (calls : List FlagCall) (gs : List hb_glyph_info_t) (p k : ℕ)
+    → AllByRecursion InOrder calls → IsStrictlyMonotone (clusters gs) → AllByRecursion (λ g. is_unsafe g ≡ false) gs
+    → 0 < p → p < length gs → IsFree calls p → Tops p k (clusters gs)
+    → max (get_or (clusters gs) (p - 1) 0) (get_or (clusters gs) p 0) ≡ get_or (clusters gs) k 0
+    → IsClear (flags_called concat tatweel calls gs) p
 clear-at concat tatweel calls gs p top all one_way unflagged pos within free tops greatest =
     let new = flags_called concat tatweel calls gs in
     let same = (flags_called-alone concat tatweel calls gs all).same_clusters in
@@ -192,18 +251,32 @@ clear-at concat tatweel calls gs p top all one_way unflagged pos within free top
     let many : length cs ≡ length gs = length-map gs (λ (g : hb_glyph_info_t). g.cluster) in
     let top_in = top-within p top gs within tops in
     let P : List ℕ → Type 0 = λ xs. get_or xs (p - 1) 0 ≢ get_or xs p 0 in
-    let is_top : greater new p ≡ get_or cs top 0 = ap (λ xs. max (get_or xs (p - 1) 0) (get_or xs p 0)) same ∙ greatest in
+    let is_top : greater new p ≡ get_or cs top 0 = ap (λ xs. max (get_or xs (p - 1) 0) (get_or xs p 0)) same
+    ∙ greatest in
     let test = λ (g : hb_glyph_info_t). eqb g.cluster (greater new p) && is_unsafe g in
     let Q : hb_glyph_info_t → Type 0 = λ g. test g ≡ false in
     let R : hb_glyph_info_t → Type 0 = λ g. is_unsafe g ≡ false in
-    let bit : unsafe_bits (get_or new top default_glyph).mask ≡ 0 = calls-spare concat tatweel calls p top gs default_glyph all tops pos within free ∙ none-unsafe (get_or gs top default_glyph) (All-get_or R gs top default_glyph top_in (All-from_recursion R gs unflagged)) in
+    let bit : unsafe_bits (get_or new top default_glyph).mask ≡ 0 =
+    calls-spare concat tatweel calls p top gs default_glyph all tops pos within free
+    ∙ none-unsafe (get_or gs top default_glyph)
+    (All-get_or R gs top default_glyph top_in (All-from_recursion R gs unflagged)) in
     let each : (k : ℕ) → k < length new → Q (get_or new k default_glyph) = λ k inside.
-    let own : (get_or new k default_glyph).cluster ≡ get_or cs k 0 = sym (get_or-map (λ (g : hb_glyph_info_t). g.cluster) new k default_glyph 0 inside) ∙ ap (λ xs. get_or xs k 0) same in
+    let own : (get_or new k default_glyph).cluster ≡ get_or cs k 0 =
+    sym (get_or-map (λ (g : hb_glyph_info_t). g.cluster) new k default_glyph 0 inside)
+    ∙ ap (λ xs. get_or xs k 0) same in
     elim (cases_eq k top) [
-      | inl e ↦ and_right _ _ (unsafe-none (get_or new k default_glyph) (ap (λ i. unsafe_bits (get_or new i default_glyph).mask) e ∙ bit))
-      | inr n ↦ and_left _ _ (ne_eqb (get_or new k default_glyph).cluster (greater new p) (λ e. apart k top cs one_way (omega arith) (omega arith) n (sym own ∙ e ∙ is_top)))
+      | inl e ↦ and_right _ _
+          (unsafe-none (get_or new k default_glyph) (ap (λ i. unsafe_bits (get_or new i default_glyph).mask) e ∙ bit))
+      | inr n ↦ and_left _ _
+          (ne_eqb (get_or new k default_glyph).cluster (greater new p)
+          (λ e. apart k top cs one_way (omega arith) (omega arith) n (sym own ∙ e ∙ is_top)))
     ] in
-    record { differ = subst P (sym same) (λ e. apart (p - 1) p cs one_way (omega arith) (omega arith) (λ f. absurd (omega arith)) e); unflagged = list_any_none test new (All-from_get_or Q new default_glyph each) }
+    record {
+      differ = subst P (sym same)
+          (λ e. apart (p - 1) p cs one_way (omega arith) (omega arith) (λ f. absurd (omega arith)) e);
+      unflagged =
+          list_any_none test new (All-from_get_or Q new default_glyph each);
+    }
 
 pub needless : NeedlessLaw
 needless concat tatweel calls gs p all (inl rises) unflagged pos within free =
@@ -213,4 +286,5 @@ needless concat tatweel calls gs p all (inl rises) unflagged pos within free =
 needless concat tatweel calls gs p all (inr falls) unflagged pos within free =
     let many : length (clusters gs) ≡ length gs = length-map gs (λ (g : hb_glyph_info_t). g.cluster) in
     let less = falls (p - 1) p 0 (omega arith) (omega arith) in
-    clear-at concat tatweel calls gs p (p - 1) all (inr falls) unflagged pos within free (falling falls (omega arith)) (omega arith)
+    clear-at concat tatweel calls gs p (p - 1) all (inr falls) unflagged pos within free (falling falls (omega arith))
+    (omega arith)

@@ -15,34 +15,45 @@ use Rattle.shapers_clusters.proofs.Picks.{pick-within, nothing_picked, some_elem
 use Rattle.shapers_clusters.proofs.Moves.{order_view-run_steps, within-old_places}
 use Rattle.shapers_clusters.proofs.Widened.{range-three}
 
-pick-read : {X : Type 0} (d : X) (ps : List ℕ) (xs : List X) → AllByRecursion (λ p. p < length xs) ps → pick ps xs ≡ map (λ p. get_or xs p d) ps
+pick-read : {X : Type 0} (d : X) (ps : List ℕ) (xs : List X) → AllByRecursion (λ p. p < length xs) ps
+    → pick ps xs ≡ map (λ p. get_or xs p d) ps
 pick-read d [] xs h = refl
 pick-read d (p ∷ ps) xs h = pick-within d p ps xs h.0 ∙ ap (λ ys. get_or xs p d ∷ ys) (pick-read d ps xs h.1)
 
 -- what is picked at the same places in another order
-pub pick-permuted : {X : Type 0} (ps qs : List ℕ) (xs : List X) → AllByRecursion (λ p. p < length xs) ps → AllByRecursion (λ p. p < length xs) qs → IsPermutation ps qs → IsPermutation (pick ps xs) (pick qs xs)
+pub pick-permuted : {X : Type 0} (ps qs : List ℕ) (xs : List X) → AllByRecursion (λ p. p < length xs) ps
+    → AllByRecursion (λ p. p < length xs) qs → IsPermutation ps qs → IsPermutation (pick ps xs) (pick qs xs)
 pick-permuted ps qs xs v w h = elim (some_element xs) [
-  | inl e ↦ subst (IsPermutation (pick ps xs)) (nothing_picked ps xs e ∙ sym (nothing_picked qs xs e)) (IsPermutation-refl (pick ps xs))
-  | inr d ↦ subst (IsPermutation (pick ps xs)) (sym (pick-read d qs xs w)) (subst (λ ys. IsPermutation ys (map (λ p. get_or xs p d) qs)) (sym (pick-read d ps xs v)) (IsPermutation-map (λ p. get_or xs p d) ps qs h))
+  | inl e ↦ subst (IsPermutation (pick ps xs)) (nothing_picked ps xs e ∙ sym (nothing_picked qs xs e))
+      (IsPermutation-refl (pick ps xs))
+  | inr d ↦ subst (IsPermutation (pick ps xs)) (sym (pick-read d qs xs w))
+      (subst (λ ys. IsPermutation ys (map (λ p. get_or xs p d) qs)) (sym (pick-read d ps xs v))
+      (IsPermutation-map (λ p. get_or xs p d) ps qs h))
 ]
 
 -- a list picked at each of its places once, in some order
-pub picked-permuted : {X : Type 0} (n : ℕ) (ps : List ℕ) (xs : List X) → length xs ≡ n → AllByRecursion (λ p. p < length xs) ps → IsPermutation (range_with_len 0 n) ps → IsPermutation xs (pick ps xs)
+pub picked-permuted : {X : Type 0} (n : ℕ) (ps : List ℕ) (xs : List X) → length xs ≡ n
+    → AllByRecursion (λ p. p < length xs) ps → IsPermutation (range_with_len 0 n) ps → IsPermutation xs (pick ps xs)
 picked-permuted n ps xs long within order =
-    subst (λ ys. IsPermutation ys (pick ps xs)) (pick-all n xs long) (pick-permuted (range_with_len 0 n) ps xs (within_range 0 n (length xs) (omega arith)) within order)
+    subst (λ ys. IsPermutation ys (pick ps xs)) (pick-all n xs long)
+    (pick-permuted (range_with_len 0 n) ps xs (within_range 0 n (length xs) (omega arith)) within order)
 
 -- the places after the steps
-pub moved-permuted : (n : ℕ) (steps : List Step) (olds : List ℕ) → length olds ≡ n → FitSteps n steps → AllByRecursion (Permutes n) steps → IsPermutation olds (moved_on steps olds)
+pub moved-permuted : (n : ℕ) (steps : List Step) (olds : List ℕ) → length olds ≡ n → FitSteps n steps
+    → AllByRecursion (Permutes n) steps → IsPermutation olds (moved_on steps olds)
 moved-permuted n [] olds e f h = IsPermutation-refl olds
 moved-permuted n (step ∷ steps) olds e f h =
     let P : ℕ → Type 0 = λ k. AllByRecursion (λ p. p < k) step.places in
     let v = subst P (sym e) f.0.within in
     let next = pick step.places olds in
     let one : IsPermutation olds next = picked-permuted n step.places olds e v h.0 in
-    IsPermutation-trans olds next (moved_on steps next) one (moved-permuted n steps next (length-pick step.places olds v ∙ f.0.as_many) f.1 h.1)
+    IsPermutation-trans olds next (moved_on steps next) one
+    (moved-permuted n steps next (length-pick step.places olds v ∙ f.0.as_many) f.1 h.1)
 
 -- the order view after the steps
-pub order_view-permuted : (level : BufferClusterLevel) (steps : List Step) (gs : List hb_glyph_info_t) → FitSteps (length gs) steps → AllByRecursion (Permutes (length gs)) steps → IsPermutation (order_view gs) (order_view (run_steps level steps gs))
+pub order_view-permuted : (level : BufferClusterLevel) (steps : List Step) (gs : List hb_glyph_info_t)
+    → FitSteps (length gs) steps → AllByRecursion (Permutes (length gs)) steps
+    → IsPermutation (order_view gs) (order_view (run_steps level steps gs))
 order_view-permuted level steps gs f h =
     let n = length gs in
     let view = order_view gs in
@@ -50,22 +61,30 @@ order_view-permuted level steps gs f h =
     let P : ℕ → Type 0 = λ k. AllByRecursion (λ p. p < k) (old_places n steps) in
     let old = subst P (sym long) (within-old_places n steps) in
     let places = moved-permuted n steps (range_with_len 0 n) (length-range_with_len 0 n) f h in
-    subst (IsPermutation view) (sym (order_view-run_steps level steps gs)) (picked-permuted n (old_places n steps) view long old places)
+    subst (IsPermutation view) (sym (order_view-run_steps level steps gs))
+    (picked-permuted n (old_places n steps) view long old places)
 
 -- widened steps, and the smallest
-pub permutes-widened : (s e n : ℕ) (step : Step) → s ≤ e → e ≤ n → Permutes (e - s) step → Permutes n (widened s e n step)
+pub permutes-widened : (s e n : ℕ) (step : Step) → s ≤ e → e ≤ n → Permutes (e - s) step
+    → Permutes n (widened s e n step)
 permutes-widened s e n step h l f =
     let rest = range_with_len e (n - e) in
     let middle = map (λ p. s + p) (range_with_len 0 (e - s)) in
     let moved = map (λ p. s + p) step.places in
     subst (λ ps. IsPermutation ps (range_with_len 0 s ++ (moved ++ rest))) (sym (range-three s e n h l))
-    (IsPermutation-append_right (range_with_len 0 s) (middle ++ rest) (moved ++ rest) (IsPermutation-append_left rest middle moved (IsPermutation-map (λ p. s + p) (range_with_len 0 (e - s)) step.places f)))
+    (IsPermutation-append_right (range_with_len 0 s) (middle ++ rest) (moved ++ rest)
+    (IsPermutation-append_left rest middle moved
+    (IsPermutation-map (λ p. s + p) (range_with_len 0 (e - s)) step.places f)))
 
-pub all_permute-widened : (s e n : ℕ) (steps : List Step) → s ≤ e → e ≤ n → AllByRecursion (Permutes (e - s)) steps → AllByRecursion (Permutes n) (map (widened s e n) steps)
-all_permute-widened s e n steps h l f = all-mapped (Permutes (e - s)) (Permutes n) (widened s e n) steps (λ step g. permutes-widened s e n step h l g) f
+pub all_permute-widened : (s e n : ℕ) (steps : List Step) → s ≤ e → e ≤ n → AllByRecursion (Permutes (e - s)) steps
+    → AllByRecursion (Permutes n) (map (widened s e n) steps)
+all_permute-widened s e n steps h l f =
+    all-mapped (Permutes (e - s)) (Permutes n) (widened s e n) steps (λ step g. permutes-widened s e n step h l g) f
 
 pub still_permutes : (n : ℕ) → Permutes n (still_step n)
 still_permutes n = IsPermutation-refl (range_with_len 0 n)
 
 pub swap_permutes : (n i : ℕ) → i + 1 < n → Permutes n (swap_step n i)
-swap_permutes n i h = let k = length-range_with_len 0 n in IsPermutation-swap (range_with_len 0 n) (swap_step n i).places i (i + 1) (omega arith) (omega arith) refl
+swap_permutes n i h = let k =
+    length-range_with_len 0 n in IsPermutation-swap (range_with_len 0 n) (swap_step n i).places i (i + 1) (omega arith)
+    (omega arith) refl

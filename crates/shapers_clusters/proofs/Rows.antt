@@ -31,8 +31,10 @@ row_unmerged = refl
 row_falling : joined_all MonotoneGraphemes ((0, 2) ∷ (1, 3) ∷ []) (4 ∷ 3 ∷ 2 ∷ 1 ∷ []) ≡ 2 ∷ 2 ∷ 2 ∷ 1 ∷ []
 row_falling = refl
 
--- a glyph made out of the last of a merged stretch goes before the others; one that is dropped leaves its cluster to the rest
-row_made : pick (0 ∷ 2 ∷ 1 ∷ 2 ∷ 3 ∷ []) (joined_all MonotoneGraphemes ((1, 3) ∷ []) (0 ∷ 1 ∷ 2 ∷ 3 ∷ [])) ≡ 0 ∷ 1 ∷ 1 ∷ 1 ∷ 3 ∷ []
+-- a glyph made out of the last of a merged stretch goes before the others; one that is dropped
+-- leaves its cluster to the rest
+row_made : pick (0 ∷ 2 ∷ 1 ∷ 2 ∷ 3 ∷ []) (joined_all MonotoneGraphemes ((1, 3) ∷ []) (0 ∷ 1 ∷ 2 ∷ 3 ∷ []))
+    ≡ 0 ∷ 1 ∷ 1 ∷ 1 ∷ 3 ∷ []
 row_made = refl
 
 row_dropped : pick (0 ∷ 2 ∷ 3 ∷ []) (joined_all MonotoneGraphemes ((1, 3) ∷ []) (0 ∷ 1 ∷ 2 ∷ 3 ∷ [])) ≡ 0 ∷ 1 ∷ 3 ∷ []
@@ -42,7 +44,8 @@ row_dropped = refl
 swap_two : Step
 swap_two = record { merged_first = (0, 2) ∷ []; places = 1 ∷ 0 ∷ []; merged_then = [] }
 
-row_swapped : joined_steps MonotoneGraphemes (widened 1 3 6 swap_two ∷ []) (0 ∷ 1 ∷ 2 ∷ 3 ∷ 4 ∷ 5 ∷ []) ≡ 0 ∷ 1 ∷ 1 ∷ 3 ∷ 4 ∷ 5 ∷ []
+row_swapped : joined_steps MonotoneGraphemes (widened 1 3 6 swap_two ∷ []) (0 ∷ 1 ∷ 2 ∷ 3 ∷ 4 ∷ 5 ∷ []) ≡ 0 ∷ 1 ∷ 1 ∷ 3
+    ∷ 4 ∷ 5 ∷ []
 unfolding swap_two
 row_swapped = refl
 
@@ -50,12 +53,15 @@ row_old_places : old_places 6 (widened 1 3 6 swap_two ∷ []) ≡ 0 ∷ 2 ∷ 1 
 unfolding swap_two
 row_old_places = refl
 
-row_unmerged_moves : joined_steps Characters (widened 1 3 6 swap_two ∷ []) (0 ∷ 1 ∷ 2 ∷ 3 ∷ 4 ∷ 5 ∷ []) ≡ 0 ∷ 2 ∷ 1 ∷ 3 ∷ 4 ∷ 5 ∷ []
+row_unmerged_moves : joined_steps Characters (widened 1 3 6 swap_two ∷ []) (0 ∷ 1 ∷ 2 ∷ 3 ∷ 4 ∷ 5 ∷ []) ≡ 0 ∷ 2 ∷ 1 ∷ 3
+    ∷ 4 ∷ 5 ∷ []
 unfolding swap_two
 row_unmerged_moves = refl
 
 -- a move merged only afterwards can leave falling clusters that no old block had: here 3 comes before 2
-row_late : joined_steps MonotoneGraphemes (record { merged_first = []; places = 1 ∷ 0 ∷ 2 ∷ []; merged_then = (0, 1) ∷ [] } ∷ []) (5 ∷ 4 ∷ 3 ∷ []) ≡ 4 ∷ 5 ∷ 3 ∷ []
+row_late : joined_steps MonotoneGraphemes
+    (record { merged_first = []; places = 1 ∷ 0 ∷ 2 ∷ []; merged_then = (0, 1) ∷ [] } ∷ []) (5 ∷ 4 ∷ 3 ∷ [])
+    ≡ 4 ∷ 5 ∷ 3 ∷ []
 row_late = refl
 
 -- stretches hold the neighbours inside them, not those at their borders; equal clusters link neighbours too
@@ -79,7 +85,8 @@ row_swap = refl
 row_shifted : shifted 2 ((0, 1) ∷ (3, 5) ∷ []) ≡ (2, 3) ∷ (5, 7) ∷ []
 row_shifted = refl
 
-row_along : steps_along 5 0 ((1, []) ∷ (2, swap_two ∷ []) ∷ []) ≡ record { merged_first = (1, 3) ∷ []; places = 0 ∷ 2 ∷ 1 ∷ 3 ∷ 4 ∷ []; merged_then = [] } ∷ []
+row_along : steps_along 5 0 ((1, []) ∷ (2, swap_two ∷ []) ∷ [])
+    ≡ record { merged_first = (1, 3) ∷ []; places = 0 ∷ 2 ∷ 1 ∷ 3 ∷ 4 ∷ []; merged_then = [] } ∷ []
 unfolding swap_two
 row_along = refl
 
@@ -90,16 +97,24 @@ row_reordered = refl
 row_first : all_first (swap_step 4 1 ∷ still_step 4 ∷ swap_step 4 0 ∷ []) ≡ (1, 3) ∷ (0, 2) ∷ []
 row_first = refl
 
-row_merged : all_merged (swap_step 4 1 ∷ record { merged_first = (2, 4) ∷ []; places = 0 ∷ 1 ∷ 3 ∷ 2 ∷ []; merged_then = (0, 2) ∷ (1, 3) ∷ [] } ∷ still_step 4 ∷ []) ≡ (1, 3) ∷ (2, 4) ∷ (0, 2) ∷ (1, 3) ∷ []
+row_merged : all_merged
+    (swap_step 4 1 ∷ record {
+      merged_first = (2, 4) ∷ [];
+      places = 0 ∷ 1 ∷ 3 ∷ 2 ∷ [];
+      merged_then = (0, 2) ∷ (1, 3)
+          ∷ [];
+    } ∷ still_step 4 ∷ []) ≡ (1, 3) ∷ (2, 4) ∷ (0, 2) ∷ (1, 3) ∷ []
 row_merged = refl
 
 -- bits of a mask, from the lowest on
 row_bits : map (λ k. bit_at k 13) (0 ∷ 1 ∷ 2 ∷ 3 ∷ 4 ∷ []) ≡ 1 ∷ 0 ∷ 1 ∷ 1 ∷ 0 ∷ []
 row_bits = refl
 
--- what shows, through a view that hides masks and categories, of a glyph's number and class, but neither cluster nor glyph flags
+-- what shows, through a view that hides masks and categories, of a glyph's number and class, but
+-- neither cluster nor glyph flags
 a_glyph : ℕ → ℕ → ℕ → hb_glyph_info_t
-a_glyph c m k = record default_glyph { glyph_id = 65; cluster = c; mask = m; category = k; modified_combining_class = 7 }
+a_glyph c m k =
+    record default_glyph { glyph_id = 65; cluster = c; mask = m; category = k; modified_combining_class = 7 }
 
 row_seen : seen (λ g. record g { mask = g.mask % 8; category = 0 }) (a_glyph 4 255 3 ∷ []) ≡ a_glyph 0 0 0 ∷ []
 unfolding a_glyph
@@ -122,7 +137,8 @@ masks_hidden = record {
 classes_hidden : HidesFields (λ g. record g { modified_combining_class = 0 })
 classes_hidden = record {
   shows = record { cluster = λ g. refl; flags = λ g. refl };
-  apart = λ g. ap (λ (m : ℕ). record g { cluster = 0; mask = m; modified_combining_class = 0 }) (without_flags-twice g.mask);
+  apart = λ g. ap (λ (m : ℕ). record g { cluster = 0; mask = m; modified_combining_class = 0 })
+      (without_flags-twice g.mask);
 }
 
 -- a hook that merges and swaps the places i + 1 and i + 2 of n: all laws of merged steps hold of it

@@ -16,27 +16,36 @@ use Rattle.shapers_clusters.proofs.Falls.{merge_all-falls}
 use Rattle.shapers_clusters.proofs.Moves.{clusters-merge_all, clusters_stay, held_share}
 use Rattle.shapers_clusters.specs.SourceCuts.{ExactCutsBy, HeldAlong, MovesInsideOf}
 
-pub exact_cuts_by : (level : BufferClusterLevel) → merges level ≡ true → (sts : List (ℕ × ℕ)) (cs sources : List ℕ) → EndWithin (length cs) sts → IsMonotone cs → AllByRecursion (λ p. p < length cs) sources → ExactCutsBy cs sts sources (pick sources (joined_all level sts cs))
+pub exact_cuts_by : (level : BufferClusterLevel) → merges level ≡ true → (sts : List (ℕ × ℕ)) (cs sources : List ℕ)
+    → EndWithin (length cs) sts → IsMonotone cs → AllByRecursion (λ p. p < length cs) sources
+    → ExactCutsBy cs sts sources (pick sources (joined_all level sts cs))
 exact_cuts_by level m sts cs sources w mono s =
     let js = joined_all level sts cs in
     let n = length-joined_all level sts cs w in
     let x = exact_cuts level m sts cs w mono in
     let P : ℕ → Type 0 = λ n. AllByRecursion (λ p. p < n) sources in
     let v = subst P (sym n) s in
-    let at : (i : ℕ) → i < length sources → get_or (pick sources js) i 0 ≡ get_or js (get_or sources i 0) 0 = λ i l. get_or-pick 0 sources js v i l in
-    let old : (i : ℕ) → i < length sources → get_or sources i 0 < length cs = λ i l. within_at (length cs) sources s i l in
+    let at : (i : ℕ) → i < length sources → get_or (pick sources js) i 0 ≡ get_or js (get_or sources i 0) 0 =
+    λ i l. get_or-pick 0 sources js v i l in
+    let old : (i : ℕ) → i < length sources → get_or sources i 0 < length cs =
+    λ i l. within_at (length cs) sources s i l in
     record {
       as_many = length-pick sources js v;
       cuts = λ i z l. (
-        (λ ne b. ne (at (i - 1) (omega arith) ∙ sym (block_shares level m sts cs w (get_or sources (i - 1) 0) (get_or sources i 0) (old (i - 1) (omega arith)) (old i l) b (get_or sources i 0) (omega arith) (omega arith)) ∙ sym (at i l))),
-        (λ apart eq. apart (between_equal level m sts cs w mono (get_or sources (i - 1) 0) (get_or sources i 0) (old (i - 1) (omega arith)) (old i l) (sym (at (i - 1) (omega arith)) ∙ eq ∙ at i l))),
+        (λ ne b. ne (at (i - 1) (omega arith)
+            ∙ sym (block_shares level m sts cs w (get_or sources (i - 1) 0) (get_or sources i 0)
+            (old (i - 1) (omega arith)) (old i l) b (get_or sources i 0) (omega arith) (omega arith)) ∙ sym (at i l))),
+        (λ apart eq. apart (between_equal level m sts cs w mono (get_or sources (i - 1) 0) (get_or sources i 0)
+            (old (i - 1) (omega arith)) (old i l) (sym (at (i - 1) (omega arith)) ∙ eq ∙ at i l))),
       );
       reached = λ i l. let (q, ql, b, e) = x.reached (get_or sources i 0) (old i l) in (q, ql, b, at i l ∙ e);
       least = λ i q l ql b. omega (arith, at i l, x.least (get_or sources i 0) q (old i l) ql b);
     }
 
 -- places whose sources the merged stretches hold together share one cluster
-pub sources_share : (level : BufferClusterLevel) → merges level ≡ true → (sts : List (ℕ × ℕ)) (cs sources : List ℕ) → EndWithin (length cs) sts → AllByRecursion (λ p. p < length cs) sources → (i j : ℕ) → i < length sources → j < length sources → HeldAlong sts sources i j → ShareCluster (pick sources (joined_all level sts cs)) i j
+pub sources_share : (level : BufferClusterLevel) → merges level ≡ true → (sts : List (ℕ × ℕ)) (cs sources : List ℕ)
+    → EndWithin (length cs) sts → AllByRecursion (λ p. p < length cs) sources → (i j : ℕ) → i < length sources
+    → j < length sources → HeldAlong sts sources i j → ShareCluster (pick sources (joined_all level sts cs)) i j
 sources_share level m sts cs sources w s i j il jl h =
     let js = joined_all level sts cs in
     let jn = length-joined_all level sts cs w in
@@ -44,11 +53,17 @@ sources_share level m sts cs sources w s i j il jl h =
     let sj = subst P (sym jn) s in
     share_all (pick sources js) i j (λ r x y.
     get_or-pick 0 sources js sj (r - 1) (omega arith)
-    ∙ sym (held_share level m sts cs w (get_or sources (r - 1) 0) (get_or sources r 0) (within_at (length cs) sources s (r - 1) (omega arith)) (within_at (length cs) sources s r (omega arith)) (h r x y) (get_or sources r 0) (omega arith) (omega arith))
+    ∙ sym (held_share level m sts cs w (get_or sources (r - 1) 0) (get_or sources r 0)
+    (within_at (length cs) sources s (r - 1) (omega arith)) (within_at (length cs) sources s r (omega arith))
+    (h r x y) (get_or sources r 0) (omega arith) (omega arith))
     ∙ sym (get_or-pick 0 sources js sj r (omega arith)))
 
 -- moves inside the merged stretches leave the clusters as they stood
-pub clusters-moved_sources : (level : BufferClusterLevel) → merges level ≡ true → (sts : List (ℕ × ℕ)) (cs standing places : List ℕ) → EndWithin (length cs) sts → AllByRecursion (λ p. p < length cs) standing → length places ≡ length standing → AllByRecursion (λ p. p < length standing) places → MovesInsideOf sts standing places → pick (pick places standing) (joined_all level sts cs) ≡ pick standing (joined_all level sts cs)
+pub clusters-moved_sources : (level : BufferClusterLevel) → merges level ≡ true
+    → (sts : List (ℕ × ℕ)) (cs standing places : List ℕ) → EndWithin (length cs) sts
+    → AllByRecursion (λ p. p < length cs) standing → length places ≡ length standing
+    → AllByRecursion (λ p. p < length standing) places → MovesInsideOf sts standing places
+    → pick (pick places standing) (joined_all level sts cs) ≡ pick standing (joined_all level sts cs)
 clusters-moved_sources level m sts cs standing places w s n v h =
     let js = joined_all level sts cs in
     let jn = length-joined_all level sts cs w in
@@ -57,11 +72,17 @@ clusters-moved_sources level m sts cs standing places w s n v h =
     let Q : ℕ → Type 0 = λ n. AllByRecursion (λ p. p < n) places in
     let k = length-pick standing js sj in
     sym (pick-pick places standing js sj) ∙ clusters_stay (pick standing js) places (n ∙ sym k) (subst Q (sym k) v)
-    (λ p l. sources_share level m sts cs standing w s p (get_or places p 0) (omega arith) (within_at (length standing) places v p (omega arith)) (h p (omega arith)) (get_or places p 0) (omega arith) (omega arith))
+    (λ p l. sources_share level m sts cs standing w s p (get_or places p 0) (omega arith)
+    (within_at (length standing) places v p (omega arith)) (h p (omega arith)) (get_or places p 0) (omega arith)
+    (omega arith))
 
 -- the clusters and the falls of what is picked from merged glyphs
-pub clusters-picked : (level : BufferClusterLevel) (sts : List (ℕ × ℕ)) (sources : List ℕ) (gs : List hb_glyph_info_t) → clusters (pick sources (merge_all level sts gs)) ≡ pick sources (joined_all level sts (clusters gs))
-clusters-picked level sts sources gs = sym (pick-map (λ g. g.cluster) sources (merge_all level sts gs)) ∙ ap (pick sources) (clusters-merge_all level sts gs)
+pub clusters-picked : (level : BufferClusterLevel) (sts : List (ℕ × ℕ)) (sources : List ℕ) (gs : List hb_glyph_info_t)
+    → clusters (pick sources (merge_all level sts gs)) ≡ pick sources (joined_all level sts (clusters gs))
+clusters-picked level sts sources gs = sym (pick-map (λ g. g.cluster) sources (merge_all level sts gs))
+    ∙ ap (pick sources) (clusters-merge_all level sts gs)
 
-pub falls-picked : (level : BufferClusterLevel) (sts : List (ℕ × ℕ)) (sources : List ℕ) (gs : List hb_glyph_info_t) → EndWithin (length gs) sts → AllZip FallsTo (pick sources gs) (pick sources (merge_all level sts gs))
-falls-picked level sts sources gs w = AllZip-pick FallsTo sources gs (merge_all level sts gs) (merge_all-falls level sts gs w)
+pub falls-picked : (level : BufferClusterLevel) (sts : List (ℕ × ℕ)) (sources : List ℕ) (gs : List hb_glyph_info_t)
+    → EndWithin (length gs) sts → AllZip FallsTo (pick sources gs) (pick sources (merge_all level sts gs))
+falls-picked level sts sources gs w =
+    AllZip-pick FallsTo sources gs (merge_all level sts gs) (merge_all-falls level sts gs w)

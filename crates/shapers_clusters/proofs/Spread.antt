@@ -34,13 +34,17 @@ pub record Spread (s e : ℕ) (cs js : List ℕ) : Type 0 where
 first_part : (a b c : List ℕ) (p : ℕ) → p < length a → get_or (a ++ (b ++ c)) p 0 ≡ get_or a p 0
 first_part a b c p h = get_or_append_left a (b ++ c) 0 p h
 
-pub second_part : (a b c : List ℕ) (p : ℕ) → length a ≤ p → p < length a + length b → get_or (a ++ (b ++ c)) p 0 ≡ get_or b (p - length a) 0
-second_part a b c p h l = get_or-append_right a (b ++ c) (length a) p 0 refl h ∙ get_or_append_left b c 0 (p - length a) (omega arith)
+pub second_part : (a b c : List ℕ) (p : ℕ) → length a ≤ p → p < length a + length b
+    → get_or (a ++ (b ++ c)) p 0 ≡ get_or b (p - length a) 0
+second_part a b c p h l = get_or-append_right a (b ++ c) (length a) p 0 refl h
+    ∙ get_or_append_left b c 0 (p - length a) (omega arith)
 
-third_part : (a b c : List ℕ) (p : ℕ) → length a + length b ≤ p → get_or (a ++ (b ++ c)) p 0 ≡ get_or c (p - (length a + length b)) 0
+third_part : (a b c : List ℕ) (p : ℕ) → length a + length b ≤ p
+    → get_or (a ++ (b ++ c)) p 0 ≡ get_or c (p - (length a + length b)) 0
 third_part a b c p h =
     let i : p - length a - length b ≡ p - (length a + length b) = omega arith in
-    get_or-append_right a (b ++ c) (length a) p 0 refl (omega arith) ∙ get_or-append_right b c (length b) (p - length a) 0 refl (omega arith) ∙ ap (λ k. get_or c k 0) i
+    get_or-append_right a (b ++ c) (length a) p 0 refl (omega arith)
+    ∙ get_or-append_right b c (length b) (p - length a) 0 refl (omega arith) ∙ ap (λ k. get_or c k 0) i
 
 reversed-at : (xs : List ℕ) (n p : ℕ) → length xs ≡ n → p < n → get_or (reverse xs) p 0 ≡ get_or xs (n - 1 - p) 0
 reversed-at xs n p e h =
@@ -57,7 +61,8 @@ record Left (c m s : ℕ) (cs ls : List ℕ) : Type 0 where
   rest : (p : ℕ) → p < low → get_or ls p 0 ≡ get_or cs p 0
   edge : 0 < low → get_or cs (low - 1) 0 ≢ c
 
-front_reversed-at : (s : ℕ) (cs : List ℕ) (p : ℕ) → s ≤ length cs → p < s → get_or (reverse (take s cs)) (s - 1 - p) 0 ≡ get_or cs p 0
+front_reversed-at : (s : ℕ) (cs : List ℕ) (p : ℕ) → s ≤ length cs → p < s → get_or (reverse (take s cs)) (s - 1 - p) 0
+    ≡ get_or cs p 0
 front_reversed-at s cs p l h =
     let n : length (take s cs) ≡ s = omega (arith, length-take s cs) in
     let i : s - 1 - (s - 1 - p) ≡ p = omega arith in
@@ -75,8 +80,11 @@ left-is c m s cs l =
       same_length = length-reverse ys ∙ k;
       new = λ p a b. reversed-at ys s p k b ∙ f.new (s - 1 - p) (omega (arith, f.within));
       old = λ p a b. sym (front_reversed-at s cs p l b) ∙ f.old (s - 1 - p) (omega (arith, f.within));
-      rest = λ p a. reversed-at ys s p k (omega arith) ∙ f.rest (s - 1 - p) (omega (arith, f.within)) ∙ front_reversed-at s cs p l (omega arith);
-      edge = λ h e. f.edge (omega (arith, f.within)) (let i : s - 1 - (s - f.end - 1) ≡ f.end = omega (arith, f.within) in ap (λ k. get_or (reverse (take s cs)) k 0) (sym i) ∙ front_reversed-at s cs (s - f.end - 1) l (omega arith) ∙ e);
+      rest = λ p a. reversed-at ys s p k (omega arith) ∙ f.rest (s - 1 - p) (omega (arith, f.within))
+          ∙ front_reversed-at s cs p l (omega arith);
+      edge = λ h e. f.edge (omega (arith, f.within)) (let i : s - 1 - (s - f.end - 1)
+          ≡ f.end = omega (arith, f.within) in ap (λ k. get_or (reverse (take s cs)) k 0) (sym i)
+          ∙ front_reversed-at s cs (s - f.end - 1) l (omega arith) ∙ e);
     }
 
 -- the flood behind place e
@@ -105,7 +113,9 @@ right-is c m e cs l =
       new = λ p a b. f.new (p - e) (omega arith);
       old = λ p a b. sym (behind-at e cs p a) ∙ f.old (p - e) (omega arith);
       rest = λ p a. f.rest (p - e) (omega arith) ∙ behind-at e cs p (omega arith);
-      edge = λ h q. f.edge (omega arith) (let i : e + f.end - e ≡ f.end = omega arith in ap (λ k. get_or (drop e cs) k 0) (sym i) ∙ behind-at e cs (e + f.end) (omega arith) ∙ q);
+      edge = λ h q. f.edge (omega arith) (let i : e + f.end - e
+          ≡ f.end = omega arith in ap (λ k. get_or (drop e cs) k 0) (sym i) ∙ behind-at e cs (e + f.end) (omega arith)
+          ∙ q);
     }
 
 pub map-constant : (m : ℕ) (xs : List ℕ) (p : ℕ) → p < length xs → get_or (map (λ _. m) xs) p 0 ≡ m
@@ -119,7 +129,9 @@ stretch-at s e cs k h = get_or-take (e - s) (drop s cs) k 0 h ∙ get_or-drop s 
 pub length-stretch : (s e : ℕ) (cs : List ℕ) → e ≤ length cs → length (stretch_of s e cs) ≡ e - s
 length-stretch s e cs h = omega (arith, length-take (e - s) (drop s cs), length-drop s cs)
 
-spread_from : (m s e : ℕ) (cs middle ls rs : List ℕ) (at : ℕ) → s < e → e ≤ length cs → length middle ≡ e - s → s ≤ at → at < e → get_or cs at 0 ≡ m → ((p : ℕ) → s ≤ p → p < e → m ≤ get_or cs p 0) → Left (get_or cs s 0) m s cs ls → Right (get_or cs (e - 1) 0) m e cs rs → Spread s e cs (ls ++ (map (λ _. m) middle ++ rs))
+spread_from : (m s e : ℕ) (cs middle ls rs : List ℕ) (at : ℕ) → s < e → e ≤ length cs → length middle ≡ e - s → s ≤ at
+    → at < e → get_or cs at 0 ≡ m → ((p : ℕ) → s ≤ p → p < e → m ≤ get_or cs p 0) → Left (get_or cs s 0) m s cs ls
+    → Right (get_or cs (e - 1) 0) m e cs rs → Spread s e cs (ls ++ (map (λ _. m) middle ++ rs))
 spread_from m s e cs middle ls rs at h w n at_from at_to at_is least_is l r =
     let b = map (λ (x : ℕ). m) middle in
     let bn : length b ≡ e - s = length-map middle (λ x. m) ∙ n in
@@ -138,12 +150,16 @@ spread_from m s e cs middle ls rs at h w n at_from at_to at_is least_is l r =
       inside = λ p a z. elim (cases_lt p s) [
         | inl k ↦ first_part ls b rs p (omega arith) ∙ l.new p a k
         | inr k ↦ elim (cases_lt p e) [
-          | inl y ↦ second_part ls b rs p (omega arith) (omega arith) ∙ map-constant m middle (p - length ls) (omega arith)
-          | inr y ↦ third_part ls b rs p (omega arith) ∙ (let i : p - (length ls + length b) ≡ p - e = omega arith in ap (λ k. get_or rs k 0) i ∙ r.new p y z)
+          | inl y ↦ second_part ls b rs p (omega arith) (omega arith)
+              ∙ map-constant m middle (p - length ls) (omega arith)
+          | inr y ↦ third_part ls b rs p (omega arith)
+              ∙ (let i : p - (length ls + length b) ≡ p - e = omega arith in ap (λ k. get_or rs k 0) i ∙ r.new p y z)
         ]
       ];
       before = λ p a. first_part ls b rs p (omega (arith, l.within)) ∙ l.rest p a;
-      behind = λ p a. third_part ls b rs p (omega (arith, r.within)) ∙ (let i : p - (length ls + length b) ≡ p - e = omega (arith, r.within) in ap (λ k. get_or rs k 0) i ∙ r.rest p a);
+      behind = λ p a. third_part ls b rs p (omega (arith, r.within))
+          ∙ (let i : p - (length ls + length b) ≡ p - e = omega (arith, r.within) in ap (λ k. get_or rs k 0) i
+          ∙ r.rest p a);
       left = l.old;
       right = r.old;
       left_edge = l.edge;
@@ -161,19 +177,31 @@ spread s e cs h w =
     let m = least middle in
     let n : length middle ≡ e - s = length-stretch s e cs w in
     let (k, kn, ke) = least-among middle (omega arith) in
-    let first : opening_run middle ≡ get_or cs s 0 = opening-at middle ∙ stretch-at s e cs 0 (omega arith) ∙ (let i : s + 0 ≡ s = omega arith in ap (λ k. get_or cs k 0) i) in
+    let first : opening_run middle ≡ get_or cs s 0 = opening-at middle ∙ stretch-at s e cs 0 (omega arith)
+    ∙ (let i : s + 0 ≡ s = omega arith in ap (λ k. get_or cs k 0) i) in
     let last : opening_run (reverse middle) ≡ get_or cs (e - 1) 0 =
-    opening-at (reverse middle) ∙ reversed-at middle (e - s) 0 n (omega arith) ∙ stretch-at s e cs (e - s - 1 - 0) (omega arith) ∙ (let i : s + (e - s - 1 - 0) ≡ e - 1 = omega arith in ap (λ k. get_or cs k 0) i) in
-    spread_from m s e cs middle _ _ (s + k) (omega arith) w n (omega arith) (omega arith) (sym (stretch-at s e cs k (omega arith)) ∙ ke)
-    (λ p a b. let i : s + (p - s) ≡ p = omega arith in let q = stretch-at s e cs (p - s) (omega arith) ∙ ap (λ k. get_or cs k 0) i in let z = least-le middle (p - s) (omega arith) in omega arith)
-    (let P : ℕ → Type 0 = λ c. Left c m s cs (reverse (flood (opening_run middle) m (reverse (take s cs)))) in subst P first (left-is (opening_run middle) m s cs (omega arith)))
-    (let P : ℕ → Type 0 = λ c. Right c m e cs (flood (opening_run (reverse middle)) m (drop e cs)) in subst P last (right-is (opening_run (reverse middle)) m e cs w))
+    opening-at (reverse middle) ∙ reversed-at middle (e - s) 0 n (omega arith)
+    ∙ stretch-at s e cs (e - s - 1 - 0) (omega arith)
+    ∙ (let i : s + (e - s - 1 - 0) ≡ e - 1 = omega arith in ap (λ k. get_or cs k 0) i) in
+    spread_from m s e cs middle _ _ (s + k) (omega arith) w n (omega arith) (omega arith)
+    (sym (stretch-at s e cs k (omega arith)) ∙ ke)
+    (λ p a b. let i : s + (p - s) ≡ p = omega arith in let q = stretch-at s e cs (p - s) (omega arith)
+    ∙ ap (λ k. get_or cs k 0) i in let z = least-le middle (p - s) (omega arith) in omega arith)
+    (let P : ℕ → Type 0 = λ c. Left c m s cs (reverse (flood (opening_run middle) m (reverse (take s cs)))) in subst P
+    first (left-is (opening_run middle) m s cs (omega arith)))
+    (let P : ℕ → Type 0 = λ c. Right c m e cs (flood (opening_run (reverse middle)) m (drop e cs)) in subst P last
+    (right-is (opening_run (reverse middle)) m e cs w))
 
-two_cases : (n : ℕ) (a : Bool) {X : Type 0} (P : X → Type 0) (x y : X) → ((a ≡ false) ⊎ (n < 2) → P y) → (a ≡ true → 1 < n → P x) → P (if a && not (nat_lt n 2) then x else y)
+two_cases : (n : ℕ) (a : Bool) {X : Type 0} (P : X → Type 0) (x y : X) → ((a ≡ false) ⊎ (n < 2) → P y)
+    → (a ≡ true → 1 < n → P x) → P (if a && not (nat_lt n 2) then x else y)
 two_cases n true P x y here there = grind (arith, nat_tests)
 two_cases n false P x y here there = here (inl refl)
 
 -- a merge does nothing, or spreads
-pub joined_cases : (P : List ℕ → Type 0) (level : BufferClusterLevel) (s e : ℕ) (cs : List ℕ) → e ≤ length cs → ((merges level ≡ false) ⊎ (e - s < 2) → P cs) → ((js : List ℕ) → merges level ≡ true → 1 < e - s → Spread s e cs js → P js) → P (joined level s e cs)
+pub joined_cases : (P : List ℕ → Type 0) (level : BufferClusterLevel) (s e : ℕ) (cs : List ℕ) → e ≤ length cs
+    → ((merges level ≡ false) ⊎ (e - s < 2) → P cs)
+    → ((js : List ℕ) → merges level ≡ true → 1 < e - s → Spread s e cs js → P js) → P (joined level s e cs)
 joined_cases P level s e cs w here there =
-    subst P (sym (joined_is level s e cs)) (two_cases (e - s) (merges level) P (spreading s e cs) cs here (λ a h. there (spreading s e cs) a h (spread s e cs h w)))
+    subst P (sym (joined_is level s e cs))
+    (two_cases (e - s) (merges level) P (spreading s e cs) cs here
+    (λ a h. there (spreading s e cs) a h (spread s e cs h w)))

@@ -34,16 +34,19 @@ turned-other i k a b = grind (arith, nat_tests)
 turned_within : (n i k : ℕ) → i + 1 < n → k < n → turned i k < n
 turned_within n i k h l = grind (arith, nat_tests)
 
-swap_at : {X : Type 0} (xs : List X) (i k : ℕ) (d : X) → i + 1 < length xs → get_or (swap xs i (i + 1)) k d ≡ get_or xs (turned i k) d
+swap_at : {X : Type 0} (xs : List X) (i k : ℕ) (d : X) → i + 1 < length xs → get_or (swap xs i (i + 1)) k d
+    ≡ get_or xs (turned i k) d
 swap_at xs i k d h =
     let a = get_or xs (i + 1) d in
     let b = get_or xs i d in
     let first : i < length xs = omega arith in
     let long : i + 1 < length (set xs i a) = omega (arith, length-set xs i a) in
     ap (λ ys. get_or ys k d) (sym (swap_is xs i (i + 1) d first h)) ∙ elim (cases_eq k (i + 1)) [
-      | inl e ↦ ap (λ m. get_or (set (set xs i a) (i + 1) b) m d) e ∙ get_or-set_same (set xs i a) (i + 1) b d long ∙ sym (ap (λ m. get_or xs m d) (turned-second i k e))
+      | inl e ↦ ap (λ m. get_or (set (set xs i a) (i + 1) b) m d) e ∙ get_or-set_same (set xs i a) (i + 1) b d long
+          ∙ sym (ap (λ m. get_or xs m d) (turned-second i k e))
       | inr n ↦ get_or-set_other (set xs i a) (i + 1) k b d n ∙ elim (cases_eq k i) [
-        | inl e ↦ ap (λ m. get_or (set xs i a) m d) e ∙ get_or-set_same xs i a d first ∙ sym (ap (λ m. get_or xs m d) (turned-first i k e))
+        | inl e ↦ ap (λ m. get_or (set xs i a) m d) e ∙ get_or-set_same xs i a d first
+            ∙ sym (ap (λ m. get_or xs m d) (turned-first i k e))
         | inr m ↦ get_or-set_other xs i k a d m ∙ sym (ap (λ m. get_or xs m d) (turned-other i k m n))
       ]
     ]
@@ -54,14 +57,17 @@ swapped_length n i = length-swap (range_with_len 0 n) i (i + 1) ∙ length-range
 swapped_at : (n i k d : ℕ) → i + 1 < n → k < n → get_or (swap (range_with_len 0 n) i (i + 1)) k d ≡ turned i k
 swapped_at n i k d h l =
     let room : i + 1 < length (range_with_len 0 n) = omega (arith, length-range_with_len 0 n) in
-    swap_at (range_with_len 0 n) i k d room ∙ get_or-range_with_len 0 n (turned i k) d (turned_within n i k h l) ∙ zero-add (turned i k)
+    swap_at (range_with_len 0 n) i k d room ∙ get_or-range_with_len 0 n (turned i k) d (turned_within n i k h l)
+    ∙ zero-add (turned i k)
 
 swapped_within : (n i : ℕ) → i + 1 < n → AllByRecursion (λ p. p < n) (swap (range_with_len 0 n) i (i + 1))
 swapped_within n i h =
     let P : ℕ → Type 0 = λ p. p < n in
-    recursion_from_All P (swap (range_with_len 0 n) i (i + 1)) (λ k d l. let m : k < n = omega (arith, swapped_length n i) in subst P (sym (swapped_at n i k d h m)) (turned_within n i k h m))
+    recursion_from_All P (swap (range_with_len 0 n) i (i + 1)) (λ k d l. let m : k
+    < n = omega (arith, swapped_length n i) in subst P (sym (swapped_at n i k d h m)) (turned_within n i k h m))
 
-pick-swap : {X : Type 0} (n : ℕ) (xs : List X) (i : ℕ) → length xs ≡ n → i + 1 < n → pick (swap (range_with_len 0 n) i (i + 1)) xs ≡ swap xs i (i + 1)
+pick-swap : {X : Type 0} (n : ℕ) (xs : List X) (i : ℕ) → length xs ≡ n → i + 1 < n
+    → pick (swap (range_with_len 0 n) i (i + 1)) xs ≡ swap xs i (i + 1)
 pick-swap n xs i e h =
     let places = swap (range_with_len 0 n) i (i + 1) in
     let P : ℕ → Type 0 = λ m. AllByRecursion (λ p. p < m) places in
@@ -74,15 +80,19 @@ pick-swap n xs i e h =
     get_or-pick d places xs within k p ∙ ap (λ q. get_or xs q d) (swapped_at n i k 0 h m) ∙ sym (swap_at xs i k d room))
 
 -- a swap step merges the two and swaps them
-pub run-swap_step : (level : BufferClusterLevel) (gs : List hb_glyph_info_t) (i : ℕ) → i + 1 < length gs → run_step level (swap_step (length gs) i) gs ≡ swap (merge level i (i + 2) gs) i (i + 1)
-run-swap_step level gs i h = pick-swap (length gs) (merge level i (i + 2) gs) i (length-merge level i (i + 2) gs (omega arith)) h
+pub run-swap_step : (level : BufferClusterLevel) (gs : List hb_glyph_info_t) (i : ℕ) → i + 1 < length gs
+    → run_step level (swap_step (length gs) i) gs ≡ swap (merge level i (i + 2) gs) i (i + 1)
+run-swap_step level gs i h =
+    pick-swap (length gs) (merge level i (i + 2) gs) i (length-merge level i (i + 2) gs (omega arith)) h
 
 -- a still step leaves the glyphs as they are
-pub run-still_step : (level : BufferClusterLevel) (gs : List hb_glyph_info_t) → run_step level (still_step (length gs)) gs ≡ gs
+pub run-still_step : (level : BufferClusterLevel) (gs : List hb_glyph_info_t)
+    → run_step level (still_step (length gs)) gs ≡ gs
 run-still_step level gs = pick-all (length gs) gs refl
 
 -- in the order view they change places
-order_view-swap : (ms : List hb_glyph_info_t) (i : ℕ) → i + 1 < length ms → order_view (swap ms i (i + 1)) ≡ swap (order_view ms) i (i + 1)
+order_view-swap : (ms : List hb_glyph_info_t) (i : ℕ) → i + 1 < length ms → order_view (swap ms i (i + 1))
+    ≡ swap (order_view ms) i (i + 1)
 order_view-swap ms i h =
     let d = default_glyph in
     let a = get_or ms (i + 1) d in
@@ -92,13 +102,17 @@ order_view-swap ms i h =
     ∙ map-set plain (set ms i a) (i + 1) b
     ∙ ap (λ xs. set xs (i + 1) (plain b)) (map-set plain ms i a)
     ∙ ap (λ x. set (set (order_view ms) i x) (i + 1) (plain b)) (sym (get_or-map plain ms (i + 1) d (plain d) h))
-    ∙ ap (λ x. set (set (order_view ms) i (get_or (order_view ms) (i + 1) (plain d))) (i + 1) x) (sym (get_or-map plain ms i d (plain d) (omega arith)))
+    ∙ ap (λ x. set (set (order_view ms) i (get_or (order_view ms) (i + 1) (plain d))) (i + 1) x)
+    (sym (get_or-map plain ms i d (plain d) (omega arith)))
     ∙ swap_is (order_view ms) i (i + 1) (plain d) (omega arith) long
 
-pub order_view-swap_step : (level : BufferClusterLevel) (gs : List hb_glyph_info_t) (i : ℕ) → i + 1 < length gs → order_view (run_step level (swap_step (length gs) i) gs) ≡ swap (order_view gs) i (i + 1)
+pub order_view-swap_step : (level : BufferClusterLevel) (gs : List hb_glyph_info_t) (i : ℕ) → i + 1 < length gs
+    → order_view (run_step level (swap_step (length gs) i) gs) ≡ swap (order_view gs) i (i + 1)
 order_view-swap_step level gs i within =
-    let long : i + 1 < length (merge level i (i + 2) gs) = omega (arith, length-merge level i (i + 2) gs (omega arith)) in
-    ap order_view (run-swap_step level gs i within) ∙ order_view-swap (merge level i (i + 2) gs) i long ∙ ap (λ xs. swap xs i (i + 1)) (order_view-merge level i (i + 2) gs)
+    let long : i + 1 < length (merge level i (i + 2) gs) =
+    omega (arith, length-merge level i (i + 2) gs (omega arith)) in
+    ap order_view (run-swap_step level gs i within) ∙ order_view-swap (merge level i (i + 2) gs) i long
+    ∙ ap (λ xs. swap xs i (i + 1)) (order_view-merge level i (i + 2) gs)
 
 held_inside : (i r : ℕ) → i < r → r < i + 2 → held ((i, i + 2) ∷ []) r ≡ true
 held_inside i r a b = grind (arith, nat_tests)
@@ -115,7 +129,12 @@ swap_inside n i p h l = elim (cases_eq p i) [
 -- both move only inside what they merged
 pub swap_moves_merged : (n i : ℕ) → i + 1 < n → MovesMerged n (swap_step n i)
 swap_moves_merged n i h = record {
-  fits = record { as_many = swapped_length n i; within = swapped_within n i h; first_within = (omega arith, tt); then_within = tt };
+  fits = record {
+    as_many = swapped_length n i;
+    within = swapped_within n i h;
+    first_within = (omega arith, tt);
+    then_within = tt;
+  };
   inside = λ p l.
       let m : p < n = omega (arith, swapped_length n i) in
       let P : ℕ → Type 0 = HeldBetween ((i, i + 2) ∷ []) p in
@@ -125,7 +144,12 @@ swap_moves_merged n i h = record {
 
 pub still_moves_merged : (n : ℕ) → MovesMerged n (still_step n)
 still_moves_merged n = record {
-  fits = record { as_many = length-range_with_len 0 n; within = within_range 0 n n (omega arith); first_within = tt; then_within = tt };
+  fits = record {
+    as_many = length-range_with_len 0 n;
+    within = within_range 0 n n (omega arith);
+    first_within = tt;
+    then_within = tt;
+  };
   inside = λ p l.
       let m : p < n = omega (arith, length-range_with_len 0 n) in
       let P : ℕ → Type 0 = HeldBetween [] p in

@@ -4,7 +4,7 @@ use Rattle.std.specs.Prelude.{slice_index_or, Result, OnOk}
 use Rattle.shapers_buffer.specs.Glyph.{characters}
 use Rattle.shapers_buffer.specs.Buffer.{Buffer}
 use Rattle.shapers_buffer.specs.declared.buffer.refusal.ShaperError.{ShaperError}
-use Rattle.std.proofs.lemmas.List.{append_assoc, append-nil, drop_all, drop-drop, length-append, length-drop, length-take-le, take-append-drop}
+use Rattle.std.proofs.lemmas.List.{append_assoc, drop_all, drop-drop, length-append, length-drop, length-take-le, take-append-drop}
 use Rattle.std.proofs.Math.Seq.{take-add}
 use Rattle.shapers_buffer.specs.declared.buffer.glyph.hb_glyph_info_t.{hb_glyph_info_t}
 use Rattle.shapers_buffer.specs.declared.buffer.level.BufferClusterLevel.{BufferClusterLevel}
@@ -14,52 +14,68 @@ use Rattle.shapers_hangul.specs.Hangul.{item_len, output_len, tone_len, is_kept,
 use Rattle.shapers_hangul.specs.RewritingWalk.{rewritten_items, InTurn, change_output, changed_from}
 use Rattle.shapers_hangul.proofs.Items.{taken_some, first_item-within, items_at_fit}
 use Rattle.shapers_hangul.proofs.Outputs.{preprocessed-kept, preprocessed-read}
-use Rattle.shapers_hangul.proofs.Walks.{kept_stays, staying_next, glyphs_next, glyphs_end, length-characters, length-all_joined, length-item_output}
+use Rattle.shapers_hangul.proofs.Walks.{kept_stays, staying_next, glyphs_next, length-characters, length-all_joined, length-item_output}
 
 -- a choice by whether an item is kept
-by_kept : (P : List (ℕ × Item) → Type 0) (item : Item) (a b : List (ℕ × Item)) → (is_kept item ≡ true → P a) → (is_kept item ≡ false → P b) → P (cond (is_kept item) a b)
-by_kept P item a b stays goes = elim (is_kept item) as (λ k. is_kept item ≡ k → P (cond k a b)) [ true ↦ stays | false ↦ goes ] refl
+by_kept : (P : List (ℕ × Item) → Type 0) (item : Item) (a b : List (ℕ × Item)) → (is_kept item ≡ true → P a)
+    → (is_kept item ≡ false → P b) → P (cond (is_kept item) a b)
+by_kept P item a b stays goes = elim (is_kept item) as (λ k. is_kept item ≡ k → P (cond k a b))
+    [ true ↦ stays | false ↦ goes ] refl
 
 -- RECORDING
-pub changes_next : (p : ℕ × Item) (cut : List (ℕ × Item)) → rewritten_items (p ∷ cut) ≡ rewritten_items (p ∷ []) ++ rewritten_items cut
-changes_next p cut = elim (is_kept p.1) as (λ k. cond k (rewritten_items cut) (p ∷ rewritten_items cut) ≡ cond k [] (p ∷ []) ++ rewritten_items cut) [ true ↦ refl | false ↦ refl ]
+pub changes_next : (p : ℕ × Item) (cut : List (ℕ × Item)) → rewritten_items (p ∷ cut) ≡ rewritten_items (p ∷ [])
+    ++ rewritten_items cut
+changes_next p cut = elim (is_kept p.1) as (λ k. cond k (rewritten_items cut) (p ∷ rewritten_items cut) ≡ cond k
+    [] (p ∷ []) ++ rewritten_items cut) [ true ↦ refl | false ↦ refl ]
 
-pub recording_next : (font : Font) (circles : Bool) (gs : List hb_glyph_info_t) (list longer start : List (ℕ × Item)) (place : ℕ) (item : Item) → place < length gs → item ≡ first_item font circles (characters (drop place gs)) → list ++ rewritten_items (items_at font circles (characters gs) place) ≡ start → longer ≡ list ++ rewritten_items ((place, item) ∷ []) → longer ++ rewritten_items (items_at font circles (characters gs) (place + item_len item)) ≡ start
+pub recording_next : (font : Font) (circles : Bool) (gs : List hb_glyph_info_t) (list longer start : List (ℕ × Item))
+    (place : ℕ) (item : Item) → place < length gs → item ≡ first_item font circles (characters (drop place gs))
+    → list ++ rewritten_items (items_at font circles (characters gs) place) ≡ start
+    → longer ≡ list ++ rewritten_items ((place, item) ∷ [])
+    → longer ++ rewritten_items (items_at font circles (characters gs) (place + item_len item)) ≡ start
 recording_next font circles gs list longer start place item inside is so_far added =
     let rest = items_at font circles (characters gs) (place + item_len item) in
     ap (λ l. l ++ rewritten_items rest) added
     ∙ append_assoc list (rewritten_items ((place, item) ∷ [])) (rewritten_items rest)
-    ∙ ap (λ cut. list ++ cut) (sym (changes_next (place, item) rest) ∙ ap rewritten_items (sym (glyphs_next font circles gs (characters gs) place item refl inside is)))
+    ∙ ap (λ cut. list ++ cut) (sym (changes_next (place, item) rest)
+    ∙ ap rewritten_items (sym (glyphs_next font circles gs (characters gs) place item refl inside is)))
     ∙ so_far
 
-pub recording_all : (font : Font) (circles : Bool) (gs : List hb_glyph_info_t) (list start : List (ℕ × Item)) (place : ℕ) → length gs ≤ place → list ++ rewritten_items (items_at font circles (characters gs) place) ≡ start → list ≡ start
-recording_all font circles gs list start place past so_far = sym (append-nil list) ∙ ap (λ cut. list ++ rewritten_items cut) (sym (glyphs_end font circles gs (characters gs) place refl past)) ∙ so_far
-
-pub recording_staying : (font : Font) (circles : Bool) (gs : List hb_glyph_info_t) (list start : List (ℕ × Item)) (place : ℕ) → place < length gs → is_kept (first_item font circles (characters (drop place gs))) ≡ true → list ++ rewritten_items (items_at font circles (characters gs) place) ≡ start → list ++ rewritten_items (items_at font circles (characters gs) (place + 1)) ≡ start
+pub recording_staying : (font : Font) (circles : Bool) (gs : List hb_glyph_info_t) (list start : List (ℕ × Item))
+    (place : ℕ) → place < length gs → is_kept (first_item font circles (characters (drop place gs))) ≡ true
+    → list ++ rewritten_items (items_at font circles (characters gs) place) ≡ start
+    → list ++ rewritten_items (items_at font circles (characters gs) (place + 1)) ≡ start
 recording_staying font circles gs list start place inside stays so_far =
     let item = first_item font circles (characters (drop place gs)) in
     let rest = rewritten_items (items_at font circles (characters gs) (place + 1)) in
-    ap (λ l. list ++ l) (sym (ap rewritten_items (staying_next font circles gs place inside stays) ∙ ap (λ k. cond k rest ((place, item) ∷ rest)) stays))
+    ap (λ l. list ++ l) (sym (ap rewritten_items (staying_next font circles gs place inside stays)
+    ∙ ap (λ k. cond k rest ((place, item) ∷ rest)) stays))
     ∙ so_far
 
 -- what is kept joins nothing
-pub joined_changes : (level : BufferClusterLevel) (cut : List (ℕ × Item)) (gs : List hb_glyph_info_t) → all_joined level (rewritten_items cut) gs ≡ all_joined level cut gs
+pub joined_changes : (level : BufferClusterLevel) (cut : List (ℕ × Item)) (gs : List hb_glyph_info_t)
+    → all_joined level (rewritten_items cut) gs ≡ all_joined level cut gs
 joined_changes level [] gs = refl
 joined_changes level (p ∷ cut) gs =
-    by_kept (λ l. all_joined level l gs ≡ all_joined level cut (item_joined level p.0 p.1 gs)) p.1 (rewritten_items cut) (p ∷ rewritten_items cut)
-    (λ stays. joined_changes level cut gs ∙ ap (all_joined level cut) (sym ((kept_stays p.1 stays).unjoined level p.0 gs)))
+    by_kept (λ l. all_joined level l gs ≡ all_joined level cut (item_joined level p.0 p.1 gs)) p.1 (rewritten_items cut)
+    (p ∷ rewritten_items cut)
+    (λ stays. joined_changes level cut gs
+    ∙ ap (all_joined level cut) (sym ((kept_stays p.1 stays).unjoined level p.0 gs)))
     (λ _. joined_changes level cut (item_joined level p.0 p.1 gs))
 
 -- what fits, and stands in turn
 pub changes_fit : (n : ℕ) (cut : List (ℕ × Item)) → Fit n cut → Fit n (rewritten_items cut)
 changes_fit n [] fit = fit
-changes_fit n (p ∷ cut) fit = by_kept (Fit n) p.1 (rewritten_items cut) (p ∷ rewritten_items cut) (λ _. changes_fit n cut fit.1) (λ _. (fit.0, changes_fit n cut fit.1))
+changes_fit n (p ∷ cut) fit =
+    by_kept (Fit n) p.1 (rewritten_items cut) (p ∷ rewritten_items cut) (λ _. changes_fit n cut fit.1)
+    (λ _. (fit.0, changes_fit n cut fit.1))
 
 sooner : (n a b : ℕ) (cut : List (ℕ × Item)) → a ≤ b → InTurn n b cut → InTurn n a cut
 sooner n a b [] less turn = omega (arith, turn)
 sooner n a b (p ∷ cut) less turn = (omega (arith, turn.0), turn.1)
 
-turn_from : (font : Font) (circles : Bool) (place skip : ℕ) (us : List ℕ) → skip ≤ length us → InTurn (place + length us) (place + skip) (rewritten_items (items_from (first_item font circles) place skip us))
+turn_from : (font : Font) (circles : Bool) (place skip : ℕ) (us : List ℕ) → skip ≤ length us
+    → InTurn (place + length us) (place + skip) (rewritten_items (items_from (first_item font circles) place skip us))
 turn_from font circles place skip [] inside = omega arith
 turn_from font circles place zero (u ∷ us) inside =
     let item = first_item font circles (u ∷ us) in
@@ -70,18 +86,24 @@ turn_from font circles place zero (u ∷ us) inside =
     let on : place + 1 + (item_len item - 1) ≡ place + item_len item = omega arith in
     let same : place + 1 + length us ≡ n = omega arith in
     let next : InTurn n (place + item_len item) rest =
-    subst (λ m. InTurn n m rest) on (subst (λ m. InTurn m (place + 1 + (item_len item - 1)) rest) same (turn_from font circles (place + 1) (item_len item - 1) us (omega arith))) in
-    by_kept (InTurn n (place + 0)) item rest ((place, item) ∷ rest) (λ _. sooner n (place + 0) (place + item_len item) rest (omega arith) next) (λ _. (omega arith, next))
+    subst (λ m. InTurn n m rest) on
+    (subst (λ m. InTurn m (place + 1 + (item_len item - 1)) rest) same
+    (turn_from font circles (place + 1) (item_len item - 1) us (omega arith))) in
+    by_kept (InTurn n (place + 0)) item rest ((place, item) ∷ rest)
+    (λ _. sooner n (place + 0) (place + item_len item) rest (omega arith) next) (λ _. (omega arith, next))
 turn_from font circles place (suc skip) (u ∷ us) inside =
     let cut = rewritten_items (items_from (first_item font circles) (place + 1) skip us) in
     let on : place + 1 + skip ≡ place + suc skip = omega arith in
     let same : place + 1 + length us ≡ place + length (u ∷ us) = omega arith in
-    subst (λ m. InTurn (place + length (u ∷ us)) m cut) on (subst (λ m. InTurn m (place + 1 + skip) cut) same (turn_from font circles (place + 1) skip us (omega arith)))
+    subst (λ m. InTurn (place + length (u ∷ us)) m cut) on
+    (subst (λ m. InTurn m (place + 1 + skip) cut) same (turn_from font circles (place + 1) skip us (omega arith)))
 
 -- WRITING
 -- a glyph before the next item stays
-one_stays : (n place : ℕ) (cut : List (ℕ × Item)) (gs : List hb_glyph_info_t) → InTurn n (place + 1) cut → changed_from place cut gs ≡ take 1 (drop place gs) ++ changed_from (place + 1) cut gs
-one_stays n place [] gs turn = sym (take-append-drop 1 (drop place gs)) ∙ ap (λ l. take 1 (drop place gs) ++ l) (drop-drop 1 place gs)
+one_stays : (n place : ℕ) (cut : List (ℕ × Item)) (gs : List hb_glyph_info_t) → InTurn n (place + 1) cut
+    → changed_from place cut gs ≡ take 1 (drop place gs) ++ changed_from (place + 1) cut gs
+one_stays n place [] gs turn = sym (take-append-drop 1 (drop place gs))
+    ∙ ap (λ l. take 1 (drop place gs) ++ l) (drop-drop 1 place gs)
 one_stays n place (p ∷ cut) gs turn =
     let m = p.0 - (place + 1) in
     let more : p.0 - place ≡ 1 + m = omega (arith, turn.0) in
@@ -90,11 +112,15 @@ one_stays n place (p ∷ cut) gs turn =
     let rest = changed_from (p.0 + item_len p.1) cut gs in
     let between = take m (drop (place + 1) gs) in
     ap (λ k. (take k (drop place gs) ++ output) ++ rest) more
-    ∙ ap (λ l. (l ++ output) ++ rest) (take-add 1 m (drop place gs) ∙ ap (λ l. first ++ take m l) (drop-drop 1 place gs))
+    ∙ ap (λ l. (l ++ output) ++ rest) (take-add 1 m (drop place gs)
+    ∙ ap (λ l. first ++ take m l) (drop-drop 1 place gs))
     ∙ ap (λ l. l ++ rest) (append_assoc first between output)
     ∙ append_assoc first (between ++ output) rest
 
-changed_all : (font : Font) (circles : Bool) (place skip : ℕ) (us : List ℕ) (gs : List hb_glyph_info_t) → skip ≤ length us → length gs ≡ place + length us → changed_from (place + skip) (rewritten_items (items_from (first_item font circles) place skip us)) gs ≡ outputs glyph_copies (items_from (first_item font circles) place skip us) gs
+changed_all : (font : Font) (circles : Bool) (place skip : ℕ) (us : List ℕ) (gs : List hb_glyph_info_t)
+    → skip ≤ length us → length gs ≡ place + length us
+    → changed_from (place + skip) (rewritten_items (items_from (first_item font circles) place skip us)) gs
+    ≡ outputs glyph_copies (items_from (first_item font circles) place skip us) gs
 changed_all font circles place skip [] gs inside long = drop_all (place + skip) gs (omega (arith, long))
 changed_all font circles place zero (u ∷ us) gs inside long =
     let item = first_item font circles (u ∷ us) in
@@ -105,14 +131,18 @@ changed_all font circles place zero (u ∷ us) gs inside long =
     let here : place + 0 ≡ place = omega arith in
     let output = item_output glyph_copies item (drop place gs) in
     let rest : changed_from (place + item_len item) (rewritten_items cut) gs ≡ outputs glyph_copies cut gs =
-    ap (λ m. changed_from m (rewritten_items cut) gs) (sym on) ∙ changed_all font circles (place + 1) (item_len item - 1) us gs (omega arith) (omega (arith, long)) in
-    let turn : InTurn (place + 1 + length us) (place + 1 + (item_len item - 1)) (rewritten_items cut) = turn_from font circles (place + 1) (item_len item - 1) us (omega arith) in
+    ap (λ m. changed_from m (rewritten_items cut) gs) (sym on)
+    ∙ changed_all font circles (place + 1) (item_len item - 1) us gs (omega arith) (omega (arith, long)) in
+    let turn : InTurn (place + 1 + length us) (place + 1 + (item_len item - 1)) (rewritten_items cut) =
+    turn_from font circles (place + 1) (item_len item - 1) us (omega arith) in
     ap (λ m. changed_from m (rewritten_items ((place, item) ∷ cut)) gs) here
-    ∙ by_kept (λ l. changed_from place l gs ≡ output ++ outputs glyph_copies cut gs) item (rewritten_items cut) ((place, item) ∷ rewritten_items cut)
+    ∙ by_kept (λ l. changed_from place l gs ≡ output ++ outputs glyph_copies cut gs) item (rewritten_items cut)
+    ((place, item) ∷ rewritten_items cut)
     (λ stays.
     let keeps = kept_stays item stays in
     let one : place + item_len item ≡ place + 1 = ap (λ m. place + m) keeps.one in
-    one_stays (place + 1 + length us) place (rewritten_items cut) gs (subst (λ m. InTurn (place + 1 + length us) m (rewritten_items cut)) (on ∙ one) turn)
+    one_stays (place + 1 + length us) place (rewritten_items cut) gs
+    (subst (λ m. InTurn (place + 1 + length us) m (rewritten_items cut)) (on ∙ one) turn)
     ∙ ap (λ l. l ++ changed_from (place + 1) (rewritten_items cut) gs) (sym (keeps.itself (drop place gs)))
     ∙ ap (λ m. output ++ changed_from m (rewritten_items cut) gs) (sym one)
     ∙ ap (λ l. output ++ l) rest)
@@ -123,28 +153,35 @@ changed_all font circles place zero (u ∷ us) gs inside long =
 changed_all font circles place (suc skip) (u ∷ us) gs inside long =
     let cut = items_from (first_item font circles) (place + 1) skip us in
     let on : place + suc skip ≡ place + 1 + skip = omega arith in
-    ap (λ m. changed_from m (rewritten_items cut) gs) on ∙ changed_all font circles (place + 1) skip us gs (omega arith) (omega (arith, long))
+    ap (λ m. changed_from m (rewritten_items cut) gs) on
+    ∙ changed_all font circles (place + 1) skip us gs (omega arith) (omega (arith, long))
 
-pub items_at_turn : (font : Font) (circles : Bool) (gs : List hb_glyph_info_t) (place : ℕ) → place ≤ length gs → InTurn (length gs) place (rewritten_items (items_at font circles (characters gs) place))
+pub items_at_turn : (font : Font) (circles : Bool) (gs : List hb_glyph_info_t) (place : ℕ) → place ≤ length gs
+    → InTurn (length gs) place (rewritten_items (items_at font circles (characters gs) place))
 items_at_turn font circles gs place within =
     let us = characters gs in
     let cut = rewritten_items (items_at font circles us place) in
-    let long : place + length (drop place us) ≡ length gs = omega (arith, length-drop place us, length-characters gs, within) in
+    let long : place + length (drop place us) ≡ length gs =
+    omega (arith, length-drop place us, length-characters gs, within) in
     let here : place + 0 ≡ place = omega arith in
-    subst (λ n. InTurn n place cut) long (subst (λ m. InTurn (place + length (drop place us)) m cut) here (turn_from font circles place 0 (drop place us) (omega arith)))
+    subst (λ n. InTurn n place cut) long
+    (subst (λ m. InTurn (place + length (drop place us)) m cut) here
+    (turn_from font circles place 0 (drop place us) (omega arith)))
 
 -- each item ends within the text
 turn_within : (n place : ℕ) (cut : List (ℕ × Item)) → InTurn n place cut → place ≤ n
 turn_within n place [] turn = turn
 turn_within n place (p ∷ cut) turn = omega (arith, turn.0, turn_within n (p.0 + item_len p.1) cut turn.1)
 
-pub turn-at : (n place : ℕ) (cut : List (ℕ × Item)) (k : ℕ) (p : ℕ × Item) → k < length cut → InTurn n place cut → (slice_index_or cut k p).0 + item_len (slice_index_or cut k p).1 ≤ n
+pub turn-at : (n place : ℕ) (cut : List (ℕ × Item)) (k : ℕ) (p : ℕ × Item) → k < length cut → InTurn n place cut
+    → (slice_index_or cut k p).0 + item_len (slice_index_or cut k p).1 ≤ n
 turn-at n place [] k p inside turn = absurd (omega arith)
 turn-at n place (q ∷ cut) zero p inside turn = turn_within n (q.0 + item_len q.1) cut turn.1
 turn-at n place (q ∷ cut) (suc k) p inside turn = turn-at n (q.0 + item_len q.1) cut k p (omega arith) turn.1
 
 -- the same from the start of the text, before the items
-changed_from-start : (n k : ℕ) (cut : List (ℕ × Item)) (gs : List hb_glyph_info_t) → InTurn n k cut → changed_from 0 cut gs ≡ take k gs ++ changed_from k cut gs
+changed_from-start : (n k : ℕ) (cut : List (ℕ × Item)) (gs : List hb_glyph_info_t) → InTurn n k cut
+    → changed_from 0 cut gs ≡ take k gs ++ changed_from k cut gs
 changed_from-start n k [] gs turn = sym (take-append-drop k gs)
 changed_from-start n k (p ∷ cut) gs turn =
     let m = p.0 - k in
@@ -158,58 +195,101 @@ changed_from-start n k (p ∷ cut) gs turn =
     ∙ append_assoc (take k gs) (between ++ output) rest
 
 -- ROOM
-pub length-change_output : (place : ℕ) (p : ℕ × Item) (gs : List hb_glyph_info_t) → place ≤ p.0 → p.0 + item_len p.1 ≤ length gs → length (change_output place p gs) ≡ (p.0 - place) + (output_len p.1.unit + tone_len p.1.tone)
+pub length-change_output : (place : ℕ) (p : ℕ × Item) (gs : List hb_glyph_info_t) → place ≤ p.0
+    → p.0 + item_len p.1 ≤ length gs → length (change_output place p gs)
+    ≡ (p.0 - place) + (output_len p.1.unit + tone_len p.1.tone)
 length-change_output place p gs order within =
     let m = p.0 - place in
     let long : length (drop place gs) ≡ length gs - place = length-drop place gs in
     let rest : length (drop p.0 gs) ≡ length gs - p.0 = length-drop p.0 gs in
-    omega (arith, order, within, length-append (take m (drop place gs)) (item_output glyph_copies p.1 (drop p.0 gs)), length-take-le m (drop place gs) (omega (arith, long, order, within)), length-item_output glyph_copies p.1 (drop p.0 gs) (omega (arith, rest, within)))
+    omega (
+      arith,
+      order,
+      within,
+      length-append (take m (drop place gs)) (item_output glyph_copies p.1 (drop p.0 gs)),
+      length-take-le m (drop place gs) (omega (arith, long, order, within)),
+      length-item_output glyph_copies p.1
+          (drop p.0 gs) (omega (arith, rest, within)),
+    )
 
 -- what the next item becomes is no longer than what all that are left become
-pub next_output : (place : ℕ) (cut : List (ℕ × Item)) (gs : List hb_glyph_info_t) (k : ℕ) (p : ℕ × Item) → k < length cut → length (change_output place (slice_index_or cut k p) gs) ≤ length (changed_from place (drop k cut) gs)
+pub next_output : (place : ℕ) (cut : List (ℕ × Item)) (gs : List hb_glyph_info_t) (k : ℕ) (p : ℕ × Item)
+    → k < length cut → length (change_output place (slice_index_or cut k p) gs)
+    ≤ length (changed_from place (drop k cut) gs)
 next_output place [] gs k p inside = absurd (omega arith)
-next_output place (q ∷ cut) gs zero p inside = omega (arith, length-append (change_output place q gs) (changed_from (q.0 + item_len q.1) cut gs))
+next_output place (q ∷ cut) gs zero p inside =
+    omega (arith, length-append (change_output place q gs) (changed_from (q.0 + item_len q.1) cut gs))
 next_output place (q ∷ cut) gs (suc k) p inside = next_output place cut gs k p (omega arith)
 
 -- what is left to write has room
-pub room_left : (list rest start whole : List hb_glyph_info_t) (room wide : ℕ) → list ++ rest ≡ start ++ whole → length start + length whole ≤ room → room ≤ wide → length list + length rest ≤ wide
-room_left list rest start whole room wide same fits more = omega (arith, ap length same, length-append list rest, length-append start whole, fits, more)
+pub room_left : (list rest start whole : List hb_glyph_info_t) (room wide : ℕ) → list ++ rest ≡ start ++ whole
+    → length start + length whole ≤ room → room ≤ wide → length list + length rest ≤ wide
+room_left list rest start whole room wide same fits more =
+    omega (arith, ap length same, length-append list rest, length-append start whole, fits, more)
 
 -- THE WHOLE
-pub changed_text : (font : Font) (circles : Bool) (level : BufferClusterLevel) (gs : List hb_glyph_info_t) (place : ℕ) (cut : List (ℕ × Item)) (list : List hb_glyph_info_t) → KeptBefore font circles gs place → cut ≡ rewritten_items (items_at font circles (characters gs) place) → list ≡ take place (all_joined level cut gs) ++ changed_from place cut (all_joined level cut gs) → list ≡ preprocessed font circles level gs
+pub changed_text : (font : Font) (circles : Bool) (level : BufferClusterLevel) (gs : List hb_glyph_info_t) (place : ℕ)
+    (cut : List (ℕ × Item)) (list : List hb_glyph_info_t) → KeptBefore font circles gs place
+    → cut ≡ rewritten_items (items_at font circles (characters gs) place) → list ≡ take place (all_joined level cut gs)
+    ++ changed_from place cut (all_joined level cut gs) → list ≡ preprocessed font circles level gs
 changed_text font circles level gs place cut list kept same is =
     let us = characters gs in
     let whole = items_at font circles us place in
     let joined = all_joined level whole gs in
     let here : place + 0 ≡ place = omega arith in
-    let long : length joined ≡ place + length (drop place us) = omega (arith, length-all_joined level whole gs, length-drop place us, length-characters gs, kept.within) in
+    let long : length joined ≡ place + length (drop place us) =
+    omega (arith, length-all_joined level whole gs, length-drop place us, length-characters gs, kept.within) in
     let all : changed_from place (rewritten_items whole) joined ≡ outputs glyph_copies whole joined =
-    ap (λ m. changed_from m (rewritten_items whole) joined) (sym here) ∙ changed_all font circles place 0 (drop place us) joined (omega arith) long in
+    ap (λ m. changed_from m (rewritten_items whole) joined) (sym here)
+    ∙ changed_all font circles place 0 (drop place us) joined (omega arith) long in
     is
-    ∙ ap (λ (l : List (ℕ × Item)). take place (all_joined level l gs) ++ changed_from place l (all_joined level l gs)) same
-    ∙ ap (λ (j : List hb_glyph_info_t). take place j ++ changed_from place (rewritten_items whole) j) (joined_changes level whole gs)
+    ∙ ap (λ (l : List (ℕ × Item)). take place (all_joined level l gs) ++ changed_from place l (all_joined level l gs))
+    same
+    ∙ ap (λ (j : List hb_glyph_info_t). take place j ++ changed_from place (rewritten_items whole) j)
+    (joined_changes level whole gs)
     ∙ ap (λ l. take place joined ++ l) all
     ∙ sym (preprocessed-kept font circles level gs place kept)
 
-pub changed_whole : (font : Font) (circles : Bool) (level : BufferClusterLevel) (gs : List hb_glyph_info_t) (place : ℕ) (cut : List (ℕ × Item)) → KeptBefore font circles gs place → cut ≡ rewritten_items (items_at font circles (characters gs) place) → changed_from 0 cut (all_joined level cut gs) ≡ preprocessed font circles level gs
+pub changed_whole : (font : Font) (circles : Bool) (level : BufferClusterLevel) (gs : List hb_glyph_info_t) (place : ℕ)
+    (cut : List (ℕ × Item)) → KeptBefore font circles gs place
+    → cut ≡ rewritten_items (items_at font circles (characters gs) place) → changed_from 0 cut (all_joined level cut gs)
+    ≡ preprocessed font circles level gs
 changed_whole font circles level gs place cut kept same =
     let joined = all_joined level cut gs in
-    let turn : InTurn (length gs) place cut = subst (InTurn (length gs) place) (sym same) (items_at_turn font circles gs place kept.within) in
-    changed_text font circles level gs place cut (changed_from 0 cut joined) kept same (changed_from-start (length gs) place cut joined turn)
+    let turn : InTurn (length gs) place cut =
+    subst (InTurn (length gs) place) (sym same) (items_at_turn font circles gs place kept.within) in
+    changed_text font circles level gs place cut (changed_from 0 cut joined) kept same
+    (changed_from-start (length gs) place cut joined turn)
 
 -- what the code asks of the items that it listed, and what it makes of a buffer by them
-pub changes_stand : (font : Font) (circles : Bool) (gs : List hb_glyph_info_t) (place : ℕ) (cut : List (ℕ × Item)) → place ≤ length gs → cut ≡ rewritten_items (items_at font circles (characters gs) place) → Fit (length gs) cut × InTurn (length gs) 0 cut
+pub changes_stand : (font : Font) (circles : Bool) (gs : List hb_glyph_info_t) (place : ℕ) (cut : List (ℕ × Item))
+    → place ≤ length gs → cut ≡ rewritten_items (items_at font circles (characters gs) place) → Fit (length gs) cut
+    × InTurn (length gs) 0 cut
 changes_stand font circles gs place cut within same =
     let whole = items_at font circles (characters gs) place in
-    let fit : Fit (length gs) whole = subst (λ n. Fit n whole) (length-characters gs) (items_at_fit font circles (characters gs) place (omega (arith, within, length-characters gs))) in
-    let turn : InTurn (length gs) 0 (rewritten_items whole) = sooner (length gs) 0 place (rewritten_items whole) (omega arith) (items_at_turn font circles gs place within) in
-    subst (λ (l : List (ℕ × Item)). Fit (length gs) l × InTurn (length gs) 0 l) (sym same) (changes_fit (length gs) whole fit, turn)
+    let fit : Fit (length gs) whole =
+    subst (λ n. Fit n whole) (length-characters gs)
+    (items_at_fit font circles (characters gs) place (omega (arith, within, length-characters gs))) in
+    let turn : InTurn (length gs) 0 (rewritten_items whole) =
+    sooner (length gs) 0 place (rewritten_items whole) (omega arith)
+    (items_at_turn font circles gs place within) in
+    subst (λ (l : List (ℕ × Item)). Fit (length gs) l × InTurn (length gs) 0 l) (sym same)
+    (changes_fit (length gs) whole fit, turn)
 
-pub buffer_changed : (font : Font) (b : Buffer) (circles : Bool) (level : BufferClusterLevel) (read : List hb_glyph_info_t) (place : ℕ) (cut : List (ℕ × Item)) → circles ≡ allows_circles b → level ≡ b.level → read ≡ b.glyphs → KeptBefore font circles read place → cut ≡ rewritten_items (items_at font circles (characters read) place) → changed_from 0 cut (all_joined level cut b.glyphs) ≡ preprocessed font (allows_circles b) b.level b.glyphs
+pub buffer_changed : (font : Font) (b : Buffer) (circles : Bool) (level : BufferClusterLevel)
+    (read : List hb_glyph_info_t) (place : ℕ) (cut : List (ℕ × Item)) → circles ≡ allows_circles b → level ≡ b.level
+    → read ≡ b.glyphs → KeptBefore font circles read place
+    → cut ≡ rewritten_items (items_at font circles (characters read) place)
+    → changed_from 0 cut (all_joined level cut b.glyphs) ≡ preprocessed font (allows_circles b) b.level b.glyphs
 buffer_changed font b circles level read place cut same_circles same_level same_glyphs kept same =
     ap (λ (xs : List hb_glyph_info_t). changed_from 0 cut (all_joined level cut xs)) (sym same_glyphs)
-    ∙ preprocessed-read font (allows_circles b) circles b.level level b.glyphs read (changed_from 0 cut (all_joined level cut read)) same_circles same_level same_glyphs (changed_whole font circles level read place cut kept same)
+    ∙ preprocessed-read font (allows_circles b) circles b.level level b.glyphs read
+    (changed_from 0 cut (all_joined level cut read)) same_circles same_level same_glyphs
+    (changed_whole font circles level read place cut kept same)
 
 -- a buffer that took another text
-pub replaced_by : {T : Type 0} (b after : Buffer) (r : Result T ShaperError) {list text : List hb_glyph_info_t} → list ≡ text → OnOk r (after ≡ (let new : Buffer = record b { glyphs = list } in new)) → OnOk r (after ≡ (let new : Buffer = record b { glyphs = text } in new))
-replaced_by b after r same told = subst (λ l. OnOk r (after ≡ (let new : Buffer = record b { glyphs = l } in new))) same told
+pub replaced_by : {T : Type 0} (b after : Buffer) (r : Result T ShaperError) {list text : List hb_glyph_info_t}
+    → list ≡ text → OnOk r (after ≡ (let new : Buffer = record b { glyphs = list } in new))
+    → OnOk r (after ≡ (let new : Buffer = record b { glyphs = text } in new))
+replaced_by b after r same told =
+    subst (λ l. OnOk r (after ≡ (let new : Buffer = record b { glyphs = l } in new))) same told

@@ -42,13 +42,20 @@ tone_ends Absent s e n within = tt
 tone_ends Before s e n within = (within, tt)
 tone_ends Behind s e n within = tt
 
-pub item_ends : (level : BufferClusterLevel) (unit : Unit) (tone : JoinedTone) (s n : ℕ) → s + (taken unit + tone_len tone) ≤ n → EndWithin n (unit_stretch level unit s ++ tone_stretch tone s (s + taken unit))
+pub item_ends : (level : BufferClusterLevel) (unit : Unit) (tone : JoinedTone) (s n : ℕ)
+    → s + (taken unit + tone_len tone) ≤ n
+    → EndWithin n (unit_stretch level unit s ++ tone_stretch tone s (s + taken unit))
 item_ends level unit tone s n within =
-    all-append (λ st. st.1 ≤ n) (unit_stretch level unit s) (tone_stretch tone s (s + taken unit)) (unit_ends (is_merged level unit) s (s + taken unit) n (omega arith)) (tone_ends tone s (s + taken unit) n (omega arith))
+    all-append (λ st. st.1 ≤ n) (unit_stretch level unit s) (tone_stretch tone s (s + taken unit))
+    (unit_ends (is_merged level unit) s (s + taken unit) n (omega arith))
+    (tone_ends tone s (s + taken unit) n (omega arith))
 
-stretches_within : (font : Font) (circles : Bool) (level : BufferClusterLevel) (us : List ℕ) → EndWithin (length us) (stretches level (items font circles us))
+stretches_within : (font : Font) (circles : Bool) (level : BufferClusterLevel) (us : List ℕ)
+    → EndWithin (length us) (stretches level (items font circles us))
 stretches_within font circles level us =
-    all-flat_map (λ p. (p.0 + item_len p.1 ≤ length us) × (p.0 + p.1.unsafe_len ≤ length us)) (λ st. st.1 ≤ length us) (λ p. item_stretches level p.1 p.0) (λ p within. item_ends level p.1.unit p.1.tone p.0 (length us) within.0) (items font circles us) (items_fit font circles us)
+    all-flat_map (λ p. (p.0 + item_len p.1 ≤ length us) × (p.0 + p.1.unsafe_len ≤ length us)) (λ st. st.1 ≤ length us)
+    (λ p. item_stretches level p.1 p.0) (λ p within. item_ends level p.1.unit p.1.tone p.0 (length us) within.0)
+    (items font circles us) (items_fit font circles us)
 
 -- an element of a list that all elements say something of
 all-at : {X : Type 0} (P : X → Type 0) (xs : List X) (x : X) (ys : List X) → AllByRecursion P (xs ++ x ∷ ys) → P x
@@ -60,12 +67,15 @@ contains-at [] x ys = (0, omega arith, refl)
 contains-at (z ∷ xs) x ys = let (k, inside, at) = contains-at xs x ys in (suc k, omega arith, at)
 
 -- the sources of an item are among its places
-all-take-range : (P : ℕ → Type 0) (n a k : ℕ) → ((p : ℕ) → a ≤ p → p < a + n → P p) → AllByRecursion P (take n (range_with_len a k))
+all-take-range : (P : ℕ → Type 0) (n a k : ℕ) → ((p : ℕ) → a ≤ p → p < a + n → P p)
+    → AllByRecursion P (take n (range_with_len a k))
 all-take-range P zero a k h = tt
 all-take-range P (suc n) a zero h = tt
-all-take-range P (suc n) a (suc k) h = (h a (omega arith) (omega arith), all-take-range P n (a + 1) k (λ p low high. h p (omega arith) (omega arith)))
+all-take-range P (suc n) a (suc k) h =
+    (h a (omega arith) (omega arith), all-take-range P n (a + 1) k (λ p low high. h p (omega arith) (omega arith)))
 
-all-unit_output : (P : ℕ → Type 0) (unit : Unit) (xs : List ℕ) → AllByRecursion P (take (taken unit) xs) → AllByRecursion P (unit_output place_copies unit xs)
+all-unit_output : (P : ℕ → Type 0) (unit : Unit) (xs : List ℕ) → AllByRecursion P (take (taken unit) xs)
+    → AllByRecursion P (unit_output place_copies unit xs)
 all-unit_output P (ComposedTwo s) [] all = tt
 all-unit_output P (ComposedTwo s) (x ∷ xs) all = (all.0, tt)
 all-unit_output P (ComposedThree s) [] all = tt
@@ -91,43 +101,66 @@ all-unit_output P CircleTone [] all = tt
 all-unit_output P CircleTone (x ∷ xs) all = (all.0, (all.0, tt))
 all-unit_output P Other xs all = all
 
-all-with_tone : (P : ℕ → Type 0) (tone : JoinedTone) (ts out : List ℕ) → AllByRecursion P ts → AllByRecursion P out → AllByRecursion P (with_tone tone ts out)
+all-with_tone : (P : ℕ → Type 0) (tone : JoinedTone) (ts out : List ℕ) → AllByRecursion P ts → AllByRecursion P out
+    → AllByRecursion P (with_tone tone ts out)
 all-with_tone P Absent ts out all every = every
 all-with_tone P Before ts out all every = all-append P ts out all every
 all-with_tone P Behind ts out all every = all-append P out ts every all
 
 -- those of an item at a place of n
-item_sources : (item : Item) (place n : ℕ) → AllByRecursion (λ p. (place ≤ p) × (p < place + taken item.unit + 1)) (item_output place_copies item (drop place (range_with_len 0 n)))
+item_sources : (item : Item) (place n : ℕ)
+    → AllByRecursion (λ p. (place ≤ p) × (p < place + taken item.unit + 1))
+    (item_output place_copies item (drop place (range_with_len 0 n)))
 item_sources item place n =
     let t = taken item.unit in
     let P : ℕ → Type 0 = λ p. (place ≤ p) × (p < place + t + 1) in
     let none : 0 + place ≡ place = omega arith in
-    let rest : drop place (range_with_len 0 n) ≡ range_with_len place (n - place) = drop-range 0 n place ∙ ap (λ a. range_with_len a (n - place)) none in
+    let rest : drop place (range_with_len 0 n) ≡ range_with_len place (n - place) = drop-range 0 n place
+    ∙ ap (λ a. range_with_len a (n - place)) none in
     subst (λ (xs : List ℕ). AllByRecursion P (item_output place_copies item xs)) (sym rest)
-    (all-with_tone P item.tone (take 1 (drop t (range_with_len place (n - place)))) (unit_output place_copies item.unit (range_with_len place (n - place)))
-    (subst (λ (xs : List ℕ). AllByRecursion P (take 1 xs)) (sym (drop-range place (n - place) t)) (all-take-range P 1 (place + t) (n - place - t) (λ p low high. (omega arith, omega arith))))
-    (all-unit_output P item.unit (range_with_len place (n - place)) (all-take-range P t place (n - place) (λ p low high. (omega arith, omega arith)))))
+    (all-with_tone P item.tone (take 1 (drop t (range_with_len place (n - place))))
+    (unit_output place_copies item.unit (range_with_len place (n - place)))
+    (subst (λ (xs : List ℕ). AllByRecursion P (take 1 xs)) (sym (drop-range place (n - place) t))
+    (all-take-range P 1 (place + t) (n - place - t) (λ p low high. (omega arith, omega arith))))
+    (all-unit_output P item.unit (range_with_len place (n - place))
+    (all-take-range P t place (n - place) (λ p low high. (omega arith, omega arith)))))
 
 -- a tone that moves merges with its syllable
-tone_stands : (level : BufferClusterLevel) (unit : Unit) (tone : JoinedTone) (s : ℕ) → tone ≡ Before → Contains (unit_stretch level unit s ++ tone_stretch tone s (s + taken unit)) (s, s + taken unit + 1)
+tone_stands : (level : BufferClusterLevel) (unit : Unit) (tone : JoinedTone) (s : ℕ) → tone ≡ Before
+    → Contains (unit_stretch level unit s ++ tone_stretch tone s (s + taken unit)) (s, s + taken unit + 1)
 tone_stands level unit tone s moves =
-    subst (λ t. Contains (unit_stretch level unit s ++ tone_stretch t s (s + taken unit)) (s, s + taken unit + 1)) (sym moves)
-    (Contains-append_right (unit_stretch level unit s) ((s, s + taken unit + 1) ∷ []) (s, s + taken unit + 1) (0, omega arith, refl))
+    subst (λ t. Contains (unit_stretch level unit s ++ tone_stretch t s (s + taken unit)) (s, s + taken unit + 1))
+    (sym moves)
+    (Contains-append_right (unit_stretch level unit s) ((s, s + taken unit + 1) ∷ []) (s, s + taken unit + 1)
+    (0, omega arith, refl))
 
-shares : (font : Font) (circles : Bool) (level : BufferClusterLevel) (us cs js : List ℕ) → ClustersMade level (stretches level (items font circles us)) (hangul_sources (items font circles us) (length us)) cs js → merges level ≡ true → (before : List (ℕ × Item)) (place : ℕ) (item : Item) (after : List (ℕ × Item)) → items font circles us ≡ before ++ (place, item) ∷ after → item.tone ≡ Before → ShareCluster js (length (hangul_sources before (length us))) (length (hangul_sources before (length us)) + output_len item.unit)
+shares : (font : Font) (circles : Bool) (level : BufferClusterLevel) (us cs js : List ℕ)
+    → ClustersMade level (stretches level (items font circles us)) (hangul_sources (items font circles us) (length us))
+    cs js → merges level ≡ true → (before : List (ℕ × Item)) (place : ℕ) (item : Item) (after : List (ℕ × Item))
+    → items font circles us ≡ before ++ (place, item) ∷ after → item.tone ≡ Before
+    → ShareCluster js (length (hangul_sources before (length us)))
+    (length (hangul_sources before (length us)) + output_len item.unit)
 shares font circles level us cs js made m before place item after split moves =
     let n = length us in
     let cut = items font circles us in
     let st : ℕ × ℕ = (place, place + taken item.unit + 1) in
     let inside = item_output place_copies item (drop place (range_with_len 0 n)) in
-    let within : place + item_len item ≤ n = (all-at (λ p. (p.0 + item_len p.1 ≤ n) × (p.0 + p.1.unsafe_len ≤ n)) before (place, item) after (subst (Fit n) split (items_fit font circles us))).0 in
+    let within : place + item_len item ≤ n =
+    (all-at (λ p. (p.0 + item_len p.1 ≤ n) × (p.0 + p.1.unsafe_len ≤ n)) before (place, item) after
+    (subst (Fit n) split (items_fit font circles us))).0 in
     let one : tone_len item.tone ≡ 1 = ap tone_len moves in
-    let many = length-item_output place_copies item (drop place (range_with_len 0 n)) (omega (arith, within, length-drop place (range_with_len 0 n), length-range_with_len 0 n)) in
+    let many = length-item_output place_copies item (drop place (range_with_len 0 n))
+    (omega (arith, within, length-drop place (range_with_len 0 n), length-range_with_len 0 n)) in
     part_shares made m st (hangul_sources before n) inside (hangul_sources after n)
-    (λ some. Contains-flat_map (λ p. item_stretches level p.1 p.0) cut (place, item) st (subst (λ (l : List (ℕ × Item)). Contains l (place, item)) (sym split) (contains-at before (place, item) after)) (tone_stands level item.unit item.tone place moves))
-    (ap (λ l. hangul_sources l n) split ∙ flat_map-append (λ p. item_output place_copies p.1 (drop p.0 (range_with_len 0 n))) before ((place, item) ∷ after))
+    (λ some. Contains-flat_map (λ p. item_stretches level p.1 p.0) cut (place, item) st
+    (subst (λ (l : List (ℕ × Item)). Contains l (place, item)) (sym split) (contains-at before (place, item) after))
+    (tone_stands level item.unit item.tone place moves))
+    (ap (λ l. hangul_sources l n) split
+    ∙ flat_map-append (λ p. item_output place_copies p.1 (drop p.0 (range_with_len 0 n))) before
+    ((place, item) ∷ after))
     (All-from_recursion (λ p. (st.0 ≤ p) × (p < st.1)) inside (item_sources item place n))
-    (length (hangul_sources before n)) (length (hangul_sources before n) + output_len item.unit) refl (omega (arith, many, one))
+    (length (hangul_sources before n)) (length (hangul_sources before n) + output_len item.unit) refl
+    (omega (arith, many, one))
 
 -- the rule on made glyphs: a copy comes of the place of what it copies
 abbrev made_copies : (gs : List hb_glyph_info_t) → Copying (Made unnamed gs)
@@ -137,17 +170,22 @@ made_copies gs = record {
 }
 
 -- no cluster rises, where others of the same clusters fell
-none_rises : (gs ps rs : List hb_glyph_info_t) → AllZip FlagsFall gs ps → clusters ps ≡ clusters rs → AllZip (λ old new. new.cluster ≤ old.cluster) gs rs
+none_rises : (gs ps rs : List hb_glyph_info_t) → AllZip FlagsFall gs ps → clusters ps ≡ clusters rs
+    → AllZip (λ old new. new.cluster ≤ old.cluster) gs rs
 none_rises [] [] [] falls same = tt
 none_rises [] [] (r ∷ rs) falls same = absurd (omega (arith, ap length same))
 none_rises [] (p ∷ ps) rs falls same = absurd falls
 none_rises (g ∷ gs) [] rs falls same = absurd falls
 none_rises (g ∷ gs) (p ∷ ps) [] falls same = absurd (omega (arith, ap length same))
-none_rises (g ∷ gs) (p ∷ ps) (r ∷ rs) falls same = (omega (arith, falls.0.at_most, ap (λ cs. get_or cs 0 0) same), none_rises gs ps rs falls.1 (ap (drop 1) same))
+none_rises (g ∷ gs) (p ∷ ps) (r ∷ rs) falls same =
+    (omega (arith, falls.0.at_most, ap (λ cs. get_or cs 0 0) same), none_rises gs ps rs falls.1 (ap (drop 1) same))
 
 -- glyphs that are written from these, which stand in their places, have their clusters
-clusters-outputs : (cut : List (ℕ × Item)) (gs : List hb_glyph_info_t) → clusters (outputs glyph_copies cut gs) ≡ outputs place_copies cut (clusters gs)
-clusters-outputs cut gs = let leads : Leads (λ g. g.cluster) glyph_copies place_copies = record { character = λ u g. refl; jamo = λ n g. refl } in outputs-map (λ g. g.cluster) glyph_copies place_copies leads cut gs
+clusters-outputs : (cut : List (ℕ × Item)) (gs : List hb_glyph_info_t) → clusters (outputs glyph_copies cut gs)
+    ≡ outputs place_copies cut (clusters gs)
+clusters-outputs cut gs = let leads : Leads (λ g. g.cluster) glyph_copies place_copies =
+    record { character = λ u g. refl; jamo = λ n g. refl } in outputs-map (λ g. g.cluster) glyph_copies place_copies
+    leads cut gs
 
 -- what is written from these glyphs, with the places that it comes of
 record Written (cut : List (ℕ × Item)) (ms : List hb_glyph_info_t) : Type 0 where
@@ -163,12 +201,16 @@ written_from cut ms =
     ∙ ap (map (λ p. p.0)) (numbered-standing (λ g. g.glyph_id) unnamed ms)
     ∙ places-enumerate_from 0 (characters ms)
     ∙ ap (range_with_len 0) (length-characters ms) in
-    let to_places : Leads (λ m. m.place) (made_copies ms) place_copies = record { character = λ u m. refl; jamo = λ n m. refl } in
-    let to_glyphs : Leads (λ m. m.glyph) (made_copies ms) glyph_copies = record { character = λ u m. refl; jamo = λ n m. refl } in
+    let to_places : Leads (λ m. m.place) (made_copies ms) place_copies =
+    record { character = λ u m. refl; jamo = λ n m. refl } in
+    let to_glyphs : Leads (λ m. m.glyph) (made_copies ms) glyph_copies =
+    record { character = λ u m. refl; jamo = λ n m. refl } in
     record {
       made = outputs (made_copies ms) cut standing;
-      from = outputs-map (λ m. m.place) (made_copies ms) place_copies to_places cut standing ∙ ap (outputs place_copies cut) places;
-      glyphs = outputs-map (λ m. m.glyph) (made_copies ms) glyph_copies to_glyphs cut standing ∙ ap (outputs glyph_copies cut) (glyphs-standing unnamed ms);
+      from = outputs-map (λ m. m.place) (made_copies ms) place_copies to_places cut standing
+          ∙ ap (outputs place_copies cut) places;
+      glyphs = outputs-map (λ m. m.glyph) (made_copies ms) glyph_copies to_glyphs cut standing
+          ∙ ap (outputs glyph_copies cut) (glyphs-standing unnamed ms);
     }
 
 pub rewritten_holds : RewrittenLaw
@@ -181,20 +223,38 @@ rewritten_holds font circles level gs =
     let rs = outputs glyph_copies cut ns in
     let within = subst (λ n. EndWithin n sts) (length-characters gs) (stretches_within font circles level us) in
     let merged = written_from cut ms in
-    let (same, h) = made_hold_by unnamed (record { cluster = λ g. refl; flags = λ g. refl }) level sts (hangul_sources cut (length gs)) gs (outputs glyph_copies cut ms) within merged.made (merged.from ∙ ap (hangul_sources cut) (length-merge_all level sts gs within)) merged.glyphs in
+    let (same, h) =
+    made_hold_by unnamed (record { cluster = λ g. refl; flags = λ g. refl }) level sts
+    (hangul_sources cut (length gs)) gs (outputs glyph_copies cut ms) within merged.made (merged.from
+    ∙ ap (hangul_sources cut) (length-merge_all level sts gs within)) merged.glyphs in
     let joined = written_from cut ns in
-    let a = subst (λ ps. AreMade unnamed ns ps rs) (joined.from ∙ ap (hangul_sources cut) (length-all_joined level cut gs)) (subst (AreMade unnamed ns (map (λ m. m.place) joined.made)) joined.glyphs (are_made unnamed ns joined.made)) in
+    let a = subst (λ ps. AreMade unnamed ns ps rs) (joined.from
+    ∙ ap (hangul_sources cut) (length-all_joined level cut gs))
+    (subst (AreMade unnamed ns (map (λ m. m.place) joined.made)) joined.glyphs
+    (are_made unnamed ns joined.made)) in
     let as_merged : clusters (outputs glyph_copies cut ms) ≡ clusters rs =
-    clusters-outputs cut ms ∙ ap (outputs place_copies cut) (sym (clusters-all_joined level cut gs)) ∙ sym (clusters-outputs cut ns) in
-    let made = subst (ClustersMade level sts (hangul_sources cut (length gs)) (clusters gs)) as_merged h.clusters_made in
-    let by_characters = subst (λ n. ClustersMade level sts (hangul_sources cut n) (clusters gs) (clusters rs)) (sym (length-characters gs)) made in
+    clusters-outputs cut ms ∙ ap (outputs place_copies cut) (sym (clusters-all_joined level cut gs))
+    ∙ sym (clusters-outputs cut ns) in
+    let made = subst (ClustersMade level sts (hangul_sources cut (length gs)) (clusters gs)) as_merged
+    h.clusters_made in
+    let by_characters =
+    subst (λ n. ClustersMade level sts (hangul_sources cut n) (clusters gs) (clusters rs))
+    (sym (length-characters gs)) made in
     record {
       made = a.same;
-      in_clusters = record { made = by_characters; cluster_law = shares font circles level us (clusters gs) (clusters rs) by_characters };
-      none_rises = none_rises (pick (hangul_sources cut (length gs)) gs) (outputs glyph_copies cut ms) rs h.falls as_merged;
+      in_clusters =
+          record {
+            made = by_characters;
+            cluster_law = shares font circles level us (clusters gs) (clusters rs)
+                by_characters;
+          };
+      none_rises = none_rises (pick (hangul_sources cut (length gs)) gs) (outputs glyph_copies cut ms) rs h.falls
+          as_merged;
     }
 
 -- the whole hook
-pub on_rewritten : {T : Type 0} (r : Result T ShaperError) (font : Font) (old new : Buffer) → OnOk r (new ≡ rewritten font old) → OnOk r (KeepsClusters font old new)
-on_rewritten (Ok x) font old new is = subst (KeepsClusters font old) (sym is) (rewritten_holds font (allows_circles old) old.level old.glyphs).in_clusters
+pub on_rewritten : {T : Type 0} (r : Result T ShaperError) (font : Font) (old new : Buffer)
+    → OnOk r (new ≡ rewritten font old) → OnOk r (KeepsClusters font old new)
+on_rewritten (Ok x) font old new is =
+    subst (KeepsClusters font old) (sym is) (rewritten_holds font (allows_circles old) old.level old.glyphs).in_clusters
 on_rewritten (Err e) font old new is = tt

@@ -28,23 +28,34 @@ one_in_order : (b : Bool) (s n : ℕ) → AllByRecursion (λ (st : ℕ × ℕ). 
 one_in_order true s n = (omega arith, tt)
 one_in_order false s n = tt
 
-unsafe_in_order : (level : BufferClusterLevel) (item : Item) (s : ℕ) → AllByRecursion (λ (st : ℕ × ℕ). st.0 ≤ st.1) (unsafe_stretches level item s)
-unsafe_in_order level item s = one_in_order (not (is_merged level item.unit) || nat_lt (taken item.unit) item.unsafe_len) s item.unsafe_len
+unsafe_in_order : (level : BufferClusterLevel) (item : Item) (s : ℕ)
+    → AllByRecursion (λ (st : ℕ × ℕ). st.0 ≤ st.1) (unsafe_stretches level item s)
+unsafe_in_order level item s =
+    one_in_order (not (is_merged level item.unit) || nat_lt (taken item.unit) item.unsafe_len) s item.unsafe_len
 
-item_joined_stays : (level : BufferClusterLevel) (s : ℕ) (item : Item) (gs : List hb_glyph_info_t) → EndWithin (length gs) (item_stretches level item s) → AllFlagsStay gs (item_joined level s item gs)
+item_joined_stays : (level : BufferClusterLevel) (s : ℕ) (item : Item) (gs : List hb_glyph_info_t)
+    → EndWithin (length gs) (item_stretches level item s) → AllFlagsStay gs (item_joined level s item gs)
 item_joined_stays level s item gs within =
     let flags = unsafe_all (unsafe_stretches level item s) gs in
     let sts = item_stretches level item s in
-    let long : length gs ≡ length flags = sym (length-characters gs) ∙ sym (ap length (map-unsafe (λ g. g.glyph_id) (λ g. refl) level item s gs)) ∙ length-characters flags in
-    all_stay_on gs flags (merge_all level sts flags) (unsafe_all_stays (unsafe_stretches level item s) gs (unsafe_in_order level item s)) (merge_all_stays level sts flags (subst (λ n. EndWithin n sts) long within))
+    let long : length gs ≡ length flags = sym (length-characters gs)
+    ∙ sym (ap length (map-unsafe (λ g. g.glyph_id) (λ g. refl) level item s gs)) ∙ length-characters flags in
+    all_stay_on gs flags (merge_all level sts flags)
+    (unsafe_all_stays (unsafe_stretches level item s) gs (unsafe_in_order level item s))
+    (merge_all_stays level sts flags (subst (λ n. EndWithin n sts) long within))
 
-all_joined_stays : (level : BufferClusterLevel) (cut : List (ℕ × Item)) (gs : List hb_glyph_info_t) → Fit (length gs) cut → AllFlagsStay gs (all_joined level cut gs)
+all_joined_stays : (level : BufferClusterLevel) (cut : List (ℕ × Item)) (gs : List hb_glyph_info_t)
+    → Fit (length gs) cut → AllFlagsStay gs (all_joined level cut gs)
 all_joined_stays level [] gs fit = all_stay_same gs
 all_joined_stays level (p ∷ cut) gs fit =
     let once = item_joined level p.0 p.1 gs in
-    all_stay_on gs once (all_joined level cut once) (item_joined_stays level p.0 p.1 gs (item_ends level p.1.unit p.1.tone p.0 (length gs) fit.0.0)) (all_joined_stays level cut once (subst (λ n. Fit n cut) (sym (length-item_joined level p.0 p.1 gs)) fit.1))
+    all_stay_on gs once (all_joined level cut once)
+    (item_joined_stays level p.0 p.1 gs (item_ends level p.1.unit p.1.tone p.0 (length gs) fit.0.0))
+    (all_joined_stays level cut once (subst (λ n. Fit n cut) (sym (length-item_joined level p.0 p.1 gs)) fit.1))
 
-rewritten_flags : (font : Font) (circles : Bool) (level : BufferClusterLevel) (gs : List hb_glyph_info_t) → AllFlagsStay (pick (hangul_sources (items font circles (characters gs)) (length gs)) gs) (preprocessed font circles level gs)
+rewritten_flags : (font : Font) (circles : Bool) (level : BufferClusterLevel) (gs : List hb_glyph_info_t)
+    → AllFlagsStay (pick (hangul_sources (items font circles (characters gs)) (length gs)) gs)
+    (preprocessed font circles level gs)
 rewritten_flags font circles level gs =
     let cut = items font circles (characters gs) in
     let ns = all_joined level cut gs in
@@ -53,12 +64,17 @@ rewritten_flags font circles level gs =
     let made = (rewritten_holds font circles level gs).made in
     all_stay_as (pick places gs) (pick places ns) rs
     (sym (map-map (λ g. g.cluster) unnamed rs) ∙ ap clusters made ∙ map-map (λ g. g.cluster) unnamed (pick places ns))
-    (sym (map-map (λ g. g.mask) unnamed rs) ∙ ap (map (λ g. g.mask)) made ∙ map-map (λ g. g.mask) unnamed (pick places ns))
-    (all_stay_picked places gs ns (all_joined_stays level cut gs (subst (λ n. Fit n cut) (length-characters gs) (items_fit font circles (characters gs)))))
+    (sym (map-map (λ g. g.mask) unnamed rs) ∙ ap (map (λ g. g.mask)) made
+    ∙ map-map (λ g. g.mask) unnamed (pick places ns))
+    (all_stay_picked places gs ns
+    (all_joined_stays level cut gs
+    (subst (λ n. Fit n cut) (length-characters gs) (items_fit font circles (characters gs)))))
 
 -- the whole hook
-pub on_flags : {T : Type 0} (r : Result T ShaperError) (font : Font) (old new : Buffer) → OnOk r (new ≡ rewritten font old) → OnOk r (KeepsGlyphFlags font old new)
-on_flags (Ok x) font old new is = subst (KeepsGlyphFlags font old) (sym is) (rewritten_flags font (allows_circles old) old.level old.glyphs)
+pub on_flags : {T : Type 0} (r : Result T ShaperError) (font : Font) (old new : Buffer)
+    → OnOk r (new ≡ rewritten font old) → OnOk r (KeepsGlyphFlags font old new)
+on_flags (Ok x) font old new is =
+    subst (KeepsGlyphFlags font old) (sym is) (rewritten_flags font (allows_circles old) old.level old.glyphs)
 on_flags (Err e) font old new is = tt
 
 -- the masks of jamo

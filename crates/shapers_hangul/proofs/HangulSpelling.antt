@@ -68,7 +68,8 @@ no_trail : (s : ℕ) → is_s s ≡ true → (s - 0xAC00) % 28 ≡ 0 → is_lv s
 no_trail s h none = ap (λ b. b && (s - 0xAC00) % 28 == 0) h ∙ ap (λ n. n == 0) none
 
 a_trail : (s : ℕ) → is_s s ≡ true → (k : ℕ) → (s - 0xAC00) % 28 ≡ suc k → is_lv s ≡ false
-a_trail s h k some = ap (λ b. b && (s - 0xAC00) % 28 == 0) h ∙ ap (λ n. n == 0) some ∙ ne_eqb (suc k) 0 (λ e. omega (arith, e))
+a_trail s h k some = ap (λ b. b && (s - 0xAC00) % 28 == 0) h ∙ ap (λ n. n == 0) some
+    ∙ ne_eqb (suc k) 0 (λ e. omega (arith, e))
 
 -- L V is spelled as its syllable character
 pub record IsLV (l v : ℕ) : Type 0 where
@@ -96,16 +97,20 @@ is_lv_of l v hl hv =
 lv_of : (l v : ℕ) → combines_l l ≡ true → combines_v v ≡ true → is_lv (with_v l v) ≡ true
 lv_of l v hl hv = (is_lv_of l v hl hv).lv
 
-lv_spelled : (l v : ℕ) → combines_l l ≡ true → combines_v v ≡ true → lead (with_v l v) ∷ vowel (with_v l v) ∷ [] ≡ l ∷ v ∷ []
-lv_spelled l v hl hv = let i = is_lv_of l v hl hv in ap (λ c. c ∷ vowel (with_v l v) ∷ []) i.leading ∙ ap (λ c. l ∷ c ∷ []) i.vowels
+lv_spelled : (l v : ℕ) → combines_l l ≡ true → combines_v v ≡ true → lead (with_v l v) ∷ vowel (with_v l v) ∷ []
+    ≡ l ∷ v ∷ []
+lv_spelled l v hl hv = let i = is_lv_of l v hl hv in ap (λ c. c ∷ vowel (with_v l v) ∷ []) i.leading
+    ∙ ap (λ c. l ∷ c ∷ []) i.vowels
 
 lv_apart : (l v : ℕ) (us : List ℕ) → combines_l l ≡ true → combines_v v ≡ true → full (l ∷ v ∷ us) ≡ l ∷ v ∷ full us
-lv_apart l v us hl hv = let i = is_lv_of l v hl hv in full_other l (v ∷ us) i.low_l ∙ ap (λ vs. l ∷ vs) (full_other v us i.low_v)
+lv_apart l v us hl hv = let i = is_lv_of l v hl hv in full_other l (v ∷ us) i.low_l
+    ∙ ap (λ vs. l ∷ vs) (full_other v us i.low_v)
 
 lv_full : (l v : ℕ) → combines_l l ≡ true → combines_v v ≡ true → full (with_v l v ∷ []) ≡ full (l ∷ v ∷ [])
 lv_full l v hl hv =
     let i = is_lv_of l v hl hv in
-    full_s (with_v l v) [] i.syllable ∙ ap (λ us. us ++ []) (jamo_lv (with_v l v) i.lv ∙ lv_spelled l v hl hv) ∙ sym (lv_apart l v [] hl hv)
+    full_s (with_v l v) [] i.syllable ∙ ap (λ us. us ++ []) (jamo_lv (with_v l v) i.lv ∙ lv_spelled l v hl hv)
+    ∙ sym (lv_apart l v [] hl hv)
 
 -- LV and a combining T
 lvt_full : (s t : ℕ) → is_lv s ≡ true → combines_t t ≡ true → full (with_t s t ∷ []) ≡ lead s ∷ vowel s ∷ t ∷ []
@@ -143,21 +148,26 @@ marked_same n (u ∷ us) = ap (λ vs. u ∷ vs) (marked_same (n + 1) us)
 abbrev SpellsUnit : List ℕ → Unit → Type 0
 SpellsUnit us x = full (unit_output character_copies x us) ≡ full (take (taken x) us)
 
-two_spells : (font : Font) (us : List ℕ) → is_l (get_or us 0 0) ≡ true → is_v (get_or us 1 0) ≡ true → SpellsUnit us (jamo_two font (get_or us 0 0) (get_or us 1 0))
+two_spells : (font : Font) (us : List ℕ) → is_l (get_or us 0 0) ≡ true → is_v (get_or us 1 0) ≡ true
+    → SpellsUnit us (jamo_two font (get_or us 0 0) (get_or us 1 0))
 two_spells font [] hl hv = absurd cc
 two_spells font (l ∷ []) hl hv = absurd cc
 two_spells font (l ∷ v ∷ us) hl hv =
-    either (SpellsUnit (l ∷ v ∷ us)) ((combines_l l && combines_v v) && has_nominal font (with_v l v)) (ComposedTwo (with_v l v)) JamoTwo
-    (λ h. let (cl, cv) = both (combines_l l) (combines_v v) (both _ (has_nominal font (with_v l v)) h).0 in lv_full l v cl cv)
+    either (SpellsUnit (l ∷ v ∷ us)) ((combines_l l && combines_v v) && has_nominal font (with_v l v))
+    (ComposedTwo (with_v l v)) JamoTwo
+    (λ h. let (cl, cv) = both (combines_l l) (combines_v v) (both _ (has_nominal font (with_v l v)) h).0 in lv_full l v
+    cl cv)
     (λ _. ap full (marked_same 1 (l ∷ v ∷ [])))
 
-three_spells : (font : Font) (us : List ℕ) → is_l (get_or us 0 0) ≡ true → is_v (get_or us 1 0) ≡ true → is_t (get_or us 2 0) ≡ true → SpellsUnit us (jamo_three font (get_or us 0 0) (get_or us 1 0) (get_or us 2 0))
+three_spells : (font : Font) (us : List ℕ) → is_l (get_or us 0 0) ≡ true → is_v (get_or us 1 0) ≡ true
+    → is_t (get_or us 2 0) ≡ true → SpellsUnit us (jamo_three font (get_or us 0 0) (get_or us 1 0) (get_or us 2 0))
 three_spells font [] hl hv ht = absurd cc
 three_spells font (l ∷ []) hl hv ht = absurd cc
 three_spells font (l ∷ v ∷ []) hl hv ht = absurd cc
 three_spells font (l ∷ v ∷ t ∷ us) hl hv ht =
     let s = with_v l v in
-    either (SpellsUnit (l ∷ v ∷ t ∷ us)) ((combines_l l && (combines_v v && combines_t t)) && has_nominal font (with_t s t)) (ComposedThree (with_t s t)) JamoThree
+    either (SpellsUnit (l ∷ v ∷ t ∷ us)) ((combines_l l && (combines_v v && combines_t t))
+    && has_nominal font (with_t s t)) (ComposedThree (with_t s t)) JamoThree
     (λ h.
     let (cl, rest) = both (combines_l l) (combines_v v && combines_t t) (both _ (has_nominal font (with_t s t)) h).0 in
     let (cv, ct) = both (combines_v v) (combines_t t) rest in
@@ -172,54 +182,76 @@ parts_spell : (s : ℕ) (us : List ℕ) → is_s s ≡ true → SpellsUnit (s �
 parts_spell s us h =
     let (a, b, c) = low_jamo s h in
     either (SpellsUnit (s ∷ us)) (is_lv s) (PartsTwo (lead s) (vowel s)) (PartsThree (lead s) (vowel s) (trail s))
-    (λ lv. ap full (marked_same 1 (lead s ∷ vowel s ∷ [])) ∙ full_other (lead s) (vowel s ∷ []) a ∙ ap (λ us. lead s ∷ us) (full_other (vowel s) [] b) ∙ sym (full_s s [] h ∙ ap (λ us. us ++ []) (jamo_lv s lv)))
-    (λ lvt. ap full (marked_same 1 (lead s ∷ vowel s ∷ trail s ∷ [])) ∙ full_other (lead s) (vowel s ∷ trail s ∷ []) a ∙ ap (λ us. lead s ∷ us) (full_other (vowel s) (trail s ∷ []) b ∙ ap (λ us. vowel s ∷ us) (full_other (trail s) [] c)) ∙ sym (full_s s [] h ∙ ap (λ us. us ++ []) (jamo_lvt s lvt)))
+    (λ lv. ap full (marked_same 1 (lead s ∷ vowel s ∷ [])) ∙ full_other (lead s) (vowel s ∷ []) a
+    ∙ ap (λ us. lead s ∷ us) (full_other (vowel s) [] b) ∙ sym (full_s s [] h ∙ ap (λ us. us ++ []) (jamo_lv s lv)))
+    (λ lvt. ap full (marked_same 1 (lead s ∷ vowel s ∷ trail s ∷ [])) ∙ full_other (lead s) (vowel s ∷ trail s ∷ []) a
+    ∙ ap (λ us. lead s ∷ us) (full_other (vowel s) (trail s ∷ []) b
+    ∙ ap (λ us. vowel s ∷ us) (full_other (trail s) [] c))
+    ∙ sym (full_s s [] h ∙ ap (λ us. us ++ []) (jamo_lvt s lvt)))
 
 -- an LV before a T
-before_t : (s t : ℕ) (us : List ℕ) → is_s s ≡ true → is_lv s ≡ true → full (lead s ∷ vowel s ∷ t ∷ []) ≡ full (s ∷ t ∷ [])
+before_t : (s t : ℕ) (us : List ℕ) → is_s s ≡ true → is_lv s ≡ true → full (lead s ∷ vowel s ∷ t ∷ [])
+    ≡ full (s ∷ t ∷ [])
 before_t s t us h lv =
     let (a, b, c) = low_jamo s h in
-    full_other (lead s) (vowel s ∷ t ∷ []) a ∙ ap (λ us. lead s ∷ us) (full_other (vowel s) (t ∷ []) b) ∙ sym (full_s s (t ∷ []) h ∙ ap (λ us. us ++ full (t ∷ [])) (jamo_lv s lv))
+    full_other (lead s) (vowel s ∷ t ∷ []) a ∙ ap (λ us. lead s ∷ us) (full_other (vowel s) (t ∷ []) b)
+    ∙ sym (full_s s (t ∷ []) h ∙ ap (λ us. us ++ full (t ∷ [])) (jamo_lv s lv))
 
-composed_t : (s t : ℕ) → is_s s ≡ true → is_lv s ≡ true → combines_t t ≡ true → full (with_t s t ∷ []) ≡ full (s ∷ t ∷ [])
+composed_t : (s t : ℕ) → is_s s ≡ true → is_lv s ≡ true → combines_t t ≡ true
+    → full (with_t s t ∷ []) ≡ full (s ∷ t ∷ [])
 composed_t s t h lv ct =
     let (t0, t1) = inside 0x11A8 0x11C2 t ct in
-    lvt_full s t lv ct ∙ sym (full_s s (t ∷ []) h ∙ ap (λ us. us ++ full (t ∷ [])) (jamo_lv s lv) ∙ ap (λ us. lead s ∷ vowel s ∷ us) (full_other t [] (omega arith)))
+    lvt_full s t lv ct
+    ∙ sym (full_s s (t ∷ []) h ∙ ap (λ us. us ++ full (t ∷ [])) (jamo_lv s lv)
+    ∙ ap (λ us. lead s ∷ vowel s ∷ us) (full_other t [] (omega arith)))
 
-syllable_spells : (font : Font) (us : List ℕ) → is_s (get_or us 0 0) ≡ true → SpellsUnit us (syllable_unit font (get_or us 0 0) (get_or us 1 0))
+syllable_spells : (font : Font) (us : List ℕ) → is_s (get_or us 0 0) ≡ true
+    → SpellsUnit us (syllable_unit font (get_or us 0 0) (get_or us 1 0))
 syllable_spells font [] h = absurd cc
 syllable_spells font (s ∷ []) h =
     let us = s ∷ [] in
-    either (SpellsUnit us) ((is_lv s && combines_t 0) && has_nominal font (with_t s 0)) (ComposedTwo (with_t s 0)) _ (λ p. let f = (both (is_lv s) false (both _ (has_nominal font (with_t s 0)) p).0).1 in absurd cc)
-    (λ _. either (SpellsUnit us) (not (has_nominal font s) && has_jamo_of font s) (jamo_parts s) _ (λ _. parts_spell s [] h)
-    (λ _. either (SpellsUnit us) ((is_lv s && is_t 0) && has_jamo_of font s) (PartsBeforeT (lead s) (vowel s)) _ (λ p. let f = (both (is_lv s) false (both _ (has_jamo_of font s) p).0).1 in absurd cc)
+    either (SpellsUnit us) ((is_lv s && combines_t 0) && has_nominal font (with_t s 0)) (ComposedTwo (with_t s 0)) _
+    (λ p. let f = (both (is_lv s) false (both _ (has_nominal font (with_t s 0)) p).0).1 in absurd cc)
+    (λ _. either (SpellsUnit us) (not (has_nominal font s) && has_jamo_of font s) (jamo_parts s) _ (λ _. parts_spell s
+    [] h)
+    (λ _. either (SpellsUnit us) ((is_lv s && is_t 0) && has_jamo_of font s) (PartsBeforeT (lead s) (vowel s)) _
+    (λ p. let f = (both (is_lv s) false (both _ (has_jamo_of font s) p).0).1 in absurd cc)
     (λ _. either (SpellsUnit us) (has_nominal font s) Syllable Other (λ _. refl) (λ _. refl))))
 syllable_spells font (s ∷ v ∷ rest) h =
     let us = s ∷ v ∷ rest in
     either (SpellsUnit us) ((is_lv s && combines_t v) && has_nominal font (with_t s v)) (ComposedTwo (with_t s v)) _
-    (λ p. let (lv, ct) = both (is_lv s) (combines_t v) (both _ (has_nominal font (with_t s v)) p).0 in composed_t s v h lv ct)
-    (λ _. either (SpellsUnit us) (not (has_nominal font s) && has_jamo_of font s) (jamo_parts s) _ (λ _. parts_spell s (v ∷ rest) h)
+    (λ p. let (lv, ct) = both (is_lv s) (combines_t v) (both _ (has_nominal font (with_t s v)) p).0 in composed_t s v h
+    lv ct)
+    (λ _. either (SpellsUnit us) (not (has_nominal font s) && has_jamo_of font s) (jamo_parts s) _
+    (λ _. parts_spell s (v ∷ rest) h)
     (λ _. either (SpellsUnit us) ((is_lv s && is_t v) && has_jamo_of font s) (PartsBeforeT (lead s) (vowel s)) _
-    (λ p. let lv = (both (is_lv s) (is_t v) (both _ (has_jamo_of font s) p).0).0 in ap full (marked_same 1 (lead s ∷ vowel s ∷ v ∷ [])) ∙ before_t s v [] h lv)
+    (λ p. let lv = (both (is_lv s) (is_t v) (both _ (has_jamo_of font s) p).0).0 in ap full
+    (marked_same 1 (lead s ∷ vowel s ∷ v ∷ [])) ∙ before_t s v [] h lv)
     (λ _. either (SpellsUnit us) (has_nominal font s) Syllable Other (λ _. refl) (λ _. refl))))
 
 -- the unit of a character that is no tone
 abbrev untoned : Font → ℕ → ℕ → ℕ → Unit
-untoned font u v t = cond (is_l u && is_v v) (cond (is_t t) (jamo_three font u v t) (jamo_two font u v)) (cond (is_s u) (syllable_unit font u v) Other)
+untoned font u v t =
+    cond (is_l u && is_v v) (cond (is_t t) (jamo_three font u v t) (jamo_two font u v))
+    (cond (is_s u) (syllable_unit font u v) Other)
 
-untoned_spells : (font : Font) (us : List ℕ) → SpellsUnit us (untoned font (get_or us 0 0) (get_or us 1 0) (get_or us 2 0))
+untoned_spells : (font : Font) (us : List ℕ)
+    → SpellsUnit us (untoned font (get_or us 0 0) (get_or us 1 0) (get_or us 2 0))
 untoned_spells font us =
     let u = get_or us 0 0 in
     let v = get_or us 1 0 in
     let t = get_or us 2 0 in
     either (SpellsUnit us) (is_l u && is_v v) _ _
-    (λ p. let (hl, hv) = both (is_l u) (is_v v) p in either (SpellsUnit us) (is_t t) (jamo_three font u v t) (jamo_two font u v) (λ ht. three_spells font us hl hv ht) (λ _. two_spells font us hl hv))
+    (λ p. let (hl, hv) = both (is_l u) (is_v v) p in either (SpellsUnit us) (is_t t) (jamo_three font u v t)
+    (jamo_two font u v) (λ ht. three_spells font us hl hv ht) (λ _. two_spells font us hl hv))
     (λ _. either (SpellsUnit us) (is_s u) (syllable_unit font u v) Other (λ h. syllable_spells font us h) (λ _. refl))
 
-unit_spells : (font : Font) (circles : Bool) (us : List ℕ) → is_tone (get_or us 0 0) ≡ false → SpellsUnit us (opening_unit font circles us)
+unit_spells : (font : Font) (circles : Bool) (us : List ℕ) → is_tone (get_or us 0 0) ≡ false
+    → SpellsUnit us (opening_unit font circles us)
 unit_spells font circles us no_tone =
     let u = get_or us 0 0 in
-    either (SpellsUnit us) (is_tone u) (lone_tone font circles u) (untoned font u (get_or us 1 0) (get_or us 2 0)) (λ p. absurd (true_is_not (sym p ∙ no_tone))) (λ _. untoned_spells font us)
+    either (SpellsUnit us) (is_tone u) (lone_tone font circles u) (untoned font u (get_or us 1 0) (get_or us 2 0))
+    (λ p. absurd (true_is_not (sym p ∙ no_tone))) (λ _. untoned_spells font us)
 
 -- ITEMS
 spelled-append : (xs ys : List ℕ) → spelled (xs ++ ys) ≡ spelled xs ++ spelled ys
@@ -241,29 +273,40 @@ lone_spells : (font : Font) (circles : Bool) (u : ℕ) (us : List ℕ) → Spell
 lone_spells font circles u us =
     let Q = SpellsApart (u ∷ us) in
     either Q (circles && has_nominal font 0x25CC) _ _
-    (λ _. either Q (is_narrow font u) CircleTone ToneCircle (λ _. refl) (λ _. spelled-append (u ∷ []) (0x25CC ∷ []) ∙ append-nil (spelled (u ∷ []))))
+    (λ _. either Q (is_narrow font u) CircleTone ToneCircle (λ _. refl) (λ _. spelled-append (u ∷ []) (0x25CC ∷ [])
+    ∙ append-nil (spelled (u ∷ []))))
     (λ _. refl)
 
-opening_spells : (font : Font) (circles : Bool) (u : ℕ) (us : List ℕ) → SpellsApart (u ∷ us) (opening_unit font circles (u ∷ us))
+opening_spells : (font : Font) (circles : Bool) (u : ℕ) (us : List ℕ)
+    → SpellsApart (u ∷ us) (opening_unit font circles (u ∷ us))
 opening_spells font circles u us =
     let p = λ (u : ℕ). not (is_tone u || u == 0x25CC) in
-    either (SpellsApart (u ∷ us)) (is_tone u) (lone_tone font circles u) (untoned font u (get_or us 0 0) (get_or us 1 0)) (λ _. lone_spells font circles u us) (λ _. ap (filter p) (untoned_spells font (u ∷ us)))
+    either (SpellsApart (u ∷ us)) (is_tone u) (lone_tone font circles u)
+    (untoned font u (get_or us 0 0) (get_or us 1 0)) (λ _. lone_spells font circles u us)
+    (λ _. ap (filter p) (untoned_spells font (u ∷ us)))
 
 -- with its tone
-tone_spells : (font : Font) (x : Unit) (us : List ℕ) → taken x ≤ length us → SpellsApart us x → spelled (with_tone (joined_tone font x (get_or us (taken x) 0)) (take 1 (drop (taken x) us)) (unit_output character_copies x us)) ≡ spelled (take (taken x + tone_len (joined_tone font x (get_or us (taken x) 0))) us)
+tone_spells : (font : Font) (x : Unit) (us : List ℕ) → taken x ≤ length us → SpellsApart us x
+    → spelled (with_tone (joined_tone font x (get_or us (taken x) 0)) (take 1 (drop (taken x) us))
+    (unit_output character_copies x us))
+    ≡ spelled (take (taken x + tone_len (joined_tone font x (get_or us (taken x) 0))) us)
 tone_spells font x us within same =
     let t = taken x in
     let w = get_or us t 0 in
     let out = unit_output character_copies x us in
     let none : t ≡ t + 0 = omega arith in
-    elim (is_syllable x && is_tone w) as (λ b. is_syllable x && is_tone w ≡ b → spelled (with_tone (cond b (cond (is_narrow font w) Behind Before) Absent) (take 1 (drop t us)) out) ≡ spelled (take (t + tone_len (cond b (cond (is_narrow font w) Behind Before) Absent)) us)) [
+    elim (is_syllable x && is_tone w) as (λ b. is_syllable x && is_tone w ≡ b
+    → spelled (with_tone (cond b (cond (is_narrow font w) Behind Before) Absent) (take 1 (drop t us)) out)
+    ≡ spelled (take (t + tone_len (cond b (cond (is_narrow font w) Behind Before) Absent)) us)) [
       | true ↦ λ h.
           let is_w = (both (is_syllable x) (is_tone w) h).1 in
           let there = there us t (above is_tone w refl is_w) in
           let one : take 1 (drop t us) ≡ w ∷ [] = ap (take 1) (drop_more us t 0 there) in
           let more = ap spelled (take_more us t 0 there) ∙ spelled-append (take t us) (w ∷ []) in
-          elim (is_narrow font w) as (λ b. spelled (with_tone (cond b Behind Before) (take 1 (drop t us)) out) ≡ spelled (take (t + tone_len (cond b Behind Before)) us)) [
-            | true ↦ ap (λ ts. spelled (out ++ ts)) one ∙ spelled-append out (w ∷ []) ∙ ap (λ xs. xs ++ spelled (w ∷ [])) same ∙ sym more
+          elim (is_narrow font w) as (λ b. spelled (with_tone (cond b Behind Before) (take 1 (drop t us)) out)
+          ≡ spelled (take (t + tone_len (cond b Behind Before)) us)) [
+            | true ↦ ap (λ ts. spelled (out ++ ts)) one ∙ spelled-append out (w ∷ [])
+                ∙ ap (λ xs. xs ++ spelled (w ∷ [])) same ∙ sym more
             | false ↦
                 ap (λ ts. spelled (ts ++ out)) one
                 ∙ spelled-append (w ∷ []) out
@@ -276,11 +319,17 @@ tone_spells font x us within same =
       | false ↦ λ _. same ∙ ap (λ n. spelled (take n us)) none
     ] refl
 
-item_spells : (font : Font) (circles : Bool) (u : ℕ) (us : List ℕ) → spelled (item_output character_copies (first_item font circles (u ∷ us)) (u ∷ us)) ≡ spelled (take (item_len (first_item font circles (u ∷ us))) (u ∷ us))
-item_spells font circles u us = tone_spells font (opening_unit font circles (u ∷ us)) (u ∷ us) (unit_within font circles (u ∷ us) (omega arith)) (opening_spells font circles u us)
+item_spells : (font : Font) (circles : Bool) (u : ℕ) (us : List ℕ)
+    → spelled (item_output character_copies (first_item font circles (u ∷ us)) (u ∷ us))
+    ≡ spelled (take (item_len (first_item font circles (u ∷ us))) (u ∷ us))
+item_spells font circles u us =
+    tone_spells font (opening_unit font circles (u ∷ us)) (u ∷ us) (unit_within font circles (u ∷ us) (omega arith))
+    (opening_spells font circles u us)
 
 -- all items of what is left of a text
-rest_spells : (font : Font) (circles : Bool) (all : List ℕ) (place skip : ℕ) (us : List ℕ) → drop place all ≡ us → spelled (outputs character_copies (items_from (first_item font circles) place skip us) all) ≡ spelled (drop skip us)
+rest_spells : (font : Font) (circles : Bool) (all : List ℕ) (place skip : ℕ) (us : List ℕ) → drop place all ≡ us
+    → spelled (outputs character_copies (items_from (first_item font circles) place skip us) all)
+    ≡ spelled (drop skip us)
 rest_spells font circles all place skip [] is = ap spelled (sym (drop-nil skip))
 rest_spells font circles all place zero (u ∷ us) is =
     let item = first_item font circles (u ∷ us) in
@@ -292,48 +341,62 @@ rest_spells font circles all place zero (u ∷ us) is =
     spelled-append (item_output character_copies item (drop place all)) (outputs character_copies rest all)
     ∙ ap (λ xs. spelled (item_output character_copies item xs) ++ spelled (outputs character_copies rest all)) is
     ∙ ap (λ xs. xs ++ spelled (outputs character_copies rest all)) (item_spells font circles u us)
-    ∙ ap (λ xs. spelled (take n (u ∷ us)) ++ xs) (rest_spells font circles all (place + 1) (n - 1) us next ∙ sym (ap (λ k. spelled (drop k (u ∷ us))) many))
+    ∙ ap (λ xs. spelled (take n (u ∷ us)) ++ xs) (rest_spells font circles all (place + 1) (n - 1) us next
+    ∙ sym (ap (λ k. spelled (drop k (u ∷ us))) many))
     ∙ sym (spelled-append (take n (u ∷ us)) (drop n (u ∷ us)))
     ∙ ap spelled (take-append-drop n (u ∷ us))
-rest_spells font circles all place (suc skip) (u ∷ us) is = rest_spells font circles all (place + 1) skip us (sym (drop-drop 1 place all) ∙ ap (drop 1) is)
+rest_spells font circles all place (suc skip) (u ∷ us) is =
+    rest_spells font circles all (place + 1) skip us (sym (drop-drop 1 place all) ∙ ap (drop 1) is)
 
 pub spells : SpellingLaw
 spells font circles us = record { unit = unit_spells font circles us; whole = rest_spells font circles us 0 0 us refl }
 
 -- the whole hook
-pub same_spelled : (font : Font) (circles : Bool) (level : BufferClusterLevel) (gs : List hb_glyph_info_t) → spelled (characters (preprocessed font circles level gs)) ≡ spelled (characters gs)
+pub same_spelled : (font : Font) (circles : Bool) (level : BufferClusterLevel) (gs : List hb_glyph_info_t)
+    → spelled (characters (preprocessed font circles level gs)) ≡ spelled (characters gs)
 same_spelled font circles level gs =
     let cut = items font circles (characters gs) in
     let ms = all_joined level cut gs in
-    let leads : Leads (λ g. g.glyph_id) glyph_copies character_copies = record { character = λ u g. refl; jamo = λ n g. refl } in
-    ap spelled (outputs-map (λ g. g.glyph_id) glyph_copies character_copies leads cut ms ∙ ap (outputs character_copies cut) (characters-all_joined level cut gs)) ∙ (spells font circles (characters gs)).whole
+    let leads : Leads (λ g. g.glyph_id) glyph_copies character_copies =
+    record { character = λ u g. refl; jamo = λ n g. refl } in
+    ap spelled (outputs-map (λ g. g.glyph_id) glyph_copies character_copies leads cut ms
+    ∙ ap (outputs character_copies cut) (characters-all_joined level cut gs))
+    ∙ (spells font circles (characters gs)).whole
 
-pub on_spelled : {T : Type 0} (r : Result T ShaperError) (font : Font) (old new : Buffer) → OnOk r (new ≡ rewritten font old) → OnOk r (SpellsSame old new)
-on_spelled (Ok x) font old new is = subst (SpellsSame old) (sym is) (same_spelled font (allows_circles old) old.level old.glyphs)
+pub on_spelled : {T : Type 0} (r : Result T ShaperError) (font : Font) (old new : Buffer)
+    → OnOk r (new ≡ rewritten font old) → OnOk r (SpellsSame old new)
+on_spelled (Ok x) font old new is =
+    subst (SpellsSame old) (sym is) (same_spelled font (allows_circles old) old.level old.glyphs)
 on_spelled (Err e) font old new is = tt
 
 -- each unit by itself
-units_spell : (font : Font) (circles : Bool) (all : List ℕ) (place skip : ℕ) (us : List ℕ) → drop place all ≡ us → AllByRecursion (UnitSpells all) (items_from (first_item font circles) place skip us)
+units_spell : (font : Font) (circles : Bool) (all : List ℕ) (place skip : ℕ) (us : List ℕ) → drop place all ≡ us
+    → AllByRecursion (UnitSpells all) (items_from (first_item font circles) place skip us)
 units_spell font circles all place skip [] is = tt
 units_spell font circles all place zero (u ∷ us) is =
     let unit = opening_unit font circles (u ∷ us) in
     let next : drop (place + 1) all ≡ us = sym (drop-drop 1 place all) ∙ ap (drop 1) is in (
-      subst (λ xs. is_tone (get_or xs 0 0) ≡ false → full (unit_output character_copies unit xs) ≡ full (take (taken unit) xs)) (sym is) (spells font circles (u ∷ us)).unit,
+      subst (λ xs. is_tone (get_or xs 0 0) ≡ false → full (unit_output character_copies unit xs)
+          ≡ full (take (taken unit) xs)) (sym is) (spells font circles (u ∷ us)).unit,
       units_spell font circles all (place + 1) (item_len (first_item font circles (u ∷ us)) - 1) us next,
     )
-units_spell font circles all place (suc skip) (u ∷ us) is = units_spell font circles all (place + 1) skip us (sym (drop-drop 1 place all) ∙ ap (drop 1) is)
+units_spell font circles all place (suc skip) (u ∷ us) is =
+    units_spell font circles all (place + 1) skip us (sym (drop-drop 1 place all) ∙ ap (drop 1) is)
 
 by_units : (font : Font) (b : Buffer) → SpellsByUnits font b (rewritten font b)
 by_units font b =
     let us = characters b.glyphs in
     let cut = items font (allows_circles b) us in
     let ms = all_joined b.level cut b.glyphs in
-    let leads : Leads (λ g. g.glyph_id) glyph_copies character_copies = record { character = λ u g. refl; jamo = λ n g. refl } in
+    let leads : Leads (λ g. g.glyph_id) glyph_copies character_copies =
+    record { character = λ u g. refl; jamo = λ n g. refl } in
     record {
-      outputs = outputs-map (λ g. g.glyph_id) glyph_copies character_copies leads cut ms ∙ ap (outputs character_copies cut) (characters-all_joined b.level cut b.glyphs);
+      outputs = outputs-map (λ g. g.glyph_id) glyph_copies character_copies leads cut ms
+          ∙ ap (outputs character_copies cut) (characters-all_joined b.level cut b.glyphs);
       units = units_spell font (allows_circles b) us 0 0 us refl;
     }
 
-pub on_units : {T : Type 0} (r : Result T ShaperError) (font : Font) (old new : Buffer) → OnOk r (new ≡ rewritten font old) → OnOk r (SpellsByUnits font old new)
+pub on_units : {T : Type 0} (r : Result T ShaperError) (font : Font) (old new : Buffer)
+    → OnOk r (new ≡ rewritten font old) → OnOk r (SpellsByUnits font old new)
 on_units (Ok x) font old new is = subst (SpellsByUnits font old) (sym is) (by_units font old)
 on_units (Err e) font old new is = tt

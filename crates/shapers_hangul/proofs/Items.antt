@@ -56,21 +56,30 @@ Reaches v t x = (taken x ≤ 1) ⊎ ((0 < v) × ((taken x ≤ 2) ⊎ (0 < t)))
 lone_reaches : (font : Font) (circles : Bool) (u v t : ℕ) → Reaches v t (lone_tone font circles u)
 lone_reaches font circles u v t =
     let Q = λ (x : Unit). Reaches v t x in
-    either Q (circles && has_nominal font 0x25CC) _ _ (λ _. either Q (is_narrow font u) CircleTone ToneCircle (λ _. inl (omega arith)) (λ _. inl (omega arith))) (λ _. inl (omega arith))
+    either Q (circles && has_nominal font 0x25CC) _ _
+    (λ _. either Q (is_narrow font u) CircleTone ToneCircle (λ _. inl (omega arith)) (λ _. inl (omega arith)))
+    (λ _. inl (omega arith))
 
 two_reaches : (font : Font) (u v t : ℕ) → 0 < v → Reaches v t (jamo_two font u v)
 two_reaches font u v t some =
     let Q = λ (x : Unit). Reaches v t x in
-    either Q ((combines_l u && combines_v v) && has_nominal font (with_v u v)) (ComposedTwo (with_v u v)) JamoTwo (λ _. inr (some, inl (omega arith))) (λ _. inr (some, inl (omega arith)))
+    either Q ((combines_l u && combines_v v) && has_nominal font (with_v u v)) (ComposedTwo (with_v u v)) JamoTwo
+    (λ _. inr (some, inl (omega arith))) (λ _. inr (some, inl (omega arith)))
 
 parts_reach : (s v t : ℕ) → Reaches v t (jamo_parts s)
-parts_reach s v t = let Q = λ (x : Unit). Reaches v t x in either Q (is_lv s) (PartsTwo (lead s) (vowel s)) (PartsThree (lead s) (vowel s) (trail s)) (λ _. inl (omega arith)) (λ _. inl (omega arith))
+parts_reach s v t = let Q =
+    λ (x : Unit). Reaches v t x in either Q (is_lv s) (PartsTwo (lead s) (vowel s))
+    (PartsThree (lead s) (vowel s) (trail s)) (λ _. inl (omega arith)) (λ _. inl (omega arith))
 
 syllable_reaches : (font : Font) (s v t : ℕ) → Reaches v t (syllable_unit font s v)
 syllable_reaches font s v t =
     let Q = λ (x : Unit). Reaches v t x in
     either Q ((is_lv s && combines_t v) && has_nominal font (with_t s v)) (ComposedTwo (with_t s v)) _
-    (λ h. inr (above combines_t v refl (both (is_lv s) _ (both _ (has_nominal font (with_t s v)) h).0).1, inl (omega arith)))
+    (λ h. inr (
+      above combines_t v refl (both (is_lv s) _ (both _ (has_nominal font (with_t s v)) h).0).1,
+      inl
+          (omega arith),
+    ))
     (λ _. either Q (not (has_nominal font s) && has_jamo_of font s) (jamo_parts s) _ (λ _. parts_reach s v t)
     (λ _. either Q ((is_lv s && is_t v) && has_jamo_of font s) (PartsBeforeT (lead s) (vowel s)) _
     (λ h. inr (above is_t v refl (both (is_lv s) _ (both _ (has_jamo_of font s) h).0).1, inl (omega arith)))
@@ -81,7 +90,8 @@ unit_reaches font circles u v t =
     let Q = λ (x : Unit). Reaches v t x in
     either Q (is_tone u) (lone_tone font circles u) _ (λ _. lone_reaches font circles u v t)
     (λ _. either Q (is_l u && is_v v) _ _
-    (λ h. let some = above is_v v refl (both (is_l u) (is_v v) h).1 in either Q (is_t t) (jamo_three font u v t) (jamo_two font u v) (λ h. inr (some, inr (above is_t t refl h))) (λ _. two_reaches font u v t some))
+    (λ h. let some = above is_v v refl (both (is_l u) (is_v v) h).1 in either Q (is_t t) (jamo_three font u v t)
+    (jamo_two font u v) (λ h. inr (some, inr (above is_t t refl h))) (λ _. two_reaches font u v t some))
     (λ _. either Q (is_s u) (syllable_unit font u v) Other (λ _. syllable_reaches font u v t) (λ _. inl (omega arith))))
 
 -- a character that isn't 0 stands within the text
@@ -90,7 +100,8 @@ there [] i some = absurd (omega arith)
 there (u ∷ us) zero some = omega arith
 there (u ∷ us) (suc i) some = omega (arith, there us i some)
 
-pub unit_within : (font : Font) (circles : Bool) (us : List ℕ) → 0 < length us → taken (first_unit font circles (get_or us 0 0) (get_or us 1 0) (get_or us 2 0)) ≤ length us
+pub unit_within : (font : Font) (circles : Bool) (us : List ℕ) → 0 < length us
+    → taken (first_unit font circles (get_or us 0 0) (get_or us 1 0) (get_or us 2 0)) ≤ length us
 unit_within font circles us some =
     let x = first_unit font circles (get_or us 0 0) (get_or us 1 0) (get_or us 2 0) in
     elim (unit_reaches font circles (get_or us 0 0) (get_or us 1 0) (get_or us 2 0)) [
@@ -102,18 +113,24 @@ unit_within font circles us some =
           ]
     ]
 
-tone_within : (font : Font) (x : Unit) (us : List ℕ) → taken x ≤ length us → taken x + tone_len (joined_tone font x (get_or us (taken x) 0)) ≤ length us
+tone_within : (font : Font) (x : Unit) (us : List ℕ) → taken x ≤ length us
+    → taken x + tone_len (joined_tone font x (get_or us (taken x) 0)) ≤ length us
 tone_within font x us within =
     let w = get_or us (taken x) 0 in
-    elim (is_syllable x && is_tone w) as (λ b. is_syllable x && is_tone w ≡ b → taken x + tone_len (cond b (cond (is_narrow font w) Behind Before) Absent) ≤ length us) [
+    elim (is_syllable x && is_tone w) as (λ b. is_syllable x && is_tone w ≡ b
+    → taken x + tone_len (cond b (cond (is_narrow font w) Behind Before) Absent) ≤ length us) [
       | true ↦ λ h.
           let inside = there us (taken x) (above is_tone w refl (both (is_syllable x) (is_tone w) h).1) in
-          elim (is_narrow font w) as (λ b. taken x + tone_len (cond b Behind Before) ≤ length us) [ true ↦ omega (arith, inside) | false ↦ omega (arith, inside) ]
+          elim (is_narrow font w) as (λ b. taken x + tone_len (cond b Behind Before) ≤ length us)
+          [ true ↦ omega (arith, inside) | false ↦ omega (arith, inside) ]
       | false ↦ λ _. omega arith
     ] refl
 
-pub first_item-within : (font : Font) (circles : Bool) (us : List ℕ) → 0 < length us → item_len (first_item font circles us) ≤ length us
-first_item-within font circles us some = tone_within font (first_unit font circles (get_or us 0 0) (get_or us 1 0) (get_or us 2 0)) us (unit_within font circles us some)
+pub first_item-within : (font : Font) (circles : Bool) (us : List ℕ) → 0 < length us
+    → item_len (first_item font circles us) ≤ length us
+first_item-within font circles us some =
+    tone_within font (first_unit font circles (get_or us 0 0) (get_or us 1 0) (get_or us 2 0)) us
+    (unit_within font circles us some)
 
 -- what the cases come to for a character that no jamo and no tone follows
 abbrev item_of : Unit → JoinedTone → ℕ → Item
@@ -138,62 +155,86 @@ combines_no v h = grind (arith, nat_tests)
 tone_no_syllable : (u : ℕ) → is_tone u ≡ true → is_s u ≡ false
 tone_no_syllable u h = grind (arith, nat_tests)
 
-turned : {X : Type 0} (a b c : Bool) (x y z : X) → (b ≡ true → a ≡ false) → cond b y (cond a x z) ≡ cond a x (cond b y z)
+turned : {X : Type 0} (a b c : Bool) (x y z : X) → (b ≡ true → a ≡ false)
+    → cond b y (cond a x z) ≡ cond a x (cond b y z)
 turned true true c x y z apart = absurd (let h = apart refl in cc)
 turned true false c x y z apart = refl
 turned false true c x y z apart = refl
 turned false false c x y z apart = refl
 
-has_or_parts : (has jamo : Bool) (p : Unit) → cond (not has && jamo) p (cond has Syllable Other) ≡ cond has Syllable (cond jamo p Other)
+has_or_parts : (has jamo : Bool) (p : Unit) → cond (not has && jamo) p (cond has Syllable Other)
+    ≡ cond has Syllable (cond jamo p Other)
 has_or_parts true jamo p = refl
 has_or_parts false true p = refl
 has_or_parts false false p = refl
 
-syllable_lone : (font : Font) (s v : ℕ) → is_t v ≡ false → syllable_unit font s v ≡ cond (has_nominal font s) Syllable (cond (has_jamo_of font s) (jamo_parts s) Other)
+syllable_lone : (font : Font) (s v : ℕ) → is_t v ≡ false
+    → syllable_unit font s v ≡ cond (has_nominal font s) Syllable (cond (has_jamo_of font s) (jamo_parts s) Other)
 syllable_lone font s v no_t =
     let has = has_nominal font s in
     let jamo = has_jamo_of font s in
     let split = cond ((is_lv s && is_t v) && jamo) (PartsBeforeT (lead s) (vowel s)) (cond has Syllable Other) in
-    ap (λ x. cond ((is_lv s && x) && has_nominal font (with_t s v)) (ComposedTwo (with_t s v)) (cond (not has && jamo) (jamo_parts s) split)) (combines_no v no_t)
-    ∙ never_so (is_lv s) (has_nominal font (with_t s v)) (ComposedTwo (with_t s v)) (cond (not has && jamo) (jamo_parts s) split)
-    ∙ ap (cond (not has && jamo) (jamo_parts s)) (ap (λ x. cond ((is_lv s && x) && jamo) (PartsBeforeT (lead s) (vowel s)) (cond has Syllable Other)) no_t ∙ never_so (is_lv s) jamo (PartsBeforeT (lead s) (vowel s)) (cond has Syllable Other))
+    ap (λ x. cond ((is_lv s && x) && has_nominal font (with_t s v)) (ComposedTwo (with_t s v))
+    (cond (not has && jamo) (jamo_parts s) split)) (combines_no v no_t)
+    ∙ never_so (is_lv s) (has_nominal font (with_t s v)) (ComposedTwo (with_t s v))
+    (cond (not has && jamo) (jamo_parts s) split)
+    ∙ ap (cond (not has && jamo) (jamo_parts s))
+    (ap (λ x. cond ((is_lv s && x) && jamo) (PartsBeforeT (lead s) (vowel s)) (cond has Syllable Other)) no_t
+    ∙ never_so (is_lv s) jamo (PartsBeforeT (lead s) (vowel s)) (cond has Syllable Other))
     ∙ has_or_parts has jamo (jamo_parts s)
 
-unit_lone : (font : Font) (circles : Bool) (u v t : ℕ) → is_v v ≡ false → is_t v ≡ false → first_unit font circles u v t ≡ lone_unit font circles u
+unit_lone : (font : Font) (circles : Bool) (u v t : ℕ) → is_v v ≡ false → is_t v ≡ false → first_unit font circles u v t
+    ≡ lone_unit font circles u
 unit_lone font circles u v t no_v no_t =
     let tone = lone_tone font circles u in
-    ap (λ x. cond (is_tone u) tone (cond (is_l u && x) (jamo_unit font u v t) (cond (is_s u) (syllable_unit font u v) Other))) no_v
-    ∙ ap (cond (is_tone u) tone) (never (is_l u) (jamo_unit font u v t) (cond (is_s u) (syllable_unit font u v) Other) ∙ ap (λ x. cond (is_s u) x Other) (syllable_lone font u v no_t))
-    ∙ turned (is_s u) (is_tone u) true (cond (has_nominal font u) Syllable (cond (has_jamo_of font u) (jamo_parts u) Other)) tone Other (tone_no_syllable u)
+    ap (λ x. cond (is_tone u) tone
+    (cond (is_l u && x) (jamo_unit font u v t) (cond (is_s u) (syllable_unit font u v) Other))) no_v
+    ∙ ap (cond (is_tone u) tone) (never (is_l u) (jamo_unit font u v t) (cond (is_s u) (syllable_unit font u v) Other)
+    ∙ ap (λ x. cond (is_s u) x Other) (syllable_lone font u v no_t))
+    ∙ turned (is_s u) (is_tone u) true
+    (cond (has_nominal font u) Syllable (cond (has_jamo_of font u) (jamo_parts u) Other)) tone Other
+    (tone_no_syllable u)
 
 parts_taken : (s : ℕ) → taken (jamo_parts s) ≡ 1
-parts_taken s = either (λ x. taken x ≡ 1) (is_lv s) (PartsTwo (lead s) (vowel s)) (PartsThree (lead s) (vowel s) (trail s)) (λ _. refl) (λ _. refl)
+parts_taken s =
+    either (λ x. taken x ≡ 1) (is_lv s) (PartsTwo (lead s) (vowel s)) (PartsThree (lead s) (vowel s) (trail s))
+    (λ _. refl) (λ _. refl)
 
 lone_taken : (font : Font) (circles : Bool) (u : ℕ) → taken (lone_unit font circles u) ≡ 1
 lone_taken font circles u =
     let Q : Unit → Type 0 = λ x. taken x ≡ 1 in
-    either Q (is_s u) _ _ (λ _. either Q (has_nominal font u) Syllable _ (λ _. refl) (λ _. either Q (has_jamo_of font u) (jamo_parts u) Other (λ _. parts_taken u) (λ _. refl)))
-    (λ _. either Q (is_tone u) (lone_tone font circles u) Other (λ _. either Q (circles && has_nominal font 0x25CC) _ Other (λ _. either Q (is_narrow font u) CircleTone ToneCircle (λ _. refl) (λ _. refl)) (λ _. refl)) (λ _. refl))
+    either Q (is_s u) _ _
+    (λ _. either Q (has_nominal font u) Syllable _ (λ _. refl)
+    (λ _. either Q (has_jamo_of font u) (jamo_parts u) Other (λ _. parts_taken u) (λ _. refl)))
+    (λ _. either Q (is_tone u) (lone_tone font circles u) Other
+    (λ _. either Q (circles && has_nominal font 0x25CC) _ Other
+    (λ _. either Q (is_narrow font u) CircleTone ToneCircle (λ _. refl) (λ _. refl)) (λ _. refl)) (λ _. refl))
 
-pub lone_first : (font : Font) (circles : Bool) (us : List ℕ) (unit : Unit) → is_v (get_or us 1 0) || (is_t (get_or us 1 0) || is_tone (get_or us 1 0)) ≡ false → unit ≡ lone_unit font circles (get_or us 0 0) → item_of unit Absent 0 ≡ first_item font circles us
+pub lone_first : (font : Font) (circles : Bool) (us : List ℕ) (unit : Unit)
+    → is_v (get_or us 1 0) || (is_t (get_or us 1 0) || is_tone (get_or us 1 0)) ≡ false
+    → unit ≡ lone_unit font circles (get_or us 0 0) → item_of unit Absent 0 ≡ first_item font circles us
 lone_first font circles us unit free is =
     let a = get_or us 0 0 in
     let b = get_or us 1 0 in
     let (no_v, others) = neither (is_v b) (is_t b || is_tone b) free in
     let (no_t, no_tone) = neither (is_t b) (is_tone b) others in
-    let whole : first_unit font circles a b (get_or us 2 0) ≡ unit = unit_lone font circles a b (get_or us 2 0) no_v no_t ∙ sym is in
+    let whole : first_unit font circles a b (get_or us 2 0) ≡ unit =
+    unit_lone font circles a b (get_or us 2 0) no_v no_t ∙ sym is in
     let one : taken unit ≡ 1 = ap taken is ∙ lone_taken font circles a in
     let alone : joined_tone font unit (get_or us (taken unit) 0) ≡ Absent =
     ap (λ n. joined_tone font unit (get_or us n 0)) one
     ∙ ap (λ x. cond (is_syllable unit && x) (cond (is_narrow font b) Behind Before) Absent) no_tone
     ∙ never (is_syllable unit) (cond (is_narrow font b) Behind Before) Absent in
     let rest : unsafe_len font unit Absent a b ≡ 0 =
-    ap (λ x. cond (is_l a && x) (taken unit) (cond (is_marked unit && false) (taken unit) (cond (is_split font a b) 2 0))) no_v
+    ap (λ x. cond (is_l a && x) (taken unit)
+    (cond (is_marked unit && false) (taken unit) (cond (is_split font a b) 2 0))) no_v
     ∙ never (is_l a) (taken unit) (cond (is_marked unit && false) (taken unit) (cond (is_split font a b) 2 0))
     ∙ never (is_marked unit) (taken unit) (cond (is_split font a b) 2 0)
-    ∙ ap (λ x. cond ((is_lv a && x) && cond (combines_t b) (not (has_nominal font (with_t a b))) (not (has_jamo_of font a))) 2 0) no_t
+    ∙ ap (λ x. cond ((is_lv a && x) && cond (combines_t b) (not (has_nominal font (with_t a b)))
+    (not (has_jamo_of font a))) 2 0) no_t
     ∙ never_so (is_lv a) (cond (combines_t b) (not (has_nominal font (with_t a b))) (not (has_jamo_of font a))) 2 0 in
-    sym (ap (λ x. item_of x (joined_tone font x (get_or us (taken x) 0)) (unsafe_len font x (joined_tone font x (get_or us (taken x) 0)) a b)) whole
+    sym (ap (λ x. item_of x (joined_tone font x (get_or us (taken x) 0))
+    (unsafe_len font x (joined_tone font x (get_or us (taken x) 0)) a b)) whole
     ∙ ap (λ y. item_of unit y (unsafe_len font unit y a b)) alone
     ∙ ap (item_of unit Absent) rest)
 
@@ -201,7 +242,8 @@ lone_first font circles us unit free is =
 cond_holds : (Q : ℕ → Type 0) (b : Bool) (x y : ℕ) → (b ≡ true → Q x) → (b ≡ false → Q y) → Q (cond b x y)
 cond_holds Q b x y passes fails = elim b as (λ a. b ≡ a → Q (cond a x y)) [ true ↦ passes | false ↦ fails ] refl
 
-pub first_item-unsafe : (font : Font) (circles : Bool) (us : List ℕ) → 0 < length us → (first_item font circles us).unsafe_len ≤ length us
+pub first_item-unsafe : (font : Font) (circles : Bool) (us : List ℕ) → 0 < length us
+    → (first_item font circles us).unsafe_len ≤ length us
 first_item-unsafe font circles us some =
     let u = get_or us 0 0 in
     let v = get_or us 1 0 in
@@ -211,24 +253,36 @@ first_item-unsafe font circles us some =
     let within = unit_within font circles us some in
     cond_holds Q (is_l u && is_v v) (taken x) _ (λ _. within)
     (λ _. cond_holds Q (is_marked x && tone_len tone == 1) (taken x) _ (λ _. within)
-    (λ _. cond_holds Q (is_split font u v) 2 0 (λ h. omega (arith, there us 1 (above is_t v refl (both (is_lv u) (is_t v) (both (is_lv u && is_t v) _ h).0).1))) (λ _. omega arith)))
+    (λ _. cond_holds Q (is_split font u v) 2 0
+    (λ h. omega (
+      arith,
+      there us 1
+          (above is_t v refl (both (is_lv u) (is_t v) (both (is_lv u && is_t v) _ h).0).1),
+    )) (λ _. omega arith)))
 
 -- the items from a place on: what the item before took is skipped, and then the first item opens the rest
-skipped : (read : List ℕ → Item) (place skip : ℕ) (us : List ℕ) → items_from read place skip us ≡ items_from read (place + skip) 0 (drop skip us)
+skipped : (read : List ℕ → Item) (place skip : ℕ) (us : List ℕ) → items_from read place skip us
+    ≡ items_from read (place + skip) 0 (drop skip us)
 skipped read place zero [] = refl
 skipped read place (suc skip) [] = refl
-skipped read place zero (u ∷ us) = let same : place ≡ place + 0 = omega arith in ap (λ p. items_from read p 0 (u ∷ us)) same
-skipped read place (suc skip) (u ∷ us) = let same : place + 1 + skip ≡ place + suc skip = omega arith in skipped read (place + 1) skip us ∙ ap (λ p. items_from read p 0 (drop skip us)) same
+skipped read place zero (u ∷ us) = let same : place ≡ place + 0 =
+    omega arith in ap (λ p. items_from read p 0 (u ∷ us)) same
+skipped read place (suc skip) (u ∷ us) = let same : place + 1 + skip ≡ place + suc skip =
+    omega arith in skipped read (place + 1) skip us ∙ ap (λ p. items_from read p 0 (drop skip us)) same
 
-item_next : (read : List ℕ → Item) (place k : ℕ) (us : List ℕ) → 0 < length us → item_len (read us) ≡ suc k → items_from read place 0 us ≡ (place, read us) ∷ items_from read (place + suc k) 0 (drop (suc k) us)
+item_next : (read : List ℕ → Item) (place k : ℕ) (us : List ℕ) → 0 < length us → item_len (read us) ≡ suc k
+    → items_from read place 0 us ≡ (place, read us) ∷ items_from read (place + suc k) 0 (drop (suc k) us)
 item_next read place k [] some takes = absurd (omega arith)
 item_next read place k (u ∷ us) some takes =
     let less : item_len (read (u ∷ us)) - 1 ≡ k = omega arith in
     let same : place + 1 + k ≡ place + suc k = omega arith in
     ap (λ n. (place, read (u ∷ us)) ∷ items_from read (place + 1) n us) less
-    ∙ ap (λ l. (place, read (u ∷ us)) ∷ l) (skipped read (place + 1) k us ∙ ap (λ p. items_from read p 0 (drop k us)) same)
+    ∙ ap (λ l. (place, read (u ∷ us)) ∷ l) (skipped read (place + 1) k us
+    ∙ ap (λ p. items_from read p 0 (drop k us)) same)
 
-pub items_at_next : (font : Font) (circles : Bool) (us : List ℕ) (place : ℕ) (item : Item) → place < length us → item ≡ first_item font circles (drop place us) → items_at font circles us place ≡ (place, item) ∷ items_at font circles us (place + item_len item)
+pub items_at_next : (font : Font) (circles : Bool) (us : List ℕ) (place : ℕ) (item : Item) → place < length us
+    → item ≡ first_item font circles (drop place us) → items_at font circles us place ≡ (place, item)
+    ∷ items_at font circles us (place + item_len item)
 items_at_next font circles us place item inside is =
     let read = first_item font circles in
     let rest = drop place us in
@@ -241,24 +295,36 @@ items_at_next font circles us place item inside is =
     ∙ ap (λ n. (place, item) ∷ items_from read (place + n) 0 (drop n rest)) many
     ∙ ap (λ l. (place, item) ∷ items_from read (place + item_len item) 0 l) (drop-drop (item_len item) place us)
 
-pub items_at_end : (font : Font) (circles : Bool) (us : List ℕ) (place : ℕ) → length us ≤ place → items_at font circles us place ≡ []
+pub items_at_end : (font : Font) (circles : Bool) (us : List ℕ) (place : ℕ) → length us ≤ place
+    → items_at font circles us place ≡ []
 items_at_end font circles us place past = ap (items_from (first_item font circles) place 0) (drop_all place us past)
 
 -- all items stand within the text, with what they flag
-items_fit_from : (font : Font) (circles : Bool) (place skip : ℕ) (us : List ℕ) → Fit (place + length us) (items_from (first_item font circles) place skip us)
+items_fit_from : (font : Font) (circles : Bool) (place skip : ℕ) (us : List ℕ)
+    → Fit (place + length us) (items_from (first_item font circles) place skip us)
 items_fit_from font circles place skip [] = tt
 items_fit_from font circles place zero (u ∷ us) =
     let read = first_item font circles (u ∷ us) in
-    let same : place + 1 + length us ≡ place + length (u ∷ us) = omega arith in
-    ((omega (arith, first_item-within font circles (u ∷ us) (omega arith)), omega (arith, first_item-unsafe font circles (u ∷ us) (omega arith))), subst (λ n. Fit n (items_from (first_item font circles) (place + 1) (item_len read - 1) us)) same (items_fit_from font circles (place + 1) (item_len read - 1) us))
+    let same : place + 1 + length us ≡ place + length (u ∷ us) = omega arith in (
+      (
+        omega (arith, first_item-within font circles (u ∷ us) (omega arith)),
+        omega
+            (arith, first_item-unsafe font circles (u ∷ us) (omega arith)),
+      ),
+      subst (λ n. Fit n (items_from (first_item font circles) (place + 1) (item_len read - 1) us)) same
+          (items_fit_from font circles (place + 1) (item_len read - 1) us),
+    )
 items_fit_from font circles place (suc skip) (u ∷ us) =
     let same : place + 1 + length us ≡ place + length (u ∷ us) = omega arith in
-    subst (λ n. Fit n (items_from (first_item font circles) (place + 1) skip us)) same (items_fit_from font circles (place + 1) skip us)
+    subst (λ n. Fit n (items_from (first_item font circles) (place + 1) skip us)) same
+    (items_fit_from font circles (place + 1) skip us)
 
 pub items_fit : (font : Font) (circles : Bool) (us : List ℕ) → Fit (length us) (items font circles us)
-items_fit font circles us = let none : 0 + length us ≡ length us = omega arith in subst (λ n. Fit n (items font circles us)) none (items_fit_from font circles 0 0 us)
+items_fit font circles us = let none : 0 + length us ≡ length us =
+    omega arith in subst (λ n. Fit n (items font circles us)) none (items_fit_from font circles 0 0 us)
 
-pub items_at_fit : (font : Font) (circles : Bool) (us : List ℕ) (place : ℕ) → place ≤ length us → Fit (length us) (items_at font circles us place)
+pub items_at_fit : (font : Font) (circles : Bool) (us : List ℕ) (place : ℕ) → place ≤ length us
+    → Fit (length us) (items_at font circles us place)
 items_at_fit font circles us place within =
     let whole : place + length (drop place us) ≡ length us = omega (arith, length-drop place us) in
     subst (λ n. Fit n (items_at font circles us place)) whole (items_fit_from font circles place 0 (drop place us))

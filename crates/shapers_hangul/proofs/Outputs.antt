@@ -1,11 +1,10 @@
 -- Outputs through maps, and their lengths.
 use Rattle.std.proofs.Common.{◌≡◌, ℕ, ◌+◌, Bool, List, [], ◌∷◌, ◌++◌, length, map, take, drop, refl, sym, ap, subst, ◌∙◌}
-use Rattle.std.specs.Prelude.{◌≤◌, Result, Err}
-use Rattle.shapers_buffer.specs.declared.buffer.refusal.ShaperError.TheVariants.{Memory}
+use Rattle.std.specs.Prelude.{Result}
 use Rattle.shapers_buffer.specs.Glyph.{characters}
 use Rattle.shapers_buffer.specs.Refusals.{RefusesLength}
 use Rattle.shapers_buffer.specs.declared.buffer.refusal.ShaperError.{ShaperError}
-use Rattle.std.proofs.lemmas.List.{append-nil, length-append, length-take-le, map-append, drop-map, take_all}
+use Rattle.std.proofs.lemmas.List.{length-append, length-take-le, map-append, drop-map}
 use Rattle.std.specs.List.{take-map}
 use Rattle.shapers_buffer.specs.declared.buffer.glyph.hb_glyph_info_t.{hb_glyph_info_t}
 use Rattle.shapers_buffer.specs.declared.buffer.level.BufferClusterLevel.{BufferClusterLevel}
@@ -16,36 +15,50 @@ use Rattle.shapers_hangul.specs.declared.ot_shaper_hangul.item.JoinedTone.TheVar
 use Rattle.shapers_hangul.specs.declared.ot_shaper_hangul.item.Unit.{Unit}
 use Rattle.shapers_hangul.specs.declared.ot_shaper_hangul.item.Unit.TheVariants.{ComposedTwo, ComposedThree, JamoTwo, JamoThree, PartsTwo, PartsThree, PartsBeforeT, Syllable, ToneCircle, CircleTone, Other}
 use Rattle.shapers_hangul.specs.Hangul.{taken, items, Copying, marked_from, unit_output, with_tone, item_output, outputs, all_joined, glyph_copies, character_copies, items_at, preprocessed, KeptBefore}
-use Rattle.shapers_hangul.proofs.Walks.{characters-all_joined, glyphs_end, length-characters}
+use Rattle.shapers_hangul.proofs.Walks.{characters-all_joined, length-characters}
 
 -- f leads what the one copying makes to what the other makes
 pub record Leads {X Y : Type 0} (f : X → Y) (c : Copying X) (d : Copying Y) : Type 0 where
   pub character : (u : ℕ) (x : X) → f (c.as_character u x) ≡ d.as_character u (f x)
   pub jamo : (n : ℕ) (x : X) → f (c.as_jamo n x) ≡ d.as_jamo n (f x)
 
-marked-map : {X Y : Type 0} (f : X → Y) (c : Copying X) (d : Copying Y) → Leads f c d → (n : ℕ) (xs : List X) → map f (marked_from c n xs) ≡ marked_from d n (map f xs)
+marked-map : {X Y : Type 0} (f : X → Y) (c : Copying X) (d : Copying Y) → Leads f c d → (n : ℕ) (xs : List X)
+    → map f (marked_from c n xs) ≡ marked_from d n (map f xs)
 marked-map f c d leads n [] = refl
-marked-map f c d leads n (x ∷ xs) = ap (λ y. y ∷ map f (marked_from c (n + 1) xs)) (leads.jamo n x) ∙ ap (λ ys. d.as_jamo n (f x) ∷ ys) (marked-map f c d leads (n + 1) xs)
+marked-map f c d leads n (x ∷ xs) = ap (λ y. y ∷ map f (marked_from c (n + 1) xs)) (leads.jamo n x)
+    ∙ ap (λ ys. d.as_jamo n (f x) ∷ ys) (marked-map f c d leads (n + 1) xs)
 
-two-map : {X Y : Type 0} (f : X → Y) (c : Copying X) (d : Copying Y) → Leads f c d → (l v : ℕ) (x : X) (ys : List Y) → f (c.as_character l x) ∷ f (c.as_character v x) ∷ ys ≡ d.as_character l (f x) ∷ d.as_character v (f x) ∷ ys
-two-map f c d leads l v x ys = ap (λ y. y ∷ f (c.as_character v x) ∷ ys) (leads.character l x) ∙ ap (λ y. d.as_character l (f x) ∷ y ∷ ys) (leads.character v x)
+two-map : {X Y : Type 0} (f : X → Y) (c : Copying X) (d : Copying Y) → Leads f c d → (l v : ℕ) (x : X) (ys : List Y)
+    → f (c.as_character l x) ∷ f (c.as_character v x) ∷ ys ≡ d.as_character l (f x) ∷ d.as_character v (f x) ∷ ys
+two-map f c d leads l v x ys = ap (λ y. y ∷ f (c.as_character v x) ∷ ys) (leads.character l x)
+    ∙ ap (λ y. d.as_character l (f x) ∷ y ∷ ys) (leads.character v x)
 
-unit_output-map : {X Y : Type 0} (f : X → Y) (c : Copying X) (d : Copying Y) → Leads f c d → (unit : Unit) (xs : List X) → map f (unit_output c unit xs) ≡ unit_output d unit (map f xs)
+unit_output-map : {X Y : Type 0} (f : X → Y) (c : Copying X) (d : Copying Y) → Leads f c d → (unit : Unit) (xs : List X)
+    → map f (unit_output c unit xs) ≡ unit_output d unit (map f xs)
 unit_output-map f c d leads (ComposedTwo s) [] = refl
 unit_output-map f c d leads (ComposedTwo s) (x ∷ xs) = ap (λ y. y ∷ []) (leads.character s x)
 unit_output-map f c d leads (ComposedThree s) [] = refl
 unit_output-map f c d leads (ComposedThree s) (x ∷ xs) = ap (λ y. y ∷ []) (leads.character s x)
-unit_output-map f c d leads JamoTwo xs = marked-map f c d leads 1 (take 2 xs) ∙ ap (marked_from d 1) (sym (take-map f 2 xs))
-unit_output-map f c d leads JamoThree xs = marked-map f c d leads 1 (take 3 xs) ∙ ap (marked_from d 1) (sym (take-map f 3 xs))
+unit_output-map f c d leads JamoTwo xs = marked-map f c d leads 1 (take 2 xs)
+    ∙ ap (marked_from d 1) (sym (take-map f 2 xs))
+unit_output-map f c d leads JamoThree xs = marked-map f c d leads 1 (take 3 xs)
+    ∙ ap (marked_from d 1) (sym (take-map f 3 xs))
 unit_output-map f c d leads (PartsTwo l v) [] = refl
-unit_output-map f c d leads (PartsTwo l v) (x ∷ xs) = marked-map f c d leads 1 (c.as_character l x ∷ c.as_character v x ∷ []) ∙ ap (marked_from d 1) (two-map f c d leads l v x [])
+unit_output-map f c d leads (PartsTwo l v) (x ∷ xs) =
+    marked-map f c d leads 1 (c.as_character l x ∷ c.as_character v x ∷ [])
+    ∙ ap (marked_from d 1) (two-map f c d leads l v x [])
 unit_output-map f c d leads (PartsThree l v t) [] = refl
 unit_output-map f c d leads (PartsThree l v t) (x ∷ xs) =
     marked-map f c d leads 1 (c.as_character l x ∷ c.as_character v x ∷ c.as_character t x ∷ [])
-    ∙ ap (marked_from d 1) (two-map f c d leads l v x (f (c.as_character t x) ∷ []) ∙ ap (λ y. d.as_character l (f x) ∷ d.as_character v (f x) ∷ y ∷ []) (leads.character t x))
+    ∙ ap (marked_from d 1) (two-map f c d leads l v x (f (c.as_character t x) ∷ [])
+    ∙ ap (λ y. d.as_character l (f x) ∷ d.as_character v (f x) ∷ y ∷ []) (leads.character t x))
 unit_output-map f c d leads (PartsBeforeT l v) [] = refl
-unit_output-map f c d leads (PartsBeforeT l v) (x ∷ []) = marked-map f c d leads 1 (c.as_character l x ∷ c.as_character v x ∷ []) ∙ ap (marked_from d 1) (two-map f c d leads l v x [])
-unit_output-map f c d leads (PartsBeforeT l v) (x ∷ y ∷ xs) = marked-map f c d leads 1 (c.as_character l x ∷ c.as_character v x ∷ y ∷ []) ∙ ap (marked_from d 1) (two-map f c d leads l v x (f y ∷ []))
+unit_output-map f c d leads (PartsBeforeT l v) (x ∷ []) =
+    marked-map f c d leads 1 (c.as_character l x ∷ c.as_character v x ∷ [])
+    ∙ ap (marked_from d 1) (two-map f c d leads l v x [])
+unit_output-map f c d leads (PartsBeforeT l v) (x ∷ y ∷ xs) =
+    marked-map f c d leads 1 (c.as_character l x ∷ c.as_character v x ∷ y ∷ [])
+    ∙ ap (marked_from d 1) (two-map f c d leads l v x (f y ∷ []))
 unit_output-map f c d leads Syllable [] = refl
 unit_output-map f c d leads Syllable (x ∷ xs) = refl
 unit_output-map f c d leads ToneCircle [] = refl
@@ -55,79 +68,84 @@ unit_output-map f c d leads CircleTone (x ∷ xs) = ap (λ y. y ∷ f x ∷ []) 
 unit_output-map f c d leads Other [] = refl
 unit_output-map f c d leads Other (x ∷ xs) = refl
 
-with_tone-map : {X Y : Type 0} (f : X → Y) (tone : JoinedTone) (ts output : List X) → map f (with_tone tone ts output) ≡ with_tone tone (map f ts) (map f output)
+with_tone-map : {X Y : Type 0} (f : X → Y) (tone : JoinedTone) (ts output : List X) → map f (with_tone tone ts output)
+    ≡ with_tone tone (map f ts) (map f output)
 with_tone-map f Absent ts output = refl
 with_tone-map f Before ts output = map-append f ts output
 with_tone-map f Behind ts output = map-append f output ts
 
-item_output-map : {X Y : Type 0} (f : X → Y) (c : Copying X) (d : Copying Y) → Leads f c d → (item : Item) (xs : List X) → map f (item_output c item xs) ≡ item_output d item (map f xs)
+item_output-map : {X Y : Type 0} (f : X → Y) (c : Copying X) (d : Copying Y) → Leads f c d → (item : Item) (xs : List X)
+    → map f (item_output c item xs) ≡ item_output d item (map f xs)
 item_output-map f c d leads item xs =
     let n = taken item.unit in
     with_tone-map f item.tone (take 1 (drop n xs)) (unit_output c item.unit xs)
-    ∙ ap (λ ts. with_tone item.tone ts (map f (unit_output c item.unit xs))) (sym (take-map f 1 (drop n xs)) ∙ ap (take 1) (sym (drop-map f n xs)))
+    ∙ ap (λ ts. with_tone item.tone ts (map f (unit_output c item.unit xs))) (sym (take-map f 1 (drop n xs))
+    ∙ ap (take 1) (sym (drop-map f n xs)))
     ∙ ap (with_tone item.tone (take 1 (drop n (map f xs)))) (unit_output-map f c d leads item.unit xs)
 
-pub outputs-map : {X Y : Type 0} (f : X → Y) (c : Copying X) (d : Copying Y) → Leads f c d → (cut : List (ℕ × Item)) (xs : List X) → map f (outputs c cut xs) ≡ outputs d cut (map f xs)
+pub outputs-map : {X Y : Type 0} (f : X → Y) (c : Copying X) (d : Copying Y) → Leads f c d
+    → (cut : List (ℕ × Item)) (xs : List X) → map f (outputs c cut xs) ≡ outputs d cut (map f xs)
 outputs-map f c d leads [] xs = refl
 outputs-map f c d leads (p ∷ cut) xs =
     map-append f (item_output c p.1 (drop p.0 xs)) (outputs c cut xs)
-    ∙ ap (λ ys. ys ++ map f (outputs c cut xs)) (item_output-map f c d leads p.1 (drop p.0 xs) ∙ ap (item_output d p.1) (sym (drop-map f p.0 xs)))
+    ∙ ap (λ ys. ys ++ map f (outputs c cut xs)) (item_output-map f c d leads p.1 (drop p.0 xs)
+    ∙ ap (item_output d p.1) (sym (drop-map f p.0 xs)))
     ∙ ap (λ ys. item_output d p.1 (drop p.0 (map f xs)) ++ ys) (outputs-map f c d leads cut xs)
 
 -- flags and merges change no length
-pub length-preprocessed : (font : Font) (circles : Bool) (level : BufferClusterLevel) (gs : List hb_glyph_info_t) → length (preprocessed font circles level gs) ≡ length (outputs glyph_copies (items font circles (characters gs)) gs)
+pub length-preprocessed : (font : Font) (circles : Bool) (level : BufferClusterLevel) (gs : List hb_glyph_info_t)
+    → length (preprocessed font circles level gs)
+    ≡ length (outputs glyph_copies (items font circles (characters gs)) gs)
 length-preprocessed font circles level gs =
     let cut = items font circles (characters gs) in
     let ms = all_joined level cut gs in
-    let leads : Leads (λ g. g.glyph_id) glyph_copies character_copies = record { character = λ u g. refl; jamo = λ n g. refl } in
+    let leads : Leads (λ g. g.glyph_id) glyph_copies character_copies =
+    record { character = λ u g. refl; jamo = λ n g. refl } in
     sym (length-characters (outputs glyph_copies cut ms))
-    ∙ ap length (outputs-map (λ g. g.glyph_id) glyph_copies character_copies leads cut ms ∙ ap (outputs character_copies cut) (characters-all_joined level cut gs) ∙ sym (outputs-map (λ g. g.glyph_id) glyph_copies character_copies leads cut gs))
+    ∙ ap length (outputs-map (λ g. g.glyph_id) glyph_copies character_copies leads cut ms
+    ∙ ap (outputs character_copies cut) (characters-all_joined level cut gs)
+    ∙ sym (outputs-map (λ g. g.glyph_id) glyph_copies character_copies leads cut gs))
     ∙ length-characters (outputs glyph_copies cut gs)
 
 -- behind what stays, the text is what the items from there on make of it
-pub preprocessed-kept : (font : Font) (circles : Bool) (level : BufferClusterLevel) (gs : List hb_glyph_info_t) (place : ℕ) → KeptBefore font circles gs place → let cut = items_at font circles (characters gs) place in preprocessed font circles level gs ≡ take place (all_joined level cut gs) ++ outputs glyph_copies cut (all_joined level cut gs)
+pub preprocessed-kept : (font : Font) (circles : Bool) (level : BufferClusterLevel) (gs : List hb_glyph_info_t)
+    (place : ℕ) → KeptBefore font circles gs place → let cut =
+    items_at font circles (characters gs) place in preprocessed font circles level gs
+    ≡ take place (all_joined level cut gs) ++ outputs glyph_copies cut (all_joined level cut gs)
 preprocessed-kept font circles level gs place kept =
     ap (outputs glyph_copies (items font circles (characters gs))) (kept.unjoined level)
     ∙ kept.same (all_joined level (items_at font circles (characters gs) place) gs)
 
--- where all stays, so does the text
-pub preprocessed-stays : (font : Font) (circles : Bool) (level : BufferClusterLevel) (gs : List hb_glyph_info_t) (place : ℕ) → length gs ≤ place → KeptBefore font circles gs place → preprocessed font circles level gs ≡ gs
-preprocessed-stays font circles level gs place past kept =
-    preprocessed-kept font circles level gs place kept
-    ∙ ap (λ (cut : List (ℕ × Item)). take place (all_joined level cut gs) ++ outputs glyph_copies cut (all_joined level cut gs)) (glyphs_end font circles gs (characters gs) place refl past)
-    ∙ append-nil (take place gs)
-    ∙ take_all place gs past
-
 -- its length
-pub length-kept : (font : Font) (circles : Bool) (level : BufferClusterLevel) (gs : List hb_glyph_info_t) (place : ℕ) → KeptBefore font circles gs place → length (preprocessed font circles level gs) ≡ place + length (outputs glyph_copies (items_at font circles (characters gs) place) gs)
+pub length-kept : (font : Font) (circles : Bool) (level : BufferClusterLevel) (gs : List hb_glyph_info_t) (place : ℕ)
+    → KeptBefore font circles gs place → length (preprocessed font circles level gs)
+    ≡ place + length (outputs glyph_copies (items_at font circles (characters gs) place) gs)
 length-kept font circles level gs place kept =
     length-preprocessed font circles level gs
     ∙ ap length (kept.same gs)
     ∙ length-append (take place gs) (outputs glyph_copies (items_at font circles (characters gs) place) gs)
-    ∙ ap (λ n. n + length (outputs glyph_copies (items_at font circles (characters gs) place) gs)) (length-take-le place gs kept.within)
+    ∙ ap (λ n. n + length (outputs glyph_copies (items_at font circles (characters gs) place) gs))
+    (length-take-le place gs kept.within)
 
 -- the result and its length, by what was read of the buffer
-pub length_read : (font : Font) (circles : Bool) (level : BufferClusterLevel) (gs : List hb_glyph_info_t) (asked : Bool) (read : List hb_glyph_info_t) (place : ℕ) → asked ≡ circles → read ≡ gs → KeptBefore font asked read place → length (preprocessed font circles level gs) ≡ place + length (outputs glyph_copies (items_at font asked (characters read) place) read)
+pub length_read : (font : Font) (circles : Bool) (level : BufferClusterLevel) (gs : List hb_glyph_info_t) (asked : Bool)
+    (read : List hb_glyph_info_t) (place : ℕ) → asked ≡ circles → read ≡ gs → KeptBefore font asked read place
+    → length (preprocessed font circles level gs)
+    ≡ place + length (outputs glyph_copies (items_at font asked (characters read) place) read)
 length_read font circles level gs asked read place same_circles same_glyphs kept =
     ap (λ b. length (preprocessed font b level gs)) (sym same_circles)
     ∙ ap (λ (xs : List hb_glyph_info_t). length (preprocessed font asked level xs)) (sym same_glyphs)
     ∙ length-kept font asked level read place kept
 
 -- a refusal by the length of the result
-pub told_by_text : {T : Type 0} (limit most wanted len : ℕ) (r : Result T ShaperError) → most ≡ limit → wanted ≡ len → RefusesLength most len r → RefusesLength limit wanted r
+pub told_by_text : {T : Type 0} (limit most wanted len : ℕ) (r : Result T ShaperError) → most ≡ limit → wanted ≡ len
+    → RefusesLength most len r → RefusesLength limit wanted r
 told_by_text limit most wanted len r same_limit same_length told =
     subst (λ n. RefusesLength limit n r) (sym same_length) (subst (λ n. RefusesLength n len r) same_limit told)
 
-pub stays_by : (font : Font) (circles : Bool) (level : BufferClusterLevel) (gs : List hb_glyph_info_t) (asked : Bool) (read : List hb_glyph_info_t) (place : ℕ) → asked ≡ circles → read ≡ gs → length read ≤ place → KeptBefore font asked read place → gs ≡ preprocessed font circles level gs
-stays_by font circles level gs asked read place same_circles same_glyphs past kept =
-    sym same_glyphs
-    ∙ sym (preprocessed-stays font asked level read place past kept)
-    ∙ ap (λ b. preprocessed font b level read) same_circles
-    ∙ ap (preprocessed font circles level) same_glyphs
-
-pub preprocessed-read : (font : Font) (circles asked : Bool) (level kept : BufferClusterLevel) (gs read list : List hb_glyph_info_t) → asked ≡ circles → kept ≡ level → read ≡ gs → list ≡ preprocessed font asked kept read → list ≡ preprocessed font circles level gs
+pub preprocessed-read : (font : Font) (circles asked : Bool) (level kept : BufferClusterLevel)
+    (gs read list : List hb_glyph_info_t) → asked ≡ circles → kept ≡ level → read ≡ gs
+    → list ≡ preprocessed font asked kept read → list ≡ preprocessed font circles level gs
 preprocessed-read font circles asked level kept gs read list same_circles same_level same_glyphs is =
-    is ∙ ap (λ b. preprocessed font b kept read) same_circles ∙ ap (λ l. preprocessed font circles l read) same_level ∙ ap (preprocessed font circles level) same_glyphs
-
-pub told_memory : {T : Type 0} (limit wanted : ℕ) (r : Result T ShaperError) → r ≡ Err Memory → wanted ≤ limit → RefusesLength limit wanted r
-told_memory limit wanted r is fits = subst (RefusesLength limit wanted) (sym is) fits
+    is ∙ ap (λ b. preprocessed font b kept read) same_circles ∙ ap (λ l. preprocessed font circles l read) same_level
+    ∙ ap (preprocessed font circles level) same_glyphs

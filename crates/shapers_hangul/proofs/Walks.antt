@@ -1,7 +1,6 @@
 -- The walks of the code over the items: what is written, what is merged, what changes.
 use Rattle.std.proofs.Common.{◌≡◌, ℕ, zero, suc, ◌+◌, ◌<◌, ◌≤◌, ◌||◌, ◌&&◌, ◌==◌, not, nat_lt, Bool, true, false, cond, List, [], ◌∷◌, ◌++◌, length, map, take, drop, refl, sym, subst, ap, ◌∙◌, arith}
 use Rattle.std.specs.List.{AllByRecursion}
-use Rattle.std.specs.Prelude.{slice_index_or}
 use Rattle.std.proofs.lemmas.Bool.{eqb-true}
 use Rattle.std.proofs.lemmas.List.{append_assoc, length-append, length-map, drop-map}
 use Rattle.shapers_buffer.specs.declared.buffer.glyph.hb_glyph_info_t.{hb_glyph_info_t}
@@ -20,54 +19,74 @@ use Rattle.shapers_hangul.specs.declared.ot_shaper_hangul.item.JoinedTone.{Joine
 use Rattle.shapers_hangul.specs.declared.ot_shaper_hangul.item.JoinedTone.TheVariants.{Absent, Before, Behind}
 use Rattle.shapers_hangul.specs.declared.ot_shaper_hangul.item.Unit.{Unit}
 use Rattle.shapers_hangul.specs.declared.ot_shaper_hangul.item.Unit.TheVariants.{ComposedTwo, ComposedThree, JamoTwo, JamoThree, PartsTwo, PartsThree, PartsBeforeT, Syllable, ToneCircle, CircleTone, Other}
-use Rattle.shapers_hangul.specs.Hangul.{taken, output_len, tone_len, item_len, keeps, is_kept, first_item, Fit, Copying, unit_output, with_tone, item_output, outputs, is_merged, item_stretches, stretches, unsafe_stretches, item_joined, all_joined, glyph_copies, items_at, KeptBefore}
+use Rattle.shapers_hangul.specs.Hangul.{taken, output_len, tone_len, item_len, keeps, is_kept, first_item, Copying, unit_output, with_tone, item_output, outputs, is_merged, item_stretches, stretches, unsafe_stretches, item_joined, all_joined, glyph_copies, items_at, KeptBefore}
 use Rattle.shapers_hangul.proofs.Items.{items_at_next, items_at_end}
 
-pub characters-merge_all : (level : BufferClusterLevel) (sts : List (ℕ × ℕ)) (gs : List hb_glyph_info_t) → characters (merge_all level sts gs) ≡ characters gs
+pub characters-merge_all : (level : BufferClusterLevel) (sts : List (ℕ × ℕ)) (gs : List hb_glyph_info_t)
+    → characters (merge_all level sts gs) ≡ characters gs
 characters-merge_all level sts gs = map-merge_all (λ g. g.glyph_id) (λ g. refl) level sts gs
 
 pub length-characters : (gs : List hb_glyph_info_t) → length (characters gs) ≡ length gs
 length-characters gs = length-map gs (λ g. g.glyph_id)
 
 -- one more item, read from what is left of the glyphs
-pub glyphs_next : (font : Font) (circles : Bool) (gs : List hb_glyph_info_t) (us : List ℕ) (place : ℕ) (item : Item) → us ≡ characters gs → place < length gs → item ≡ first_item font circles (characters (drop place gs)) → items_at font circles us place ≡ (place, item) ∷ items_at font circles us (place + item_len item)
+pub glyphs_next : (font : Font) (circles : Bool) (gs : List hb_glyph_info_t) (us : List ℕ) (place : ℕ) (item : Item)
+    → us ≡ characters gs → place < length gs → item ≡ first_item font circles (characters (drop place gs))
+    → items_at font circles us place ≡ (place, item) ∷ items_at font circles us (place + item_len item)
 glyphs_next font circles gs us place item same inside is =
-    items_at_next font circles us place item (omega (arith, length-characters gs, ap length same)) (is ∙ ap (first_item font circles) (sym (drop-map (λ g. g.glyph_id) place gs) ∙ ap (drop place) (sym same)))
+    items_at_next font circles us place item (omega (arith, length-characters gs, ap length same)) (is
+    ∙ ap (first_item font circles) (sym (drop-map (λ g. g.glyph_id) place gs) ∙ ap (drop place) (sym same)))
 
-pub glyphs_end : (font : Font) (circles : Bool) (gs : List hb_glyph_info_t) (us : List ℕ) (place : ℕ) → us ≡ characters gs → length gs ≤ place → items_at font circles us place ≡ []
-glyphs_end font circles gs us place same past = items_at_end font circles us place (omega (arith, length-characters gs, ap length same))
+pub glyphs_end : (font : Font) (circles : Bool) (gs : List hb_glyph_info_t) (us : List ℕ) (place : ℕ)
+    → us ≡ characters gs → length gs ≤ place → items_at font circles us place ≡ []
+glyphs_end font circles gs us place same past =
+    items_at_end font circles us place (omega (arith, length-characters gs, ap length same))
 
 -- JOINING
-pub map-unsafe : {Y : Type 0} (f : hb_glyph_info_t → Y) → ((g : hb_glyph_info_t) → f (with_bits 3 g) ≡ f g) → (level : BufferClusterLevel) (item : Item) (s : ℕ) (gs : List hb_glyph_info_t) → map f (unsafe_all (unsafe_stretches level item s) gs) ≡ map f gs
+pub map-unsafe : {Y : Type 0} (f : hb_glyph_info_t → Y) → ((g : hb_glyph_info_t) → f (with_bits 3 g) ≡ f g)
+    → (level : BufferClusterLevel) (item : Item) (s : ℕ) (gs : List hb_glyph_info_t)
+    → map f (unsafe_all (unsafe_stretches level item s) gs) ≡ map f gs
 map-unsafe f keeps level item s gs =
-    elim (not (is_merged level item.unit) || nat_lt (taken item.unit) item.unsafe_len) as (λ b. map f (unsafe_all (cond b ((s, s + item.unsafe_len) ∷ []) []) gs) ≡ map f gs) [
+    elim (not (is_merged level item.unit) || nat_lt (taken item.unit) item.unsafe_len) as (λ b. map f
+    (unsafe_all (cond b ((s, s + item.unsafe_len) ∷ []) []) gs) ≡ map f gs) [
       | true ↦ map-unsafe_inside f keeps s (s + item.unsafe_len) gs (omega arith)
       | false ↦ refl
     ]
 
-pub characters-item_joined : (level : BufferClusterLevel) (s : ℕ) (item : Item) (gs : List hb_glyph_info_t) → characters (item_joined level s item gs) ≡ characters gs
+pub characters-item_joined : (level : BufferClusterLevel) (s : ℕ) (item : Item) (gs : List hb_glyph_info_t)
+    → characters (item_joined level s item gs) ≡ characters gs
 characters-item_joined level s item gs =
-    characters-merge_all level (item_stretches level item s) (unsafe_all (unsafe_stretches level item s) gs) ∙ map-unsafe (λ g. g.glyph_id) (λ g. refl) level item s gs
+    characters-merge_all level (item_stretches level item s) (unsafe_all (unsafe_stretches level item s) gs)
+    ∙ map-unsafe (λ g. g.glyph_id) (λ g. refl) level item s gs
 
-pub characters-all_joined : (level : BufferClusterLevel) (cut : List (ℕ × Item)) (gs : List hb_glyph_info_t) → characters (all_joined level cut gs) ≡ characters gs
+pub characters-all_joined : (level : BufferClusterLevel) (cut : List (ℕ × Item)) (gs : List hb_glyph_info_t)
+    → characters (all_joined level cut gs) ≡ characters gs
 characters-all_joined level [] gs = refl
-characters-all_joined level (p ∷ cut) gs = characters-all_joined level cut (item_joined level p.0 p.1 gs) ∙ characters-item_joined level p.0 p.1 gs
+characters-all_joined level (p ∷ cut) gs = characters-all_joined level cut (item_joined level p.0 p.1 gs)
+    ∙ characters-item_joined level p.0 p.1 gs
 
-pub length-item_joined : (level : BufferClusterLevel) (s : ℕ) (item : Item) (gs : List hb_glyph_info_t) → length (item_joined level s item gs) ≡ length gs
-length-item_joined level s item gs = sym (length-characters (item_joined level s item gs)) ∙ ap length (characters-item_joined level s item gs) ∙ length-characters gs
+pub length-item_joined : (level : BufferClusterLevel) (s : ℕ) (item : Item) (gs : List hb_glyph_info_t)
+    → length (item_joined level s item gs) ≡ length gs
+length-item_joined level s item gs = sym (length-characters (item_joined level s item gs))
+    ∙ ap length (characters-item_joined level s item gs) ∙ length-characters gs
 
-pub length-all_joined : (level : BufferClusterLevel) (cut : List (ℕ × Item)) (gs : List hb_glyph_info_t) → length (all_joined level cut gs) ≡ length gs
-length-all_joined level cut gs = sym (length-characters (all_joined level cut gs)) ∙ ap length (characters-all_joined level cut gs) ∙ length-characters gs
+pub length-all_joined : (level : BufferClusterLevel) (cut : List (ℕ × Item)) (gs : List hb_glyph_info_t)
+    → length (all_joined level cut gs) ≡ length gs
+length-all_joined level cut gs = sym (length-characters (all_joined level cut gs))
+    ∙ ap length (characters-all_joined level cut gs) ∙ length-characters gs
 
 -- flags change no cluster
-pub clusters-all_joined : (level : BufferClusterLevel) (cut : List (ℕ × Item)) (gs : List hb_glyph_info_t) → clusters (all_joined level cut gs) ≡ clusters (merge_all level (stretches level cut) gs)
+pub clusters-all_joined : (level : BufferClusterLevel) (cut : List (ℕ × Item)) (gs : List hb_glyph_info_t)
+    → clusters (all_joined level cut gs) ≡ clusters (merge_all level (stretches level cut) gs)
 clusters-all_joined level [] gs = refl
 clusters-all_joined level (p ∷ cut) gs =
     let sts = item_stretches level p.1 p.0 in
     let flags = unsafe_all (unsafe_stretches level p.1 p.0) gs in
     clusters-all_joined level cut (merge_all level sts flags)
     ∙ clusters-merge_all level (stretches level cut) (merge_all level sts flags)
-    ∙ ap (joined_all level (stretches level cut)) (clusters-merge_all level sts flags ∙ ap (joined_all level sts) (map-unsafe (λ g. g.cluster) (λ g. refl) level p.1 p.0 gs) ∙ sym (clusters-merge_all level sts gs))
+    ∙ ap (joined_all level (stretches level cut)) (clusters-merge_all level sts flags
+    ∙ ap (joined_all level sts) (map-unsafe (λ g. g.cluster) (λ g. refl) level p.1 p.0 gs)
+    ∙ sym (clusters-merge_all level sts gs))
     ∙ sym (clusters-merge_all level (stretches level cut) (merge_all level sts gs))
     ∙ ap clusters (sym (merge_all-append level sts (stretches level cut) gs))
 
@@ -75,14 +94,9 @@ clusters-all_joined level (p ∷ cut) gs =
 abbrev pub default_item : ℕ × Item
 default_item = (0, record { unit = ComposedTwo 0; tone = Absent; unsafe_len = 0 })
 
--- one of the items that fit
-pub fit-at : (n : ℕ) (cut : List (ℕ × Item)) (k : ℕ) (p : ℕ × Item) → k < length cut → Fit n cut → ((slice_index_or cut k p).0 + item_len (slice_index_or cut k p).1 ≤ n) × ((slice_index_or cut k p).0 + (slice_index_or cut k p).1.unsafe_len ≤ n)
-fit-at n [] k p inside fit = absurd (omega arith)
-fit-at n (q ∷ cut) zero p inside fit = fit.0
-fit-at n (q ∷ cut) (suc k) p inside fit = fit-at n cut k p (omega arith) fit.1
-
 -- LENGTHS
-length-unit_output : {X : Type 0} (c : Copying X) (unit : Unit) (xs : List X) → taken unit ≤ length xs → length (unit_output c unit xs) ≡ output_len unit
+length-unit_output : {X : Type 0} (c : Copying X) (unit : Unit) (xs : List X) → taken unit ≤ length xs
+    → length (unit_output c unit xs) ≡ output_len unit
 length-unit_output c (ComposedTwo s) [] h = absurd (omega arith)
 length-unit_output c (ComposedTwo s) (x ∷ xs) h = refl
 length-unit_output c (ComposedThree s) [] h = absurd (omega arith)
@@ -115,31 +129,54 @@ first_after n [] some = absurd (omega arith)
 first_after zero (x ∷ xs) some = refl
 first_after (suc n) (x ∷ xs) some = first_after n xs (omega arith)
 
-length-with_tone : {X : Type 0} (c : Copying X) (unit : Unit) (tone : JoinedTone) (xs : List X) → taken unit + tone_len tone ≤ length xs → length (with_tone tone (take 1 (drop (taken unit) xs)) (unit_output c unit xs)) ≡ output_len unit + tone_len tone
+length-with_tone : {X : Type 0} (c : Copying X) (unit : Unit) (tone : JoinedTone) (xs : List X)
+    → taken unit + tone_len tone ≤ length xs
+    → length (with_tone tone (take 1 (drop (taken unit) xs)) (unit_output c unit xs)) ≡ output_len unit + tone_len tone
 length-with_tone c unit Absent xs h = omega (arith, length-unit_output c unit xs (omega arith))
-length-with_tone c unit Before xs h = omega (arith, length-append (take 1 (drop (taken unit) xs)) (unit_output c unit xs), length-unit_output c unit xs (omega arith), first_after (taken unit) xs (omega arith))
-length-with_tone c unit Behind xs h = omega (arith, length-append (unit_output c unit xs) (take 1 (drop (taken unit) xs)), length-unit_output c unit xs (omega arith), first_after (taken unit) xs (omega arith))
+length-with_tone c unit Before xs h =
+    omega (
+      arith,
+      length-append (take 1 (drop (taken unit) xs)) (unit_output c unit xs),
+      length-unit_output c unit xs
+          (omega arith),
+      first_after (taken unit) xs (omega arith),
+    )
+length-with_tone c unit Behind xs h =
+    omega (
+      arith,
+      length-append (unit_output c unit xs) (take 1 (drop (taken unit) xs)),
+      length-unit_output c unit xs
+          (omega arith),
+      first_after (taken unit) xs (omega arith),
+    )
 
-pub length-item_output : {X : Type 0} (c : Copying X) (item : Item) (xs : List X) → item_len item ≤ length xs → length (item_output c item xs) ≡ output_len item.unit + tone_len item.tone
+pub length-item_output : {X : Type 0} (c : Copying X) (item : Item) (xs : List X) → item_len item ≤ length xs
+    → length (item_output c item xs) ≡ output_len item.unit + tone_len item.tone
 length-item_output c item xs h = length-with_tone c item.unit item.tone xs h
 
-pub length_next : (font : Font) (circles : Bool) (gs : List hb_glyph_info_t) (place : ℕ) (item : Item) → place < length gs → item ≡ first_item font circles (characters (drop place gs)) → item_len item ≤ length (drop place gs) → length (outputs glyph_copies (items_at font circles (characters gs) place) gs) ≡ (output_len item.unit + tone_len item.tone) + length (outputs glyph_copies (items_at font circles (characters gs) (place + item_len item)) gs)
+pub length_next : (font : Font) (circles : Bool) (gs : List hb_glyph_info_t) (place : ℕ) (item : Item)
+    → place < length gs → item ≡ first_item font circles (characters (drop place gs))
+    → item_len item ≤ length (drop place gs)
+    → length (outputs glyph_copies (items_at font circles (characters gs) place) gs)
+    ≡ (output_len item.unit + tone_len item.tone)
+    + length (outputs glyph_copies (items_at font circles (characters gs) (place + item_len item)) gs)
 length_next font circles gs place item inside is within =
     let rest = items_at font circles (characters gs) (place + item_len item) in
-    ap (λ cut. length (outputs glyph_copies cut gs)) (glyphs_next font circles gs (characters gs) place item refl inside is)
+    ap (λ cut. length (outputs glyph_copies cut gs))
+    (glyphs_next font circles gs (characters gs) place item refl inside is)
     ∙ length-append (item_output glyph_copies item (drop place gs)) (outputs glyph_copies rest gs)
     ∙ ap (λ n. n + length (outputs glyph_copies rest gs)) (length-item_output glyph_copies item (drop place gs) within)
-
-pub length_end : (font : Font) (circles : Bool) (gs : List hb_glyph_info_t) (place : ℕ) → length gs ≤ place → length (outputs glyph_copies (items_at font circles (characters gs) place) gs) ≡ 0
-length_end font circles gs place past = ap (λ cut. length (outputs glyph_copies cut gs)) (glyphs_end font circles gs (characters gs) place refl past)
 
 -- WHAT STAYS
 -- one place merges nothing
 alone : (level : BufferClusterLevel) (s : ℕ) (gs : List hb_glyph_info_t) → merge level s (s + 1) gs ≡ gs
-alone level s gs = merge_cases (λ (xs : List hb_glyph_info_t). xs ≡ gs) level s (s + 1) gs refl (λ two. absurd (omega arith))
+alone level s gs =
+    merge_cases (λ (xs : List hb_glyph_info_t). xs ≡ gs) level s (s + 1) gs refl (λ two. absurd (omega arith))
 
 -- an item that is kept is a syllable character or another one, without a tone or a flag
-kept_cases : (P : Item → Type 0) → P (record { unit = Syllable; tone = Absent; unsafe_len = 0 }) → P (record { unit = Other; tone = Absent; unsafe_len = 0 }) → (unit : Unit) (tone : JoinedTone) (n : ℕ) → keeps unit && (tone_len tone == 0 && n == 0) ≡ true → P (record { unit = unit; tone = tone; unsafe_len = n })
+kept_cases : (P : Item → Type 0) → P (record { unit = Syllable; tone = Absent; unsafe_len = 0 })
+    → P (record { unit = Other; tone = Absent; unsafe_len = 0 }) → (unit : Unit) (tone : JoinedTone) (n : ℕ)
+    → keeps unit && (tone_len tone == 0 && n == 0) ≡ true → P (record { unit = unit; tone = tone; unsafe_len = n })
 kept_cases P s o (ComposedTwo x) tone n k = absurd cc
 kept_cases P s o (ComposedThree x) tone n k = absurd cc
 kept_cases P s o JamoTwo tone n k = absurd cc
@@ -158,8 +195,10 @@ kept_cases P s o Other Absent (suc n) k = absurd (omega (arith, eqb-true (suc n)
 kept_cases P s o Other Before n k = absurd cc
 kept_cases P s o Other Behind n k = absurd cc
 
-one_unjoined : (level : BufferClusterLevel) (s : ℕ) (gs : List hb_glyph_info_t) (a b : Bool) → merge_all level (cond a ((s, s + 1) ∷ []) [] ++ []) (unsafe_all (cond b ((s, s + 0) ∷ []) []) gs) ≡ gs
-one_unjoined level s gs true true = alone level s (unsafe_inside s (s + 0) gs) ∙ unsafe_few s (s + 0) gs (omega arith) (omega arith)
+one_unjoined : (level : BufferClusterLevel) (s : ℕ) (gs : List hb_glyph_info_t) (a b : Bool)
+    → merge_all level (cond a ((s, s + 1) ∷ []) [] ++ []) (unsafe_all (cond b ((s, s + 0) ∷ []) []) gs) ≡ gs
+one_unjoined level s gs true true = alone level s (unsafe_inside s (s + 0) gs)
+    ∙ unsafe_few s (s + 0) gs (omega arith) (omega arith)
 one_unjoined level s gs true false = alone level s gs
 one_unjoined level s gs false true = unsafe_few s (s + 0) gs (omega arith) (omega arith)
 one_unjoined level s gs false false = refl
@@ -173,8 +212,18 @@ pub record Keeps (item : Item) : Type 0 where
 pub kept_stays : (item : Item) → is_kept item ≡ true → Keeps item
 kept_stays item kept =
     kept_cases Keeps
-    (record { one = refl; unjoined = λ level s gs. one_unjoined level s gs (is_merged level Syllable) (not (is_merged level Syllable) || false); itself = λ gs. refl })
-    (record { one = refl; unjoined = λ level s gs. one_unjoined level s gs (is_merged level Other) (not (is_merged level Other) || false); itself = λ gs. refl })
+    (record {
+      one = refl;
+      unjoined = λ level s gs. one_unjoined level s gs (is_merged level Syllable)
+          (not (is_merged level Syllable) || false);
+      itself = λ gs. refl;
+    })
+    (record {
+      one = refl;
+      unjoined = λ level s gs. one_unjoined level s gs (is_merged level Other)
+          (not (is_merged level Other) || false);
+      itself = λ gs. refl;
+    })
     item.unit item.tone item.unsafe_len kept
 
 one_more : {X : Type 0} (n : ℕ) (xs : List X) → take n xs ++ take 1 (drop n xs) ≡ take (suc n) xs
@@ -182,10 +231,9 @@ one_more zero xs = refl
 one_more (suc n) [] = refl
 one_more (suc n) (x ∷ xs) = ap (λ l. x ∷ l) (one_more n xs)
 
-pub kept_start : (font : Font) (circles : Bool) (gs : List hb_glyph_info_t) → KeptBefore font circles gs 0
-kept_start font circles gs = record { within = omega arith; unjoined = λ level. refl; same = λ xs. refl; stays = λ all. all }
-
-pub kept_next : (font : Font) (circles : Bool) (gs : List hb_glyph_info_t) (place : ℕ) (item : Item) → place < length gs → item ≡ first_item font circles (characters (drop place gs)) → is_kept item ≡ true → KeptBefore font circles gs place → KeptBefore font circles gs (place + 1)
+pub kept_next : (font : Font) (circles : Bool) (gs : List hb_glyph_info_t) (place : ℕ) (item : Item) → place < length gs
+    → item ≡ first_item font circles (characters (drop place gs)) → is_kept item ≡ true
+    → KeptBefore font circles gs place → KeptBefore font circles gs (place + 1)
 kept_next font circles gs place item inside is kept so_far =
     let us = characters gs in
     let cut = items_at font circles us (place + 1) in
@@ -207,20 +255,29 @@ kept_next font circles gs place item inside is kept so_far =
           ∙ ap (λ (l : List hb_glyph_info_t). take place xs ++ (l ++ rest)) (keeps.itself (drop place xs))
           ∙ sym (append_assoc (take place xs) (take 1 (drop place xs)) rest)
           ∙ ap (λ l. l ++ rest) (one_more place xs ∙ ap (λ n. take n xs) on);
-      stays = λ all. so_far.stays (subst (AllByRecursion (λ (p : ℕ × Item). is_kept p.1 ≡ true)) (sym next) (kept, all));
+      stays = λ all. so_far.stays
+          (subst (AllByRecursion (λ (p : ℕ × Item). is_kept p.1 ≡ true)) (sym next) (kept, all));
     }
 
 -- the items from a character on that stays, and the length of what they become
-pub staying_next : (font : Font) (circles : Bool) (gs : List hb_glyph_info_t) (place : ℕ) → place < length gs → is_kept (first_item font circles (characters (drop place gs))) ≡ true → items_at font circles (characters gs) place ≡ (place, first_item font circles (characters (drop place gs))) ∷ items_at font circles (characters gs) (place + 1)
+pub staying_next : (font : Font) (circles : Bool) (gs : List hb_glyph_info_t) (place : ℕ) → place < length gs
+    → is_kept (first_item font circles (characters (drop place gs))) ≡ true
+    → items_at font circles (characters gs) place ≡ (place, first_item font circles (characters (drop place gs)))
+    ∷ items_at font circles (characters gs) (place + 1)
 staying_next font circles gs place inside stays =
     let item = first_item font circles (characters (drop place gs)) in
     glyphs_next font circles gs (characters gs) place item refl inside refl
     ∙ ap (λ n. (place, item) ∷ items_at font circles (characters gs) (place + n)) (kept_stays item stays).one
 
-pub length_staying : (font : Font) (circles : Bool) (gs : List hb_glyph_info_t) (place : ℕ) → place < length gs → is_kept (first_item font circles (characters (drop place gs))) ≡ true → length (outputs glyph_copies (items_at font circles (characters gs) place) gs) ≡ 1 + length (outputs glyph_copies (items_at font circles (characters gs) (place + 1)) gs)
+pub length_staying : (font : Font) (circles : Bool) (gs : List hb_glyph_info_t) (place : ℕ) → place < length gs
+    → is_kept (first_item font circles (characters (drop place gs))) ≡ true
+    → length (outputs glyph_copies (items_at font circles (characters gs) place) gs)
+    ≡ 1 + length (outputs glyph_copies (items_at font circles (characters gs) (place + 1)) gs)
 length_staying font circles gs place inside stays =
     let item = first_item font circles (characters (drop place gs)) in
     let rest = items_at font circles (characters gs) (place + 1) in
-    ap (λ (cut : List (ℕ × Item)). length (outputs glyph_copies cut gs)) (staying_next font circles gs place inside stays)
+    ap (λ (cut : List (ℕ × Item)). length (outputs glyph_copies cut gs))
+    (staying_next font circles gs place inside stays)
     ∙ length-append (item_output glyph_copies item (drop place gs)) (outputs glyph_copies rest gs)
-    ∙ ap (λ n. n + length (outputs glyph_copies rest gs)) (ap length ((kept_stays item stays).itself (drop place gs)) ∙ first_after place gs inside)
+    ∙ ap (λ n. n + length (outputs glyph_copies rest gs)) (ap length ((kept_stays item stays).itself (drop place gs))
+    ∙ first_after place gs inside)

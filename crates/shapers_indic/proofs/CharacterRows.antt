@@ -9,7 +9,14 @@ use Rattle.shapers_syllabic.specs.Characters.{with_category_and_position}
 
 -- tables that compose any pair to 7 and take any character apart into itself and 1; 09C7 is a mark
 abbrev tables : CharacterTables
-tables = record { joining = λ _. joining.U; general = λ c. if c == 0x09C7 then Mc else Lo; indic = λ c. (c + 1, c + 2); universal = λ _. 0; composed = λ a b. Some 7; decomposed = λ c. Some (c, 1) }
+tables = record {
+  joining = λ _. joining.U;
+  general = λ c. if c == 0x09C7 then Mc else Lo;
+  indic = λ c. (c + 1, c + 2);
+  universal = λ _. 0;
+  composed = λ a b. Some 7;
+  decomposed = λ c. Some (c, 1);
+}
 
 abbrev without_pairs : CharacterTables
 without_pairs = record tables { composed = λ a b. None; decomposed = λ c. None }
@@ -19,10 +26,14 @@ abbrev all_marks : CharacterTables
 all_marks = record tables { general = λ c. Mc }
 
 -- YYA, whatever the table says; each neighbour by the table
-ya_nukta : composed_in_indic tables 0x09AF 0x09BC ∷ composed_in_indic without_pairs 0x09AF 0x09BC ∷ [] ≡ Some 0x09DF ∷ Some 0x09DF ∷ []
+ya_nukta : composed_in_indic tables 0x09AF 0x09BC ∷ composed_in_indic without_pairs 0x09AF 0x09BC ∷ []
+    ≡ Some 0x09DF ∷ Some 0x09DF ∷ []
 ya_nukta = refl
 
-neighbours : composed_in_indic tables 0x09AE 0x09BC ∷ composed_in_indic tables 0x09B0 0x09BC ∷ composed_in_indic tables 0x09AF 0x09BB ∷ composed_in_indic tables 0x09AF 0x09BD ∷ composed_in_indic tables 0x09BC 0x09AF ∷ composed_in_indic without_pairs 0x09AF 0x09BD ∷ [] ≡ Some 7 ∷ Some 7 ∷ Some 7 ∷ Some 7 ∷ Some 7 ∷ None ∷ []
+neighbours : composed_in_indic tables 0x09AE 0x09BC ∷ composed_in_indic tables 0x09B0 0x09BC
+    ∷ composed_in_indic tables 0x09AF 0x09BB ∷ composed_in_indic tables 0x09AF 0x09BD
+    ∷ composed_in_indic tables 0x09BC 0x09AF ∷ composed_in_indic without_pairs 0x09AF 0x09BD ∷ [] ≡ Some 7 ∷ Some 7
+    ∷ Some 7 ∷ Some 7 ∷ Some 7 ∷ None ∷ []
 neighbours = refl
 
 -- a mark composes with nothing, YA too if the table calls it one
@@ -33,12 +44,16 @@ marks = refl
 whole : map (decomposed_in_indic tables) (0x0931 ∷ 0x09DC ∷ 0x09DD ∷ 0x0B94 ∷ []) ≡ None ∷ None ∷ None ∷ None ∷ []
 whole = refl
 
-taken_apart : map (decomposed_in_indic tables) (0x0930 ∷ 0x0932 ∷ 0x09DB ∷ 0x09DE ∷ 0x09DF ∷ 0x0B93 ∷ 0x0B95 ∷ []) ≡ Some (0x0930, 1) ∷ Some (0x0932, 1) ∷ Some (0x09DB, 1) ∷ Some (0x09DE, 1) ∷ Some (0x09DF, 1) ∷ Some (0x0B93, 1) ∷ Some (0x0B95, 1) ∷ []
+taken_apart : map (decomposed_in_indic tables) (0x0930 ∷ 0x0932 ∷ 0x09DB ∷ 0x09DE ∷ 0x09DF ∷ 0x0B93 ∷ 0x0B95 ∷ [])
+    ≡ Some (0x0930, 1) ∷ Some (0x0932, 1) ∷ Some (0x09DB, 1) ∷ Some (0x09DE, 1) ∷ Some (0x09DF, 1) ∷ Some (0x0B93, 1)
+    ∷ Some (0x0B95, 1) ∷ []
 taken_apart = refl
 
 by_the_table : decomposed_in_indic without_pairs 0x0930 ≡ None
 by_the_table = refl
 
 -- category and position by the table, each in its byte, and nothing else changes
-set_by_the_table : with_category_and_position tables (record default_glyph { glyph_id = 40; cluster = 3; mask = 5; syllable = 0x21; category = 9; auxiliary = 9 }) ≡ record default_glyph { glyph_id = 40; cluster = 3; mask = 5; syllable = 0x21; category = 41; auxiliary = 42 }
+set_by_the_table : with_category_and_position tables
+    (record default_glyph { glyph_id = 40; cluster = 3; mask = 5; syllable = 0x21; category = 9; auxiliary = 9 })
+    ≡ record default_glyph { glyph_id = 40; cluster = 3; mask = 5; syllable = 0x21; category = 41; auxiliary = 42 }
 set_by_the_table = refl

@@ -18,23 +18,29 @@ script tag = Some (record { 0 = codes tag })
 abbrev row_of : String → IndicConfig
 row_of tag = config_of (script tag)
 
--- the rows, cell by cell: column by column, in the order Deva Beng Guru Gujr Orya Taml Telu Knda Mlym Sinh, then Thai, which is any other
+-- the rows, cell by cell: column by column, in the order Deva Beng Guru Gujr Orya Taml Telu Knda
+-- Mlym Sinh, then Thai, which is any other
 abbrev tags : List String
 tags = "Deva" ∷ "Beng" ∷ "Guru" ∷ "Gujr" ∷ "Orya" ∷ "Taml" ∷ "Telu" ∷ "Knda" ∷ "Mlym" ∷ "Sinh" ∷ "Thai" ∷ []
 
-old_specs : map (λ t. (row_of t).has_old_spec) tags ≡ true ∷ true ∷ true ∷ true ∷ true ∷ true ∷ true ∷ true ∷ true ∷ false ∷ false ∷ []
+old_specs : map (λ t. (row_of t).has_old_spec) tags ≡ true ∷ true ∷ true ∷ true ∷ true ∷ true ∷ true ∷ true ∷ true
+    ∷ false ∷ false ∷ []
 old_specs = refl
 
-viramas : map (λ t. (row_of t).virama) tags ≡ 0x094D ∷ 0x09CD ∷ 0x0A4D ∷ 0x0ACD ∷ 0x0B4D ∷ 0x0BCD ∷ 0x0C4D ∷ 0x0CCD ∷ 0x0D4D ∷ 0x0DCA ∷ 0 ∷ []
+viramas : map (λ t. (row_of t).virama) tags ≡ 0x094D ∷ 0x09CD ∷ 0x0A4D ∷ 0x0ACD ∷ 0x0B4D ∷ 0x0BCD ∷ 0x0C4D ∷ 0x0CCD
+    ∷ 0x0D4D ∷ 0x0DCA ∷ 0 ∷ []
 viramas = refl
 
-reph_positions : map (λ t. (row_of t).reph_pos) tags ≡ BeforePost ∷ AfterSub ∷ BeforeSub ∷ BeforePost ∷ AfterMain ∷ AfterPost ∷ AfterPost ∷ AfterPost ∷ AfterMain ∷ AfterPost ∷ BeforePost ∷ []
+reph_positions : map (λ t. (row_of t).reph_pos) tags ≡ BeforePost ∷ AfterSub ∷ BeforeSub ∷ BeforePost ∷ AfterMain
+    ∷ AfterPost ∷ AfterPost ∷ AfterPost ∷ AfterMain ∷ AfterPost ∷ BeforePost ∷ []
 reph_positions = refl
 
-modes : map (λ t. (row_of t).reph_mode) tags ≡ Implicit ∷ Implicit ∷ Implicit ∷ Implicit ∷ Implicit ∷ Implicit ∷ Explicit ∷ Implicit ∷ LogRepha ∷ Explicit ∷ Implicit ∷ []
+modes : map (λ t. (row_of t).reph_mode) tags ≡ Implicit ∷ Implicit ∷ Implicit ∷ Implicit ∷ Implicit ∷ Implicit
+    ∷ Explicit ∷ Implicit ∷ LogRepha ∷ Explicit ∷ Implicit ∷ []
 modes = refl
 
-blwf_modes : map (λ t. (row_of t).blwf_mode) tags ≡ PreAndPost ∷ PreAndPost ∷ PreAndPost ∷ PreAndPost ∷ PreAndPost ∷ PreAndPost ∷ PostOnly ∷ PostOnly ∷ PreAndPost ∷ PreAndPost ∷ PreAndPost ∷ []
+blwf_modes : map (λ t. (row_of t).blwf_mode) tags ≡ PreAndPost ∷ PreAndPost ∷ PreAndPost ∷ PreAndPost ∷ PreAndPost
+    ∷ PreAndPost ∷ PostOnly ∷ PostOnly ∷ PreAndPost ∷ PreAndPost ∷ PreAndPost ∷ []
 blwf_modes = refl
 
 each_its_own : map (λ t. (row_of t).script) tags ≡ script "Deva" ∷ script "Beng" ∷ script "Guru" ∷ script "Gujr" ∷ script "Orya" ∷ script "Taml" ∷ script "Telu" ∷ script "Knda" ∷ script "Mlym" ∷ script "Sinh" ∷ None ∷ []
@@ -50,7 +56,16 @@ abbrev feature : String → ℕ → ℕ → feature_map_t
 feature tag mask stage = record { tag = record { 0 = codes tag }; mask = mask; stage = stage }
 
 abbrev map_with : List feature_map_t → Option hb_tag_t → Map
-map_with features chosen = record { features = features; stages = record { start = 0; end = 2 } ∷ record { start = 2; end = 3 } ∷ []; lookups = 7 ∷ 8 ∷ 9 ∷ []; global = 0; chosen = chosen; found = true }
+map_with features chosen =
+    record {
+      features = features;
+      stages = record { start = 0; end = 2 } ∷ record { start = 2; end = 3 }
+          ∷ [];
+      lookups = 7 ∷ 8 ∷ 9 ∷ [];
+      global = 0;
+      chosen = chosen;
+      found = true;
+    }
 
 abbrev chosen : String → Map
 chosen tag = map_with [] (Some (record { 0 = codes tag }))
@@ -66,7 +81,8 @@ unknown_script : has_old_spec None (map_with [] None) ≡ false
 unknown_script = refl
 
 -- contexts are left out in the older specification, but for Malayalam
-old_contexts : map (λ t. zero_context (script t) (map_with [] None)) tags ≡ true ∷ true ∷ true ∷ true ∷ true ∷ true ∷ true ∷ true ∷ false ∷ false ∷ false ∷ []
+old_contexts : map (λ t. zero_context (script t) (map_with [] None)) tags ≡ true ∷ true ∷ true ∷ true ∷ true ∷ true
+    ∷ true ∷ true ∷ false ∷ false ∷ false ∷ []
 old_contexts = refl
 
 new_contexts : zero_context (script "Deva") (chosen "dev2") ∷ zero_context (script "Mlym") (chosen "mlm2") ∷ [] ≡ false ∷ false ∷ []
@@ -76,7 +92,8 @@ new_contexts = refl
 abbrev all_features : List feature_map_t
 all_features = feature "nukt" 8 0 ∷ feature "akhn" 16 0 ∷ feature "rphf" 24 0 ∷ feature "rkrf" 32 0 ∷ feature "pref" 40 0 ∷ feature "blwf" 48 1 ∷ feature "abvf" 56 0 ∷ feature "half" 64 0 ∷ feature "pstf" 72 0 ∷ feature "vatu" 80 0 ∷ feature "cjct" 88 0 ∷ feature "init" 96 0 ∷ feature "pres" 104 0 ∷ feature "abvs" 112 0 ∷ feature "blws" 120 0 ∷ feature "psts" 128 0 ∷ feature "haln" 136 0 ∷ []
 
-masks : feature_masks (map_with all_features None) ≡ 0 ∷ 0 ∷ 24 ∷ 0 ∷ 40 ∷ 48 ∷ 56 ∷ 64 ∷ 72 ∷ 0 ∷ 0 ∷ 96 ∷ 0 ∷ 0 ∷ 0 ∷ 0 ∷ 0 ∷ []
+masks : feature_masks (map_with all_features None) ≡ 0 ∷ 0 ∷ 24 ∷ 0 ∷ 40 ∷ 48 ∷ 56 ∷ 64 ∷ 72 ∷ 0 ∷ 0 ∷ 96 ∷ 0 ∷ 0 ∷ 0
+    ∷ 0 ∷ 0 ∷ []
 masks = refl
 
 no_masks : feature_masks (map_with [] None) ≡ 0 ∷ 0 ∷ 0 ∷ 0 ∷ 0 ∷ 0 ∷ 0 ∷ 0 ∷ 0 ∷ 0 ∷ 0 ∷ 0 ∷ 0 ∷ 0 ∷ 0 ∷ 0 ∷ 0 ∷ []
@@ -97,7 +114,8 @@ whole_plan : indic_plan AllConsonants (script "Beng") (map_with (feature "rphf" 
 whole_plan = refl
 
 -- the caller's choice is kept, and nothing else depends on it
-each_search : (t : String) (m : Map) → record (indic_plan WithoutMedials (script t) m) { base_search = AllConsonants } ≡ indic_plan AllConsonants (script t) m
+each_search : (t : String) (m : Map) → record (indic_plan WithoutMedials (script t) m) { base_search = AllConsonants }
+    ≡ indic_plan AllConsonants (script t) m
 each_search t m = refl
 
 other_search : (t : String) (m : Map) → (indic_plan WithoutMedials (script t) m).base_search ≡ WithoutMedials

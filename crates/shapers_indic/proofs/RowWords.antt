@@ -45,7 +45,9 @@ CM = 16
 -- glyphs of a kind of syllable, each of a category and a position, numbered from 0 in number and cluster
 abbrev pub glyphs_from : ℕ → ℕ → List (ℕ × ℕ) → List hb_glyph_info_t
 glyphs_from kind i [] = []
-glyphs_from kind i (t ∷ ts) = record default_glyph { glyph_id = i; cluster = i; syllable = 16 + kind; category = t.0; auxiliary = t.1 } ∷ glyphs_from kind (i + 1) ts
+glyphs_from kind i (t ∷ ts) =
+    record default_glyph { glyph_id = i; cluster = i; syllable = 16 + kind; category = t.0; auxiliary = t.1 }
+    ∷ glyphs_from kind (i + 1) ts
 
 abbrev pub of : List (ℕ × ℕ) → List hb_glyph_info_t
 of ts = glyphs_from 0 0 ts

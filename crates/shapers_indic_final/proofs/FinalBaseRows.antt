@@ -13,20 +13,34 @@ use Rattle.shapers_indic_final.specs.declared.ot_shaper_indic_final.rules.Rules.
 
 -- a virama: by number, ligated and multiplied; by its marks it keeps the others
 abbrev of_marks : ℕ → ℕ → hb_glyph_info_t
-of_marks n bits = record default_glyph { glyph_id = n; cluster = 5; mask = 9; syllable = 17; category = C; auxiliary = 4; marks = record { 0 = bits } }
+of_marks n bits =
+    record default_glyph {
+      glyph_id = n;
+      cluster = 5;
+      mask = 9;
+      syllable = 17;
+      category = C;
+      auxiliary = 4;
+      marks =
+          record { 0 = bits };
+    }
 
-viramas : map (recovered (Some (record { 0 = 90 }))) (of_marks 90 6 ∷ of_marks 90 31 ∷ of_marks 90 2 ∷ of_marks 90 4 ∷ of_marks 90 0 ∷ of_marks 91 6 ∷ of_marks 65626 6 ∷ [])
-    ≡ record (of_marks 90 0) { category = H } ∷ record (of_marks 90 25) { category = H } ∷ of_marks 90 2 ∷ of_marks 90 4 ∷ of_marks 90 0 ∷ of_marks 91 6 ∷ of_marks 65626 6 ∷ []
+viramas : map (recovered (Some (record { 0 = 90 }))) (of_marks 90 6 ∷ of_marks 90 31 ∷ of_marks 90 2 ∷ of_marks 90 4
+    ∷ of_marks 90 0 ∷ of_marks 91 6 ∷ of_marks 65626 6 ∷ [])
+    ≡ record (of_marks 90 0) { category = H } ∷ record (of_marks 90 25) { category = H } ∷ of_marks 90 2 ∷ of_marks 90 4
+    ∷ of_marks 90 0 ∷ of_marks 91 6 ∷ of_marks 65626 6 ∷ []
 viramas = refl
 
 no_virama : recovered None (of_marks 90 6) ≡ of_marks 90 6
 no_virama = refl
 
-formed : map is_formed (of_marks 0 0 ∷ of_marks 0 1 ∷ of_marks 0 2 ∷ of_marks 0 3 ∷ of_marks 0 4 ∷ of_marks 0 6 ∷ of_marks 0 7 ∷ of_marks 0 27 ∷ []) ≡ false ∷ false ∷ true ∷ true ∷ false ∷ false ∷ false ∷ true ∷ []
+formed : map is_formed (of_marks 0 0 ∷ of_marks 0 1 ∷ of_marks 0 2 ∷ of_marks 0 3 ∷ of_marks 0 4 ∷ of_marks 0 6
+    ∷ of_marks 0 7 ∷ of_marks 0 27 ∷ []) ≡ false ∷ false ∷ true ∷ true ∷ false ∷ false ∷ false ∷ true ∷ []
 formed = refl
 
 -- the first position of 4 or more
-first_bases : map (λ ps. first_base (of (map (λ p. (C, p)) ps))) ((3 ∷ 4 ∷ 5 ∷ []) ∷ (0 ∷ 1 ∷ 2 ∷ 3 ∷ []) ∷ (5 ∷ 4 ∷ []) ∷ (3 ∷ 3 ∷ 13 ∷ []) ∷ (255 ∷ []) ∷ [] ∷ []) ≡ 1 ∷ 4 ∷ 0 ∷ 2 ∷ 0 ∷ 0 ∷ []
+first_bases : map (λ ps. first_base (of (map (λ p. (C, p)) ps))) ((3 ∷ 4 ∷ 5 ∷ []) ∷ (0 ∷ 1 ∷ 2 ∷ 3 ∷ []) ∷ (5 ∷ 4 ∷ [])
+    ∷ (3 ∷ 3 ∷ 13 ∷ []) ∷ (255 ∷ []) ∷ [] ∷ []) ≡ 1 ∷ 4 ∷ 0 ∷ 2 ∷ 0 ∷ 0 ∷ []
 first_bases = refl
 
 -- what is found of a syllable of a script: the base, positions, and whether pref is tried on
@@ -40,12 +54,18 @@ deva = found (rules "Deva")
 abbrev b_and_p : List hb_glyph_info_t
 b_and_p = of ((C, 4) ∷ (C, 9) ∷ (Ra, 11) ∷ (Ra, 12) ∷ [])
 
-by_pref : map deva (b_and_p ∷ unformed_at 2 b_and_p ∷ formed_at 2 b_and_p ∷ marks_at 2 2 (unformed_at 2 b_and_p) ∷ marks_at 2 1 (unformed_at 2 b_and_p) ∷ marks_at 2 7 (unformed_at 2 b_and_p) ∷ [])
-    ≡ (0, 4 ∷ 9 ∷ 11 ∷ 12 ∷ [], true) ∷ (2, 4 ∷ 9 ∷ 4 ∷ 12 ∷ [], false) ∷ (0, 4 ∷ 9 ∷ 11 ∷ 12 ∷ [], true) ∷ (2, 4 ∷ 9 ∷ 4 ∷ 12 ∷ [], false) ∷ (2, 4 ∷ 9 ∷ 4 ∷ 12 ∷ [], false) ∷ (2, 4 ∷ 9 ∷ 4 ∷ 12 ∷ [], false) ∷ []
+by_pref : map deva (b_and_p ∷ unformed_at 2 b_and_p ∷ formed_at 2 b_and_p ∷ marks_at 2 2 (unformed_at 2 b_and_p)
+    ∷ marks_at 2 1 (unformed_at 2 b_and_p) ∷ marks_at 2 7 (unformed_at 2 b_and_p) ∷ [])
+    ≡ (0, 4 ∷ 9 ∷ 11 ∷ 12 ∷ [], true) ∷ (2, 4 ∷ 9 ∷ 4 ∷ 12 ∷ [], false) ∷ (0, 4 ∷ 9 ∷ 11 ∷ 12 ∷ [], true)
+    ∷ (2, 4 ∷ 9 ∷ 4 ∷ 12 ∷ [], false) ∷ (2, 4 ∷ 9 ∷ 4 ∷ 12 ∷ [], false) ∷ (2, 4 ∷ 9 ∷ 4 ∷ 12 ∷ [], false) ∷ []
 by_pref = refl
 
-which_pref : map deva (unformed_at 0 b_and_p ∷ unformed_at 1 b_and_p ∷ unformed_at 3 b_and_p ∷ formed_at 1 (unformed_at 2 b_and_p) ∷ unformed_at 1 (formed_at 2 b_and_p) ∷ mask_given 2 8 b_and_p ∷ mask_given 2 48 b_and_p ∷ [])
-    ≡ (0, 4 ∷ 9 ∷ 11 ∷ 12 ∷ [], true) ∷ (1, 4 ∷ 4 ∷ 11 ∷ 12 ∷ [], false) ∷ (3, 4 ∷ 9 ∷ 11 ∷ 4 ∷ [], false) ∷ (0, 4 ∷ 9 ∷ 11 ∷ 12 ∷ [], true) ∷ (1, 4 ∷ 4 ∷ 11 ∷ 12 ∷ [], false) ∷ (0, 4 ∷ 9 ∷ 11 ∷ 12 ∷ [], true) ∷ (2, 4 ∷ 9 ∷ 4 ∷ 12 ∷ [], false) ∷ []
+which_pref : map deva (unformed_at 0 b_and_p ∷ unformed_at 1 b_and_p ∷ unformed_at 3 b_and_p
+    ∷ formed_at 1 (unformed_at 2 b_and_p) ∷ unformed_at 1 (formed_at 2 b_and_p) ∷ mask_given 2 8 b_and_p
+    ∷ mask_given 2 48 b_and_p ∷ [])
+    ≡ (0, 4 ∷ 9 ∷ 11 ∷ 12 ∷ [], true) ∷ (1, 4 ∷ 4 ∷ 11 ∷ 12 ∷ [], false) ∷ (3, 4 ∷ 9 ∷ 11 ∷ 4 ∷ [], false)
+    ∷ (0, 4 ∷ 9 ∷ 11 ∷ 12 ∷ [], true) ∷ (1, 4 ∷ 4 ∷ 11 ∷ 12 ∷ [], false) ∷ (0, 4 ∷ 9 ∷ 11 ∷ 12 ∷ [], true)
+    ∷ (2, 4 ∷ 9 ∷ 4 ∷ 12 ∷ [], false) ∷ []
 which_pref = refl
 
 no_pref_mask : found (record (rules "Deva") { pref = 0 }) (unformed_at 2 b_and_p) ≡ (0, 4 ∷ 9 ∷ 11 ∷ 12 ∷ [], false)
@@ -55,61 +75,84 @@ no_pref_mask = refl
 abbrev halants : List hb_glyph_info_t
 halants = of ((C, 4) ∷ (H, 4) ∷ (H, 4) ∷ (C, 9) ∷ [])
 
-over_halants : map deva (unformed_at 1 halants ∷ unformed_at 2 halants ∷ marks_at 2 2 (unformed_at 1 halants) ∷ unformed_at 1 (plainly (C ∷ H ∷ [])) ∷ unformed_at 1 (plainly (C ∷ H ∷ H ∷ [])) ∷ [])
-    ≡ (3, 4 ∷ 4 ∷ 4 ∷ 4 ∷ [], false) ∷ (3, 4 ∷ 4 ∷ 4 ∷ 4 ∷ [], false) ∷ (2, 4 ∷ 4 ∷ 4 ∷ 9 ∷ [], false) ∷ (2, 4 ∷ 4 ∷ [], false) ∷ (3, 4 ∷ 4 ∷ 4 ∷ [], false) ∷ []
+over_halants : map deva (unformed_at 1 halants ∷ unformed_at 2 halants ∷ marks_at 2 2 (unformed_at 1 halants)
+    ∷ unformed_at 1 (plainly (C ∷ H ∷ [])) ∷ unformed_at 1 (plainly (C ∷ H ∷ H ∷ [])) ∷ [])
+    ≡ (3, 4 ∷ 4 ∷ 4 ∷ 4 ∷ [], false) ∷ (3, 4 ∷ 4 ∷ 4 ∷ 4 ∷ [], false) ∷ (2, 4 ∷ 4 ∷ 4 ∷ 9 ∷ [], false)
+    ∷ (2, 4 ∷ 4 ∷ [], false) ∷ (3, 4 ∷ 4 ∷ 4 ∷ [], false) ∷ []
 over_halants = refl
 
 -- links: joiners, a halant, joiners, one glyph
-links : map (links_from false 5) (plainly (H ∷ C ∷ []) ∷ plainly (ZWJ ∷ ZWNJ ∷ H ∷ ZWNJ ∷ ZWJ ∷ C ∷ []) ∷ plainly (C ∷ []) ∷ plainly (H ∷ []) ∷ plainly (H ∷ ZWJ ∷ []) ∷ [] ∷ plainly (ZWJ ∷ C ∷ H ∷ C ∷ []) ∷ [])
+links : map (links_from false 5) (plainly (H ∷ C ∷ []) ∷ plainly (ZWJ ∷ ZWNJ ∷ H ∷ ZWNJ ∷ ZWJ ∷ C ∷ [])
+    ∷ plainly (C ∷ []) ∷ plainly (H ∷ []) ∷ plainly (H ∷ ZWJ ∷ []) ∷ [] ∷ plainly (ZWJ ∷ C ∷ H ∷ C ∷ []) ∷ [])
     ≡ (6 ∷ []) ∷ (10 ∷ []) ∷ [] ∷ [] ∷ [] ∷ [] ∷ [] ∷ []
 links = refl
 
-chains : map (links_from false 1) (plainly (H ∷ C ∷ H ∷ C ∷ []) ∷ plainly (H ∷ H ∷ H ∷ C ∷ []) ∷ plainly (H ∷ C ∷ C ∷ H ∷ C ∷ []) ∷ plainly (H ∷ M ∷ ZWJ ∷ H ∷ C ∷ H ∷ []) ∷ marks_at 2 2 (plainly (H ∷ C ∷ H ∷ C ∷ [])) ∷ marks_at 1 2 (plainly (H ∷ ZWJ ∷ H ∷ C ∷ [])) ∷ [])
+chains : map (links_from false 1) (plainly (H ∷ C ∷ H ∷ C ∷ []) ∷ plainly (H ∷ H ∷ H ∷ C ∷ [])
+    ∷ plainly (H ∷ C ∷ C ∷ H ∷ C ∷ []) ∷ plainly (H ∷ M ∷ ZWJ ∷ H ∷ C ∷ H ∷ [])
+    ∷ marks_at 2 2 (plainly (H ∷ C ∷ H ∷ C ∷ [])) ∷ marks_at 1 2 (plainly (H ∷ ZWJ ∷ H ∷ C ∷ [])) ∷ [])
     ≡ (2 ∷ 4 ∷ []) ∷ (2 ∷ 4 ∷ []) ∷ (2 ∷ []) ∷ (2 ∷ 5 ∷ []) ∷ (2 ∷ []) ∷ (2 ∷ 4 ∷ []) ∷ []
 chains = refl
 
--- Malayalam: the last linked consonant of position BELOW_C is base, and each gets BASE_C; others are passed. In other scripts the base stays.
+-- Malayalam: the last linked consonant of position BELOW_C is base, and each gets BASE_C; others
+-- are passed. In other scripts the base stays.
 abbrev mlym : List hb_glyph_info_t → ℕ × List ℕ × Bool
 mlym gs = let b = with_final_base (rules "Mlym") (script "Mlym") gs in (b.base, row_positions b.glyphs, b.tries_pref)
 
 abbrev linked : List (ℕ × ℕ) → List hb_glyph_info_t
 linked ts = of ((C, 4) ∷ (H, 4) ∷ ts)
 
-in_malayalam : map mlym (linked ((C, 8) ∷ []) ∷ linked ((C, 8) ∷ (H, 8) ∷ (C, 8) ∷ []) ∷ linked ((C, 11) ∷ (H, 8) ∷ (C, 8) ∷ []) ∷ linked ((C, 8) ∷ (H, 8) ∷ (C, 11) ∷ []) ∷ linked ((M, 8) ∷ []) ∷ linked ((CM, 8) ∷ []) ∷ linked ((C, 7) ∷ []) ∷ linked ((C, 9) ∷ []) ∷ linked ((C, 8) ∷ (C, 8) ∷ []) ∷ marks_at 2 2 (linked ((C, 8) ∷ [])) ∷ [])
-    ≡ (2, 4 ∷ 4 ∷ 4 ∷ [], true) ∷ (4, 4 ∷ 4 ∷ 4 ∷ 8 ∷ 4 ∷ [], true) ∷ (4, 4 ∷ 4 ∷ 11 ∷ 8 ∷ 4 ∷ [], true) ∷ (2, 4 ∷ 4 ∷ 4 ∷ 8 ∷ 11 ∷ [], true) ∷ (0, 4 ∷ 4 ∷ 8 ∷ [], true) ∷ (2, 4 ∷ 4 ∷ 4 ∷ [], true) ∷ (0, 4 ∷ 4 ∷ 7 ∷ [], true) ∷ (0, 4 ∷ 4 ∷ 9 ∷ [], true) ∷ (2, 4 ∷ 4 ∷ 4 ∷ 8 ∷ [], true) ∷ (0, 4 ∷ 4 ∷ 8 ∷ [], true) ∷ []
+in_malayalam : map mlym (linked ((C, 8) ∷ []) ∷ linked ((C, 8) ∷ (H, 8) ∷ (C, 8) ∷ [])
+    ∷ linked ((C, 11) ∷ (H, 8) ∷ (C, 8) ∷ []) ∷ linked ((C, 8) ∷ (H, 8) ∷ (C, 11) ∷ []) ∷ linked ((M, 8) ∷ [])
+    ∷ linked ((CM, 8) ∷ []) ∷ linked ((C, 7) ∷ []) ∷ linked ((C, 9) ∷ []) ∷ linked ((C, 8) ∷ (C, 8) ∷ [])
+    ∷ marks_at 2 2 (linked ((C, 8) ∷ [])) ∷ [])
+    ≡ (2, 4 ∷ 4 ∷ 4 ∷ [], true) ∷ (4, 4 ∷ 4 ∷ 4 ∷ 8 ∷ 4 ∷ [], true) ∷ (4, 4 ∷ 4 ∷ 11 ∷ 8 ∷ 4 ∷ [], true)
+    ∷ (2, 4 ∷ 4 ∷ 4 ∷ 8 ∷ 11 ∷ [], true) ∷ (0, 4 ∷ 4 ∷ 8 ∷ [], true) ∷ (2, 4 ∷ 4 ∷ 4 ∷ [], true)
+    ∷ (0, 4 ∷ 4 ∷ 7 ∷ [], true) ∷ (0, 4 ∷ 4 ∷ 9 ∷ [], true) ∷ (2, 4 ∷ 4 ∷ 4 ∷ 8 ∷ [], true)
+    ∷ (0, 4 ∷ 4 ∷ 8 ∷ [], true) ∷ []
 in_malayalam = refl
 
 elsewhere : deva (linked ((C, 8) ∷ [])) ∷ found (rules "Taml") (linked ((C, 8) ∷ [])) ∷ [] ≡ (0, 4 ∷ 4 ∷ 8 ∷ [], true) ∷ (0, 4 ∷ 4 ∷ 8 ∷ [], true) ∷ []
 elsewhere = refl
 
 -- links follow the base by pref, or nothing where that is the end
-pref_and_links : mlym (unformed_at 2 (of ((C, 4) ∷ (C, 9) ∷ (C, 11) ∷ (H, 11) ∷ (C, 8) ∷ []))) ∷ mlym (unformed_at 1 (of ((C, 4) ∷ (H, 9) ∷ []))) ∷ [] ≡ (4, 4 ∷ 9 ∷ 4 ∷ 11 ∷ 4 ∷ [], false) ∷ (2, 4 ∷ 9 ∷ [], false) ∷ []
+pref_and_links : mlym (unformed_at 2 (of ((C, 4) ∷ (C, 9) ∷ (C, 11) ∷ (H, 11) ∷ (C, 8) ∷ [])))
+    ∷ mlym (unformed_at 1 (of ((C, 4) ∷ (H, 9) ∷ []))) ∷ [] ≡ (4, 4 ∷ 9 ∷ 4 ∷ 11 ∷ 4 ∷ [], false)
+    ∷ (2, 4 ∷ 9 ∷ [], false) ∷ []
 pref_and_links = refl
 
 -- a first position above BASE_C: what stands before it is base, unless it is the first
-back : map deva (of ((C, 3) ∷ (C, 5) ∷ []) ∷ of ((C, 3) ∷ (C, 4) ∷ []) ∷ of ((C, 5) ∷ (C, 5) ∷ []) ∷ of ((C, 3) ∷ (C, 3) ∷ []) ∷ [])
+back : map deva (of ((C, 3) ∷ (C, 5) ∷ []) ∷ of ((C, 3) ∷ (C, 4) ∷ []) ∷ of ((C, 5) ∷ (C, 5) ∷ [])
+    ∷ of ((C, 3) ∷ (C, 3) ∷ []) ∷ [])
     ≡ (0, 3 ∷ 5 ∷ [], true) ∷ (1, 3 ∷ 4 ∷ [], true) ∷ (0, 5 ∷ 5 ∷ [], true) ∷ (2, 3 ∷ 3 ∷ [], true) ∷ []
 back = refl
 
 -- from the end over a ZWJ; over nuktas and halants, not past the start; a ligature stays
-from_end : map (settled_base 2) (plainly (C ∷ ZWJ ∷ []) ∷ plainly (C ∷ ZWNJ ∷ []) ∷ plainly (C ∷ H ∷ []) ∷ marks_at 1 2 (plainly (C ∷ ZWJ ∷ [])) ∷ plainly (H ∷ ZWJ ∷ []) ∷ []) ≡ 1 ∷ 2 ∷ 2 ∷ 2 ∷ 1 ∷ []
+from_end : map (settled_base 2) (plainly (C ∷ ZWJ ∷ []) ∷ plainly (C ∷ ZWNJ ∷ []) ∷ plainly (C ∷ H ∷ [])
+    ∷ marks_at 1 2 (plainly (C ∷ ZWJ ∷ [])) ∷ plainly (H ∷ ZWJ ∷ []) ∷ []) ≡ 1 ∷ 2 ∷ 2 ∷ 2 ∷ 1 ∷ []
 from_end = refl
 
-over_nuktas : map (settled_base 2) (plainly (C ∷ C ∷ H ∷ C ∷ []) ∷ plainly (C ∷ C ∷ N ∷ C ∷ []) ∷ plainly (C ∷ H ∷ N ∷ C ∷ []) ∷ plainly (H ∷ N ∷ H ∷ C ∷ []) ∷ plainly (C ∷ C ∷ C ∷ H ∷ []) ∷ marks_at 2 2 (plainly (C ∷ C ∷ H ∷ C ∷ [])) ∷ marks_at 1 2 (plainly (C ∷ H ∷ N ∷ C ∷ [])) ∷ []) ≡ 1 ∷ 1 ∷ 0 ∷ 0 ∷ 2 ∷ 2 ∷ 1 ∷ []
+over_nuktas : map (settled_base 2) (plainly (C ∷ C ∷ H ∷ C ∷ []) ∷ plainly (C ∷ C ∷ N ∷ C ∷ [])
+    ∷ plainly (C ∷ H ∷ N ∷ C ∷ []) ∷ plainly (H ∷ N ∷ H ∷ C ∷ []) ∷ plainly (C ∷ C ∷ C ∷ H ∷ [])
+    ∷ marks_at 2 2 (plainly (C ∷ C ∷ H ∷ C ∷ [])) ∷ marks_at 1 2 (plainly (C ∷ H ∷ N ∷ C ∷ [])) ∷ []) ≡ 1 ∷ 1 ∷ 0 ∷ 0
+    ∷ 2 ∷ 2 ∷ 1 ∷ []
 over_nuktas = refl
 
-of_few : settled_base 0 [] ∷ settled_base 0 (plainly (H ∷ [])) ∷ settled_base 1 (plainly (ZWJ ∷ [])) ∷ settled_base 1 (plainly (H ∷ [])) ∷ [] ≡ 0 ∷ 0 ∷ 0 ∷ 1 ∷ []
+of_few : settled_base 0 [] ∷ settled_base 0 (plainly (H ∷ [])) ∷ settled_base 1 (plainly (ZWJ ∷ []))
+    ∷ settled_base 1 (plainly (H ∷ [])) ∷ [] ≡ 0 ∷ 0 ∷ 0 ∷ 1 ∷ []
 of_few = refl
 
 none : deva [] ≡ (0, [], true)
 none = refl
 
--- what may change a syllable: by its position, in Devanagari and in Malayalam; with a bit of pref's mask; and the virama taken apart
+-- what may change a syllable: by its position, in Devanagari and in Malayalam; with a bit of pref's
+-- mask; and the virama taken apart
 abbrev changing_in : String → List hb_glyph_info_t → List Bool
 changing_in tag gs = map (changes_syllable (rules tag) (script tag)) gs
 
 abbrev changing_positions : String → List ℕ
-changing_positions tag = filter (λ p. changes_syllable (rules tag) (script tag) (record default_glyph { category = C; auxiliary = p })) (range_with_len 0 20)
+changing_positions tag =
+    filter (λ p. changes_syllable (rules tag) (script tag) (record default_glyph { category = C; auxiliary = p }))
+    (range_with_len 0 20)
 
 changing_by_position : map changing_positions ("Deva" ∷ "Mlym" ∷ "Taml" ∷ []) ≡ (1 ∷ 2 ∷ []) ∷ (1 ∷ 2 ∷ 8 ∷ []) ∷ (1 ∷ 2 ∷ []) ∷ []
 changing_by_position = refl

@@ -1,4 +1,5 @@
--- What the final reordering makes of the clusters of a text, computed: what merges, and the least cluster of the glyphs in it.
+-- What the final reordering makes of the clusters of a text, computed: what merges, and the least
+-- cluster of the glyphs in it.
 use Rattle.std.specs.Prelude.{◌≡◌, ℕ, List, [], ◌∷◌, ◌++◌, map, refl}
 use Rattle.shapers_buffer.specs.declared.buffer.glyph.hb_glyph_info_t.{hb_glyph_info_t}
 use Rattle.shapers_buffer.specs.declared.buffer.level.BufferClusterLevel.TheVariants.{Characters, MonotoneCharacters, MonotoneGraphemes}
@@ -21,9 +22,11 @@ clustered (c ∷ cs) (g ∷ gs) = record g { cluster = c } ∷ clustered cs gs
 abbrev next : List hb_glyph_info_t → List hb_glyph_info_t
 next gs = map (λ (g : hb_glyph_info_t). record g { syllable = 32 }) gs
 
--- M C H B and reph C M: the left matra goes behind the halant and merges with the base, the reph merges with all that it passes
+-- M C H B and reph C M: the left matra goes behind the halant and merges with the base, the reph
+-- merges with all that it passes
 abbrev two : List ℕ → List hb_glyph_info_t
-two cs = clustered cs (of ((M, 2) ∷ (C, 3) ∷ (H, 3) ∷ (C, 4) ∷ []) ++ next (marks_at 0 2 (of ((Ra, 1) ∷ (C, 4) ∷ (M, 9) ∷ []))))
+two cs = clustered cs (of ((M, 2) ∷ (C, 3) ∷ (H, 3) ∷ (C, 4) ∷ [])
+    ++ next (marks_at 0 2 (of ((Ra, 1) ∷ (C, 4) ∷ (M, 9) ∷ []))))
 
 two_starts : map glyphs_before ([] ∷ syllables (order_view (two (3 ∷ 0 ∷ 1 ∷ 2 ∷ 9 ∷ 7 ∷ 8 ∷ []))) ∷ []) ≡ 0 ∷ 7 ∷ []
 two_starts = refl
@@ -43,11 +46,13 @@ two_falling : map (λ cs. final_clusters (rules "Deva") (script "Deva") Monotone
     ≡ (8 ∷ 7 ∷ 6 ∷ 6 ∷ 1 ∷ 1 ∷ 1 ∷ []) ∷ (8 ∷ 9 ∷ 4 ∷ 4 ∷ 1 ∷ 1 ∷ 1 ∷ []) ∷ []
 two_falling = refl
 
--- two left matras before C H B: each merges with all from its new place up to the base, so the run has the least of the three
+-- two left matras before C H B: each merges with all from its new place up to the base, so the run
+-- has the least of the three
 matras_least : map (λ cs. final_clusters (rules "Deva") (script "Deva") MonotoneGraphemes (clustered cs (of ((M, 2) ∷ (M, 2) ∷ (C, 3) ∷ (H, 3) ∷ (C, 4) ∷ [])))) ((5 ∷ 2 ∷ 1 ∷ 4 ∷ 3 ∷ []) ∷ (2 ∷ 5 ∷ 1 ∷ 4 ∷ 3 ∷ []) ∷ (5 ∷ 3 ∷ 1 ∷ 4 ∷ 2 ∷ []) ∷ [])
     ≡ (1 ∷ 4 ∷ 2 ∷ 2 ∷ 2 ∷ []) ∷ (1 ∷ 4 ∷ 2 ∷ 2 ∷ 2 ∷ []) ∷ (1 ∷ 4 ∷ 2 ∷ 2 ∷ 2 ∷ []) ∷ []
 matras_least = refl
 
--- a cluster that the next syllable shares goes along with it: then that one's run has a cluster that none of its glyphs had
+-- a cluster that the next syllable shares goes along with it: then that one's run has a cluster
+-- that none of its glyphs had
 shared_with_next : final_clusters (rules "Deva") (script "Deva") MonotoneGraphemes (two (3 ∷ 0 ∷ 1 ∷ 5 ∷ 5 ∷ 4 ∷ 8 ∷ [])) ≡ 0 ∷ 1 ∷ 3 ∷ 3 ∷ 3 ∷ 3 ∷ 3 ∷ []
 shared_with_next = refl

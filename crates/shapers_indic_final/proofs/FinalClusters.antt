@@ -66,7 +66,8 @@ pub record Inside (i k q : ℕ) : Type 0 where
   pub low : i ≤ q
   pub high : q < k
 
-pub changed_within : (f : List ℕ → List ℕ) → ((ps : List ℕ) → IsPermutation ps (f ps)) → (i k n : ℕ) → i ≤ k → k ≤ n → ChangedWithin i k n (with_stretch i k f (places 0 n))
+pub changed_within : (f : List ℕ → List ℕ) → ((ps : List ℕ) → IsPermutation ps (f ps)) → (i k n : ℕ) → i ≤ k → k ≤ n
+    → ChangedWithin i k n (with_stretch i k f (places 0 n))
 changed_within f permutes i k n l m =
     let ps = range_with_len 0 n in
     let part = stretch_of i k ps in
@@ -77,21 +78,32 @@ changed_within f permutes i k n l m =
     let xn : length xs ≡ i = length-take-le i ps (omega arith) in
     let pn : length part ≡ k - i = length-take-le (k - i) (drop i ps) (omega (arith, length-drop i ps)) in
     let yn : length ys ≡ k - i = length_permutation part ys (permutes part) ∙ pn in
-    let each : (p : ℕ) → p < k - i → get_or part p 0 ≡ i + p = λ p a. get_or-take (k - i) (drop i ps) p 0 a ∙ get_or-drop i ps p 0 ∙ get_or-range_with_len 0 n (i + p) 0 (omega arith) ∙ omega arith in
-    let all_part : All (Inside i k) part = All-from_get_or (Inside i k) part 0 (λ p a. subst (Inside i k) (sym (each p (omega arith))) (record { low = omega arith; high = omega arith })) in
+    let each : (p : ℕ) → p < k - i → get_or part p 0 ≡ i + p = λ p a. get_or-take (k - i) (drop i ps) p 0 a
+    ∙ get_or-drop i ps p 0 ∙ get_or-range_with_len 0 n (i + p) 0 (omega arith) ∙ omega arith in
+    let all_part : All (Inside i k) part =
+    All-from_get_or (Inside i k) part 0
+    (λ p a. subst (Inside i k) (sym (each p (omega arith)))
+    (record { low = omega arith; high = omega arith })) in
     let all_ys : All (Inside i k) ys = All-permutation (Inside i k) part ys (permutes part) all_part in
     let there : (p : ℕ) → i ≤ p → p < k → Inside i k (get_or (xs ++ (ys ++ zs)) p 0) = λ p a b.
-    subst (Inside i k) (sym (get_or-append_right xs (ys ++ zs) i p 0 xn a ∙ get_or_append_left ys zs 0 (p - i) (omega arith))) (all_ys (p - i) 0 (omega arith)) in
+    subst (Inside i k)
+    (sym (get_or-append_right xs (ys ++ zs) i p 0 xn a ∙ get_or_append_left ys zs 0 (p - i) (omega arith)))
+    (all_ys (p - i) 0 (omega arith)) in
     let all : n - 0 ≡ n = omega arith in
     subst (λ m. ChangedWithin i k n (with_stretch i k f (range_with_len 0 m))) (sym all) (record {
-      before = λ p a. get_or_append_left xs (ys ++ zs) 0 p (omega arith) ∙ get_or-take i ps p 0 a ∙ get_or-range_with_len 0 n p 0 (omega arith) ∙ omega arith;
-      behind = λ p a b. get_or-append_right xs (ys ++ zs) i p 0 xn (omega arith) ∙ get_or-append_right ys zs (k - i) (p - i) 0 yn (omega arith) ∙ get_or-drop k ps (p - i - (k - i)) 0 ∙ get_or-range_with_len 0 n (k + (p - i - (k - i))) 0 (omega arith) ∙ omega arith;
+      before = λ p a. get_or_append_left xs (ys ++ zs) 0 p (omega arith) ∙ get_or-take i ps p 0 a
+          ∙ get_or-range_with_len 0 n p 0 (omega arith) ∙ omega arith;
+      behind = λ p a b. get_or-append_right xs (ys ++ zs) i p 0 xn (omega arith)
+          ∙ get_or-append_right ys zs (k - i) (p - i) 0 yn (omega arith) ∙ get_or-drop k ps (p - i - (k - i)) 0
+          ∙ get_or-range_with_len 0 n (k + (p - i - (k - i))) 0 (omega arith) ∙ omega arith;
       from = λ p a b. (let t = there p a b in t.low);
       to = λ p a b. (let t = there p a b in t.high);
     })
 
 -- a step that merges such a stretch first moves inside it
-pub change_moves : (f : List ℕ → List ℕ) → ((ps : List ℕ) → IsPermutation ps (f ps)) → (i k n : ℕ) → i ≤ k → k ≤ n → (step : Step) → step.merged_first ≡ (i, k) ∷ [] → step.places ≡ with_stretch i k f (places 0 n) → step.merged_then ≡ [] → FitsStep n step → MovesMerged n step
+pub change_moves : (f : List ℕ → List ℕ) → ((ps : List ℕ) → IsPermutation ps (f ps)) → (i k n : ℕ) → i ≤ k → k ≤ n
+    → (step : Step) → step.merged_first ≡ (i, k) ∷ [] → step.places ≡ with_stretch i k f (places 0 n)
+    → step.merged_then ≡ [] → FitsStep n step → MovesMerged n step
 change_moves f permutes i k n l m step first is none fits =
     let ps = with_stretch i k f (places 0 n) in
     let sts : List (ℕ × ℕ) = (i, k) ∷ [] in
@@ -112,7 +124,8 @@ change_moves f permutes i k n l m step first is none fits =
     }
 
 -- the steps of left matras: what one merged, the next leave
-later_stay : (gs : List hb_glyph_info_t) (n e p m k : ℕ) (st : ℕ × ℕ) → m + k ≤ p → p < n → p - k < st.0 → st.1 ≤ n → m ≤ length gs → AllByRecursion (Spares n st) (steps_of n e p k (lefts m gs))
+later_stay : (gs : List hb_glyph_info_t) (n e p m k : ℕ) (st : ℕ × ℕ) → m + k ≤ p → p < n → p - k < st.0 → st.1 ≤ n
+    → m ≤ length gs → AllByRecursion (Spares n st) (steps_of n e p k (lefts m gs))
 later_stay gs n e p zero k st l h a b c = tt
 later_stay gs n e p (suc m) k st l h a b c =
     let i : suc m ≡ m + 1 = omega arith in
@@ -122,11 +135,15 @@ later_stay gs n e p (suc m) k st l h a b c =
           let w = changed_within first_last permutes_first_last m (j + 1) n (omega arith) (omega arith) in
           let one : StaysAt st (matra_step n e m j) = λ q x y. w.behind q (omega arith) (omega arith) in
           let rest = later_stay gs n e p m (k + 1) st (omega arith) h (omega arith) b (omega arith) in
-          subst (λ qs. AllByRecursion (Spares n st) (steps_of n e p k qs)) (sym (ap (λ q. lefts q gs) i ∙ lefts_yes m gs holds)) (inl one, rest)
-      | inr fails ↦ subst (λ qs. AllByRecursion (Spares n st) (steps_of n e p k qs)) (sym (ap (λ q. lefts q gs) i ∙ lefts_no m gs fails)) (later_stay gs n e p m k st (omega arith) h a b (omega arith))
+          subst (λ qs. AllByRecursion (Spares n st) (steps_of n e p k qs))
+          (sym (ap (λ q. lefts q gs) i ∙ lefts_yes m gs holds)) (inl one, rest)
+      | inr fails ↦ subst (λ qs. AllByRecursion (Spares n st) (steps_of n e p k qs))
+          (sym (ap (λ q. lefts q gs) i ∙ lefts_no m gs fails))
+          (later_stay gs n e p m k st (omega arith) h a b (omega arith))
     ]
 
-spare_lefts : (gs : List hb_glyph_info_t) (n e p m k : ℕ) → m + k ≤ p → p < n → e ≤ n → m ≤ length gs → SpareMerged n (steps_of n e p k (lefts m gs))
+spare_lefts : (gs : List hb_glyph_info_t) (n e p m k : ℕ) → m + k ≤ p → p < n → e ≤ n → m ≤ length gs
+    → SpareMerged n (steps_of n e p k (lefts m gs))
 spare_lefts gs n e p zero k l h b c = tt
 spare_lefts gs n e p (suc m) k l h b c =
     let i : suc m ≡ m + 1 = omega arith in
@@ -134,23 +151,32 @@ spare_lefts gs n e p (suc m) k l h b c =
       | inl holds ↦
           let j = p - k in
           let later = later_stay gs n e p m (k + 1) (j, e) (omega arith) h (omega arith) b (omega arith) in
-          subst (λ qs. SpareMerged n (steps_of n e p k qs)) (sym (ap (λ q. lefts q gs) i ∙ lefts_yes m gs holds)) (inl refl, (later, tt), spare_lefts gs n e p m (k + 1) (omega arith) h b (omega arith))
-      | inr fails ↦ subst (λ qs. SpareMerged n (steps_of n e p k qs)) (sym (ap (λ q. lefts q gs) i ∙ lefts_no m gs fails)) (spare_lefts gs n e p m k (omega arith) h b (omega arith))
+          subst (λ qs. SpareMerged n (steps_of n e p k qs)) (sym (ap (λ q. lefts q gs) i ∙ lefts_yes m gs holds))
+          (inl refl, (later, tt), spare_lefts gs n e p m (k + 1) (omega arith) h b (omega arith))
+      | inr fails ↦ subst (λ qs. SpareMerged n (steps_of n e p k qs))
+          (sym (ap (λ q. lefts q gs) i ∙ lefts_no m gs fails))
+          (spare_lefts gs n e p m k (omega arith) h b (omega arith))
     ]
 
 -- or they stay and merge
-still_moves : (n e i : ℕ) → FitsStep n (record { merged_first = (i, e) ∷ []; places = places 0 n; merged_then = [] }) → MovesMerged n (record { merged_first = (i, e) ∷ []; places = places 0 n; merged_then = [] })
+still_moves : (n e i : ℕ) → FitsStep n (record { merged_first = (i, e) ∷ []; places = places 0 n; merged_then = [] })
+    → MovesMerged n (record { merged_first = (i, e) ∷ []; places = places 0 n; merged_then = [] })
 still_moves n e i fits = record {
   fits = fits;
-  inside = λ p l r a b. (let at = get_or-range_with_len 0 (n - 0) p 0 (omega (arith, length-range_with_len 0 (n - 0))) in absurd (omega arith));
+  inside = λ p l r a b.
+      (let at = get_or-range_with_len 0 (n - 0) p 0 (omega (arith, length-range_with_len 0 (n - 0))) in absurd
+      (omega arith));
   nothing_then = refl;
 }
 
-pub moves_merging : (gs : List hb_glyph_info_t) (e : ℕ) (o : Option ℕ) → e ≤ length gs → AllByRecursion (MovesMerged (length gs)) (merging_step (length gs) e o)
+pub moves_merging : (gs : List hb_glyph_info_t) (e : ℕ) (o : Option ℕ) → e ≤ length gs
+    → AllByRecursion (MovesMerged (length gs)) (merging_step (length gs) e o)
 moves_merging gs e None l = tt
-moves_merging gs e (Some i) l = (let at = merging_at gs e (Some i) l in let fits = at.fits in (still_moves (length gs) e i fits.0, tt))
+moves_merging gs e (Some i) l =
+    (let at = merging_at gs e (Some i) l in let fits = at.fits in (still_moves (length gs) e i fits.0, tt))
 
-spare_matras : (script : Option Script) (base : ℕ) (gs : List hb_glyph_info_t) → base ≤ length gs → SpareMerged (length gs) (matra_steps script base gs)
+spare_matras : (script : Option Script) (base : ℕ) (gs : List hb_glyph_info_t) → base ≤ length gs
+    → SpareMerged (length gs) (matra_steps script base gs)
 spare_matras script base gs l =
     let p = matra_target script base gs in
     let e = end_of_base base gs in
@@ -162,44 +188,62 @@ spare_matras script base gs l =
             let some = (and_parts (nat_lt 1 (length gs)) (nat_lt 0 base) room).1 in
             let within : p < length gs = (let some_base : 0 < base = grind (arith, nat_tests) in omega arith) in
             spare_lefts gs (length gs) e p p 0 (omega arith) within ends (omega arith))
-        | inr stay ↦ rw stay (spare_moves (length gs) (merging_step (length gs) e (least_place (passes is_left gs) 0 base)) (moves_merging gs e (least_place (passes is_left gs) 0 base) ends))
+        | inr stay ↦ rw stay
+            (spare_moves (length gs) (merging_step (length gs) e (least_place (passes is_left gs) 0 base))
+            (moves_merging gs e (least_place (passes is_left gs) 0 base) ends))
       ])
       | inr none ↦ rw none tt
     ]
 
 -- the reph, and the pref glyph
-pub moves_reph : (position : RephPosition) (base : ℕ) (gs : List hb_glyph_info_t) → AllByRecursion (MovesMerged (length gs)) (reph_steps position base gs)
+pub moves_reph : (position : RephPosition) (base : ℕ) (gs : List hb_glyph_info_t)
+    → AllByRecursion (MovesMerged (length gs)) (reph_steps position base gs)
 moves_reph position base gs =
     let j = reph_target position base gs in
     elim (cases_Bool (opens_with_reph gs)) [
       | inl on ↦ rw on (
           let high : j < length gs = reph_target_within position base gs (opens_some gs on) in
           let ends : j + 1 ≤ length gs = omega arith in
-          let at = stretch_at first_last first_last picks_first_last permutes_first_last 0 (j + 1) (final_reph_step (length gs) j) gs (omega arith) ends refl (ends, tt) tt in
-          let fits = at.fits in
-          (change_moves first_last permutes_first_last 0 (j + 1) (length gs) (omega arith) ends (final_reph_step (length gs) j) refl refl refl fits.0, tt))
+          let at = stretch_at first_last first_last picks_first_last permutes_first_last 0 (j + 1)
+          (final_reph_step (length gs) j) gs (omega arith) ends refl (ends, tt) tt in
+          let fits = at.fits in (
+            change_moves first_last permutes_first_last 0 (j + 1) (length gs) (omega arith) ends
+                (final_reph_step (length gs) j) refl refl refl fits.0,
+            tt,
+          ))
       | inr off ↦ rw off tt
     ]
 
-moves_pref : (gs : List hb_glyph_info_t) (j s : ℕ) (o : Option ℕ) → j ≤ s → ((i : ℕ) → o ≡ Some i → PlaceWithin s (length gs) i) → AllByRecursion (MovesMerged (length gs)) (pref_step (length gs) j o)
+moves_pref : (gs : List hb_glyph_info_t) (j s : ℕ) (o : Option ℕ) → j ≤ s
+    → ((i : ℕ) → o ≡ Some i → PlaceWithin s (length gs) i)
+    → AllByRecursion (MovesMerged (length gs)) (pref_step (length gs) j o)
 moves_pref gs j s None l within = tt
 moves_pref gs j s (Some i) l within =
     let k = within i refl in
     let low = k.low in
     let high = k.high in
     let ends : i + 1 ≤ length gs = omega arith in
-    let at = stretch_at last_goes_first last_goes_first picks_last_first permutes_last_first j (i + 1) (pref_move (length gs) j i) gs (omega arith) ends refl (ends, tt) tt in
-    let fits = at.fits in
-    (change_moves last_goes_first permutes_last_first j (i + 1) (length gs) (omega arith) ends (pref_move (length gs) j i) refl refl refl fits.0, tt)
+    let at = stretch_at last_goes_first last_goes_first picks_last_first permutes_last_first j (i + 1)
+    (pref_move (length gs) j i) gs (omega arith) ends refl (ends, tt) tt in
+    let fits = at.fits in (
+      change_moves last_goes_first permutes_last_first j (i + 1) (length gs) (omega arith) ends
+          (pref_move (length gs) j i) refl refl refl fits.0,
+      tt,
+    )
 
-pub moves_tried : (r : Rules) (script : Option Script) (b : Based) → AllByRecursion (MovesMerged (length b.glyphs)) (steps_of_pref r script b)
-moves_tried r script b = elim b.tries_pref as (λ t. AllByRecursion (MovesMerged (length b.glyphs)) (if t then pref_steps r.pref script b.base b.glyphs else [])) [
-  | true ↦ moves_pref b.glyphs (pref_target script b.base b.glyphs) (b.base + 1) (formed_pref r.pref b.base b.glyphs) (pref_target_within script b.base b.glyphs) (formed_pref_within r.pref b.base b.glyphs)
-  | false ↦ tt
-]
+pub moves_tried : (r : Rules) (script : Option Script) (b : Based)
+    → AllByRecursion (MovesMerged (length b.glyphs)) (steps_of_pref r script b)
+moves_tried r script b =
+    elim b.tries_pref as (λ t. AllByRecursion (MovesMerged (length b.glyphs))
+    (if t then pref_steps r.pref script b.base b.glyphs else [])) [
+      | true ↦ moves_pref b.glyphs (pref_target script b.base b.glyphs) (b.base + 1) (formed_pref r.pref b.base b.glyphs)
+          (pref_target_within script b.base b.glyphs) (formed_pref_within r.pref b.base b.glyphs)
+      | false ↦ tt
+    ]
 
 -- all of them
-pub spare_final : (r : Rules) (script : Option Script) (gs : List hb_glyph_info_t) → SpareMerged (length gs) (final_steps r script gs)
+pub spare_final : (r : Rules) (script : Option Script) (gs : List hb_glyph_info_t)
+    → SpareMerged (length gs) (final_steps r script gs)
 spare_final r script gs =
     let b = based r script gs in
     let p = after_matras r script b in
@@ -208,13 +252,16 @@ spare_final r script gs =
     let rs = reph_steps r.reph_pos p.base p.glyphs in
     let ps = steps_of_pref r script q in
     let low = base_within r script (with_viramas r gs) in
-    let bn : length b.glyphs ≡ length gs = length-same carried b.glyphs gs (hidden-based r script (with_viramas r gs) ∙ hidden-viramas r gs) in
+    let bn : length b.glyphs ≡ length gs =
+    length-same carried b.glyphs gs (hidden-based r script (with_viramas r gs) ∙ hidden-viramas r gs) in
     let pn : length p.glyphs ≡ length gs = length_at b.glyphs p.glyphs ms (matras_at script b.base b.glyphs low) ∙ bn in
     let qn : length q.glyphs ≡ length gs = length_at p.glyphs q.glyphs rs (reph_at r.reph_pos p.base p.glyphs) ∙ pn in
     let n = length gs in
     let one : SpareMerged n ms = subst (λ k. SpareMerged k ms) bn (spare_matras script b.base b.glyphs low) in
-    let two : AllByRecursion (MovesMerged n) rs = subst (λ k. AllByRecursion (MovesMerged k) rs) pn (moves_reph r.reph_pos p.base p.glyphs) in
-    let three : AllByRecursion (MovesMerged n) ps = subst (λ k. AllByRecursion (MovesMerged k) ps) qn (moves_tried r script q) in
+    let two : AllByRecursion (MovesMerged n) rs =
+    subst (λ k. AllByRecursion (MovesMerged k) rs) pn (moves_reph r.reph_pos p.base p.glyphs) in
+    let three : AllByRecursion (MovesMerged n) ps =
+    subst (λ k. AllByRecursion (MovesMerged k) ps) qn (moves_tried r script q) in
     spare_then n ms (rs ++ ps) one (all-append (MovesMerged n) rs ps two three)
 
 pub final_merges : FinalMergesLaw
@@ -225,24 +272,33 @@ final_merges r script level gs cs m long =
 pub final_cuts : FinalCutsLaw
 final_cuts r script level gs cs m long different =
     let laws = final_laws r script in
-    exact_spared level m (length gs) (final_steps r script gs) cs long (laws.fits gs) (laws.permutes gs) (spare_final r script gs) different
+    exact_spared level m (length gs) (final_steps r script gs) cs long (laws.fits gs) (laws.permutes gs)
+    (spare_final r script gs) different
 
 -- the whole text
-spare_pieces : (r : Rules) (script : Option Script) (syls : List (List hb_glyph_info_t)) → AllByRecursion (λ piece. SpareMerged piece.0 piece.1) (pieces_of (final_steps r script) syls)
+spare_pieces : (r : Rules) (script : Option Script) (syls : List (List hb_glyph_info_t))
+    → AllByRecursion (λ piece. SpareMerged piece.0 piece.1) (pieces_of (final_steps r script) syls)
 spare_pieces r script [] = tt
 spare_pieces r script (syl ∷ syls) = (spare_final r script syl, spare_pieces r script syls)
 
-pub text_merges : (r : Rules) (script : Option Script) (level : BufferClusterLevel) (gs : List hb_glyph_info_t) → merges level ≡ true → MergedStay level (final_text_steps r script gs) (clusters gs)
+pub text_merges : (r : Rules) (script : Option Script) (level : BufferClusterLevel) (gs : List hb_glyph_info_t)
+    → merges level ≡ true → MergedStay level (final_text_steps r script gs) (clusters gs)
 text_merges r script level gs m =
     let xs = order_view gs in
     let steps = final_steps r script in
     let laws = final_laws r script in
     let ps = pieces_of steps (syllables xs) in
-    let sum : 0 + sum_by (λ piece. piece.0) ps ≤ length gs = omega (arith, sum-syllables steps xs, length-map gs plain) in
-    let spare = spare_along (length gs) 0 ps sum (each_piece FitsStep steps laws.fits (syllables xs)) (spare_pieces r script (syllables xs)) in
-    merged_stay level m (length gs) (final_text_steps r script gs) (clusters gs) (length-map gs (λ g. g.cluster)) (text_fits r script level gs) (subst (SpareMerged (length gs)) (sym (text_steps-long steps gs)) spare)
+    let sum : 0 + sum_by (λ piece. piece.0) ps ≤ length gs =
+    omega (arith, sum-syllables steps xs, length-map gs plain) in
+    let spare = spare_along (length gs) 0 ps sum (each_piece FitsStep steps laws.fits (syllables xs))
+    (spare_pieces r script (syllables xs)) in
+    merged_stay level m (length gs) (final_text_steps r script gs) (clusters gs) (length-map gs (λ g. g.cluster))
+    (text_fits r script level gs) (subst (SpareMerged (length gs)) (sym (text_steps-long steps gs)) spare)
 
-pub text_cuts : (r : Rules) (script : Option Script) (level : BufferClusterLevel) (gs : List hb_glyph_info_t) → merges level ≡ true → EachSyllableCuts r script (order_view gs) (clusters gs) (joined_steps level (final_text_steps r script gs) (clusters gs))
+pub text_cuts : (r : Rules) (script : Option Script) (level : BufferClusterLevel) (gs : List hb_glyph_info_t)
+    → merges level ≡ true
+    → EachSyllableCuts r script (order_view gs) (clusters gs)
+    (joined_steps level (final_text_steps r script gs) (clusters gs))
 text_cuts r script level gs m before behind syl cut own =
     let xs = order_view gs in
     let cs = clusters gs in
@@ -254,5 +310,7 @@ text_cuts r script level gs m before behind syl cut own =
     let xn : length xs ≡ length gs = length-map gs plain in
     let cn : length cs ≡ length gs = length-map gs (λ g. g.cluster) in
     let long : length (stretch_of s e cs) ≡ length syl = length-stretch s e cs (omega arith) ∙ omega arith in
-    let alone = syllable_alone (final_steps r script) laws.fits level xs cs (cn ∙ sym xn) before behind syl cut own.others in
-    subst (ExactCuts (pick (old_places (length syl) steps) (stretch_of s e cs)) (all_merged steps)) (sym alone) (final_cuts r script level syl (stretch_of s e cs) m long own.different)
+    let alone = syllable_alone (final_steps r script) laws.fits level xs cs (cn ∙ sym xn) before behind syl cut
+    own.others in
+    subst (ExactCuts (pick (old_places (length syl) steps) (stretch_of s e cs)) (all_merged steps)) (sym alone)
+    (final_cuts r script level syl (stretch_of s e cs) m long own.different)

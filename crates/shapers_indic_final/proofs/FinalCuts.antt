@@ -56,43 +56,65 @@ unmapped byte [] h = All-nil (λ (g : hb_glyph_info_t). g.syllable ≡ byte)
 unmapped byte (g ∷ gs) h =
     let P : ℕ → Type 0 = λ b. b ≡ byte in
     let rest = map (λ (x : hb_glyph_info_t). x.syllable) gs in
-    All-cons (λ (x : hb_glyph_info_t). x.syllable ≡ byte) g gs (All-head P g.syllable rest h) (unmapped byte gs (All-tail P g.syllable rest h))
+    All-cons (λ (x : hb_glyph_info_t). x.syllable ≡ byte) g gs (All-head P g.syllable rest h)
+    (unmapped byte gs (All-tail P g.syllable rest h))
 
-kept_byte : (meaning : Glyphs → Glyphs) (steps : Glyphs → List Step) → ReorderLaws meaning steps → (byte : ℕ) (gs : Glyphs) → OfByte byte gs → OfByte byte (meaning gs)
+kept_byte : (meaning : Glyphs → Glyphs) (steps : Glyphs → List Step) → ReorderLaws meaning steps
+    → (byte : ℕ) (gs : Glyphs) → OfByte byte gs → OfByte byte (meaning gs)
 kept_byte meaning steps laws byte gs u =
     let P : ℕ → Type 0 = λ b. b ≡ byte in
     let read : hb_glyph_info_t → ℕ = λ g. g.syllable in
     let lost = nothing_lost meaning steps laws gs in
-    let whole : text_order meaning gs ≡ meaning gs = ap (flat_map meaning) (one_run byte gs u) ∙ append-nil (meaning gs) in
-    let kept : IsPermutation (seen carried gs) (seen carried (meaning gs)) = subst (λ xs. IsPermutation (seen carried gs) (seen carried xs)) whole lost.kept in
+    let whole : text_order meaning gs ≡ meaning gs = ap (flat_map meaning) (one_run byte gs u)
+    ∙ append-nil (meaning gs) in
+    let kept : IsPermutation (seen carried gs) (seen carried (meaning gs)) =
+    subst (λ xs. IsPermutation (seen carried gs) (seen carried xs)) whole lost.kept in
     let all : All P (map read gs) = All-map P read gs u.all in
     let before : All P (map read (seen carried gs)) = subst (All P) (sym (bytes-seen gs)) all in
-    let after : All P (map read (seen carried (meaning gs))) = All-permutation P (map read (seen carried gs)) (map read (seen carried (meaning gs))) (IsPermutation-map read (seen carried gs) (seen carried (meaning gs)) kept) before in
+    let after : All P (map read (seen carried (meaning gs))) =
+    All-permutation P (map read (seen carried gs)) (map read (seen carried (meaning gs)))
+    (IsPermutation-map read (seen carried gs) (seen carried (meaning gs)) kept) before in
     let many = length-meaning meaning steps laws gs in
     let some = u.some in
-    record { some = omega (arith, many, some); all = unmapped byte (meaning gs) (subst (All P) (bytes-seen (meaning gs)) after) }
+    record {
+      some = omega (arith, many, some);
+      all = unmapped byte (meaning gs)
+          (subst (All P) (bytes-seen (meaning gs)) after);
+    }
 
 -- the ends of a text after a pause
-ends_after : (meaning : Glyphs → Glyphs) (steps : Glyphs → List Step) → ReorderLaws meaning steps → (xs : Glyphs) → SameEnds (text_order meaning xs) xs
-ends_after meaning steps laws xs = subst (SameEnds (text_order meaning xs)) (joined-syllables xs) (ends-kept meaning (kept_byte meaning steps laws) (syllables xs) (syllables_cut xs))
+ends_after : (meaning : Glyphs → Glyphs) (steps : Glyphs → List Step) → ReorderLaws meaning steps → (xs : Glyphs)
+    → SameEnds (text_order meaning xs) xs
+ends_after meaning steps laws xs =
+    subst (SameEnds (text_order meaning xs)) (joined-syllables xs)
+    (ends-kept meaning (kept_byte meaning steps laws) (syllables xs) (syllables_cut xs))
 
-border_after : (circles : Option DottedCircles) (meaning : Glyphs → Glyphs) (steps : Glyphs → List Step) → ReorderLaws meaning steps → (gs hs : Glyphs) → MeetAtBorder gs hs → MeetAtBorder (paused_order circles meaning gs) (paused_order circles meaning hs)
+border_after : (circles : Option DottedCircles) (meaning : Glyphs → Glyphs) (steps : Glyphs → List Step)
+    → ReorderLaws meaning steps → (gs hs : Glyphs) → MeetAtBorder gs hs
+    → MeetAtBorder (paused_order circles meaning gs) (paused_order circles meaning hs)
 border_after circles meaning steps laws gs hs border =
     let xs = order_view (circled circles gs) in
     let ys = order_view (circled circles hs) in
-    border_by (text_order meaning xs) (text_order meaning ys) xs ys (ends_after meaning steps laws xs) (ends_after meaning steps laws ys) (border-view (circled circles gs) (circled circles hs) (border-circled circles gs hs border))
+    border_by (text_order meaning xs) (text_order meaning ys) xs ys (ends_after meaning steps laws xs)
+    (ends_after meaning steps laws ys)
+    (border-view (circled circles gs) (circled circles hs) (border-circled circles gs hs border))
 
 -- serials after a pause
-same_after : (circles : Option DottedCircles) (meaning : Glyphs → Glyphs) (steps : Glyphs → List Step) → ReorderLaws meaning steps → ReadsNoSerials meaning steps → (gs hs : Glyphs) → SameButSerials gs hs → SameButSerials (paused_order circles meaning gs) (paused_order circles meaning hs)
+same_after : (circles : Option DottedCircles) (meaning : Glyphs → Glyphs) (steps : Glyphs → List Step)
+    → ReorderLaws meaning steps → ReadsNoSerials meaning steps → (gs hs : Glyphs) → SameButSerials gs hs
+    → SameButSerials (paused_order circles meaning gs) (paused_order circles meaning hs)
 same_after circles meaning steps laws reads gs hs same =
     let xs = order_view (circled circles gs) in
     let ys = order_view (circled circles hs) in
     let keeps = kept_byte meaning steps laws in
     ap (map (map unnumbered)) (syllables-mapped meaning keeps xs)
-    ∙ pieces_same meaning reads.meant (syllables xs) (syllables ys) (same-view (circled circles gs) (circled circles hs) (same-circled circles gs hs same))
+    ∙ pieces_same meaning reads.meant (syllables xs) (syllables ys)
+    (same-view (circled circles gs) (circled circles hs) (same-circled circles gs hs same))
     ∙ sym (ap (map (map unnumbered)) (syllables-mapped meaning keeps ys))
 
-same_pieces : (steps : Glyphs → List Step) → ((gs hs : Glyphs) → map unnumbered gs ≡ map unnumbered hs → steps gs ≡ steps hs) → (ps qs : List Glyphs) → map (map unnumbered) ps ≡ map (map unnumbered) qs → pieces_of steps ps ≡ pieces_of steps qs
+same_pieces : (steps : Glyphs → List Step)
+    → ((gs hs : Glyphs) → map unnumbered gs ≡ map unnumbered hs → steps gs ≡ steps hs) → (ps qs : List Glyphs)
+    → map (map unnumbered) ps ≡ map (map unnumbered) qs → pieces_of steps ps ≡ pieces_of steps qs
 same_pieces steps led [] [] same = refl
 same_pieces steps led [] (q ∷ qs) same = absurd (omega (arith, ap length same))
 same_pieces steps led (p ∷ ps) [] same = absurd (omega (arith, ap length same))
@@ -100,19 +122,25 @@ same_pieces steps led (p ∷ ps) (q ∷ qs) same =
     let one : map unnumbered p ≡ map unnumbered q = ap (λ l. get_or l 0 []) same in
     let long : length p ≡ length q = sym (length-map p unnumbered) ∙ ap length one ∙ length-map q unnumbered in
     let pair : ℕ → List Step → ℕ × List Step = λ n sts. (n, sts) in
-    ap (λ n. pair n (steps p) ∷ pieces_of steps ps) long ∙ ap (λ sts. pair (length q) sts ∷ pieces_of steps ps) (led p q one) ∙ ap (λ l. pair (length q) (steps q) ∷ l) (same_pieces steps led ps qs (ap (drop 1) same))
+    ap (λ n. pair n (steps p) ∷ pieces_of steps ps) long
+    ∙ ap (λ sts. pair (length q) sts ∷ pieces_of steps ps) (led p q one)
+    ∙ ap (λ l. pair (length q) (steps q) ∷ l) (same_pieces steps led ps qs (ap (drop 1) same))
 
 same_long : (xs ys : Glyphs) → SameButSerials xs ys → length xs ≡ length ys
 same_long xs ys same = sym (length-map xs unnumbered) ∙ ap length (same_text xs ys same) ∙ length-map ys unnumbered
 
-same_steps : (r : Rules) (script : Option Script) (xs ys : Glyphs) → SameButSerials xs ys → text_steps (final_steps r script) xs ≡ text_steps (final_steps r script) ys
+same_steps : (r : Rules) (script : Option Script) (xs ys : Glyphs) → SameButSerials xs ys
+    → text_steps (final_steps r script) xs ≡ text_steps (final_steps r script) ys
 same_steps r script xs ys same =
     let steps = final_steps r script in
     let reads = final_reads_no_serials r script in
-    ap (λ n. steps_along n 0 (pieces_of steps (syllables xs))) (same_long xs ys same) ∙ ap (steps_along (length ys) 0) (same_pieces steps reads.led (syllables xs) (syllables ys) same)
+    ap (λ n. steps_along n 0 (pieces_of steps (syllables xs))) (same_long xs ys same)
+    ∙ ap (steps_along (length ys) 0) (same_pieces steps reads.led (syllables xs) (syllables ys) same)
 
 -- lengths after a pause
-pause_fits : (circles : Option DottedCircles) (meaning : Glyphs → Glyphs) (steps : Glyphs → List Step) → ReorderLaws meaning steps → (level : BufferClusterLevel) (gs : Glyphs) → FitSteps (length (circled circles gs)) (text_steps steps (order_view (circled circles gs)))
+pause_fits : (circles : Option DottedCircles) (meaning : Glyphs → Glyphs) (steps : Glyphs → List Step)
+    → ReorderLaws meaning steps → (level : BufferClusterLevel) (gs : Glyphs)
+    → FitSteps (length (circled circles gs)) (text_steps steps (order_view (circled circles gs)))
 pause_fits circles meaning steps laws level gs =
     let zs = circled circles gs in
     let xs = order_view zs in
@@ -121,34 +149,43 @@ pause_fits circles meaning steps laws level gs =
     let along = along_holds level ps zs sum (each_piece FitsStep steps laws.fits (syllables xs)) in
     subst (FitSteps (length zs)) (sym (text_steps-long steps zs)) along.fit
 
-record PausedClusters (circles : Option DottedCircles) (meaning : Glyphs → Glyphs) (steps : Glyphs → List Step) (level : BufferClusterLevel) (gs : Glyphs) : Type 0 where
+record PausedClusters (circles : Option DottedCircles) (meaning : Glyphs → Glyphs) (steps : Glyphs
+    → List Step) (level : BufferClusterLevel) (gs : Glyphs) : Type 0 where
   pub long : length (paused_clusters circles steps level gs) ≡ length (paused_order circles meaning gs)
   pub among : All (Contains (clusters (circled circles gs))) (paused_clusters circles steps level gs)
 
-paused_facts : (circles : Option DottedCircles) (meaning : Glyphs → Glyphs) (steps : Glyphs → List Step) → ReorderLaws meaning steps → (level : BufferClusterLevel) (gs : Glyphs) → PausedClusters circles meaning steps level gs
+paused_facts : (circles : Option DottedCircles) (meaning : Glyphs → Glyphs) (steps : Glyphs → List Step)
+    → ReorderLaws meaning steps → (level : BufferClusterLevel) (gs : Glyphs)
+    → PausedClusters circles meaning steps level gs
 paused_facts circles meaning steps laws level gs =
     let zs = circled circles gs in
     let xs = order_view zs in
     let sts = text_steps steps xs in
     let cluster : hb_glyph_info_t → ℕ = λ g. g.cluster in
-    let held = clusters_hold level sts (clusters zs) (subst (λ n. FitSteps n sts) (sym (length-map zs cluster)) (pause_fits circles meaning steps laws level gs)) in
+    let held = clusters_hold level sts (clusters zs)
+    (subst (λ n. FitSteps n sts) (sym (length-map zs cluster))
+    (pause_fits circles meaning steps laws level gs)) in
     let lost = nothing_lost meaning steps laws xs in
     let shown : hb_glyph_info_t → hb_glyph_info_t = λ g. plain (carried g) in
-    let kept : length (text_order meaning xs) ≡ length xs = sym (length-map (text_order meaning xs) shown) ∙ length_permutation (seen carried xs) (seen carried (text_order meaning xs)) lost.kept ∙ length-map xs shown in
+    let kept : length (text_order meaning xs) ≡ length xs = sym (length-map (text_order meaning xs) shown)
+    ∙ length_permutation (seen carried xs) (seen carried (text_order meaning xs)) lost.kept
+    ∙ length-map xs shown in
     record {
       long = held.same_length ∙ length-map zs cluster ∙ sym (length-map zs plain) ∙ sym kept;
       among = held.old_clusters;
     }
 
 -- clusters that come of those of halves that share none
-cluster_among : (cs : List ℕ) (xs : Glyphs) → All (Contains cs) (clusters xs) → (i : ℕ) → i < length xs → (k : ℕ) × (k < length cs) × (slice_index cs k ≡ slice_index (clusters xs) i)
+cluster_among : (cs : List ℕ) (xs : Glyphs) → All (Contains cs) (clusters xs) → (i : ℕ) → i < length xs
+    → (k : ℕ) × (k < length cs) × (slice_index cs k ≡ slice_index (clusters xs) i)
 cluster_among cs xs all i h =
     let js = clusters xs in
     let n = length-map xs (λ g. g.cluster) in
     let found = All-get_or (Contains cs) js i 0 (omega (arith, n)) all in
     (found.0, found.1, get_or_default cs found.0 0 (get_or js i 0) found.1 ∙ found.2)
 
-apart_among : (gs hs xs ys : Glyphs) → All (Contains (clusters gs)) (clusters xs) → All (Contains (clusters hs)) (clusters ys) → ShareNone gs hs → ShareNone xs ys
+apart_among : (gs hs xs ys : Glyphs) → All (Contains (clusters gs)) (clusters xs)
+    → All (Contains (clusters hs)) (clusters ys) → ShareNone gs hs → ShareNone xs ys
 apart_among gs hs xs ys a b none i j il jl same =
     let p = cluster_among (clusters gs) xs a i il in
     let q = cluster_among (clusters hs) ys b j jl in
@@ -174,26 +211,35 @@ met gs hs border some more same =
     ∙ ap (λ bs. slice_index bs 0) (sym (bytes_plain hs)))
 
 -- the bits of init, and serials
-map-twice : (h : hb_glyph_info_t → hb_glyph_info_t) (gs : Glyphs) → map (λ g. unnumbered (h g)) gs ≡ map unnumbered (map h gs)
+map-twice : (h : hb_glyph_info_t → hb_glyph_info_t) (gs : Glyphs) → map (λ g. unnumbered (h g)) gs
+    ≡ map unnumbered (map h gs)
 map-twice h [] = refl
 map-twice h (g ∷ gs) = ap (λ l. unnumbered (h g) ∷ l) (map-twice h gs)
 
-bits_past : (bits : ℕ) (gs : Glyphs) → map unnumbered (map (with_bits bits) gs) ≡ map (with_bits bits) (map unnumbered gs)
+bits_past : (bits : ℕ) (gs : Glyphs) → map unnumbered (map (with_bits bits) gs)
+    ≡ map (with_bits bits) (map unnumbered gs)
 bits_past bits [] = refl
 bits_past bits (g ∷ gs) = ap (λ l. unnumbered (with_bits bits g) ∷ l) (bits_past bits gs)
 
-shown_final : (r : Rules) (script : Option Script) (xs : Glyphs) → map (uninitiated r) (final_text r script xs) ≡ map (with_bits r.init) (map unnumbered (text_order (final_order r script) xs))
+shown_final : (r : Rules) (script : Option Script) (xs : Glyphs) → map (uninitiated r) (final_text r script xs)
+    ≡ map (with_bits r.init) (map unnumbered (text_order (final_order r script) xs))
 shown_final r script xs =
-    map-twice (with_bits r.init) (final_text r script xs) ∙ ap (map unnumbered) (bits_text r script None xs) ∙ bits_past r.init (text_order (final_order r script) xs)
+    map-twice (with_bits r.init) (final_text r script xs) ∙ ap (map unnumbered) (bits_text r script None xs)
+    ∙ bits_past r.init (text_order (final_order r script) xs)
 
-same_final : (r : Rules) (script : Option Script) (xs ys : Glyphs) → SameButSerials xs ys → map unnumbered (text_order (final_order r script) xs) ≡ map unnumbered (text_order (final_order r script) ys)
-same_final r script xs ys same = let reads = final_reads_no_serials r script in joined_same (final_order r script) reads.meant (syllables xs) (syllables ys) same
+same_final : (r : Rules) (script : Option Script) (xs ys : Glyphs) → SameButSerials xs ys
+    → map unnumbered (text_order (final_order r script) xs) ≡ map unnumbered (text_order (final_order r script) ys)
+same_final r script xs ys same = let reads =
+    final_reads_no_serials r script in joined_same (final_order r script) reads.meant (syllables xs) (syllables ys) same
 
 clusters-same : (xs ys : Glyphs) → SameButSerials xs ys → clusters xs ≡ clusters ys
-clusters-same xs ys same = sym (clusters-through unnumbered unnumbered_passes xs) ∙ ap clusters (same_text xs ys same) ∙ clusters-through unnumbered unnumbered_passes ys
+clusters-same xs ys same = sym (clusters-through unnumbered unnumbered_passes xs) ∙ ap clusters (same_text xs ys same)
+    ∙ clusters-through unnumbered unnumbered_passes ys
 
 -- halves that meet at a border, and ones that are the same but for serials
-shown_halves : (r : Rules) (script : Option Script) (gs hs xs ys : Glyphs) → MeetAtBorder gs hs → SameButSerials gs xs → SameButSerials hs ys → map (uninitiated r) (final_text r script (gs ++ hs)) ≡ map (uninitiated r) (final_text r script xs) ++ map (uninitiated r) (final_text r script ys)
+shown_halves : (r : Rules) (script : Option Script) (gs hs xs ys : Glyphs) → MeetAtBorder gs hs → SameButSerials gs xs
+    → SameButSerials hs ys → map (uninitiated r) (final_text r script (gs ++ hs))
+    ≡ map (uninitiated r) (final_text r script xs) ++ map (uninitiated r) (final_text r script ys)
 shown_halves r script gs hs xs ys border one two =
     let f = final_order r script in
     let V = map (uninitiated r) in
@@ -208,7 +254,10 @@ shown_halves r script gs hs xs ys border one two =
     ∙ ap (λ zs. V (final_text r script xs) ++ zs) (sym (shown_final r script ys))
 
 -- the pause alone, cut at a border of syllables
-pub final_cuts_with_serials : (r : Rules) (old new : Buffer) → FinallyReordered r old new → clusters new.glyphs ≡ final_clusters r old.script old.level old.glyphs → CutsAtBorders (uninitiated r) (λ gs. final_text r old.script (order_view gs)) (final_clusters r old.script old.level) old.glyphs new.glyphs
+pub final_cuts_with_serials : (r : Rules) (old new : Buffer) → FinallyReordered r old new
+    → clusters new.glyphs ≡ final_clusters r old.script old.level old.glyphs
+    → CutsAtBorders (uninitiated r) (λ gs. final_text r old.script (order_view gs))
+    (final_clusters r old.script old.level) old.glyphs new.glyphs
 final_cuts_with_serials r old new done are gs hs xs ys text border one two =
     let script = old.script in
     let level = old.level in
@@ -221,12 +270,15 @@ final_cuts_with_serials r old new done are gs hs xs ys text border one two =
     record {
       order =
           ap V (done.order ∙ ap (final_text r script) parts)
-          ∙ shown_halves r script (order_view gs) (order_view hs) (order_view xs) (order_view ys) (border-view gs hs border) (same-view gs xs one) (same-view hs ys two);
-      in_clusters = λ none. law.in_clusters none ∙ ap (λ cs. cs ++ C hs) (front.in_clusters level) ∙ ap (λ cs. C xs ++ cs) (back.in_clusters level);
+          ∙ shown_halves r script (order_view gs) (order_view hs) (order_view xs) (order_view ys)
+          (border-view gs hs border) (same-view gs xs one) (same-view hs ys two);
+      in_clusters = λ none. law.in_clusters none ∙ ap (λ cs. cs ++ C hs) (front.in_clusters level)
+          ∙ ap (λ cs. C xs ++ cs) (back.in_clusters level);
     }
 
 pub final_cuts_between_spans : FinalCutsBetweenSpans
-final_cuts_between_spans r meaning steps circles spans old mid new laws reads kinds paused done ss ts gs hs xs ys split text first second one two =
+final_cuts_between_spans r meaning steps circles spans old mid new laws reads kinds paused done ss ts gs hs xs ys split
+    text first second one two =
     let script = old.script in
     let level = old.level in
     let kept : mid.script ≡ script = ap (λ (b : Buffer). b.script) paused.others in
@@ -237,16 +289,21 @@ final_cuts_between_spans r meaning steps circles spans old mid new laws reads ki
     let H = unsafe_spans ts hs in
     let cut = spans_cut spans BROKEN_CLUSTER old kinds ss ts gs hs split text first second in
     let B = cut.behind in
-    let joined = pauses_cut_between_spans meaning steps BROKEN_CLUSTER laws reads circles spans old mid kinds paused ss ts gs hs xs ys split text first second one two in
+    let joined = pauses_cut_between_spans meaning steps BROKEN_CLUSTER laws reads circles spans old mid kinds paused ss
+    ts gs hs xs ys split text first second one two in
     let V = map (uninitiated r) in
     let parts : order_view mid.glyphs ≡ P F ++ P B =
-    paused.order ∙ ap P cut.parts ∙ ap (λ zs. text_order meaning (order_view zs)) (circled-append circles F B cut.border) ∙ text_order-halves meaning (circled circles F) (circled circles B) (border-circled circles F B cut.border) in
+    paused.order ∙ ap P cut.parts
+    ∙ ap (λ zs. text_order meaning (order_view zs)) (circled-append circles F B cut.border)
+    ∙ text_order-halves meaning (circled circles F) (circled circles B) (border-circled circles F B cut.border) in
     let border = border_after circles meaning steps laws F B cut.border in
     let front : SameButSerials (P F) (P xs) = same_after circles meaning steps laws reads F xs one in
     let back : SameButSerials (P B) (P ys) = same_after circles meaning steps laws reads B ys (cut.renumbered ∙ two) in
-    let ordered : order_view new.glyphs ≡ final_text r script (order_view mid.glyphs) = done.order ∙ ap (λ s. final_text r s (order_view mid.glyphs)) kept in
+    let ordered : order_view new.glyphs ≡ final_text r script (order_view mid.glyphs) =
+    done.order ∙ ap (λ s. final_text r s (order_view mid.glyphs)) kept in
     record {
-      order = ap V (ordered ∙ ap (final_text r script) parts) ∙ shown_halves r script (P F) (P B) (P xs) (P ys) border front back;
+      order = ap V (ordered ∙ ap (final_text r script) parts)
+          ∙ shown_halves r script (P F) (P B) (P xs) (P ys) border front back;
       in_clusters = λ none.
           let n = length (P F) in
           let G = take n mid.glyphs in
@@ -256,23 +313,43 @@ final_cuts_between_spans r meaning steps circles spans old mid new laws reads ki
           let cluster : hb_glyph_info_t → ℕ = λ g. g.cluster in
           let size : length (C xs) ≡ n = one_facts.long ∙ sym (same_long (P F) (P xs) front) in
           let whole : mid.glyphs ≡ G ++ K = sym (take-append-drop n mid.glyphs) in
-          let gv : order_view G ≡ P F = sym (take-map plain n mid.glyphs) ∙ ap (take n) parts ∙ take_at (P F) (P B) n refl in
-          let kv : order_view K ≡ P B = sym (drop-map plain n mid.glyphs) ∙ ap (drop n) parts ∙ drop_at (P F) (P B) n refl in
+          let gv : order_view G ≡ P F = sym (take-map plain n mid.glyphs) ∙ ap (take n) parts
+          ∙ take_at (P F) (P B) n refl in
+          let kv : order_view K ≡ P B = sym (drop-map plain n mid.glyphs) ∙ ap (drop n) parts
+          ∙ drop_at (P F) (P B) n refl in
           let both = joined.in_clusters none in
-          let gc : clusters G ≡ C xs = sym (take-map cluster n mid.glyphs) ∙ ap (take n) both ∙ take_at (C xs) (C ys) n size in
-          let kc : clusters K ≡ C ys = sym (drop-map cluster n mid.glyphs) ∙ ap (drop n) both ∙ drop_at (C xs) (C ys) n size in
-          let meet : MeetAtBorder G K = met G K (subst (λ zs. MeetAtBorder zs (order_view K)) (sym gv) (subst (MeetAtBorder (P F)) (sym kv) border)) in
-          let xf : clusters xs ≡ clusters gs = sym (clusters-same F xs one) ∙ clusters-set_up ss BROKEN_CLUSTER (record old { glyphs = gs }) in
-          let yh : clusters ys ≡ clusters hs = sym (clusters-same H ys two) ∙ clusters-set_up ts BROKEN_CLUSTER (record old { glyphs = hs }) in
-          let ga : All (Contains (clusters gs)) (clusters G) = subst (λ cs. All (Contains cs) (clusters G)) xf (no_new_cluster circles xs G (subst (All (Contains (clusters (circled circles xs)))) (sym gc) one_facts.among)) in
-          let ka : All (Contains (clusters hs)) (clusters K) = subst (λ cs. All (Contains cs) (clusters K)) yh (no_new_cluster circles ys K (subst (All (Contains (clusters (circled circles ys)))) (sym kc) two_facts.among)) in
+          let gc : clusters G ≡ C xs = sym (take-map cluster n mid.glyphs) ∙ ap (take n) both
+          ∙ take_at (C xs) (C ys) n size in
+          let kc : clusters K ≡ C ys = sym (drop-map cluster n mid.glyphs) ∙ ap (drop n) both
+          ∙ drop_at (C xs) (C ys) n size in
+          let meet : MeetAtBorder G K =
+          met G K (subst (λ zs. MeetAtBorder zs (order_view K)) (sym gv)
+          (subst (MeetAtBorder (P F)) (sym kv) border)) in
+          let xf : clusters xs ≡ clusters gs = sym (clusters-same F xs one)
+          ∙ clusters-set_up ss BROKEN_CLUSTER (record old { glyphs = gs }) in
+          let yh : clusters ys ≡ clusters hs = sym (clusters-same H ys two)
+          ∙ clusters-set_up ts BROKEN_CLUSTER (record old { glyphs = hs }) in
+          let ga : All (Contains (clusters gs)) (clusters G) =
+          subst (λ cs. All (Contains cs) (clusters G)) xf
+          (no_new_cluster circles xs G
+          (subst (All (Contains (clusters (circled circles xs)))) (sym gc) one_facts.among)) in
+          let ka : All (Contains (clusters hs)) (clusters K) =
+          subst (λ cs. All (Contains cs) (clusters K)) yh
+          (no_new_cluster circles ys K
+          (subst (All (Contains (clusters (circled circles ys)))) (sym kc) two_facts.among)) in
           let apart : ShareNone G K = apart_among gs hs G K ga ka none in
-          let are : clusters new.glyphs ≡ final_clusters r script level mid.glyphs = clusters-whole r mid.script mid.level mid.glyphs new.glyphs done.moved ∙ ap (λ s. final_clusters r s mid.level mid.glyphs) kept ∙ ap (λ l. final_clusters r script l mid.glyphs) still in
+          let are : clusters new.glyphs ≡ final_clusters r script level mid.glyphs =
+          clusters-whole r mid.script mid.level mid.glyphs new.glyphs done.moved
+          ∙ ap (λ s. final_clusters r s mid.level mid.glyphs) kept
+          ∙ ap (λ l. final_clusters r script l mid.glyphs) still in
           let law = halves r script level mid.glyphs new.glyphs G K ordered are whole meet in
           let S : Glyphs → List ℕ → List ℕ = λ zs cs. joined_steps level (text_steps (final_steps r script) zs) cs in
           let gf : final_clusters r script level G ≡ final_clusters_after r script level circles meaning steps xs =
-          ap (λ zs. S zs (clusters G)) gv ∙ ap (S (P F)) gc ∙ ap (λ sts. joined_steps level sts (C xs)) (same_steps r script (P F) (P xs) front) in
+          ap (λ zs. S zs (clusters G)) gv ∙ ap (S (P F)) gc
+          ∙ ap (λ sts. joined_steps level sts (C xs)) (same_steps r script (P F) (P xs) front) in
           let kf : final_clusters r script level K ≡ final_clusters_after r script level circles meaning steps ys =
-          ap (λ zs. S zs (clusters K)) kv ∙ ap (S (P B)) kc ∙ ap (λ sts. joined_steps level sts (C ys)) (same_steps r script (P B) (P ys) back) in
-          law.in_clusters apart ∙ ap (λ cs. cs ++ final_clusters r script level K) gf ∙ ap (λ cs. final_clusters_after r script level circles meaning steps xs ++ cs) kf;
+          ap (λ zs. S zs (clusters K)) kv ∙ ap (S (P B)) kc
+          ∙ ap (λ sts. joined_steps level sts (C ys)) (same_steps r script (P B) (P ys) back) in
+          law.in_clusters apart ∙ ap (λ cs. cs ++ final_clusters r script level K) gf
+          ∙ ap (λ cs. final_clusters_after r script level circles meaning steps xs ++ cs) kf;
     }

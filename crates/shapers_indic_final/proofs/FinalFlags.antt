@@ -79,7 +79,8 @@ all_of [] (y ∷ ys) h = absurd h
 all_of (x ∷ xs) [] h = absurd h
 all_of (x ∷ xs) (y ∷ ys) h = (but_of x y h.0, all_of xs ys h.1)
 
-all_on : (xs ys zs : List hb_glyph_info_t) → AllZip FlagsFallButBreaks xs ys → AllZip FlagsFallButBreaks ys zs → AllZip FlagsFallButBreaks xs zs
+all_on : (xs ys zs : List hb_glyph_info_t) → AllZip FlagsFallButBreaks xs ys → AllZip FlagsFallButBreaks ys zs
+    → AllZip FlagsFallButBreaks xs zs
 all_on xs ys zs h k = all_over FlagsFallButBreaks FlagsFallButBreaks FlagsFallButBreaks but_on xs ys zs h k
 
 all_off : (m : ℕ) (xs : List hb_glyph_info_t) → AllZip FlagsFallButBreaks xs (map (with_bits_off 3 m) xs)
@@ -95,7 +96,8 @@ all_bound s true gs =
     let c = drop e gs in
     let low : a ≤ e = omega arith in
     subst (λ xs. AllZip FlagsFallButBreaks xs (unsafe_inside a e gs)) (three_parts a e gs low)
-    (all_append FlagsFallButBreaks (take a gs) (take a gs) (part ++ c) (flagged 3 part ++ c) (all_same (take a gs)) (all_append FlagsFallButBreaks part (flagged 3 part) c c (all_off (least (clusters part)) part) (all_same c)))
+    (all_append FlagsFallButBreaks (take a gs) (take a gs) (part ++ c) (flagged 3 part ++ c) (all_same (take a gs))
+    (all_append FlagsFallButBreaks part (flagged 3 part) c c (all_off (least (clusters part)) part) (all_same c)))
 
 all_carried : (xs ys : List hb_glyph_info_t) → map carried ys ≡ map carried xs → AllZip FlagsFallButBreaks xs ys
 all_carried [] [] e = tt
@@ -104,11 +106,17 @@ all_carried (x ∷ xs) [] e = absurd (cc e)
 all_carried (x ∷ xs) (y ∷ ys) e =
     let d = default_glyph in
     let c : y.cluster ≡ x.cluster = ap (λ (gs : List hb_glyph_info_t). (get_or gs 0 d).cluster) e in
-    let m : y.mask % 8 ≡ x.mask % 8 = ap (λ (gs : List hb_glyph_info_t). (get_or gs 0 d).mask) e in
-    (record { at_most = omega arith; fell = λ l. absurd (omega arith); kept = λ _. inl m }, all_carried xs ys (ap (λ (gs : List hb_glyph_info_t). drop 1 gs) e))
+    let m : y.mask % 8 ≡ x.mask % 8 = ap (λ (gs : List hb_glyph_info_t). (get_or gs 0 d).mask) e in (
+      record { at_most = omega arith; fell = λ l. absurd (omega arith); kept = λ _. inl m },
+      all_carried xs ys
+          (ap (λ (gs : List hb_glyph_info_t). drop 1 gs) e),
+    )
 
 -- the text
-flags-syllable : (r : Rules) (script : Option Script) (level : BufferClusterLevel) (s : ℕ) (before : Option hb_glyph_info_t) (syl ys : List hb_glyph_info_t) → s + length syl ≤ length ys → AllZip FlagsFallButBreaks (pick (old_places (length ys) (syllable_steps r script s (length ys) syl)) ys) (syllable_run r script level s before syl ys)
+flags-syllable : (r : Rules) (script : Option Script) (level : BufferClusterLevel) (s : ℕ)
+    (before : Option hb_glyph_info_t) (syl ys : List hb_glyph_info_t) → s + length syl ≤ length ys
+    → AllZip FlagsFallButBreaks (pick (old_places (length ys) (syllable_steps r script s (length ys) syl)) ys)
+    (syllable_run r script level s before syl ys)
 flags-syllable r script level s before syl ys l =
     let sts = syllable_steps r script s (length ys) syl in
     let run = run_steps level sts ys in
@@ -117,8 +125,13 @@ flags-syllable r script level s before syl ys l =
     let b = is_bound before (final_order r script syl) in
     all_on moved run (bound_at s b run) (all_of moved run (all_flags_fall moved run held.falls)) (all_bound s b run)
 
-pub flags-text : (r : Rules) (script : Option Script) (level : BufferClusterLevel) (s : ℕ) (before : Option hb_glyph_info_t) (syls : List (List hb_glyph_info_t)) (ys : List hb_glyph_info_t) → s + length (flat_map (λ syl. syl) syls) ≤ length ys → AllZip FlagsFallButBreaks (pick (old_places (length ys) (steps_from r script (length ys) s syls)) ys) (text_run r script level s before syls ys)
-flags-text r script level s before [] ys l = subst (λ xs. AllZip FlagsFallButBreaks xs ys) (sym (pick-all (length ys) ys refl)) (all_same ys)
+pub flags-text : (r : Rules) (script : Option Script) (level : BufferClusterLevel) (s : ℕ)
+    (before : Option hb_glyph_info_t) (syls : List (List hb_glyph_info_t)) (ys : List hb_glyph_info_t)
+    → s + length (flat_map (λ syl. syl) syls) ≤ length ys
+    → AllZip FlagsFallButBreaks (pick (old_places (length ys) (steps_from r script (length ys) s syls)) ys)
+    (text_run r script level s before syls ys)
+flags-text r script level s before [] ys l =
+    subst (λ xs. AllZip FlagsFallButBreaks xs ys) (sym (pick-all (length ys) ys refl)) (all_same ys)
 flags-text r script level s before (syl ∷ syls) ys l =
     let zs = syllable_run r script level s before syl ys in
     let n = length ys in
@@ -132,11 +145,16 @@ flags-text r script level s before (syl ∷ syls) ys l =
     let all = length-append syl (flat_map (λ syl. syl) syls) in
     let within : s + length syl ≤ n = omega (arith, all) in
     let long = length-syllable r script level s before syl ys within in
-    let rest : AllZip FlagsFallButBreaks (pick nexts zs) end = subst (λ k. AllZip FlagsFallButBreaks (pick (old_places k (steps_from r script k t syls)) zs) end) long (flags-text r script level t next syls zs (omega (arith, all, long))) in
-    let one = AllZip-pick FlagsFallButBreaks nexts (pick olds ys) zs (flags-syllable r script level s before syl ys within) in
+    let rest : AllZip FlagsFallButBreaks (pick nexts zs) end =
+    subst (λ k. AllZip FlagsFallButBreaks (pick (old_places k (steps_from r script k t syls)) zs) end) long
+    (flags-text r script level t next syls zs (omega (arith, all, long))) in
+    let one = AllZip-pick FlagsFallButBreaks nexts (pick olds ys) zs
+    (flags-syllable r script level s before syl ys within) in
     let is : pick nexts (pick olds ys) ≡ pick (old_places n (sts ++ more)) ys =
-    pick-pick nexts olds ys (within-old_places n sts) ∙ ap (λ ps. pick ps ys) (sym (old_places_then n sts more (syllable_fits r script s n syl within))) in
+    pick-pick nexts olds ys (within-old_places n sts)
+    ∙ ap (λ ps. pick ps ys) (sym (old_places_then n sts more (syllable_fits r script s n syl within))) in
     subst (λ xs. AllZip FlagsFallButBreaks xs end) is (all_on (pick nexts (pick olds ys)) (pick nexts zs) end one rest)
 
-pub flags-whole : (xs ran new : List hb_glyph_info_t) → AllZip FlagsFallButBreaks xs ran → map carried new ≡ map carried ran → AllZip FlagsFallButBreaks xs new
+pub flags-whole : (xs ran new : List hb_glyph_info_t) → AllZip FlagsFallButBreaks xs ran
+    → map carried new ≡ map carried ran → AllZip FlagsFallButBreaks xs new
 flags-whole xs ran new h same = all_on xs ran new h (all_carried ran new same)

@@ -34,7 +34,8 @@ use Rattle.shapers_syllabic.proofs.ReorderingLaws.{each_piece}
 use Rattle.shapers_syllabic.proofs.ReorderingWalk.{length-meaning, pieces_of}
 
 -- an unsafe break leaves the places around it
-bound_elsewhere : (s : ℕ) (b : Bool) (gs : List hb_glyph_info_t) (i : ℕ) → i < length gs → (b && (i == s || i + 1 == s)) ≡ false → get_or (bound_at s b gs) i default_glyph ≡ get_or gs i default_glyph
+bound_elsewhere : (s : ℕ) (b : Bool) (gs : List hb_glyph_info_t) (i : ℕ) → i < length gs → (b && (i == s || i + 1 == s))
+    ≡ false → get_or (bound_at s b gs) i default_glyph ≡ get_or gs i default_glyph
 bound_elsewhere s false gs i l none = refl
 bound_elsewhere s true gs i l none =
     let d = default_glyph in
@@ -53,8 +54,11 @@ bound_elsewhere s true gs i l none =
         | inl k ↦ elim (cases_lt i s) [ inl m ↦ absurd (before (omega arith)) | inr m ↦ absurd (here (omega arith)) ]
         | inr k ↦
             let xn : length xs ≡ a = length-take-le a gs (omega arith) in
-            let yn : length ys ≡ e - a = length-map part (with_bits_off 3 (least (clusters part))) ∙ length-take-le (e - a) (drop a gs) (omega (arith, length-drop a gs)) in
-            get_or-append_right xs (ys ++ zs) a i d xn h ∙ get_or-append_right ys zs (e - a) (i - a) d yn (omega arith) ∙ get_or-drop e gs (i - a - (e - a)) d ∙ (let same : e + (i - a - (e - a)) ≡ i = omega arith in ap (λ k. get_or gs k d) same)
+            let yn : length ys ≡ e - a = length-map part (with_bits_off 3 (least (clusters part)))
+            ∙ length-take-le (e - a) (drop a gs) (omega (arith, length-drop a gs)) in
+            get_or-append_right xs (ys ++ zs) a i d xn h ∙ get_or-append_right ys zs (e - a) (i - a) d yn (omega arith)
+            ∙ get_or-drop e gs (i - a - (e - a)) d
+            ∙ (let same : e + (i - a - (e - a)) ≡ i = omega arith in ap (λ k. get_or gs k d) same)
       ]
     ]
 
@@ -65,14 +69,22 @@ bound_some before (g ∷ gs) h = omega arith
 behind_opening : (s i : ℕ) → s < i → (i == s || i + 1 == s) ≡ false
 behind_opening s i l = grind (arith, nat_tests)
 
-sum_pieces : (steps : List hb_glyph_info_t → List Step) (syls : List (List hb_glyph_info_t)) → sum_by (λ piece. piece.0) (pieces_of steps syls) ≡ length (flat_map (λ syl. syl) syls)
+sum_pieces : (steps : List hb_glyph_info_t → List Step) (syls : List (List hb_glyph_info_t))
+    → sum_by (λ piece. piece.0) (pieces_of steps syls) ≡ length (flat_map (λ syl. syl) syls)
 sum_pieces steps [] = refl
-sum_pieces steps (syl ∷ syls) = sum_by-cons (λ piece. piece.0) (length syl, steps syl) (pieces_of steps syls) ∙ ap (λ k. length syl + k) (sum_pieces steps syls) ∙ sym (length-append syl (flat_map (λ syl. syl) syls))
+sum_pieces steps (syl ∷ syls) = sum_by-cons (λ piece. piece.0) (length syl, steps syl) (pieces_of steps syls)
+    ∙ ap (λ k. length syl + k) (sum_pieces steps syls) ∙ sym (length-append syl (flat_map (λ syl. syl) syls))
 
-pub elsewhere : (r : Rules) (script : Option Script) (level : BufferClusterLevel) (s : ℕ) (before : Option hb_glyph_info_t) (syls : List (List hb_glyph_info_t)) (ys : List hb_glyph_info_t) → s + length (flat_map (λ syl. syl) syls) ≤ length ys → (i : ℕ) → i < length ys → at_opening r script s before syls i ≡ false → FlagsFall (get_or (pick (old_places (length ys) (steps_from r script (length ys) s syls)) ys) i default_glyph) (get_or (text_run r script level s before syls ys) i default_glyph)
+pub elsewhere : (r : Rules) (script : Option Script) (level : BufferClusterLevel) (s : ℕ)
+    (before : Option hb_glyph_info_t) (syls : List (List hb_glyph_info_t)) (ys : List hb_glyph_info_t)
+    → s + length (flat_map (λ syl. syl) syls) ≤ length ys → (i : ℕ) → i < length ys
+    → at_opening r script s before syls i ≡ false
+    → FlagsFall (get_or (pick (old_places (length ys) (steps_from r script (length ys) s syls)) ys) i default_glyph)
+    (get_or (text_run r script level s before syls ys) i default_glyph)
 elsewhere r script level s before [] ys l i h none =
     let x = get_or ys i default_glyph in
-    subst (λ xs. FlagsFall (get_or xs i default_glyph) x) (sym (pick-all (length ys) ys refl)) (flags_kept x x refl refl)
+    subst (λ xs. FlagsFall (get_or xs i default_glyph) x) (sym (pick-all (length ys) ys refl))
+    (flags_kept x x refl refl)
 elsewhere r script level s before (syl ∷ syls) ys l i h none =
     let d = default_glyph in
     let zs = syllable_run r script level s before syl ys in
@@ -90,12 +102,16 @@ elsewhere r script level s before (syl ∷ syls) ys l i h none =
     let fits = syllable_fits r script s n syl within in
     let b = is_bound before (final_order r script syl) in
     let parts = or_none (b && (i == s || i + 1 == s)) (at_opening r script t next syls i) none in
-    let rest : FlagsFall (get_or (pick nexts zs) i d) (get_or end i d) = subst (λ k. FlagsFall (get_or (pick (old_places k (steps_from r script k t syls)) zs) i d) (get_or end i d)) long (elsewhere r script level t next syls zs (omega (arith, all, long)) i (omega (arith, long)) parts.1) in
+    let rest : FlagsFall (get_or (pick nexts zs) i d) (get_or end i d) =
+    subst (λ k. FlagsFall (get_or (pick (old_places k (steps_from r script k t syls)) zs) i d) (get_or end i d))
+    long (elsewhere r script level t next syls zs (omega (arith, all, long)) i (omega (arith, long)) parts.1) in
     let laws = final_laws r script in
-    let sum : t + sum_by (λ piece. piece.0) (pieces_of (final_steps r script) syls) ≤ n = omega (arith, all, sum_pieces (final_steps r script) syls) in
+    let sum : t + sum_by (λ piece. piece.0) (pieces_of (final_steps r script) syls) ≤ n =
+    omega (arith, all, sum_pieces (final_steps r script) syls) in
     let pieces = each_piece FitsStep (final_steps r script) laws.fits syls in
     let keeps = keeps_along n t (pieces_of (final_steps r script) syls) sum pieces in
-    let more_fits : FitSteps n more = all_along FitsStep fits-widened n t (pieces_of (final_steps r script) syls) sum pieces in
+    let more_fits : FitSteps n more =
+    all_along FitsStep fits-widened n t (pieces_of (final_steps r script) syls) sum pieces in
     let nn : length nexts ≡ n = length-old_places n more more_fits in
     let q = get_or nexts i 0 in
     let inside = within-old_places n more in
@@ -104,7 +120,8 @@ elsewhere r script level s before (syl ∷ syls) ys l i h none =
     let held = steps_hold level sts ys fits in
     let moved = pick olds ys in
     let mn : length moved ≡ n = length-pick olds ys (within-old_places n sts) ∙ length-old_places n sts fits in
-    let fell : FlagsFall (get_or moved q d) (get_or run q d) = AllZip-get_or FlagsFall moved run q d d (all_flags_fall moved run held.falls) (omega arith) in
+    let fell : FlagsFall (get_or moved q d) (get_or run q d) =
+    AllZip-get_or FlagsFall moved run q d d (all_flags_fall moved run held.falls) (omega arith) in
     let free : (b && (q == s || q + 1 == s)) ≡ false =
     elim (cases_lt i t) [
       | inl k ↦ ap (λ p. b && (p == s || p + 1 == s)) (keeps.below i k) ∙ parts.0
@@ -118,17 +135,27 @@ elsewhere r script level s before (syl ∷ syls) ys l i h none =
       ]
     ] in
     let same : get_or zs q d ≡ get_or run q d = bound_elsewhere s b run q (omega (arith, held.same_length)) free in
-    let one : FlagsFall (get_or moved q d) (get_or zs q d) = subst (λ x. FlagsFall (get_or moved q d) x) (sym same) fell in
-    let from : get_or (pick nexts zs) i d ≡ get_or zs q d = get_or-pick d nexts zs (subst (λ k. AllByRecursion (λ p. p < k) nexts) (sym long) inside) i (omega arith) in
-    let old : get_or (pick nexts moved) i d ≡ get_or moved q d = get_or-pick d nexts moved (subst (λ k. AllByRecursion (λ p. p < k) nexts) (sym mn) inside) i (omega arith) in
-    let is : pick nexts moved ≡ pick (old_places n (sts ++ more)) ys = pick-pick nexts olds ys (within-old_places n sts) ∙ ap (λ ps. pick ps ys) (sym (old_places_then n sts more fits)) in
+    let one : FlagsFall (get_or moved q d) (get_or zs q d) =
+    subst (λ x. FlagsFall (get_or moved q d) x) (sym same) fell in
+    let from : get_or (pick nexts zs) i d ≡ get_or zs q d =
+    get_or-pick d nexts zs (subst (λ k. AllByRecursion (λ p. p < k) nexts) (sym long) inside) i (omega arith) in
+    let old : get_or (pick nexts moved) i d ≡ get_or moved q d =
+    get_or-pick d nexts moved (subst (λ k. AllByRecursion (λ p. p < k) nexts) (sym mn) inside) i
+    (omega arith) in
+    let is : pick nexts moved ≡ pick (old_places n (sts ++ more)) ys = pick-pick nexts olds ys (within-old_places n sts)
+    ∙ ap (λ ps. pick ps ys) (sym (old_places_then n sts more fits)) in
     subst (λ x. FlagsFall x (get_or end i d)) (sym old ∙ ap (λ xs. get_or xs i d) is)
-    (flags_on (get_or moved q d) (get_or zs q d) (get_or end i d) one (subst (λ x. FlagsFall x (get_or end i d)) from rest))
+    (flags_on (get_or moved q d) (get_or zs q d) (get_or end i d) one
+    (subst (λ x. FlagsFall x (get_or end i d)) from rest))
 
 -- and what is carried along is the same
-pub elsewhere-whole : (x : hb_glyph_info_t) (ran new : List hb_glyph_info_t) → map carried new ≡ map carried ran → (i : ℕ) → i < length new → FlagsFall x (get_or ran i default_glyph) → FlagsFall x (get_or new i default_glyph)
+pub elsewhere-whole : (x : hb_glyph_info_t) (ran new : List hb_glyph_info_t) → map carried new ≡ map carried ran
+    → (i : ℕ) → i < length new → FlagsFall x (get_or ran i default_glyph) → FlagsFall x (get_or new i default_glyph)
 elsewhere-whole x ran new same i l fell =
     let d = default_glyph in
     let n : length new ≡ length ran = sym (length-map new carried) ∙ ap length same ∙ length-map ran carried in
-    let is : carried (get_or new i d) ≡ carried (get_or ran i d) = sym (get_or-map carried new i d d l) ∙ ap (λ gs. get_or gs i d) same ∙ get_or-map carried ran i d d (omega arith) in
-    flags_on x (get_or ran i d) (get_or new i d) fell (flags_kept (get_or ran i d) (get_or new i d) (ap (λ (g : hb_glyph_info_t). g.cluster) is) (ap (λ (g : hb_glyph_info_t). g.mask) is))
+    let is : carried (get_or new i d) ≡ carried (get_or ran i d) = sym (get_or-map carried new i d d l)
+    ∙ ap (λ gs. get_or gs i d) same ∙ get_or-map carried ran i d d (omega arith) in
+    flags_on x (get_or ran i d) (get_or new i d) fell
+    (flags_kept (get_or ran i d) (get_or new i d) (ap (λ (g : hb_glyph_info_t). g.cluster) is)
+    (ap (λ (g : hb_glyph_info_t). g.mask) is))

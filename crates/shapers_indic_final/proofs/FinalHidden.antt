@@ -23,11 +23,15 @@ use Rattle.shapers_syllabic.specs.Reordering.{carried}
 
 -- viramas
 hidden-recovered : (v : Option GlyphId) (g : hb_glyph_info_t) → carried (recovered v g) ≡ carried g
-hidden-recovered v g = elim (is_lost_virama v g) as (λ b. carried (if b then record g { category = OT_H; marks = without_mark MULTIPLIED (without_mark LIGATED g.marks) } else g) ≡ carried g) [ true ↦ refl | false ↦ refl ]
+hidden-recovered v g =
+    elim (is_lost_virama v g) as (λ b. carried
+    (if b then record g { category = OT_H; marks = without_mark MULTIPLIED (without_mark LIGATED g.marks) } else g)
+    ≡ carried g) [ true ↦ refl | false ↦ refl ]
 
 pub hidden-viramas : (r : Rules) (gs : List hb_glyph_info_t) → map carried (with_viramas r gs) ≡ map carried gs
 hidden-viramas r [] = refl
-hidden-viramas r (g ∷ gs) = ap (λ x. x ∷ map carried (with_viramas r gs)) (hidden-recovered r.virama g) ∙ ap (λ xs. carried g ∷ xs) (hidden-viramas r gs)
+hidden-viramas r (g ∷ gs) = ap (λ x. x ∷ map carried (with_viramas r gs)) (hidden-recovered r.virama g)
+    ∙ ap (λ xs. carried g ∷ xs) (hidden-viramas r gs)
 
 -- positions
 hidden-positions : (p : ℕ) (gs : List hb_glyph_info_t) → map carried (map (at_position p) gs) ≡ map carried gs
@@ -35,34 +39,45 @@ hidden-positions p [] = refl
 hidden-positions p (g ∷ gs) = ap (λ xs. carried g ∷ xs) (hidden-positions p gs)
 
 hidden-base_at : (i : ℕ) (gs : List hb_glyph_info_t) → map carried (with_base_at i gs) ≡ map carried gs
-hidden-base_at i gs = map-with_stretch carried i (i + 1) (map (at_position POS_BASE_C)) gs (omega arith) (hidden-positions POS_BASE_C)
+hidden-base_at i gs =
+    map-with_stretch carried i (i + 1) (map (at_position POS_BASE_C)) gs (omega arith) (hidden-positions POS_BASE_C)
 
-pub hidden-pref_base : (pref base : ℕ) (gs : List hb_glyph_info_t) → map carried (with_pref_base pref base gs) ≡ map carried gs
-hidden-pref_base pref base gs = elim (is_some (unformed_pref pref base gs)) as (λ b. map carried (if b then with_base_at (base_by_pref pref base gs) gs else gs) ≡ map carried gs) [
-  | true ↦ hidden-base_at (base_by_pref pref base gs) gs
-  | false ↦ refl
-]
+pub hidden-pref_base : (pref base : ℕ) (gs : List hb_glyph_info_t) → map carried (with_pref_base pref base gs)
+    ≡ map carried gs
+hidden-pref_base pref base gs =
+    elim (is_some (unformed_pref pref base gs)) as (λ b. map carried
+    (if b then with_base_at (base_by_pref pref base gs) gs else gs) ≡ map carried gs) [
+      | true ↦ hidden-base_at (base_by_pref pref base gs) gs
+      | false ↦ refl
+    ]
 
 hidden-as_linked : (g : hb_glyph_info_t) → carried (as_linked g) ≡ carried g
-hidden-as_linked g = elim (is_unformed_below g) as (λ b. carried (if b then at_position POS_BASE_C g else g) ≡ carried g) [ true ↦ refl | false ↦ refl ]
+hidden-as_linked g =
+    elim (is_unformed_below g) as (λ b. carried (if b then at_position POS_BASE_C g else g) ≡ carried g)
+    [ true ↦ refl | false ↦ refl ]
 
-hidden-along : (halant : Bool) (gs : List hb_glyph_info_t) → map carried (along_links as_linked halant gs) ≡ map carried gs
+hidden-along : (halant : Bool) (gs : List hb_glyph_info_t) → map carried (along_links as_linked halant gs)
+    ≡ map carried gs
 hidden-along true [] = refl
 hidden-along false [] = refl
 hidden-along false (g ∷ gs) =
     let f = as_linked in
-    elim (is_joiner g) as (λ j. map carried (if j then g ∷ along_links f false gs else if is_indic_halant g then g ∷ along_links f true gs else g ∷ gs) ≡ carried g ∷ map carried gs) [
+    elim (is_joiner g) as (λ j. map carried (if j then g ∷ along_links f false gs else if is_indic_halant g then g
+    ∷ along_links f true gs else g ∷ gs) ≡ carried g ∷ map carried gs) [
       | true ↦ ap (λ xs. carried g ∷ xs) (hidden-along false gs)
-      | false ↦ elim (is_indic_halant g) as (λ h. map carried (if h then g ∷ along_links f true gs else g ∷ gs) ≡ carried g ∷ map carried gs) [
-        | true ↦ ap (λ xs. carried g ∷ xs) (hidden-along true gs)
-        | false ↦ refl
-      ]
+      | false ↦ elim (is_indic_halant g) as (λ h. map carried (if h then g ∷ along_links f true gs else g ∷ gs)
+          ≡ carried g ∷ map carried gs) [
+            | true ↦ ap (λ xs. carried g ∷ xs) (hidden-along true gs)
+            | false ↦ refl
+          ]
     ]
 hidden-along true (g ∷ gs) =
     let f = as_linked in
-    elim (is_joiner g) as (λ j. map carried (if j then g ∷ along_links f true gs else f g ∷ along_links f false gs) ≡ carried g ∷ map carried gs) [
+    elim (is_joiner g) as (λ j. map carried (if j then g ∷ along_links f true gs else f g ∷ along_links f false gs)
+    ≡ carried g ∷ map carried gs) [
       | true ↦ ap (λ xs. carried g ∷ xs) (hidden-along true gs)
-      | false ↦ ap (λ x. x ∷ map carried (along_links f false gs)) (hidden-as_linked g) ∙ ap (λ xs. carried g ∷ xs) (hidden-along false gs)
+      | false ↦ ap (λ x. x ∷ map carried (along_links f false gs)) (hidden-as_linked g)
+          ∙ ap (λ xs. carried g ∷ xs) (hidden-along false gs)
     ]
 
 hidden-written : (base : ℕ) (gs : List hb_glyph_info_t) → map carried (links_written base gs) ≡ map carried gs
@@ -74,68 +89,89 @@ hidden-written base gs =
     ∙ sym (map-append carried a c)
     ∙ ap (map carried) (take-append-drop (base + 1) gs)
 
-pub hidden-links : (script : Option Script) (base : ℕ) (gs : List hb_glyph_info_t) → map carried (with_links script base gs) ≡ map carried gs
-hidden-links script base gs = elim (is_malayalam script) as (λ b. map carried (if b then links_written base gs else gs) ≡ map carried gs) [
-  | true ↦ hidden-written base gs
-  | false ↦ refl
-]
+pub hidden-links : (script : Option Script) (base : ℕ) (gs : List hb_glyph_info_t)
+    → map carried (with_links script base gs) ≡ map carried gs
+hidden-links script base gs =
+    elim (is_malayalam script) as (λ b. map carried (if b then links_written base gs else gs) ≡ map carried gs) [
+      | true ↦ hidden-written base gs
+      | false ↦ refl
+    ]
 
-pub hidden-based : (r : Rules) (script : Option Script) (gs : List hb_glyph_info_t) → map carried (with_final_base r script gs).glyphs ≡ map carried gs
+pub hidden-based : (r : Rules) (script : Option Script) (gs : List hb_glyph_info_t)
+    → map carried (with_final_base r script gs).glyphs ≡ map carried gs
 hidden-based r script gs =
     let first = first_base gs in
-    hidden-links script (base_by_pref r.pref first gs) (with_pref_base r.pref first gs) ∙ hidden-pref_base r.pref first gs
+    hidden-links script (base_by_pref r.pref first gs) (with_pref_base r.pref first gs)
+    ∙ hidden-pref_base r.pref first gs
 
 -- the base
-or_length : (gs : List hb_glyph_info_t) (o : Option ℕ) → ((j : ℕ) → o ≡ Some j → PlaceWithin 0 (length gs) j) → unwrap_or o (length gs) ≤ length gs
+or_length : (gs : List hb_glyph_info_t) (o : Option ℕ) → ((j : ℕ) → o ≡ Some j → PlaceWithin 0 (length gs) j)
+    → unwrap_or o (length gs) ≤ length gs
 or_length gs None within = omega arith
 or_length gs (Some j) within = let k = within j refl in omega (arith, k.high)
 
 first_within : (gs : List hb_glyph_info_t) → first_base gs ≤ length gs
-first_within gs = or_length gs (least_place (passes is_from_base_on gs) 0 (length gs)) (λ j found. least_within (passes is_from_base_on gs) 0 (length gs) j found)
+first_within gs =
+    or_length gs (least_place (passes is_from_base_on gs) 0 (length gs))
+    (λ j found. least_within (passes is_from_base_on gs) 0 (length gs) j found)
 
 behind_within : (gs : List hb_glyph_info_t) (i : ℕ) → i < length gs → behind_halants gs i ≤ length gs
 behind_within gs i l = let rest = run_within is_indic_halant (drop i gs) in omega (arith, length-drop i gs)
 
-by_pref_from : (base : ℕ) (gs : List hb_glyph_info_t) (o : Option ℕ) → base ≤ length gs → ((j : ℕ) → o ≡ Some j → j < length gs) → option_map_or (behind_halants gs) (if_unformed gs o) base ≤ length gs
+by_pref_from : (base : ℕ) (gs : List hb_glyph_info_t) (o : Option ℕ) → base ≤ length gs
+    → ((j : ℕ) → o ≡ Some j → j < length gs) → option_map_or (behind_halants gs) (if_unformed gs o) base ≤ length gs
 by_pref_from base gs None l within = l
-by_pref_from base gs (Some j) l within = elim (passes is_unformed gs j) as (λ b. option_map_or (behind_halants gs) (if b then Some j else None) base ≤ length gs) [
-  | true ↦ behind_within gs j (within j refl)
-  | false ↦ l
-]
+by_pref_from base gs (Some j) l within =
+    elim (passes is_unformed gs j) as (λ b. option_map_or (behind_halants gs) (if b then Some j else None) base
+    ≤ length gs) [
+      | true ↦ behind_within gs j (within j refl)
+      | false ↦ l
+    ]
 
 by_pref_within : (pref base : ℕ) (gs : List hb_glyph_info_t) → base ≤ length gs → base_by_pref pref base gs ≤ length gs
-by_pref_within pref base gs l = by_pref_from base gs (pref_place pref base gs) l (λ j found. (least_within (passes (has_bits pref) gs) (base + 1) (length gs) j found).high)
+by_pref_within pref base gs l =
+    by_pref_from base gs (pref_place pref base gs) l
+    (λ j found. (least_within (passes (has_bits pref) gs) (base + 1) (length gs) j found).high)
 
 or_base : (base n : ℕ) (o : Option ℕ) → base ≤ n → ((j : ℕ) → o ≡ Some j → j < n) → unwrap_or o base ≤ n
 or_base base n None l within = l
 or_base base n (Some j) l within = let k = within j refl in omega (arith, k)
 
-by_links_within : (script : Option Script) (base : ℕ) (gs : List hb_glyph_info_t) → base ≤ length gs → base_by_links script base gs ≤ length gs
+by_links_within : (script : Option Script) (base : ℕ) (gs : List hb_glyph_info_t) → base ≤ length gs
+    → base_by_links script base gs ≤ length gs
 by_links_within script base gs l =
     let links = reverse (links_from false (base + 1) (drop (base + 1) gs)) in
     let test = passes is_unformed_below gs in
     elim (is_malayalam script) as (λ b. (if b then last_link base gs else base) ≤ length gs) [
-      | true ↦ or_base base (length gs) (find test links) l (λ j found. passes_within is_unformed_below gs j (find_passes test links j found))
+      | true ↦ or_base base (length gs) (find test links) l
+          (λ j found. passes_within is_unformed_below gs j (find_passes test links j found))
       | false ↦ l
     ]
 
 back_within : (base : ℕ) (gs : List hb_glyph_info_t) → stepped_back base gs ≤ base
-back_within base gs = elim (passes is_behind_base gs base) as (λ b. (if b then base - 1 else base) ≤ base) [ true ↦ omega arith | false ↦ omega arith ]
+back_within base gs = elim (passes is_behind_base gs base) as (λ b. (if b then base - 1 else base) ≤ base)
+    [ true ↦ omega arith | false ↦ omega arith ]
 
 joiner_within : (base : ℕ) (gs : List hb_glyph_info_t) → before_joiner base gs ≤ base
-joiner_within base gs = elim (base == length gs && passes (is_one_of (OT_ZWJ ∷ [])) gs (base - 1)) as (λ b. (if b then base - 1 else base) ≤ base) [ true ↦ omega arith | false ↦ omega arith ]
+joiner_within base gs =
+    elim (base == length gs && passes (is_one_of (OT_ZWJ ∷ [])) gs (base - 1)) as (λ b. (if b then base - 1 else base)
+    ≤ base) [ true ↦ omega arith | false ↦ omega arith ]
 
 or_start : (base : ℕ) (o : Option ℕ) → ((j : ℕ) → o ≡ Some j → PlaceWithin 1 (base + 1) j) → unwrap_or o 0 ≤ base
 or_start base None within = omega arith
 or_start base (Some j) within = let k = within j refl in omega (arith, k.high)
 
 halants_within : (base : ℕ) (gs : List hb_glyph_info_t) → before_halants base gs ≤ base
-halants_within base gs = elim (base == length gs) as (λ b. (if b then base else unwrap_or (greatest_place (passes may_be_settled gs) 1 (base + 1)) 0) ≤ base) [
-  | true ↦ omega arith
-  | false ↦ or_start base (greatest_place (passes may_be_settled gs) 1 (base + 1)) (λ j found. greatest_within (passes may_be_settled gs) 1 (base + 1) j found)
-]
+halants_within base gs =
+    elim (base == length gs) as (λ b.
+    (if b then base else unwrap_or (greatest_place (passes may_be_settled gs) 1 (base + 1)) 0) ≤ base) [
+      | true ↦ omega arith
+      | false ↦ or_start base (greatest_place (passes may_be_settled gs) 1 (base + 1))
+          (λ j found. greatest_within (passes may_be_settled gs) 1 (base + 1) j found)
+    ]
 
-pub base_within : (r : Rules) (script : Option Script) (gs : List hb_glyph_info_t) → (with_final_base r script gs).base ≤ length (with_final_base r script gs).glyphs
+pub base_within : (r : Rules) (script : Option Script) (gs : List hb_glyph_info_t) → (with_final_base r script gs).base
+    ≤ length (with_final_base r script gs).glyphs
 base_within r script gs =
     let first = first_base gs in
     let opened = with_pref_base r.pref first gs in

@@ -31,16 +31,19 @@ pub record LawsAt (gs ms : List hb_glyph_info_t) (steps : List Step) : Type 0 wh
 pub length_at : (gs ms : List hb_glyph_info_t) (steps : List Step) → LawsAt gs ms steps → length ms ≡ length gs
 length_at gs ms steps laws =
     let olds = old_places (length gs) steps in
-    ap length laws.moved ∙ length-pick olds gs (within-old_places (length gs) steps) ∙ length-old_places (length gs) steps laws.fits
+    ap length laws.moved ∙ length-pick olds gs (within-old_places (length gs) steps)
+    ∙ length-old_places (length gs) steps laws.fits
 
 -- one after another
-pub then_at : (gs ms ns : List hb_glyph_info_t) (steps more : List Step) → LawsAt gs ms steps → LawsAt ms ns more → LawsAt gs ns (steps ++ more)
+pub then_at : (gs ms ns : List hb_glyph_info_t) (steps more : List Step) → LawsAt gs ms steps → LawsAt ms ns more
+    → LawsAt gs ns (steps ++ more)
 then_at gs ms ns steps more one two =
     let k : length ms ≡ length gs = length_at gs ms steps one in
     let olds = old_places (length gs) steps in
     record {
       fits = all-append (FitsStep (length gs)) steps more one.fits (subst (λ n. FitSteps n more) k two.fits);
-      permutes = all-append (Permutes (length gs)) steps more one.permutes (subst (λ n. AllByRecursion (Permutes n) more) k two.permutes);
+      permutes = all-append (Permutes (length gs)) steps more one.permutes
+          (subst (λ n. AllByRecursion (Permutes n) more) k two.permutes);
       moved = two.moved
           ∙ ap (λ n. pick (old_places n more) ms) k
           ∙ ap (pick (old_places (length gs) more)) one.moved
@@ -57,7 +60,8 @@ same_at gs ms same = record {
 }
 
 -- to a view of glyphs that are another's to it
-pub agrees_at : (xs gs ms : List hb_glyph_info_t) (steps : List Step) → map carried gs ≡ map carried xs → LawsAt gs ms steps → seen carried ms ≡ pick (old_places (length xs) steps) (seen carried xs)
+pub agrees_at : (xs gs ms : List hb_glyph_info_t) (steps : List Step) → map carried gs ≡ map carried xs
+    → LawsAt gs ms steps → seen carried ms ≡ pick (old_places (length xs) steps) (seen carried xs)
 agrees_at xs gs ms steps same laws =
     let view : hb_glyph_info_t → hb_glyph_info_t = λ g. plain (carried g) in
     ap (seen carried) laws.moved
@@ -66,7 +70,8 @@ agrees_at xs gs ms steps same laws =
     ∙ ap (pick (old_places (length xs) steps)) (seen-same carried gs xs same)
 
 -- a step that takes each place once fits, if what it merges ends within
-pub fits_permuted : (n : ℕ) (step : Step) → Permutes n step → EndWithin n step.merged_first → EndWithin n step.merged_then → FitsStep n step
+pub fits_permuted : (n : ℕ) (step : Step) → Permutes n step → EndWithin n step.merged_first
+    → EndWithin n step.merged_then → FitsStep n step
 fits_permuted n step perm first last = record {
   as_many = length_permutation (range_with_len 0 n) step.places perm ∙ length-range_with_len 0 n;
   within = all_within n step.places perm;
@@ -75,7 +80,9 @@ fits_permuted n step perm first last = record {
 }
 
 -- one step
-pub step_laws_at : (gs ms : List hb_glyph_info_t) (step : Step) → Permutes (length gs) step → EndWithin (length gs) step.merged_first → EndWithin (length gs) step.merged_then → ms ≡ pick step.places gs → LawsAt gs ms (step ∷ [])
+pub step_laws_at : (gs ms : List hb_glyph_info_t) (step : Step) → Permutes (length gs) step
+    → EndWithin (length gs) step.merged_first → EndWithin (length gs) step.merged_then → ms ≡ pick step.places gs
+    → LawsAt gs ms (step ∷ [])
 step_laws_at gs ms step perm first last is =
     let fits = fits_permuted (length gs) step perm first last in
     record {
@@ -85,9 +92,14 @@ step_laws_at gs ms step perm first last is =
     }
 
 -- one step that changes a stretch
-pub stretch_at : (f : List ℕ → List ℕ) (g : List hb_glyph_info_t → List hb_glyph_info_t) → Picks f g → ((ps : List ℕ) → IsPermutation ps (f ps)) → (i k : ℕ) (step : Step) (gs : List hb_glyph_info_t) → i < k → k ≤ length gs → step.places ≡ with_stretch i k f (places 0 (length gs)) → EndWithin (length gs) step.merged_first → EndWithin (length gs) step.merged_then → LawsAt gs (with_stretch i k g gs) (step ∷ [])
+pub stretch_at : (f : List ℕ → List ℕ) (g : List hb_glyph_info_t → List hb_glyph_info_t) → Picks f g
+    → ((ps : List ℕ) → IsPermutation ps (f ps)) → (i k : ℕ) (step : Step) (gs : List hb_glyph_info_t) → i < k
+    → k ≤ length gs → step.places ≡ with_stretch i k f (places 0 (length gs)) → EndWithin (length gs) step.merged_first
+    → EndWithin (length gs) step.merged_then → LawsAt gs (with_stretch i k g gs) (step ∷ [])
 stretch_at f g picks permutes i k step gs h l is first last =
     let n = length gs in
     let low : i ≤ k = omega arith in
-    let perm : Permutes n step = subst (IsPermutation (range_with_len 0 n)) (sym is) (stretch_permutes f permutes i k n low) in
-    step_laws_at gs (with_stretch i k g gs) step perm first last (sym (ap (λ ps. pick ps gs) is ∙ stretch_picks f g picks i k n gs h l refl))
+    let perm : Permutes n step =
+    subst (IsPermutation (range_with_len 0 n)) (sym is) (stretch_permutes f permutes i k n low) in
+    step_laws_at gs (with_stretch i k g gs) step perm first last
+    (sym (ap (λ ps. pick ps gs) is ∙ stretch_picks f g picks i k n gs h l refl))

@@ -1,5 +1,5 @@
 -- The links after a base, one glyph more.
-use Rattle.std.proofs.Common.{◌≡◌, ℕ, suc, ◌+◌, ◌<◌, ◌≤◌, Bool, true, false, cond, List, [], ◌∷◌, ◌++◌, length, take, drop, take_all, set, length-set, take-append-drop, drop_of_length-le, append-nil, Option, None, Some, unwrap_or, get_or, reverse, refl, sym, ap, ◌∙◌, subst, arith, append_assoc, drop-cons, take-suc, take-suc-set, drop-set-lt}
+use Rattle.std.proofs.Common.{◌≡◌, ℕ, suc, ◌+◌, ◌<◌, ◌≤◌, Bool, true, false, cond, List, [], ◌∷◌, ◌++◌, length, take, drop, set, length-set, Option, None, Some, unwrap_or, get_or, reverse, refl, sym, ap, ◌∙◌, subst, arith, append_assoc, drop-cons, take-suc, take-suc-set, drop-set-lt}
 use Rattle.std.specs.List.{find}
 use Rattle.std.specs.Option.{option_or}
 use Rattle.std.proofs.lemmas.List.{reverse-append}
@@ -7,160 +7,105 @@ use Rattle.std.proofs.lemmas.List.Folds.{find-append}
 use Rattle.shapers_buffer.specs.declared.buffer.glyph.hb_glyph_info_t.{hb_glyph_info_t}
 use Rattle.shapers_indic.specs.Glyphs.{is_joiner, passes}
 use Rattle.shapers_indic_final.specs.FinalBase.{along_links, as_linked, is_unformed_below, last_link, links_from, links_written}
-use Rattle.shapers_indic_final.specs.FinalGlyphs.{is_indic_halant}
 use Rattle.shapers_indic_final.proofs.FinalPlaces.{passes_there}
 
--- how links go on behind a glyph
-pub along_joiner : (f : hb_glyph_info_t → hb_glyph_info_t) (h : Bool) (x : hb_glyph_info_t) (xs : List hb_glyph_info_t) → is_joiner x ≡ true → along_links f h (x ∷ xs) ≡ x ∷ along_links f h xs
-along_joiner f true x xs j = ap (λ b. cond b (x ∷ along_links f true xs) (f x ∷ along_links f false xs)) j
-along_joiner f false x xs j = ap (λ b. cond b (x ∷ along_links f false xs) (cond (is_indic_halant x) (x ∷ along_links f true xs) (x ∷ xs))) j
-
-pub along_end : (f : hb_glyph_info_t → hb_glyph_info_t) (x : hb_glyph_info_t) (xs : List hb_glyph_info_t) → is_joiner x ≡ false → along_links f true (x ∷ xs) ≡ f x ∷ along_links f false xs
+pub along_end : (f : hb_glyph_info_t → hb_glyph_info_t) (x : hb_glyph_info_t) (xs : List hb_glyph_info_t)
+    → is_joiner x ≡ false → along_links f true (x ∷ xs) ≡ f x ∷ along_links f false xs
 along_end f x xs j = ap (λ b. cond b (x ∷ along_links f true xs) (f x ∷ along_links f false xs)) j
 
-pub along_halant : (f : hb_glyph_info_t → hb_glyph_info_t) (x : hb_glyph_info_t) (xs : List hb_glyph_info_t) → is_joiner x ≡ false → is_indic_halant x ≡ true → along_links f false (x ∷ xs) ≡ x ∷ along_links f true xs
-along_halant f x xs j h =
-    ap (λ b. cond b (x ∷ along_links f false xs) (cond (is_indic_halant x) (x ∷ along_links f true xs) (x ∷ xs))) j
-    ∙ ap (λ b. cond b (x ∷ along_links f true xs) (x ∷ xs)) h
-
-pub along_stop : (f : hb_glyph_info_t → hb_glyph_info_t) (x : hb_glyph_info_t) (xs : List hb_glyph_info_t) → is_joiner x ≡ false → is_indic_halant x ≡ false → along_links f false (x ∷ xs) ≡ x ∷ xs
-along_stop f x xs j h =
-    ap (λ b. cond b (x ∷ along_links f false xs) (cond (is_indic_halant x) (x ∷ along_links f true xs) (x ∷ xs))) j
-    ∙ ap (λ b. cond b (x ∷ along_links f true xs) (x ∷ xs)) h
-
-pub links_joiner : (h : Bool) (i : ℕ) (x : hb_glyph_info_t) (xs : List hb_glyph_info_t) → is_joiner x ≡ true → links_from h i (x ∷ xs) ≡ links_from h (suc i) xs
-links_joiner true i x xs j = ap (λ b. cond b (links_from true (suc i) xs) (i ∷ links_from false (suc i) xs)) j
-links_joiner false i x xs j = ap (λ b. cond b (links_from false (suc i) xs) (cond (is_indic_halant x) (links_from true (suc i) xs) [])) j
-
-pub links_end : (i : ℕ) (x : hb_glyph_info_t) (xs : List hb_glyph_info_t) → is_joiner x ≡ false → links_from true i (x ∷ xs) ≡ i ∷ links_from false (suc i) xs
+pub links_end : (i : ℕ) (x : hb_glyph_info_t) (xs : List hb_glyph_info_t) → is_joiner x ≡ false
+    → links_from true i (x ∷ xs) ≡ i ∷ links_from false (suc i) xs
 links_end i x xs j = ap (λ b. cond b (links_from true (suc i) xs) (i ∷ links_from false (suc i) xs)) j
 
-pub links_halant : (i : ℕ) (x : hb_glyph_info_t) (xs : List hb_glyph_info_t) → is_joiner x ≡ false → is_indic_halant x ≡ true → links_from false i (x ∷ xs) ≡ links_from true (suc i) xs
-links_halant i x xs j h =
-    ap (λ b. cond b (links_from false (suc i) xs) (cond (is_indic_halant x) (links_from true (suc i) xs) [])) j
-    ∙ ap (λ b. cond b (links_from true (suc i) xs) []) h
-
-pub links_stop : (i : ℕ) (x : hb_glyph_info_t) (xs : List hb_glyph_info_t) → is_joiner x ≡ false → is_indic_halant x ≡ false → links_from false i (x ∷ xs) ≡ []
-links_stop i x xs j h =
-    ap (λ b. cond b (links_from false (suc i) xs) (cond (is_indic_halant x) (links_from true (suc i) xs) [])) j
-    ∙ ap (λ b. cond b (links_from true (suc i) xs) []) h
-
 -- the last place that passes, with the first place apart
-last_or_found : (b : Bool) (i last : ℕ) (o : Option ℕ) → unwrap_or (option_or o (cond b (Some i) None)) last ≡ unwrap_or o (cond b i last)
+last_or_found : (b : Bool) (i last : ℕ) (o : Option ℕ) → unwrap_or (option_or o (cond b (Some i) None)) last
+    ≡ unwrap_or o (cond b i last)
 last_or_found b i last (Some k) = refl
 last_or_found true i last None = refl
 last_or_found false i last None = refl
 
-pub last_first : (test : ℕ → Bool) (i : ℕ) (is : List ℕ) (last : ℕ) → unwrap_or (find test (reverse (i ∷ is))) last ≡ unwrap_or (find test (reverse is)) (cond (test i) i last)
+pub last_first : (test : ℕ → Bool) (i : ℕ) (is : List ℕ) (last : ℕ) → unwrap_or (find test (reverse (i ∷ is))) last
+    ≡ unwrap_or (find test (reverse is)) (cond (test i) i last)
 last_first test i is last =
     ap (λ ps. unwrap_or (find test ps) last) (reverse-append (i ∷ []) is)
     ∙ ap (λ o. unwrap_or o last) (find-append test (reverse is) (i ∷ []))
     ∙ last_or_found (test i) i last (find test (reverse is))
 
--- Up to place i: what is written, followed by what the links make of the rest, is the whole; and the last link glyph that
+-- Up to place i: what is written, followed by what the links make of the rest, is the whole; and
+-- the last link glyph that
 -- passes in the rest, else the one so far, is the base.
 pub record Linking (base i : ℕ) (halant : Bool) (last : ℕ) (old gs : List hb_glyph_info_t) : Type 0 where
   pub written : take i gs ++ along_links as_linked halant (drop i gs) ≡ links_written base old
-  pub found : unwrap_or (find (passes is_unformed_below old) (reverse (links_from halant i (drop i old)))) last ≡ last_link base old
+  pub found : unwrap_or (find (passes is_unformed_below old) (reverse (links_from halant i (drop i old)))) last
+      ≡ last_link base old
   pub rest : drop i gs ≡ drop i old
   pub as_many : length gs ≡ length old
   pub within : last ≤ length old
 
-pub linking_start : (base : ℕ) (old : List hb_glyph_info_t) → base ≤ length old → Linking base (base + 1) false base old old
-linking_start base old l = record { written = refl; found = refl; rest = refl; as_many = refl; within = l }
-
 -- one glyph more: what is written
-step_written : (h h' : Bool) (i : ℕ) (gs gs' : List hb_glyph_info_t) (y : hb_glyph_info_t) → take (suc i) gs' ≡ take i gs ++ y ∷ [] → along_links as_linked h (drop i gs) ≡ y ∷ along_links as_linked h' (drop (suc i) gs') → take (suc i) gs' ++ along_links as_linked h' (drop (suc i) gs') ≡ take i gs ++ along_links as_linked h (drop i gs)
+step_written : (h h' : Bool) (i : ℕ) (gs gs' : List hb_glyph_info_t) (y : hb_glyph_info_t)
+    → take (suc i) gs' ≡ take i gs ++ y ∷ [] → along_links as_linked h (drop i gs)
+    ≡ y ∷ along_links as_linked h' (drop (suc i) gs') → take (suc i) gs' ++ along_links as_linked h' (drop (suc i) gs')
+    ≡ take i gs ++ along_links as_linked h (drop i gs)
 step_written h h' i gs gs' y t a =
     ap (λ xs. xs ++ along_links as_linked h' (drop (suc i) gs')) t
     ∙ append_assoc (take i gs) (y ∷ []) (along_links as_linked h' (drop (suc i) gs'))
     ∙ ap (λ xs. take i gs ++ xs) (sym a)
 
 -- and what is still unread
-step_rest : (i : ℕ) (d : hb_glyph_info_t) (old gs : List hb_glyph_info_t) → i < length gs → length gs ≡ length old → drop i gs ≡ drop i old → drop (suc i) gs ≡ drop (suc i) old
+step_rest : (i : ℕ) (d : hb_glyph_info_t) (old gs : List hb_glyph_info_t) → i < length gs → length gs ≡ length old
+    → drop i gs ≡ drop i old → drop (suc i) gs ≡ drop (suc i) old
 step_rest i d old gs l e r = ap (drop 1) (sym (drop-cons gs i d l) ∙ r ∙ drop-cons old i d (omega (arith, l, e)))
 
-step_here : (i : ℕ) (d : hb_glyph_info_t) (old gs : List hb_glyph_info_t) → i < length gs → length gs ≡ length old → drop i gs ≡ drop i old → get_or gs i d ≡ get_or old i d
-step_here i d old gs l e r = ap (λ xs. get_or xs 0 d) (sym (drop-cons gs i d l) ∙ r ∙ drop-cons old i d (omega (arith, l, e)))
+step_here : (i : ℕ) (d : hb_glyph_info_t) (old gs : List hb_glyph_info_t) → i < length gs → length gs ≡ length old
+    → drop i gs ≡ drop i old → get_or gs i d ≡ get_or old i d
+step_here i d old gs l e r =
+    ap (λ xs. get_or xs 0 d) (sym (drop-cons gs i d l) ∙ r ∙ drop-cons old i d (omega (arith, l, e)))
 
-one_more : {base : ℕ} {halant : Bool} {last : ℕ} {old gs : List hb_glyph_info_t} (i : ℕ) → Linking base (suc i) halant last old gs → Linking base (i + 1) halant last old gs
-one_more {base} {halant} {last} {old} {gs} i s = let one : suc i ≡ i + 1 = omega arith in subst (λ k. Linking base k halant last old gs) one s
+one_more : {base : ℕ} {halant : Bool} {last : ℕ} {old gs : List hb_glyph_info_t} (i : ℕ)
+    → Linking base (suc i) halant last old gs → Linking base (i + 1) halant last old gs
+one_more {base} {halant} {last} {old} {gs} i s = let one : suc i ≡ i + 1 =
+    omega arith in subst (λ k. Linking base k halant last old gs) one s
 
-found_at : (h : Bool) (i last : ℕ) (d : hb_glyph_info_t) (old gs : List hb_glyph_info_t) → i < length gs → length gs ≡ length old → drop i gs ≡ drop i old → links_from h i (drop i old) ≡ links_from h i (get_or gs i d ∷ drop (suc i) old)
-found_at h i last d old gs l e r = ap (links_from h i) (drop-cons old i d (omega (arith, l, e)) ∙ ap (λ x. x ∷ drop (suc i) old) (sym (step_here i d old gs l e r)))
+found_at : (h : Bool) (i last : ℕ) (d : hb_glyph_info_t) (old gs : List hb_glyph_info_t) → i < length gs
+    → length gs ≡ length old → drop i gs ≡ drop i old
+    → links_from h i (drop i old) ≡ links_from h i (get_or gs i d ∷ drop (suc i) old)
+found_at h i last d old gs l e r =
+    ap (links_from h i) (drop-cons old i d (omega (arith, l, e))
+    ∙ ap (λ x. x ∷ drop (suc i) old) (sym (step_here i d old gs l e r)))
 
 base_of : List hb_glyph_info_t → ℕ → List ℕ → ℕ
 base_of old last is = unwrap_or (find (passes is_unformed_below old) (reverse is)) last
-
--- past a joiner
-pub linking_joiner : (base i : ℕ) (h : Bool) (last : ℕ) (d : hb_glyph_info_t) (old gs : List hb_glyph_info_t) → i < length gs → is_joiner (get_or gs i d) ≡ true → Linking base i h last old gs → Linking base (i + 1) h last old gs
-unfolding base_of
-linking_joiner base i h last d old gs l j s =
-    one_more i (record {
-      written = step_written h h i gs gs (get_or gs i d) (take-suc gs i d l) (ap (along_links as_linked h) (drop-cons gs i d l) ∙ along_joiner as_linked h (get_or gs i d) (drop (suc i) gs) j) ∙ s.written;
-      found = sym (ap (base_of old last) (found_at h i last d old gs l s.as_many s.rest ∙ links_joiner h i (get_or gs i d) (drop (suc i) old) j)) ∙ s.found;
-      rest = step_rest i d old gs l s.as_many s.rest;
-      as_many = s.as_many;
-      within = s.within;
-    })
-
--- past a halant
-pub linking_halant : (base i last : ℕ) (d : hb_glyph_info_t) (old gs : List hb_glyph_info_t) → i < length gs → is_joiner (get_or gs i d) ≡ false → is_indic_halant (get_or gs i d) ≡ true → Linking base i false last old gs → Linking base (i + 1) true last old gs
-unfolding base_of
-linking_halant base i last d old gs l j h s =
-    one_more i (record {
-      written = step_written false true i gs gs (get_or gs i d) (take-suc gs i d l) (ap (along_links as_linked false) (drop-cons gs i d l) ∙ along_halant as_linked (get_or gs i d) (drop (suc i) gs) j h) ∙ s.written;
-      found = sym (ap (base_of old last) (found_at false i last d old gs l s.as_many s.rest ∙ links_halant i (get_or gs i d) (drop (suc i) old) j h)) ∙ s.found;
-      rest = step_rest i d old gs l s.as_many s.rest;
-      as_many = s.as_many;
-      within = s.within;
-    })
 
 -- past the last glyph of a link
 within_either : (b : Bool) (i last n : ℕ) → i ≤ n → last ≤ n → cond b i last ≤ n
 within_either true i last n a b = a
 within_either false i last n a b = b
 
-pub linking_end : (base i last : ℕ) (d : hb_glyph_info_t) (old gs : List hb_glyph_info_t) → i < length gs → is_joiner (get_or gs i d) ≡ false → Linking base i true last old gs →
-    Linking base (i + 1) false (cond (is_unformed_below (get_or gs i d)) i last) old (set gs i (as_linked (get_or gs i d)))
+pub linking_end : (base i last : ℕ) (d : hb_glyph_info_t) (old gs : List hb_glyph_info_t) → i < length gs
+    → is_joiner (get_or gs i d) ≡ false → Linking base i true last old gs →
+    Linking base (i + 1) false (cond (is_unformed_below (get_or gs i d)) i last) old
+    (set gs i (as_linked (get_or gs i d)))
 unfolding base_of
 linking_end base i last d old gs l j s =
     let x = get_or gs i d in
-    let behind : drop (suc i) (set gs i (as_linked x)) ≡ drop (suc i) gs = drop-set-lt (suc i) gs i (as_linked x) (omega arith) in
-    let test : passes is_unformed_below old i ≡ is_unformed_below x = passes_there is_unformed_below old i d (omega (arith, l, s.as_many)) ∙ ap is_unformed_below (sym (step_here i d old gs l s.as_many s.rest)) in
+    let behind : drop (suc i) (set gs i (as_linked x)) ≡ drop (suc i) gs =
+    drop-set-lt (suc i) gs i (as_linked x) (omega arith) in
+    let test : passes is_unformed_below old i ≡ is_unformed_below x =
+    passes_there is_unformed_below old i d (omega (arith, l, s.as_many))
+    ∙ ap is_unformed_below (sym (step_here i d old gs l s.as_many s.rest)) in
     one_more i (record {
       written = step_written true false i gs (set gs i (as_linked x)) (as_linked x) (take-suc-set gs i (as_linked x) l)
-          (ap (along_links as_linked true) (drop-cons gs i d l) ∙ along_end as_linked x (drop (suc i) gs) j ∙ ap (λ xs. as_linked x ∷ along_links as_linked false xs) (sym behind)) ∙ s.written;
+          (ap (along_links as_linked true) (drop-cons gs i d l) ∙ along_end as_linked x (drop (suc i) gs) j
+          ∙ ap (λ xs. as_linked x ∷ along_links as_linked false xs) (sym behind)) ∙ s.written;
       found =
-          ap (λ b. unwrap_or (find (passes is_unformed_below old) (reverse (links_from false (suc i) (drop (suc i) old)))) (cond b i last)) (sym test)
+          ap (λ b. unwrap_or
+          (find (passes is_unformed_below old) (reverse (links_from false (suc i) (drop (suc i) old))))
+          (cond b i last)) (sym test)
           ∙ sym (last_first (passes is_unformed_below old) i (links_from false (suc i) (drop (suc i) old)) last)
-          ∙ sym (ap (base_of old last) (found_at true i last d old gs l s.as_many s.rest ∙ links_end i x (drop (suc i) old) j)) ∙ s.found;
+          ∙ sym (ap (base_of old last) (found_at true i last d old gs l s.as_many s.rest
+          ∙ links_end i x (drop (suc i) old) j)) ∙ s.found;
       rest = behind ∙ step_rest i d old gs l s.as_many s.rest;
       as_many = length-set gs i (as_linked x) ∙ s.as_many;
       within = within_either (is_unformed_below x) i last (length old) (omega (arith, l, s.as_many)) s.within;
     })
-
--- what the search answers where links end, and at the end of the syllable
-pub record Linked (base last : ℕ) (old gs : List hb_glyph_info_t) : Type 0 where
-  pub glyphs : gs ≡ links_written base old
-  pub base_is : last ≡ last_link base old
-
-pub linking_stop : (base i last : ℕ) (d : hb_glyph_info_t) (old gs : List hb_glyph_info_t) → i < length gs → is_joiner (get_or gs i d) ≡ false → is_indic_halant (get_or gs i d) ≡ false → Linking base i false last old gs → Linked base last old gs
-unfolding base_of
-linking_stop base i last d old gs l j h s =
-    let x = get_or gs i d in
-    record {
-      glyphs = sym (take-append-drop i gs) ∙ ap (λ xs. take i gs ++ xs) (drop-cons gs i d l ∙ sym (ap (along_links as_linked false) (drop-cons gs i d l) ∙ along_stop as_linked x (drop (suc i) gs) j h)) ∙ s.written;
-      base_is = sym (ap (base_of old last) (found_at false i last d old gs l s.as_many s.rest ∙ links_stop i x (drop (suc i) old) j h)) ∙ s.found;
-    }
-
-along_none : (h : Bool) → along_links as_linked h [] ≡ []
-along_none h = refl
-
-pub linking_all : (base i : ℕ) (h : Bool) (last : ℕ) (old gs : List hb_glyph_info_t) → length gs ≤ i → Linking base i h last old gs → Linked base last old gs
-unfolding base_of
-linking_all base i h last old gs l s =
-    record {
-      glyphs = sym (ap (λ xs. take i gs ++ along_links as_linked h xs) (drop_of_length-le gs l) ∙ append-nil (take i gs) ∙ take_all i gs l) ∙ s.written;
-      base_is = sym (ap (λ xs. base_of old last (links_from h i xs)) (drop_of_length-le old (omega (arith, l, s.as_many)))) ∙ s.found;
-    }

@@ -10,7 +10,8 @@ use Rattle.shapers_indic_final.specs.FinalMatras.{matra_steps, matra_target, wit
 
 -- order and clusters of a syllable with this base once its left matras are at their place
 abbrev at_place : String → ℕ → List (ℕ × ℕ) → List (List ℕ)
-at_place tag base ts = numbers_of (with_matras (script tag) base (of ts)) ∷ clusters (run_steps MonotoneGraphemes (matra_steps (script tag) base (of ts)) (of ts)) ∷ []
+at_place tag base ts = numbers_of (with_matras (script tag) base (of ts))
+    ∷ clusters (run_steps MonotoneGraphemes (matra_steps (script tag) base (of ts)) (of ts)) ∷ []
 
 -- behind the nearest halant before the base, in front of a ZWNJ
 behind_halant : at_place "Deva" 3 ((M, 2) ∷ (C, 3) ∷ (H, 3) ∷ (C, 4) ∷ (M, 9) ∷ []) ∷ at_place "Deva" 4 ((M, 2) ∷ (C, 3) ∷ (H, 3) ∷ (ZWNJ, 3) ∷ (C, 4) ∷ []) ∷ at_place "Deva" 5 ((M, 2) ∷ (C, 3) ∷ (H, 3) ∷ (C, 3) ∷ (H, 3) ∷ (C, 4) ∷ []) ∷ []
@@ -19,14 +20,16 @@ behind_halant : at_place "Deva" 3 ((M, 2) ∷ (C, 3) ∷ (H, 3) ∷ (C, 4) ∷ (
     ∷ ((1 ∷ 2 ∷ 3 ∷ 4 ∷ 0 ∷ 5 ∷ []) ∷ (1 ∷ 2 ∷ 3 ∷ 4 ∷ 0 ∷ 0 ∷ []) ∷ []) ∷ []
 behind_halant = refl
 
--- not behind one that a ZWJ follows, but behind one before it; and where there is none, what stands from the first matra up to the base merges
+-- not behind one that a ZWJ follows, but behind one before it; and where there is none, what stands
+-- from the first matra up to the base merges
 past_zwj : at_place "Deva" 4 ((M, 2) ∷ (C, 3) ∷ (H, 3) ∷ (ZWJ, 3) ∷ (C, 4) ∷ []) ∷ at_place "Deva" 6 ((M, 2) ∷ (C, 3) ∷ (H, 3) ∷ (C, 3) ∷ (H, 3) ∷ (ZWJ, 3) ∷ (C, 4) ∷ []) ∷ at_place "Deva" 2 ((M, 2) ∷ (C, 3) ∷ (C, 4) ∷ (C, 8) ∷ []) ∷ []
     ≡ ((0 ∷ 1 ∷ 2 ∷ 3 ∷ 4 ∷ []) ∷ (0 ∷ 0 ∷ 0 ∷ 0 ∷ 0 ∷ []) ∷ [])
     ∷ ((1 ∷ 2 ∷ 0 ∷ 3 ∷ 4 ∷ 5 ∷ 6 ∷ []) ∷ (1 ∷ 2 ∷ 0 ∷ 0 ∷ 0 ∷ 0 ∷ 0 ∷ []) ∷ [])
     ∷ ((0 ∷ 1 ∷ 2 ∷ 3 ∷ []) ∷ (0 ∷ 0 ∷ 0 ∷ 3 ∷ []) ∷ []) ∷ []
 past_zwj = refl
 
--- what ends the search for a halant: a vowel sign, either kind; a matra's own halant, be it that a ZWJ follows; at the start
+-- what ends the search for a halant: a vowel sign, either kind; a matra's own halant, be it that a
+-- ZWJ follows; at the start
 abbrev target : String → ℕ → List (ℕ × ℕ) → ℕ
 target tag base ts = matra_target (script tag) base (of ts)
 
@@ -63,7 +66,9 @@ no_base : at_place "Deva" 4 ((M, 2) ∷ (C, 3) ∷ (H, 3) ∷ (C, 3) ∷ []) ∷
     ∷ ((0 ∷ 1 ∷ []) ∷ (0 ∷ 0 ∷ []) ∷ []) ∷ []
 no_base = refl
 
--- nothing before a base in front, in a syllable of one, or without a left matra before the base; a matra on the base's place is its
+-- nothing before a base in front, in a syllable of one, or without a left matra before the base; a
+-- matra on the base's place is its
 nothing : at_place "Deva" 0 ((C, 4) ∷ (M, 2) ∷ []) ∷ at_place "Taml" 1 ((M, 2) ∷ []) ∷ at_place "Deva" 2 ((C, 3) ∷ (H, 3) ∷ (C, 4) ∷ (M, 2) ∷ []) ∷ at_place "Deva" 0 [] ∷ at_place "Deva" 1 ((C, 3) ∷ (M, 2) ∷ []) ∷ []
-    ≡ ((0 ∷ 1 ∷ []) ∷ (0 ∷ 1 ∷ []) ∷ []) ∷ ((0 ∷ []) ∷ (0 ∷ []) ∷ []) ∷ ((0 ∷ 1 ∷ 2 ∷ 3 ∷ []) ∷ (0 ∷ 1 ∷ 2 ∷ 3 ∷ []) ∷ []) ∷ ([] ∷ [] ∷ []) ∷ ((0 ∷ 1 ∷ []) ∷ (0 ∷ 1 ∷ []) ∷ []) ∷ []
+    ≡ ((0 ∷ 1 ∷ []) ∷ (0 ∷ 1 ∷ []) ∷ []) ∷ ((0 ∷ []) ∷ (0 ∷ []) ∷ [])
+    ∷ ((0 ∷ 1 ∷ 2 ∷ 3 ∷ []) ∷ (0 ∷ 1 ∷ 2 ∷ 3 ∷ []) ∷ []) ∷ ([] ∷ [] ∷ []) ∷ ((0 ∷ 1 ∷ []) ∷ (0 ∷ 1 ∷ []) ∷ []) ∷ []
 nothing = refl

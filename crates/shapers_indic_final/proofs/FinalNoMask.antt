@@ -16,7 +16,8 @@ none_at (Some g) = no_mask g
 
 none_found : (gs : List hb_glyph_info_t) (ps : List ℕ) → find (passes (has_bits 0) gs) ps ≡ None
 none_found gs [] = refl
-none_found gs (p ∷ ps) = ap (λ b. cond b (Some p) (find (passes (has_bits 0) gs) ps)) (none_at (slice_get gs p)) ∙ none_found gs ps
+none_found gs (p ∷ ps) = ap (λ b. cond b (Some p) (find (passes (has_bits 0) gs) ps)) (none_at (slice_get gs p))
+    ∙ none_found gs ps
 
 pub no_place : (gs : List hb_glyph_info_t) (s e : ℕ) → least_place (passes (has_bits 0) gs) s e ≡ None
 no_place gs s e = none_found gs (places s e)

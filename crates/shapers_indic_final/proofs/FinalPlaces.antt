@@ -22,17 +22,22 @@ pub places_none : (s e : ℕ) → e ≤ s → places s e ≡ []
 places_none s e l = let n : e - s ≡ 0 = omega arith in ap (range_with_len s) n
 
 -- the greatest place
-pub greatest_last : (P : ℕ → Bool) (s i : ℕ) → s ≤ i → greatest_place P s (i + 1) ≡ cond (P i) (Some i) (greatest_place P s i)
-greatest_last P s i l = ap (λ xs. find P (reverse xs)) (places_last s i l) ∙ ap (find P) (reverse-append (places s i) (i ∷ []))
+pub greatest_last : (P : ℕ → Bool) (s i : ℕ) → s ≤ i
+    → greatest_place P s (i + 1) ≡ cond (P i) (Some i) (greatest_place P s i)
+greatest_last P s i l = ap (λ xs. find P (reverse xs)) (places_last s i l)
+    ∙ ap (find P) (reverse-append (places s i) (i ∷ []))
 
 pub greatest_none : (P : ℕ → Bool) (s e : ℕ) → e ≤ s → greatest_place P s e ≡ None
 greatest_none P s e l = ap (λ xs. find P (reverse xs)) (places_none s e l)
 
-pub greatest_step : (P : ℕ → Bool) (s i j : ℕ) → j ≡ i + 1 → s ≤ i → P i ≡ false → greatest_place P s i ≡ greatest_place P s j
-greatest_step P s i j e l fails = sym (ap (greatest_place P s) e ∙ greatest_last P s i l ∙ ap (λ b. cond b (Some i) (greatest_place P s i)) fails)
+pub greatest_step : (P : ℕ → Bool) (s i j : ℕ) → j ≡ i + 1 → s ≤ i → P i ≡ false
+    → greatest_place P s i ≡ greatest_place P s j
+greatest_step P s i j e l fails =
+    sym (ap (greatest_place P s) e ∙ greatest_last P s i l ∙ ap (λ b. cond b (Some i) (greatest_place P s i)) fails)
 
 pub greatest_stop : (P : ℕ → Bool) (s i j : ℕ) → j ≡ i + 1 → s ≤ i → P i ≡ true → greatest_place P s j ≡ Some i
-greatest_stop P s i j e l holds = ap (greatest_place P s) e ∙ greatest_last P s i l ∙ ap (λ b. cond b (Some i) (greatest_place P s i)) holds
+greatest_stop P s i j e l holds = ap (greatest_place P s) e ∙ greatest_last P s i l
+    ∙ ap (λ b. cond b (Some i) (greatest_place P s i)) holds
 
 -- the least place
 pub least_first : (P : ℕ → Bool) (i n : ℕ) → i < n → least_place P i n ≡ cond (P i) (Some i) (least_place P (i + 1) n)
@@ -48,5 +53,6 @@ pub least_none : (P : ℕ → Bool) (s e : ℕ) → e ≤ s → least_place P s 
 least_none P s e l = ap (find P) (places_none s e l)
 
 -- a glyph that is there
-pub passes_there : (test : hb_glyph_info_t → Bool) (gs : List hb_glyph_info_t) (i : ℕ) (d : hb_glyph_info_t) → i < length gs → passes test gs i ≡ test (get_or gs i d)
+pub passes_there : (test : hb_glyph_info_t → Bool) (gs : List hb_glyph_info_t) (i : ℕ) (d : hb_glyph_info_t)
+    → i < length gs → passes test gs i ≡ test (get_or gs i d)
 passes_there test gs i d l = ap (λ o. option_map_or test o false) (slice_get-get_or gs i d l)

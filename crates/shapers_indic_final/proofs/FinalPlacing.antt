@@ -1,17 +1,16 @@
 -- The steps of a placement, one after another, on the glyphs of a whole buffer.
-use Rattle.std.proofs.Common.{◌≡◌, ℕ, ◌+◌, ◌-◌, ◌<◌, ◌≤◌, true, false, cond, List, [], ◌∷◌, ◌++◌, length, take, drop, length-append, map, filter, Option, Some, get_or, reverse, refl, sym, ap, ◌∙◌, arith}
+use Rattle.std.proofs.Common.{◌≡◌, ℕ, ◌+◌, ◌-◌, ◌<◌, ◌≤◌, true, false, cond, List, [], ◌∷◌, ◌++◌, length, take, drop, map, filter, Option, Some, get_or, reverse, sym, ap, ◌∙◌, arith}
 use Rattle.std.proofs.Math.ListN.{get_or-map}
 use Rattle.std.specs.List.{enumerate_from, range_with_len}
-use Rattle.std.proofs.lemmas.List.{get_or-drop, get_or-take, get_or_append_left, length-take-le, map-append, reverse-append}
+use Rattle.std.proofs.lemmas.List.{get_or-take, get_or_append_left, length-take-le, map-append, reverse-append}
 use Rattle.std.proofs.lemmas.List.Sorted.{IsPermutation-append_left, IsPermutation-append_right, length_permutation}
-use Rattle.std.proofs.lemmas.List.Sums.{fold-append}
 use Rattle.shapers_buffer.specs.declared.buffer.glyph.hb_glyph_info_t.{hb_glyph_info_t}
 use Rattle.shapers_buffer.specs.declared.buffer.level.BufferClusterLevel.{BufferClusterLevel}
 use Rattle.shapers_buffer.specs.declared.buffer.tag.Script.{Script}
 use Rattle.shapers_buffer.specs.Lists.{first_last}
 use Rattle.shapers_buffer.specs.Buffer.{Buffer}
 use Rattle.shapers_buffer.specs.Clusters.{merge, stretch_of, with_stretch}
-use Rattle.shapers_buffer.specs.Glyph.{default_glyph, order_view, plain}
+use Rattle.shapers_buffer.specs.Glyph.{order_view, plain}
 use Rattle.shapers_buffer.specs.Places.{pick}
 use Rattle.shapers_buffer.proofs.MappedLists.{enumerate-append}
 use Rattle.shapers_buffer.proofs.ClusterLemmas.{length-stretch, three_parts}
@@ -26,29 +25,36 @@ use Rattle.shapers_indic_final.specs.FinalMatras.{end_of_base, is_left, matra_st
 use Rattle.shapers_indic_final.specs.FinalPref.{formed_pref, pref_move, pref_step, pref_steps, pref_target}
 use Rattle.shapers_indic_final.specs.FinalReph.{opens_with_reph, final_reph_step, reph_steps, reph_target}
 use Rattle.shapers_indic_final.proofs.FinalMoves.{permutes_last_first}
-use Rattle.shapers_indic_final.proofs.FinalPlaces.{passes_there, places_first, places_none}
+use Rattle.shapers_indic_final.proofs.FinalPlaces.{places_first}
 use Rattle.shapers_indic_final.proofs.FinalSteps.{length-moved, matra_stepped, pref_stepped, reph_stepped}
 
 -- how many glyphs there are after a step
-pub length-reph : (level : BufferClusterLevel) (s e j : ℕ) (gs : List hb_glyph_info_t) → s + j < e → e ≤ length gs → length (run_step level (widened s e (length gs) (final_reph_step (e - s) j)) gs) ≡ length gs
+pub length-reph : (level : BufferClusterLevel) (s e j : ℕ) (gs : List hb_glyph_info_t) → s + j < e → e ≤ length gs
+    → length (run_step level (widened s e (length gs) (final_reph_step (e - s) j)) gs) ≡ length gs
 length-reph level s e j gs l m =
     ap length (sym (reph_stepped level s e j gs l m))
     ∙ length-moved s (s + j + 1) (merge level s (s + j + 1) gs) (omega arith)
     ∙ length-merge level s (s + j + 1) gs (omega arith)
 
-length-moved_back : (s e : ℕ) (gs : List hb_glyph_info_t) → s ≤ e → length (with_stretch s e last_goes_first gs) ≡ length gs
+length-moved_back : (s e : ℕ) (gs : List hb_glyph_info_t) → s ≤ e → length (with_stretch s e last_goes_first gs)
+    ≡ length gs
 length-moved_back s e gs l =
     let part = stretch_of s e gs in
-    let is = IsPermutation-append_right (take s gs) (part ++ drop e gs) (last_goes_first part ++ drop e gs) (IsPermutation-append_left (drop e gs) part (last_goes_first part) (permutes_last_first part)) in
-    length_permutation (take s gs ++ (part ++ drop e gs)) (with_stretch s e last_goes_first gs) is ∙ ap length (three_parts s e gs l)
+    let is = IsPermutation-append_right (take s gs) (part ++ drop e gs) (last_goes_first part ++ drop e gs)
+    (IsPermutation-append_left (drop e gs) part (last_goes_first part) (permutes_last_first part)) in
+    length_permutation (take s gs ++ (part ++ drop e gs)) (with_stretch s e last_goes_first gs) is
+    ∙ ap length (three_parts s e gs l)
 
-pub length-pref : (level : BufferClusterLevel) (s e j i : ℕ) (gs : List hb_glyph_info_t) → j ≤ i → s + i < e → e ≤ length gs → length (run_step level (widened s e (length gs) (pref_move (e - s) j i)) gs) ≡ length gs
+pub length-pref : (level : BufferClusterLevel) (s e j i : ℕ) (gs : List hb_glyph_info_t) → j ≤ i → s + i < e
+    → e ≤ length gs → length (run_step level (widened s e (length gs) (pref_move (e - s) j i)) gs) ≡ length gs
 length-pref level s e j i gs h l m =
     ap length (sym (pref_stepped level s e j i gs h l m))
     ∙ length-moved_back (s + j) (s + i + 1) (merge level (s + j) (s + i + 1) gs) (omega arith)
     ∙ length-merge level (s + j) (s + i + 1) gs (omega arith)
 
-pub length-matra : (level : BufferClusterLevel) (s e b i j : ℕ) (gs : List hb_glyph_info_t) → i ≤ j → s + j < e → s + b ≤ e → e ≤ length gs → length (run_step level (widened s e (length gs) (matra_step (e - s) b i j)) gs) ≡ length gs
+pub length-matra : (level : BufferClusterLevel) (s e b i j : ℕ) (gs : List hb_glyph_info_t) → i ≤ j → s + j < e
+    → s + b ≤ e → e ≤ length gs → length (run_step level (widened s e (length gs) (matra_step (e - s) b i j)) gs)
+    ≡ length gs
 length-matra level s e b i j gs h l w m =
     let n = length-moved (s + i) (s + j + 1) gs (omega arith) in
     ap length (sym (matra_stepped level s e b i j gs h l m))
@@ -56,10 +62,14 @@ length-matra level s e b i j gs h l w m =
     ∙ n
 
 -- a left matra that moves leaves what stands before it
-left_seen : (gs : List hb_glyph_info_t) (q : ℕ) (d : hb_glyph_info_t) → is_left (get_or gs q d) ≡ is_left (get_or (order_view gs) q (plain d))
+left_seen : (gs : List hb_glyph_info_t) (q : ℕ) (d : hb_glyph_info_t)
+    → is_left (get_or gs q d) ≡ is_left (get_or (order_view gs) q (plain d))
 left_seen gs q d = sym (ap is_left (get_or-map plain gs q d))
 
-pub left_read : (level : BufferClusterLevel) (s e b i j : ℕ) (gs : List hb_glyph_info_t) (d : hb_glyph_info_t) → i ≤ j → s + j < e → e ≤ length gs → (q : ℕ) → q < s + i → is_left (get_or (run_step level (widened s e (length gs) (matra_step (e - s) b i j)) gs) q d) ≡ is_left (get_or gs q d)
+pub left_read : (level : BufferClusterLevel) (s e b i j : ℕ) (gs : List hb_glyph_info_t) (d : hb_glyph_info_t) → i ≤ j
+    → s + j < e → e ≤ length gs → (q : ℕ) → q < s + i
+    → is_left (get_or (run_step level (widened s e (length gs) (matra_step (e - s) b i j)) gs) q d)
+    ≡ is_left (get_or gs q d)
 left_read level s e b i j gs d h l m q k =
     let moved = with_stretch (s + i) (s + j + 1) first_last gs in
     let n : length (take (s + i) gs) ≡ s + i = length-take-le (s + i) gs (omega arith) in
@@ -67,7 +77,8 @@ left_read level s e b i j gs d h l m q k =
     ∙ left_seen (merge level (s + j) (s + b) moved) q d
     ∙ ap (λ xs. is_left (get_or xs q (plain d))) (order_view-merge level (s + j) (s + b) moved)
     ∙ sym (left_seen moved q d)
-    ∙ ap is_left (get_or_append_left (take (s + i) gs) (first_last (stretch_of (s + i) (s + j + 1) gs) ++ drop (s + j + 1) gs) d q (omega arith) ∙ get_or-take (s + i) gs q d k)
+    ∙ ap is_left (get_or_append_left (take (s + i) gs) (first_last (stretch_of (s + i) (s + j + 1) gs)
+    ++ drop (s + j + 1) gs) d q (omega arith) ∙ get_or-take (s + i) gs q d k)
 
 -- the left places from i to p, and their steps
 abbrev pub lefts_from : ℕ → ℕ → List hb_glyph_info_t → List ℕ
@@ -76,7 +87,8 @@ lefts_from i p gs = reverse (filter (passes is_left gs) (places i p))
 abbrev pub numbered_steps : ℕ → ℕ → ℕ → List ℕ → List Step
 numbered_steps n e p qs = map (λ t. matra_step n e t.1 (p - t.0)) (enumerate_from 0 qs)
 
-pub lefts_yes : (i p : ℕ) (gs : List hb_glyph_info_t) → i < p → passes is_left gs i ≡ true → lefts_from i p gs ≡ lefts_from (i + 1) p gs ++ i ∷ []
+pub lefts_yes : (i p : ℕ) (gs : List hb_glyph_info_t) → i < p → passes is_left gs i ≡ true
+    → lefts_from i p gs ≡ lefts_from (i + 1) p gs ++ i ∷ []
 lefts_yes i p gs l holds =
     let test = passes is_left gs in
     let rest = filter test (places (i + 1) p) in
@@ -84,94 +96,25 @@ lefts_yes i p gs l holds =
     ∙ ap (λ b. reverse (cond b (i ∷ rest) rest)) holds
     ∙ reverse-append (i ∷ []) rest
 
-pub lefts_no : (i p : ℕ) (gs : List hb_glyph_info_t) → i < p → passes is_left gs i ≡ false → lefts_from i p gs ≡ lefts_from (i + 1) p gs
+pub lefts_no : (i p : ℕ) (gs : List hb_glyph_info_t) → i < p → passes is_left gs i ≡ false
+    → lefts_from i p gs ≡ lefts_from (i + 1) p gs
 lefts_no i p gs l fails =
     let test = passes is_left gs in
     let rest = filter test (places (i + 1) p) in
     ap (λ qs. reverse (filter test qs)) (places_first i p l)
     ∙ ap (λ b. reverse (cond b (i ∷ rest) rest)) fails
 
-pub numbered_more : (n e p i : ℕ) (qs : List ℕ) → numbered_steps n e p (qs ++ i ∷ []) ≡ numbered_steps n e p qs ++ matra_step n e i (p - length qs) ∷ []
+pub numbered_more : (n e p i : ℕ) (qs : List ℕ) → numbered_steps n e p (qs ++ i ∷ []) ≡ numbered_steps n e p qs
+    ++ matra_step n e i (p - length qs) ∷ []
 numbered_more n e p i qs =
     let F : (ℕ × ℕ) → Step = λ t. matra_step n e t.1 (p - t.0) in
     ap (map F) (enumerate-append qs (i ∷ []))
     ∙ map-append F (enumerate_from 0 qs) (enumerate_from (length qs) (i ∷ []))
 
--- one step more on a buffer
-pub stepped : (old mid new : Buffer) (s e : ℕ) (steps : List Step) (step : Step) → mid ≡ record old { glyphs = run_steps old.level (map (widened s e (length old.glyphs)) steps) old.glyphs; places = mid.places } → length mid.glyphs ≡ length old.glyphs → new ≡ record mid { glyphs = run_step mid.level (widened s e (length mid.glyphs) step) mid.glyphs; places = new.places } → new ≡ record old { glyphs = run_steps old.level (map (widened s e (length old.glyphs)) (steps ++ step ∷ [])) old.glyphs; places = new.places }
-stepped old mid new s e steps step before long after =
-    let W : Step → Step = λ t. widened s e (length old.glyphs) t in
-    after
-    ∙ ap (λ (k : ℕ). let y : Buffer = record mid { glyphs = run_step mid.level (widened s e k step) mid.glyphs; places = new.places } in y) long
-    ∙ ap (λ (x : Buffer). let y : Buffer = record x { glyphs = run_step x.level (W step) x.glyphs; places = new.places } in y) before
-    ∙ ap (λ (gs : List hb_glyph_info_t). let y : Buffer = record old { glyphs = gs; places = new.places } in y)
-    (sym (ap (λ sts. run_steps old.level sts old.glyphs) (map-append W steps (step ∷ [])) ∙ fold-append (λ gs step. run_step old.level step gs) old.glyphs (map W steps) (W step ∷ [])))
-
--- The left matras from place i to p of the syllable are moved, the next one goes to the target, and what is before i is as it was.
-pub record Parting (s e b p i target : ℕ) (old new : Buffer) : Type 0 where
-  pub glyphs : new ≡ record old { glyphs = run_steps old.level (map (widened s e (length old.glyphs)) (numbered_steps (e - s) b p (lefts_from i p (stretch_of s e old.glyphs)))) old.glyphs; places = new.places }
-  pub same_length : length new.glyphs ≡ length old.glyphs
-  pub read : (q : ℕ) → q < s + i → is_left (get_or new.glyphs q default_glyph) ≡ is_left (get_or old.glyphs q default_glyph)
-  pub goes : target ≡ p - length (lefts_from i p (stretch_of s e old.glyphs))
-  pub behind : i ≤ target
-
-pub parting_start : (s e b p : ℕ) (old : Buffer) → Parting s e b p p p old old
-parting_start s e b p old =
-    let none : lefts_from p p (stretch_of s e old.glyphs) ≡ [] = ap (λ qs. reverse (filter (passes is_left (stretch_of s e old.glyphs)) qs)) (places_none p p (omega arith)) in
-    record {
-      glyphs = ap (λ (qs : List ℕ). let y : Buffer = record old { glyphs = run_steps old.level (map (widened s e (length old.glyphs)) (numbered_steps (e - s) b p qs)) old.glyphs } in y) (sym none);
-      same_length = refl;
-      read = λ q l. refl;
-      goes = (let i : p ≡ p - 0 = omega arith in i) ∙ sym (ap (λ qs. p - length qs) none);
-      behind = omega arith;
-    }
-
--- the glyph of place i, read in the buffer
-here : {s e b p i target : ℕ} {old new : Buffer} (k : ℕ) → k + 1 ≡ i → i ≤ p → s + p < e → e ≤ length old.glyphs → Parting s e b p i target old new → passes is_left (stretch_of s e old.glyphs) k ≡ is_left (get_or new.glyphs (s + k) default_glyph)
-here {s} {e} {b} {p} {i} {target} {old} {new} k one l m w so =
-    let part = stretch_of s e old.glyphs in
-    let n = length-stretch s e old.glyphs w in
-    passes_there is_left part k default_glyph (omega arith)
-    ∙ ap is_left (get_or-take (e - s) (drop s old.glyphs) k default_glyph (omega arith) ∙ get_or-drop s old.glyphs k default_glyph)
-    ∙ sym (so.read (s + k) (omega arith))
-
-pub parting_no : (s e b p i target k : ℕ) (old new : Buffer) → k + 1 ≡ i → i ≤ p → s + p < e → e ≤ length old.glyphs → Parting s e b p i target old new → is_left (get_or new.glyphs (s + k) default_glyph) ≡ false → Parting s e b p k target old new
-parting_no s e b p i target k old new one l m w so fails =
-    let part = stretch_of s e old.glyphs in
-    let same : lefts_from i p part ≡ lefts_from k p part = ap (λ j. lefts_from j p part) (sym one) ∙ sym (lefts_no k p part (omega arith) (here k one l m w so ∙ fails)) in
-    let before = so.behind in
-    record {
-      glyphs = so.glyphs ∙ ap (λ (qs : List ℕ). let y : Buffer = record old { glyphs = run_steps old.level (map (widened s e (length old.glyphs)) (numbered_steps (e - s) b p qs)) old.glyphs; places = new.places } in y) same;
-      same_length = so.same_length;
-      read = λ q h. so.read q (omega arith);
-      goes = so.goes ∙ ap (λ qs. p - length qs) same;
-      behind = omega arith;
-    }
-
-pub parting_yes : (s e b p i target k : ℕ) (old mid new : Buffer) → k + 1 ≡ i → i ≤ p → s + p < e → s + b ≤ e → e ≤ length old.glyphs → Parting s e b p i target old mid → is_left (get_or mid.glyphs (s + k) default_glyph) ≡ true →
-    new ≡ record mid { glyphs = run_step mid.level (widened s e (length mid.glyphs) (matra_step (e - s) b k target)) mid.glyphs; places = new.places } → Parting s e b p k (target - 1) old new
-parting_yes s e b p i target k old mid new one l m v w so holds after =
-    let part = stretch_of s e old.glyphs in
-    let qs = lefts_from i p part in
-    let more : qs ++ k ∷ [] ≡ lefts_from k p part = ap (λ j. lefts_from j p part ++ k ∷ []) (sym one) ∙ sym (lefts_yes k p part (omega arith) (here k one l m w so ∙ holds)) in
-    let long = so.same_length in
-    let behind = so.behind in
-    let goes : target ≡ p - length qs = so.goes in
-    let is : new.glyphs ≡ run_step mid.level (widened s e (length mid.glyphs) (matra_step (e - s) b k target)) mid.glyphs = ap (λ (x : Buffer). x.glyphs) after in
-    let many : length (qs ++ k ∷ []) ≡ length qs + 1 = length-append qs (k ∷ []) in
-    record {
-      glyphs =
-          stepped old mid new s e (numbered_steps (e - s) b p qs) (matra_step (e - s) b k target) so.glyphs long after
-          ∙ ap (λ (sts : List Step). let y : Buffer = record old { glyphs = run_steps old.level (map (widened s e (length old.glyphs)) sts) old.glyphs; places = new.places } in y)
-          (ap (λ j. numbered_steps (e - s) b p qs ++ matra_step (e - s) b k j ∷ []) goes ∙ sym (numbered_more (e - s) b p k qs) ∙ ap (numbered_steps (e - s) b p) more);
-      same_length = ap length is ∙ length-matra mid.level s e b k target mid.glyphs (omega arith) (omega arith) v (omega arith) ∙ long;
-      read = λ q h. ap (λ xs. is_left (get_or xs q default_glyph)) is ∙ left_read mid.level s e b k target mid.glyphs default_glyph (omega arith) (omega arith) (omega arith) q h ∙ so.read q (omega arith);
-      goes = (let i : target - 1 ≡ p - length (qs ++ k ∷ []) = omega arith in i) ∙ ap (λ qs. p - length qs) more;
-      behind = omega arith;
-    }
-
 -- the step of left matras that stay
-pub stayed : (level : BufferClusterLevel) (s e b i : ℕ) (gs : List hb_glyph_info_t) → s ≤ e → s + b ≤ e → e ≤ length gs → merge level (s + i) (s + b) gs ≡ run_steps level (map (widened s e (length gs)) (merging_step (e - s) b (Some i))) gs
+pub stayed : (level : BufferClusterLevel) (s e b i : ℕ) (gs : List hb_glyph_info_t) → s ≤ e → s + b ≤ e → e ≤ length gs
+    → merge level (s + i) (s + b) gs ≡ run_steps level (map (widened s e (length gs)) (merging_step (e - s) b (Some i)))
+    gs
 stayed level s e b i gs h v w =
     let step : Step = record { merged_first = (i, b) ∷ []; places = places 0 (e - s); merged_then = [] } in
     let ms = merge level (s + i) (s + b) gs in
@@ -179,28 +122,54 @@ stayed level s e b i gs h v w =
     let all : e - s - 0 ≡ e - s = omega arith in
     sym (ap (λ k. pick (widened s e k step).places ms) (sym n)
     ∙ pick-widened s e step ms h (omega arith) (within_range 0 (e - s - 0) (e - s) (omega arith))
-    ∙ ap (λ ys. take s ms ++ (ys ++ drop e ms)) (ap (λ k. pick (range_with_len 0 k) (stretch_of s e ms)) all ∙ pick-all (e - s) (stretch_of s e ms) (length-stretch s e ms (omega arith)))
+    ∙ ap (λ ys. take s ms ++ (ys ++ drop e ms)) (ap (λ k. pick (range_with_len 0 k) (stretch_of s e ms)) all
+    ∙ pick-all (e - s) (stretch_of s e ms) (length-stretch s e ms (omega arith)))
     ∙ three_parts s e ms h)
 
 -- a single step on a buffer
-pub one_step : (old new : Buffer) (s e : ℕ) (steps : List Step) (step : Step) → steps ≡ step ∷ [] → new ≡ record old { glyphs = run_step old.level (widened s e (length old.glyphs) step) old.glyphs; places = new.places } → new ≡ record old { glyphs = run_steps old.level (map (widened s e (length old.glyphs)) steps) old.glyphs; places = new.places }
+pub one_step : (old new : Buffer) (s e : ℕ) (steps : List Step) (step : Step) → steps ≡ step ∷ []
+    → new ≡ record old {
+      glyphs = run_step old.level (widened s e (length old.glyphs) step) old.glyphs;
+      places =
+          new.places;
+    } → new
+    ≡ record old {
+      glyphs = run_steps old.level (map (widened s e (length old.glyphs)) steps) old.glyphs;
+      places =
+          new.places;
+    }
 one_step old new s e steps step only after =
-    after ∙ ap (λ (sts : List Step). let y : Buffer = record old { glyphs = run_steps old.level (map (widened s e (length old.glyphs)) sts) old.glyphs; places = new.places } in y) (sym only)
+    after ∙ ap (λ (sts : List Step). let y : Buffer = record old {
+      glyphs = run_steps old.level (map (widened s e (length old.glyphs)) sts) old.glyphs;
+      places = new.places;
+    } in y) (sym only)
 
-pub reph_only : (position : RephPosition) (base m target : ℕ) (part : List hb_glyph_info_t) → length part ≡ m → opens_with_reph part ≡ true → target ≡ reph_target position base part → reph_steps position base part ≡ final_reph_step m target ∷ []
+pub reph_only : (position : RephPosition) (base m target : ℕ) (part : List hb_glyph_info_t) → length part ≡ m
+    → opens_with_reph part ≡ true → target ≡ reph_target position base part → reph_steps position base part
+    ≡ final_reph_step m target ∷ []
 reph_only position base m target part long opens at =
     ap (λ b. cond b (final_reph_step (length part) (reph_target position base part) ∷ []) []) opens
     ∙ ap (λ k. final_reph_step k (reph_target position base part) ∷ []) long
     ∙ ap (λ j. final_reph_step m j ∷ []) (sym at)
 
-pub pref_only : (pref : ℕ) (script : Option Script) (base m target i : ℕ) (part : List hb_glyph_info_t) → length part ≡ m → formed_pref pref base part ≡ Some i → target ≡ pref_target script base part → pref_steps pref script base part ≡ pref_move m target i ∷ []
+pub pref_only : (pref : ℕ) (script : Option Script) (base m target i : ℕ) (part : List hb_glyph_info_t)
+    → length part ≡ m → formed_pref pref base part ≡ Some i → target ≡ pref_target script base part
+    → pref_steps pref script base part ≡ pref_move m target i ∷ []
 pref_only pref script base m target i part long formed at =
     ap (λ o. pref_step (length part) (pref_target script base part) o) formed
     ∙ ap (λ k. pref_move k (pref_target script base part) i ∷ []) long
     ∙ ap (λ j. pref_move m j i ∷ []) (sym at)
 
 -- a buffer in which left matras that stay merge with all up to the base
-pub stayed_in : (old new : Buffer) (s e base b i : ℕ) → s ≤ e → s + b ≤ e → e ≤ length old.glyphs → b ≡ end_of_base base (stretch_of s e old.glyphs) → least_place (passes is_left (stretch_of s e old.glyphs)) 0 base ≡ Some i → new ≡ record old { glyphs = merge old.level (s + i) (s + b) old.glyphs } → new ≡ record old { glyphs = run_steps old.level (map (widened s e (length old.glyphs)) (staying_steps base (stretch_of s e old.glyphs))) old.glyphs; places = new.places }
+pub stayed_in : (old new : Buffer) (s e base b i : ℕ) → s ≤ e → s + b ≤ e → e ≤ length old.glyphs
+    → b ≡ end_of_base base (stretch_of s e old.glyphs) → least_place (passes is_left (stretch_of s e old.glyphs)) 0 base
+    ≡ Some i → new ≡ record old { glyphs = merge old.level (s + i) (s + b) old.glyphs }
+    → new ≡ record old {
+      glyphs = run_steps old.level
+          (map (widened s e (length old.glyphs)) (staying_steps base (stretch_of s e old.glyphs))) old.glyphs;
+      places =
+          new.places;
+    }
 stayed_in old new s e base b i h v w end first after =
     let part = stretch_of s e old.glyphs in
     let same : new.places ≡ old.places = ap (λ (x : Buffer). x.places) after in
@@ -209,5 +178,10 @@ stayed_in old new s e base b i h v w end first after =
     ∙ ap (λ k. merging_step (length part) k (Some i)) end
     ∙ ap (merging_step (length part) (end_of_base base part)) (sym first) in
     after
-    ∙ ap (λ (gs : List hb_glyph_info_t). let y : Buffer = record old { glyphs = gs } in y) (stayed old.level s e b i old.glyphs h v w ∙ ap (λ sts. run_steps old.level (map (widened s e (length old.glyphs)) sts) old.glyphs) steps)
-    ∙ ap (λ (ps : List ℕ). let y : Buffer = record old { glyphs = run_steps old.level (map (widened s e (length old.glyphs)) (staying_steps base part)) old.glyphs; places = ps } in y) (sym same)
+    ∙ ap (λ (gs : List hb_glyph_info_t). let y : Buffer = record old { glyphs = gs } in y)
+    (stayed old.level s e b i old.glyphs h v w
+    ∙ ap (λ sts. run_steps old.level (map (widened s e (length old.glyphs)) sts) old.glyphs) steps)
+    ∙ ap (λ (ps : List ℕ). let y : Buffer = record old {
+      glyphs = run_steps old.level (map (widened s e (length old.glyphs)) (staying_steps base part)) old.glyphs;
+      places = ps;
+    } in y) (sym same)

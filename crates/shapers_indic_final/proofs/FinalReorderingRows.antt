@@ -11,7 +11,10 @@ left_matra = refl
 
 -- with the clusters 4 0 1 2 3 that it leaves
 abbrev as_left : ℕ → List hb_glyph_info_t
-as_left joiner = changed_at 0 (λ g. record g { cluster = 4 }) (map {A = hb_glyph_info_t} (λ g. record g { cluster = g.cluster - 1 }) (of ((M, 2) ∷ (C, 3) ∷ (H, 3) ∷ (joiner, 3) ∷ (C, 4) ∷ [])))
+as_left joiner =
+    changed_at 0 (λ g. record g { cluster = 4 })
+    (map {A = hb_glyph_info_t} (λ g. record g { cluster = g.cluster - 1 })
+    (of ((M, 2) ∷ (C, 3) ∷ (H, 3) ∷ (joiner, 3) ∷ (C, 4) ∷ [])))
 
 clusters_as_left : map (reordered "Deva") (as_left ZWNJ ∷ as_left ZWJ ∷ [])
     ≡ ((1 ∷ 2 ∷ 0 ∷ 3 ∷ 4 ∷ []) ∷ (0 ∷ 1 ∷ 2 ∷ 2 ∷ 2 ∷ []) ∷ (3 ∷ 3 ∷ 2 ∷ 3 ∷ 4 ∷ []) ∷ [])
@@ -29,14 +32,22 @@ rephs : reordered "Deva" (behind_reph ((C, 4) ∷ (M, 9) ∷ [])) ∷ reordered 
     ∷ ((1 ∷ 2 ∷ 0 ∷ 3 ∷ []) ∷ (0 ∷ 0 ∷ 0 ∷ 3 ∷ []) ∷ (4 ∷ 5 ∷ 1 ∷ 9 ∷ []) ∷ []) ∷ []
 rephs = refl
 
--- each script of the table with a reph, a post-base vowel sign of its position after the main consonant, a below-base form, and a sign
+-- each script of the table with a reph, a post-base vowel sign of its position after the main
+-- consonant, a below-base form, and a sign
 each_script : map (λ tag. numbers_of (final_order (rules tag) (script tag) (behind_reph ((C, 4) ∷ (M, 5) ∷ (C, 8) ∷ (M, 12) ∷ (SM, 13) ∷ [])))) ("Deva" ∷ "Beng" ∷ "Guru" ∷ "Gujr" ∷ "Orya" ∷ "Taml" ∷ "Telu" ∷ "Knda" ∷ "Mlym" ∷ "Sinh" ∷ "Latn" ∷ [])
-    ≡ (1 ∷ 2 ∷ 3 ∷ 4 ∷ 0 ∷ 5 ∷ []) ∷ (1 ∷ 2 ∷ 3 ∷ 0 ∷ 4 ∷ 5 ∷ []) ∷ (1 ∷ 2 ∷ 3 ∷ 4 ∷ 0 ∷ 5 ∷ []) ∷ (1 ∷ 2 ∷ 3 ∷ 4 ∷ 0 ∷ 5 ∷ []) ∷ (1 ∷ 2 ∷ 0 ∷ 3 ∷ 4 ∷ 5 ∷ []) ∷ (1 ∷ 2 ∷ 3 ∷ 4 ∷ 0 ∷ 5 ∷ []) ∷ (1 ∷ 2 ∷ 3 ∷ 4 ∷ 0 ∷ 5 ∷ []) ∷ (1 ∷ 2 ∷ 3 ∷ 4 ∷ 0 ∷ 5 ∷ []) ∷ (1 ∷ 2 ∷ 0 ∷ 3 ∷ 4 ∷ 5 ∷ []) ∷ (1 ∷ 2 ∷ 3 ∷ 4 ∷ 0 ∷ 5 ∷ []) ∷ (1 ∷ 2 ∷ 3 ∷ 4 ∷ 0 ∷ 5 ∷ []) ∷ []
+    ≡ (1 ∷ 2 ∷ 3 ∷ 4 ∷ 0 ∷ 5 ∷ []) ∷ (1 ∷ 2 ∷ 3 ∷ 0 ∷ 4 ∷ 5 ∷ []) ∷ (1 ∷ 2 ∷ 3 ∷ 4 ∷ 0 ∷ 5 ∷ [])
+    ∷ (1 ∷ 2 ∷ 3 ∷ 4 ∷ 0 ∷ 5 ∷ []) ∷ (1 ∷ 2 ∷ 0 ∷ 3 ∷ 4 ∷ 5 ∷ []) ∷ (1 ∷ 2 ∷ 3 ∷ 4 ∷ 0 ∷ 5 ∷ [])
+    ∷ (1 ∷ 2 ∷ 3 ∷ 4 ∷ 0 ∷ 5 ∷ []) ∷ (1 ∷ 2 ∷ 3 ∷ 4 ∷ 0 ∷ 5 ∷ []) ∷ (1 ∷ 2 ∷ 0 ∷ 3 ∷ 4 ∷ 5 ∷ [])
+    ∷ (1 ∷ 2 ∷ 3 ∷ 4 ∷ 0 ∷ 5 ∷ []) ∷ (1 ∷ 2 ∷ 3 ∷ 4 ∷ 0 ∷ 5 ∷ []) ∷ []
 each_script = refl
 
--- each script with a left matra and a formed pref glyph: behind the halant, but for Tamil and Malayalam, where they go directly before the base
+-- each script with a left matra and a formed pref glyph: behind the halant, but for Tamil and
+-- Malayalam, where they go directly before the base
 each_script_before_base : map (λ tag. numbers_of (final_order (rules tag) (script tag) (formed_at 5 (of ((M, 2) ∷ (C, 3) ∷ (H, 3) ∷ (C, 3) ∷ (C, 4) ∷ (Ra, 11) ∷ []))))) ("Deva" ∷ "Beng" ∷ "Guru" ∷ "Gujr" ∷ "Orya" ∷ "Taml" ∷ "Telu" ∷ "Knda" ∷ "Mlym" ∷ "Sinh" ∷ "Latn" ∷ [])
-    ≡ (1 ∷ 2 ∷ 0 ∷ 5 ∷ 3 ∷ 4 ∷ []) ∷ (1 ∷ 2 ∷ 0 ∷ 5 ∷ 3 ∷ 4 ∷ []) ∷ (1 ∷ 2 ∷ 0 ∷ 5 ∷ 3 ∷ 4 ∷ []) ∷ (1 ∷ 2 ∷ 0 ∷ 5 ∷ 3 ∷ 4 ∷ []) ∷ (1 ∷ 2 ∷ 0 ∷ 5 ∷ 3 ∷ 4 ∷ []) ∷ (1 ∷ 2 ∷ 3 ∷ 0 ∷ 5 ∷ 4 ∷ []) ∷ (1 ∷ 2 ∷ 0 ∷ 5 ∷ 3 ∷ 4 ∷ []) ∷ (1 ∷ 2 ∷ 0 ∷ 5 ∷ 3 ∷ 4 ∷ []) ∷ (1 ∷ 2 ∷ 3 ∷ 0 ∷ 5 ∷ 4 ∷ []) ∷ (1 ∷ 2 ∷ 0 ∷ 5 ∷ 3 ∷ 4 ∷ []) ∷ (1 ∷ 2 ∷ 0 ∷ 5 ∷ 3 ∷ 4 ∷ []) ∷ []
+    ≡ (1 ∷ 2 ∷ 0 ∷ 5 ∷ 3 ∷ 4 ∷ []) ∷ (1 ∷ 2 ∷ 0 ∷ 5 ∷ 3 ∷ 4 ∷ []) ∷ (1 ∷ 2 ∷ 0 ∷ 5 ∷ 3 ∷ 4 ∷ [])
+    ∷ (1 ∷ 2 ∷ 0 ∷ 5 ∷ 3 ∷ 4 ∷ []) ∷ (1 ∷ 2 ∷ 0 ∷ 5 ∷ 3 ∷ 4 ∷ []) ∷ (1 ∷ 2 ∷ 3 ∷ 0 ∷ 5 ∷ 4 ∷ [])
+    ∷ (1 ∷ 2 ∷ 0 ∷ 5 ∷ 3 ∷ 4 ∷ []) ∷ (1 ∷ 2 ∷ 0 ∷ 5 ∷ 3 ∷ 4 ∷ []) ∷ (1 ∷ 2 ∷ 3 ∷ 0 ∷ 5 ∷ 4 ∷ [])
+    ∷ (1 ∷ 2 ∷ 0 ∷ 5 ∷ 3 ∷ 4 ∷ []) ∷ (1 ∷ 2 ∷ 0 ∷ 5 ∷ 3 ∷ 4 ∷ []) ∷ []
 each_script_before_base = refl
 
 -- pref: formed it goes before the base, unformed it is the base and stays
@@ -46,12 +57,15 @@ prefs : reordered "Deva" (formed_at 3 (of ((C, 3) ∷ (H, 3) ∷ (C, 4) ∷ (Ra,
     ∷ ((0 ∷ 1 ∷ []) ∷ (0 ∷ 1 ∷ []) ∷ (4 ∷ 4 ∷ []) ∷ []) ∷ []
 prefs = refl
 
--- once an unformed one has ended the try, no further one moves; nor does one formed but not substituted, which is the base
+-- once an unformed one has ended the try, no further one moves; nor does one formed but not
+-- substituted, which is the base
 tries_end : map (reordered "Deva") (unformed_at 1 (formed_at 2 (of ((C, 4) ∷ (Ra, 11) ∷ (Ra, 11) ∷ []))) ∷ marks_at 1 2 (unformed_at 1 (of ((C, 4) ∷ (Ra, 11) ∷ []))) ∷ [])
-    ≡ ((0 ∷ 1 ∷ 2 ∷ []) ∷ (0 ∷ 1 ∷ 2 ∷ []) ∷ (4 ∷ 4 ∷ 11 ∷ []) ∷ []) ∷ ((0 ∷ 1 ∷ []) ∷ (0 ∷ 1 ∷ []) ∷ (4 ∷ 4 ∷ []) ∷ []) ∷ []
+    ≡ ((0 ∷ 1 ∷ 2 ∷ []) ∷ (0 ∷ 1 ∷ 2 ∷ []) ∷ (4 ∷ 4 ∷ 11 ∷ []) ∷ []) ∷ ((0 ∷ 1 ∷ []) ∷ (0 ∷ 1 ∷ []) ∷ (4 ∷ 4 ∷ []) ∷ [])
+    ∷ []
 tries_end = refl
 
--- a reph and a formed pref glyph: both go directly behind the halant before the base, the pref glyph last; a base that the reph crosses is carried along, so that the pref glyph goes before it
+-- a reph and a formed pref glyph: both go directly behind the halant before the base, the pref
+-- glyph last; a base that the reph crosses is carried along, so that the pref glyph goes before it
 reph_and_pref : reordered "Deva" (marks_at 0 2 (formed_at 4 (of ((Ra, 1) ∷ (C, 3) ∷ (H, 3) ∷ (C, 4) ∷ (Ra, 11) ∷ (M, 12) ∷ [])))) ∷ reordered "Deva" (marks_at 0 2 (formed_at 2 (of ((Ra, 1) ∷ (C, 4) ∷ (Ra, 11) ∷ (M, 12) ∷ [])))) ∷ []
     ≡ ((1 ∷ 2 ∷ 4 ∷ 0 ∷ 3 ∷ 5 ∷ []) ∷ (0 ∷ 0 ∷ 0 ∷ 0 ∷ 0 ∷ 5 ∷ []) ∷ (3 ∷ 3 ∷ 11 ∷ 1 ∷ 4 ∷ 12 ∷ []) ∷ [])
     ∷ ((2 ∷ 1 ∷ 3 ∷ 0 ∷ []) ∷ (0 ∷ 0 ∷ 0 ∷ 0 ∷ []) ∷ (11 ∷ 4 ∷ 12 ∷ 1 ∷ []) ∷ []) ∷ []

@@ -19,24 +19,31 @@ use Rattle.shapers_syllabic.proofs.Views.{unnumbered_view}
 pub final_reads_no_serials : FinalReadsNoSerials
 final_reads_no_serials r script =
     let v = unnumbered_view in
-    reads_by_view (final_order r script) (final_steps r script) (order_stays v r (λ m. refl) script) (final_steps_stay v r (λ m. refl) script)
+    reads_by_view (final_order r script) (final_steps r script) (order_stays v r (λ m. refl) script)
+    (final_steps_stay v r (λ m. refl) script)
 
 -- init goes by what stands before, not by its serial
 word_stays : (o : Option hb_glyph_info_t) → word_goes_on (option_map unnumbered o) ≡ word_goes_on o
 word_stays None = refl
 word_stays (Some g) = refl
 
-last_stays : (o : Option hb_glyph_info_t) (gs : List hb_glyph_info_t) → option_map unnumbered (last_or o gs) ≡ last_or (option_map unnumbered o) (map unnumbered gs)
+last_stays : (o : Option hb_glyph_info_t) (gs : List hb_glyph_info_t) → option_map unnumbered (last_or o gs)
+    ≡ last_or (option_map unnumbered o) (map unnumbered gs)
 last_stays o [] = refl
 last_stays o (g ∷ gs) = last_stays (Some g) gs
 
-init_stays : (bits : ℕ) (o : Option hb_glyph_info_t) (gs : List hb_glyph_info_t) → map unnumbered (with_init bits o gs) ≡ with_init bits (option_map unnumbered o) (map unnumbered gs)
+init_stays : (bits : ℕ) (o : Option hb_glyph_info_t) (gs : List hb_glyph_info_t) → map unnumbered (with_init bits o gs)
+    ≡ with_init bits (option_map unnumbered o) (map unnumbered gs)
 init_stays bits o [] = refl
 init_stays bits o (g ∷ gs) =
-    (elim (is_left g && not (word_goes_on o)) as (λ b. map unnumbered (if b then with_bits bits g ∷ gs else g ∷ gs) ≡ (if b then with_bits bits (unnumbered g) ∷ map unnumbered gs else unnumbered g ∷ map unnumbered gs)) [ true ↦ refl | false ↦ refl ])
-    ∙ ap (λ w. if is_left g && not w then with_bits bits (unnumbered g) ∷ map unnumbered gs else unnumbered g ∷ map unnumbered gs) (sym (word_stays o))
+    (elim (is_left g && not (word_goes_on o)) as (λ b. map unnumbered (if b then with_bits bits g ∷ gs else g ∷ gs)
+    ≡ (if b then with_bits bits (unnumbered g) ∷ map unnumbered gs else unnumbered g ∷ map unnumbered gs))
+    [ true ↦ refl | false ↦ refl ])
+    ∙ ap (λ w. if is_left g && not w then with_bits bits (unnumbered g) ∷ map unnumbered gs else unnumbered g
+    ∷ map unnumbered gs) (sym (word_stays o))
 
-inits_stay : (bits : ℕ) (o : Option hb_glyph_info_t) (ps : List (List hb_glyph_info_t)) → map unnumbered (with_inits bits o ps) ≡ with_inits bits (option_map unnumbered o) (map (map unnumbered) ps)
+inits_stay : (bits : ℕ) (o : Option hb_glyph_info_t) (ps : List (List hb_glyph_info_t))
+    → map unnumbered (with_inits bits o ps) ≡ with_inits bits (option_map unnumbered o) (map (map unnumbered) ps)
 inits_stay bits o [] = refl
 inits_stay bits o (p ∷ ps) =
     let opened = with_init bits (option_map unnumbered o) (map unnumbered p) in
@@ -52,7 +59,8 @@ final_text_reads_no_serials r script gs hs same =
     record {
       order = λ o.
           inits_stay r.init o (map f (syllables gs))
-          ∙ ap (with_inits r.init (option_map unnumbered o)) (pieces_same f reads.meant (syllables gs) (syllables hs) same)
+          ∙ ap (with_inits r.init (option_map unnumbered o))
+          (pieces_same f reads.meant (syllables gs) (syllables hs) same)
           ∙ sym (inits_stay r.init o (map f (syllables hs)));
       in_clusters = λ level. clusters_paused-same None f (final_steps r script) level gs hs reads same;
     }

@@ -32,34 +32,44 @@ use Rattle.shapers_syllabic.proofs.NonePass.{filter-none, filter_not-none, none_
 use Rattle.shapers_syllabic.proofs.ReorderingLemmas.{stretch_stays}
 
 -- no place of a list of which none passes a test
-never : {X : Type 0} (test : X → Bool) (xs : List X) (i : ℕ) → list_any test xs ≡ false → option_map_or test (slice_get xs i) false ≡ false
+never : {X : Type 0} (test : X → Bool) (xs : List X) (i : ℕ) → list_any test xs ≡ false
+    → option_map_or test (slice_get xs i) false ≡ false
 never test [] i none = refl
 never test (x ∷ xs) zero none = (or_parts (test x) (list_any test xs) none).0
 never test (x ∷ xs) (suc i) none = never test xs i (or_parts (test x) (list_any test xs) none).1
 
-no_place_of : (test : hb_glyph_info_t → Bool) (gs : List hb_glyph_info_t) (ps : List ℕ) → list_any test gs ≡ false → find (passes test gs) ps ≡ None
+no_place_of : (test : hb_glyph_info_t → Bool) (gs : List hb_glyph_info_t) (ps : List ℕ) → list_any test gs ≡ false
+    → find (passes test gs) ps ≡ None
 no_place_of test gs [] none = refl
-no_place_of test gs (p ∷ ps) none = ap (λ b. cond b (Some p) (find (passes test gs) ps)) (never test gs p none) ∙ no_place_of test gs ps none
+no_place_of test gs (p ∷ ps) none = ap (λ b. cond b (Some p) (find (passes test gs) ps)) (never test gs p none)
+    ∙ no_place_of test gs ps none
 
-none_kept : (test : hb_glyph_info_t → Bool) (gs : List hb_glyph_info_t) (ps : List ℕ) → list_any test gs ≡ false → filter (passes test gs) ps ≡ []
+none_kept : (test : hb_glyph_info_t → Bool) (gs : List hb_glyph_info_t) (ps : List ℕ) → list_any test gs ≡ false
+    → filter (passes test gs) ps ≡ []
 none_kept test gs [] none = refl
-none_kept test gs (p ∷ ps) none = ap (λ b. if b then p ∷ filter (passes test gs) ps else filter (passes test gs) ps) (never test gs p none) ∙ none_kept test gs ps none
+none_kept test gs (p ∷ ps) none =
+    ap (λ b. if b then p ∷ filter (passes test gs) ps else filter (passes test gs) ps) (never test gs p none)
+    ∙ none_kept test gs ps none
 
 -- VIRAMAS AND LINKS
-none_recovered : (v : Option GlyphId) (gs : List hb_glyph_info_t) → list_any (is_lost_virama v) gs ≡ false → map (recovered v) gs ≡ gs
+none_recovered : (v : Option GlyphId) (gs : List hb_glyph_info_t) → list_any (is_lost_virama v) gs ≡ false
+    → map (recovered v) gs ≡ gs
 none_recovered v [] none = refl
 none_recovered v (g ∷ gs) none =
     let parts = or_parts (is_lost_virama v g) (list_any (is_lost_virama v) gs) none in
     rw parts.0 (ap (λ xs. g ∷ xs) (none_recovered v gs parts.1))
 
 not_linked : (g : hb_glyph_info_t) → has_position POS_BELOW_C g ≡ false → as_linked g ≡ g
-not_linked g none = rw none (elim (is_consonant g) as (λ b. (if b && false then at_position POS_BASE_C g else g) ≡ g) [ true ↦ refl | false ↦ refl ])
+not_linked g none = rw none (elim (is_consonant g) as (λ b. (if b && false then at_position POS_BASE_C g else g) ≡ g)
+    [ true ↦ refl | false ↦ refl ])
 
-links_stay : (halant : Bool) (gs : List hb_glyph_info_t) → list_any (has_position POS_BELOW_C) gs ≡ false → along_links as_linked halant gs ≡ gs
+links_stay : (halant : Bool) (gs : List hb_glyph_info_t) → list_any (has_position POS_BELOW_C) gs ≡ false
+    → along_links as_linked halant gs ≡ gs
 links_stay halant [] none = refl
 links_stay false (g ∷ gs) none =
     let parts = or_parts (has_position POS_BELOW_C g) (list_any (has_position POS_BELOW_C) gs) none in
-    elim (is_joiner g) as (λ j. (if j then g ∷ along_links as_linked false gs else if is_indic_halant g then g ∷ along_links as_linked true gs else g ∷ gs) ≡ g ∷ gs) [
+    elim (is_joiner g) as (λ j. (if j then g ∷ along_links as_linked false gs else if is_indic_halant g then g
+    ∷ along_links as_linked true gs else g ∷ gs) ≡ g ∷ gs) [
       | true ↦ ap (λ xs. g ∷ xs) (links_stay false gs parts.1)
       | false ↦ elim (is_indic_halant g) as (λ h. (if h then g ∷ along_links as_linked true gs else g ∷ gs) ≡ g ∷ gs) [
         | true ↦ ap (λ xs. g ∷ xs) (links_stay true gs parts.1)
@@ -68,9 +78,11 @@ links_stay false (g ∷ gs) none =
     ]
 links_stay true (g ∷ gs) none =
     let parts = or_parts (has_position POS_BELOW_C g) (list_any (has_position POS_BELOW_C) gs) none in
-    elim (is_joiner g) as (λ j. (if j then g ∷ along_links as_linked true gs else as_linked g ∷ along_links as_linked false gs) ≡ g ∷ gs) [
+    elim (is_joiner g) as (λ j. (if j then g ∷ along_links as_linked true gs else as_linked g
+    ∷ along_links as_linked false gs) ≡ g ∷ gs) [
       | true ↦ ap (λ xs. g ∷ xs) (links_stay true gs parts.1)
-      | false ↦ ap (λ x. x ∷ along_links as_linked false gs) (not_linked g parts.0) ∙ ap (λ xs. g ∷ xs) (links_stay false gs parts.1)
+      | false ↦ ap (λ x. x ∷ along_links as_linked false gs) (not_linked g parts.0)
+          ∙ ap (λ xs. g ∷ xs) (links_stay false gs parts.1)
     ]
 
 -- WHAT IS NOT THERE
@@ -81,7 +93,8 @@ record Nothing (r : Rules) (script : Option Script) (gs : List hb_glyph_info_t) 
   lost : list_any (is_lost_virama r.virama) gs ≡ false
   below : is_malayalam script ≡ true → list_any (has_position POS_BELOW_C) gs ≡ false
 
-nothing : (r : Rules) (script : Option Script) (gs : List hb_glyph_info_t) → list_any (changes_syllable r script) gs ≡ false → Nothing r script gs
+nothing : (r : Rules) (script : Option Script) (gs : List hb_glyph_info_t) → list_any (changes_syllable r script) gs
+    ≡ false → Nothing r script gs
 nothing r script [] none = record { left = refl; reph = refl; pref = refl; lost = refl; below = λ on. refl }
 nothing r script (g ∷ gs) none =
     let parts = or_parts (changes_syllable r script g) (list_any (changes_syllable r script) gs) none in
@@ -95,7 +108,8 @@ nothing r script (g ∷ gs) none =
       reph = or_from _ _ one.1 rest.reph;
       pref = or_from _ _ two.1 rest.pref;
       lost = or_from _ _ three.1 rest.lost;
-      below = λ on. or_from _ _ (and_true_right _ (ap (λ m. has_position POS_BELOW_C g && m) (sym on) ∙ four.1)) (rest.below on);
+      below = λ on. or_from _ _ (and_true_right _ (ap (λ m. has_position POS_BELOW_C g && m) (sym on) ∙ four.1))
+          (rest.below on);
     }
   where
     and_true_right : (b : Bool) → (b && true) ≡ false → b ≡ false
@@ -103,100 +117,146 @@ nothing r script (g ∷ gs) none =
     and_true_right false h = refl
 
 -- THE BASE: the glyphs stay
-links_written_stay : (script : Option Script) (base : ℕ) (gs : List hb_glyph_info_t) → (is_malayalam script ≡ true → list_any (has_position POS_BELOW_C) gs ≡ false) → with_links script base gs ≡ gs
+links_written_stay : (script : Option Script) (base : ℕ) (gs : List hb_glyph_info_t)
+    → (is_malayalam script ≡ true → list_any (has_position POS_BELOW_C) gs ≡ false) → with_links script base gs ≡ gs
 links_written_stay script base gs none = elim (cases_Bool (is_malayalam script)) [
-  | inl on ↦ rw on (ap (λ xs. take (base + 1) gs ++ xs) (links_stay false (drop (base + 1) gs) (none_behind (has_position POS_BELOW_C) (base + 1) gs (none on))) ∙ take-append-drop (base + 1) gs)
+  | inl on ↦ rw on
+      (ap (λ xs. take (base + 1) gs ++ xs)
+      (links_stay false (drop (base + 1) gs) (none_behind (has_position POS_BELOW_C) (base + 1) gs (none on)))
+      ∙ take-append-drop (base + 1) gs)
   | inr off ↦ rw off refl
 ]
 
-glyphs_stay : (r : Rules) (script : Option Script) (gs : List hb_glyph_info_t) → Nothing r script gs → (with_final_base r script gs).glyphs ≡ gs
+glyphs_stay : (r : Rules) (script : Option Script) (gs : List hb_glyph_info_t) → Nothing r script gs
+    → (with_final_base r script gs).glyphs ≡ gs
 glyphs_stay r script gs none =
-    let no_pref : pref_place r.pref (first_base gs) gs ≡ None = no_place_of (has_bits r.pref) gs (places (first_base gs + 1) (length gs)) none.pref in
+    let no_pref : pref_place r.pref (first_base gs) gs ≡ None =
+    no_place_of (has_bits r.pref) gs (places (first_base gs + 1) (length gs)) none.pref in
     rw no_pref (links_written_stay script (first_base gs) gs none.below)
 
-based_stay : (r : Rules) (script : Option Script) (gs : List hb_glyph_info_t) → Nothing r script gs → (based r script gs).glyphs ≡ gs
-based_stay r script gs none = ap (λ xs. (with_final_base r script xs).glyphs) (none_recovered r.virama gs none.lost) ∙ glyphs_stay r script gs none
+based_stay : (r : Rules) (script : Option Script) (gs : List hb_glyph_info_t) → Nothing r script gs
+    → (based r script gs).glyphs ≡ gs
+based_stay r script gs none = ap (λ xs. (with_final_base r script xs).glyphs) (none_recovered r.virama gs none.lost)
+    ∙ glyphs_stay r script gs none
 
 -- NOTHING MOVES
-parted_stay : (test : hb_glyph_info_t → Bool) (xs : List hb_glyph_info_t) → list_any test xs ≡ false → parted test xs ≡ xs
-parted_stay test xs none = ap (λ ys. ys ++ filter test xs) (filter_not-none test xs none) ∙ ap (λ ys. xs ++ ys) (filter-none test xs none) ∙ append-nil xs
+parted_stay : (test : hb_glyph_info_t → Bool) (xs : List hb_glyph_info_t) → list_any test xs ≡ false
+    → parted test xs ≡ xs
+parted_stay test xs none = ap (λ ys. ys ++ filter test xs) (filter_not-none test xs none)
+    ∙ ap (λ ys. xs ++ ys) (filter-none test xs none) ∙ append-nil xs
 
-matras_stay : (script : Option Script) (base : ℕ) (gs : List hb_glyph_info_t) → list_any is_left gs ≡ false → with_matras script base gs ≡ gs
+matras_stay : (script : Option Script) (base : ℕ) (gs : List hb_glyph_info_t) → list_any is_left gs ≡ false
+    → with_matras script base gs ≡ gs
 matras_stay script base gs none =
     let p = matra_target script base gs in
-    let front : list_any is_left (stretch_of 0 (p + 1) gs) ≡ false = none_in_front is_left (p + 1 - 0) (drop 0 gs) none in
-    elim (has_room base gs && matras_go p gs) as (λ b. (if b then with_stretch 0 (p + 1) (parted is_left) gs else gs) ≡ gs) [
-      | true ↦ stretch_stays 0 (p + 1) (parted is_left) gs (omega arith) (parted_stay is_left (stretch_of 0 (p + 1) gs) front)
+    let front : list_any is_left (stretch_of 0 (p + 1) gs) ≡ false =
+    none_in_front is_left (p + 1 - 0) (drop 0 gs) none in
+    elim (has_room base gs && matras_go p gs) as (λ b. (if b then with_stretch 0 (p + 1) (parted is_left) gs else gs)
+    ≡ gs) [
+      | true ↦ stretch_stays 0 (p + 1) (parted is_left) gs (omega arith)
+          (parted_stay is_left (stretch_of 0 (p + 1) gs) front)
       | false ↦ refl
     ]
 
-no_matra_steps : (script : Option Script) (base : ℕ) (gs : List hb_glyph_info_t) → list_any is_left gs ≡ false → matra_steps script base gs ≡ []
+no_matra_steps : (script : Option Script) (base : ℕ) (gs : List hb_glyph_info_t) → list_any is_left gs ≡ false
+    → matra_steps script base gs ≡ []
 no_matra_steps script base gs none =
     let p = matra_target script base gs in
     let e = end_of_base base gs in
     let no_left : left_places p gs ≡ [] = ap reverse (none_kept is_left gs (places 0 p) none) in
-    let parting : parting_steps p e gs ≡ [] = ap (λ ps. map (λ (t : ℕ × ℕ). matra_step (length gs) e t.1 (p - t.0)) (enumerate_from 0 ps)) no_left in
-    let staying : staying_steps base gs ≡ [] = ap (merging_step (length gs) e) (no_place_of is_left gs (places 0 base) none) in
+    let parting : parting_steps p e gs ≡ [] =
+    ap (λ ps. map (λ (t : ℕ × ℕ). matra_step (length gs) e t.1 (p - t.0)) (enumerate_from 0 ps)) no_left in
+    let staying : staying_steps base gs ≡ [] =
+    ap (merging_step (length gs) e) (no_place_of is_left gs (places 0 base) none) in
     elim (has_room base gs) as (λ b. (if b then steps_before script base gs else []) ≡ []) [
-      | true ↦ elim (matras_go p gs) as (λ b. (if b then parting_steps p e gs else staying_steps base gs) ≡ []) [ true ↦ parting | false ↦ staying ]
+      | true ↦ elim (matras_go p gs) as (λ b. (if b then parting_steps p e gs else staying_steps base gs) ≡ [])
+          [ true ↦ parting | false ↦ staying ]
       | false ↦ refl
     ]
 
-no_reph : (gs : List hb_glyph_info_t) → list_any (has_position POS_RA_TO_BECOME_REPH) gs ≡ false → opens_with_reph gs ≡ false
+no_reph : (gs : List hb_glyph_info_t) → list_any (has_position POS_RA_TO_BECOME_REPH) gs ≡ false
+    → opens_with_reph gs ≡ false
 no_reph [] none = refl
 no_reph (g ∷ []) none = refl
 no_reph (g ∷ (h ∷ gs)) none =
-    let parts = or_parts (has_position POS_RA_TO_BECOME_REPH g) (list_any (has_position POS_RA_TO_BECOME_REPH) (h ∷ gs)) none in
+    let parts = or_parts (has_position POS_RA_TO_BECOME_REPH g) (list_any (has_position POS_RA_TO_BECOME_REPH) (h ∷ gs))
+    none in
     rw parts.0 refl
 
-no_pref : (pref base : ℕ) (gs : List hb_glyph_info_t) → list_any (has_bits pref) gs ≡ false → formed_pref pref base gs ≡ None
+no_pref : (pref base : ℕ) (gs : List hb_glyph_info_t) → list_any (has_bits pref) gs ≡ false
+    → formed_pref pref base gs ≡ None
 no_pref pref base gs none = ap (if_formed gs) (no_place_of (has_bits pref) gs (places (base + 1) (length gs)) none)
 
 -- a syllable with its base, in which nothing moves
 abbrev at_base : List hb_glyph_info_t → ℕ → Bool → Based
 at_base gs base tries = record { glyphs = gs; base = base; tries_pref = tries }
 
-order_stays : (r : Rules) (script : Option Script) (gs : List hb_glyph_info_t) (base : ℕ) (tries : Bool) → Nothing r script gs → after_pref r script (after_reph r (after_matras r script (at_base gs base tries))) ≡ gs
+order_stays : (r : Rules) (script : Option Script) (gs : List hb_glyph_info_t) (base : ℕ) (tries : Bool)
+    → Nothing r script gs → after_pref r script (after_reph r (after_matras r script (at_base gs base tries))) ≡ gs
 order_stays r script gs base tries none =
     let matras = matras_stay script base gs none.left in
     let reph = no_reph gs none.reph in
     let pref = no_pref r.pref base gs none.pref in
     rw (matras, reph, pref) (elim tries as (λ b. (if b then gs else gs) ≡ gs) [ true ↦ refl | false ↦ refl ])
 
-no_steps : (r : Rules) (script : Option Script) (gs : List hb_glyph_info_t) (base : ℕ) (tries : Bool) → Nothing r script gs → steps_of_based r script (at_base gs base tries) ≡ []
+no_steps : (r : Rules) (script : Option Script) (gs : List hb_glyph_info_t) (base : ℕ) (tries : Bool)
+    → Nothing r script gs → steps_of_based r script (at_base gs base tries) ≡ []
 no_steps r script gs base tries none =
     let reph = no_reph gs none.reph in
     let n = length gs in
-    let pref : pref_steps r.pref script base gs ≡ [] = ap (pref_step n (pref_target script base gs)) (no_pref r.pref base gs none.pref) in
-    ap (λ xs. matra_steps script base gs ++ (reph_steps r.reph_pos base xs ++ steps_of_pref r script (after_reph r (at_base xs base tries)))) (matras_stay script base gs none.left)
-    ∙ ap (λ sts. sts ++ (reph_steps r.reph_pos base gs ++ steps_of_pref r script (after_reph r (at_base gs base tries)))) (no_matra_steps script base gs none.left)
-    ∙ ap (λ b. (if b then final_reph_step n (reph_target r.reph_pos base gs) ∷ [] else []) ++ steps_of_pref r script (at_base (if b then with_stretch 0 (reph_target r.reph_pos base gs + 1) first_last gs else gs) (if b then carried_along base (reph_target r.reph_pos base gs) else base) tries)) reph
+    let pref : pref_steps r.pref script base gs ≡ [] =
+    ap (pref_step n (pref_target script base gs)) (no_pref r.pref base gs none.pref) in
+    ap (λ xs. matra_steps script base gs
+    ++ (reph_steps r.reph_pos base xs ++ steps_of_pref r script (after_reph r (at_base xs base tries))))
+    (matras_stay script base gs none.left)
+    ∙ ap (λ sts. sts
+    ++ (reph_steps r.reph_pos base gs ++ steps_of_pref r script (after_reph r (at_base gs base tries))))
+    (no_matra_steps script base gs none.left)
+    ∙ ap (λ b. (if b then final_reph_step n (reph_target r.reph_pos base gs) ∷ [] else [])
+    ++ steps_of_pref r script
+    (at_base (if b then with_stretch 0 (reph_target r.reph_pos base gs + 1) first_last gs else gs)
+    (if b then carried_along base (reph_target r.reph_pos base gs) else base) tries)) reph
     ∙ elim tries as (λ b. (if b then pref_steps r.pref script base gs else []) ≡ []) [ true ↦ pref | false ↦ refl ]
 
 lost-view : (v : Option GlyphId) (g : hb_glyph_info_t) → is_lost_virama v (plain g) ≡ is_lost_virama v g
 lost-view None g = refl
 lost-view (Some v) g = refl
 
-changes-view : (r : Rules) (script : Option Script) → r.pref % 8 ≡ 0 → (g : hb_glyph_info_t) → changes_syllable r script (plain g) ≡ changes_syllable r script g
+changes-view : (r : Rules) (script : Option Script) → r.pref % 8 ≡ 0 → (g : hb_glyph_info_t)
+    → changes_syllable r script (plain g) ≡ changes_syllable r script g
 changes-view r script off g =
-    ap (λ n. is_left g || has_position POS_RA_TO_BECOME_REPH g || not (n == 0) || is_lost_virama r.virama (plain g) || (has_position POS_BELOW_C g && is_malayalam script)) (plain_keeps r.pref (omega arith) g.mask)
-    ∙ ap (λ b. is_left g || has_position POS_RA_TO_BECOME_REPH g || has_bits r.pref g || b || (has_position POS_BELOW_C g && is_malayalam script)) (lost-view r.virama g)
+    ap (λ n. is_left g || has_position POS_RA_TO_BECOME_REPH g || not (n == 0) || is_lost_virama r.virama (plain g)
+    || (has_position POS_BELOW_C g && is_malayalam script)) (plain_keeps r.pref (omega arith) g.mask)
+    ∙ ap (λ b. is_left g || has_position POS_RA_TO_BECOME_REPH g || has_bits r.pref g || b
+    || (has_position POS_BELOW_C g && is_malayalam script)) (lost-view r.virama g)
 
-changed-view : (r : Rules) (script : Option Script) → r.pref % 8 ≡ 0 → (gs : List hb_glyph_info_t) → list_any (changes_syllable r script) (order_view gs) ≡ list_any (changes_syllable r script) gs
+changed-view : (r : Rules) (script : Option Script) → r.pref % 8 ≡ 0 → (gs : List hb_glyph_info_t)
+    → list_any (changes_syllable r script) (order_view gs) ≡ list_any (changes_syllable r script) gs
 changed-view r script off [] = refl
-changed-view r script off (g ∷ gs) = ap (λ b. b || list_any (changes_syllable r script) (order_view gs)) (changes-view r script off g) ∙ ap (λ b. changes_syllable r script g || b) (changed-view r script off gs)
+changed-view r script off (g ∷ gs) =
+    ap (λ b. b || list_any (changes_syllable r script) (order_view gs)) (changes-view r script off g)
+    ∙ ap (λ b. changes_syllable r script g || b) (changed-view r script off gs)
 
 -- so of a syllable of a buffer
-pub final_stays : (r : Rules) (script : Option Script) → r.pref % 8 ≡ 0 → (s e : ℕ) (b : Buffer) → s ≤ e → list_any (changes_syllable r script) (stretch_of s e b.glyphs) ≡ false → SyllableReordered (final_order r script) (final_steps r script) s e b b
+pub final_stays : (r : Rules) (script : Option Script) → r.pref % 8 ≡ 0 → (s e : ℕ) (b : Buffer) → s ≤ e
+    → list_any (changes_syllable r script) (stretch_of s e b.glyphs) ≡ false
+    → SyllableReordered (final_order r script) (final_steps r script) s e b b
 final_stays r script off s e b h none =
     let zs = stretch_of s e (order_view b.glyphs) in
-    let seen : list_any (changes_syllable r script) zs ≡ false = ap (list_any (changes_syllable r script)) (sym (map-stretch plain s e b.glyphs)) ∙ changed-view r script off (stretch_of s e b.glyphs) ∙ none in
+    let seen : list_any (changes_syllable r script) zs ≡ false =
+    ap (list_any (changes_syllable r script)) (sym (map-stretch plain s e b.glyphs))
+    ∙ changed-view r script off (stretch_of s e b.glyphs) ∙ none in
     let n = nothing r script zs seen in
     let found = based r script zs in
-    let at : found ≡ at_base zs found.base found.tries_pref = ap (λ xs. at_base xs found.base found.tries_pref) (based_stay r script zs n) in
-    let order : final_order r script zs ≡ zs = ap (λ (x : Based). after_pref r script (after_reph r (after_matras r script x))) at ∙ order_stays r script zs found.base found.tries_pref n in
-    let steps : final_steps r script zs ≡ [] = ap (steps_of_based r script) at ∙ no_steps r script zs found.base found.tries_pref n in
-    let ran : List Step → List hb_glyph_info_t = λ sts. run_steps b.level (map (widened s e (length b.glyphs)) sts) b.glyphs in
+    let at : found ≡ at_base zs found.base found.tries_pref =
+    ap (λ xs. at_base xs found.base found.tries_pref) (based_stay r script zs n) in
+    let order : final_order r script zs ≡ zs =
+    ap (λ (x : Based). after_pref r script (after_reph r (after_matras r script x))) at
+    ∙ order_stays r script zs found.base found.tries_pref n in
+    let steps : final_steps r script zs ≡ [] = ap (steps_of_based r script) at
+    ∙ no_steps r script zs found.base found.tries_pref n in
+    let ran : List Step → List hb_glyph_info_t =
+    λ sts. run_steps b.level (map (widened s e (length b.glyphs)) sts) b.glyphs in
     record {
       others = refl;
       order = sym (stretch_stays s e (final_order r script) (order_view b.glyphs) h order);

@@ -38,19 +38,38 @@ record After (meaning : List hb_glyph_info_t → List hb_glyph_info_t) (s e : �
   long : length new.glyphs ≡ length old.glyphs
   syllable : stretch_of s e (order_view new.glyphs) ≡ meaning (stretch_of s e (order_view old.glyphs))
 
-after : (meaning : List hb_glyph_info_t → List hb_glyph_info_t) (steps : List hb_glyph_info_t → List Step) (s e : ℕ) (old new : Buffer) → s ≤ e → e ≤ length old.glyphs → length (meaning (stretch_of s e (order_view old.glyphs))) ≡ e - s → SyllableReordered meaning steps s e old new → After meaning s e old new
+after : (meaning : List hb_glyph_info_t → List hb_glyph_info_t) (steps : List hb_glyph_info_t → List Step) (s e : ℕ)
+    (old new : Buffer) → s ≤ e → e ≤ length old.glyphs → length (meaning (stretch_of s e (order_view old.glyphs)))
+    ≡ e - s → SyllableReordered meaning steps s e old new → After meaning s e old new
 after meaning steps s e old new h l k done =
     let xs = order_view old.glyphs in
     let n : length xs ≡ length old.glyphs = length-map old.glyphs plain in
     let front : length (take s xs) ≡ s = length-take-le s xs (omega arith) in
-    let parts = changed_parts s e (take s xs) (meaning (stretch_of s e xs)) (drop e xs) (order_view new.glyphs) h front k done.order in
+    let parts = changed_parts s e (take s xs) (meaning (stretch_of s e xs)) (drop e xs) (order_view new.glyphs) h front
+    k done.order in
     record {
-      long = sym (length-map new.glyphs plain) ∙ ap length done.order ∙ omega (arith, length-append (take s xs) (meaning (stretch_of s e xs) ++ drop e xs), length-append (meaning (stretch_of s e xs)) (drop e xs), length-drop e xs);
+      long = sym (length-map new.glyphs plain) ∙ ap length done.order
+          ∙ omega (
+            arith,
+            length-append (take s xs) (meaning (stretch_of s e xs) ++ drop e xs),
+            length-append
+                (meaning (stretch_of s e xs)) (drop e xs),
+            length-drop e xs,
+          );
       syllable = parts.stretch;
     }
 
 -- a part that its steps make, by the syllable of the order view
-pub moved_part : (meaning : List hb_glyph_info_t → List hb_glyph_info_t) (steps : List hb_glyph_info_t → List Step) (s e : ℕ) (old new : Buffer) → s ≤ e → e ≤ length old.glyphs → LawsAt (stretch_of s e (order_view old.glyphs)) (meaning (stretch_of s e (order_view old.glyphs))) (steps (stretch_of s e (order_view old.glyphs))) → new ≡ record old { glyphs = run_steps old.level (map (widened s e (length old.glyphs)) (steps (stretch_of s e (order_view old.glyphs)))) old.glyphs; places = new.places } → SyllableReordered meaning steps s e old new
+pub moved_part : (meaning : List hb_glyph_info_t → List hb_glyph_info_t) (steps : List hb_glyph_info_t
+    → List Step) (s e : ℕ) (old new : Buffer) → s ≤ e → e ≤ length old.glyphs
+    → LawsAt (stretch_of s e (order_view old.glyphs)) (meaning (stretch_of s e (order_view old.glyphs)))
+    (steps (stretch_of s e (order_view old.glyphs)))
+    → new ≡ record old {
+      glyphs = run_steps old.level
+          (map (widened s e (length old.glyphs)) (steps (stretch_of s e (order_view old.glyphs)))) old.glyphs;
+      places =
+          new.places;
+    } → SyllableReordered meaning steps s e old new
 moved_part meaning steps s e old new h l laws is =
     let gs = old.glyphs in
     let xs = order_view gs in
@@ -60,7 +79,9 @@ moved_part meaning steps s e old new h l laws is =
     let k : length syl ≡ e - s = length-view s e gs l in
     let glyphs_are : new.glyphs ≡ ran = ap (λ (b : Buffer). b.glyphs) is in
     record {
-      others = ap but_places is ∙ sym (ap (λ (zs : List hb_glyph_info_t). let b : Buffer = record (but_places old) { glyphs = zs } in b) glyphs_are);
+      others = ap but_places is
+          ∙ sym (ap (λ (zs : List hb_glyph_info_t). let b : Buffer = record (but_places old) { glyphs = zs } in b)
+          glyphs_are);
       order = ap order_view glyphs_are
           ∙ order_view-widened old.level s e sts gs h l (subst (λ n. FitSteps n sts) k laws.fits)
           ∙ ap (λ n. take s xs ++ (pick (old_places n sts) syl ++ drop e xs)) (sym k)
@@ -69,10 +90,24 @@ moved_part meaning steps s e old new h l laws is =
     }
 
 -- the same by steps of the syllable as it is, where these are the same
-pub part_by_steps : (meaning : List hb_glyph_info_t → List hb_glyph_info_t) (steps : List hb_glyph_info_t → List Step) (s e : ℕ) (old new : Buffer) → s ≤ e → e ≤ length old.glyphs → LawsAt (stretch_of s e (order_view old.glyphs)) (meaning (stretch_of s e (order_view old.glyphs))) (steps (stretch_of s e (order_view old.glyphs))) → steps (order_view (stretch_of s e old.glyphs)) ≡ steps (stretch_of s e old.glyphs) → new ≡ record old { glyphs = run_steps old.level (map (widened s e (length old.glyphs)) (steps (stretch_of s e old.glyphs))) old.glyphs; places = new.places } → SyllableReordered meaning steps s e old new
+pub part_by_steps : (meaning : List hb_glyph_info_t → List hb_glyph_info_t) (steps : List hb_glyph_info_t
+    → List Step) (s e : ℕ) (old new : Buffer) → s ≤ e → e ≤ length old.glyphs
+    → LawsAt (stretch_of s e (order_view old.glyphs)) (meaning (stretch_of s e (order_view old.glyphs)))
+    (steps (stretch_of s e (order_view old.glyphs))) → steps (order_view (stretch_of s e old.glyphs))
+    ≡ steps (stretch_of s e old.glyphs)
+    → new ≡ record old {
+      glyphs = run_steps old.level (map (widened s e (length old.glyphs)) (steps (stretch_of s e old.glyphs)))
+          old.glyphs;
+      places = new.places;
+    } → SyllableReordered meaning steps s e old new
 part_by_steps meaning steps s e old new h l laws same is =
-    let both : steps (stretch_of s e old.glyphs) ≡ steps (stretch_of s e (order_view old.glyphs)) = sym same ∙ ap steps (map-stretch plain s e old.glyphs) in
-    moved_part meaning steps s e old new h l laws (is ∙ ap (λ (sts : List Step). let b : Buffer = record old { glyphs = run_steps old.level (map (widened s e (length old.glyphs)) sts) old.glyphs; places = new.places } in b) both)
+    let both : steps (stretch_of s e old.glyphs) ≡ steps (stretch_of s e (order_view old.glyphs)) =
+    sym same ∙ ap steps (map-stretch plain s e old.glyphs) in
+    moved_part meaning steps s e old new h l laws (is
+    ∙ ap (λ (sts : List Step). let b : Buffer = record old {
+      glyphs = run_steps old.level (map (widened s e (length old.glyphs)) sts) old.glyphs;
+      places = new.places;
+    } in b) both)
 
 -- What the parts read of a syllable shows in its order view.
 pub record Viewed (r : Rules) (script : Option Script) (gs : List hb_glyph_info_t) : Type 0 where
@@ -102,40 +137,58 @@ abbrev recovered_one : hb_glyph_info_t → hb_glyph_info_t
 recovered_one g = record g { category = OT_H; marks = without_mark MULTIPLIED (without_mark LIGATED g.marks) }
 
 recovered-carried : (virama : Option GlyphId) (g : hb_glyph_info_t) → carried (recovered virama g) ≡ carried g
-recovered-carried virama g = elim (is_lost_virama virama g) as (λ b. carried (if b then recovered_one g else g) ≡ carried g) [ true ↦ refl | false ↦ refl ]
+recovered-carried virama g =
+    elim (is_lost_virama virama g) as (λ b. carried (if b then recovered_one g else g) ≡ carried g)
+    [ true ↦ refl | false ↦ refl ]
 
 lost-plain : (virama : Option GlyphId) (g : hb_glyph_info_t) → is_lost_virama virama (plain g) ≡ is_lost_virama virama g
 lost-plain None g = refl
 lost-plain (Some virama) g = refl
 
-recovered-plain : (virama : Option GlyphId) (g : hb_glyph_info_t) → plain (recovered virama g) ≡ recovered virama (plain g)
+recovered-plain : (virama : Option GlyphId) (g : hb_glyph_info_t)
+    → plain (recovered virama g) ≡ recovered virama (plain g)
 recovered-plain virama g =
-    (elim (is_lost_virama virama g) as (λ b. plain (if b then recovered_one g else g) ≡ (if b then recovered_one (plain g) else plain g)) [ true ↦ refl | false ↦ refl ])
+    (elim (is_lost_virama virama g) as (λ b. plain (if b then recovered_one g else g)
+    ≡ (if b then recovered_one (plain g) else plain g)) [ true ↦ refl | false ↦ refl ])
     ∙ ap (λ b. if b then recovered_one (plain g) else plain g) (sym (lost-plain virama g))
 
 -- a syllable of the order view with its viramas
-recovered-stretch : (r : Rules) (s e : ℕ) (gs : List hb_glyph_info_t) → s ≤ e → e ≤ length gs → order_view (stretch_of s e (with_stretch s e (map (recovered r.virama)) gs)) ≡ with_viramas r (stretch_of s e (order_view gs))
+recovered-stretch : (r : Rules) (s e : ℕ) (gs : List hb_glyph_info_t) → s ≤ e → e ≤ length gs
+    → order_view (stretch_of s e (with_stretch s e (map (recovered r.virama)) gs))
+    ≡ with_viramas r (stretch_of s e (order_view gs))
 recovered-stretch r s e gs h l =
     let part = stretch_of s e gs in
     let k : length part ≡ e - s = length-take-le (e - s) (drop s gs) (omega (arith, length-drop s gs)) in
-    let parts = changed_parts s e (take s gs) (map (recovered r.virama) part) (drop e gs) (with_stretch s e (map (recovered r.virama)) gs) h (length-take-le s gs (omega arith)) (length-map part (recovered r.virama) ∙ k) refl in
+    let parts = changed_parts s e (take s gs) (map (recovered r.virama) part) (drop e gs)
+    (with_stretch s e (map (recovered r.virama)) gs) h (length-take-le s gs (omega arith))
+    (length-map part (recovered r.virama) ∙ k) refl in
     ap order_view parts.stretch ∙ sym (viramas_plain r part) ∙ ap (with_viramas r) (map-stretch plain s e gs)
 
 -- where the base settles
-pub settled_part : (r : Rules) (script : Option Script) (s e : ℕ) (b0 b1 b2 : Buffer) → ((gs : List hb_glyph_info_t) → Viewed r script gs) → s ≤ e → e ≤ length b0.glyphs → b1 ≡ record b0 { glyphs = with_stretch s e (map (recovered r.virama)) b0.glyphs } → b2 ≡ record b1 { glyphs = with_stretch s e (settled r script) b1.glyphs } → SyllableReordered (λ gs. (based r script gs).glyphs) (λ _. []) s e b0 b2
+pub settled_part : (r : Rules) (script : Option Script) (s e : ℕ) (b0 b1 b2 : Buffer)
+    → ((gs : List hb_glyph_info_t) → Viewed r script gs) → s ≤ e → e ≤ length b0.glyphs
+    → b1 ≡ record b0 { glyphs = with_stretch s e (map (recovered r.virama)) b0.glyphs }
+    → b2 ≡ record b1 { glyphs = with_stretch s e (settled r script) b1.glyphs }
+    → SyllableReordered (λ gs. (based r script gs).glyphs) (λ _. []) s e b0 b2
 settled_part r script s e b0 b1 b2 viewed h l one two =
     let x0 = stretch_of s e (order_view b0.glyphs) in
     let g1 : b1.glyphs ≡ with_stretch s e (map (recovered r.virama)) b0.glyphs = ap (λ (b : Buffer). b.glyphs) one in
     let g2 : b2.glyphs ≡ with_stretch s e (settled r script) b1.glyphs = ap (λ (b : Buffer). b.glyphs) two in
-    let k1 : but_places b1 ≡ record (but_places b0) { glyphs = b1.glyphs } = ap but_places one ∙ sym (ap (λ (zs : List hb_glyph_info_t). let b : Buffer = record (but_places b0) { glyphs = zs } in b) g1) in
-    let k2 : but_places b2 ≡ record (but_places b1) { glyphs = b2.glyphs } = ap but_places two ∙ sym (ap (λ (zs : List hb_glyph_info_t). let b : Buffer = record (but_places b1) { glyphs = zs } in b) g2) in
+    let k1 : but_places b1 ≡ record (but_places b0) { glyphs = b1.glyphs } = ap but_places one
+    ∙ sym (ap (λ (zs : List hb_glyph_info_t). let b : Buffer = record (but_places b0) { glyphs = zs } in b)
+    g1) in
+    let k2 : but_places b2 ≡ record (but_places b1) { glyphs = b2.glyphs } = ap but_places two
+    ∙ sym (ap (λ (zs : List hb_glyph_info_t). let b : Buffer = record (but_places b1) { glyphs = zs } in b)
+    g2) in
     let v = viewed (stretch_of s e b1.glyphs) in
     let n0 : length (with_viramas r x0) ≡ e - s = length-map x0 (recovered r.virama) ∙ length-view s e b0.glyphs l in
     syllable_then (with_viramas r) (settled r script) (λ _. []) (λ _. []) s e b0 b1 b2 h l n0
     (syllable_mapped (recovered r.virama) s e b0 b1 h k1 g1 (recovered-carried r.virama) (recovered-plain r.virama))
-    (syllable_changed (settled r script) (settled r script) s e b1 b2 h k2 g2 (hidden-based r script (stretch_of s e b1.glyphs)) (sym v.glyphs))
+    (syllable_changed (settled r script) (settled r script) s e b1 b2 h k2 g2
+    (hidden-based r script (stretch_of s e b1.glyphs)) (sym v.glyphs))
 
--- What the parts behind it make of a syllable with its base, by where the base stands before and after the reph, and by whether a pref glyph is tried.
+-- What the parts behind it make of a syllable with its base, by where the base stands before and
+-- after the reph, and by whether a pref glyph is tried.
 abbrev tried_order : Rules → Option Script → Bool → ℕ → List hb_glyph_info_t → List hb_glyph_info_t
 tried_order r script tries base gs = if tries then with_pref r.pref script base gs else gs
 
@@ -143,82 +196,129 @@ abbrev tried_steps : Rules → Option Script → Bool → ℕ → List hb_glyph_
 tried_steps r script tries base gs = if tries then pref_steps r.pref script base gs else []
 
 abbrev placed_order : Rules → Option Script → Bool → ℕ → ℕ → List hb_glyph_info_t → List hb_glyph_info_t
-placed_order r script tries base next gs = tried_order r script tries next (with_reph r.reph_pos base (with_matras script base gs))
+placed_order r script tries base next gs =
+    tried_order r script tries next (with_reph r.reph_pos base (with_matras script base gs))
 
 abbrev placed_steps : Rules → Option Script → Bool → ℕ → ℕ → List hb_glyph_info_t → List Step
 placed_steps r script tries base next gs =
     let ms = with_matras script base gs in
-    matra_steps script base gs ++ (reph_steps r.reph_pos base ms ++ tried_steps r script tries next (with_reph r.reph_pos base ms))
+    matra_steps script base gs
+    ++ (reph_steps r.reph_pos base ms ++ tried_steps r script tries next (with_reph r.reph_pos base ms))
 
 -- What the calls leave, one after another.
-pub record Calls (r : Rules) (script : Option Script) (s e base next : ℕ) (tries : Bool) (b0 b1 b2 b3 b4 : Buffer) : Type 0 where
+pub record Calls (r : Rules) (script : Option Script) (s e base next : ℕ) (tries : Bool) (b0 b1 b2 b3 b4 : Buffer) :
+    Type 0 where
   pub in_order : s ≤ e
   pub in_range : e ≤ length b0.glyphs
   pub viramas : b1 ≡ record b0 { glyphs = with_stretch s e (map (recovered r.virama)) b0.glyphs }
   pub based_are : b2 ≡ record b1 { glyphs = with_stretch s e (settled r script) b1.glyphs }
   pub base_is : base ≡ (with_final_base r script (stretch_of s e b1.glyphs)).base
   pub tries_is : tries ≡ (with_final_base r script (stretch_of s e b1.glyphs)).tries_pref
-  pub matras : b3 ≡ record b2 { glyphs = run_steps b2.level (map (widened s e (length b2.glyphs)) (matra_steps script base (stretch_of s e b2.glyphs))) b2.glyphs; places = b3.places }
-  pub reph : b4 ≡ record b3 { glyphs = run_steps b3.level (map (widened s e (length b3.glyphs)) (reph_steps r.reph_pos base (stretch_of s e b3.glyphs))) b3.glyphs; places = b4.places }
+  pub matras : b3
+      ≡ record b2 {
+        glyphs = run_steps b2.level
+            (map (widened s e (length b2.glyphs)) (matra_steps script base (stretch_of s e b2.glyphs))) b2.glyphs;
+        places =
+            b3.places;
+      }
+  pub reph : b4
+      ≡ record b3 {
+        glyphs = run_steps b3.level
+            (map (widened s e (length b3.glyphs)) (reph_steps r.reph_pos base (stretch_of s e b3.glyphs))) b3.glyphs;
+        places =
+            b4.places;
+      }
   pub next_is : next ≡ base_after_reph r.reph_pos base (stretch_of s e b3.glyphs)
 
 -- the last part, where a pref glyph is tried, and where none is
 pub record LastPart (r : Rules) (script : Option Script) (s e next : ℕ) (tries : Bool) (b4 b5 : Buffer) : Type 0 where
-  pub reordered : e ≤ length b4.glyphs → SyllableReordered (tried_order r script tries next) (tried_steps r script tries next) s e b4 b5
+  pub reordered : e ≤ length b4.glyphs
+      → SyllableReordered (tried_order r script tries next) (tried_steps r script tries next) s e b4 b5
 
-pub last_tried : (r : Rules) (script : Option Script) (s e next : ℕ) (tries : Bool) (b4 b5 : Buffer) → ((gs : List hb_glyph_info_t) → Viewed r script gs) → s ≤ e → tries ≡ true → b5 ≡ record b4 { glyphs = run_steps b4.level (map (widened s e (length b4.glyphs)) (pref_steps r.pref script next (stretch_of s e b4.glyphs))) b4.glyphs; places = b5.places } → LastPart r script s e next tries b4 b5
+pub last_tried : (r : Rules) (script : Option Script) (s e next : ℕ) (tries : Bool) (b4 b5 : Buffer)
+    → ((gs : List hb_glyph_info_t) → Viewed r script gs) → s ≤ e → tries ≡ true
+    → b5 ≡ record b4 {
+      glyphs = run_steps b4.level
+          (map (widened s e (length b4.glyphs)) (pref_steps r.pref script next (stretch_of s e b4.glyphs))) b4.glyphs;
+      places
+          = b5.places;
+    } → LastPart r script s e next tries b4 b5
 last_tried r script s e next tries b4 b5 viewed h tried is =
     let v = viewed (stretch_of s e b4.glyphs) in
     subst (λ t. LastPart r script s e next t b4 b5) (sym tried) (record {
-      reordered = λ l. part_by_steps (with_pref r.pref script next) (pref_steps r.pref script next) s e b4 b5 h l (pref_at r.pref script next (stretch_of s e (order_view b4.glyphs))) (v.by_pref next) is;
+      reordered = λ l. part_by_steps (with_pref r.pref script next) (pref_steps r.pref script next) s e b4 b5 h l
+          (pref_at r.pref script next (stretch_of s e (order_view b4.glyphs))) (v.by_pref next) is;
     })
 
-pub last_none : (r : Rules) (script : Option Script) (s e next : ℕ) (tries : Bool) (b4 : Buffer) → s ≤ e → tries ≡ false → LastPart r script s e next tries b4 b4
+pub last_none : (r : Rules) (script : Option Script) (s e next : ℕ) (tries : Bool) (b4 : Buffer) → s ≤ e → tries ≡ false
+    → LastPart r script s e next tries b4 b4
 last_none r script s e next tries b4 h none =
-    subst (λ t. LastPart r script s e next t b4 b4) (sym none) (record { reordered = λ l. syllable_still s e b4 b4 h refl refl })
+    subst (λ t. LastPart r script s e next t b4 b4) (sym none)
+    (record { reordered = λ l. syllable_still s e b4 b4 h refl refl })
 
 -- all of them
-pub final_syllable : (r : Rules) (script : Option Script) (s e base next : ℕ) (tries : Bool) (b0 b1 b2 b3 b4 b5 : Buffer) → ((gs : List hb_glyph_info_t) → Viewed r script gs) → Calls r script s e base next tries b0 b1 b2 b3 b4 → LastPart r script s e next tries b4 b5 → SyllableReordered (final_order r script) (final_steps r script) s e b0 b5
+pub final_syllable : (r : Rules) (script : Option Script) (s e base next : ℕ) (tries : Bool)
+    (b0 b1 b2 b3 b4 b5 : Buffer) → ((gs : List hb_glyph_info_t) → Viewed r script gs)
+    → Calls r script s e base next tries b0 b1 b2 b3 b4 → LastPart r script s e next tries b4 b5
+    → SyllableReordered (final_order r script) (final_steps r script) s e b0 b5
 final_syllable r script s e base next tries b0 b1 b2 b3 b4 b5 viewed c last =
     let h = c.in_order in
     let l = c.in_range in
     let x0 = stretch_of s e (order_view b0.glyphs) in
     let x1 = stretch_of s e (order_view b1.glyphs) in
     let B = based r script x0 in
-    let opening : SyllableReordered (λ gs. (based r script gs).glyphs) (λ _. []) s e b0 b2 = settled_part r script s e b0 b1 b2 viewed h l c.viramas c.based_are in
+    let opening : SyllableReordered (λ gs. (based r script gs).glyphs) (λ _. []) s e b0 b2 =
+    settled_part r script s e b0 b1 b2 viewed h l c.viramas c.based_are in
     let k0 : length x0 ≡ e - s = length-view s e b0.glyphs l in
-    let kb : length B.glyphs ≡ e - s = length-same carried B.glyphs x0 (hidden-based r script (with_viramas r x0) ∙ hidden-viramas r x0) ∙ k0 in
+    let kb : length B.glyphs ≡ e - s =
+    length-same carried B.glyphs x0 (hidden-based r script (with_viramas r x0) ∙ hidden-viramas r x0) ∙ k0 in
     let a2 = after (λ gs. (based r script gs).glyphs) (λ _. []) s e b0 b2 h l kb opening in
     let l2 : e ≤ length b2.glyphs = omega (arith, a2.long) in
     let x2 = stretch_of s e (order_view b2.glyphs) in
     let k2 : length x2 ≡ e - s = length-view s e b2.glyphs l2 in
     let virama_view : x1 ≡ with_viramas r x0 =
-    sym (map-stretch plain s e b1.glyphs) ∙ ap (λ zs. order_view (stretch_of s e zs)) (ap (λ (b : Buffer). b.glyphs) c.viramas) ∙ recovered-stretch r s e b0.glyphs h l in
+    sym (map-stretch plain s e b1.glyphs)
+    ∙ ap (λ zs. order_view (stretch_of s e zs)) (ap (λ (b : Buffer). b.glyphs) c.viramas)
+    ∙ recovered-stretch r s e b0.glyphs h l in
     let v1 = viewed (stretch_of s e b1.glyphs) in
-    let same1 : with_final_base r script (order_view (stretch_of s e b1.glyphs)) ≡ B = ap (with_final_base r script) (map-stretch plain s e b1.glyphs ∙ virama_view) in
+    let same1 : with_final_base r script (order_view (stretch_of s e b1.glyphs)) ≡ B =
+    ap (with_final_base r script) (map-stretch plain s e b1.glyphs ∙ virama_view) in
     let base_at : base ≡ B.base = c.base_is ∙ sym v1.base ∙ ap (λ (b : Based). b.base) same1 in
     let tries_at : tries ≡ B.tries_pref = c.tries_is ∙ sym v1.tries ∙ ap (λ (b : Based). b.tries_pref) same1 in
-    let base_low : base ≤ length x2 = subst (λ n. n ≤ length x2) (sym base_at) (subst (λ ys. B.base ≤ length ys) (sym a2.syllable) (base_within r script (with_viramas r x0))) in
+    let base_low : base ≤ length x2 =
+    subst (λ n. n ≤ length x2) (sym base_at)
+    (subst (λ ys. B.base ≤ length ys) (sym a2.syllable) (base_within r script (with_viramas r x0))) in
     let v2 = viewed (stretch_of s e b2.glyphs) in
     let m_laws = matras_at script base x2 base_low in
     let matras_done : SyllableReordered (with_matras script base) (matra_steps script base) s e b2 b3 =
-    part_by_steps (with_matras script base) (matra_steps script base) s e b2 b3 h l2 m_laws (v2.by_matras base) c.matras in
-    let k3 : length (with_matras script base x2) ≡ e - s = length_at x2 (with_matras script base x2) (matra_steps script base x2) m_laws ∙ k2 in
+    part_by_steps (with_matras script base) (matra_steps script base) s e b2 b3 h l2 m_laws (v2.by_matras base)
+    c.matras in
+    let k3 : length (with_matras script base x2) ≡ e - s =
+    length_at x2 (with_matras script base x2) (matra_steps script base x2) m_laws ∙ k2 in
     let a3 = after (with_matras script base) (matra_steps script base) s e b2 b3 h l2 k3 matras_done in
     let l3 : e ≤ length b3.glyphs = omega (arith, a3.long) in
     let x3 = stretch_of s e (order_view b3.glyphs) in
     let v3 = viewed (stretch_of s e b3.glyphs) in
     let r_laws = reph_at r.reph_pos base x3 in
     let reph_done : SyllableReordered (with_reph r.reph_pos base) (reph_steps r.reph_pos base) s e b3 b4 =
-    part_by_steps (with_reph r.reph_pos base) (reph_steps r.reph_pos base) s e b3 b4 h l3 r_laws (v3.by_reph base) c.reph in
-    let k4 : length (with_reph r.reph_pos base x3) ≡ e - s = length_at x3 (with_reph r.reph_pos base x3) (reph_steps r.reph_pos base x3) r_laws ∙ length-view s e b3.glyphs l3 in
+    part_by_steps (with_reph r.reph_pos base) (reph_steps r.reph_pos base) s e b3 b4 h l3 r_laws (v3.by_reph base)
+    c.reph in
+    let k4 : length (with_reph r.reph_pos base x3) ≡ e - s =
+    length_at x3 (with_reph r.reph_pos base x3) (reph_steps r.reph_pos base x3) r_laws
+    ∙ length-view s e b3.glyphs l3 in
     let a4 = after (with_reph r.reph_pos base) (reph_steps r.reph_pos base) s e b3 b4 h l3 k4 reph_done in
     let l4 : e ≤ length b4.glyphs = omega (arith, a4.long) in
     let next_at : next ≡ base_after_reph r.reph_pos base (with_matras script base B.glyphs) =
-    c.next_is ∙ sym (v3.base_then base) ∙ ap (base_after_reph r.reph_pos base) (map-stretch plain s e b3.glyphs ∙ a3.syllable ∙ ap (with_matras script base) a2.syllable) in
-    let whole = syllable_then (λ gs. (based r script gs).glyphs) (placed_order r script tries base next) (λ _. []) (placed_steps r script tries base next) s e b0 b2 b5 h l kb opening
-    (syllable_then (with_matras script base) (λ gs. tried_order r script tries next (with_reph r.reph_pos base gs)) (matra_steps script base) (λ gs. reph_steps r.reph_pos base gs ++ tried_steps r script tries next (with_reph r.reph_pos base gs)) s e b2 b3 b5 h l2 k3 matras_done
-    (syllable_then (with_reph r.reph_pos base) (tried_order r script tries next) (reph_steps r.reph_pos base) (tried_steps r script tries next) s e b3 b4 b5 h l3 k4 reph_done (last.reordered l4))) in
+    c.next_is ∙ sym (v3.base_then base)
+    ∙ ap (base_after_reph r.reph_pos base) (map-stretch plain s e b3.glyphs ∙ a3.syllable
+    ∙ ap (with_matras script base) a2.syllable) in
+    let whole = syllable_then (λ gs. (based r script gs).glyphs) (placed_order r script tries base next) (λ _. [])
+    (placed_steps r script tries base next) s e b0 b2 b5 h l kb opening
+    (syllable_then (with_matras script base) (λ gs. tried_order r script tries next (with_reph r.reph_pos base gs))
+    (matra_steps script base) (λ gs. reph_steps r.reph_pos base gs
+    ++ tried_steps r script tries next (with_reph r.reph_pos base gs)) s e b2 b3 b5 h l2 k3 matras_done
+    (syllable_then (with_reph r.reph_pos base) (tried_order r script tries next) (reph_steps r.reph_pos base)
+    (tried_steps r script tries next) s e b3 b4 b5 h l3 k4 reph_done (last.reordered l4))) in
     let after_base : ℕ → ℕ = λ b. base_after_reph r.reph_pos b (with_matras script b B.glyphs) in
     let means : placed_order r script tries base next B.glyphs ≡ final_order r script x0 =
     ap (λ t. placed_order r script t base next B.glyphs) tries_at
@@ -228,4 +328,6 @@ final_syllable r script s e base next tries b0 b1 b2 b3 b4 b5 viewed c last =
     ap (λ t. placed_steps r script t base next B.glyphs) tries_at
     ∙ ap (λ n. placed_steps r script B.tries_pref base n B.glyphs) next_at
     ∙ ap (λ b. placed_steps r script B.tries_pref b (after_base b) B.glyphs) base_at in
-    syllable_as (λ gs. placed_order r script tries base next (based r script gs).glyphs) (final_order r script) (λ gs. [] ++ placed_steps r script tries base next (based r script gs).glyphs) (final_steps r script) s e b0 b5 means leads whole
+    syllable_as (λ gs. placed_order r script tries base next (based r script gs).glyphs) (final_order r script) (λ gs.
+    [] ++ placed_steps r script tries base next (based r script gs).glyphs) (final_steps r script) s e b0 b5 means
+    leads whole

@@ -12,26 +12,47 @@ use Rattle.shapers_indic_final.specs.FinalLaws.{SameButFirstBits, with_first_bit
 use Rattle.shapers_indic_final.specs.FinalWordStart.{continues_word, final_text, is_bound, last_or, text_run, with_init}
 
 -- every category: Cc no, Cf to Mn yes, the rest no
-categories : map continues_word (Cc ∷ Cf ∷ Cn ∷ Co ∷ Cs ∷ Ll ∷ Lm ∷ Lo ∷ Lt ∷ Lu ∷ Mc ∷ Me ∷ Mn ∷ Nd ∷ Nl ∷ No ∷ Pc ∷ Pd ∷ Pe ∷ Pf ∷ Pi ∷ Po ∷ Ps ∷ Sc ∷ Sk ∷ Sm ∷ So ∷ Zl ∷ Zp ∷ Zs ∷ [])
-    ≡ false ∷ true ∷ true ∷ true ∷ true ∷ true ∷ true ∷ true ∷ true ∷ true ∷ true ∷ true ∷ true ∷ false ∷ false ∷ false ∷ false ∷ false ∷ false ∷ false ∷ false ∷ false ∷ false ∷ false ∷ false ∷ false ∷ false ∷ false ∷ false ∷ false ∷ []
+categories : map continues_word (Cc ∷ Cf ∷ Cn ∷ Co ∷ Cs ∷ Ll ∷ Lm ∷ Lo ∷ Lt ∷ Lu ∷ Mc ∷ Me ∷ Mn ∷ Nd ∷ Nl ∷ No ∷ Pc ∷ Pd
+    ∷ Pe ∷ Pf ∷ Pi ∷ Po ∷ Ps ∷ Sc ∷ Sk ∷ Sm ∷ So ∷ Zl ∷ Zp ∷ Zs ∷ [])
+    ≡ false ∷ true ∷ true ∷ true ∷ true ∷ true ∷ true ∷ true ∷ true ∷ true ∷ true ∷ true ∷ true ∷ false ∷ false ∷ false
+    ∷ false ∷ false ∷ false ∷ false ∷ false ∷ false ∷ false ∷ false ∷ false ∷ false ∷ false ∷ false ∷ false ∷ false
+    ∷ []
 categories = refl
 
 -- a glyph of a syllable byte, with a general category, category and position
 abbrev one : ℕ → ℕ → hb_unicode_general_category_t → ℕ → ℕ → hb_glyph_info_t
-one i byte general c p = record default_glyph { glyph_id = i; cluster = i; mask = 64; syllable = byte; general_category = general; category = c; auxiliary = p }
+one i byte general c p =
+    record default_glyph {
+      glyph_id = i;
+      cluster = i;
+      mask = 64;
+      syllable = byte;
+      general_category = general;
+      category =
+          c;
+      auxiliary = p;
+    }
 
--- a left matra in front of a syllable: at the start of the text or behind a blank it gets init, behind a letter a break before it is unsafe; other glyphs get neither
+-- a left matra in front of a syllable: at the start of the text or behind a blank it gets init,
+-- behind a letter a break before it is unsafe; other glyphs get neither
 abbrev syllable : ℕ → List hb_glyph_info_t
 syllable p = one 1 17 Mc M p ∷ one 2 17 Lo C 4 ∷ one 3 17 Mc M 2 ∷ []
 
-inits : row_masks (with_init 32 None (syllable 2)) ∷ row_masks (with_init 32 (Some (one 0 33 Zs 0 0)) (syllable 2)) ∷ row_masks (with_init 32 (Some (one 0 33 Lo 0 0)) (syllable 2)) ∷ row_masks (with_init 32 None (syllable 3)) ∷ row_masks (with_init 32 None (syllable 1)) ∷ row_masks (with_init 0 None (syllable 2)) ∷ row_masks (with_init 32 None []) ∷ []
-    ≡ (96 ∷ 64 ∷ 64 ∷ []) ∷ (96 ∷ 64 ∷ 64 ∷ []) ∷ (64 ∷ 64 ∷ 64 ∷ []) ∷ (64 ∷ 64 ∷ 64 ∷ []) ∷ (64 ∷ 64 ∷ 64 ∷ []) ∷ (64 ∷ 64 ∷ 64 ∷ []) ∷ [] ∷ []
+inits : row_masks (with_init 32 None (syllable 2)) ∷ row_masks (with_init 32 (Some (one 0 33 Zs 0 0)) (syllable 2))
+    ∷ row_masks (with_init 32 (Some (one 0 33 Lo 0 0)) (syllable 2)) ∷ row_masks (with_init 32 None (syllable 3))
+    ∷ row_masks (with_init 32 None (syllable 1)) ∷ row_masks (with_init 0 None (syllable 2))
+    ∷ row_masks (with_init 32 None []) ∷ []
+    ≡ (96 ∷ 64 ∷ 64 ∷ []) ∷ (96 ∷ 64 ∷ 64 ∷ []) ∷ (64 ∷ 64 ∷ 64 ∷ []) ∷ (64 ∷ 64 ∷ 64 ∷ []) ∷ (64 ∷ 64 ∷ 64 ∷ [])
+    ∷ (64 ∷ 64 ∷ 64 ∷ []) ∷ [] ∷ []
 inits = refl
 
-bound : is_bound None (syllable 2) ∷ is_bound (Some (one 0 33 Zs 0 0)) (syllable 2) ∷ is_bound (Some (one 0 33 Lo 0 0)) (syllable 2) ∷ is_bound (Some (one 0 33 Lo 0 0)) (syllable 3) ∷ is_bound (Some (one 0 33 Lo 0 0)) [] ∷ [] ≡ false ∷ false ∷ true ∷ false ∷ false ∷ []
+bound : is_bound None (syllable 2) ∷ is_bound (Some (one 0 33 Zs 0 0)) (syllable 2)
+    ∷ is_bound (Some (one 0 33 Lo 0 0)) (syllable 2) ∷ is_bound (Some (one 0 33 Lo 0 0)) (syllable 3)
+    ∷ is_bound (Some (one 0 33 Lo 0 0)) [] ∷ [] ≡ false ∷ false ∷ true ∷ false ∷ false ∷ []
 bound = refl
 
--- two lists that differ in these bits of their first glyph alone: with init there or without; but not where the second glyph has them,
+-- two lists that differ in these bits of their first glyph alone: with init there or without; but
+-- not where the second glyph has them,
 -- nor where the first differs in another bit
 abbrev masked : ℕ → ℕ → List hb_glyph_info_t
 masked m n =
@@ -42,11 +63,13 @@ masked m n =
 same_first : SameButFirstBits 32 (masked 64 64) (masked 96 64)
 same_first = refl
 
-first_bits : map (λ gs. row_masks (with_first_bits 32 gs)) ([] ∷ masked 64 64 ∷ masked 96 64 ∷ masked 64 96 ∷ masked 192 64 ∷ [])
+first_bits : map (λ gs. row_masks (with_first_bits 32 gs)) ([] ∷ masked 64 64 ∷ masked 96 64 ∷ masked 64 96
+    ∷ masked 192 64 ∷ [])
     ≡ [] ∷ (96 ∷ 64 ∷ []) ∷ (96 ∷ 64 ∷ []) ∷ (96 ∷ 96 ∷ []) ∷ (224 ∷ 64 ∷ []) ∷ []
 first_bits = refl
 
-lasts : last_or None (1 ∷ 2 ∷ []) ∷ last_or (Some 5) (1 ∷ []) ∷ last_or (Some 5) [] ∷ last_or {X = ℕ} None [] ∷ [] ≡ Some 2 ∷ Some 1 ∷ Some 5 ∷ None ∷ []
+lasts : last_or None (1 ∷ 2 ∷ []) ∷ last_or (Some 5) (1 ∷ []) ∷ last_or (Some 5) [] ∷ last_or {X = ℕ} None
+    [] ∷ [] ≡ Some 2 ∷ Some 1 ∷ Some 5 ∷ None ∷ []
 lasts = refl
 
 -- a text: order, masks, clusters and glyph flags after
@@ -55,17 +78,24 @@ after gs =
     let run = text_run (rules "Deva") (script "Deva") MonotoneGraphemes 0 None (syllables gs) gs in
     numbers_of (final_text (rules "Deva") (script "Deva") gs) ∷ row_masks (final_text (rules "Deva") (script "Deva") gs) ∷ clusters run ∷ numbers_of run ∷ map (λ g. g.mask % 8) run ∷ []
 
--- two syllables M C each behind a letter or a sign: the first opens the text; the second is bound to a letter, and its own glyph is of a later cluster
+-- two syllables M C each behind a letter or a sign: the first opens the text; the second is bound
+-- to a letter, and its own glyph is of a later cluster
 abbrev pair : ℕ → ℕ → List hb_glyph_info_t
 pair i byte = one i byte Mc M 2 ∷ one (i + 1) byte Lo C 4 ∷ []
 
-texts : map after ((pair 0 16 ++ pair 2 32) ∷ (pair 0 16 ++ one 2 32 Zs 0 0 ∷ pair 3 48) ∷ (one 0 16 Lo C 4 ∷ pair 1 32) ∷ [] ∷ [])
-    ≡ ((0 ∷ 1 ∷ 2 ∷ 3 ∷ []) ∷ (96 ∷ 64 ∷ 64 ∷ 64 ∷ []) ∷ (0 ∷ 0 ∷ 2 ∷ 2 ∷ []) ∷ (0 ∷ 1 ∷ 2 ∷ 3 ∷ []) ∷ (0 ∷ 0 ∷ 3 ∷ 0 ∷ []) ∷ [])
-    ∷ ((0 ∷ 1 ∷ 2 ∷ 3 ∷ 4 ∷ []) ∷ (96 ∷ 64 ∷ 64 ∷ 96 ∷ 64 ∷ []) ∷ (0 ∷ 0 ∷ 2 ∷ 3 ∷ 3 ∷ []) ∷ (0 ∷ 1 ∷ 2 ∷ 3 ∷ 4 ∷ []) ∷ (0 ∷ 0 ∷ 0 ∷ 0 ∷ 0 ∷ []) ∷ [])
+texts : map after ((pair 0 16 ++ pair 2 32) ∷ (pair 0 16 ++ one 2 32 Zs 0 0 ∷ pair 3 48) ∷ (one 0 16 Lo C 4 ∷ pair 1 32)
+    ∷ [] ∷ [])
+    ≡ ((0 ∷ 1 ∷ 2 ∷ 3 ∷ []) ∷ (96 ∷ 64 ∷ 64 ∷ 64 ∷ []) ∷ (0 ∷ 0 ∷ 2 ∷ 2 ∷ []) ∷ (0 ∷ 1 ∷ 2 ∷ 3 ∷ [])
+    ∷ (0 ∷ 0 ∷ 3 ∷ 0 ∷ []) ∷ [])
+    ∷ ((0 ∷ 1 ∷ 2 ∷ 3 ∷ 4 ∷ []) ∷ (96 ∷ 64 ∷ 64 ∷ 96 ∷ 64 ∷ []) ∷ (0 ∷ 0 ∷ 2 ∷ 3 ∷ 3 ∷ []) ∷ (0 ∷ 1 ∷ 2 ∷ 3 ∷ 4 ∷ [])
+    ∷ (0 ∷ 0 ∷ 0 ∷ 0 ∷ 0 ∷ []) ∷ [])
     ∷ ((0 ∷ 1 ∷ 2 ∷ []) ∷ (64 ∷ 64 ∷ 64 ∷ []) ∷ (0 ∷ 1 ∷ 1 ∷ []) ∷ (0 ∷ 1 ∷ 2 ∷ []) ∷ (0 ∷ 3 ∷ 0 ∷ []) ∷ [])
     ∷ ([] ∷ [] ∷ [] ∷ [] ∷ [] ∷ []) ∷ []
 texts = refl
 
--- the glyph before a syllable is the last of the one before in its new order: a reph that went to its end, of the category of blanks
-reph_before : after (record (one 0 16 Zs C 1) { marks = record { 0 = 2 } } ∷ one 1 16 Lo C 4 ∷ pair 2 32) ≡ (1 ∷ 0 ∷ 2 ∷ 3 ∷ []) ∷ (64 ∷ 64 ∷ 96 ∷ 64 ∷ []) ∷ (0 ∷ 0 ∷ 2 ∷ 2 ∷ []) ∷ (1 ∷ 0 ∷ 2 ∷ 3 ∷ []) ∷ (0 ∷ 0 ∷ 0 ∷ 0 ∷ []) ∷ []
+-- the glyph before a syllable is the last of the one before in its new order: a reph that went to
+-- its end, of the category of blanks
+reph_before : after (record (one 0 16 Zs C 1) { marks = record { 0 = 2 } } ∷ one 1 16 Lo C 4 ∷ pair 2 32)
+    ≡ (1 ∷ 0 ∷ 2 ∷ 3 ∷ []) ∷ (64 ∷ 64 ∷ 96 ∷ 64 ∷ []) ∷ (0 ∷ 0 ∷ 2 ∷ 2 ∷ []) ∷ (1 ∷ 0 ∷ 2 ∷ 3 ∷ [])
+    ∷ (0 ∷ 0 ∷ 0 ∷ 0 ∷ []) ∷ []
 reph_before = refl

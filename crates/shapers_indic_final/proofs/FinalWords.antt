@@ -31,7 +31,13 @@ formed_at i gs = marks_at i 3 (mask_given i 16 gs)
 
 -- the rules of a script with virama's glyph 90, mask 16 for pref and 32 for init
 abbrev pub rules : String → Rules
-rules tag = record { reph_pos = (config_of (script tag)).reph_pos; virama = Some (record { 0 = 90 }); pref = 16; init = 32 }
+rules tag = record {
+  reph_pos = (config_of (script tag)).reph_pos;
+  virama = Some (record { 0 = 90 });
+  pref = 16;
+  init =
+      32;
+}
 
 -- order, clusters and positions of a syllable of a script after
 abbrev pub reordered : String → List hb_glyph_info_t → List (List ℕ)

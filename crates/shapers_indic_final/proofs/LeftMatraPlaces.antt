@@ -18,35 +18,46 @@ use Rattle.shapers_indic_final.specs.LeftMatraWalk.{has_gone}
 abbrev pub chosen : (ℕ → Bool) → List hb_glyph_info_t → ℕ → ℕ → List hb_glyph_info_t
 chosen t gs a b = pick (filter t (places a b)) gs
 
-pub same_filter : (t u : ℕ → Bool) (a n : ℕ) → ((j : ℕ) → a ≤ j → j < a + n → t j ≡ u j) → filter t (range_with_len a n) ≡ filter u (range_with_len a n)
+pub same_filter : (t u : ℕ → Bool) (a n : ℕ) → ((j : ℕ) → a ≤ j → j < a + n → t j ≡ u j) → filter t (range_with_len a n)
+    ≡ filter u (range_with_len a n)
 same_filter t u a zero h = refl
 same_filter t u a (suc n) h =
     let rest = same_filter t u (a + 1) n (λ j l m. h j (omega arith) (omega arith)) in
-    ap (λ b. cond b (a ∷ filter t (range_with_len (a + 1) n)) (filter t (range_with_len (a + 1) n))) (h a (omega arith) (omega arith))
+    ap (λ b. cond b (a ∷ filter t (range_with_len (a + 1) n)) (filter t (range_with_len (a + 1) n)))
+    (h a (omega arith) (omega arith))
     ∙ ap (λ xs. cond (u a) (a ∷ xs) xs) rest
 
-pub chosen-same : (t u : ℕ → Bool) (gs : List hb_glyph_info_t) (a b : ℕ) → ((j : ℕ) → a ≤ j → j < b → t j ≡ u j) → chosen t gs a b ≡ chosen u gs a b
+pub chosen-same : (t u : ℕ → Bool) (gs : List hb_glyph_info_t) (a b : ℕ) → ((j : ℕ) → a ≤ j → j < b → t j ≡ u j)
+    → chosen t gs a b ≡ chosen u gs a b
 chosen-same t u gs a b h = ap (λ ps. pick ps gs) (same_filter t u a (b - a) (λ j l m. h j l (omega arith)))
 
-filter_all : (t : ℕ → Bool) (a n : ℕ) → ((j : ℕ) → a ≤ j → j < a + n → t j ≡ true) → filter t (range_with_len a n) ≡ range_with_len a n
+filter_all : (t : ℕ → Bool) (a n : ℕ) → ((j : ℕ) → a ≤ j → j < a + n → t j ≡ true) → filter t (range_with_len a n)
+    ≡ range_with_len a n
 filter_all t a zero h = refl
 filter_all t a (suc n) h =
-    ap (λ b. cond b (a ∷ filter t (range_with_len (a + 1) n)) (filter t (range_with_len (a + 1) n))) (h a (omega arith) (omega arith))
+    ap (λ b. cond b (a ∷ filter t (range_with_len (a + 1) n)) (filter t (range_with_len (a + 1) n)))
+    (h a (omega arith) (omega arith))
     ∙ ap (λ xs. a ∷ xs) (filter_all t (a + 1) n (λ j l m. h j (omega arith) (omega arith)))
 
-pub filter_none : (t : ℕ → Bool) (a n : ℕ) → ((j : ℕ) → a ≤ j → j < a + n → t j ≡ false) → filter t (range_with_len a n) ≡ []
+pub filter_none : (t : ℕ → Bool) (a n : ℕ) → ((j : ℕ) → a ≤ j → j < a + n → t j ≡ false) → filter t (range_with_len a n)
+    ≡ []
 filter_none t a zero h = refl
 filter_none t a (suc n) h =
-    ap (λ b. cond b (a ∷ filter t (range_with_len (a + 1) n)) (filter t (range_with_len (a + 1) n))) (h a (omega arith) (omega arith))
+    ap (λ b. cond b (a ∷ filter t (range_with_len (a + 1) n)) (filter t (range_with_len (a + 1) n)))
+    (h a (omega arith) (omega arith))
     ∙ filter_none t (a + 1) n (λ j l m. h j (omega arith) (omega arith))
 
-pub chosen-all : (t : ℕ → Bool) (gs : List hb_glyph_info_t) (a b : ℕ) → a ≤ b → b ≤ length gs → ((j : ℕ) → a ≤ j → j < b → t j ≡ true) → chosen t gs a b ≡ stretch_of a b gs
-chosen-all t gs a b h w all = ap (λ ps. pick ps gs) (filter_all t a (b - a) (λ j l m. all j l (omega arith))) ∙ pick-range a (b - a) gs (omega arith)
+pub chosen-all : (t : ℕ → Bool) (gs : List hb_glyph_info_t) (a b : ℕ) → a ≤ b → b ≤ length gs
+    → ((j : ℕ) → a ≤ j → j < b → t j ≡ true) → chosen t gs a b ≡ stretch_of a b gs
+chosen-all t gs a b h w all = ap (λ ps. pick ps gs) (filter_all t a (b - a) (λ j l m. all j l (omega arith)))
+    ∙ pick-range a (b - a) gs (omega arith)
 
-pub chosen-none : (t : ℕ → Bool) (gs : List hb_glyph_info_t) (a b : ℕ) → ((j : ℕ) → a ≤ j → j < b → t j ≡ false) → chosen t gs a b ≡ []
+pub chosen-none : (t : ℕ → Bool) (gs : List hb_glyph_info_t) (a b : ℕ) → ((j : ℕ) → a ≤ j → j < b → t j ≡ false)
+    → chosen t gs a b ≡ []
 chosen-none t gs a b none = ap (λ ps. pick ps gs) (filter_none t a (b - a) (λ j l m. none j l (omega arith)))
 
-pub filter-split : (t : ℕ → Bool) (a m b : ℕ) → a ≤ m → m ≤ b → filter t (places a b) ≡ filter t (places a m) ++ filter t (places m b)
+pub filter-split : (t : ℕ → Bool) (a m b : ℕ) → a ≤ m → m ≤ b → filter t (places a b) ≡ filter t (places a m)
+    ++ filter t (places m b)
 filter-split t a m b h l =
     let n : b - a ≡ (m - a) + (b - m) = omega arith in
     let up : a + (m - a) ≡ m = omega arith in
@@ -54,13 +65,16 @@ filter-split t a m b h l =
     ∙ ap (filter t) (range-append a (m - a) (b - m) ∙ ap (λ k. range_with_len a (m - a) ++ range_with_len k (b - m)) up)
     ∙ filter-append t (range_with_len a (m - a)) (range_with_len m (b - m))
 
-pub chosen-split : (t : ℕ → Bool) (gs : List hb_glyph_info_t) (a m b : ℕ) → a ≤ m → m ≤ b → chosen t gs a b ≡ chosen t gs a m ++ chosen t gs m b
-chosen-split t gs a m b h l = ap (λ ps. pick ps gs) (filter-split t a m b h l) ∙ pick-append (filter t (places a m)) (filter t (places m b)) gs
+pub chosen-split : (t : ℕ → Bool) (gs : List hb_glyph_info_t) (a m b : ℕ) → a ≤ m → m ≤ b
+    → chosen t gs a b ≡ chosen t gs a m ++ chosen t gs m b
+chosen-split t gs a m b h l = ap (λ ps. pick ps gs) (filter-split t a m b h l)
+    ∙ pick-append (filter t (places a m)) (filter t (places m b)) gs
 
 pub filter-one : (t : ℕ → Bool) (k : ℕ) → filter t (places k (k + 1)) ≡ cond (t k) (k ∷ []) []
 filter-one t k = let n : k + 1 - k ≡ 1 = omega arith in ap (λ m. filter t (range_with_len k m)) n
 
-pub chosen-one : (t : ℕ → Bool) (gs : List hb_glyph_info_t) (k : ℕ) → k < length gs → chosen t gs k (k + 1) ≡ cond (t k) (get_or gs k default_glyph ∷ []) []
+pub chosen-one : (t : ℕ → Bool) (gs : List hb_glyph_info_t) (k : ℕ) → k < length gs
+    → chosen t gs k (k + 1) ≡ cond (t k) (get_or gs k default_glyph ∷ []) []
 chosen-one t gs k h =
     ap (λ ps. pick ps gs) (filter-one t k)
     ∙ elim (t k) as (λ b. pick (cond b (k ∷ []) []) gs ≡ cond b (get_or gs k default_glyph ∷ []) []) [
@@ -72,10 +86,12 @@ pub chosen-empty : (t : ℕ → Bool) (gs : List hb_glyph_info_t) (a : ℕ) → 
 chosen-empty t gs a = chosen-none t gs a a (λ j l m. absurd (omega arith))
 
 -- the place before, which goes or stays
-pub one_before : (t : ℕ → Bool) (gs : List hb_glyph_info_t) (a k b : ℕ) → a ≤ k → k < b → k < length gs → chosen t gs a b ≡ chosen t gs a k ++ (cond (t k) (get_or gs k default_glyph ∷ []) [] ++ chosen t gs (k + 1) b)
+pub one_before : (t : ℕ → Bool) (gs : List hb_glyph_info_t) (a k b : ℕ) → a ≤ k → k < b → k < length gs
+    → chosen t gs a b ≡ chosen t gs a k ++ (cond (t k) (get_or gs k default_glyph ∷ []) [] ++ chosen t gs (k + 1) b)
 one_before t gs a k b h l w =
     chosen-split t gs a k b h (omega arith)
-    ∙ ap (λ xs. chosen t gs a k ++ xs) (chosen-split t gs k (k + 1) b (omega arith) (omega arith) ∙ ap (λ xs. xs ++ chosen t gs (k + 1) b) (chosen-one t gs k w))
+    ∙ ap (λ xs. chosen t gs a k ++ xs) (chosen-split t gs k (k + 1) b (omega arith) (omega arith)
+    ∙ ap (λ xs. xs ++ chosen t gs (k + 1) b) (chosen-one t gs k w))
 
 -- has_gone from k + 1 on, and from k on
 pub gone_elsewhere : (k top j : ℕ) (gs : List hb_glyph_info_t) → j ≢ k → has_gone (k + 1) top gs j ≡ has_gone k top gs j
@@ -91,7 +107,8 @@ gone_before i top j gs h =
 pub gone_behind : (i top j : ℕ) (gs : List hb_glyph_info_t) → top ≤ j → has_gone i top gs j ≡ false
 gone_behind i top j gs h =
     let no : nat_lt j top ≡ false = grind (arith, nat_tests) in
-    ap (λ b. nat_le i j && (b && passes is_left gs j)) no ∙ elim (nat_le i j) as (λ b. (b && false) ≡ false) [ true ↦ refl | false ↦ refl ]
+    ap (λ b. nat_le i j && (b && passes is_left gs j)) no ∙ elim (nat_le i j) as (λ b. (b && false) ≡ false)
+    [ true ↦ refl | false ↦ refl ]
 
 pub gone_here : (k top : ℕ) (gs : List hb_glyph_info_t) → k < top → has_gone k top gs k ≡ passes is_left gs k
 gone_here k top gs h =
@@ -100,7 +117,8 @@ gone_here k top gs h =
     ap (λ b. b && (nat_lt k top && passes is_left gs k)) one ∙ ap (λ b. b && passes is_left gs k) two
 
 -- what is no left matra stays
-pub gone_same : (k top j : ℕ) (gs : List hb_glyph_info_t) → k < top → passes is_left gs k ≡ false → has_gone (k + 1) top gs j ≡ has_gone k top gs j
+pub gone_same : (k top j : ℕ) (gs : List hb_glyph_info_t) → k < top → passes is_left gs k ≡ false
+    → has_gone (k + 1) top gs j ≡ has_gone k top gs j
 gone_same k top j gs h fails = elim (cases_eq j k) [
   | inl same ↦
       ap (has_gone (k + 1) top gs) same ∙ gone_before (k + 1) top k gs (omega arith)
@@ -117,7 +135,10 @@ pub counted_yes : (t : ℕ → Bool) (s j len : ℕ) → s ≤ j → t j ≡ tru
 counted_yes t s j len h holds c =
     let few = c.few in
     record {
-      is = ap (λ k. k + 1) c.is ∙ sym (ap length (filter-split t s j (j + 1) h (omega arith) ∙ ap (λ xs. filter t (places s j) ++ xs) (filter-one t j ∙ ap (λ b. cond b (j ∷ []) []) holds)) ∙ length-append (filter t (places s j)) (j ∷ []));
+      is = ap (λ k. k + 1) c.is
+          ∙ sym (ap length (filter-split t s j (j + 1) h (omega arith)
+          ∙ ap (λ xs. filter t (places s j) ++ xs) (filter-one t j ∙ ap (λ b. cond b (j ∷ []) []) holds))
+          ∙ length-append (filter t (places s j)) (j ∷ []));
       few = omega arith;
     }
 
@@ -125,6 +146,9 @@ pub counted_no : (t : ℕ → Bool) (s j len : ℕ) → s ≤ j → t j ≡ fals
 counted_no t s j len h fails c =
     let few = c.few in
     record {
-      is = c.is ∙ sym (ap length (filter-split t s j (j + 1) h (omega arith) ∙ ap (λ xs. filter t (places s j) ++ xs) (filter-one t j ∙ ap (λ b. cond b (j ∷ []) []) fails) ∙ append-nil (filter t (places s j))));
+      is = c.is ∙ sym
+          (ap length (filter-split t s j (j + 1) h (omega arith)
+          ∙ ap (λ xs. filter t (places s j) ++ xs) (filter-one t j ∙ ap (λ b. cond b (j ∷ []) []) fails)
+          ∙ append-nil (filter t (places s j))));
       few = omega arith;
     }

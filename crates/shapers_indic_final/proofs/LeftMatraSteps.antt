@@ -33,34 +33,43 @@ pub record Fits (i top p : ℕ) (runs : Runs) (gs : List hb_glyph_info_t) : Type
   pub before : none_below runs.before (staying i top gs runs.start p) ≡ true
   pub least : none_below runs.cluster (gone i top gs 0 p ++ stretch_of p runs.end gs) ≡ true
 
-none-append : (m : ℕ) (xs ys : List hb_glyph_info_t) → none_below m xs ≡ true → none_below m ys ≡ true → none_below m (xs ++ ys) ≡ true
+none-append : (m : ℕ) (xs ys : List hb_glyph_info_t) → none_below m xs ≡ true → none_below m ys ≡ true
+    → none_below m (xs ++ ys) ≡ true
 none-append m xs ys one two = list_all-append (λ g. nat_le m g.cluster) xs ys ∙ rw (one, two) refl
 
-none-parts : (m : ℕ) (xs ys : List hb_glyph_info_t) → none_below m (xs ++ ys) ≡ true → (none_below m xs ≡ true) × (none_below m ys ≡ true)
-none-parts m xs ys none = and_parts (none_below m xs) (none_below m ys) (sym (list_all-append (λ g. nat_le m g.cluster) xs ys) ∙ none)
+none-parts : (m : ℕ) (xs ys : List hb_glyph_info_t) → none_below m (xs ++ ys) ≡ true → (none_below m xs ≡ true)
+    × (none_below m ys ≡ true)
+none-parts m xs ys none =
+    and_parts (none_below m xs) (none_below m ys) (sym (list_all-append (λ g. nat_le m g.cluster) xs ys) ∙ none)
 
 -- what stays before a run ends with the glyph before the place
-stays_some : (i top p q : ℕ) (gs : List hb_glyph_info_t) → top < p → q < p → p ≤ length gs → 0 < length (staying i top gs q p)
+stays_some : (i top p q : ℕ) (gs : List hb_glyph_info_t) → top < p → q < p → p ≤ length gs
+    → 0 < length (staying i top gs q p)
 stays_some i top p q gs h l w =
     let k = p - 1 in
     let g = get_or gs k default_glyph in
     let up : p - 1 + 1 ≡ p = omega arith in
     let t = has_stayed i top gs in
-    let one : staying i top gs k (k + 1) ≡ g ∷ [] = chosen-one t gs k (omega arith) ∙ ap (λ b. cond (not b) (g ∷ []) []) (gone_behind i top k gs (omega arith)) in
-    let is : staying i top gs q p ≡ staying i top gs q k ++ g ∷ [] = ap (staying i top gs q) (sym up) ∙ chosen-split t gs q k (k + 1) (omega arith) (omega arith) ∙ ap (λ xs. staying i top gs q k ++ xs) one in
+    let one : staying i top gs k (k + 1) ≡ g ∷ [] = chosen-one t gs k (omega arith)
+    ∙ ap (λ b. cond (not b) (g ∷ []) []) (gone_behind i top k gs (omega arith)) in
+    let is : staying i top gs q p ≡ staying i top gs q k ++ g ∷ [] = ap (staying i top gs q) (sym up)
+    ∙ chosen-split t gs q k (k + 1) (omega arith) (omega arith) ∙ ap (λ xs. staying i top gs q k ++ xs) one in
     let n = ap length is ∙ length-append (staying i top gs q k) (g ∷ []) in
     omega (arith, n)
 
 -- how many glyphs stand before the matras
-pub length-front : (level : BufferClusterLevel) (i top p q c : ℕ) (gs : List hb_glyph_info_t) → q ≤ p → p ≤ length gs → length (staying i top gs 0 q ++ put level c (staying i top gs q p)) + length (gone i top gs 0 p) ≡ p
+pub length-front : (level : BufferClusterLevel) (i top p q c : ℕ) (gs : List hb_glyph_info_t) → q ≤ p → p ≤ length gs
+    → length (staying i top gs 0 q ++ put level c (staying i top gs q p)) + length (gone i top gs 0 p) ≡ p
 length-front level i top p q c gs h w =
     let one = length-append (staying i top gs 0 q) (put level c (staying i top gs q p)) in
     let two = length-put level c (staying i top gs q p) in
-    let three = ap length (chosen-split (has_stayed i top gs) gs 0 q p (omega arith) h) ∙ length-append (staying i top gs 0 q) (staying i top gs q p) in
+    let three = ap length (chosen-split (has_stayed i top gs) gs 0 q p (omega arith) h)
+    ∙ length-append (staying i top gs 0 q) (staying i top gs q p) in
     let four = both_long (has_gone i top gs) gs p w in
     omega (arith, one, two, three, four)
 
-pub length-parted : (level : BufferClusterLevel) (i top p b : ℕ) (runs : Runs) (gs : List hb_glyph_info_t) → p ≤ b → Lies p b runs gs → length (as_parted level i top p runs gs) ≡ length gs
+pub length-parted : (level : BufferClusterLevel) (i top p b : ℕ) (runs : Runs) (gs : List hb_glyph_info_t) → p ≤ b
+    → Lies p b runs gs → length (as_parted level i top p runs gs) ≡ length gs
 length-parted level i top p b runs gs h lies =
     let front = staying i top gs 0 runs.start ++ put level runs.before (staying i top gs runs.start p) in
     let zs = gone i top gs 0 p ++ stretch_of p runs.end gs in
@@ -77,7 +86,9 @@ length-parted level i top p b runs gs h lies =
     omega (arith, one, two, three, four, five, six, seven)
 
 -- the matra goes behind what stood between
-rotated : (k at : ℕ) (front back c : List hb_glyph_info_t) (y : hb_glyph_info_t) → length front ≡ k → at ≡ k + length back → with_stretch k (at + 1) first_last ((front ++ (y ∷ back)) ++ c) ≡ (front ++ back) ++ (y ∷ c)
+rotated : (k at : ℕ) (front back c : List hb_glyph_info_t) (y : hb_glyph_info_t) → length front ≡ k
+    → at ≡ k + length back → with_stretch k (at + 1) first_last ((front ++ (y ∷ back)) ++ c) ≡ (front ++ back)
+    ++ (y ∷ c)
 rotated k at front back c y long to =
     let n : k + length (y ∷ back) ≡ at + 1 = omega arith in
     ap (with_stretch k (at + 1) first_last) (append_assoc front (y ∷ back) c)
@@ -85,33 +96,51 @@ rotated k at front back c y long to =
     ∙ ap (λ xs. front ++ xs) (append_assoc back (y ∷ []) c)
     ∙ sym (append_assoc front back (y ∷ c))
 
-merge_on : (level : BufferClusterLevel) (at b : ℕ) (gs : List hb_glyph_info_t) → merges level ≡ true → at + 1 < b → merge level at b gs ≡ merged at b gs
+merge_on : (level : BufferClusterLevel) (at b : ℕ) (gs : List hb_glyph_info_t) → merges level ≡ true → at + 1 < b
+    → merge level at b gs ≡ merged at b gs
 merge_on level at b gs on two =
     let few : nat_lt (b - at) 2 ≡ false = grind (arith, nat_tests) in
     rw (on, few) refl
 
-merge_off : (level : BufferClusterLevel) (at b : ℕ) (gs : List hb_glyph_info_t) → merges level ≡ false → merge level at b gs ≡ gs
+merge_off : (level : BufferClusterLevel) (at b : ℕ) (gs : List hb_glyph_info_t) → merges level ≡ false
+    → merge level at b gs ≡ gs
 merge_off level at b gs off = rw off refl
 
 -- at a level that doesn't merge, the runs mean nothing
-pub parted_off : (level : BufferClusterLevel) (i top p b : ℕ) (runs : Runs) (gs : List hb_glyph_info_t) → p ≤ b → Lies p b runs gs → merges level ≡ false → as_parted level i top p runs gs ≡ staying i top gs 0 p ++ (gone i top gs 0 p ++ drop p gs)
+pub parted_off : (level : BufferClusterLevel) (i top p b : ℕ) (runs : Runs) (gs : List hb_glyph_info_t) → p ≤ b
+    → Lies p b runs gs → merges level ≡ false → as_parted level i top p runs gs ≡ staying i top gs 0 p
+    ++ (gone i top gs 0 p ++ drop p gs)
 parted_off level i top p b runs gs h lies off =
     let s = lies.start in
     let f = lies.from in
     let zs = gone i top gs 0 p ++ stretch_of p runs.end gs in
     let up : p + (runs.end - p) ≡ runs.end = omega arith in
-    let rest : stretch_of p runs.end gs ++ drop runs.end gs ≡ drop p gs = ap (λ n. stretch_of p runs.end gs ++ drop n gs) (sym up) ∙ ap (λ xs. stretch_of p runs.end gs ++ xs) (sym (drop-drop (runs.end - p) p gs)) ∙ take-append-drop (runs.end - p) (drop p gs) in
-    ap (λ xs. (staying i top gs 0 runs.start ++ xs) ++ (put level runs.cluster zs ++ drop runs.end gs)) (put_off level runs.before (staying i top gs runs.start p) off)
-    ∙ ap (λ xs. xs ++ (put level runs.cluster zs ++ drop runs.end gs)) (sym (chosen-split (has_stayed i top gs) gs 0 runs.start p (omega arith) (omega arith)))
+    let rest : stretch_of p runs.end gs ++ drop runs.end gs ≡ drop p gs =
+    ap (λ n. stretch_of p runs.end gs ++ drop n gs) (sym up)
+    ∙ ap (λ xs. stretch_of p runs.end gs ++ xs) (sym (drop-drop (runs.end - p) p gs))
+    ∙ take-append-drop (runs.end - p) (drop p gs) in
+    ap (λ xs. (staying i top gs 0 runs.start ++ xs) ++ (put level runs.cluster zs ++ drop runs.end gs))
+    (put_off level runs.before (staying i top gs runs.start p) off)
+    ∙ ap (λ xs. xs ++ (put level runs.cluster zs ++ drop runs.end gs))
+    (sym (chosen-split (has_stayed i top gs) gs 0 runs.start p (omega arith) (omega arith)))
     ∙ ap (λ xs. staying i top gs 0 p ++ (xs ++ drop runs.end gs)) (put_off level runs.cluster zs off)
-    ∙ ap (λ xs. staying i top gs 0 p ++ xs) (append_assoc (gone i top gs 0 p) (stretch_of p runs.end gs) (drop runs.end gs) ∙ ap (λ xs. gone i top gs 0 p ++ xs) rest)
+    ∙ ap (λ xs. staying i top gs 0 p ++ xs)
+    (append_assoc (gone i top gs 0 p) (stretch_of p runs.end gs) (drop runs.end gs)
+    ∙ ap (λ xs. gone i top gs 0 p ++ xs) rest)
 
 -- What the merge makes of what stands before the matra.
-pub record Fronted (level : BufferClusterLevel) (k top p m : ℕ) (y : hb_glyph_info_t) (front : List hb_glyph_info_t) (new : Runs) (gs : List hb_glyph_info_t) : Type 0 where
-  pub is : reverse (flooded y.cluster m (reverse front)) ≡ staying k top gs 0 new.start ++ put level new.before (staying k top gs new.start p)
+pub record Fronted (level : BufferClusterLevel) (k top p m : ℕ) (y : hb_glyph_info_t) (front : List hb_glyph_info_t)
+    (new : Runs) (gs : List hb_glyph_info_t) : Type 0 where
+  pub is : reverse (flooded y.cluster m (reverse front)) ≡ staying k top gs 0 new.start
+      ++ put level new.before (staying k top gs new.start p)
   pub none : none_below new.before (staying k top gs new.start p) ≡ true
 
-fronted_floods : (level : BufferClusterLevel) (k top p m : ℕ) (y : hb_glyph_info_t) (old new : Runs) (gs : List hb_glyph_info_t) → merges level ≡ true → old.start ≤ p → y.cluster ≡ old.before → m ≤ old.before → Reaches k top old.before old.start new.start gs → new.before ≡ m → none_below old.before (staying k top gs old.start p) ≡ true → Fronted level k top p m y (staying k top gs 0 old.start ++ put level old.before (staying k top gs old.start p)) new gs
+fronted_floods : (level : BufferClusterLevel) (k top p m : ℕ) (y : hb_glyph_info_t) (old new : Runs)
+    (gs : List hb_glyph_info_t) → merges level ≡ true → old.start ≤ p → y.cluster ≡ old.before → m ≤ old.before
+    → Reaches k top old.before old.start new.start gs → new.before ≡ m
+    → none_below old.before (staying k top gs old.start p) ≡ true
+    → Fronted level k top p m y (staying k top gs 0 old.start ++ put level old.before (staying k top gs old.start p))
+    new gs
 fronted_floods level k top p m y old new gs on within own low r to kept =
     let c = old.before in
     let q = old.start in
@@ -133,24 +162,35 @@ fronted_floods level k top p m y old new gs on within own low r to kept =
           ∙ ap (λ xs. (xs ++ map (in_cluster m) W) ++ map (in_cluster m) (map (in_cluster c) R)) (reverse-reverse U)
           ∙ ap (λ xs. (U ++ map (in_cluster m) W) ++ xs) (puts_twice m c R low kept)
           ∙ append_assoc U (map (in_cluster m) W) (map (in_cluster m) R)
-          ∙ ap (λ xs. U ++ xs) (sym (map-append (in_cluster m) W R) ∙ ap (map (in_cluster m)) (sym v) ∙ sym (put_on level m (staying k top gs new.start p) on) ∙ ap (λ n. put level n (staying k top gs new.start p)) (sym to));
+          ∙ ap (λ xs. U ++ xs) (sym (map-append (in_cluster m) W R) ∙ ap (map (in_cluster m)) (sym v)
+          ∙ sym (put_on level m (staying k top gs new.start p) on)
+          ∙ ap (λ n. put level n (staying k top gs new.start p)) (sym to));
       none =
           ap (λ n. none_below n (staying k top gs new.start p)) to ∙ ap (none_below m) v
           ∙ none-append m W R (none_of_cluster m c W low r.equal) (none_lower m c R low kept);
     }
 
-fronted_spares : (level : BufferClusterLevel) (k top p m : ℕ) (y : hb_glyph_info_t) (old new : Runs) (gs : List hb_glyph_info_t) → merges level ≡ true → top < p → old.start < p → p ≤ length gs → y.cluster ≢ old.before → new.start ≡ old.start → new.before ≡ old.before → none_below old.before (staying k top gs old.start p) ≡ true → Fronted level k top p m y (staying k top gs 0 old.start ++ put level old.before (staying k top gs old.start p)) new gs
+fronted_spares : (level : BufferClusterLevel) (k top p m : ℕ) (y : hb_glyph_info_t) (old new : Runs)
+    (gs : List hb_glyph_info_t) → merges level ≡ true → top < p → old.start < p → p ≤ length gs → y.cluster ≢ old.before
+    → new.start ≡ old.start → new.before ≡ old.before → none_below old.before (staying k top gs old.start p) ≡ true
+    → Fronted level k top p m y (staying k top gs 0 old.start ++ put level old.before (staying k top gs old.start p))
+    new gs
 fronted_spares level k top p m y old new gs on h within w other start before kept =
     let c = old.before in
     let q = old.start in
     let R = staying k top gs old.start p in
-    let some : 0 < length (map (in_cluster c) R) = omega (arith, length-map R (in_cluster c), stays_some k top p q gs h within w) in
-    let same : staying k top gs 0 q ++ put level c R ≡ staying k top gs 0 new.start ++ put level new.before (staying k top gs new.start p) = sym (ap (λ n. staying k top gs 0 n ++ put level new.before (staying k top gs n p)) start ∙ ap (λ n. staying k top gs 0 q ++ put level n R) before) in
+    let some : 0 < length (map (in_cluster c) R) =
+    omega (arith, length-map R (in_cluster c), stays_some k top p q gs h within w) in
+    let same : staying k top gs 0 q ++ put level c R ≡ staying k top gs 0 new.start
+    ++ put level new.before (staying k top gs new.start p) =
+    sym (ap (λ n. staying k top gs 0 n ++ put level new.before (staying k top gs n p)) start
+    ∙ ap (λ n. staying k top gs 0 q ++ put level n R) before) in
     let on_it = put_on level c R on in
     record {
       is =
           ap (λ xs. reverse (flooded y.cluster m (reverse (staying k top gs 0 q ++ xs)))) on_it
-          ∙ ap reverse (back_none y.cluster c m (staying k top gs 0 q) (map (in_cluster c) R) other some (all_in_cluster c R))
+          ∙ ap reverse (back_none y.cluster c m (staying k top gs 0 q) (map (in_cluster c) R) other some
+          (all_in_cluster c R))
           ∙ reverse-reverse (staying k top gs 0 q ++ map (in_cluster c) R)
           ∙ ap (λ xs. staying k top gs 0 q ++ xs) (sym on_it)
           ∙ same;
@@ -158,34 +198,50 @@ fronted_spares level k top p m y old new gs on h within w other start before kep
     }
 
 -- what it makes of the matra and what follows it
-behind_is : (level : BufferClusterLevel) (p b e n m l : ℕ) (y g : hb_glyph_info_t) (go gs : List hb_glyph_info_t) → p ≤ b → b ≤ e → l ≤ m → in_cluster l y ≡ in_cluster l g → none_below m (go ++ stretch_of p e gs) ≡ true → n ≡ prefix_len (has_cluster m) (drop e gs) → map (in_cluster l) (y ∷ map (in_cluster m) (go ++ stretch_of p b gs)) ++ flooded m l (map (in_cluster m) (stretch_of b e gs) ++ drop e gs) ≡ map (in_cluster l) ((g ∷ go) ++ stretch_of p (e + n) gs) ++ drop (e + n) gs
+behind_is : (level : BufferClusterLevel) (p b e n m l : ℕ) (y g : hb_glyph_info_t) (go gs : List hb_glyph_info_t)
+    → p ≤ b → b ≤ e → l ≤ m → in_cluster l y ≡ in_cluster l g → none_below m (go ++ stretch_of p e gs) ≡ true
+    → n ≡ prefix_len (has_cluster m) (drop e gs) → map (in_cluster l) (y ∷ map (in_cluster m) (go ++ stretch_of p b gs))
+    ++ flooded m l (map (in_cluster m) (stretch_of b e gs) ++ drop e gs)
+    ≡ map (in_cluster l) ((g ∷ go) ++ stretch_of p (e + n) gs) ++ drop (e + n) gs
 behind_is level p b e n m l y g go gs h to low same none is =
     let A = go ++ stretch_of p b gs in
     let B = stretch_of b e gs in
     let f : List hb_glyph_info_t → List hb_glyph_info_t = map (in_cluster l) in
     let D = take n (drop e gs) in
     let E = drop n (drop e gs) in
-    let ab : go ++ stretch_of p e gs ≡ A ++ B = ap (λ xs. go ++ xs) (stretch_in_two p b e gs h to) ∙ sym (append_assoc go (stretch_of p b gs) B) in
+    let ab : go ++ stretch_of p e gs ≡ A ++ B = ap (λ xs. go ++ xs) (stretch_in_two p b e gs h to)
+    ∙ sym (append_assoc go (stretch_of p b gs) B) in
     let parts = none-parts m A B (sym (ap (none_below m) ab) ∙ none) in
-    let flood : flooded m l (map (in_cluster m) B ++ drop e gs) ≡ map (in_cluster l) (map (in_cluster m) B) ++ (map (in_cluster l) D ++ E) =
+    let flood : flooded m l (map (in_cluster m) B ++ drop e gs) ≡ map (in_cluster l) (map (in_cluster m) B)
+    ++ (map (in_cluster l) D ++ E) =
     flooded_all m l (map (in_cluster m) B) (drop e gs) (all_in_cluster m B)
-    ∙ ap (λ xs. map (in_cluster l) (map (in_cluster m) B) ++ xs) (flooded-parts m l (drop e gs) ∙ ap (λ k. map (in_cluster l) (take k (drop e gs)) ++ drop k (drop e gs)) (sym is)) in
+    ∙ ap (λ xs. map (in_cluster l) (map (in_cluster m) B) ++ xs) (flooded-parts m l (drop e gs)
+    ∙ ap (λ k. map (in_cluster l) (take k (drop e gs)) ++ drop k (drop e gs)) (sym is)) in
     let many : e + n - e ≡ n = omega arith in
-    let long : stretch_of p (e + n) gs ≡ stretch_of p e gs ++ D = stretch_in_two p e (e + n) gs (omega arith) (omega arith) ∙ ap (λ k. stretch_of p e gs ++ take k (drop e gs)) many in
-    let whole : (g ∷ go) ++ stretch_of p (e + n) gs ≡ g ∷ (A ++ (B ++ D)) = ap (λ xs. g ∷ (go ++ xs)) long ∙ ap (λ xs. g ∷ xs) (sym (append_assoc go (stretch_of p e gs) D) ∙ ap (λ xs. xs ++ D) ab ∙ append_assoc A B D) in
+    let long : stretch_of p (e + n) gs ≡ stretch_of p e gs ++ D =
+    stretch_in_two p e (e + n) gs (omega arith) (omega arith)
+    ∙ ap (λ k. stretch_of p e gs ++ take k (drop e gs)) many in
+    let whole : (g ∷ go) ++ stretch_of p (e + n) gs ≡ g ∷ (A ++ (B ++ D)) = ap (λ xs. g ∷ (go ++ xs)) long
+    ∙ ap (λ xs. g ∷ xs) (sym (append_assoc go (stretch_of p e gs) D) ∙ ap (λ xs. xs ++ D) ab
+    ∙ append_assoc A B D) in
     ap (λ xs. f (y ∷ map (in_cluster m) A) ++ xs) flood
     ∙ ap (λ x. (x ∷ f (map (in_cluster m) A)) ++ (f (map (in_cluster m) B) ++ (f D ++ E))) same
     ∙ ap (λ xs. (in_cluster l g ∷ xs) ++ (f (map (in_cluster m) B) ++ (f D ++ E))) (puts_twice l m A low parts.0)
     ∙ ap (λ xs. (in_cluster l g ∷ f A) ++ (xs ++ (f D ++ E))) (puts_twice l m B low parts.1)
     ∙ ap (λ xs. (in_cluster l g ∷ f A) ++ xs) (sym (append_assoc (f B) (f D) E))
     ∙ sym (append_assoc (in_cluster l g ∷ f A) (f B ++ f D) E)
-    ∙ ap (λ xs. (in_cluster l g ∷ xs) ++ E) (ap (λ xs. f A ++ xs) (sym (map-append (in_cluster l) B D)) ∙ sym (map-append (in_cluster l) A (B ++ D)))
+    ∙ ap (λ xs. (in_cluster l g ∷ xs) ++ E) (ap (λ xs. f A ++ xs) (sym (map-append (in_cluster l) B D))
+    ∙ sym (map-append (in_cluster l) A (B ++ D)))
     ∙ ap (λ xs. f xs ++ E) (sym whole)
     ∙ ap (λ xs. f ((g ∷ go) ++ stretch_of p (e + n) gs) ++ xs) (drop-drop n e gs)
 
 -- One more: the matra at place k goes to `at`, and merges up to b.
-pub one_more : (level : BufferClusterLevel) (k top p b at : ℕ) (old new : Runs) (gs : List hb_glyph_info_t) → k < top → top < p → p < b → Lies p b old gs → passes is_left gs k ≡ true → Merged k top old new gs → at + 1 + length (gone (k + 1) top gs 0 p) ≡ p → (merges level ≡ true → Fits (k + 1) top p old gs) → Lies p b new gs
-    → (merge level at b (with_stretch k (at + 1) first_last (as_parted level (k + 1) top p old gs)) ≡ as_parted level k top p new gs) × (merges level ≡ true → Fits k top p new gs)
+pub one_more : (level : BufferClusterLevel) (k top p b at : ℕ) (old new : Runs) (gs : List hb_glyph_info_t) → k < top
+    → top < p → p < b → Lies p b old gs → passes is_left gs k ≡ true → Merged k top old new gs
+    → at + 1 + length (gone (k + 1) top gs 0 p) ≡ p → (merges level ≡ true → Fits (k + 1) top p old gs)
+    → Lies p b new gs
+    → (merge level at b (with_stretch k (at + 1) first_last (as_parted level (k + 1) top p old gs))
+    ≡ as_parted level k top p new gs) × (merges level ≡ true → Fits k top p new gs)
 one_more level k top p b at old new gs h behind before lies left r count fits lies_new =
     let q = old.start in
     let c = old.before in
@@ -203,18 +259,23 @@ one_more level k top p b at old new gs h behind before lies left r count fits li
     let more : gone k top gs 0 p ≡ g ∷ G = gone_more k top p gs h (omega arith) (omega arith) left in
     let to : at ≡ k + length sp.back = omega (arith, sp.long, sum, front_long, count) in
     let C = put level m Z ++ drop e gs in
-    let moved : with_stretch k (at + 1) first_last (as_parted level (k + 1) top p old gs) ≡ (sp.front ++ sp.back) ++ (sp.y ∷ (put level m Z ++ drop e gs)) =
-    ap (λ xs. with_stretch k (at + 1) first_last (xs ++ C)) sp.before ∙ rotated k at sp.front sp.back C sp.y sp.long to in
+    let moved : with_stretch k (at + 1) first_last (as_parted level (k + 1) top p old gs) ≡ (sp.front ++ sp.back)
+    ++ (sp.y ∷ (put level m Z ++ drop e gs)) =
+    ap (λ xs. with_stretch k (at + 1) first_last (xs ++ C)) sp.before
+    ∙ rotated k at sp.front sp.back C sp.y sp.long to in
     elim (cases_Bool (merges level)) [
       | inr off ↦
-          let same : with_stretch k (at + 1) first_last (as_parted level (k + 1) top p old gs) ≡ as_parted level k top p old gs =
+          let same : with_stretch k (at + 1) first_last (as_parted level (k + 1) top p old gs)
+          ≡ as_parted level k top p old gs =
           moved
           ∙ ap (λ xs. xs ++ (sp.y ∷ C)) (sym sp.after)
           ∙ ap (λ xs. (staying k top gs 0 q ++ put level c (staying k top gs q p)) ++ xs)
           (ap (λ x. x ∷ C) (sp.plain off) ∙ ap (λ xs. g ∷ (xs ++ drop e gs)) (put_off level m Z off)
-          ∙ sym (ap (λ xs. xs ++ drop e gs) (put_off level m (gone k top gs 0 p ++ stretch_of p e gs) off ∙ ap (λ xs. xs ++ stretch_of p e gs) more))) in (
+          ∙ sym (ap (λ xs. xs ++ drop e gs) (put_off level m (gone k top gs 0 p ++ stretch_of p e gs) off
+          ∙ ap (λ xs. xs ++ stretch_of p e gs) more))) in (
             merge_off level at b (with_stretch k (at + 1) first_last (as_parted level (k + 1) top p old gs)) off
-                ∙ same ∙ parted_off level k top p b old gs (omega arith) lies off ∙ sym (parted_off level k top p b new gs (omega arith) lies_new off),
+                ∙ same ∙ parted_off level k top p b old gs (omega arith) lies off
+                ∙ sym (parted_off level k top p b new gs (omega arith) lies_new off),
             λ on. absurd (false≢true (sym off ∙ on)),
           )
       | inl on ↦
@@ -227,52 +288,76 @@ one_more level k top p b at old new gs h behind before lies left r count fits li
           let zs = map (in_cluster m) (G ++ stretch_of p b gs) in
           let behind_zs = map (in_cluster m) B ++ drop e gs in
           let c_is : put level m Z ++ drop e gs ≡ zs ++ behind_zs =
-          ap (λ xs. xs ++ drop e gs) (put_on level m Z on ∙ ap (λ xs. map (in_cluster m) (G ++ xs)) (stretch_in_two p b e gs (omega arith) f0) ∙ ap (map (in_cluster m)) (sym (append_assoc G (stretch_of p b gs) B)) ∙ map-append (in_cluster m) A B)
+          ap (λ xs. xs ++ drop e gs) (put_on level m Z on
+          ∙ ap (λ xs. map (in_cluster m) (G ++ xs)) (stretch_in_two p b e gs (omega arith) f0)
+          ∙ ap (map (in_cluster m)) (sym (append_assoc G (stretch_of p b gs) B)) ∙ map-append (in_cluster m) A B)
           ∙ append_assoc zs (map (in_cluster m) B) (drop e gs) in
-          let zs_long : length zs ≡ length G + (b - p) = length-map A (in_cluster m) ∙ length-append G (stretch_of p b gs) ∙ ap (λ n. length G + n) (length-stretch p b gs (omega arith)) in
+          let zs_long : length zs ≡ length G + (b - p) = length-map A (in_cluster m)
+          ∙ length-append G (stretch_of p b gs)
+          ∙ ap (λ n. length G + n) (length-stretch p b gs (omega arith)) in
           let some : 0 < length zs = omega arith in
           let end : b ≡ at + 1 + length zs = omega (arith, count) in
           let fl : length (sp.front ++ sp.back) ≡ at = length-append sp.front sp.back ∙ omega (arith, sp.long, to) in
-          let merged_it = merged_before at b m (sp.front ++ sp.back) sp.y zs behind_zs fl end some (all_in_cluster m A) in
-          let fr : Fronted level k top p (min sp.y.cluster m) sp.y (staying k top gs 0 old.start ++ put level old.before (staying k top gs old.start p)) new gs = elim (cases_eq sp.y.cluster c) [
+          let merged_it =
+          merged_before at b m (sp.front ++ sp.back) sp.y zs behind_zs fl end some (all_in_cluster m A) in
+          let fr : Fronted level k top p (min sp.y.cluster m) sp.y
+          (staying k top gs 0 old.start ++ put level old.before (staying k top gs old.start p)) new gs =
+          elim (cases_eq sp.y.cluster c) [
             | inl same ↦
                 let fl2 = r.floods (sym own ∙ same) in
-                fronted_floods level k top p (min sp.y.cluster m) sp.y old new gs on (omega arith) same (omega arith) fl2.0 (fl2.1 ∙ new_is) (sp.kept on)
+                fronted_floods level k top p (min sp.y.cluster m) sp.y old new gs on (omega arith) same (omega arith)
+                fl2.0 (fl2.1 ∙ new_is) (sp.kept on)
             | inr other ↦
                 let st = r.spares (λ e2. other (own ∙ e2)) in
-                fronted_spares level k top p (min sp.y.cluster m) sp.y old new gs on behind s0 (omega arith) other st.0 st.1 (sp.kept on)
+                fronted_spares level k top p (min sp.y.cluster m) sp.y old new gs on behind s0 (omega arith) other st.0
+                st.1 (sp.kept on)
           ] in
           let n = prefix_len (has_cluster m) (drop e gs) in
-          let bh = behind_is level p b e n m l sp.y g G gs (omega arith) f0 (omega arith) (sp.same on l (omega arith)) ft.least refl in
-          let whole : map (in_cluster l) ((g ∷ G) ++ stretch_of p (e + n) gs) ++ drop (e + n) gs ≡ put level new.cluster (gone k top gs 0 p ++ stretch_of p new.end gs) ++ drop new.end gs =
+          let bh = behind_is level p b e n m l sp.y g G gs (omega arith) f0 (omega arith) (sp.same on l (omega arith))
+          ft.least refl in
+          let whole : map (in_cluster l) ((g ∷ G) ++ stretch_of p (e + n) gs) ++ drop (e + n) gs
+          ≡ put level new.cluster (gone k top gs 0 p ++ stretch_of p new.end gs) ++ drop new.end gs =
           ap (λ k2. map (in_cluster l) ((g ∷ G) ++ stretch_of p k2 gs) ++ drop k2 gs) (sym r.end)
           ∙ ap (λ xs. map (in_cluster l) (xs ++ stretch_of p new.end gs) ++ drop new.end gs) (sym more)
-          ∙ ap (λ xs. xs ++ drop new.end gs) (ap (λ k2. map (in_cluster k2) (gone k top gs 0 p ++ stretch_of p new.end gs)) (sym new_is) ∙ sym (put_on level new.cluster (gone k top gs 0 p ++ stretch_of p new.end gs) on)) in
+          ∙ ap (λ xs. xs ++ drop new.end gs)
+          (ap (λ k2. map (in_cluster k2) (gone k top gs 0 p ++ stretch_of p new.end gs)) (sym new_is)
+          ∙ sym (put_on level new.cluster (gone k top gs 0 p ++ stretch_of p new.end gs) on)) in
           let F = reverse (flooded sp.y.cluster l (reverse (sp.front ++ sp.back))) in (
             ap (merge level at b) (moved ∙ ap (λ xs. (sp.front ++ sp.back) ++ (sp.y ∷ xs)) c_is)
                 ∙ merge_on level at b ((sp.front ++ sp.back) ++ (sp.y ∷ (zs ++ behind_zs))) on (omega arith)
                 ∙ merged_it
                 ∙ ap (λ xs. F ++ xs) (bh ∙ whole)
-                ∙ ap (λ xs. reverse (flooded sp.y.cluster l (reverse xs)) ++ (put level new.cluster (gone k top gs 0 p ++ stretch_of p new.end gs) ++ drop new.end gs)) (sym sp.after)
-                ∙ ap (λ xs. xs ++ (put level new.cluster (gone k top gs 0 p ++ stretch_of p new.end gs) ++ drop new.end gs)) fr.is,
+                ∙ ap (λ xs. reverse (flooded sp.y.cluster l (reverse xs))
+                ++ (put level new.cluster (gone k top gs 0 p ++ stretch_of p new.end gs) ++ drop new.end gs))
+                (sym sp.after)
+                ∙ ap (λ xs. xs
+                ++ (put level new.cluster (gone k top gs 0 p ++ stretch_of p new.end gs) ++ drop new.end gs)) fr.is,
             λ on2. record {
               before = fr.none;
               least =
                   let low : l ≤ m = omega arith in
-                  let one : nat_le (min sp.y.cluster m) g.cluster ≡ true = le-leb (min sp.y.cluster m) g.cluster (omega (arith, sp.above on)) in
+                  let one : nat_le (min sp.y.cluster m) g.cluster ≡ true =
+                  le-leb (min sp.y.cluster m) g.cluster (omega (arith, sp.above on)) in
                   let many : e + n - e ≡ n = omega arith in
-                  let long : stretch_of p (e + n) gs ≡ stretch_of p e gs ++ take n (drop e gs) = stretch_in_two p e (e + n) gs (omega arith) (omega arith) ∙ ap (λ k2. stretch_of p e gs ++ take k2 (drop e gs)) many in
-                  let rest : none_below (min sp.y.cluster m) (Z ++ take n (drop e gs)) ≡ true = none-append (min sp.y.cluster m) Z (take n (drop e gs)) (none_lower l m Z low ft.least) (none_of_cluster l m (take n (drop e gs)) low (first_run_passes (has_cluster m) (drop e gs))) in
+                  let long : stretch_of p (e + n) gs ≡ stretch_of p e gs ++ take n (drop e gs) =
+                  stretch_in_two p e (e + n) gs (omega arith) (omega arith)
+                  ∙ ap (λ k2. stretch_of p e gs ++ take k2 (drop e gs)) many in
+                  let rest : none_below (min sp.y.cluster m) (Z ++ take n (drop e gs)) ≡ true =
+                  none-append (min sp.y.cluster m) Z (take n (drop e gs)) (none_lower l m Z low ft.least)
+                  (none_of_cluster l m (take n (drop e gs)) low
+                  (first_run_passes (has_cluster m) (drop e gs))) in
                   ap (λ k2. none_below k2 (gone k top gs 0 p ++ stretch_of p new.end gs)) new_is
                   ∙ ap (λ xs. none_below l (xs ++ stretch_of p new.end gs)) more
                   ∙ ap (λ k2. none_below l (g ∷ (G ++ stretch_of p k2 gs))) r.end
-                  ∙ ap (λ xs. none_below l (g ∷ xs)) (ap (λ xs. G ++ xs) long ∙ sym (append_assoc G (stretch_of p e gs) (take n (drop e gs))))
+                  ∙ ap (λ xs. none_below l (g ∷ xs)) (ap (λ xs. G ++ xs) long
+                  ∙ sym (append_assoc G (stretch_of p e gs) (take n (drop e gs))))
                   ∙ rw (one, rest) refl;
             },
           )
     ]
 
-pub lies_on : (k top p b : ℕ) (old new : Runs) (gs : List hb_glyph_info_t) → Merged k top old new gs → new.end ≤ length gs → Lies p b old gs → Lies p b new gs
+pub lies_on : (k top p b : ℕ) (old new : Runs) (gs : List hb_glyph_info_t) → Merged k top old new gs
+    → new.end ≤ length gs → Lies p b old gs → Lies p b new gs
 lies_on k top p b old new gs r within lies = record {
   start = elim (cases_eq (own_cluster k old gs) old.before) [
     | inl same ↦ omega (arith, (r.floods same).0.within, lies.start)

@@ -42,10 +42,11 @@ in_filter test (y ∷ ys) x t i = elim i [
 
 filter_in : (test : ℕ → Bool) (xs : List ℕ) (x : ℕ) → In x (filter test xs) → In x xs
 filter_in test [] x i = i
-filter_in test (y ∷ ys) x i = elim (test y) as (λ b. In x (cond b (y ∷ filter test ys) (filter test ys)) → (x ≡ y) ⊎ In x ys) [
-  | true ↦ λ j. elim j [ inl e ↦ inl e | inr k ↦ inr (filter_in test ys x k) ]
-  | false ↦ λ j. inr (filter_in test ys x j)
-] i
+filter_in test (y ∷ ys) x i =
+    elim (test y) as (λ b. In x (cond b (y ∷ filter test ys) (filter test ys)) → (x ≡ y) ⊎ In x ys) [
+      | true ↦ λ j. elim j [ inl e ↦ inl e | inr k ↦ inr (filter_in test ys x k) ]
+      | false ↦ λ j. inr (filter_in test ys x j)
+    ] i
 
 -- which stretches hold two neighbours
 holds : (st : ℕ × ℕ) (r : ℕ) → st.0 < r → r < st.1 → (nat_lt st.0 r && nat_lt r st.1) ≡ true
@@ -61,7 +62,8 @@ holds_both s e r h = record { low = grind (arith, nat_tests); high = grind (arit
 held_by : (f : ℕ → ℕ × ℕ) (xs : List ℕ) (x r : ℕ) → In x xs → Holds (f x) r → held (map f xs) r ≡ true
 held_by f [] x r i h = absurd i
 held_by f (y ∷ ys) x r i h = elim i [
-  | inl e ↦ (let k : Holds (f y) r = subst (λ z. Holds (f z) r) e h in ap (λ b. b || held (map f ys) r) (holds (f y) r k.low k.high))
+  | inl e ↦ (let k : Holds (f y) r = subst (λ z. Holds (f z) r) e h in ap (λ b. b || held (map f ys) r)
+      (holds (f y) r k.low k.high))
   | inr j ↦ elim (nat_lt (f y).0 r && nat_lt r (f y).1) as (λ b. (b || held (map f ys) r) ≡ true) [
     | true ↦ refl
     | false ↦ held_by f ys x r j h
@@ -119,10 +121,12 @@ greatest_reached m (y ∷ ys) = elim (greatest_reached (max m y) ys) [
 ]
 
 -- a cycle holds the cycles of its places
-cycle_holds : (f : List ℕ) (p z y : ℕ) → p < length f → EachOnce f → In z (cycle f p) → In y (cycle f z) → In y (cycle f p)
+cycle_holds : (f : List ℕ) (p z y : ℕ) → p < length f → EachOnce f → In z (cycle f p) → In y (cycle f z)
+    → In y (cycle f p)
 cycle_holds f p z y h o i j = elim j [
   | inl e ↦ subst (λ w. In w (cycle f p)) (sym e) i
-  | inr k ↦ way_keeps (λ w. In w (cycle f p)) f z (length f) (get_or f z 0) y (λ w a _. cycle_closed f p w h o a) (cycle_closed f p z h o i) k
+  | inr k ↦ way_keeps (λ w. In w (cycle f p)) f z (length f) (get_or f z 0) y (λ w a _. cycle_closed f p w h o a)
+      (cycle_closed f p z h o i) k
 ]
 
 -- the place that leads a cycle with a place from the base on
@@ -139,7 +143,13 @@ record LeastIn (xs : List ℕ) (a : ℕ) : Type 0 where
   pub least : (x : ℕ) → a ≤ x → x < place → In x xs → ⊥
 
 least_in : (xs : List ℕ) (a k p : ℕ) → a + k ≡ p → In p xs → LeastIn xs a
-least_in xs a zero p e i = record { place = a; low = omega arith; among = subst (λ z. In z xs) (omega arith) i; least = λ x l m _. omega arith }
+least_in xs a zero p e i =
+    record {
+      place = a;
+      low = omega arith;
+      among = subst (λ z. In z xs) (omega arith) i;
+      least = λ x l m _. omega arith;
+    }
 least_in xs a (suc k) p e i = elim (in_or_not a xs) [
   | inl j ↦ record { place = a; low = omega arith; among = j; least = λ x l m _. omega arith }
   | inr n ↦
@@ -169,15 +179,17 @@ leader f base p b h o =
     record {
       place = l;
       among = in_range base (length f - base) l found.low (omega arith);
-      leads = all_true (λ q. nat_lt q base || nat_le l q) (cycle f l) (λ q i. before_or_from base l q (λ k. elim (cases_lt q l) [
-        | inl m ↦ absurd (found.least q k m (cycle_holds f p l q h o found.among i))
-        | inr m ↦ m
-      ]));
+      leads = all_true (λ q. nat_lt q base || nat_le l q) (cycle f l)
+          (λ q i. before_or_from base l q (λ k. elim (cases_lt q l) [
+            | inl m ↦ absurd (found.least q k m (cycle_holds f p l q h o found.among i))
+            | inr m ↦ m
+          ]));
       has = cycle_back f p l h o found.among;
     }
 
 -- a way lies within what its cycle merges
-way_in_cycle : (f : List ℕ) (base p r : ℕ) → base ≤ p → p < length f → EachOnce f → Holds (way_of f base p) r → held (cycle_stretches f base) r ≡ true
+way_in_cycle : (f : List ℕ) (base p r : ℕ) → base ≤ p → p < length f → EachOnce f → Holds (way_of f base p) r
+    → held (cycle_stretches f base) r ≡ true
 way_in_cycle f base p r b h o w =
     let found = leader f base p b h o in
     let l = found.place in
@@ -185,7 +197,8 @@ way_in_cycle f base p r b h o w =
     let n = range_in base (length f - base) l found.among in
     let inside : l < length f = omega (arith, n.low, n.high) in
     let next = cycle_closed f l p inside o found.has in
-    held_by (cycle_stretch f base) (filter (leads_cycle f base) (places base (length f))) l r (in_filter (leads_cycle f base) (places base (length f)) l found.leads found.among)
+    held_by (cycle_stretch f base) (filter (leads_cycle f base) (places base (length f))) l r
+    (in_filter (leads_cycle f base) (places base (length f)) l found.leads found.among)
     (record {
       low = omega (arith, w.low, least_bound l c p found.has, least_bound l c (get_or f p 0) next);
       high = omega (arith, w.high, greatest_bound l c p found.has, greatest_bound l c (get_or f p 0) next);
@@ -211,7 +224,8 @@ crosses_or_not f (y ∷ ys) r = elim (crosses_or_not f ys r) [
   ]
 ]
 
-stays_above : (f : List ℕ) (p z w r : ℕ) → p < length f → EachOnce f → ((x : ℕ) → In x (cycle f p) → r ≤ x → r ≤ get_or f x 0) → In z (cycle f p) → r ≤ z → In w (cycle f p) → r ≤ w
+stays_above : (f : List ℕ) (p z w r : ℕ) → p < length f → EachOnce f
+    → ((x : ℕ) → In x (cycle f p) → r ≤ x → r ≤ get_or f x 0) → In z (cycle f p) → r ≤ z → In w (cycle f p) → r ≤ w
 stays_above f p z w r h o none i k j =
     let inside = cycle_within f p z h o i in
     let A : ℕ → Type 0 = λ y. In y (cycle f p) × (r ≤ y) in
@@ -222,7 +236,8 @@ stays_above f p z w r h o none i k j =
       | inr m ↦ (way_keeps A f z (length f) (get_or f z 0) w next (cycle_closed f p z h o i, none z i k) m).1
     ]
 
-cycle_in_ways : (f : List ℕ) (base l r : ℕ) → l < length f → EachOnce f → Holds (cycle_stretch f base l) r → held (all_ways f base) r ≡ true
+cycle_in_ways : (f : List ℕ) (base l r : ℕ) → l < length f → EachOnce f → Holds (cycle_stretch f base l) r
+    → held (all_ways f base) r ≡ true
 cycle_in_ways f base l r h o w =
     let c = cycle f l in
     let low = w.low in
@@ -230,7 +245,8 @@ cycle_in_ways f base l r h o w =
     elim (crosses_or_not f c r) [
       | inl x ↦ (
           let inside = cycle_within f l x.place h o x.among in
-          held_by (way_of f base) (places base (length f)) x.place r (in_range base (length f - base) x.place (omega (arith, x.from_r)) (omega (arith, x.from_r)))
+          held_by (way_of f base) (places base (length f)) x.place r
+          (in_range base (length f - base) x.place (omega (arith, x.from_r)) (omega (arith, x.from_r)))
           (record { low = omega (arith, x.from_r, x.next_below); high = omega (arith, x.from_r) }))
       | inr none ↦
           let top : In (fold max l c) c = elim (greatest_reached l c) [ inl e ↦ inl e | inr i ↦ i ] in
@@ -247,7 +263,8 @@ pub held_by_ways : (f : List ℕ) (base r : ℕ) → EachOnce f → held (cycle_
 held_by_ways f base r o = same_bool (held (cycle_stretches f base) r) (held (all_ways f base) r)
     (λ t.
     let x = by_held (cycle_stretch f base) (filter (leads_cycle f base) (places base (length f))) r t in
-    let n = range_in base (length f - base) x.place (filter_in (leads_cycle f base) (places base (length f)) x.place x.among) in
+    let n = range_in base (length f - base) x.place
+    (filter_in (leads_cycle f base) (places base (length f)) x.place x.among) in
     cycle_in_ways f base x.place r (omega (arith, n.low, n.high)) o x.holds_it)
     (λ t.
     let x = by_held (way_of f base) (places base (length f)) r t in

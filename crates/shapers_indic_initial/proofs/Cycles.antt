@@ -28,7 +28,8 @@ in_or_not x (y ∷ ys) = elim (cases_eq x y) [
 -- a test that all of some numbers pass, and their least and greatest with another
 pub all_true : (test : ℕ → Bool) (xs : List ℕ) → ((x : ℕ) → In x xs → test x ≡ true) → list_all test xs ≡ true
 all_true test [] each = refl
-all_true test (y ∷ ys) each = ap (λ b. b && list_all test ys) (each y (inl refl)) ∙ all_true test ys (λ x i. each x (inr i))
+all_true test (y ∷ ys) each = ap (λ b. b && list_all test ys) (each y (inl refl))
+    ∙ all_true test ys (λ x i. each x (inr i))
 
 pub fold_min-le : (x : ℕ) (xs : List ℕ) → fold min x xs ≤ x
 fold_min-le x [] = omega arith
@@ -57,15 +58,18 @@ turned_within n p q i h k l = grind (arith, nat_tests)
 turned_once : (p q i j : ℕ) → turned p q i ≡ turned p q j → i ≡ j
 turned_once p q i j e = grind (arith, nat_tests)
 
-pub swap_at : (xs : List ℕ) (p q i : ℕ) → p < length xs → q < length xs → get_or (swap xs p q) i 0 ≡ get_or xs (turned p q i) 0
+pub swap_at : (xs : List ℕ) (p q i : ℕ) → p < length xs → q < length xs
+    → get_or (swap xs p q) i 0 ≡ get_or xs (turned p q i) 0
 swap_at xs p q i h k =
     let a = get_or xs q 0 in
     let b = get_or xs p 0 in
     let long : q < length (set xs p a) = omega (arith, length-set xs p a) in
     ap (λ ys. get_or ys i 0) (sym (swap_is xs p q 0 h k)) ∙ elim (cases_eq i q) [
-      | inl e ↦ ap (λ m. get_or (set (set xs p a) q b) m 0) e ∙ get_or-set_same (set xs p a) q b 0 long ∙ sym (ap (λ m. get_or xs m 0) (turned_second p q i e))
+      | inl e ↦ ap (λ m. get_or (set (set xs p a) q b) m 0) e ∙ get_or-set_same (set xs p a) q b 0 long
+          ∙ sym (ap (λ m. get_or xs m 0) (turned_second p q i e))
       | inr n ↦ get_or-set_other (set xs p a) q i b 0 n ∙ elim (cases_eq i p) [
-        | inl e ↦ ap (λ m. get_or (set xs p a) m 0) e ∙ get_or-set_same xs p a 0 h ∙ sym (ap (λ m. get_or xs m 0) (turned_first p q i n e))
+        | inl e ↦ ap (λ m. get_or (set xs p a) m 0) e ∙ get_or-set_same xs p a 0 h
+            ∙ sym (ap (λ m. get_or xs m 0) (turned_first p q i n e))
         | inr m ↦ get_or-set_other xs p i a 0 m ∙ sym (ap (λ m. get_or xs m 0) (turned_other p q i n m))
       ]
     ]
@@ -74,32 +78,40 @@ pub once-swap : (f : List ℕ) (p q : ℕ) → p < length f → q < length f →
 once-swap f p q h k o =
     let n = length-swap f p q in
     record {
-      within = λ i l. (let t : turned p q i < length f = turned_within (length f) p q i h k (omega (arith, n)) in omega (arith, n, swap_at f p q i h k, o.within (turned p q i) t));
+      within = λ i l. (let t : turned p q i < length f = turned_within (length f) p q i h k (omega (arith, n)) in omega
+          (arith, n, swap_at f p q i h k, o.within (turned p q i) t));
       once = λ i j l m e. (
           let t : turned p q i < length f = turned_within (length f) p q i h k (omega (arith, n)) in
           let u : turned p q j < length f = turned_within (length f) p q j h k (omega (arith, n)) in
-          turned_once p q i j (o.once (turned p q i) (turned p q j) t u (sym (swap_at f p q i h k) ∙ e ∙ swap_at f p q j h k)));
+          turned_once p q i j
+          (o.once (turned p q i) (turned p q j) t u (sym (swap_at f p q i h k) ∙ e ∙ swap_at f p q j h k)));
     }
 
 -- the way to p, place by place
 pub way_at : (f : List ℕ) (p m q : ℕ) → q ≡ p → way_to f p m q ≡ []
 way_at f p zero q e = refl
-way_at f p (suc m) q e = let t : (q == p) ≡ true = grind (arith, nat_tests) in ap (λ b. if b then [] else q ∷ way_to f p m (get_or f q 0)) t
+way_at f p (suc m) q e = let t : (q == p) ≡ true =
+    grind (arith, nat_tests) in ap (λ b. if b then [] else q ∷ way_to f p m (get_or f q 0)) t
 
 pub way_next : (f : List ℕ) (p m q : ℕ) → q ≢ p → way_to f p (suc m) q ≡ q ∷ way_to f p m (get_or f q 0)
-way_next f p m q n = let t : (q == p) ≡ false = grind (arith, nat_tests) in ap (λ b. if b then [] else q ∷ way_to f p m (get_or f q 0)) t
+way_next f p m q n = let t : (q == p) ≡ false =
+    grind (arith, nat_tests) in ap (λ b. if b then [] else q ∷ way_to f p m (get_or f q 0)) t
 
 -- two lists that agree on a set of places that the way keeps to
-pub way_agrees : (A : ℕ → Type 0) (f g : List ℕ) (p m x : ℕ) → ((y : ℕ) → A y → y ≢ p → (get_or f y 0 ≡ get_or g y 0) × A (get_or f y 0)) → A x → way_to f p m x ≡ way_to g p m x
+pub way_agrees : (A : ℕ → Type 0) (f g : List ℕ) (p m x : ℕ)
+    → ((y : ℕ) → A y → y ≢ p → (get_or f y 0 ≡ get_or g y 0) × A (get_or f y 0)) → A x → way_to f p m x ≡ way_to g p m x
 way_agrees A f g p zero x step a = refl
 way_agrees A f g p (suc m) x step a = elim (cases_eq x p) [
   | inl e ↦ way_at f p (suc m) x e ∙ sym (way_at g p (suc m) x e)
   | inr n ↦
       let both = step x a n in
-      way_next f p m x n ∙ ap (λ ys. x ∷ ys) (way_agrees A f g p m (get_or f x 0) step both.1 ∙ ap (way_to g p m) both.0) ∙ sym (way_next g p m x n)
+      way_next f p m x n
+      ∙ ap (λ ys. x ∷ ys) (way_agrees A f g p m (get_or f x 0) step both.1 ∙ ap (way_to g p m) both.0)
+      ∙ sym (way_next g p m x n)
 ]
 
-pub way_keeps : (A : ℕ → Type 0) (f : List ℕ) (p m x y : ℕ) → ((z : ℕ) → A z → z ≢ p → A (get_or f z 0)) → A x → In y (way_to f p m x) → A y
+pub way_keeps : (A : ℕ → Type 0) (f : List ℕ) (p m x y : ℕ) → ((z : ℕ) → A z → z ≢ p → A (get_or f z 0)) → A x
+    → In y (way_to f p m x) → A y
 way_keeps A f p zero x y step a i = absurd i
 way_keeps A f p (suc m) x y step a i = elim (cases_eq x p) [
   | inl e ↦ absurd (subst (In y) (way_at f p (suc m) x e) i)
@@ -126,10 +138,12 @@ ends_at f p (suc m) q = if q == p then p else ends_at f p m (get_or f q 0)
 
 ends_there : (f : List ℕ) (p m q : ℕ) → q ≡ p → ends_at f p m q ≡ p
 ends_there f p zero q e = e
-ends_there f p (suc m) q e = let t : (q == p) ≡ true = grind (arith, nat_tests) in ap (λ b. if b then p else ends_at f p m (get_or f q 0)) t
+ends_there f p (suc m) q e = let t : (q == p) ≡ true =
+    grind (arith, nat_tests) in ap (λ b. if b then p else ends_at f p m (get_or f q 0)) t
 
 ends_next : (f : List ℕ) (p m q : ℕ) → q ≢ p → ends_at f p (suc m) q ≡ ends_at f p m (get_or f q 0)
-ends_next f p m q n = let t : (q == p) ≡ false = grind (arith, nat_tests) in ap (λ b. if b then p else ends_at f p m (get_or f q 0)) t
+ends_next f p m q n = let t : (q == p) ≡ false =
+    grind (arith, nat_tests) in ap (λ b. if b then p else ends_at f p m (get_or f q 0)) t
 
 -- a way that hasn't come back is as long as may be
 length-way : (f : List ℕ) (p m q : ℕ) → ends_at f p m q ≢ p → length (way_to f p m q) ≡ m
@@ -144,27 +158,36 @@ pub record OnTheWay (f : List ℕ) (q y : ℕ) : Type 0 where
   pub inside : y < length f
   pub other : y ≢ q
 
-pub keeps_off : (f : List ℕ) (p : ℕ) → p < length f → EachOnce f → (y : ℕ) → OnTheWay f (get_or f p 0) y → y ≢ p → OnTheWay f (get_or f p 0) (get_or f y 0)
+pub keeps_off : (f : List ℕ) (p : ℕ) → p < length f → EachOnce f → (y : ℕ) → OnTheWay f (get_or f p 0) y → y ≢ p
+    → OnTheWay f (get_or f p 0) (get_or f y 0)
 keeps_off f p h o y a n = record { inside = o.within y a.inside; other = λ e. n (o.once y p a.inside h e) }
 
-pub second_off : (f : List ℕ) (p : ℕ) → p < length f → EachOnce f → get_or f p 0 ≢ p → OnTheWay f (get_or f p 0) (get_or f (get_or f p 0) 0)
-second_off f p h o n = let q = get_or f p 0 in record { inside = o.within q (o.within p h); other = λ e. n (o.once q p (o.within p h) h e) }
+pub second_off : (f : List ℕ) (p : ℕ) → p < length f → EachOnce f → get_or f p 0 ≢ p
+    → OnTheWay f (get_or f p 0) (get_or f (get_or f p 0) 0)
+second_off f p h o n = let q =
+    get_or f p 0 in record { inside = o.within q (o.within p h); other = λ e. n (o.once q p (o.within p h) h e) }
 
 pub way_spent : (f : List ℕ) (p m : ℕ) → p < length f → EachOnce f → get_or f p 0 ≢ p → let q = get_or f p 0 in
     way_to f p m (get_or f q 0) ≡ way_to (swap f p q) p m (get_or (swap f p q) p 0)
 way_spent f p m h o n =
     let q = get_or f p 0 in
     let k : q < length f = o.within p h in
-    let first : get_or (swap f p q) p 0 ≡ get_or f q 0 = swap_at f p q p h k ∙ ap (λ i. get_or f i 0) (turned_first p q p (λ e. n (sym e)) refl) in
+    let first : get_or (swap f p q) p 0 ≡ get_or f q 0 = swap_at f p q p h k
+    ∙ ap (λ i. get_or f i 0) (turned_first p q p (λ e. n (sym e)) refl) in
     way_agrees (OnTheWay f q) f (swap f p q) p m (get_or f q 0)
-    (λ y a t. (sym (swap_at f p q y h k ∙ ap (λ i. get_or f i 0) (turned_other p q y a.other t)), keeps_off f p h o y a t))
+    (λ y a t. (
+      sym (swap_at f p q y h k ∙ ap (λ i. get_or f i 0) (turned_other p q y a.other t)),
+      keeps_off f p h o y a
+          t,
+    ))
     (second_off f p h o n)
     ∙ ap (way_to (swap f p q) p m) (sym first)
 
 -- no place is on it twice
 apart_all : (x : ℕ) (ys : List ℕ) → ((y : ℕ) → In y ys → y ≢ x) → AllByRecursion (λ y. eqb x y ≡ false) ys
 apart_all x [] apart = tt
-apart_all x (y ∷ ys) apart = let n : y ≢ x = apart y (inl refl) in (grind (arith, nat_tests), apart_all x ys (λ z i. apart z (inr i)))
+apart_all x (y ∷ ys) apart = let n : y ≢ x =
+    apart y (inl refl) in (grind (arith, nat_tests), apart_all x ys (λ z i. apart z (inr i)))
 
 distinct_way : (f : List ℕ) (p m : ℕ) → p < length f → EachOnce f → IsDistinct eqb (way_to f p m (get_or f p 0))
 unfolding IsDistinct
@@ -175,16 +198,21 @@ distinct_way f p (suc m) h o = elim (cases_eq (get_or f p 0) p) [
       let q = get_or f p 0 in
       let g = swap f p q in
       let k : q < length f = o.within p h in
-      let rest = subst (IsDistinct eqb) (sym (way_spent f p m h o n)) (distinct_way g p m (omega (arith, length-swap f p q)) (once-swap f p q h k o)) in
-      let off = λ (y : ℕ) (i : In y (way_to f p m (get_or f q 0))). (way_keeps (OnTheWay f q) f p m (get_or f q 0) y (λ z a t. keeps_off f p h o z a t) (second_off f p h o n) i).other in
-      subst (IsDistinct eqb) (sym (way_next f p m q n)) (IsDistinct-cons eqb q (way_to f p m (get_or f q 0)) (apart_all q (way_to f p m (get_or f q 0)) off) rest)
+      let rest = subst (IsDistinct eqb) (sym (way_spent f p m h o n))
+      (distinct_way g p m (omega (arith, length-swap f p q)) (once-swap f p q h k o)) in
+      let off = λ (y : ℕ) (i : In y (way_to f p m (get_or f q 0))).
+      (way_keeps (OnTheWay f q) f p m (get_or f q 0) y (λ z a t. keeps_off f p h o z a t) (second_off f p h o n)
+      i).other in
+      subst (IsDistinct eqb) (sym (way_next f p m q n))
+      (IsDistinct-cons eqb q (way_to f p m (get_or f q 0)) (apart_all q (way_to f p m (get_or f q 0)) off) rest)
 ]
 
 any_is_in : (q : ℕ) (xs : List ℕ) → list_any (eqb q) xs ≡ true → In q xs
 any_is_in q [] e = absurd (let x : false ≡ true = e in cc)
 any_is_in q (x ∷ xs) e = elim (cases_eq q x) [
   | inl s ↦ inl s
-  | inr n ↦ let t : eqb q x ≡ false = grind (arith, nat_tests) in inr (any_is_in q xs (sym (ap (λ b. b || list_any (eqb q) xs) t) ∙ e))
+  | inr n ↦ let t : eqb q x ≡ false =
+      grind (arith, nat_tests) in inr (any_is_in q xs (sym (ap (λ b. b || list_any (eqb q) xs) t) ∙ e))
 ]
 
 -- all places of a cycle are places of the list
@@ -201,8 +229,10 @@ comes_back f p h o = elim (cases_eq (ends_at f p (length f) (get_or f p 0)) p) [
   | inr n ↦
       let way = way_to f p (length f) (get_or f p 0) in
       let long = length-way f p (length f) (get_or f p 0) n in
-      let distinct = IsDistinct-cons eqb p way (apart_all p way (λ y i. way_apart f p (length f) (get_or f p 0) y i)) (distinct_way f p (length f) h o) in
-      let short = length-le_from_distinct_below (p ∷ way) (length f) distinct (λ q e. cycle_within f p q h o (any_is_in q (p ∷ way) e)) in
+      let distinct = IsDistinct-cons eqb p way (apart_all p way (λ y i. way_apart f p (length f) (get_or f p 0) y i))
+      (distinct_way f p (length f) h o) in
+      let short = length-le_from_distinct_below (p ∷ way) (length f) distinct
+      (λ q e. cycle_within f p q h o (any_is_in q (p ∷ way) e)) in
       absurd (omega (arith, long, short))
 ]
 
@@ -214,23 +244,27 @@ head_in f p (suc m) q e = elim (cases_eq q p) [
   | inr n ↦ inr (subst (In q) (sym (way_next f p m q n)) (inl refl))
 ]
 
-way_closed : (f : List ℕ) (p m q x : ℕ) → ends_at f p m q ≡ p → In x (way_to f p m q) → In (get_or f x 0) (p ∷ way_to f p m q)
+way_closed : (f : List ℕ) (p m q x : ℕ) → ends_at f p m q ≡ p → In x (way_to f p m q)
+    → In (get_or f x 0) (p ∷ way_to f p m q)
 way_closed f p zero q x e i = absurd i
 way_closed f p (suc m) q x e i = elim (cases_eq q p) [
   | inl s ↦ absurd (subst (In x) (way_at f p (suc m) q s) i)
   | inr n ↦
       let rest = way_to f p m (get_or f q 0) in
       let back : ends_at f p m (get_or f q 0) ≡ p = sym (ends_next f p m q n) ∙ e in
-      let wider = λ (y : ℕ) (j : In y (p ∷ rest)). subst (λ ys. In y (p ∷ ys)) (sym (way_next f p m q n)) (elim j as (λ _. In y (p ∷ (q ∷ rest))) [ inl s ↦ inl s | inr k ↦ inr (inr k) ]) in
+      let wider = λ (y : ℕ) (j : In y (p ∷ rest)). subst (λ ys. In y (p ∷ ys)) (sym (way_next f p m q n))
+      (elim j as (λ _. In y (p ∷ (q ∷ rest))) [ inl s ↦ inl s | inr k ↦ inr (inr k) ]) in
       elim (subst (In x) (way_next f p m q n) i) [
-        | inl s ↦ wider (get_or f x 0) (subst (λ z. In (get_or f z 0) (p ∷ rest)) (sym s) (head_in f p m (get_or f q 0) back))
+        | inl s ↦ wider (get_or f x 0)
+            (subst (λ z. In (get_or f z 0) (p ∷ rest)) (sym s) (head_in f p m (get_or f q 0) back))
         | inr j ↦ wider (get_or f x 0) (way_closed f p m (get_or f q 0) x back j)
       ]
 ]
 
 pub cycle_closed : (f : List ℕ) (p x : ℕ) → p < length f → EachOnce f → In x (cycle f p) → In (get_or f x 0) (cycle f p)
 cycle_closed f p x h o i = elim i [
-  | inl s ↦ subst (λ z. In (get_or f z 0) (cycle f p)) (sym s) (head_in f p (length f) (get_or f p 0) (comes_back f p h o))
+  | inl s ↦ subst (λ z. In (get_or f z 0) (cycle f p)) (sym s)
+      (head_in f p (length f) (get_or f p 0) (comes_back f p h o))
   | inr j ↦ way_closed f p (length f) (get_or f p 0) x (comes_back f p h o) j
 ]
 
@@ -240,7 +274,8 @@ record CameFrom (f : List ℕ) (p m z y : ℕ) : Type 0 where
   pub among : (place ≡ z) ⊎ In place (way_to f p m (get_or f z 0))
   pub leads : get_or f place 0 ≡ y
 
-came_further : (f : List ℕ) (p m z y : ℕ) → get_or f z 0 ≢ p → CameFrom f p m (get_or f z 0) y → CameFrom f p (suc m) z y
+came_further : (f : List ℕ) (p m z y : ℕ) → get_or f z 0 ≢ p → CameFrom f p m (get_or f z 0) y
+    → CameFrom f p (suc m) z y
 came_further f p m z y n c =
     let q = get_or f z 0 in
     let next = way_next f p m q n in
@@ -276,7 +311,8 @@ from_cycle f p y h o i = elim i [
   | inr j ↦ came_from f p (length f) p y j
 ]
 
-pub cycle_closed_back : (f : List ℕ) (p x : ℕ) → p < length f → x < length f → EachOnce f → In (get_or f x 0) (cycle f p) → In x (cycle f p)
+pub cycle_closed_back : (f : List ℕ) (p x : ℕ) → p < length f → x < length f → EachOnce f
+    → In (get_or f x 0) (cycle f p) → In x (cycle f p)
 cycle_closed_back f p x h l o i =
     let c = from_cycle f p (get_or f x 0) h o i in
     let there : In c.place (cycle f p) = c.among in
@@ -284,7 +320,8 @@ cycle_closed_back f p x h l o i =
     subst (λ z. In z (cycle f p)) same there
 
 -- what p leads to leads to p
-leads_back : (f : List ℕ) (p m q r : ℕ) → q < length f → r < length f → EachOnce f → In r (way_to f p m q) → In q (cycle f r)
+leads_back : (f : List ℕ) (p m q r : ℕ) → q < length f → r < length f → EachOnce f → In r (way_to f p m q)
+    → In q (cycle f r)
 leads_back f p zero q r h k o i = absurd i
 leads_back f p (suc m) q r h k o i = elim (cases_eq q p) [
   | inl s ↦ absurd (subst (In r) (way_at f p (suc m) q s) i)

@@ -21,11 +21,14 @@ not_so = refl
 other_scripts : joiner_comes_first (script "Telu") ra_h_zwj ∷ joiner_comes_first None ra_h_zwj ∷ [] ≡ false ∷ false ∷ []
 other_scripts = refl
 
--- written as Ra, H: the third glyph is there and no joiner, be it a ligature of one; rphf has a mask, and the font forms it
+-- written as Ra, H: the third glyph is there and no joiner, be it a ligature of one; rphf has a
+-- mask, and the font forms it
 abbrev implicit : Rules
 implicit = with_reph_of (0 ∷ 1 ∷ []) (rules "Deva" false each_mask)
 
-implicit_rephs : map (indic_reph_len implicit) (plainly (Ra ∷ H ∷ C ∷ []) ∷ plainly (C ∷ C ∷ M ∷ C ∷ []) ∷ plainly (Ra ∷ H ∷ ZWJ ∷ []) ∷ plainly (Ra ∷ H ∷ ZWNJ ∷ []) ∷ ligated_at 2 (plainly (Ra ∷ H ∷ ZWJ ∷ [])) ∷ plainly (Ra ∷ H ∷ []) ∷ plainly (Repha ∷ []) ∷ [] ∷ []) ≡ 2 ∷ 2 ∷ 0 ∷ 0 ∷ 2 ∷ 0 ∷ 0 ∷ 0 ∷ []
+implicit_rephs : map (indic_reph_len implicit) (plainly (Ra ∷ H ∷ C ∷ []) ∷ plainly (C ∷ C ∷ M ∷ C ∷ [])
+    ∷ plainly (Ra ∷ H ∷ ZWJ ∷ []) ∷ plainly (Ra ∷ H ∷ ZWNJ ∷ []) ∷ ligated_at 2 (plainly (Ra ∷ H ∷ ZWJ ∷ []))
+    ∷ plainly (Ra ∷ H ∷ []) ∷ plainly (Repha ∷ []) ∷ [] ∷ []) ≡ 2 ∷ 2 ∷ 0 ∷ 0 ∷ 2 ∷ 0 ∷ 0 ∷ 0 ∷ []
 implicit_rephs = refl
 
 no_mask : indic_reph_len (with_reph_of (0 ∷ 1 ∷ []) (rules "Deva" false no_masks)) (plainly (Ra ∷ H ∷ C ∷ [])) ≡ 0
@@ -54,22 +57,29 @@ limits_before_joiners : limit (with_reph_of (0 ∷ 1 ∷ []) (rules "Telu" false
 limits_before_joiners = refl
 
 -- where the search ends: behind the last ZWJ that follows an H
-ends : map (search_from 0) (plainly (C ∷ H ∷ ZWJ ∷ C ∷ []) ∷ plainly (C ∷ ZWJ ∷ C ∷ []) ∷ plainly (C ∷ H ∷ ZWNJ ∷ C ∷ []) ∷ plainly (C ∷ H ∷ ZWJ ∷ C ∷ H ∷ ZWJ ∷ C ∷ []) ∷ plainly (C ∷ H ∷ ZWJ ∷ []) ∷ plainly (ZWJ ∷ C ∷ []) ∷ plainly (H ∷ ZWJ ∷ C ∷ []) ∷ []) ≡ 3 ∷ 0 ∷ 0 ∷ 6 ∷ 3 ∷ 0 ∷ 2 ∷ []
+ends : map (search_from 0) (plainly (C ∷ H ∷ ZWJ ∷ C ∷ []) ∷ plainly (C ∷ ZWJ ∷ C ∷ [])
+    ∷ plainly (C ∷ H ∷ ZWNJ ∷ C ∷ []) ∷ plainly (C ∷ H ∷ ZWJ ∷ C ∷ H ∷ ZWJ ∷ C ∷ []) ∷ plainly (C ∷ H ∷ ZWJ ∷ [])
+    ∷ plainly (ZWJ ∷ C ∷ []) ∷ plainly (H ∷ ZWJ ∷ C ∷ []) ∷ []) ≡ 3 ∷ 0 ∷ 0 ∷ 6 ∷ 3 ∷ 0 ∷ 2 ∷ []
 ends = refl
 
 -- be they ligatures
-ends_with_ligatures : map (search_from 0) (ligated_at 1 (plainly (C ∷ H ∷ ZWJ ∷ C ∷ [])) ∷ ligated_at 2 (plainly (C ∷ H ∷ ZWJ ∷ C ∷ [])) ∷ []) ≡ 3 ∷ 3 ∷ []
+ends_with_ligatures : map (search_from 0) (ligated_at 1 (plainly (C ∷ H ∷ ZWJ ∷ C ∷ []))
+    ∷ ligated_at 2 (plainly (C ∷ H ∷ ZWJ ∷ C ∷ [])) ∷ []) ≡ 3 ∷ 3 ∷ []
 ends_with_ligatures = refl
 
 -- from a limit on: a ZWJ before it doesn't count, one at it does; no further than the last glyph
 from_a_limit : search_from 3 (plainly (Ra ∷ H ∷ ZWJ ∷ C ∷ [])) ∷ search_from 2 (plainly (Ra ∷ H ∷ ZWJ ∷ C ∷ [])) ∷ search_start (rules "Mlym" false no_masks) (plainly (Repha ∷ [])) ∷ search_start (rules "Mlym" false no_masks) (plainly (Repha ∷ ZWJ ∷ [])) ∷ search_start (rules "Mlym" false no_masks) (plainly (Repha ∷ ZWJ ∷ C ∷ [])) ∷ [] ≡ 3 ∷ 3 ∷ 0 ∷ 1 ∷ 2 ∷ []
 from_a_limit = refl
 
--- three consonants by their positions: the last that is neither below nor post-base; a post-base one counts before one below; else the first
+-- three consonants by their positions: the last that is neither below nor post-base; a post-base
+-- one counts before one below; else the first
 abbrev base_of : List ℕ → ℕ
 base_of ps = base_place (rules "Deva" false no_masks) (of (map (λ p. (C, p)) ps))
 
-by_positions : map base_of ((4 ∷ 4 ∷ 4 ∷ []) ∷ (4 ∷ 4 ∷ 8 ∷ []) ∷ (4 ∷ 8 ∷ 8 ∷ []) ∷ (8 ∷ 8 ∷ 8 ∷ []) ∷ (4 ∷ 4 ∷ 11 ∷ []) ∷ (4 ∷ 8 ∷ 11 ∷ []) ∷ (4 ∷ 11 ∷ 8 ∷ []) ∷ (11 ∷ 11 ∷ 8 ∷ []) ∷ (11 ∷ 11 ∷ 11 ∷ []) ∷ (8 ∷ 11 ∷ 11 ∷ []) ∷ (8 ∷ 4 ∷ 8 ∷ []) ∷ (4 ∷ 13 ∷ 8 ∷ []) ∷ []) ≡ 2 ∷ 1 ∷ 0 ∷ 0 ∷ 1 ∷ 0 ∷ 1 ∷ 1 ∷ 0 ∷ 0 ∷ 1 ∷ 1 ∷ []
+by_positions : map base_of ((4 ∷ 4 ∷ 4 ∷ []) ∷ (4 ∷ 4 ∷ 8 ∷ []) ∷ (4 ∷ 8 ∷ 8 ∷ []) ∷ (8 ∷ 8 ∷ 8 ∷ [])
+    ∷ (4 ∷ 4 ∷ 11 ∷ []) ∷ (4 ∷ 8 ∷ 11 ∷ []) ∷ (4 ∷ 11 ∷ 8 ∷ []) ∷ (11 ∷ 11 ∷ 8 ∷ []) ∷ (11 ∷ 11 ∷ 11 ∷ [])
+    ∷ (8 ∷ 11 ∷ 11 ∷ []) ∷ (8 ∷ 4 ∷ 8 ∷ []) ∷ (4 ∷ 13 ∷ 8 ∷ []) ∷ []) ≡ 2 ∷ 1 ∷ 0 ∷ 0 ∷ 1 ∷ 0 ∷ 1 ∷ 1 ∷ 0 ∷ 0 ∷ 1 ∷ 1
+    ∷ []
 by_positions = refl
 
 -- what is no consonant isn't one below, so a post-base one doesn't count before it
@@ -77,7 +87,8 @@ below_alone : map (base_place (rules "Deva" false no_masks)) (of ((C, 4) ∷ (C,
 below_alone = refl
 
 abbrev categories : List ℕ
-categories = 0 ∷ 1 ∷ 2 ∷ 3 ∷ 4 ∷ 5 ∷ 6 ∷ 7 ∷ 8 ∷ 9 ∷ 10 ∷ 11 ∷ 12 ∷ 13 ∷ 14 ∷ 15 ∷ 16 ∷ 17 ∷ 18 ∷ 31 ∷ 32 ∷ 48 ∷ 64 ∷ 255 ∷ []
+categories = 0 ∷ 1 ∷ 2 ∷ 3 ∷ 4 ∷ 5 ∷ 6 ∷ 7 ∷ 8 ∷ 9 ∷ 10 ∷ 11 ∷ 12 ∷ 13 ∷ 14 ∷ 15 ∷ 16 ∷ 17 ∷ 18 ∷ 31 ∷ 32 ∷ 48 ∷ 64
+    ∷ 255 ∷ []
 
 -- which categories may be the base, of a C and one more: those behind it at place 1, C V PLACEHOLDER DOTTEDCIRCLE Ra CS
 by_categories : map (λ c. base_place (rules "Deva" false no_masks) (plainly (C ∷ c ∷ []))) (0 ∷ 1 ∷ 2 ∷ 3 ∷ 4 ∷ 5 ∷ 6 ∷ 7 ∷ 8 ∷ 9 ∷ 10 ∷ 11 ∷ 12 ∷ 13 ∷ 14 ∷ 15 ∷ 16 ∷ 17 ∷ 18 ∷ []) ≡ 0 ∷ 1 ∷ 1 ∷ 0 ∷ 0 ∷ 0 ∷ 0 ∷ 0 ∷ 0 ∷ 0 ∷ 1 ∷ 1 ∷ 0 ∷ 0 ∷ 0 ∷ 1 ∷ 0 ∷ 0 ∷ 1 ∷ []
@@ -90,16 +101,23 @@ a_ligature = refl
 abbrev among_all : Rules
 among_all = record (rules "Deva" false no_masks) { search = AllConsonants }
 
-by_all_categories : map (λ c. base_place among_all (plainly (C ∷ c ∷ []))) (0 ∷ 1 ∷ 2 ∷ 3 ∷ 4 ∷ 5 ∷ 6 ∷ 7 ∷ 8 ∷ 9 ∷ 10 ∷ 11 ∷ 12 ∷ 13 ∷ 14 ∷ 15 ∷ 16 ∷ 17 ∷ 18 ∷ 31 ∷ 32 ∷ 48 ∷ []) ≡ 0 ∷ 1 ∷ 1 ∷ 0 ∷ 0 ∷ 0 ∷ 0 ∷ 0 ∷ 0 ∷ 0 ∷ 1 ∷ 1 ∷ 0 ∷ 0 ∷ 0 ∷ 1 ∷ 1 ∷ 0 ∷ 1 ∷ 0 ∷ 0 ∷ 0 ∷ []
+by_all_categories : map (λ c. base_place among_all (plainly (C ∷ c ∷ []))) (0 ∷ 1 ∷ 2 ∷ 3 ∷ 4 ∷ 5 ∷ 6 ∷ 7 ∷ 8 ∷ 9 ∷ 10
+    ∷ 11 ∷ 12 ∷ 13 ∷ 14 ∷ 15 ∷ 16 ∷ 17 ∷ 18 ∷ 31 ∷ 32 ∷ 48 ∷ []) ≡ 0 ∷ 1 ∷ 1 ∷ 0 ∷ 0 ∷ 0 ∷ 0 ∷ 0 ∷ 0 ∷ 0 ∷ 1 ∷ 1 ∷ 0 ∷ 0
+    ∷ 0 ∷ 1 ∷ 1 ∷ 0 ∷ 1 ∷ 0 ∷ 0 ∷ 0 ∷ []
 by_all_categories = refl
 
 -- these are the consonants
-are_consonants : map (λ gs. map (is_base_candidate AllConsonants) gs) (plainly categories ∷ map (with_row_marks 2) (plainly categories) ∷ []) ≡ map (λ gs. map is_consonant gs) (plainly categories ∷ map (with_row_marks 2) (plainly categories) ∷ [])
+are_consonants : map (λ gs. map (is_base_candidate AllConsonants) gs)
+    (plainly categories ∷ map (with_row_marks 2) (plainly categories) ∷ [])
+    ≡ map (λ gs. map is_consonant gs) (plainly categories ∷ map (with_row_marks 2) (plainly categories) ∷ [])
 are_consonants = refl
 
 -- a medial one by its position, as any other; alone; behind a reph; of two the last; the first where none is the last
 abbrev medials : List (List hb_glyph_info_t)
-medials = of ((C, 4) ∷ (CM, 4) ∷ []) ∷ ligated_at 1 (of ((C, 4) ∷ (CM, 4) ∷ [])) ∷ of ((C, 4) ∷ (CM, 8) ∷ []) ∷ of ((C, 4) ∷ (CM, 11) ∷ []) ∷ of ((C, 4) ∷ (C, 11) ∷ (CM, 8) ∷ []) ∷ of ((C, 4) ∷ (CM, 11) ∷ (C, 8) ∷ []) ∷ of ((CM, 8) ∷ []) ∷ of ((M, 4) ∷ (CM, 11) ∷ (C, 11) ∷ []) ∷ of ((C, 4) ∷ (H, 4) ∷ (ZWJ, 4) ∷ (CM, 8) ∷ []) ∷ of ((Ra, 4) ∷ (H, 4) ∷ (Ra, 8) ∷ (CM, 4) ∷ []) ∷ []
+medials = of ((C, 4) ∷ (CM, 4) ∷ []) ∷ ligated_at 1 (of ((C, 4) ∷ (CM, 4) ∷ [])) ∷ of ((C, 4) ∷ (CM, 8) ∷ [])
+    ∷ of ((C, 4) ∷ (CM, 11) ∷ []) ∷ of ((C, 4) ∷ (C, 11) ∷ (CM, 8) ∷ []) ∷ of ((C, 4) ∷ (CM, 11) ∷ (C, 8) ∷ [])
+    ∷ of ((CM, 8) ∷ []) ∷ of ((M, 4) ∷ (CM, 11) ∷ (C, 11) ∷ []) ∷ of ((C, 4) ∷ (H, 4) ∷ (ZWJ, 4) ∷ (CM, 8) ∷ [])
+    ∷ of ((Ra, 4) ∷ (H, 4) ∷ (Ra, 8) ∷ (CM, 4) ∷ []) ∷ []
 
 medials_searched : map (base_place among_all) medials ≡ 1 ∷ 0 ∷ 0 ∷ 0 ∷ 1 ∷ 1 ∷ 0 ∷ 1 ∷ 3 ∷ 3 ∷ []
 medials_searched = refl
@@ -107,10 +125,12 @@ medials_searched = refl
 medials_left_out : map (base_place (rules "Deva" false no_masks)) medials ≡ 0 ∷ 0 ∷ 0 ∷ 0 ∷ 0 ∷ 0 ∷ 1 ∷ 2 ∷ 4 ∷ 0 ∷ []
 medials_left_out = refl
 
-medial_behind_reph : map (λ r. base_place r (plainly (Ra ∷ H ∷ CM ∷ []))) (implicit ∷ record implicit { search = AllConsonants } ∷ []) ≡ 0 ∷ 2 ∷ []
+medial_behind_reph : map (λ r. base_place r (plainly (Ra ∷ H ∷ CM ∷ [])))
+    (implicit ∷ record implicit { search = AllConsonants } ∷ []) ≡ 0 ∷ 2 ∷ []
 medial_behind_reph = refl
 
-reph_before_medial : map (λ r. has_indic_reph r (plainly (Ra ∷ H ∷ CM ∷ []))) (implicit ∷ record implicit { search = AllConsonants } ∷ []) ≡ false ∷ true ∷ []
+reph_before_medial : map (λ r. has_indic_reph r (plainly (Ra ∷ H ∷ CM ∷ [])))
+    (implicit ∷ record implicit { search = AllConsonants } ∷ []) ≡ false ∷ true ∷ []
 reph_before_medial = refl
 
 -- nothing else is read: where no medial stands, both find the same
@@ -121,11 +141,14 @@ no_medials = refl
 behind_zwj : map (base_place (rules "Deva" false no_masks)) (of ((C, 4) ∷ (H, 4) ∷ (ZWJ, 4) ∷ (C, 8) ∷ (C, 8) ∷ []) ∷ plainly (C ∷ H ∷ ZWJ ∷ M ∷ []) ∷ plainly (C ∷ H ∷ ZWJ ∷ []) ∷ plainly (M ∷ []) ∷ []) ≡ 3 ∷ 4 ∷ 3 ∷ 1 ∷ []
 behind_zwj = refl
 
--- with a reph the search ends behind it, and without another base the reph is one; then it is none, unless joiners follow it
-rephs : map (λ gs. base_place implicit gs) (plainly (Ra ∷ H ∷ C ∷ []) ∷ plainly (Ra ∷ H ∷ M ∷ []) ∷ of ((Ra, 4) ∷ (H, 4) ∷ (C, 8) ∷ []) ∷ []) ≡ 2 ∷ 0 ∷ 2 ∷ []
+-- with a reph the search ends behind it, and without another base the reph is one; then it is none,
+-- unless joiners follow it
+rephs : map (λ gs. base_place implicit gs) (plainly (Ra ∷ H ∷ C ∷ []) ∷ plainly (Ra ∷ H ∷ M ∷ [])
+    ∷ of ((Ra, 4) ∷ (H, 4) ∷ (C, 8) ∷ []) ∷ []) ≡ 2 ∷ 0 ∷ 2 ∷ []
 rephs = refl
 
-with_reph : map (has_indic_reph implicit) (plainly (Ra ∷ H ∷ C ∷ []) ∷ plainly (Ra ∷ H ∷ M ∷ []) ∷ plainly (C ∷ []) ∷ []) ≡ true ∷ false ∷ false ∷ []
+with_reph : map (has_indic_reph implicit) (plainly (Ra ∷ H ∷ C ∷ []) ∷ plainly (Ra ∷ H ∷ M ∷ []) ∷ plainly (C ∷ [])
+    ∷ []) ≡ true ∷ false ∷ false ∷ []
 with_reph = refl
 
 forced : has_indic_reph (with_reph_of (0 ∷ 1 ∷ []) (rules "Telu" false each_mask)) (plainly (Ra ∷ H ∷ ZWJ ∷ M ∷ [])) ∷ has_indic_reph (rules "Mlym" false no_masks) (plainly (Repha ∷ [])) ∷ has_indic_reph (rules "Mlym" false no_masks) (plainly (Repha ∷ ZWJ ∷ M ∷ [])) ∷ has_indic_reph (rules "Mlym" false no_masks) (plainly (Repha ∷ ZWJ ∷ ZWJ ∷ M ∷ [])) ∷ has_indic_reph (rules "Mlym" false no_masks) (plainly (Repha ∷ C ∷ [])) ∷ [] ≡ true ∷ false ∷ false ∷ true ∷ true ∷ []

@@ -10,10 +10,12 @@ use Rattle.shapers_indic_initial.specs.InitialReordering.{indic_order_step}
 use Rattle.shapers_syllabic.specs.Reordering.{glyphs_before}
 
 -- each place with the old place of what stands there: from the start, and from a base behind it
-ways : map (λ from. all_ways from 0) ((0 ∷ 2 ∷ 3 ∷ 1 ∷ []) ∷ (2 ∷ 1 ∷ 0 ∷ []) ∷ [] ∷ []) ≡ ((0, 1) ∷ (1, 3) ∷ (2, 4) ∷ (1, 4) ∷ []) ∷ ((0, 3) ∷ (1, 2) ∷ (0, 3) ∷ []) ∷ [] ∷ []
+ways : map (λ from. all_ways from 0) ((0 ∷ 2 ∷ 3 ∷ 1 ∷ []) ∷ (2 ∷ 1 ∷ 0 ∷ []) ∷ [] ∷ [])
+    ≡ ((0, 1) ∷ (1, 3) ∷ (2, 4) ∷ (1, 4) ∷ []) ∷ ((0, 3) ∷ (1, 2) ∷ (0, 3) ∷ []) ∷ [] ∷ []
 ways = refl
 
-ways_from_base : all_ways (3 ∷ 0 ∷ 1 ∷ 2 ∷ []) 2 ∷ all_ways (1 ∷ 0 ∷ 3 ∷ 2 ∷ []) 1 ∷ all_ways (1 ∷ 0 ∷ []) 2 ∷ [] ≡ ((2, 3) ∷ (2, 4) ∷ []) ∷ ((1, 2) ∷ (2, 4) ∷ (2, 4) ∷ []) ∷ [] ∷ []
+ways_from_base : all_ways (3 ∷ 0 ∷ 1 ∷ 2 ∷ []) 2 ∷ all_ways (1 ∷ 0 ∷ 3 ∷ 2 ∷ []) 1 ∷ all_ways (1 ∷ 0 ∷ []) 2 ∷ []
+    ≡ ((2, 3) ∷ (2, 4) ∷ []) ∷ ((1, 2) ∷ (2, 4) ∷ (2, 4) ∷ []) ∷ [] ∷ []
 ways_from_base = refl
 
 -- all from the base on in the older specification, and for more than 127 glyphs
@@ -35,5 +37,6 @@ joined_clusters : joined_step MonotoneGraphemes (indic_order_step (rules "Deva" 
 joined_clusters = refl
 
 -- where a syllable stands
-standing : map (λ before. glyphs_before before) ([] ∷ (of ((C, 4) ∷ (C, 4) ∷ []) ∷ of ((C, 4) ∷ []) ∷ []) ∷ []) ≡ 0 ∷ 3 ∷ []
+standing : map (λ before. glyphs_before before) ([] ∷ (of ((C, 4) ∷ (C, 4) ∷ []) ∷ of ((C, 4) ∷ []) ∷ []) ∷ [])
+    ≡ 0 ∷ 3 ∷ []
 standing = refl

@@ -25,7 +25,9 @@ small chosen = record { features = feature "blwf" 0 ∷ feature "pstf" 1 ∷ fea
 
 -- glyph 100 for the virama of Devanagari, and the glyphs that the lookups apply to
 abbrev applying : List (ℕ × List ℕ)
-applying = (10, 100 ∷ 1 ∷ []) ∷ (10, 2 ∷ 100 ∷ []) ∷ (13, 100 ∷ 3 ∷ []) ∷ (13, 4 ∷ 100 ∷ []) ∷ (11, 100 ∷ 5 ∷ []) ∷ (12, 6 ∷ 100 ∷ []) ∷ (11, 7 ∷ 100 ∷ []) ∷ (12, 100 ∷ 8 ∷ []) ∷ (10, 100 ∷ 9 ∷ []) ∷ (11, 100 ∷ 9 ∷ []) ∷ (14, 100 ∷ 10 ∷ []) ∷ (10, 100 ∷ 11 ∷ 100 ∷ []) ∷ []
+applying = (10, 100 ∷ 1 ∷ []) ∷ (10, 2 ∷ 100 ∷ []) ∷ (13, 100 ∷ 3 ∷ []) ∷ (13, 4 ∷ 100 ∷ []) ∷ (11, 100 ∷ 5 ∷ [])
+    ∷ (12, 6 ∷ 100 ∷ []) ∷ (11, 7 ∷ 100 ∷ []) ∷ (12, 100 ∷ 8 ∷ []) ∷ (10, 100 ∷ 9 ∷ []) ∷ (11, 100 ∷ 9 ∷ [])
+    ∷ (14, 100 ∷ 10 ∷ []) ∷ (10, 100 ∷ 11 ∷ 100 ∷ []) ∷ []
 
 abbrev applies : ℕ → List GlyphId → Bool → Bool
 applies lookup ids zero = list_any (λ t. t.0 == lookup && pointwise nat_eq t.1 (map (λ g. g.0) ids)) applying
@@ -41,7 +43,8 @@ all_characters c = Some (record { 0 = 100 })
 
 -- glyphs 1 to 11 of a position
 abbrev glyphs : ℕ → List hb_glyph_info_t
-glyphs p = map (λ i. let g : hb_glyph_info_t = record default_glyph { glyph_id = i; auxiliary = p } in g) (range_with_len 1 11)
+glyphs p = map (λ i. let g : hb_glyph_info_t = record default_glyph { glyph_id = i; auxiliary = p } in g)
+    (range_with_len 1 11)
 
 -- below by blwf or vatu, in either order of virama and consonant; else post-base by pstf or pref; else as it was
 by_font : row_positions (positions_by_font (font_with virama_alone applies) (small None) (indic_plan WithoutMedials (script "Deva") (small None)) (glyphs 4)) ≡ 8 ∷ 8 ∷ 8 ∷ 8 ∷ 11 ∷ 11 ∷ 11 ∷ 11 ∷ 8 ∷ 4 ∷ 4 ∷ []
@@ -69,5 +72,7 @@ new_contexts : row_positions (positions_by_font (font_with virama_alone with_con
 new_contexts = refl
 
 -- a font is queried about a glyph's number, and about 65535 for every greater one
-asked_about : map number (map (λ i. let g : hb_glyph_info_t = record default_glyph { glyph_id = i } in g) (0 ∷ 1 ∷ 65534 ∷ 65535 ∷ 65536 ∷ 65537 ∷ 72352 ∷ [])) ≡ map (λ i. let id : GlyphId = record { 0 = i } in id) (0 ∷ 1 ∷ 65534 ∷ 65535 ∷ 65535 ∷ 65535 ∷ 65535 ∷ [])
+asked_about : map number (map (λ i. let g : hb_glyph_info_t = record default_glyph { glyph_id = i } in g)
+    (0 ∷ 1 ∷ 65534 ∷ 65535 ∷ 65536 ∷ 65537 ∷ 72352 ∷ []))
+    ≡ map (λ i. let id : GlyphId = record { 0 = i } in id) (0 ∷ 1 ∷ 65534 ∷ 65535 ∷ 65535 ∷ 65535 ∷ 65535 ∷ [])
 asked_about = refl

@@ -43,23 +43,29 @@ prepared gs = (with_positions_and_circles font empty_map (indic_plan WithoutMedi
 circles : numbers_of (prepared sixteen) ≡ 500 ∷ range_with_len 0 15 ++ 500 ∷ 15 ∷ []
 circles = refl
 
-circle_positions : row_positions (prepared (one 0 0x14 Repha 3 ∷ one 1 0x14 M 2 ∷ [])) ∷ numbers_of (prepared (one 0 0x14 Repha 3 ∷ one 1 0x14 M 2 ∷ [])) ∷ [] ≡ (3 ∷ 14 ∷ 2 ∷ []) ∷ (0 ∷ 500 ∷ 1 ∷ []) ∷ []
+circle_positions : row_positions (prepared (one 0 0x14 Repha 3 ∷ one 1 0x14 M 2 ∷ []))
+    ∷ numbers_of (prepared (one 0 0x14 Repha 3 ∷ one 1 0x14 M 2 ∷ [])) ∷ [] ≡ (3 ∷ 14 ∷ 2 ∷ []) ∷ (0 ∷ 500 ∷ 1 ∷ [])
+    ∷ []
 circle_positions = refl
 
 -- the order of a text: a left matra goes before the circle, which is the base, and not into the syllable before it
 abbrev ordered : List hb_glyph_info_t → List hb_glyph_info_t
 ordered gs = text_order (initial_order (initial_rules font empty_map (indic_plan WithoutMedials (script "Deva") empty_map)) (script "Deva")) (prepared gs)
 
-text_by_syllables : numbers_of (ordered (one 0 0x10 C 4 ∷ one 1 0x10 M 2 ∷ one 2 0x24 M 2 ∷ one 3 0x33 M 2 ∷ [])) ∷ row_positions (ordered (one 0 0x10 C 4 ∷ one 1 0x10 M 2 ∷ one 2 0x24 M 2 ∷ one 3 0x33 M 2 ∷ [])) ∷ [] ≡ (1 ∷ 0 ∷ 2 ∷ 500 ∷ 3 ∷ []) ∷ (2 ∷ 4 ∷ 2 ∷ 4 ∷ 2 ∷ []) ∷ []
+text_by_syllables : numbers_of (ordered (one 0 0x10 C 4 ∷ one 1 0x10 M 2 ∷ one 2 0x24 M 2 ∷ one 3 0x33 M 2 ∷ []))
+    ∷ row_positions (ordered (one 0 0x10 C 4 ∷ one 1 0x10 M 2 ∷ one 2 0x24 M 2 ∷ one 3 0x33 M 2 ∷ [])) ∷ []
+    ≡ (1 ∷ 0 ∷ 2 ∷ 500 ∷ 3 ∷ []) ∷ (2 ∷ 4 ∷ 2 ∷ 4 ∷ 2 ∷ []) ∷ []
 text_by_syllables = refl
 
 -- no circle without a broken syllable, or where the caller forbids it
 abbrev glyphs_in : Buffer → List hb_glyph_info_t
 glyphs_in b = (with_positions_and_circles font empty_map (indic_plan WithoutMedials (script "Deva") empty_map) b).glyphs
 
-none_broken : glyphs_in (record (text sixteen) { broken = false }) ∷ glyphs_in (record (text sixteen) { flags = record { 0 = 0x20 } }) ∷ [] ≡ sixteen ∷ sixteen ∷ []
+none_broken : glyphs_in (record (text sixteen) { broken = false })
+    ∷ glyphs_in (record (text sixteen) { flags = record { 0 = 0x20 } }) ∷ [] ≡ sixteen ∷ sixteen ∷ []
 none_broken = refl
 
 -- the first syllable of a kind above 5
-refusals : map (λ byte. initial_refusal (text (sixteen ++ one 16 byte C 4 ∷ []))) (0x25 ∷ 0x26 ∷ 0x2F ∷ 0x60 ∷ []) ≡ None ∷ Some (UnknownSyllable 16) ∷ Some (UnknownSyllable 16) ∷ None ∷ []
+refusals : map (λ byte. initial_refusal (text (sixteen ++ one 16 byte C 4 ∷ []))) (0x25 ∷ 0x26 ∷ 0x2F ∷ 0x60 ∷ [])
+    ≡ None ∷ Some (UnknownSyllable 16) ∷ Some (UnknownSyllable 16) ∷ None ∷ []
 refusals = refl

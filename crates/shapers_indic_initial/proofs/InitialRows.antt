@@ -15,7 +15,8 @@ half_alone = 0 ∷ 0 ∷ 0 ∷ 0 ∷ 0 ∷ 0 ∷ 0 ∷ 16 ∷ 0 ∷ 0 ∷ 0 ∷ 
 abbrev reph_alone : List ℕ
 reph_alone = 0 ∷ 0 ∷ 16 ∷ 0 ∷ 0 ∷ 0 ∷ 0 ∷ 0 ∷ 0 ∷ 0 ∷ 0 ∷ 0 ∷ 0 ∷ 0 ∷ 0 ∷ 0 ∷ 0 ∷ []
 
--- Devanagari, newer specification: C H ZWNJ B M with a left matra. It goes to the front, and only it and the ZWNJ keep half.
+-- Devanagari, newer specification: C H ZWNJ B M with a left matra. It goes to the front, and only
+-- it and the ZWNJ keep half.
 left_matra : reordered (rules "Deva" false half_alone) (script "Deva") (of ((C, 4) ∷ (H, 4) ∷ (ZWNJ, 4) ∷ (C, 4) ∷ (M, 2) ∷ [])) ≡ (4 ∷ 0 ∷ 1 ∷ 2 ∷ 3 ∷ []) ∷ (4 ∷ 0 ∷ 1 ∷ 2 ∷ 3 ∷ []) ∷ (16 ∷ 0 ∷ 0 ∷ 16 ∷ 0 ∷ []) ∷ []
 left_matra = refl
 
@@ -51,7 +52,8 @@ joiner_behind : reordered (rules "Knda" false no_masks) (script "Deva") (plainly
 joiner_behind = refl
 
 -- the kinds that are reordered: a consonant's, a vowel's, a standalone one and a broken one
-kinds : map (λ k. is_reordered_in_indic (glyphs_from k 0 ((C, 4) ∷ []))) (range_with_len 0 16) ≡ true ∷ true ∷ true ∷ false ∷ true ∷ replicate 11 false
+kinds : map (λ k. is_reordered_in_indic (glyphs_from k 0 ((C, 4) ∷ []))) (range_with_len 0 16) ≡ true ∷ true ∷ true
+    ∷ false ∷ true ∷ replicate 11 false
 kinds = refl
 
 symbols_stay : initial_order (rules "Deva" false each_mask) (script "Deva") (glyphs_from 3 0 ((C, 4) ∷ (M, 2) ∷ [])) ≡ glyphs_from 3 0 ((C, 4) ∷ (M, 2) ∷ [])
@@ -76,16 +78,30 @@ one_matra = refl
 
 -- a glyph keeps all its other fields
 abbrev full : hb_glyph_info_t
-full = record { glyph_id = 7; cluster = 5; mask = 0x1000; var = 0x7A; syllable = 0x20; category = M; auxiliary = 2; general_category = Mn; modified_combining_class = 9; lig_comp = 3; marks = record { 0 = 13 } }
+full = record {
+  glyph_id = 7;
+  cluster = 5;
+  mask = 0x1000;
+  var = 0x7A;
+  syllable = 0x20;
+  category = M;
+  auxiliary = 2;
+  general_category = Mn;
+  modified_combining_class = 9;
+  lig_comp = 3;
+  marks = record { 0 = 13 };
+}
 
 fields_stay : initial_order (rules "Deva" false each_mask) (script "Deva") (record full { category = C; auxiliary = 4; glyph_id = 6 } ∷ full ∷ []) ≡ record full { mask = 0x10A0 } ∷ record full { category = C; auxiliary = 4; glyph_id = 6 } ∷ []
 fields_stay = refl
 
--- as the order of a second syllable begins: the first is reordered, and in the second the H has moved and nothing has merged
+-- as the order of a second syllable begins: the first is reordered, and in the second the H has
+-- moved and nothing has merged
 order_begins : as_order_begins (rules "Deva" true no_masks) (script "Deva") MonotoneGraphemes 7 (of ((C, 4) ∷ (M, 9) ∷ (M, 6) ∷ []) ∷ []) (of ((C, 4) ∷ (H, 4) ∷ (Ra, 8) ∷ (H, 4) ∷ [])) (range_with_len 0 7) ≡ 0 ∷ 0 ∷ 0 ∷ 3 ∷ 5 ∷ 4 ∷ 6 ∷ []
 order_begins = refl
 
--- long syllables: a base and 125, 126 and 127 matras of one position, which stay; of more than 127 glyphs all merges from the base on
+-- long syllables: a base and 125, 126 and 127 matras of one position, which stay; of more than 127
+-- glyphs all merges from the base on
 abbrev base_and : ℕ → List hb_glyph_info_t
 base_and n = of ((C, 4) ∷ replicate n (M, 6))
 

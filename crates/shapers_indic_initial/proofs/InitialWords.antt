@@ -23,7 +23,15 @@ nothing ids = false
 
 -- the rules of a script with these masks for rphf, pref, blwf, abvf, half and pstf, by a font that substitutes nothing
 abbrev pub rules : String → Bool → List ℕ → Rules
-rules tag old masks = record { config = config_of (script tag); old = old; search = WithoutMedials; masks = masks; forms_reph = nothing; forms_pref = nothing }
+rules tag old masks =
+    record {
+      config = config_of (script tag);
+      old = old;
+      search = WithoutMedials;
+      masks = masks;
+      forms_reph = nothing;
+      forms_pref = nothing;
+    }
 
 abbrev pub no_masks : List ℕ
 no_masks = 0 ∷ 0 ∷ 0 ∷ 0 ∷ 0 ∷ 0 ∷ 0 ∷ 0 ∷ 0 ∷ 0 ∷ 0 ∷ 0 ∷ 0 ∷ 0 ∷ 0 ∷ 0 ∷ 0 ∷ []

@@ -27,7 +27,6 @@ mod Prepared
 pub mod OrderClusters
 pub mod OrderListing
 pub mod OrderShifted
-mod PositionsPresent
 mod OrderedBase
 pub mod OrderedSyllable
 pub mod PlaceSearch

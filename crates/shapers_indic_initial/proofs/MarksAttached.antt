@@ -1,8 +1,8 @@
 -- The walk that gives marks their positions does what the three rules do one after another.
-use Rattle.std.proofs.Common.{◌≡◌, ℕ, ◌+◌, ◌<◌, ◌≤◌, ◌==◌, Bool, true, false, not, ◌&&◌, List, [], ◌∷◌, ◌++◌, length, take, drop, get_or, set, if◌then◌else◌, refl, sym, ap, ◌∙◌, arith, append_assoc}
+use Rattle.std.proofs.Common.{◌≡◌, ℕ, ◌+◌, ◌≤◌, ◌==◌, Bool, true, false, not, ◌&&◌, List, [], ◌∷◌, ◌++◌, length, take, drop, if◌then◌else◌, refl, sym, ap, ◌∙◌, arith}
 use Rattle.std.specs.List.{list_any}
 use Rattle.std.proofs.lemmas.Bool.Decides.{nat_tests}
-use Rattle.std.proofs.lemmas.List.{append-nil, drop_all, drop_more, drop-set-lt, take_all, take_more_set}
+use Rattle.std.proofs.lemmas.List.{append-nil, drop_all, take_all}
 use Rattle.shapers_buffer.specs.declared.buffer.glyph.hb_glyph_info_t.{hb_glyph_info_t}
 use Rattle.shapers_buffer.specs.Glyph.{at_position}
 use Rattle.shapers_base.specs.declared.plan.ot_category_t.TheConstants.{OT_CM, OT_H, OT_N, OT_RS, OT_ZWJ, OT_ZWNJ}
@@ -16,7 +16,8 @@ use Rattle.shapers_indic_initial.proofs.Walks.{walked}
 abbrev attached_category : ℕ → Bool
 attached_category k = list_any (λ c. c == k) (OT_ZWJ ∷ OT_ZWNJ ∷ OT_N ∷ OT_RS ∷ OT_CM ∷ OT_H ∷ [])
 
-not_category : (k : ℕ) (g : hb_glyph_info_t) → attached_category k ≡ false → is_attached g ≡ true → has_category k g ≡ false
+not_category : (k : ℕ) (g : hb_glyph_info_t) → attached_category k ≡ false → is_attached g ≡ true
+    → has_category k g ≡ false
 not_category k g other a =
     (elim (has_category k g) as (λ b. has_category k g ≡ b → b ≡ false) [
       | true ↦ (λ t.
@@ -26,51 +27,72 @@ not_category k g other a =
     ]) refl
 
 -- a sign is drawn by what stood behind it
-drawn_same : (c : ℕ) (g next : hb_glyph_info_t) (rest : List hb_glyph_info_t) → before_next g ((if is_attached next then at_position c next else next) ∷ rest) ≡ before_next g (next ∷ rest)
+drawn_same : (c : ℕ) (g next : hb_glyph_info_t) (rest : List hb_glyph_info_t)
+    → before_next g ((if is_attached next then at_position c next else next) ∷ rest) ≡ before_next g (next ∷ rest)
 drawn_same c g next rest =
-    (elim (is_attached next) as (λ b. is_attached next ≡ b → before_next g ((if b then at_position c next else next) ∷ rest) ≡ before_next g (next ∷ rest)) [
+    (elim (is_attached next) as (λ b. is_attached next ≡ b
+    → before_next g ((if b then at_position c next else next) ∷ rest) ≡ before_next g (next ∷ rest)) [
       | true ↦ (λ t.
           let none : has_category 13 next ≡ false = not_category 13 next refl t in
-          ap (λ m. if has_category 8 g && m && not (has_position 13 (at_position c next)) then at_position c g else g) none
-          ∙ (elim (has_category 8 g) as (λ s. (if s && false && not (has_position 13 (at_position c next)) then at_position c g else g) ≡ (if s && false && not (has_position 13 next) then at_position next.auxiliary g else g)) [
+          ap (λ m. if has_category 8 g && m && not (has_position 13 (at_position c next)) then at_position c g else g)
+          none
+          ∙ (elim (has_category 8 g) as (λ s.
+          (if s && false && not (has_position 13 (at_position c next)) then at_position c g else g)
+          ≡ (if s && false && not (has_position 13 next) then at_position next.auxiliary g else g)) [
             | true ↦ refl
             | false ↦ refl
           ])
-          ∙ sym (ap (λ m. if has_category 8 g && m && not (has_position 13 next) then at_position next.auxiliary g else g) none))
+          ∙ sym (ap (λ m. if has_category 8 g && m && not (has_position 13 next) then at_position next.auxiliary g else
+          g) none))
       | false ↦ (λ t. refl)
     ]) refl
 
-sign_written : (g next : hb_glyph_info_t) → (if draws_sign g next then at_position next.auxiliary g else g) ≡ at_position (if draws_sign g next then next.auxiliary else g.auxiliary) g
-sign_written g next = elim (draws_sign g next) as (λ b. (if b then at_position next.auxiliary g else g) ≡ at_position (if b then next.auxiliary else g.auxiliary) g) [
-  | true ↦ refl
-  | false ↦ refl
-]
+sign_written : (g next : hb_glyph_info_t) → (if draws_sign g next then at_position next.auxiliary g else g)
+    ≡ at_position (if draws_sign g next then next.auxiliary else g.auxiliary) g
+sign_written g next =
+    elim (draws_sign g next) as (λ b. (if b then at_position next.auxiliary g else g)
+    ≡ at_position (if b then next.auxiliary else g.auxiliary) g) [
+      | true ↦ refl
+      | false ↦ refl
+    ]
 
 -- an attached glyph draws none
-undrawn : (c : ℕ) (g : hb_glyph_info_t) (rest : List hb_glyph_info_t) → is_attached g ≡ true → before_next (at_position c g) rest ≡ at_position c g
+undrawn : (c : ℕ) (g : hb_glyph_info_t) (rest : List hb_glyph_info_t) → is_attached g ≡ true
+    → before_next (at_position c g) rest ≡ at_position c g
 undrawn c g [] t = refl
-undrawn c g (next ∷ rest) t = ap (λ s. if s && has_category 13 next && not (has_position 13 next) then at_position next.auxiliary (at_position c g) else at_position c g) (not_category 8 g refl t)
+undrawn c g (next ∷ rest) t =
+    ap (λ s. if s && has_category 13 next && not (has_position 13 next) then at_position next.auxiliary
+    (at_position c g) else at_position c g) (not_category 8 g refl t)
 
 -- a glyph after the first two rules
-drawn_is : (c d : ℕ) (g : hb_glyph_info_t) (rest : List hb_glyph_info_t) → before_next (if is_attached g then at_position c g else g) (walked attach_step d rest) ≡ at_position (drawn_position c g rest) g
-drawn_is c d g [] = elim (is_attached g) as (λ b. (if b then at_position c g else g) ≡ at_position (if b then c else g.auxiliary) g) [
-  | true ↦ refl
-  | false ↦ refl
-]
+drawn_is : (c d : ℕ) (g : hb_glyph_info_t) (rest : List hb_glyph_info_t)
+    → before_next (if is_attached g then at_position c g else g) (walked attach_step d rest)
+    ≡ at_position (drawn_position c g rest) g
+drawn_is c d g [] =
+    elim (is_attached g) as (λ b. (if b then at_position c g else g) ≡ at_position (if b then c else g.auxiliary) g) [
+      | true ↦ refl
+      | false ↦ refl
+    ]
 drawn_is c d g (next ∷ rest) =
-    (elim (is_attached g) as (λ b. is_attached g ≡ b → before_next (if b then at_position c g else g) (walked attach_step d (next ∷ rest)) ≡ at_position (if b then c else if draws_sign g next then next.auxiliary else g.auxiliary) g) [
+    (elim (is_attached g) as (λ b. is_attached g ≡ b
+    → before_next (if b then at_position c g else g) (walked attach_step d (next ∷ rest))
+    ≡ at_position (if b then c else if draws_sign g next then next.auxiliary else g.auxiliary) g) [
       | true ↦ (λ t. undrawn c g (walked attach_step d (next ∷ rest)) t)
       | false ↦ (λ t. drawn_same d g next rest ∙ sign_written g next)
     ]) refl
 
 -- and after the third
-parted_is : (b p : ℕ) (g : hb_glyph_info_t) → at_position (parted_position b p g) g ≡ (if has_category 4 g && p == 2 then at_position b g else at_position p g)
-parted_is b p g = elim (has_category 4 g && p == 2) as (λ t. at_position (if t then b else p) g ≡ (if t then at_position b g else at_position p g)) [
-  | true ↦ refl
-  | false ↦ refl
-]
+parted_is : (b p : ℕ) (g : hb_glyph_info_t) → at_position (parted_position b p g) g
+    ≡ (if has_category 4 g && p == 2 then at_position b g else at_position p g)
+parted_is b p g =
+    elim (has_category 4 g && p == 2) as (λ t. at_position (if t then b else p) g
+    ≡ (if t then at_position b g else at_position p g)) [
+      | true ↦ refl
+      | false ↦ refl
+    ]
 
-marks_is : (c b : ℕ) (gs : List hb_glyph_info_t) → marks_from c b gs ≡ walked halant_step_of b (with_signs (walked attach_step c gs))
+marks_is : (c b : ℕ) (gs : List hb_glyph_info_t)
+    → marks_from c b gs ≡ walked halant_step_of b (with_signs (walked attach_step c gs))
 marks_is c b [] = refl
 marks_is c b (g ∷ gs) =
     let p = drawn_position c g gs in
@@ -85,34 +107,12 @@ marks_all gs =
     ∙ ap (λ xs. walked halant_step_of 2 (with_signs xs)) (attached_all gs)
     ∙ halants_all (with_signs (with_attached gs))
 
--- the walk: one glyph more
-pub marks_next : (i c b p q after behind : ℕ) (gs total : List hb_glyph_info_t) (d : hb_glyph_info_t) → i < length gs → take i gs ++ marks_from c b (drop i gs) ≡ total → p ≡ drawn_position c (get_or gs i d) (drop (i + 1) gs) → q ≡ parted_position b p (get_or gs i d) → after ≡ next_carrier c (get_or gs i d) → behind ≡ next_behind b p → take (i + 1) (set gs i (at_position q (get_or gs i d))) ++ marks_from after behind (drop (i + 1) (set gs i (at_position q (get_or gs i d)))) ≡ total
-marks_next i c b p q after behind gs total d l same position parted carrier passed =
-    let g = get_or gs i d in
-    let y = at_position q g in
-    let rest = drop (i + 1) gs in
-    ap (λ ys. ys ++ marks_from after behind (drop (i + 1) (set gs i y))) (take_more_set gs i y l)
-    ∙ append_assoc (take i gs) (y ∷ []) (marks_from after behind (drop (i + 1) (set gs i y)))
-    ∙ ap (λ ys. take i gs ++ y ∷ marks_from after behind ys) (drop-set-lt (i + 1) gs i y (omega arith))
-    ∙ ap (λ m. take i gs ++ y ∷ marks_from m behind rest) carrier
-    ∙ ap (λ m. take i gs ++ y ∷ marks_from (next_carrier c g) m rest) passed
-    ∙ ap (λ m. take i gs ++ at_position m g ∷ marks_from (next_carrier c g) (next_behind b p) rest) parted
-    ∙ ap (λ m. take i gs ++ at_position (parted_position b m g) g ∷ marks_from (next_carrier c g) (next_behind b m) rest) position
-    ∙ sym (ap (λ ys. take i gs ++ marks_from c b ys) (drop_more gs i d l))
-    ∙ same
-
 -- all glyphs
-pub marks_done : (i c b : ℕ) (gs old : List hb_glyph_info_t) → length gs ≤ i → take i gs ++ marks_from c b (drop i gs) ≡ marks_from 0 2 old → gs ≡ with_marks_attached old
+pub marks_done : (i c b : ℕ) (gs old : List hb_glyph_info_t) → length gs ≤ i → take i gs ++ marks_from c b (drop i gs)
+    ≡ marks_from 0 2 old → gs ≡ with_marks_attached old
 marks_done i c b gs old l same =
     sym (append-nil gs)
     ∙ sym (ap (λ ys. ys ++ []) (take_all i gs l))
     ∙ sym (ap (λ ys. take i gs ++ marks_from c b ys) (drop_all i gs l))
     ∙ same
     ∙ marks_all old
-
--- a glyph before another one, and the last
-pub drawn_before : (i c p : ℕ) (gs : List hb_glyph_info_t) (d : hb_glyph_info_t) → i + 1 < length gs → p ≡ (if is_attached (get_or gs i d) then c else if draws_sign (get_or gs i d) (get_or gs (i + 1) d) then (get_or gs (i + 1) d).auxiliary else (get_or gs i d).auxiliary) → p ≡ drawn_position c (get_or gs i d) (drop (i + 1) gs)
-drawn_before i c p gs d l is = is ∙ sym (ap (drawn_position c (get_or gs i d)) (drop_more gs (i + 1) d l))
-
-pub drawn_last : (i c p : ℕ) (gs : List hb_glyph_info_t) (d : hb_glyph_info_t) → length gs ≤ i + 1 → p ≡ (if is_attached (get_or gs i d) then c else (get_or gs i d).auxiliary) → p ≡ drawn_position c (get_or gs i d) (drop (i + 1) gs)
-drawn_last i c p gs d l is = is ∙ sym (ap (drawn_position c (get_or gs i d)) (drop_all (i + 1) gs l))

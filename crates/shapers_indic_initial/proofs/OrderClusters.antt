@@ -31,28 +31,38 @@ use Rattle.shapers_indic_initial.specs.Proved.OrderedPlaces.{ordered_permutes}
 
 -- places in some order are each there once
 pub once_permuted : (n : ℕ) (from : List ℕ) → IsPermutation (range_with_len 0 n) from → EachOnce from
-once_permuted n from perm = IsPermutation-keeps (range_with_len 0 n) EachOnce (once_range n) (λ xs i j h k o. once-swap xs i j h k o) from perm
+once_permuted n from perm =
+    IsPermutation-keeps (range_with_len 0 n) EachOnce (once_range n) (λ xs i j h k o. once-swap xs i j h k o) from perm
 
--- the stretches that are kept together hold the neighbours that those hold that merge; they begin at the base or behind it and end within
-pub held_together : (r : Rules) (from : List ℕ) (base i : ℕ) → EachOnce from → held (ordered_stretches r from base) i ≡ held (kept_together r from base) i
-held_together r from base i o = elim (r.old || nat_lt 127 (length from)) as (λ b. held (if b then (base, length from) ∷ [] else cycle_stretches from base) i ≡ held (if b then (base, length from) ∷ [] else all_ways from base) i) [
-  | true ↦ refl
-  | false ↦ held_by_ways from base i o
-]
+-- the stretches that are kept together hold the neighbours that those hold that merge; they begin
+-- at the base or behind it and end within
+pub held_together : (r : Rules) (from : List ℕ) (base i : ℕ) → EachOnce from → held (ordered_stretches r from base) i
+    ≡ held (kept_together r from base) i
+held_together r from base i o =
+    elim (r.old || nat_lt 127 (length from)) as (λ b. held (if b then (base, length from)
+    ∷ [] else cycle_stretches from base) i ≡ held (if b then (base, length from) ∷ [] else all_ways from base) i) [
+      | true ↦ refl
+      | false ↦ held_by_ways from base i o
+    ]
 
 pub record Lies (base n : ℕ) (st : ℕ × ℕ) : Type 0 where
   pub low : base ≤ st.0
   pub high : st.1 ≤ n
 
-pub together_lies : (r : Rules) (from : List ℕ) (base : ℕ) → EachOnce from → AllByRecursion (Lies base (length from)) (kept_together r from base)
-together_lies r from base o = elim (r.old || nat_lt 127 (length from)) as (λ b. AllByRecursion (Lies base (length from)) (if b then (base, length from) ∷ [] else all_ways from base)) [
-  | true ↦ (record { low = omega arith; high = omega arith }, tt)
-  | false ↦ all-mapped (λ p. p < length from) (Lies base (length from)) (way_of from base) (places base (length from)) (λ p l. record { low = omega arith; high = omega (arith, o.within p l) })
-      (all-range (λ p. p < length from) base (length from - base) (λ p low high. omega arith))
-]
+pub together_lies : (r : Rules) (from : List ℕ) (base : ℕ) → EachOnce from
+    → AllByRecursion (Lies base (length from)) (kept_together r from base)
+together_lies r from base o =
+    elim (r.old || nat_lt 127 (length from)) as (λ b. AllByRecursion (Lies base (length from))
+    (if b then (base, length from) ∷ [] else all_ways from base)) [
+      | true ↦ (record { low = omega arith; high = omega arith }, tt)
+      | false ↦ all-mapped (λ p. p < length from) (Lies base (length from)) (way_of from base) (places base (length from))
+          (λ p l. record { low = omega arith; high = omega (arith, o.within p l) })
+          (all-range (λ p. p < length from) base (length from - base) (λ p low high. omega arith))
+    ]
 
 -- what holds of all, by two things that do
-pub all_by_two : {X : Type 0} (P Q R : X → Type 0) → ((x : X) → P x → Q x → R x) → (xs : List X) → AllByRecursion P xs → AllByRecursion Q xs → AllByRecursion R xs
+pub all_by_two : {X : Type 0} (P Q R : X → Type 0) → ((x : X) → P x → Q x → R x) → (xs : List X) → AllByRecursion P xs
+    → AllByRecursion Q xs → AllByRecursion R xs
 all_by_two P Q R each [] h i = tt
 all_by_two P Q R each (x ∷ xs) h i = (each x h.0 i.0, all_by_two P Q R each xs h.1 i.1)
 
@@ -60,18 +70,22 @@ all_by_two P Q R each (x ∷ xs) h i = (each x h.0 i.0, all_by_two P Q R each xs
 record Behind (base i : ℕ) : Type 0 where
   pub above : base < i
 
-held_behind : (base n : ℕ) (sts : List (ℕ × ℕ)) (i : ℕ) → AllByRecursion (Lies base n) sts → held sts i ≡ true → Behind base i
+held_behind : (base n : ℕ) (sts : List (ℕ × ℕ)) (i : ℕ) → AllByRecursion (Lies base n) sts → held sts i ≡ true
+    → Behind base i
 held_behind base n [] i all h = absurd (cc h)
 held_behind base n (st ∷ sts) i all h = elim (cases_Bool (nat_lt st.0 i && nat_lt i st.1)) [
-  | inl t ↦ (let first = all.0 in let low = first.low in let k : st.0 < i = grind (arith, nat_tests) in record { above = omega arith })
+  | inl t ↦ (let first = all.0 in let low = first.low in let k : st.0
+      < i = grind (arith, nat_tests) in record { above = omega arith })
   | inr f ↦ held_behind base n sts i all.1 (sym (ap (λ b. b || held sts i) f) ∙ h)
 ]
 
 -- exact cuts by other stretches that hold the same neighbours
-linked_same : (xs : List ℕ) (sts others : List (ℕ × ℕ)) → ((i : ℕ) → held sts i ≡ held others i) → (i : ℕ) → linked xs sts i ≡ linked xs others i
+linked_same : (xs : List ℕ) (sts others : List (ℕ × ℕ)) → ((i : ℕ) → held sts i ≡ held others i) → (i : ℕ)
+    → linked xs sts i ≡ linked xs others i
 linked_same xs sts others same i = ap (λ b. slice_index xs (i - 1) == slice_index xs i || b) (same i)
 
-exact_by : (xs : List ℕ) (sts others : List (ℕ × ℕ)) (js : List ℕ) → ((i : ℕ) → held sts i ≡ held others i) → ExactCuts xs sts js → ExactCuts xs others js
+exact_by : (xs : List ℕ) (sts others : List (ℕ × ℕ)) (js : List ℕ) → ((i : ℕ) → held sts i ≡ held others i)
+    → ExactCuts xs sts js → ExactCuts xs others js
 exact_by xs sts others js same f =
     let e = linked_same xs sts others same in
     record {
@@ -82,25 +96,36 @@ exact_by xs sts others js same f =
     }
 
 -- a stretch whose neighbours are all held is in one cluster
-pub one_cluster : (level : BufferClusterLevel) → merges level ≡ true → (sts : List (ℕ × ℕ)) (xs : List ℕ) → EndWithin (length xs) sts → (st : ℕ × ℕ) → st.1 ≤ length xs → HeldIn sts st → OneAlong (joined_all level sts xs) st
+pub one_cluster : (level : BufferClusterLevel) → merges level ≡ true → (sts : List (ℕ × ℕ)) (xs : List ℕ)
+    → EndWithin (length xs) sts → (st : ℕ × ℕ) → st.1 ≤ length xs → HeldIn sts st
+    → OneAlong (joined_all level sts xs) st
 one_cluster level m sts xs ends st within all p q pl ph ql qh =
-    sym (share_all (joined_all level sts xs) p q (λ i a b. joined_all-linked level m sts xs ends i (omega arith) (omega arith)
-    (ap (λ c. slice_index xs (i - 1) == slice_index xs i || c) (all i (omega arith) (omega arith)) ∙ or_right (slice_index xs (i - 1) == slice_index xs i) true refl)) q (omega arith) (omega arith))
+    sym (share_all (joined_all level sts xs) p q
+    (λ i a b. joined_all-linked level m sts xs ends i (omega arith) (omega arith)
+    (ap (λ c. slice_index xs (i - 1) == slice_index xs i || c) (all i (omega arith) (omega arith))
+    ∙ or_right (slice_index xs (i - 1) == slice_index xs i) true refl)) q (omega arith) (omega arith))
 
 -- a place before the base keeps its cluster
-unlinked_before : (base n : ℕ) (sts : List (ℕ × ℕ)) (xs : List ℕ) → AllByRecursion (Lies base n) sts → ((a c : ℕ) → a < c → c < length xs → get_or xs a 0 ≢ get_or xs c 0) → (i : ℕ) → 0 < i → i ≤ base → i < length xs → linked xs sts i ≡ true → ⊥
+unlinked_before : (base n : ℕ) (sts : List (ℕ × ℕ)) (xs : List ℕ) → AllByRecursion (Lies base n) sts
+    → ((a c : ℕ) → a < c → c < length xs → get_or xs a 0 ≢ get_or xs c 0) → (i : ℕ) → 0 < i → i ≤ base → i < length xs
+    → linked xs sts i ≡ true → ⊥
 unlinked_before base n sts xs lies different i z h l t = elim (cases_Bool (slice_index xs (i - 1) == slice_index xs i)) [
   | inl e ↦ different (i - 1) i (omega arith) l (eqb-true (get_or xs (i - 1) 0) (get_or xs i 0) e)
-  | inr f ↦ let b = held_behind base n sts i lies (sym (ap (λ b. b || held sts i) f) ∙ t) in let above = b.above in omega arith
+  | inr f ↦ let b = held_behind base n sts i lies (sym (ap (λ b. b || held sts i) f) ∙ t) in let above =
+      b.above in omega arith
 ]
 
-kept_before : (base n : ℕ) (sts : List (ℕ × ℕ)) (xs js : List ℕ) → AllByRecursion (Lies base n) sts → ((a c : ℕ) → a < c → c < length xs → get_or xs a 0 ≢ get_or xs c 0) → ExactCuts xs sts js → (p : ℕ) → p < base → p < length xs → get_or js p 0 ≡ get_or xs p 0
+kept_before : (base n : ℕ) (sts : List (ℕ × ℕ)) (xs js : List ℕ) → AllByRecursion (Lies base n) sts
+    → ((a c : ℕ) → a < c → c < length xs → get_or xs a 0 ≢ get_or xs c 0) → ExactCuts xs sts js → (p : ℕ) → p < base
+    → p < length xs → get_or js p 0 ≡ get_or xs p 0
 kept_before base n sts xs js lies different f p b l =
     let (q, ql, block, at) = f.reached p l in
     elim (cases_lt p q) [
-      | inl h ↦ absurd (unlinked_before base n sts xs lies different (p + 1) (omega arith) (omega arith) (omega arith) (block (p + 1) (omega arith) (omega arith)))
+      | inl h ↦ absurd (unlinked_before base n sts xs lies different (p + 1) (omega arith) (omega arith) (omega arith)
+          (block (p + 1) (omega arith) (omega arith)))
       | inr h ↦ elim (cases_lt q p) [
-        | inl k ↦ absurd (unlinked_before base n sts xs lies different p (omega arith) (omega arith) l (block p (omega arith) (omega arith)))
+        | inl k ↦ absurd (unlinked_before base n sts xs lies different p (omega arith) (omega arith) l
+            (block p (omega arith) (omega arith)))
         | inr k ↦ at ∙ (let same : q ≡ p = omega arith in ap (λ k. get_or xs k 0) same)
       ]
     ]
@@ -115,7 +140,8 @@ order_merges r level gs cs m long =
     let fl : length from ≡ length gs = length_permuted n from perm in
     let sts = ordered_stretches r from base in
     let ways = kept_together r from base in
-    let within : AllByRecursion (λ p. p < length cs) from = subst (λ k. AllByRecursion (λ p. p < k) from) (sym long) (within_permuted n from perm) in
+    let within : AllByRecursion (λ p. p < length cs) from =
+    subst (λ k. AllByRecursion (λ p. p < k) from) (sym long) (within_permuted n from perm) in
     let xs = pick from cs in
     let xl : length xs ≡ length gs = length-pick from cs within ∙ fl in
     let ends : EndWithin (length xs) sts = subst (λ k. EndWithin k sts) (sym xl) (stretches_end r from base n perm) in
@@ -123,9 +149,13 @@ order_merges r level gs cs m long =
     let same = λ (i : ℕ). held_together r from base i o in
     let js = joined_all level sts xs in
     let different = λ (h : AllDifferent cs). different_permuted cs xs (picked-permuted n from cs long within perm) h in
-    let exact = λ (h : AllDifferent cs). exact_by xs sts ways js same (exact_gathered level m sts xs ends (different_gathered xs (different h))) in
+    let exact = λ (h : AllDifferent cs). exact_by xs sts ways js same
+    (exact_gathered level m sts xs ends (different_gathered xs (different h))) in
     record {
-      together = all_by_two (Lies base (length from)) (HeldIn ways) (OneAlong js) (λ st a b. one_cluster level m sts xs ends st (omega (arith, a.high)) (λ i x y. same i ∙ b i x y)) ways lies (all_held ways);
+      together = all_by_two (Lies base (length from)) (HeldIn ways) (OneAlong js)
+          (λ st a b. one_cluster level m sts xs ends st (omega (arith, a.high)) (λ i x y. same i ∙ b i x y)) ways lies
+          (all_held ways);
       exact = exact;
-      before = λ h p b l. kept_before base (length from) ways xs js lies (λ a c l k. different h a c 0 l k) (exact h) p b (omega arith);
+      before = λ h p b l. kept_before base (length from) ways xs js lies (λ a c l k. different h a c 0 l k) (exact h) p
+          b (omega arith);
     }

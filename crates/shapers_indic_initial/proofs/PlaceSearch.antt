@@ -28,8 +28,10 @@ places_split s i e h l =
     ap (range_with_len s) n ∙ range-append s (i - s) (e - i) ∙ ap (λ k. places s i ++ range_with_len k (e - i)) at
 
 -- the greatest place, with the last place apart
-pub greatest_last : (P : ℕ → Bool) (s i : ℕ) → s ≤ i → greatest_place P s (i + 1) ≡ cond (P i) (Some i) (greatest_place P s i)
-greatest_last P s i l = ap (λ xs. find P (reverse xs)) (places_last s i l) ∙ ap (find P) (reverse-append (places s i) (i ∷ []))
+pub greatest_last : (P : ℕ → Bool) (s i : ℕ) → s ≤ i
+    → greatest_place P s (i + 1) ≡ cond (P i) (Some i) (greatest_place P s i)
+greatest_last P s i l = ap (λ xs. find P (reverse xs)) (places_last s i l)
+    ∙ ap (find P) (reverse-append (places s i) (i ∷ []))
 
 pub greatest_back : (P : ℕ → Bool) (s i : ℕ) → s ≤ i → P i ≡ false → greatest_place P s (i + 1) ≡ greatest_place P s i
 greatest_back P s i l e = greatest_last P s i l ∙ ap (λ b. cond b (Some i) (greatest_place P s i)) e
@@ -41,14 +43,16 @@ pub greatest_none : (P : ℕ → Bool) (s e : ℕ) → e ≤ s → greatest_plac
 greatest_none P s e l = ap (λ xs. find P (reverse xs)) (places_none s e l)
 
 -- with the first place apart
-pub greatest_first : (P : ℕ → Bool) (i n : ℕ) → i < n → greatest_place P i n ≡ option_or (greatest_place P (i + 1) n) (cond (P i) (Some i) None)
+pub greatest_first : (P : ℕ → Bool) (i n : ℕ) → i < n
+    → greatest_place P i n ≡ option_or (greatest_place P (i + 1) n) (cond (P i) (Some i) None)
 greatest_first P i n l =
     ap (λ xs. find P (reverse xs)) (places_first i n l)
     ∙ ap (find P) (reverse-append (i ∷ []) (places (i + 1) n))
     ∙ find-append P (reverse (places (i + 1) n)) (i ∷ [])
 
 -- what is found from a place on is found from each earlier one on
-pub greatest_further : (P : ℕ → Bool) (s i e k : ℕ) → s ≤ i → i ≤ e → greatest_place P i e ≡ Some k → greatest_place P s e ≡ Some k
+pub greatest_further : (P : ℕ → Bool) (s i e k : ℕ) → s ≤ i → i ≤ e → greatest_place P i e ≡ Some k
+    → greatest_place P s e ≡ Some k
 greatest_further P s i e k h l is =
     ap (λ xs. find P (reverse xs)) (places_split s i e h l)
     ∙ ap (find P) (reverse-append (places s i) (places i e))
@@ -73,7 +77,8 @@ greatest_before P s (suc i) k is = elim (cases_lt i s) [
   | inl l ↦ absurd (none_some (sym (greatest_none P s (suc i) (omega arith)) ∙ is))
   | inr l ↦
       let one : suc i ≡ i + 1 = omega arith in
-      let step : cond (P i) (Some i) (greatest_place P s i) ≡ Some k = sym (ap (greatest_place P s) one ∙ greatest_last P s i (omega arith)) ∙ is in
+      let step : cond (P i) (Some i) (greatest_place P s i) ≡ Some k =
+      sym (ap (greatest_place P s) one ∙ greatest_last P s i (omega arith)) ∙ is in
       (elim (P i) as (λ b. cond b (Some i) (greatest_place P s i) ≡ Some k → k < suc i) [
         | true ↦ λ e. omega (arith, some_same e)
         | false ↦ λ e. let u : k < i = greatest_before P s i k e in omega arith
@@ -86,12 +91,6 @@ least_first P i n l = ap (find P) (places_first i n l)
 
 pub least_further : (P : ℕ → Bool) (i n : ℕ) → i < n → P i ≡ false → least_place P i n ≡ least_place P (i + 1) n
 least_further P i n l e = least_first P i n l ∙ ap (λ b. cond b (Some i) (least_place P (i + 1) n)) e
-
-pub least_here : (P : ℕ → Bool) (i n : ℕ) → i < n → P i ≡ true → least_place P i n ≡ Some i
-least_here P i n l e = least_first P i n l ∙ ap (λ b. cond b (Some i) (least_place P (i + 1) n)) e
-
-pub least_none : (P : ℕ → Bool) (s e : ℕ) → e ≤ s → least_place P s e ≡ None
-least_none P s e l = ap (find P) (places_none s e l)
 
 -- whether some place has a property, with the first place apart
 pub some_first : (P : ℕ → Bool) (i n : ℕ) → i < n → some_place P i n ≡ P i || some_place P (i + 1) n

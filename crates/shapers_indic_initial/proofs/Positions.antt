@@ -2,7 +2,7 @@
 use Rattle.std.proofs.Common.{◌≡◌, ℕ, ◌+◌, ◌<◌, ◌≤◌, ◌==◌, nat_le, nat_lt, min, Bool, true, false, cond, not, ◌&&◌, ◌||◌, List, [], ◌∷◌, ◌++◌, map, length, take, drop, find, get_or, set, reverse, Option, None, Some, unwrap_or, if◌then◌else◌, refl, sym, ap, ◌∙◌, arith, append_assoc}
 use Rattle.std.specs.List.{enumerate_from}
 use Rattle.std.specs.Option.{option_map_or}
-use Rattle.std.proofs.lemmas.List.{append-nil, drop_more, drop_all, get_or_append_left, get_or-take, length-take-le, reverse-append, set_at, take_all, take-append-drop, take_more}
+use Rattle.std.proofs.lemmas.List.{drop_more, get_or_append_left, get_or-take, length-take-le, reverse-append, set_at, take-append-drop, take_more}
 use Rattle.std.proofs.lemmas.Bool.Decides.{nat_tests}
 use Rattle.shapers_buffer.specs.declared.buffer.glyph.hb_glyph_info_t.{hb_glyph_info_t}
 use Rattle.shapers_buffer.specs.Glyph.{at_position}
@@ -16,37 +16,47 @@ use Rattle.shapers_syllabic.specs.Consonants.{is_consonant}
 abbrev pub base_step : ℕ → Bool → ℕ → hb_glyph_info_t → ℕ × hb_glyph_info_t
 base_step base reph i g = (i + 1, at_position (position_by_base base reph i g.auxiliary) g)
 
-by_base_from : (base : ℕ) (reph : Bool) (i : ℕ) (gs : List hb_glyph_info_t) → walked (base_step base reph) i gs ≡ map (λ t. at_position (position_by_base base reph t.0 t.1.auxiliary) t.1) (enumerate_from i gs)
+by_base_from : (base : ℕ) (reph : Bool) (i : ℕ) (gs : List hb_glyph_info_t) → walked (base_step base reph) i gs
+    ≡ map (λ t. at_position (position_by_base base reph t.0 t.1.auxiliary) t.1) (enumerate_from i gs)
 by_base_from base reph i [] = refl
-by_base_from base reph i (g ∷ gs) = ap (λ xs. at_position (position_by_base base reph i g.auxiliary) g ∷ xs) (by_base_from base reph (i + 1) gs)
+by_base_from base reph i (g ∷ gs) =
+    ap (λ xs. at_position (position_by_base base reph i g.auxiliary) g ∷ xs) (by_base_from base reph (i + 1) gs)
 
 and_false : (b : Bool) → (b && false) ≡ false
 and_false true = refl
 and_false false = refl
 
-pub by_base_all : (base : ℕ) (reph : Bool) (gs : List hb_glyph_info_t) → walked (base_step base reph) 0 gs ≡ by_base base reph gs
+pub by_base_all : (base : ℕ) (reph : Bool) (gs : List hb_glyph_info_t) → walked (base_step base reph) 0 gs
+    ≡ by_base base reph gs
 by_base_all base reph gs = by_base_from base reph 0 gs
 
 -- behind the base each glyph keeps its position
-walked_behind_base : (base : ℕ) (reph : Bool) (i : ℕ) (gs : List hb_glyph_info_t) → base < i → walked (base_step base reph) i gs ≡ gs
+walked_behind_base : (base : ℕ) (reph : Bool) (i : ℕ) (gs : List hb_glyph_info_t) → base < i
+    → walked (base_step base reph) i gs ≡ gs
 walked_behind_base base reph i [] h = refl
 walked_behind_base base reph i (g ∷ gs) h =
     let first : (i == 0) ≡ false = grind (arith, nat_tests) in
     let before : nat_lt i base ≡ false = grind (arith, nat_tests) in
     let here : (i == base) ≡ false = grind (arith, nat_tests) in
     let stays : position_by_base base reph i g.auxiliary ≡ g.auxiliary =
-    ap (λ b. if reph && b then 1 else if nat_lt i base then min 3 g.auxiliary else if i == base then 4 else g.auxiliary) first
-    ∙ ap (λ b. if b then 1 else if nat_lt i base then min 3 g.auxiliary else if i == base then 4 else g.auxiliary) (and_false reph)
+    ap (λ b. if reph && b then 1 else if nat_lt i base then min 3 g.auxiliary else if i == base then 4 else g.auxiliary)
+    first
+    ∙ ap (λ b. if b then 1 else if nat_lt i base then min 3 g.auxiliary else if i == base then 4 else g.auxiliary)
+    (and_false reph)
     ∙ ap (λ b. if b then min 3 g.auxiliary else if i == base then 4 else g.auxiliary) before
     ∙ ap (λ b. if b then 4 else g.auxiliary) here in
-    ap (λ p. at_position p g ∷ walked (base_step base reph) (i + 1) gs) stays ∙ ap (λ xs. g ∷ xs) (walked_behind_base base reph (i + 1) gs (omega arith))
+    ap (λ p. at_position p g ∷ walked (base_step base reph) (i + 1) gs) stays
+    ∙ ap (λ xs. g ∷ xs) (walked_behind_base base reph (i + 1) gs (omega arith))
 
-pub based_all : (base : ℕ) (reph : Bool) (i : ℕ) (gs old : List hb_glyph_info_t) → (i < length gs → base < i) → take i gs ++ walked (base_step base reph) i (drop i gs) ≡ walked (base_step base reph) 0 old → gs ≡ by_base base reph old
+pub based_all : (base : ℕ) (reph : Bool) (i : ℕ) (gs old : List hb_glyph_info_t) → (i < length gs → base < i)
+    → take i gs ++ walked (base_step base reph) i (drop i gs) ≡ walked (base_step base reph) 0 old
+    → gs ≡ by_base base reph old
 based_all base reph i gs old far same =
     (elim (nat_lt i (length gs)) as (λ b. nat_lt i (length gs) ≡ b → gs ≡ walked (base_step base reph) 0 old) [
       | true ↦ (λ t.
           let inside : i < length gs = grind (arith, nat_tests) in
-          sym (take-append-drop i gs) ∙ sym (ap (λ xs. take i gs ++ xs) (walked_behind_base base reph i (drop i gs) (far inside))) ∙ same)
+          sym (take-append-drop i gs)
+          ∙ sym (ap (λ xs. take i gs ++ xs) (walked_behind_base base reph i (drop i gs) (far inside))) ∙ same)
       | false ↦ (λ t.
           let done : length gs ≤ i = grind (arith, nat_tests) in
           walk_done (base_step base reph) i gs (walked (base_step base reph) 0 old) i done same)
@@ -57,22 +67,29 @@ based_all base reph i gs old far same =
 abbrev pub nearest_place : (hb_glyph_info_t → Bool) → ℕ → List hb_glyph_info_t → ℕ
 nearest_place test d before = option_map_or (λ h. h.auxiliary) (find test (reverse before)) d
 
-abbrev pub carry_step : (hb_glyph_info_t → Bool) → (ℕ → hb_glyph_info_t → hb_glyph_info_t) → ℕ → hb_glyph_info_t → ℕ × hb_glyph_info_t
+abbrev pub carry_step : (hb_glyph_info_t → Bool) → (ℕ → hb_glyph_info_t → hb_glyph_info_t) → ℕ → hb_glyph_info_t
+    → ℕ × hb_glyph_info_t
 carry_step test change c g = (cond (test g) g.auxiliary c, change c g)
 
-nearest_next : (test : hb_glyph_info_t → Bool) (d : ℕ) (before : List hb_glyph_info_t) (g : hb_glyph_info_t) → cond (test g) g.auxiliary (nearest_place test d before) ≡ nearest_place test d (before ++ g ∷ [])
+nearest_next : (test : hb_glyph_info_t → Bool) (d : ℕ) (before : List hb_glyph_info_t) (g : hb_glyph_info_t)
+    → cond (test g) g.auxiliary (nearest_place test d before) ≡ nearest_place test d (before ++ g ∷ [])
 nearest_next test d before g =
-    (elim (test g) as (λ b. cond b g.auxiliary (nearest_place test d before) ≡ option_map_or (λ h. h.auxiliary) (cond b (Some g) (find test (reverse before))) d) [
+    (elim (test g) as (λ b. cond b g.auxiliary (nearest_place test d before)
+    ≡ option_map_or (λ h. h.auxiliary) (cond b (Some g) (find test (reverse before))) d) [
       | true ↦ refl
       | false ↦ refl
     ])
     ∙ sym (ap (λ xs. option_map_or (λ h. h.auxiliary) (find test xs) d) (reverse-append before (g ∷ [])))
 
-pub carried_on : (test : hb_glyph_info_t → Bool) (change : ℕ → hb_glyph_info_t → hb_glyph_info_t) (d c : ℕ) (before gs : List hb_glyph_info_t) → c ≡ nearest_place test d before → walked (carry_step test change) c gs ≡ map (λ t. change (nearest_place test d t.0) t.1) (each_after before gs)
+pub carried_on : (test : hb_glyph_info_t → Bool) (change : ℕ → hb_glyph_info_t → hb_glyph_info_t) (d c : ℕ)
+    (before gs : List hb_glyph_info_t) → c ≡ nearest_place test d before → walked (carry_step test change) c gs
+    ≡ map (λ t. change (nearest_place test d t.0) t.1) (each_after before gs)
 carried_on test change d c before [] e = refl
 carried_on test change d c before (g ∷ gs) e =
     ap (λ p. change p g ∷ walked (carry_step test change) (cond (test g) g.auxiliary c) gs) e
-    ∙ ap (λ xs. change (nearest_place test d before) g ∷ xs) (carried_on test change d (cond (test g) g.auxiliary c) (before ++ g ∷ []) gs (ap (cond (test g) g.auxiliary) e ∙ nearest_next test d before g))
+    ∙ ap (λ xs. change (nearest_place test d before) g ∷ xs)
+    (carried_on test change d (cond (test g) g.auxiliary c) (before ++ g ∷ []) gs (ap (cond (test g) g.auxiliary) e
+    ∙ nearest_next test d before g))
 
 abbrev pub attach_step : ℕ → hb_glyph_info_t → ℕ × hb_glyph_info_t
 attach_step = carry_step carries (λ p g. if is_attached g then at_position p g else g)
@@ -81,10 +98,14 @@ pub attached_all : (gs : List hb_glyph_info_t) → walked attach_step 0 gs ≡ w
 attached_all gs = carried_on carries (λ p g. if is_attached g then at_position p g else g) 0 0 [] gs refl
 
 abbrev pub halant_step_of : ℕ → hb_glyph_info_t → ℕ × hb_glyph_info_t
-halant_step_of = carry_step (λ h. not (has_position 2 h)) (λ p g. if has_category 4 g && has_position 2 g then at_position p g else g)
+halant_step_of =
+    carry_step (λ h. not (has_position 2 h))
+    (λ p g. if has_category 4 g && has_position 2 g then at_position p g else g)
 
 pub halants_all : (gs : List hb_glyph_info_t) → walked halant_step_of 2 gs ≡ with_halants gs
-halants_all gs = carried_on (λ h. not (has_position 2 h)) (λ p g. if has_category 4 g && has_position 2 g then at_position p g else g) 2 2 [] gs refl
+halants_all gs =
+    carried_on (λ h. not (has_position 2 h))
+    (λ p g. if has_category 4 g && has_position 2 g then at_position p g else g) 2 2 [] gs refl
 
 -- what consonants own, from the right
 abbrev pub owner_position : Option hb_glyph_info_t → Option ℕ
@@ -96,59 +117,42 @@ pub record Owning (i : ℕ) (owner : Option ℕ) (old gs : List hb_glyph_info_t)
   pub owned : gs ≡ take i old ++ with_owners (drop i old)
   pub next_owner : owner ≡ owner_position (find bounds (drop i old))
 
-pub owning_start : (gs : List hb_glyph_info_t) → Owning (length gs) None gs gs
-owning_start gs = record {
-  within = omega arith;
-  owned = sym (append-nil gs) ∙ sym (ap (λ xs. xs ++ []) (take_all (length gs) gs (omega arith))) ∙ sym (ap (λ xs. take (length gs) gs ++ with_owners xs) (drop_all (length gs) gs (omega arith)));
-  next_owner = sym (ap (λ xs. owner_position (find bounds xs)) (drop_all (length gs) gs (omega arith)));
-}
-
 -- the glyph before what is done is still the old one
-pub owning_here : (k : ℕ) (owner : Option ℕ) (old gs : List hb_glyph_info_t) (d : hb_glyph_info_t) → Owning (k + 1) owner old gs → get_or gs k d ≡ get_or old k d
+pub owning_here : (k : ℕ) (owner : Option ℕ) (old gs : List hb_glyph_info_t) (d : hb_glyph_info_t)
+    → Owning (k + 1) owner old gs → get_or gs k d ≡ get_or old k d
 owning_here k owner old gs d s =
     let long : length (take (k + 1) old) ≡ k + 1 = length-take-le (k + 1) old s.within in
-    ap (λ xs. get_or xs k d) s.owned ∙ get_or_append_left (take (k + 1) old) (with_owners (drop (k + 1) old)) d k (omega arith) ∙ get_or-take (k + 1) old k d (omega arith)
+    ap (λ xs. get_or xs k d) s.owned ∙ get_or_append_left (take (k + 1) old) (with_owners (drop (k + 1) old)) d k
+    (omega arith) ∙ get_or-take (k + 1) old k d (omega arith)
 
-pub owning_bounded : (k : ℕ) (owner after : Option ℕ) (old gs : List hb_glyph_info_t) (d : hb_glyph_info_t) → Owning (k + 1) owner old gs → bounds (get_or gs k d) ≡ true → after ≡ (if is_consonant (get_or gs k d) then Some (get_or gs k d).auxiliary else None) → Owning k after old gs
-owning_bounded k owner after old gs d s bound is =
-    let same = owning_here k owner old gs d s in
-    let g = get_or old k d in
-    let bound_g : bounds g ≡ true = sym (ap bounds same) ∙ bound in
-    let inside : k < length old = omega (arith, s.within) in
-    let there : drop k old ≡ g ∷ drop (k + 1) old = drop_more old k d inside in
-    let stays : with_owner (drop (k + 1) old) g ≡ g = ap (λ b. if b || nat_le 13 g.auxiliary then g else owned_by (find bounds (drop (k + 1) old)) g) bound_g in
-    record {
-      within = omega arith;
-      owned =
-          s.owned
-          ∙ ap (λ xs. xs ++ with_owners (drop (k + 1) old)) (take_more old k d inside)
-          ∙ append_assoc (take k old) (g ∷ []) (with_owners (drop (k + 1) old))
-          ∙ sym (ap (λ x. take k old ++ x ∷ with_owners (drop (k + 1) old)) stays)
-          ∙ sym (ap (λ xs. take k old ++ with_owners xs) there);
-      next_owner =
-          is
-          ∙ ap (λ x. if is_consonant x then Some x.auxiliary else None) same
-          ∙ sym (ap owner_position (ap (find bounds) there ∙ ap (λ b. cond b (Some g) (find bounds (drop (k + 1) old))) bound_g));
-    }
-
-owned_is : (g : hb_glyph_info_t) (o : Option hb_glyph_info_t) → at_position (if nat_le 13 g.auxiliary then g.auxiliary else unwrap_or (owner_position o) g.auxiliary) g ≡ (if nat_le 13 g.auxiliary then g else owned_by o g)
-owned_is g None = elim (nat_le 13 g.auxiliary) as (λ b. at_position (if b then g.auxiliary else g.auxiliary) g ≡ (if b then g else g)) [
-  | true ↦ refl
-  | false ↦ refl
-]
+owned_is : (g : hb_glyph_info_t) (o : Option hb_glyph_info_t)
+    → at_position (if nat_le 13 g.auxiliary then g.auxiliary else unwrap_or (owner_position o) g.auxiliary) g
+    ≡ (if nat_le 13 g.auxiliary then g else owned_by o g)
+owned_is g None =
+    elim (nat_le 13 g.auxiliary) as (λ b. at_position (if b then g.auxiliary else g.auxiliary) g ≡ (if b then g else g)) [
+      | true ↦ refl
+      | false ↦ refl
+    ]
 owned_is g (Some h) =
-    (elim (is_consonant h) as (λ a. at_position (if nat_le 13 g.auxiliary then g.auxiliary else unwrap_or (if a then Some h.auxiliary else None) g.auxiliary) g ≡ (if nat_le 13 g.auxiliary then g else (if a then at_position h.auxiliary g else g))) [
-      | true ↦ (elim (nat_le 13 g.auxiliary) as (λ b. at_position (if b then g.auxiliary else h.auxiliary) g ≡ (if b then g else at_position h.auxiliary g)) [
-        | true ↦ refl
-        | false ↦ refl
-      ])
-      | false ↦ (elim (nat_le 13 g.auxiliary) as (λ b. at_position (if b then g.auxiliary else g.auxiliary) g ≡ (if b then g else g)) [
-        | true ↦ refl
-        | false ↦ refl
-      ])
+    (elim (is_consonant h) as (λ a. at_position
+    (if nat_le 13 g.auxiliary then g.auxiliary else unwrap_or (if a then Some h.auxiliary else None) g.auxiliary) g
+    ≡ (if nat_le 13 g.auxiliary then g else (if a then at_position h.auxiliary g else g))) [
+      | true ↦ (elim (nat_le 13 g.auxiliary) as (λ b. at_position (if b then g.auxiliary else h.auxiliary) g
+          ≡ (if b then g else at_position h.auxiliary g)) [
+            | true ↦ refl
+            | false ↦ refl
+          ])
+      | false ↦ (elim (nat_le 13 g.auxiliary) as (λ b. at_position (if b then g.auxiliary else g.auxiliary) g
+          ≡ (if b then g else g)) [
+            | true ↦ refl
+            | false ↦ refl
+          ])
     ])
 
-pub owning_next : (k p : ℕ) (owner : Option ℕ) (old gs : List hb_glyph_info_t) (d : hb_glyph_info_t) → Owning (k + 1) owner old gs → bounds (get_or gs k d) ≡ false → p ≡ (if nat_le 13 (get_or gs k d).auxiliary then (get_or gs k d).auxiliary else unwrap_or owner (get_or gs k d).auxiliary) → Owning k owner old (set gs k (at_position p (get_or gs k d)))
+pub owning_next : (k p : ℕ) (owner : Option ℕ) (old gs : List hb_glyph_info_t) (d : hb_glyph_info_t)
+    → Owning (k + 1) owner old gs → bounds (get_or gs k d) ≡ false
+    → p ≡ (if nat_le 13 (get_or gs k d).auxiliary then (get_or gs k d).auxiliary else unwrap_or owner
+    (get_or gs k d).auxiliary) → Owning k owner old (set gs k (at_position p (get_or gs k d)))
 owning_next k p owner old gs d s unbound is =
     let same = owning_here k owner old gs d s in
     let g = get_or old k d in
@@ -157,10 +161,14 @@ owning_next k p owner old gs d s unbound is =
     let inside : k < length old = omega (arith, s.within) in
     let there : drop k old ≡ g ∷ rest = drop_more old k d inside in
     let front : length (take k old) ≡ k = length-take-le k old (omega arith) in
-    let whole : gs ≡ take k old ++ g ∷ with_owners rest = s.owned ∙ ap (λ xs. xs ++ with_owners rest) (take_more old k d inside) ∙ append_assoc (take k old) (g ∷ []) (with_owners rest) in
+    let whole : gs ≡ take k old ++ g ∷ with_owners rest =
+    s.owned ∙ ap (λ xs. xs ++ with_owners rest) (take_more old k d inside)
+    ∙ append_assoc (take k old) (g ∷ []) (with_owners rest) in
     let written : at_position p (get_or gs k d) ≡ with_owner rest g =
     ap (λ x. at_position p x) same
-    ∙ ap (λ q. at_position q g) (is ∙ ap (λ x. if nat_le 13 x.auxiliary then x.auxiliary else unwrap_or owner x.auxiliary) same ∙ ap (λ o. if nat_le 13 g.auxiliary then g.auxiliary else unwrap_or o g.auxiliary) s.next_owner)
+    ∙ ap (λ q. at_position q g) (is
+    ∙ ap (λ x. if nat_le 13 x.auxiliary then x.auxiliary else unwrap_or owner x.auxiliary) same
+    ∙ ap (λ o. if nat_le 13 g.auxiliary then g.auxiliary else unwrap_or o g.auxiliary) s.next_owner)
     ∙ owned_is g (find bounds rest)
     ∙ sym (ap (λ b. if b || nat_le 13 g.auxiliary then g else owned_by (find bounds rest) g) unbound_g) in
     record {
@@ -170,5 +178,6 @@ owning_next k p owner old gs d s unbound is =
           ∙ set_at (take k old) g (with_owners rest) (at_position p (get_or gs k d)) k front
           ∙ ap (λ x. take k old ++ x ∷ with_owners rest) written
           ∙ sym (ap (λ xs. take k old ++ with_owners xs) there);
-      next_owner = s.next_owner ∙ sym (ap owner_position (ap (find bounds) there ∙ ap (λ b. cond b (Some g) (find bounds rest)) unbound_g));
+      next_owner = s.next_owner
+          ∙ sym (ap owner_position (ap (find bounds) there ∙ ap (λ b. cond b (Some g) (find bounds rest)) unbound_g));
     }

@@ -40,20 +40,24 @@ plain_keeps = record {
 
 -- a syllable in the order view, and how long it is
 
-pub seen_long : (s e : ℕ) (gs : List hb_glyph_info_t) → s ≤ e → e ≤ length gs → length (stretch_of s e (order_view gs)) ≡ e - s
+pub seen_long : (s e : ℕ) (gs : List hb_glyph_info_t) → s ≤ e → e ≤ length gs → length (stretch_of s e (order_view gs))
+    ≡ e - s
 seen_long s e gs h l = length-stretch s e (order_view gs) (omega (arith, length-map gs plain))
 
 -- a stretch picked in its own order stays
-picked_still : (s e n : ℕ) (gs : List hb_glyph_info_t) → s ≤ e → e ≤ length gs → n ≡ e - s → gs ≡ with_stretch s e (pick (range_with_len 0 n)) gs
+picked_still : (s e n : ℕ) (gs : List hb_glyph_info_t) → s ≤ e → e ≤ length gs → n ≡ e - s
+    → gs ≡ with_stretch s e (pick (range_with_len 0 n)) gs
 picked_still s e n gs h l k =
     sym (three_parts s e gs h)
     ∙ sym (ap (λ ys. take s gs ++ (ys ++ drop e gs)) (pick-all n (stretch_of s e gs) (length-stretch s e gs l ∙ sym k)))
 
 -- a stretch picked by a move
-picked_moved : (s e n h j : ℕ) (gs : List hb_glyph_info_t) → s ≤ e → e ≤ length gs → n ≡ e - s → h ≤ j → j < n → moved_behind (s + h) (s + j) gs ≡ with_stretch s e (pick (moved_behind h j (range_with_len 0 n))) gs
+picked_moved : (s e n h j : ℕ) (gs : List hb_glyph_info_t) → s ≤ e → e ≤ length gs → n ≡ e - s → h ≤ j → j < n
+    → moved_behind (s + h) (s + j) gs ≡ with_stretch s e (pick (moved_behind h j (range_with_len 0 n))) gs
 picked_moved s e n h j gs l r k a b =
     moved_within default_glyph s e h j gs l r a (omega arith)
-    ∙ sym (ap (λ ys. take s gs ++ (ys ++ drop e gs)) (pick-moved h j n (stretch_of s e gs) (length-stretch s e gs r ∙ sym k) a b))
+    ∙ sym (ap (λ ys. take s gs ++ (ys ++ drop e gs))
+    (pick-moved h j n (stretch_of s e gs) (length-stretch s e gs r ∙ sym k) a b))
 
 -- a swap of the second and the third is a move
 swap_moved : (n : ℕ) → 2 < n → swap (range_with_len 0 n) 1 2 ≡ moved_behind 1 2 (range_with_len 0 n)
@@ -63,7 +67,8 @@ swap_moved (suc (suc zero)) l = absurd (omega arith)
 swap_moved (suc (suc (suc n))) l = refl
 
 -- the step of Kannada
-pub joiner_moves : (script : Option Script) (s e : ℕ) (old mid new : Buffer) → s ≤ e → e ≤ length old.glyphs → joiner_comes_first script (stretch_of s e old.glyphs) ≡ true
+pub joiner_moves : (script : Option Script) (s e : ℕ) (old mid new : Buffer) → s ≤ e → e ≤ length old.glyphs
+    → joiner_comes_first script (stretch_of s e old.glyphs) ≡ true
     → mid ≡ (let r : Buffer = record old { glyphs = merge old.level (s + 1) (s + 3) old.glyphs } in r)
     → but_places new ≡ record (but_places mid) { glyphs = new.glyphs }
     → new.glyphs ≡ moved_behind (s + 1) (s + 3 - 1) mid.glyphs
@@ -73,12 +78,14 @@ joiner_moves script s e old mid new h l first is kept moved =
     let X = stretch_of s e (order_view gs) in
     let n = length X in
     let long : n ≡ e - s = seen_long s e gs h l in
-    let on : joiner_comes_first script X ≡ true = ap (joiner_comes_first script) (sym (map-stretch plain s e gs)) ∙ joiner_first_stays plain plain_keeps script (stretch_of s e gs) ∙ first in
+    let on : joiner_comes_first script X ≡ true = ap (joiner_comes_first script) (sym (map-stretch plain s e gs))
+    ∙ joiner_first_stays plain plain_keeps script (stretch_of s e gs) ∙ first in
     let step = joiner_step script X in
     let swaps : step ≡ swap_step n 1 = ap (λ b. if b then swap_step n 1 else still_step n) on in
     let two : 2 < n = joiner_long script X on in
     let ms = merge old.level (s + 1) (s + 3) gs in
-    let firsts : merge_all old.level (shifted s step.merged_first) gs ≡ ms = ap (λ t. merge_all old.level (shifted s t.merged_first) gs) swaps in
+    let firsts : merge_all old.level (shifted s step.merged_first) gs ≡ ms =
+    ap (λ t. merge_all old.level (shifted s t.merged_first) gs) swaps in
     let there : step.places ≡ moved_behind 1 2 (range_with_len 0 n) = ap (λ t. t.places) swaps ∙ swap_moved n two in
     let room : s + 3 ≤ length gs = omega (arith, two, long) in
     let same : length ms ≡ length gs = length-merge old.level (s + 1) (s + 3) gs room in
@@ -93,13 +100,16 @@ joiner_moves script s e old mid new h l first is kept moved =
     ∙ sym (ap (with_stretch s e (pick step.places)) firsts))
     refl refl
 
-pub joiner_stays_put : (script : Option Script) (s e : ℕ) (b : Buffer) → s ≤ e → e ≤ length b.glyphs → joiner_comes_first script (stretch_of s e b.glyphs) ≡ false → SyllableReordered (with_joiner_first script) (joiner_steps script) s e b b
+pub joiner_stays_put : (script : Option Script) (s e : ℕ) (b : Buffer) → s ≤ e → e ≤ length b.glyphs
+    → joiner_comes_first script (stretch_of s e b.glyphs) ≡ false
+    → SyllableReordered (with_joiner_first script) (joiner_steps script) s e b b
 joiner_stays_put script s e b h l first =
     let gs = b.glyphs in
     let X = stretch_of s e (order_view gs) in
     let n = length X in
     let long : n ≡ e - s = seen_long s e gs h l in
-    let off : joiner_comes_first script X ≡ false = ap (joiner_comes_first script) (sym (map-stretch plain s e gs)) ∙ joiner_first_stays plain plain_keeps script (stretch_of s e gs) ∙ first in
+    let off : joiner_comes_first script X ≡ false = ap (joiner_comes_first script) (sym (map-stretch plain s e gs))
+    ∙ joiner_first_stays plain plain_keeps script (stretch_of s e gs) ∙ first in
     let step = joiner_step script X in
     let still : step ≡ still_step n = ap (λ c. if c then swap_step n 1 else still_step n) off in
     stepped (with_joiner_first script) (joiner_steps script) s e step b b h l
@@ -111,8 +121,10 @@ joiner_stays_put script s e b h l first =
     refl refl
 
 -- the older specification's H
-pub halant_moves : (r : Rules) (script : Option Script) (base s e a j : ℕ) (old new : Buffer) → s ≤ e → e ≤ length old.glyphs → a < j → j < length (stretch_of s e old.glyphs)
-    → halant_places r script base (stretch_of s e old.glyphs) ≡ moved_behind a j (places 0 (length (stretch_of s e old.glyphs)))
+pub halant_moves : (r : Rules) (script : Option Script) (base s e a j : ℕ) (old new : Buffer) → s ≤ e
+    → e ≤ length old.glyphs → a < j → j < length (stretch_of s e old.glyphs)
+    → halant_places r script base (stretch_of s e old.glyphs)
+    ≡ moved_behind a j (places 0 (length (stretch_of s e old.glyphs)))
     → but_places new ≡ record (but_places old) { glyphs = new.glyphs }
     → new.glyphs ≡ moved_behind (s + a) (s + j + 1 - 1) old.glyphs
     → SyllableReordered (with_halant_moved r script base) (halant_steps r script base) s e old new
@@ -123,7 +135,9 @@ halant_moves r script base s e a j old new h l up within there kept moved =
     let long : n ≡ e - s = length-stretch s e gs l in
     let step = halant_step r script base X in
     let moves : step.places ≡ moved_behind a j (range_with_len 0 n) =
-    ap (halant_places r script base) (sym (map-stretch plain s e gs)) ∙ halant_places_stay plain plain_keeps r script base (stretch_of s e gs) ∙ there ∙ ap (moved_behind a j) (places_all n) in
+    ap (halant_places r script base) (sym (map-stretch plain s e gs))
+    ∙ halant_places_stay plain plain_keeps r script base (stretch_of s e gs) ∙ there
+    ∙ ap (moved_behind a j) (places_all n) in
     let last : s + j + 1 - 1 ≡ s + j = omega arith in
     stepped (with_halant_moved r script base) (halant_steps r script base) s e step old new h l
     (subst (λ m. FitsStep m step) (seen_long s e gs h l) (halant_fits r script base X))
@@ -144,7 +158,8 @@ halant_stays_put r script base s e b h l there =
     let long : n ≡ e - s = length-stretch s e gs l in
     let step = halant_step r script base X in
     let stays : step.places ≡ range_with_len 0 n =
-    ap (halant_places r script base) (sym (map-stretch plain s e gs)) ∙ halant_places_stay plain plain_keeps r script base (stretch_of s e gs) ∙ there ∙ places_all n in
+    ap (halant_places r script base) (sym (map-stretch plain s e gs))
+    ∙ halant_places_stay plain plain_keeps r script base (stretch_of s e gs) ∙ there ∙ places_all n in
     stepped (with_halant_moved r script base) (halant_steps r script base) s e step b b h l
     (subst (λ m. FitsStep m step) (seen_long s e gs h l) (halant_fits r script base X))
     refl
@@ -152,23 +167,30 @@ halant_stays_put r script base s e b h l there =
     (picked_still s e n gs h l long ∙ sym (ap (λ ps. with_stretch s e (pick ps) gs) stays))
     refl refl
 
-pub halant_off : (r : Rules) (script : Option Script) (base s e : ℕ) (b : Buffer) → s ≤ e → e ≤ length b.glyphs → r.old ≡ false → SyllableReordered (with_halant_moved r script base) (halant_steps r script base) s e b b
+pub halant_off : (r : Rules) (script : Option Script) (base s e : ℕ) (b : Buffer) → s ≤ e → e ≤ length b.glyphs
+    → r.old ≡ false → SyllableReordered (with_halant_moved r script base) (halant_steps r script base) s e b b
 halant_off r script base s e b h l off =
     let syl = stretch_of s e b.glyphs in
-    halant_stays_put r script base s e b h l (ap (λ c. if c then halant_from script syl (halant_after base syl) else places 0 (length syl)) off)
+    halant_stays_put r script base s e b h l
+    (ap (λ c. if c then halant_from script syl (halant_after base syl) else places 0 (length syl)) off)
 
-pub halant_left : (r : Rules) (script : Option Script) (base s e : ℕ) (b : Buffer) (hs : List hb_glyph_info_t) → s ≤ e → e ≤ length b.glyphs → hs ≡ b.glyphs → r.old ≡ true
-    → halant_from script (stretch_of s e hs) (halant_after base (stretch_of s e hs)) ≡ places 0 (length (stretch_of s e hs))
+pub halant_left : (r : Rules) (script : Option Script) (base s e : ℕ) (b : Buffer) (hs : List hb_glyph_info_t) → s ≤ e
+    → e ≤ length b.glyphs → hs ≡ b.glyphs → r.old ≡ true
+    → halant_from script (stretch_of s e hs) (halant_after base (stretch_of s e hs))
+    ≡ places 0 (length (stretch_of s e hs))
     → SyllableReordered (with_halant_moved r script base) (halant_steps r script base) s e b b
 halant_left r script base s e b hs h l same on there =
     let syl = stretch_of s e b.glyphs in
     halant_stays_put r script base s e b h l
     (ap (λ c. if c then halant_from script syl (halant_after base syl) else places 0 (length syl)) on
-    ∙ subst (λ gs. halant_from script (stretch_of s e gs) (halant_after base (stretch_of s e gs)) ≡ places 0 (length (stretch_of s e gs))) same there)
+    ∙ subst (λ gs. halant_from script (stretch_of s e gs) (halant_after base (stretch_of s e gs))
+    ≡ places 0 (length (stretch_of s e gs))) same there)
 
-pub halant_done : (r : Rules) (script : Option Script) (base s e a j : ℕ) (old new : Buffer) (hs : List hb_glyph_info_t) → s ≤ e → e ≤ length old.glyphs → hs ≡ old.glyphs → r.old ≡ true
+pub halant_done : (r : Rules) (script : Option Script) (base s e a j : ℕ) (old new : Buffer) (hs : List hb_glyph_info_t)
+    → s ≤ e → e ≤ length old.glyphs → hs ≡ old.glyphs → r.old ≡ true
     → a < j → j < length (stretch_of s e hs)
-    → halant_from script (stretch_of s e hs) (halant_after base (stretch_of s e hs)) ≡ moved_behind a j (places 0 (length (stretch_of s e hs)))
+    → halant_from script (stretch_of s e hs) (halant_after base (stretch_of s e hs))
+    ≡ moved_behind a j (places 0 (length (stretch_of s e hs)))
     → but_places new ≡ record (but_places old) { glyphs = new.glyphs }
     → new.glyphs ≡ moved_behind (s + a) (s + j + 1 - 1) old.glyphs
     → SyllableReordered (with_halant_moved r script base) (halant_steps r script base) s e old new
@@ -177,11 +199,16 @@ halant_done r script base s e a j old new hs h l same on up within there kept mo
     halant_moves r script base s e a j old new h l up
     (subst (λ gs. j < length (stretch_of s e gs)) same within)
     (ap (λ c. if c then halant_from script syl (halant_after base syl) else places 0 (length syl)) on
-    ∙ subst (λ gs. halant_from script (stretch_of s e gs) (halant_after base (stretch_of s e gs)) ≡ moved_behind a j (places 0 (length (stretch_of s e gs)))) same there)
+    ∙ subst (λ gs. halant_from script (stretch_of s e gs) (halant_after base (stretch_of s e gs))
+    ≡ moved_behind a j (places 0 (length (stretch_of s e gs)))) same there)
     kept moved
 
 -- positions by the base, and by what marks go with
-by_base_changed : (r : Rules) (s e base : ℕ) (reph : Bool) (old new : Buffer) → s ≤ e → base ≡ base_place r (stretch_of s e old.glyphs) → reph ≡ has_indic_reph r (stretch_of s e old.glyphs) → new ≡ (let b : Buffer = record old { glyphs = new.glyphs } in b) → new.glyphs ≡ with_stretch s e (by_base base reph) old.glyphs → SyllableReordered (with_base_positions r) (λ _. []) s e old new
+by_base_changed : (r : Rules) (s e base : ℕ) (reph : Bool) (old new : Buffer) → s ≤ e
+    → base ≡ base_place r (stretch_of s e old.glyphs) → reph ≡ has_indic_reph r (stretch_of s e old.glyphs)
+    → new ≡ (let b : Buffer = record old { glyphs = new.glyphs } in b)
+    → new.glyphs ≡ with_stretch s e (by_base base reph) old.glyphs
+    → SyllableReordered (with_base_positions r) (λ _. []) s e old new
 by_base_changed r s e base reph old new h base_is reph_is is walked =
     let gs = old.glyphs in
     let syl = stretch_of s e gs in
@@ -190,30 +217,43 @@ by_base_changed r s e base reph old new h base_is reph_is is walked =
     (hidden-by_base carried carried_hides_positions (base_place r syl) (has_indic_reph r syl) syl)
     (sym (with_base_stays plain plain_keeps r syl))
 
-marks_changed : (s e base : ℕ) (old new : Buffer) → s ≤ e → new ≡ (let b : Buffer = record old { glyphs = new.glyphs } in b) → new.glyphs ≡ with_stretch s e (with_marks_and_owners base) old.glyphs → SyllableReordered (with_marks_and_owners base) (λ _. []) s e old new
+marks_changed : (s e base : ℕ) (old new : Buffer) → s ≤ e
+    → new ≡ (let b : Buffer = record old { glyphs = new.glyphs } in b)
+    → new.glyphs ≡ with_stretch s e (with_marks_and_owners base) old.glyphs
+    → SyllableReordered (with_marks_and_owners base) (λ _. []) s e old new
 marks_changed s e base old new h is walked =
     let syl = stretch_of s e old.glyphs in
     syllable_changed (with_marks_and_owners base) (with_marks_and_owners base) s e old new h (ap but_places is) walked
-    (hidden-with_owners_after carried carried_hides_positions base (with_marks_attached syl) ∙ hidden-with_marks_attached carried carried_hides_positions syl)
-    (sym (ap (with_owners_after base) (with_marks_stays plain plain_keeps syl) ∙ with_owners_after_stays plain plain_keeps base (with_marks_attached syl)))
+    (hidden-with_owners_after carried carried_hides_positions base (with_marks_attached syl)
+    ∙ hidden-with_marks_attached carried carried_hides_positions syl)
+    (sym (ap (with_owners_after base) (with_marks_stays plain plain_keeps syl)
+    ∙ with_owners_after_stays plain plain_keeps base (with_marks_attached syl)))
 
 -- how long the syllable stays
-joiner_keeps_length : (script : Option Script) (gs : List hb_glyph_info_t) → length (with_joiner_first script gs) ≡ length gs
-joiner_keeps_length script gs = let f = joiner_fits script gs in length-pick (joiner_step script gs).places gs f.within ∙ f.as_many
+joiner_keeps_length : (script : Option Script) (gs : List hb_glyph_info_t) → length (with_joiner_first script gs)
+    ≡ length gs
+joiner_keeps_length script gs = let f = joiner_fits script gs in length-pick (joiner_step script gs).places gs f.within
+    ∙ f.as_many
 
-halant_keeps_length : (r : Rules) (script : Option Script) (base : ℕ) (gs : List hb_glyph_info_t) → length (with_halant_moved r script base gs) ≡ length gs
-halant_keeps_length r script base gs = let f = halant_fits r script base gs in length-pick (halant_places r script base gs) gs f.within ∙ f.as_many
+halant_keeps_length : (r : Rules) (script : Option Script) (base : ℕ) (gs : List hb_glyph_info_t)
+    → length (with_halant_moved r script base gs) ≡ length gs
+halant_keeps_length r script base gs = let f =
+    halant_fits r script base gs in length-pick (halant_places r script base gs) gs f.within ∙ f.as_many
 
 -- all of it
-pub syllable_opened : (r : Rules) (script : Option Script) (s e base : ℕ) (reph : Bool) (b0 b1 b2 b3 b4 : Buffer) → s ≤ e → e ≤ length b0.glyphs
+pub syllable_opened : (r : Rules) (script : Option Script) (s e base : ℕ) (reph : Bool) (b0 b1 b2 b3 b4 : Buffer)
+    → s ≤ e → e ≤ length b0.glyphs
     → length b1.glyphs ≡ length b0.glyphs
     → SyllableReordered (with_joiner_first script) (joiner_steps script) s e b0 b1
     → base ≡ base_place r (stretch_of s e b1.glyphs) → reph ≡ has_indic_reph r (stretch_of s e b1.glyphs)
-    → b2 ≡ (let b : Buffer = record b1 { glyphs = b2.glyphs } in b) → b2.glyphs ≡ with_stretch s e (by_base base reph) b1.glyphs → length b2.glyphs ≡ length b1.glyphs
+    → b2 ≡ (let b : Buffer = record b1 { glyphs = b2.glyphs } in b)
+    → b2.glyphs ≡ with_stretch s e (by_base base reph) b1.glyphs → length b2.glyphs ≡ length b1.glyphs
     → SyllableReordered (with_halant_moved r script base) (halant_steps r script base) s e b2 b3
-    → b4 ≡ (let b : Buffer = record b3 { glyphs = b4.glyphs } in b) → b4.glyphs ≡ with_stretch s e (with_marks_and_owners base) b3.glyphs
+    → b4 ≡ (let b : Buffer = record b3 { glyphs = b4.glyphs } in b)
+    → b4.glyphs ≡ with_stretch s e (with_marks_and_owners base) b3.glyphs
     → SyllableReordered (positioned r script) (opening_steps r script) s e b0 b4
-syllable_opened r script s e base reph b0 b1 b2 b3 b4 h l long1 one base_is reph_is is2 walked2 long2 three is4 walked4 =
+syllable_opened r script s e base reph b0 b1 b2 b3 b4 h l long1 one base_is reph_is is2 walked2 long2 three is4 walked4
+    =
     let xs = order_view b0.glyphs in
     let X = stretch_of s e xs in
     let kX : length X ≡ e - s = seen_long s e b0.glyphs h l in
@@ -224,16 +264,23 @@ syllable_opened r script s e base reph b0 b1 b2 b3 b4 h l long1 one base_is reph
     let front : length (take s xs) ≡ s = length-take-le s xs (omega (arith, length-map b0.glyphs plain)) in
     let parts = changed_parts s e (take s xs) Y (drop e xs) (order_view b1.glyphs) h front kY one.order in
     let there : order_view (stretch_of s e b1.glyphs) ≡ Y = map-stretch plain s e b1.glyphs ∙ parts.stretch in
-    let base_eq : base ≡ base_place r Y = base_is ∙ sym (base_stays plain plain_keeps r (stretch_of s e b1.glyphs)) ∙ ap (base_place r) there in
+    let base_eq : base ≡ base_place r Y = base_is ∙ sym (base_stays plain plain_keeps r (stretch_of s e b1.glyphs))
+    ∙ ap (base_place r) there in
     let two = by_base_changed r s e base reph b1 b2 h base_is reph_is is2 walked2 in
     let four = marks_changed s e base b3 b4 h is4 walked4 in
-    let one_two = syllable_then (with_joiner_first script) (with_base_positions r) (joiner_steps script) (λ _. []) s e b0 b1 b2 h l kY one two in
-    let first : List hb_glyph_info_t → List hb_glyph_info_t = λ gs. with_base_positions r (with_joiner_first script gs) in
-    let one_three = syllable_then first (with_halant_moved r script base) (λ gs. joiner_steps script gs ++ []) (halant_steps r script base) s e b0 b2 b3 h l kZ one_two three in
+    let one_two = syllable_then (with_joiner_first script) (with_base_positions r) (joiner_steps script) (λ _. []) s e
+    b0 b1 b2 h l kY one two in
+    let first : List hb_glyph_info_t → List hb_glyph_info_t =
+    λ gs. with_base_positions r (with_joiner_first script gs) in
+    let one_three = syllable_then first (with_halant_moved r script base) (λ gs. joiner_steps script gs ++ [])
+    (halant_steps r script base) s e b0 b2 b3 h l kZ one_two three in
     let second : List hb_glyph_info_t → List hb_glyph_info_t = λ gs. with_halant_moved r script base (first gs) in
-    let steps : List hb_glyph_info_t → List Step = λ gs. (joiner_steps script gs ++ []) ++ halant_steps r script base (first gs) in
-    let all = syllable_then second (with_marks_and_owners base) steps (λ _. []) s e b0 b3 b4 h l (halant_keeps_length r script base Z ∙ kZ) one_three four in
-    syllable_as (λ gs. with_marks_and_owners base (second gs)) (positioned r script) (λ gs. steps gs ++ []) (opening_steps r script) s e b0 b4
+    let steps : List hb_glyph_info_t → List Step =
+    λ gs. (joiner_steps script gs ++ []) ++ halant_steps r script base (first gs) in
+    let all = syllable_then second (with_marks_and_owners base) steps (λ _. []) s e b0 b3 b4 h l
+    (halant_keeps_length r script base Z ∙ kZ) one_three four in
+    syllable_as (λ gs. with_marks_and_owners base (second gs)) (positioned r script) (λ gs. steps gs ++ [])
+    (opening_steps r script) s e b0 b4
     (ap (λ b. with_marks_and_owners b (with_halant_moved r script b Z)) base_eq)
     (ap (λ b. joiner_step script X ∷ halant_step r script b Z ∷ []) base_eq)
     all

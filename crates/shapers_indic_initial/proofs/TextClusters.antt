@@ -40,11 +40,14 @@ use Rattle.shapers_syllabic.proofs.ReorderingLaws.{each_piece, sum-pieces}
 use Rattle.shapers_syllabic.proofs.ReorderingWalk.{length-meaning, pieces_of}
 
 -- one cluster still, after what leaves neighbours together
-one_cluster_left : (s e : ℕ) (cs js : List ℕ) → Leaves s e cs js → (st : ℕ × ℕ) → s ≤ st.0 → st.1 ≤ e → OneAlong cs st → OneAlong js st
+one_cluster_left : (s e : ℕ) (cs js : List ℕ) → Leaves s e cs js → (st : ℕ × ℕ) → s ≤ st.0 → st.1 ≤ e → OneAlong cs st
+    → OneAlong js st
 one_cluster_left s e cs js f st low within one p q pl ph ql qh =
     sym (share_all js p q (λ i a b.
     let same : suc (i - 1) ≡ i = omega arith in
-    f.shared (i - 1) (omega arith) (omega arith) (one (i - 1) (suc (i - 1)) (omega arith) (omega arith) (omega arith) (omega arith)) ∙ ap (λ k. get_or js k 0) same) q (omega arith) (omega arith))
+    f.shared (i - 1) (omega arith) (omega arith)
+    (one (i - 1) (suc (i - 1)) (omega arith) (omega arith) (omega arith) (omega arith))
+    ∙ ap (λ k. get_or js k 0) same) q (omega arith) (omega arith))
 
 -- stretches of the syllable, as stretches of the text
 held_in_text : (s : ℕ) (sts : List (ℕ × ℕ)) (st : ℕ × ℕ) → HeldIn sts st → HeldIn (shifted s sts) (s + st.0, s + st.1)
@@ -55,10 +58,14 @@ held_in_text s sts st h i a b =
 -- the order step of a syllable in its text
 record OrderInText (r : Rules) (s e : ℕ) (xs : List hb_glyph_info_t) (cs ms : List ℕ) : Type 0 where
   pub same_length : length ms ≡ length cs
-  pub together : AllByRecursion (λ st. OneAlong ms (s + st.0, s + st.1)) (kept_together r (indic_ordered_places xs) (ordered_base (in_indic_order xs)))
-  pub lies : AllByRecursion (λ st. s + st.1 ≤ e) (kept_together r (indic_ordered_places xs) (ordered_base (in_indic_order xs)))
+  pub together : AllByRecursion (λ st. OneAlong ms (s + st.0, s + st.1))
+      (kept_together r (indic_ordered_places xs) (ordered_base (in_indic_order xs)))
+  pub lies : AllByRecursion (λ st. s + st.1 ≤ e)
+      (kept_together r (indic_ordered_places xs) (ordered_base (in_indic_order xs)))
 
-order_in_text : (r : Rules) (level : BufferClusterLevel) (s e : ℕ) (xs : List hb_glyph_info_t) (cs : List ℕ) → merges level ≡ true → s ≤ e → e ≤ length cs → length xs ≡ e - s → OrderInText r s e xs cs (joined_step level (widened s e (length cs) (indic_order_step r xs)) cs)
+order_in_text : (r : Rules) (level : BufferClusterLevel) (s e : ℕ) (xs : List hb_glyph_info_t) (cs : List ℕ)
+    → merges level ≡ true → s ≤ e → e ≤ length cs → length xs ≡ e - s
+    → OrderInText r s e xs cs (joined_step level (widened s e (length cs) (indic_order_step r xs)) cs)
 order_in_text r level s e xs cs m h l size =
     let from = indic_ordered_places xs in
     let base = ordered_base (in_indic_order xs) in
@@ -67,26 +74,33 @@ order_in_text r level s e xs cs m h l size =
     let fl : length from ≡ length xs = length_permuted (length xs) from perm in
     let sts = ordered_stretches r from base in
     let ways = kept_together r from base in
-    let f : FitsStep (e - s) (indic_order_step r xs) = subst (λ k. FitsStep k (indic_order_step r xs)) size (order_fits r xs) in
+    let f : FitsStep (e - s) (indic_order_step r xs) =
+    subst (λ k. FitsStep k (indic_order_step r xs)) size (order_fits r xs) in
     let w = widened s e (length cs) (indic_order_step r xs) in
     let fits = fits-widened s e (length cs) (indic_order_step r xs) h l f in
     let picked = pick w.places cs in
     let pl : length picked ≡ length cs = length-pick w.places cs fits.within ∙ fits.as_many in
-    let ends : EndWithin (length picked) (shifted s sts) = subst (λ k. EndWithin k (shifted s sts)) (sym pl) fits.then_within in
+    let ends : EndWithin (length picked) (shifted s sts) =
+    subst (λ k. EndWithin k (shifted s sts)) (sym pl) fits.then_within in
     let lies = together_lies r from base o in
     let ms = joined_all level (shifted s sts) picked in
     let all = clusters_hold level (w ∷ []) cs (fits, tt) in
     record {
       same_length = all.same_length;
       together = all_by_two (Lies base (length from)) (HeldIn ways) (λ st. OneAlong ms (s + st.0, s + st.1)) (λ st a b.
-          one_cluster level m (shifted s sts) picked ends (s + st.0, s + st.1) (omega (arith, a.high)) (held_in_text s sts st (λ i x y. held_together r from base i o ∙ b i x y)))
+          one_cluster level m (shifted s sts) picked ends (s + st.0, s + st.1) (omega (arith, a.high))
+          (held_in_text s sts st (λ i x y. held_together r from base i o ∙ b i x y)))
           ways lies (all_held ways);
-      lies = all_by_two (Lies base (length from)) (HeldIn ways) (λ st. s + st.1 ≤ e) (λ st a b. omega (arith, a.high)) ways lies (all_held ways);
+      lies = all_by_two (Lies base (length from)) (HeldIn ways) (λ st. s + st.1 ≤ e) (λ st a b. omega (arith, a.high))
+          ways lies (all_held ways);
     }
 
 -- and what comes after it
-syllable_merges : (r : Rules) (level : BufferClusterLevel) (s e : ℕ) (xs : List hb_glyph_info_t) (cs js : List ℕ) → merges level ≡ true → s ≤ e → e ≤ length cs → length xs ≡ e - s → Leaves s e (joined_step level (widened s e (length cs) (indic_order_step r xs)) cs) js →
-    SyllableMerges s e (ordered_base (in_indic_order xs)) (kept_together r (indic_ordered_places xs) (ordered_base (in_indic_order xs))) (indic_ordered_places xs) cs js
+syllable_merges : (r : Rules) (level : BufferClusterLevel) (s e : ℕ) (xs : List hb_glyph_info_t) (cs js : List ℕ)
+    → merges level ≡ true → s ≤ e → e ≤ length cs → length xs ≡ e - s
+    → Leaves s e (joined_step level (widened s e (length cs) (indic_order_step r xs)) cs) js →
+    SyllableMerges s e (ordered_base (in_indic_order xs))
+    (kept_together r (indic_ordered_places xs) (ordered_base (in_indic_order xs))) (indic_ordered_places xs) cs js
 syllable_merges r level s e xs cs js m h l size left =
     let from = indic_ordered_places xs in
     let base = ordered_base (in_indic_order xs) in
@@ -95,9 +109,13 @@ syllable_merges r level s e xs cs js m h l size left =
     let ms = joined_step level (widened s e (length cs) step) cs in
     let done = order_in_text r level s e xs cs m h l size in
     let f : FitsStep (e - s) step = subst (λ k. FitsStep k step) size (order_fits r xs) in
-    let both = all_by_two (λ st. OneAlong ms (s + st.0, s + st.1)) (λ st. s + st.1 ≤ e) (λ st. OneAlong js (s + st.0, s + st.1)) (λ st a b. one_cluster_left s e ms js left (s + st.0, s + st.1) (omega arith) b a) ways done.together done.lies in
+    let both = all_by_two (λ st. OneAlong ms (s + st.0, s + st.1)) (λ st. s + st.1 ≤ e)
+    (λ st. OneAlong js (s + st.0, s + st.1))
+    (λ st a b. one_cluster_left s e ms js left (s + st.0, s + st.1) (omega arith) b a) ways done.together
+    done.lies in
     record {
-      together = all-mapped (λ (st : ℕ × ℕ). OneAlong js (s + st.0, s + st.1)) (OneAlong js) (λ st. (s + st.0, s + st.1)) ways (λ st k. k) both;
+      together = all-mapped (λ (st : ℕ × ℕ). OneAlong js (s + st.0, s + st.1)) (OneAlong js)
+          (λ st. (s + st.0, s + st.1)) ways (λ st k. k) both;
       own = λ own.
           let apart : StandsApart s e cs = own.others in
           let seg = stretch_of s e cs in
@@ -106,13 +124,17 @@ syllable_merges r level s e xs cs js m h l size left =
           let stays : StandsApart s e ms = apart_own level s e (step ∷ []) cs h l (f, tt) apart in
           let ml = done.same_length in
           let jl = left.same_length in
-          let same : stretch_of s e js ≡ joined_step level step seg = same_stretch s e js ms (omega arith) (omega arith) (λ p x y. left.own stays p x y) ∙ stretch_own level s e (step ∷ []) cs h l (f, tt) apart in
+          let same : stretch_of s e js ≡ joined_step level step seg =
+          same_stretch s e js ms (omega arith) (omega arith) (λ p x y. left.own stays p x y)
+          ∙ stretch_own level s e (step ∷ []) cs h l (f, tt) apart in
           subst (OrderMerges base ways from seg) (sym same) law;
     }
 
-length-positioned : (r : Rules) (script : Option Script) (syl : List hb_glyph_info_t) → length (positioned r script syl) ≡ length syl
+length-positioned : (r : Rules) (script : Option Script) (syl : List hb_glyph_info_t) → length (positioned r script syl)
+    ≡ length syl
 length-positioned r script syl =
-    length-meaning (halant_order r script) (λ gs. halant_step_of r script gs ∷ []) (halant_laws r script) (with_joiner_first script syl)
+    length-meaning (halant_order r script) (λ gs. halant_step_of r script gs ∷ []) (halant_laws r script)
+    (with_joiner_first script syl)
     ∙ length-meaning (with_joiner_first script) (λ gs. joiner_step script gs ∷ []) (joiner_laws script) syl
 
 pub initial_clusters : InitialClustersLaw
@@ -137,35 +159,54 @@ initial_clusters r script level gs cs m long before behind syl cut on =
     let later = steps_along n e b in
     let two = map (widened s e n) (first ∷ (second ∷ [])) in
     let last = widened s e n third in
-    let is_on : initial_steps r script syl ≡ steps_of_reordered r script syl = ap (λ t. if t then steps_of_reordered r script syl else []) on in
-    let pieces : pieces_of steps (syllables gs) ≡ a ++ (length syl, steps syl) ∷ b = pieces_cut steps gs before behind syl cut in
+    let is_on : initial_steps r script syl ≡ steps_of_reordered r script syl =
+    ap (λ t. if t then steps_of_reordered r script syl else []) on in
+    let pieces : pieces_of steps (syllables gs) ≡ a ++ (length syl, steps syl) ∷ b =
+    pieces_cut steps gs before behind syl cut in
     let from : 0 + sum_by (λ piece. piece.0) a ≡ s = omega arith in
     let whole : text_steps steps gs ≡ front ++ (map (widened s e n) (steps syl) ++ later) =
-    ap (steps_along n 0) pieces ∙ along-append n 0 a ((length syl, steps syl) ∷ b) ∙ ap (λ z. front ++ steps_along n z ((length syl, steps syl) ∷ b)) from in
+    ap (steps_along n 0) pieces ∙ along-append n 0 a ((length syl, steps syl) ∷ b)
+    ∙ ap (λ z. front ++ steps_along n z ((length syl, steps syl) ∷ b)) from in
     let whole_on : text_steps steps gs ≡ (front ++ two) ++ (last ∷ later) =
-    whole ∙ ap (λ sts. front ++ (map (widened s e n) sts ++ later)) is_on ∙ sym (append_assoc front two (last ∷ later)) in
+    whole ∙ ap (λ sts. front ++ (map (widened s e n) sts ++ later)) is_on
+    ∙ sym (append_assoc front two (last ∷ later)) in
     let c2 = joined_steps level (front ++ two) cs in
-    let begins : as_order_begins r script level n before syl cs ≡ c2 = ap (λ sts. joined_steps level (front ++ map (widened s e n) (take 2 sts)) cs) is_on in
+    let begins : as_order_begins r script level n before syl cs ≡ c2 =
+    ap (λ sts. joined_steps level (front ++ map (widened s e n) (take 2 sts)) cs) is_on in
     let ends : joined_steps level (text_steps steps gs) cs ≡ joined_steps level later (joined_step level last c2) =
-    ap (λ sts. joined_steps level sts cs) whole_on ∙ fold-append (λ cs step. joined_step level step cs) cs (front ++ two) (last ∷ later) in
+    ap (λ sts. joined_steps level sts cs) whole_on
+    ∙ fold-append (λ cs step. joined_step level step cs) cs (front ++ two) (last ∷ later) in
     let size : length syl ≡ e - s = omega arith in
-    let fit3 : FitSteps (e - s) (first ∷ (second ∷ (third ∷ []))) = (let all = three_laws r script in subst (λ k. FitSteps k (first ∷ (second ∷ (third ∷ [])))) size (all.fits syl)) in
-    let fit_front : FitSteps n front = all_along FitsStep fits-widened n 0 a (omega arith) (each_piece FitsStep steps laws.fits before) in
-    let fit_two : FitSteps n two = (fits-widened s e n first (omega arith) (omega arith) fit3.0, (fits-widened s e n second (omega arith) (omega arith) fit3.1.0, tt)) in
+    let fit3 : FitSteps (e - s) (first ∷ (second ∷ (third ∷ []))) =
+    (let all = three_laws r script in subst (λ k. FitSteps k (first ∷ (second ∷ (third ∷ [])))) size
+    (all.fits syl)) in
+    let fit_front : FitSteps n front =
+    all_along FitsStep fits-widened n 0 a (omega arith) (each_piece FitsStep steps laws.fits before) in
+    let fit_two : FitSteps n two = (
+      fits-widened s e n first (omega arith) (omega arith) fit3.0,
+      (fits-widened s e n second (omega arith) (omega arith) fit3.1.0, tt),
+    ) in
     let fit_begin = all-append (FitsStep n) front two fit_front fit_two in
-    let held_begin = clusters_hold level (front ++ two) cs (subst (λ k. FitSteps k (front ++ two)) (sym long) fit_begin) in
+    let held_begin =
+    clusters_hold level (front ++ two) cs (subst (λ k. FitSteps k (front ++ two)) (sym long) fit_begin) in
     let c2l : length c2 ≡ n = held_begin.same_length ∙ long in
     let fit_last : FitsStep n last = fits-widened s e n third (omega arith) (omega arith) fit3.1.1.0 in
     let held_last = clusters_hold level (last ∷ []) c2 (subst (λ k. FitSteps k (last ∷ [])) (sym c2l) (fit_last, tt)) in
     let ms = joined_step level last c2 in
     let ml : length ms ≡ n = held_last.same_length ∙ c2l in
     let js = joined_steps level later ms in
-    let left : Leaves s e ms js = leaves_elsewhere s e level n later ms ml (omega arith) (along_elsewhere s e n e b (omega arith) (omega arith) (each_piece FitsStep steps laws.fits behind) (inr (omega arith))) in
-    let left_too : Leaves s e (joined_step level (widened s e (length c2) third) c2) js = subst (λ z. Leaves s e (joined_step level (widened s e z third) c2) js) (sym c2l) left in
-    let result = syllable_merges r level s e xs c2 js m (omega arith) (omega arith) (length-positioned r script syl ∙ size) left_too in
+    let left : Leaves s e ms js =
+    leaves_elsewhere s e level n later ms ml (omega arith)
+    (along_elsewhere s e n e b (omega arith) (omega arith) (each_piece FitsStep steps laws.fits behind)
+    (inr (omega arith))) in
+    let left_too : Leaves s e (joined_step level (widened s e (length c2) third) c2) js =
+    subst (λ z. Leaves s e (joined_step level (widened s e z third) c2) js) (sym c2l) left in
+    let result = syllable_merges r level s e xs c2 js m (omega arith) (omega arith) (length-positioned r script syl
+    ∙ size) left_too in
     let base = ordered_base (in_indic_order xs) in
     let ways = kept_together r (indic_ordered_places xs) base in
-    subst (λ z. SyllableMerges s e base ways (indic_ordered_places xs) z (joined_steps level (text_steps steps gs) cs)) (sym begins)
+    subst (λ z. SyllableMerges s e base ways (indic_ordered_places xs) z (joined_steps level (text_steps steps gs) cs))
+    (sym begins)
     (subst (λ z. SyllableMerges s e base ways (indic_ordered_places xs) c2 z) (sym ends) result)
 
 -- the clusters of a text after the pause
@@ -174,6 +215,7 @@ initial_text_merges font m p old new done merging =
     let r = initial_rules font m p in
     let gs = (with_positions_and_circles font m p old).glyphs in
     let text = initial_text_reordered font m p old new done in
-    let long : length (clusters gs) ≡ length (order_view gs) = length-map gs (λ g. g.cluster) ∙ sym (length-map gs plain) in
+    let long : length (clusters gs) ≡ length (order_view gs) = length-map gs (λ g. g.cluster)
+    ∙ sym (length-map gs plain) in
     subst (EachSyllableMerges r old.script old.level (order_view gs) (clusters gs)) (sym text.glyphs.clusters_are)
     (initial_clusters r old.script old.level (order_view gs) (clusters gs) merging long)

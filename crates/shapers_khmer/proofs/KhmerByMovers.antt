@@ -15,7 +15,9 @@ use Rattle.shapers_syllabic.specs.declared.ot_shaper_syllabic.kinds.khmer_syllab
 pub by_movers_law : KhmerByMoversLaw
 by_movers_law r gs regular =
     ap (λ ps. if is_reordered_in_khmer gs then pick ps (khmer_masked r gs) else gs) (khmer_order_by_movers gs regular)
-    ∙ ap (λ (xs : List hb_glyph_info_t). if is_reordered_in_khmer gs then pick (order_by_movers (categories_of gs)) xs else gs) (khmer_masks_by_movers r gs regular)
+    ∙ ap (λ (xs : List hb_glyph_info_t). if is_reordered_in_khmer gs then pick (order_by_movers (categories_of gs)) xs
+    else gs) (khmer_masks_by_movers r gs regular)
 
 pub khmer_cuts_between_spans : KhmerCutsBetweenSpans
-khmer_cuts_between_spans r = pauses_cut_between_spans (khmer_order r) khmer_steps BROKEN_CLUSTER (khmer_laws r) (khmer_reads_no_serials r)
+khmer_cuts_between_spans r =
+    pauses_cut_between_spans (khmer_order r) khmer_steps BROKEN_CLUSTER (khmer_laws r) (khmer_reads_no_serials r)

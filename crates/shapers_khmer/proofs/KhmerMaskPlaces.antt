@@ -13,18 +13,21 @@ use Rattle.shapers_khmer.specs.KhmerWalk.{paired}
 use Rattle.shapers_khmer.specs.Proved.KhmerMasks.{length-masked}
 
 -- MASKS COMMUTE, and one added twice is added once
-pub swap_if : (a b : Bool) (m k : ℕ) (g : hb_glyph_info_t) → with_mask_if a m (with_mask_if b k g) ≡ with_mask_if b k (with_mask_if a m g)
+pub swap_if : (a b : Bool) (m k : ℕ) (g : hb_glyph_info_t) → with_mask_if a m (with_mask_if b k g)
+    ≡ with_mask_if b k (with_mask_if a m g)
 swap_if true true m k g = ap (λ (x : ℕ). record g { mask = x }) (or_swap g.mask (without_flags m) (without_flags k))
 swap_if true false m k g = refl
 swap_if false b m k g = refl
 
-pub join_if : (a b : Bool) (m : ℕ) (g : hb_glyph_info_t) → with_mask_if b m (with_mask_if a m g) ≡ with_mask_if (a || b) m g
+pub join_if : (a b : Bool) (m : ℕ) (g : hb_glyph_info_t) → with_mask_if b m (with_mask_if a m g)
+    ≡ with_mask_if (a || b) m g
 join_if true true m g = ap (λ (x : ℕ). record g { mask = x }) (or_twice g.mask (without_flags m))
 join_if true false m g = refl
 join_if false b m g = refl
 
 -- WHERE MASKS STAND. A glyph inside what is masked, and one outside
-pub masked_there : (m s e : ℕ) (gs : List hb_glyph_info_t) (i : ℕ) (d : hb_glyph_info_t) → e ≤ length gs → s ≤ i → i < e → get_or (masked m s e gs) i d ≡ with_mask m (get_or gs i d)
+pub masked_there : (m s e : ℕ) (gs : List hb_glyph_info_t) (i : ℕ) (d : hb_glyph_info_t) → e ≤ length gs → s ≤ i → i < e
+    → get_or (masked m s e gs) i d ≡ with_mask m (get_or gs i d)
 masked_there m s e gs i d l from to =
     let a = take s gs in
     let b = map (with_mask m) (stretch_of s e gs) in
@@ -36,14 +39,18 @@ masked_there m s e gs i d l from to =
     get_or-append_right a (b ++ c) s i d an from
     ∙ get_or_append_left b c d (i - s) (omega arith)
     ∙ get_or-map (with_mask m) (stretch_of s e gs) (i - s) d d (omega arith)
-    ∙ ap (with_mask m) (get_or-take (e - s) (drop s gs) (i - s) d (omega arith) ∙ get_or-drop s gs (i - s) d ∙ ap (λ k. get_or gs k d) at)
+    ∙ ap (with_mask m) (get_or-take (e - s) (drop s gs) (i - s) d (omega arith) ∙ get_or-drop s gs (i - s) d
+    ∙ ap (λ k. get_or gs k d) at)
 
-pub masked_before : (m s e : ℕ) (gs : List hb_glyph_info_t) (i : ℕ) (d : hb_glyph_info_t) → e ≤ length gs → s ≤ e → i < s → get_or (masked m s e gs) i d ≡ get_or gs i d
+pub masked_before : (m s e : ℕ) (gs : List hb_glyph_info_t) (i : ℕ) (d : hb_glyph_info_t) → e ≤ length gs → s ≤ e
+    → i < s → get_or (masked m s e gs) i d ≡ get_or gs i d
 masked_before m s e gs i d l h before =
     let an : length (take s gs) ≡ s = omega (arith, length-take s gs) in
-    get_or_append_left (take s gs) (map (with_mask m) (stretch_of s e gs) ++ drop e gs) d i (omega arith) ∙ get_or-take s gs i d before
+    get_or_append_left (take s gs) (map (with_mask m) (stretch_of s e gs) ++ drop e gs) d i (omega arith)
+    ∙ get_or-take s gs i d before
 
-pub masked_behind : (m s e : ℕ) (gs : List hb_glyph_info_t) (i : ℕ) (d : hb_glyph_info_t) → e ≤ length gs → s ≤ e → e ≤ i → get_or (masked m s e gs) i d ≡ get_or gs i d
+pub masked_behind : (m s e : ℕ) (gs : List hb_glyph_info_t) (i : ℕ) (d : hb_glyph_info_t) → e ≤ length gs → s ≤ e
+    → e ≤ i → get_or (masked m s e gs) i d ≡ get_or gs i d
 masked_behind m s e gs i d l h behind =
     let a = take s gs in
     let b = map (with_mask m) (stretch_of s e gs) in
@@ -62,7 +69,8 @@ abbrev lies : ℕ → ℕ → ℕ → Bool
 lies s e i = nat_le s i && nat_lt i e
 
 -- each glyph where a mask is added
-masked_where : (m s e : ℕ) (gs : List hb_glyph_info_t) (i : ℕ) (d : hb_glyph_info_t) → e ≤ length gs → s ≤ e → get_or (masked m s e gs) i d ≡ with_mask_if (lies s e i) m (get_or gs i d)
+masked_where : (m s e : ℕ) (gs : List hb_glyph_info_t) (i : ℕ) (d : hb_glyph_info_t) → e ≤ length gs → s ≤ e
+    → get_or (masked m s e gs) i d ≡ with_mask_if (lies s e i) m (get_or gs i d)
 masked_where m s e gs i d l h = elim (cases_lt i s) [
   | inl before ↦
       let off : nat_le s i ≡ false = lt-leb s i before in
@@ -80,7 +88,8 @@ masked_where m s e gs i d l h = elim (cases_lt i s) [
 ]
 
 -- masks commute
-pub masked-swap : (m a b k c d : ℕ) (gs : List hb_glyph_info_t) → a ≤ b → b ≤ length gs → c ≤ d → d ≤ length gs → masked m a b (masked k c d gs) ≡ masked k c d (masked m a b gs)
+pub masked-swap : (m a b k c d : ℕ) (gs : List hb_glyph_info_t) → a ≤ b → b ≤ length gs → c ≤ d → d ≤ length gs
+    → masked m a b (masked k c d gs) ≡ masked k c d (masked m a b gs)
 masked-swap m a b k c d gs h l i j =
     let x = masked k c d gs in
     let y = masked m a b gs in
@@ -92,7 +101,8 @@ masked-swap m a b k c d gs h l i j =
     masked_where m a b x p default_glyph (omega arith) h
     ∙ ap (with_mask_if (lies a b p) m) (masked_where k c d gs p default_glyph j i)
     ∙ swap_if (lies a b p) (lies c d p) m k (get_or gs p default_glyph)
-    ∙ sym (masked_where k c d y p default_glyph (omega arith) i ∙ ap (with_mask_if (lies c d p) k) (masked_where m a b gs p default_glyph l h)))
+    ∙ sym (masked_where k c d y p default_glyph (omega arith) i
+    ∙ ap (with_mask_if (lies c d p) k) (masked_where m a b gs p default_glyph l h)))
 
 either_true : (x y : Bool) → (x || (y && x)) ≡ x
 either_true true y = refl
@@ -120,7 +130,8 @@ lies_either a b e i = elim (cases_lt i a) [
       rw (on, both) (either_true (nat_lt i e) (nat_le b i))
 ]
 
-pub masked-join : (m a b e : ℕ) (gs : List hb_glyph_info_t) → a ≤ e → b ≤ e → e ≤ length gs → masked m b e (masked m a e gs) ≡ masked m (min a b) e gs
+pub masked-join : (m a b e : ℕ) (gs : List hb_glyph_info_t) → a ≤ e → b ≤ e → e ≤ length gs
+    → masked m b e (masked m a e gs) ≡ masked m (min a b) e gs
 masked-join m a b e gs h i l =
     let x = masked m a e gs in
     let xn : length x ≡ length gs = length-masked m a e gs h in
@@ -135,12 +146,16 @@ masked-join m a b e gs h i l =
     ∙ sym (masked_where m (min a b) e gs p default_glyph l low))
 
 -- the masks of a pair behind those of others, whose cfar reaches from a place to the end
-pub paired_once : (r : KhmerOrder) (coeng ro behind far e : ℕ) (gs : List hb_glyph_info_t) → coeng < e → ro < e → behind ≤ e → far ≤ e → e ≤ length gs → paired r coeng ro behind e (masked r.cfar far e gs) ≡ masked r.cfar (min far behind) e (masked r.pref ro (ro + 1) (masked r.pref coeng (coeng + 1) gs))
+pub paired_once : (r : KhmerOrder) (coeng ro behind far e : ℕ) (gs : List hb_glyph_info_t) → coeng < e → ro < e
+    → behind ≤ e → far ≤ e → e ≤ length gs → paired r coeng ro behind e (masked r.cfar far e gs)
+    ≡ masked r.cfar (min far behind) e (masked r.pref ro (ro + 1) (masked r.pref coeng (coeng + 1) gs))
 paired_once r coeng ro behind far e gs h i j k l =
     let first = masked r.pref coeng (coeng + 1) gs in
     let second = masked r.pref ro (ro + 1) first in
     let len1 : length first ≡ length gs = length-masked r.pref coeng (coeng + 1) gs (omega arith) in
     let len2 : length second ≡ length first = length-masked r.pref ro (ro + 1) first (omega arith) in
-    ap (λ xs. masked r.cfar behind e (masked r.pref ro (ro + 1) xs)) (masked-swap r.pref coeng (coeng + 1) r.cfar far e gs (omega arith) (omega arith) k l)
-    ∙ ap (masked r.cfar behind e) (masked-swap r.pref ro (ro + 1) r.cfar far e first (omega arith) (omega arith) k (omega arith))
+    ap (λ xs. masked r.cfar behind e (masked r.pref ro (ro + 1) xs))
+    (masked-swap r.pref coeng (coeng + 1) r.cfar far e gs (omega arith) (omega arith) k l)
+    ∙ ap (masked r.cfar behind e) (masked-swap r.pref ro (ro + 1) r.cfar far e first (omega arith) (omega arith) k
+    (omega arith))
     ∙ masked-join r.cfar far behind e second k j (omega arith)

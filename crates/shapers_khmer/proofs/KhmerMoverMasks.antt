@@ -30,7 +30,9 @@ abbrev pub pairs_at : KhmerOrder → List ℕ → ℕ → hb_glyph_info_t → hb
 pairs_at r [] i g = g
 pairs_at r (p ∷ ps) i g = pairs_at r ps i (pair_at r p i g)
 
-pub pairs_once : (r : KhmerOrder) (ps : List ℕ) (i : ℕ) (g : hb_glyph_info_t) → pairs_at r ps i g ≡ with_mask_if (list_any (λ p. nat_lt (p + 1) i) ps) r.cfar (with_mask_if (list_any (λ p. i == p || i == p + 1) ps) r.pref g)
+pub pairs_once : (r : KhmerOrder) (ps : List ℕ) (i : ℕ) (g : hb_glyph_info_t)
+    → pairs_at r ps i g ≡ with_mask_if (list_any (λ p. nat_lt (p + 1) i) ps) r.cfar
+    (with_mask_if (list_any (λ p. i == p || i == p + 1) ps) r.pref g)
 pairs_once r [] i g = refl
 pairs_once r (p ∷ ps) i g =
     let c = nat_lt (p + 1) i in
@@ -43,7 +45,8 @@ pairs_once r (p ∷ ps) i g =
     ∙ ap (with_mask_if (c || cs) r.cfar) (join_if f fs r.pref g)
 
 -- the masks of a pair, for each glyph
-pair_masked : (r : KhmerOrder) (p : ℕ) (gs : List hb_glyph_info_t) (i : ℕ) (d : hb_glyph_info_t) → p + 2 ≤ length gs → i < length gs → get_or (paired r p (p + 1) (p + 2) (length gs) gs) i d ≡ pair_at r p i (get_or gs i d)
+pair_masked : (r : KhmerOrder) (p : ℕ) (gs : List hb_glyph_info_t) (i : ℕ) (d : hb_glyph_info_t) → p + 2 ≤ length gs
+    → i < length gs → get_or (paired r p (p + 1) (p + 2) (length gs) gs) i d ≡ pair_at r p i (get_or gs i d)
 pair_masked r p gs i d l h =
     let g = get_or gs i d in
     let n = length gs in
@@ -58,7 +61,8 @@ pair_masked r p gs i d l h =
           let t3 : (i == p + 1) ≡ false = ne_eqb i (p + 1) (λ e. absurd (omega arith)) in
           let right : pair_at r p i g ≡ with_mask r.cfar g = rw (t1, t2, t3) refl in
           masked_there r.cfar (p + 2) n second i d (omega arith) (omega arith) h
-          ∙ ap (with_mask r.cfar) (masked_behind r.pref (p + 1) (p + 1 + 1) first i d (omega arith) (omega arith) (omega arith) ∙ masked_behind r.pref p (p + 1) gs i d (omega arith) (omega arith) (omega arith))
+          ∙ ap (with_mask r.cfar) (masked_behind r.pref (p + 1) (p + 1 + 1) first i d (omega arith) (omega arith)
+          (omega arith) ∙ masked_behind r.pref p (p + 1) gs i d (omega arith) (omega arith) (omega arith))
           ∙ sym right
       | inr within ↦
           let t1 : nat_lt (p + 1) i ≡ false = le-ltb (p + 1) i within in
@@ -69,7 +73,8 @@ pair_masked r p gs i d l h =
                 let t3 : (i == p + 1) ≡ true = eq-eqb i (p + 1) (omega arith) in
                 let right : pair_at r p i g ≡ with_mask r.pref g = rw (t1, t2, t3) refl in
                 masked_there r.pref (p + 1) (p + 1 + 1) first i d (omega arith) (omega arith) (omega arith)
-                ∙ ap (with_mask r.pref) (masked_behind r.pref p (p + 1) gs i d (omega arith) (omega arith) (omega arith))
+                ∙ ap (with_mask r.pref)
+                (masked_behind r.pref p (p + 1) gs i d (omega arith) (omega arith) (omega arith))
                 ∙ sym right
             | inr not_ro ↦
                 masked_before r.pref (p + 1) (p + 1 + 1) first i d (omega arith) (omega arith) (omega arith)
@@ -87,7 +92,8 @@ pair_masked r p gs i d l h =
           ]
     ]
 
-others_masked : (m : ℕ) (gs : List hb_glyph_info_t) (i : ℕ) (d : hb_glyph_info_t) → i < length gs → get_or (masked m 1 (length gs) gs) i d ≡ with_mask_if (nat_lt 0 i) m (get_or gs i d)
+others_masked : (m : ℕ) (gs : List hb_glyph_info_t) (i : ℕ) (d : hb_glyph_info_t) → i < length gs
+    → get_or (masked m 1 (length gs) gs) i d ≡ with_mask_if (nat_lt 0 i) m (get_or gs i d)
 others_masked m gs i d h =
     let g = get_or gs i d in
     elim (cases_lt 0 i) [
@@ -105,23 +111,34 @@ others_masked m gs i d h =
 abbrev coengs : List (List Part × Part) → List ℕ
 coengs es = flat_map (λ e. coeng_place e.1) (filter is_mover es)
 
-coengs_alone : (before : List Part) (p z : ℕ) (es : List (List Part × Part)) → coengs ((before, Alone p z) ∷ es) ≡ coengs es
+coengs_alone : (before : List Part) (p z : ℕ) (es : List (List Part × Part)) → coengs ((before, Alone p z) ∷ es)
+    ≡ coengs es
 coengs_alone before p z es = elim (cases_Bool (is_left_vowel z)) [
   | inl on ↦ rw on (flat_map-cons (λ (e : List Part × Part). coeng_place e.1) (before, Alone p z) (filter is_mover es))
   | inr off ↦ rw off refl
 ]
 
-coengs_moves : (before : List Part) (p y : ℕ) (es : List (List Part × Part)) → is_mover (before, Coeng p y) ≡ true → coengs ((before, Coeng p y) ∷ es) ≡ p ∷ coengs es
-coengs_moves before p y es on = rw on (flat_map-cons (λ (e : List Part × Part). coeng_place e.1) (before, Coeng p y) (filter is_mover es))
+coengs_moves : (before : List Part) (p y : ℕ) (es : List (List Part × Part)) → is_mover (before, Coeng p y) ≡ true
+    → coengs ((before, Coeng p y) ∷ es) ≡ p ∷ coengs es
+coengs_moves before p y es on =
+    rw on (flat_map-cons (λ (e : List Part × Part). coeng_place e.1) (before, Coeng p y) (filter is_mover es))
 
-coengs_stays : (before : List Part) (p y : ℕ) (es : List (List Part × Part)) → is_mover (before, Coeng p y) ≡ false → coengs ((before, Coeng p y) ∷ es) ≡ coengs es
+coengs_stays : (before : List Part) (p y : ℕ) (es : List (List Part × Part)) → is_mover (before, Coeng p y) ≡ false
+    → coengs ((before, Coeng p y) ∷ es) ≡ coengs es
 coengs_stays before p y es off = rw off refl
 
 -- THE WALK. What the moves give to the glyph at a place
-abbrev Masks : KhmerOrder → List hb_glyph_info_t → ℕ → hb_glyph_info_t → List Part → ℕ → List ℕ → ℕ → List ℕ → List ℕ → Type 0
-Masks r gs i d before p categories c front places = get_or (masked_all r (looked front categories c) (places ++ range_with_len p (length categories)) gs) i d ≡ pairs_at r (coengs (each_after before (parts_from p categories))) i (get_or gs i d)
+abbrev Masks : KhmerOrder → List hb_glyph_info_t → ℕ → hb_glyph_info_t → List Part → ℕ → List ℕ → ℕ → List ℕ → List ℕ
+    → Type 0
+Masks r gs i d before p categories c front places =
+    get_or (masked_all r (looked front categories c) (places ++ range_with_len p (length categories)) gs) i d
+    ≡ pairs_at r (coengs (each_after before (parts_from p categories))) i (get_or gs i d)
 
-vowel_masks : (r : KhmerOrder) (gs : List hb_glyph_info_t) (i : ℕ) (d : hb_glyph_info_t) (before : List Part) (p z : ℕ) (rest : List ℕ) (c : ℕ) (front places : List ℕ) → length places ≡ length front → is_left_vowel z ≡ true → parts_from p (z ∷ rest) ≡ Alone p z ∷ parts_from (p + 1) rest → Masks r gs i d (before ++ Alone p z ∷ []) (p + 1) rest c (z ∷ front) (p ∷ places) → Masks r gs i d before p (z ∷ rest) c front places
+vowel_masks : (r : KhmerOrder) (gs : List hb_glyph_info_t) (i : ℕ) (d : hb_glyph_info_t) (before : List Part) (p z : ℕ)
+    (rest : List ℕ) (c : ℕ) (front places : List ℕ) → length places ≡ length front → is_left_vowel z ≡ true
+    → parts_from p (z ∷ rest) ≡ Alone p z ∷ parts_from (p + 1) rest
+    → Masks r gs i d (before ++ Alone p z ∷ []) (p + 1) rest c (z ∷ front) (p ∷ places)
+    → Masks r gs i d before p (z ∷ rest) c front places
 vowel_masks r gs i d before p z rest c front places len vowel parts further =
     let range = range_with_len (p + 1) (length rest) in
     let all = places ++ p ∷ range in
@@ -131,47 +148,72 @@ vowel_masks r gs i d before p z rest c front places len vowel parts further =
     ∙ ap (λ n. get_or (masked_all r moves (brought n 1 all) gs) i d) (sym len)
     ∙ ap (λ o. get_or (masked_all r moves o gs) i d) (brought_parts 1 places (p ∷ []) range refl)
     ∙ further
-    ∙ ap (λ ps. pairs_at r ps i (get_or gs i d)) (sym (coengs_alone before p z es) ∙ ap (λ ps. coengs (each_after before ps)) (sym parts))
+    ∙ ap (λ ps. pairs_at r ps i (get_or gs i d)) (sym (coengs_alone before p z es)
+    ∙ ap (λ ps. coengs (each_after before ps)) (sym parts))
 
-other_masks : (r : KhmerOrder) (gs : List hb_glyph_info_t) (i : ℕ) (d : hb_glyph_info_t) (before : List Part) (p z : ℕ) (rest : List ℕ) (c : ℕ) (front places : List ℕ) → parts_from p (z ∷ rest) ≡ Alone p z ∷ parts_from (p + 1) rest → moves_by_cases front z rest c ≡ looked (front ++ z ∷ []) rest c → Masks r gs i d (before ++ Alone p z ∷ []) (p + 1) rest c (front ++ z ∷ []) (places ++ p ∷ []) → Masks r gs i d before p (z ∷ rest) c front places
+other_masks : (r : KhmerOrder) (gs : List hb_glyph_info_t) (i : ℕ) (d : hb_glyph_info_t) (before : List Part) (p z : ℕ)
+    (rest : List ℕ) (c : ℕ) (front places : List ℕ) → parts_from p (z ∷ rest) ≡ Alone p z ∷ parts_from (p + 1) rest
+    → moves_by_cases front z rest c ≡ looked (front ++ z ∷ []) rest c
+    → Masks r gs i d (before ++ Alone p z ∷ []) (p + 1) rest c (front ++ z ∷ []) (places ++ p ∷ [])
+    → Masks r gs i d before p (z ∷ rest) c front places
 other_masks r gs i d before p z rest c front places parts passes further =
     let range = range_with_len (p + 1) (length rest) in
     let es = each_after (before ++ Alone p z ∷ []) (parts_from (p + 1) rest) in
     ap (λ ms. get_or (masked_all r ms (places ++ p ∷ range) gs) i d) passes
-    ∙ ap (λ o. get_or (masked_all r (looked (front ++ z ∷ []) rest c) o gs) i d) (sym (append_assoc places (p ∷ []) range))
+    ∙ ap (λ o. get_or (masked_all r (looked (front ++ z ∷ []) rest c) o gs) i d)
+    (sym (append_assoc places (p ∷ []) range))
     ∙ further
-    ∙ ap (λ ps. pairs_at r ps i (get_or gs i d)) (sym (coengs_alone before p z es) ∙ ap (λ ps. coengs (each_after before ps)) (sym parts))
+    ∙ ap (λ ps. pairs_at r ps i (get_or gs i d)) (sym (coengs_alone before p z es)
+    ∙ ap (λ ps. coengs (each_after before ps)) (sym parts))
 
-coeng_masks : (r : KhmerOrder) (gs : List hb_glyph_info_t) (i : ℕ) (d : hb_glyph_info_t) (before : List Part) (p z y : ℕ) (rest : List ℕ) (c : ℕ) (front places : List ℕ) → is_coeng y ≡ false → is_left_vowel y ≡ false → is_coeng z ≡ true → (is_ro y && nat_le c 2) ≡ false → is_mover (before, Coeng p y) ≡ false → Masks r gs i d (before ++ Coeng p y ∷ []) (p + 2) rest (counted_on c y) ((front ++ z ∷ []) ++ y ∷ []) (places ++ p ∷ ((p + 1) ∷ [])) → Masks r gs i d before p (z ∷ (y ∷ rest)) c front places
+coeng_masks : (r : KhmerOrder) (gs : List hb_glyph_info_t) (i : ℕ) (d : hb_glyph_info_t) (before : List Part)
+    (p z y : ℕ) (rest : List ℕ) (c : ℕ) (front places : List ℕ) → is_coeng y ≡ false → is_left_vowel y ≡ false
+    → is_coeng z ≡ true → (is_ro y && nat_le c 2) ≡ false → is_mover (before, Coeng p y) ≡ false
+    → Masks r gs i d (before ++ Coeng p y ∷ []) (p + 2) rest (counted_on c y) ((front ++ z ∷ []) ++ y ∷ [])
+    (places ++ p ∷ ((p + 1) ∷ [])) → Masks r gs i d before p (z ∷ (y ∷ rest)) c front places
 coeng_masks r gs i d before p z y rest c front places no_coeng no_vowel is stays no_mover further =
     let n = length rest in
     let range = range_with_len (p + 1 + 1) n in
     let ms = looked ((front ++ z ∷ []) ++ y ∷ []) rest (counted_on c y) in
     let es = each_after (before ++ Coeng p y ∷ []) (parts_from (p + 2) rest) in
     let parts : parts_from p (z ∷ (y ∷ rest)) ≡ Coeng p y ∷ parts_from (p + 2) rest = rw is refl in
-    ap (λ ms. get_or (masked_all r ms (places ++ p ∷ ((p + 1) ∷ range)) gs) i d) (looked_coeng front z y rest c no_coeng no_vowel is stays)
+    ap (λ ms. get_or (masked_all r ms (places ++ p ∷ ((p + 1) ∷ range)) gs) i d)
+    (looked_coeng front z y rest c no_coeng no_vowel is stays)
     ∙ ap (λ o. get_or (masked_all r ms (places ++ p ∷ ((p + 1) ∷ o)) gs) i d) (range_behind p n)
-    ∙ ap (λ o. get_or (masked_all r ms o gs) i d) (sym (append_assoc places (p ∷ ((p + 1) ∷ [])) (range_with_len (p + 2) n)))
+    ∙ ap (λ o. get_or (masked_all r ms o gs) i d)
+    (sym (append_assoc places (p ∷ ((p + 1) ∷ [])) (range_with_len (p + 2) n)))
     ∙ further
-    ∙ ap (λ ps. pairs_at r ps i (get_or gs i d)) (sym (coengs_stays before p y es no_mover) ∙ ap (λ ps. coengs (each_after before ps)) (sym parts))
+    ∙ ap (λ ps. pairs_at r ps i (get_or gs i d)) (sym (coengs_stays before p y es no_mover)
+    ∙ ap (λ ps. coengs (each_after before ps)) (sym parts))
 
 -- the places of a pair, behind what stands before it
-pair_places : (r : KhmerOrder) (gs : List hb_glyph_info_t) (p n : ℕ) (places range : List ℕ) → length places ≡ n → n ≡ p → masked_for r (Pair n) (places ++ p ∷ ((p + 1) ∷ range)) gs ≡ paired r p (p + 1) (p + 2) (length gs) gs
+pair_places : (r : KhmerOrder) (gs : List hb_glyph_info_t) (p n : ℕ) (places range : List ℕ) → length places ≡ n → n ≡ p
+    → masked_for r (Pair n) (places ++ p ∷ ((p + 1) ∷ range)) gs ≡ paired r p (p + 1) (p + 2) (length gs) gs
 pair_places r gs p n places range len at =
     let all = places ++ p ∷ ((p + 1) ∷ range) in
-    let coeng : get_or all n 0 ≡ p = ap (λ k. get_or all k 0) (sym len) ∙ get_or-append_seam places p ((p + 1) ∷ range) 0 in
-    let ro : get_or all (n + 1) 0 ≡ p + 1 = ap (λ k. get_or all (k + 1) 0) (sym len) ∙ get_or-append-add places (p ∷ ((p + 1) ∷ range)) 1 0 in
+    let coeng : get_or all n 0 ≡ p = ap (λ k. get_or all k 0) (sym len)
+    ∙ get_or-append_seam places p ((p + 1) ∷ range) 0 in
+    let ro : get_or all (n + 1) 0 ≡ p + 1 = ap (λ k. get_or all (k + 1) 0) (sym len)
+    ∙ get_or-append-add places (p ∷ ((p + 1) ∷ range)) 1 0 in
     ap (λ q. paired r q (get_or all (n + 1) 0) (n + 2) (length gs) gs) coeng
     ∙ ap (λ q. paired r p q (n + 2) (length gs) gs) ro
     ∙ ap (λ q. paired r p (p + 1) (q + 2) (length gs) gs) at
 
-length-paired : (r : KhmerOrder) (p : ℕ) (gs : List hb_glyph_info_t) → p + 2 ≤ length gs → length (paired r p (p + 1) (p + 2) (length gs) gs) ≡ length gs
+length-paired : (r : KhmerOrder) (p : ℕ) (gs : List hb_glyph_info_t) → p + 2 ≤ length gs
+    → length (paired r p (p + 1) (p + 2) (length gs) gs) ≡ length gs
 length-paired r p gs l =
     let first = masked r.pref p (p + 1) gs in
     let second = masked r.pref (p + 1) (p + 1 + 1) first in
-    length-masked r.cfar (p + 2) (length gs) second l ∙ length-masked r.pref (p + 1) (p + 1 + 1) first (omega arith) ∙ length-masked r.pref p (p + 1) gs (omega arith)
+    length-masked r.cfar (p + 2) (length gs) second l ∙ length-masked r.pref (p + 1) (p + 1 + 1) first (omega arith)
+    ∙ length-masked r.pref p (p + 1) gs (omega arith)
 
-pair_masks : (r : KhmerOrder) (gs : List hb_glyph_info_t) (i : ℕ) (d : hb_glyph_info_t) (before : List Part) (p z y : ℕ) (rest : List ℕ) (c : ℕ) (front : List ℕ) (x : ℕ) (places : List ℕ) → length places ≡ length (front ++ x ∷ []) → length places ≡ p → p + 2 ≤ length gs → i < length gs → is_coeng x ≡ false → is_left_vowel x ≡ false → is_coeng z ≡ true → nat_le c 2 ≡ true → is_ro y ≡ true → is_mover (before, Coeng p y) ≡ true → Masks r (paired r p (p + 1) (p + 2) (length gs) gs) i d (before ++ Coeng p y ∷ []) (p + 2) rest 2 (z ∷ (y ∷ (front ++ x ∷ []))) (p ∷ ((p + 1) ∷ places)) → Masks r gs i d before p (z ∷ (y ∷ rest)) c (front ++ x ∷ []) places
+pair_masks : (r : KhmerOrder) (gs : List hb_glyph_info_t) (i : ℕ) (d : hb_glyph_info_t) (before : List Part) (p z y : ℕ)
+    (rest : List ℕ) (c : ℕ) (front : List ℕ) (x : ℕ) (places : List ℕ) → length places ≡ length (front ++ x ∷ [])
+    → length places ≡ p → p + 2 ≤ length gs → i < length gs → is_coeng x ≡ false → is_left_vowel x ≡ false
+    → is_coeng z ≡ true → nat_le c 2 ≡ true → is_ro y ≡ true → is_mover (before, Coeng p y) ≡ true
+    → Masks r (paired r p (p + 1) (p + 2) (length gs) gs) i d (before ++ Coeng p y ∷ []) (p + 2) rest 2
+    (z ∷ (y ∷ (front ++ x ∷ []))) (p ∷ ((p + 1) ∷ places))
+    → Masks r gs i d before p (z ∷ (y ∷ rest)) c (front ++ x ∷ []) places
 pair_masks r gs i d before p z y rest c front x places len at l h no_coeng no_vowel is few ro moves further =
     let n = length rest in
     let range = range_with_len (p + 1 + 1) n in
@@ -182,15 +224,21 @@ pair_masks r gs i d before p z y rest c front x places len at l h no_coeng no_vo
     let hs = paired r p (p + 1) (p + 2) (length gs) gs in
     let parts : parts_from p (z ∷ (y ∷ rest)) ≡ Coeng p y ∷ parts_from (p + 2) rest = rw is refl in
     ap (λ ms. get_or (masked_all r ms all gs) i d) (looked_pair front x z y rest c no_coeng no_vowel is few ro)
-    ∙ ap (λ ks. get_or (masked_all r ms (brought over 2 all) ks) i d) (pair_places r gs p over places range len (sym len ∙ at))
+    ∙ ap (λ ks. get_or (masked_all r ms (brought over 2 all) ks) i d)
+    (pair_places r gs p over places range len (sym len ∙ at))
     ∙ ap (λ n. get_or (masked_all r ms (brought n 2 all) hs) i d) (sym len)
     ∙ ap (λ o. get_or (masked_all r ms o hs) i d) (brought_parts 2 places (p ∷ ((p + 1) ∷ [])) range refl)
     ∙ ap (λ o. get_or (masked_all r ms (p ∷ ((p + 1) ∷ (places ++ o))) hs) i d) (range_behind p n)
     ∙ further
     ∙ ap (pairs_at r (coengs es) i) (pair_masked r p gs i d l h)
-    ∙ ap (λ ps. pairs_at r ps i (get_or gs i d)) (sym (coengs_moves before p y es moves) ∙ ap (λ ps. coengs (each_after before ps)) (sym parts))
+    ∙ ap (λ ps. pairs_at r ps i (get_or gs i d)) (sym (coengs_moves before p y es moves)
+    ∙ ap (λ ps. coengs (each_after before ps)) (sym parts))
 
-given : (r : KhmerOrder) (gs : List hb_glyph_info_t) (i : ℕ) (d : hb_glyph_info_t) (before : List Part) (p : ℕ) (categories : List ℕ) (c : ℕ) (front : List ℕ) (x : ℕ) (places : List ℕ) → length places ≡ length (front ++ x ∷ []) → length places ≡ p → length gs ≡ p + length categories → i < length gs → is_coeng x ≡ false → is_left_vowel x ≡ false → is_inner categories ≡ true → counted 0 (behind_coengs before) ≡ c → Masks r gs i d before p categories c (front ++ x ∷ []) places
+given : (r : KhmerOrder) (gs : List hb_glyph_info_t) (i : ℕ) (d : hb_glyph_info_t) (before : List Part) (p : ℕ)
+    (categories : List ℕ) (c : ℕ) (front : List ℕ) (x : ℕ) (places : List ℕ) → length places ≡ length (front ++ x ∷ [])
+    → length places ≡ p → length gs ≡ p + length categories → i < length gs → is_coeng x ≡ false
+    → is_left_vowel x ≡ false → is_inner categories ≡ true → counted 0 (behind_coengs before) ≡ c
+    → Masks r gs i d before p categories c (front ++ x ∷ []) places
 given r gs i d before p [] c front x places len at size h no_coeng no_vowel inner count = refl
 given r gs i d before p (z ∷ []) c front x places len at size h no_coeng no_vowel inner count =
     let all = front ++ x ∷ [] in
@@ -201,14 +249,16 @@ given r gs i d before p (z ∷ []) c front x places len at size h no_coeng no_vo
 given r gs i d before p (z ∷ (y ∷ rest)) c front x places len at size h no_coeng no_vowel inner count =
     let all = front ++ x ∷ [] in
     let categories = y ∷ rest in
-    let both_places : length (places ++ p ∷ ((p + 1) ∷ [])) ≡ p + 2 = length-append places (p ∷ ((p + 1) ∷ [])) ∙ ap (λ n. n + 2) at in
+    let both_places : length (places ++ p ∷ ((p + 1) ∷ [])) ≡ p + 2 = length-append places (p ∷ ((p + 1) ∷ []))
+    ∙ ap (λ n. n + 2) at in
     let one_place : length (places ++ p ∷ []) ≡ p + 1 = length-append places (p ∷ []) ∙ ap (λ n. n + 1) at in
     elim (cases_Bool (is_coeng z)) [
       | inl is ↦
           let behind = inner_behind z y rest inner is in
           let tail = inner_tail y rest (inner_tail z categories inner) in
           let counts = count_coeng before p y c count in
-          let test : is_mover (before, Coeng p y) ≡ (is_ro y && nat_le c 2) = ap (λ b. is_ro y && b) (moves_by_count (behind_coengs before) ∙ ap (λ n. nat_le n 2) count) in
+          let test : is_mover (before, Coeng p y) ≡ (is_ro y && nat_le c 2) =
+          ap (λ b. is_ro y && b) (moves_by_count (behind_coengs before) ∙ ap (λ n. nat_le n 2) count) in
           elim (cases_Bool (is_ro y && nat_le c 2)) [
             | inl on ↦
                 let both = and_parts (is_ro y) (nat_le c 2) on in
@@ -216,25 +266,39 @@ given r gs i d before p (z ∷ (y ∷ rest)) c front x places len at size h no_c
                 let room : p + 2 ≤ length gs = omega arith in
                 let hs = paired r p (p + 1) (p + 2) (length gs) gs in
                 let same : length hs ≡ length gs = length-paired r p gs room in
-                pair_masks r gs i d before p z y rest c front x places len at room h no_coeng no_vowel is both.1 both.0 (test ∙ on)
-                (given r hs i d (before ++ Coeng p y ∷ []) (p + 2) rest 2 (z ∷ (y ∷ front)) x (p ∷ ((p + 1) ∷ places)) (ap (λ n. suc (suc n)) len) (omega arith) (omega arith) (omega arith) no_coeng no_vowel tail (counts ∙ two))
+                pair_masks r gs i d before p z y rest c front x places len at room h no_coeng no_vowel is both.1 both.0
+                (test ∙ on)
+                (given r hs i d (before ++ Coeng p y ∷ []) (p + 2) rest 2 (z ∷ (y ∷ front)) x (p ∷ ((p + 1) ∷ places))
+                (ap (λ n. suc (suc n)) len) (omega arith) (omega arith) (omega arith) no_coeng no_vowel tail (counts
+                ∙ two))
             | inr off ↦
                 coeng_masks r gs i d before p z y rest c all places behind.0 behind.1 is off (test ∙ off)
-                (given r gs i d (before ++ Coeng p y ∷ []) (p + 2) rest (counted_on c y) (all ++ z ∷ []) y (places ++ p ∷ ((p + 1) ∷ []))
-                (ap length (sym (append_assoc places (p ∷ []) ((p + 1) ∷ []))) ∙ longer (places ++ p ∷ []) (all ++ z ∷ []) (p + 1) y (longer places all p z len)) both_places (omega arith) h behind.0 behind.1 tail counts)
+                (given r gs i d (before ++ Coeng p y ∷ []) (p + 2) rest (counted_on c y) (all ++ z ∷ []) y
+                (places ++ p ∷ ((p + 1) ∷ []))
+                (ap length (sym (append_assoc places (p ∷ []) ((p + 1) ∷ [])))
+                ∙ longer (places ++ p ∷ []) (all ++ z ∷ []) (p + 1) y (longer places all p z len)) both_places
+                (omega arith) h behind.0 behind.1 tail counts)
           ]
       | inr off ↦
           let tail = inner_tail z categories inner in
           let counts = count_alone before p z c count in
           let parts : parts_from p (z ∷ categories) ≡ Alone p z ∷ parts_from (p + 1) categories = rw off refl in
           elim (cases_Bool (is_left_vowel z)) [
-            | inl vowel ↦ vowel_masks r gs i d before p z categories c all places len vowel parts (given r gs i d (before ++ Alone p z ∷ []) (p + 1) (y ∷ rest) c (z ∷ front) x (p ∷ places) (ap suc len) (omega arith) (omega arith) h no_coeng no_vowel tail counts)
-            | inr other ↦ other_masks r gs i d before p z categories c all places parts (looked_other all z categories c off other) (given r gs i d (before ++ Alone p z ∷ []) (p + 1) (y ∷ rest) c all z (places ++ p ∷ []) (longer places all p z len) one_place (omega arith) h off other tail counts)
+            | inl vowel ↦ vowel_masks r gs i d before p z categories c all places len vowel parts
+                (given r gs i d (before ++ Alone p z ∷ []) (p + 1) (y ∷ rest) c (z ∷ front) x (p ∷ places) (ap suc len)
+                (omega arith) (omega arith) h no_coeng no_vowel tail counts)
+            | inr other ↦ other_masks r gs i d before p z categories c all places parts
+                (looked_other all z categories c off other)
+                (given r gs i d (before ++ Alone p z ∷ []) (p + 1) (y ∷ rest) c all z (places ++ p ∷ [])
+                (longer places all p z len) one_place (omega arith) h off other tail counts)
           ]
     ]
 
 -- A SYLLABLE. The masks at each of its places
-masks_at : (r : KhmerOrder) (g : hb_glyph_info_t) (gs : List hb_glyph_info_t) (i : ℕ) (d : hb_glyph_info_t) → is_coeng g.category ≡ false → is_left_vowel g.category ≡ false → is_inner (categories_of gs) ≡ true → i < length (g ∷ gs) → get_or (khmer_masked r (g ∷ gs)) i d ≡ masked_at r (moving_coengs (categories_of (g ∷ gs))) i (get_or (g ∷ gs) i d)
+masks_at : (r : KhmerOrder) (g : hb_glyph_info_t) (gs : List hb_glyph_info_t) (i : ℕ) (d : hb_glyph_info_t)
+    → is_coeng g.category ≡ false → is_left_vowel g.category ≡ false → is_inner (categories_of gs) ≡ true
+    → i < length (g ∷ gs) → get_or (khmer_masked r (g ∷ gs)) i d
+    ≡ masked_at r (moving_coengs (categories_of (g ∷ gs))) i (get_or (g ∷ gs) i d)
 masks_at r g gs i d no_coeng no_vowel inner h =
     let x = g.category in
     let categories = categories_of gs in
@@ -242,23 +306,27 @@ masks_at r g gs i d no_coeng no_vowel inner h =
     let first = masked r.others 1 (length all) all in
     let one = Alone 0 x ∷ [] in
     let es = each_after one (parts_from 1 categories) in
-    let moving : coengs es ≡ moving_coengs (x ∷ categories) = sym (coengs_alone [] 0 x es) ∙ ap (λ ps. coengs (each_after [] ps)) (sym (first_part x categories no_coeng)) in
+    let moving : coengs es ≡ moving_coengs (x ∷ categories) = sym (coengs_alone [] 0 x es)
+    ∙ ap (λ ps. coengs (each_after [] ps)) (sym (first_part x categories no_coeng)) in
     let len : length first ≡ length all = length-masked r.others 1 (length all) all (omega arith) in
     let size : length first ≡ 1 + length categories = let same = length-categories gs in omega arith in
     ap (λ ms. get_or (masked_all r ms (0 ∷ range_with_len 1 (length gs)) first) i d) (first_looked g gs)
-    ∙ ap (λ n. get_or (masked_all r (looked (x ∷ []) categories 0) (0 ∷ range_with_len 1 n) first) i d) (sym (length-categories gs))
+    ∙ ap (λ n. get_or (masked_all r (looked (x ∷ []) categories 0) (0 ∷ range_with_len 1 n) first) i d)
+    (sym (length-categories gs))
     ∙ given r first i d one 1 categories 0 [] x (0 ∷ []) refl refl size (omega arith) no_coeng no_vowel inner refl
     ∙ ap (λ ps. pairs_at r ps i (get_or first i d)) moving
     ∙ ap (pairs_at r (moving_coengs (x ∷ categories)) i) (others_masked r.others all i d h)
     ∙ pairs_once r (moving_coengs (x ∷ categories)) i (with_mask_if (nat_lt 0 i) r.others (get_or all i d))
 
-length-khmer_masked : (r : KhmerOrder) (g : hb_glyph_info_t) (gs : List hb_glyph_info_t) → length (khmer_masked r (g ∷ gs)) ≡ length (g ∷ gs)
+length-khmer_masked : (r : KhmerOrder) (g : hb_glyph_info_t) (gs : List hb_glyph_info_t)
+    → length (khmer_masked r (g ∷ gs)) ≡ length (g ∷ gs)
 length-khmer_masked r g gs =
     let all = g ∷ gs in
     let first = masked r.others 1 (length all) all in
     let len : length first ≡ length all = length-masked r.others 1 (length all) all (omega arith) in
     sym (length-categories (khmer_masked r all))
-    ∙ ap length (hidden-masked_all (λ g. g.category) (λ m g. refl) r (khmer_moves all) (range_with_len 0 (length all)) first (subst (λ n. EndWithin n (map merged_by_move (khmer_moves all))) (sym len) (khmer_ends all)))
+    ∙ ap length (hidden-masked_all (λ g. g.category) (λ m g. refl) r (khmer_moves all) (range_with_len 0 (length all))
+    first (subst (λ n. EndWithin n (map merged_by_move (khmer_moves all))) (sym len) (khmer_ends all)))
     ∙ length-categories first
     ∙ len
 
@@ -280,5 +348,6 @@ khmer_masks_by_movers r (g ∷ gs) regular =
     let inside : i < length all = omega arith in
     let zero_on : 0 + i ≡ i = omega arith in
     let at : get_or (map f es) i d ≡ masked_at r ps i (get_or all i d) =
-    get_or-map f es i (0, d) d (omega arith) ∙ ap f (get_or-enumerate_from 0 all i (0, d) inside) ∙ ap (λ k. masked_at r ps k (get_or all i d)) zero_on in
+    get_or-map f es i (0, d) d (omega arith) ∙ ap f (get_or-enumerate_from 0 all i (0, d) inside)
+    ∙ ap (λ k. masked_at r ps k (get_or all i d)) zero_on in
     masks_at r g gs i d first.0 first.1 (inner_tail x (categories_of gs) both.1) inside ∙ sym at)

@@ -10,7 +10,8 @@ use Rattle.shapers_khmer.proofs.KhmerMovers.{count_alone, count_coeng, counted, 
 abbrev merges : List (List Part × Part) → List (ℕ × ℕ)
 merges es = map (λ e. merged_over e.1) (filter is_mover es)
 
-merges_more : (e : List Part × Part) (es : List (List Part × Part)) → is_mover e ≡ true → merges (e ∷ es) ≡ merged_over e.1 ∷ merges es
+merges_more : (e : List Part × Part) (es : List (List Part × Part)) → is_mover e ≡ true
+    → merges (e ∷ es) ≡ merged_over e.1 ∷ merges es
 merges_more e es on = rw on refl
 
 merges_same : (e : List Part × Part) (es : List (List Part × Part)) → is_mover e ≡ false → merges (e ∷ es) ≡ merges es
@@ -20,12 +21,16 @@ front_grown : (front : List ℕ) (z p : ℕ) → length front ≡ p → length (
 front_grown front z p at = length-append front (z ∷ []) ∙ ap (λ n. n + 1) at
 
 -- those of what is looked at, behind a front whose last is neither Coeng nor a left vowel
-movers_merged : (before : List Part) (p : ℕ) (categories : List ℕ) (c : ℕ) (front : List ℕ) (x : ℕ) → length (front ++ x ∷ []) ≡ p → is_coeng x ≡ false → is_left_vowel x ≡ false → is_inner categories ≡ true → counted 0 (behind_coengs before) ≡ c → map merged_by_move (looked (front ++ x ∷ []) categories c) ≡ merges (each_after before (parts_from p categories))
+movers_merged : (before : List Part) (p : ℕ) (categories : List ℕ) (c : ℕ) (front : List ℕ) (x : ℕ)
+    → length (front ++ x ∷ []) ≡ p → is_coeng x ≡ false → is_left_vowel x ≡ false → is_inner categories ≡ true
+    → counted 0 (behind_coengs before) ≡ c → map merged_by_move (looked (front ++ x ∷ []) categories c)
+    ≡ merges (each_after before (parts_from p categories))
 movers_merged before p [] c front x at no_coeng no_vowel inner count = refl
 movers_merged before p (z ∷ []) c front x at no_coeng no_vowel inner count =
     let all = front ++ x ∷ [] in
     elim (cases_Bool (is_left_vowel z)) [
-      | inl vowel ↦ ap (map merged_by_move) (looked_vowel all z [] c vowel) ∙ ap (λ n. (0, n + 1) ∷ []) at ∙ sym (merges_more (before, Alone p z) [] vowel)
+      | inl vowel ↦ ap (map merged_by_move) (looked_vowel all z [] c vowel) ∙ ap (λ n. (0, n + 1) ∷ []) at
+          ∙ sym (merges_more (before, Alone p z) [] vowel)
       | inr other ↦ rw other refl
     ]
 movers_merged before p (z ∷ (y ∷ rest)) c front x at no_coeng no_vowel inner count =
@@ -38,7 +43,8 @@ movers_merged before p (z ∷ (y ∷ rest)) c front x at no_coeng no_vowel inner
           let counts = count_coeng before p y c count in
           let es = each_after (before ++ Coeng p y ∷ []) (parts_from (p + 2) rest) in
           let parts : parts_from p (z ∷ categories) ≡ Coeng p y ∷ parts_from (p + 2) rest = rw is refl in
-          let test : is_mover (before, Coeng p y) ≡ (is_ro y && nat_le c 2) = ap (λ b. is_ro y && b) (moves_by_count (behind_coengs before) ∙ ap (λ n. nat_le n 2) count) in
+          let test : is_mover (before, Coeng p y) ≡ (is_ro y && nat_le c 2) =
+          ap (λ b. is_ro y && b) (moves_by_count (behind_coengs before) ∙ ap (λ n. nat_le n 2) count) in
           elim (cases_Bool (is_ro y && nat_le c 2)) [
             | inl on ↦
                 let both = and_parts (is_ro y) (nat_le c 2) on in
@@ -46,12 +52,16 @@ movers_merged before p (z ∷ (y ∷ rest)) c front x at no_coeng no_vowel inner
                 let ms = map merged_by_move (looked (z ∷ (y ∷ all)) rest 2) in
                 ap (map merged_by_move) (looked_pair front x z y rest c no_coeng no_vowel is both.1 both.0)
                 ∙ ap (λ n. (0, n + 2) ∷ ms) at
-                ∙ ap (λ ms. (0, p + 2) ∷ ms) (movers_merged (before ++ Coeng p y ∷ []) (p + 2) rest 2 (z ∷ (y ∷ front)) x (ap (λ n. suc (suc n)) at ∙ omega arith) no_coeng no_vowel tail (counts ∙ two))
+                ∙ ap (λ ms. (0, p + 2) ∷ ms)
+                (movers_merged (before ++ Coeng p y ∷ []) (p + 2) rest 2 (z ∷ (y ∷ front)) x
+                (ap (λ n. suc (suc n)) at ∙ omega arith) no_coeng no_vowel tail (counts ∙ two))
                 ∙ sym (merges_more (before, Coeng p y) es (test ∙ on))
                 ∙ ap (λ ps. merges (each_after before ps)) (sym parts)
             | inr off ↦
                 ap (map merged_by_move) (looked_coeng all z y rest c behind.0 behind.1 is off)
-                ∙ movers_merged (before ++ Coeng p y ∷ []) (p + 2) rest (counted_on c y) (all ++ z ∷ []) y (front_grown (all ++ z ∷ []) y (p + 1) (front_grown all z p at) ∙ omega arith) behind.0 behind.1 tail counts
+                ∙ movers_merged (before ++ Coeng p y ∷ []) (p + 2) rest (counted_on c y) (all ++ z ∷ []) y
+                (front_grown (all ++ z ∷ []) y (p + 1) (front_grown all z p at) ∙ omega arith) behind.0 behind.1
+                tail counts
                 ∙ sym (merges_same (before, Coeng p y) es (test ∙ off))
                 ∙ ap (λ ps. merges (each_after before ps)) (sym parts)
           ]
@@ -65,12 +75,15 @@ movers_merged before p (z ∷ (y ∷ rest)) c front x at no_coeng no_vowel inner
                 let ms = map merged_by_move (looked (z ∷ all) categories c) in
                 ap (map merged_by_move) (looked_vowel all z categories c vowel)
                 ∙ ap (λ n. (0, n + 1) ∷ ms) at
-                ∙ ap (λ ms. (0, p + 1) ∷ ms) (movers_merged (before ++ Alone p z ∷ []) (p + 1) (y ∷ rest) c (z ∷ front) x (ap suc at ∙ omega arith) no_coeng no_vowel tail counts)
+                ∙ ap (λ ms. (0, p + 1) ∷ ms)
+                (movers_merged (before ++ Alone p z ∷ []) (p + 1) (y ∷ rest) c (z ∷ front) x (ap suc at
+                ∙ omega arith) no_coeng no_vowel tail counts)
                 ∙ sym (merges_more (before, Alone p z) es vowel)
                 ∙ ap (λ ps. merges (each_after before ps)) (sym parts)
             | inr other ↦
                 ap (map merged_by_move) (looked_other all z categories c off other)
-                ∙ movers_merged (before ++ Alone p z ∷ []) (p + 1) (y ∷ rest) c all z (front_grown all z p at) off other tail counts
+                ∙ movers_merged (before ++ Alone p z ∷ []) (p + 1) (y ∷ rest) c all z (front_grown all z p at) off other
+                tail counts
                 ∙ sym (merges_same (before, Alone p z) es other)
                 ∙ ap (λ ps. merges (each_after before ps)) (sym parts)
           ]

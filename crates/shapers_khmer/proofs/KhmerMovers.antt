@@ -35,17 +35,21 @@ behind_pair (y ∷ ys) = elim (cases_Bool (is_ro y)) [
   | inr off ↦ rw off (many 3 ys (omega arith))
 ]
 
-behind_others : (c : ℕ) (ys : List ℕ) → c ≤ 2 → nat_le (counted c ys) 2 ≡ (nat_lt (c + others_before ys) 3 && list_all is_ro (drop (others_before ys) ys))
+behind_others : (c : ℕ) (ys : List ℕ) → c ≤ 2
+    → nat_le (counted c ys) 2 ≡ (nat_lt (c + others_before ys) 3 && list_all is_ro (drop (others_before ys) ys))
 behind_others c [] h = let few : nat_lt (c + 0) 3 ≡ true = lt-ltb (c + 0) 3 (omega arith) in rw few (le-leb c 2 h)
 behind_others c (y ∷ ys) h =
     let n = others_before ys in
     elim (cases_Bool (is_ro y)) [
-      | inl on ↦ let few : nat_lt (c + 0) 3 ≡ true = lt-ltb (c + 0) 3 (omega arith) in rw (le-leb c 2 h, on, few) (rw on (behind_pair ys))
+      | inl on ↦ let few : nat_lt (c + 0) 3 ≡ true =
+          lt-ltb (c + 0) 3 (omega arith) in rw (le-leb c 2 h, on, few) (rw on (behind_pair ys))
       | inr off ↦ elim (cases_Bool (nat_le (c + 1) 2)) [
         | inl more ↦
             let sum : c + 1 + n ≡ c + (1 + n) = omega arith in
             let one : suc n ≡ 1 + n = omega arith in
-            rw (le-leb c 2 h, off) (behind_others (c + 1) ys (leb-true (c + 1) 2 more) ∙ ap (λ k. nat_lt k 3 && list_all is_ro (drop n ys)) sum ∙ ap (λ k. nat_lt (c + (1 + n)) 3 && list_all is_ro (drop k (y ∷ ys))) one)
+            rw (le-leb c 2 h, off) (behind_others (c + 1) ys (leb-true (c + 1) 2 more)
+            ∙ ap (λ k. nat_lt k 3 && list_all is_ro (drop n ys)) sum
+            ∙ ap (λ k. nat_lt (c + (1 + n)) 3 && list_all is_ro (drop k (y ∷ ys))) one)
         | inr full ↦
             let over : 2 < c + 1 = leb-false (c + 1) 2 full in
             let none : nat_lt (c + (1 + n)) 3 ≡ false = le-ltb (c + (1 + n)) 3 (omega arith) in
@@ -70,7 +74,8 @@ counted_more c (x ∷ xs) y = elim (cases_Bool (nat_le c 2)) [
   | inr full ↦ rw full (counted_more c xs y)
 ]
 
-behind_coeng : (before : List Part) (p y : ℕ) → behind_coengs (before ++ Coeng p y ∷ []) ≡ behind_coengs before ++ y ∷ []
+behind_coeng : (before : List Part) (p y : ℕ) → behind_coengs (before ++ Coeng p y ∷ []) ≡ behind_coengs before ++ y
+    ∷ []
 behind_coeng [] p y = refl
 behind_coeng (Coeng q x ∷ before) p y = ap (λ xs. x ∷ xs) (behind_coeng before p y)
 behind_coeng (Alone q x ∷ before) p y = behind_coeng before p y
@@ -90,49 +95,63 @@ is_stayer e = not (is_mover e)
 abbrev result : List ℕ → List (List Part × Part) → List ℕ
 result front es = flat (reverse (filter is_mover es)) ++ (front ++ flat (filter is_stayer es))
 
-result_stays : (front : List ℕ) (e : List Part × Part) (es : List (List Part × Part)) → is_mover e ≡ false → result (front ++ part_places e.1) es ≡ result front (e ∷ es)
+result_stays : (front : List ℕ) (e : List Part × Part) (es : List (List Part × Part)) → is_mover e ≡ false
+    → result (front ++ part_places e.1) es ≡ result front (e ∷ es)
 result_stays front e es off =
     let ms = flat (reverse (filter is_mover es)) in
-    rw off (ap (λ xs. ms ++ xs) (append_assoc front (part_places e.1) (flat (filter is_stayer es)) ∙ ap (λ xs. front ++ xs) (sym (flat_map-cons (λ (e : List Part × Part). part_places e.1) e (filter is_stayer es)))))
+    rw off (ap (λ xs. ms ++ xs) (append_assoc front (part_places e.1) (flat (filter is_stayer es))
+    ∙ ap (λ xs. front ++ xs)
+    (sym (flat_map-cons (λ (e : List Part × Part). part_places e.1) e (filter is_stayer es)))))
 
-result_moves : (front : List ℕ) (e : List Part × Part) (es : List (List Part × Part)) → is_mover e ≡ true → result (part_places e.1 ++ front) es ≡ result front (e ∷ es)
+result_moves : (front : List ℕ) (e : List Part × Part) (es : List (List Part × Part)) → is_mover e ≡ true
+    → result (part_places e.1 ++ front) es ≡ result front (e ∷ es)
 result_moves front e es on =
     let ms = reverse (filter is_mover es) in
     let ss = flat (filter is_stayer es) in
     let f : List Part × Part → List ℕ = λ e. part_places e.1 in
     let one : flat (e ∷ []) ≡ part_places e.1 = flat_map-cons f e [] ∙ append-nil (part_places e.1) in
-    let more : flat (reverse (e ∷ filter is_mover es)) ≡ flat ms ++ part_places e.1 = ap flat (reverse_onto (filter is_mover es) e []) ∙ flat_map-append f ms (e ∷ []) ∙ ap (λ xs. flat ms ++ xs) one in
-    rw on (ap (λ xs. flat ms ++ xs) (append_assoc (part_places e.1) front ss) ∙ sym (append_assoc (flat ms) (part_places e.1) (front ++ ss)) ∙ ap (λ xs. xs ++ (front ++ ss)) (sym more))
+    let more : flat (reverse (e ∷ filter is_mover es)) ≡ flat ms ++ part_places e.1 =
+    ap flat (reverse_onto (filter is_mover es) e []) ∙ flat_map-append f ms (e ∷ [])
+    ∙ ap (λ xs. flat ms ++ xs) one in
+    rw on (ap (λ xs. flat ms ++ xs) (append_assoc (part_places e.1) front ss)
+    ∙ sym (append_assoc (flat ms) (part_places e.1) (front ++ ss)) ∙ ap (λ xs. xs ++ (front ++ ss)) (sym more))
 
 -- THE MOVES. Those of what is still to be looked at, with the front before it
 abbrev pub looked : List ℕ → List ℕ → ℕ → List Move
 looked front [] c = []
 looked front (z ∷ rest) c = moves_by_cases front z rest c
 
-pub looked_other : (front : List ℕ) (z : ℕ) (rest : List ℕ) (c : ℕ) → is_coeng z ≡ false → is_left_vowel z ≡ false → moves_by_cases front z rest c ≡ looked (front ++ z ∷ []) rest c
+pub looked_other : (front : List ℕ) (z : ℕ) (rest : List ℕ) (c : ℕ) → is_coeng z ≡ false → is_left_vowel z ≡ false
+    → moves_by_cases front z rest c ≡ looked (front ++ z ∷ []) rest c
 looked_other front z [] c no_coeng no_vowel = rw no_vowel refl
 looked_other front z (y ∷ rest) c no_coeng no_vowel = rw (no_coeng, no_vowel) refl
 
-pub looked_vowel : (front : List ℕ) (z : ℕ) (rest : List ℕ) (c : ℕ) → is_left_vowel z ≡ true → moves_by_cases front z rest c ≡ Vowel (length front) ∷ looked (z ∷ front) rest c
+pub looked_vowel : (front : List ℕ) (z : ℕ) (rest : List ℕ) (c : ℕ) → is_left_vowel z ≡ true
+    → moves_by_cases front z rest c ≡ Vowel (length front) ∷ looked (z ∷ front) rest c
 looked_vowel front z [] c vowel = rw vowel refl
 looked_vowel front z (y ∷ rest) c vowel =
     let is = eqb-true z 22 vowel in
     let no_coeng : is_coeng z ≡ false = ne_eqb z 4 (λ e. absurd (omega arith)) in
     rw (no_coeng, vowel) refl
 
-pub looked_pair : (front : List ℕ) (x z y : ℕ) (rest : List ℕ) (c : ℕ) → is_coeng x ≡ false → is_left_vowel x ≡ false → is_coeng z ≡ true → nat_le c 2 ≡ true → is_ro y ≡ true → moves_by_cases (front ++ x ∷ []) z (y ∷ rest) c ≡ Pair (length (front ++ x ∷ [])) ∷ looked (z ∷ (y ∷ (front ++ x ∷ []))) rest 2
+pub looked_pair : (front : List ℕ) (x z y : ℕ) (rest : List ℕ) (c : ℕ) → is_coeng x ≡ false → is_left_vowel x ≡ false
+    → is_coeng z ≡ true → nat_le c 2 ≡ true → is_ro y ≡ true → moves_by_cases (front ++ x ∷ []) z (y ∷ rest) c
+    ≡ Pair (length (front ++ x ∷ [])) ∷ looked (z ∷ (y ∷ (front ++ x ∷ []))) rest 2
 looked_pair front x z y rest c no_coeng no_vowel is few ro =
     let all = front ++ x ∷ [] in
     let n : length all - 1 ≡ length front = omega (arith, length-append front (x ∷ [])) in
     let before : take (length all - 1) all ≡ front = ap (λ k. take k all) n ∙ take-append_seam front (x ∷ []) in
     let last : get_or all (length all - 1) 0 ≡ x = ap (λ k. get_or all k 0) n ∙ get_or-append_seam front x [] 0 in
-    let further : moves_by_cases (z ∷ (y ∷ take (length all - 1) all)) (get_or all (length all - 1) 0) rest 2 ≡ looked (z ∷ (y ∷ all)) rest 2 =
+    let further : moves_by_cases (z ∷ (y ∷ take (length all - 1) all)) (get_or all (length all - 1) 0) rest 2
+    ≡ looked (z ∷ (y ∷ all)) rest 2 =
     ap (λ xs. moves_by_cases (z ∷ (y ∷ xs)) (get_or all (length all - 1) 0) rest 2) before
     ∙ ap (λ w. moves_by_cases (z ∷ (y ∷ front)) w rest 2) last
     ∙ looked_other (z ∷ (y ∷ front)) x rest 2 no_coeng no_vowel in
     rw (is, few, ro) (ap (λ ms. Pair (length all) ∷ ms) further)
 
-pub looked_coeng : (front : List ℕ) (z y : ℕ) (rest : List ℕ) (c : ℕ) → is_coeng y ≡ false → is_left_vowel y ≡ false → is_coeng z ≡ true → (is_ro y && nat_le c 2) ≡ false → moves_by_cases front z (y ∷ rest) c ≡ looked ((front ++ z ∷ []) ++ y ∷ []) rest (counted_on c y)
+pub looked_coeng : (front : List ℕ) (z y : ℕ) (rest : List ℕ) (c : ℕ) → is_coeng y ≡ false → is_left_vowel y ≡ false
+    → is_coeng z ≡ true → (is_ro y && nat_le c 2) ≡ false → moves_by_cases front z (y ∷ rest) c
+    ≡ looked ((front ++ z ∷ []) ++ y ∷ []) rest (counted_on c y)
 looked_coeng front z y rest c no_coeng no_vowel is stays =
     let here = eqb-true z 4 is in
     let no_left : is_left_vowel z ≡ false = ne_eqb z 22 (λ e. absurd (omega arith)) in
@@ -158,16 +177,23 @@ neither true b h = absurd (true≢false (sym h))
 neither false true h = absurd (true≢false (sym h))
 neither false false h = (refl, refl)
 
-pub inner_behind : (z y : ℕ) (rest : List ℕ) → is_inner (z ∷ (y ∷ rest)) ≡ true → is_coeng z ≡ true → (is_coeng y ≡ false) × (is_left_vowel y ≡ false)
+pub inner_behind : (z y : ℕ) (rest : List ℕ) → is_inner (z ∷ (y ∷ rest)) ≡ true → is_coeng z ≡ true
+    → (is_coeng y ≡ false) × (is_left_vowel y ≡ false)
 inner_behind z y rest inner is =
     let first = (and_parts (not (is_coeng z && is_coeng_or_left_vowel y)) (is_inner (y ∷ rest)) inner).0 in
     neither (is_coeng y) (is_left_vowel y) (ap (λ b. not (b && is_coeng_or_left_vowel y)) (sym is) ∙ first)
 
 -- THE WALK. What the moves make of the front and of what is still to be looked at
 abbrev Moved : List Part → ℕ → List ℕ → ℕ → List ℕ → List ℕ → Type 0
-Moved before p categories c front places = moved_all (looked front categories c) (places ++ range_with_len p (length categories)) ≡ result places (each_after before (parts_from p categories))
+Moved before p categories c front places =
+    moved_all (looked front categories c) (places ++ range_with_len p (length categories))
+    ≡ result places (each_after before (parts_from p categories))
 
-alone_moves : (before : List Part) (p z : ℕ) (rest : List ℕ) (c : ℕ) (front places : List ℕ) → length places ≡ length front → is_left_vowel z ≡ true → parts_from p (z ∷ rest) ≡ Alone p z ∷ parts_from (p + 1) rest → Moved (before ++ Alone p z ∷ []) (p + 1) rest c (z ∷ front) (p ∷ places) → Moved before p (z ∷ rest) c front places
+alone_moves : (before : List Part) (p z : ℕ) (rest : List ℕ) (c : ℕ) (front places : List ℕ)
+    → length places ≡ length front → is_left_vowel z ≡ true
+    → parts_from p (z ∷ rest) ≡ Alone p z ∷ parts_from (p + 1) rest
+    → Moved (before ++ Alone p z ∷ []) (p + 1) rest c (z ∷ front) (p ∷ places)
+    → Moved before p (z ∷ rest) c front places
 alone_moves before p z rest c front places len vowel parts further =
     let range = range_with_len (p + 1) (length rest) in
     let all = places ++ p ∷ range in
@@ -179,7 +205,11 @@ alone_moves before p z rest c front places len vowel parts further =
     ∙ result_moves places (before, Alone p z) (each_after (before ++ Alone p z ∷ []) (parts_from (p + 1) rest)) vowel
     ∙ ap (λ ps. result places (each_after before ps)) (sym parts)
 
-alone_stays : (before : List Part) (p z : ℕ) (rest : List ℕ) (c : ℕ) (front places : List ℕ) → is_left_vowel z ≡ false → parts_from p (z ∷ rest) ≡ Alone p z ∷ parts_from (p + 1) rest → moves_by_cases front z rest c ≡ looked (front ++ z ∷ []) rest c → Moved (before ++ Alone p z ∷ []) (p + 1) rest c (front ++ z ∷ []) (places ++ p ∷ []) → Moved before p (z ∷ rest) c front places
+alone_stays : (before : List Part) (p z : ℕ) (rest : List ℕ) (c : ℕ) (front places : List ℕ) → is_left_vowel z ≡ false
+    → parts_from p (z ∷ rest) ≡ Alone p z ∷ parts_from (p + 1) rest → moves_by_cases front z rest c
+    ≡ looked (front ++ z ∷ []) rest c
+    → Moved (before ++ Alone p z ∷ []) (p + 1) rest c (front ++ z ∷ []) (places ++ p ∷ [])
+    → Moved before p (z ∷ rest) c front places
 alone_stays before p z rest c front places other parts passes further =
     let range = range_with_len (p + 1) (length rest) in
     ap (λ ms. moved_all ms (places ++ p ∷ range)) passes
@@ -192,7 +222,11 @@ alone_stays before p z rest c front places other parts passes further =
 pub range_behind : (p n : ℕ) → range_with_len (p + 1 + 1) n ≡ range_with_len (p + 2) n
 range_behind p n = let same : p + 1 + 1 ≡ p + 2 = omega arith in ap (λ q. range_with_len q n) same
 
-pair_moves : (before : List Part) (p z y : ℕ) (rest : List ℕ) (c : ℕ) (front : List ℕ) (x : ℕ) (places : List ℕ) → length places ≡ length (front ++ x ∷ []) → is_coeng x ≡ false → is_left_vowel x ≡ false → is_coeng z ≡ true → nat_le c 2 ≡ true → is_ro y ≡ true → is_mover (before, Coeng p y) ≡ true → Moved (before ++ Coeng p y ∷ []) (p + 2) rest 2 (z ∷ (y ∷ (front ++ x ∷ []))) (p ∷ ((p + 1) ∷ places)) → Moved before p (z ∷ (y ∷ rest)) c (front ++ x ∷ []) places
+pair_moves : (before : List Part) (p z y : ℕ) (rest : List ℕ) (c : ℕ) (front : List ℕ) (x : ℕ) (places : List ℕ)
+    → length places ≡ length (front ++ x ∷ []) → is_coeng x ≡ false → is_left_vowel x ≡ false → is_coeng z ≡ true
+    → nat_le c 2 ≡ true → is_ro y ≡ true → is_mover (before, Coeng p y) ≡ true
+    → Moved (before ++ Coeng p y ∷ []) (p + 2) rest 2 (z ∷ (y ∷ (front ++ x ∷ []))) (p ∷ ((p + 1) ∷ places))
+    → Moved before p (z ∷ (y ∷ rest)) c (front ++ x ∷ []) places
 pair_moves before p z y rest c front x places len no_coeng no_vowel is few ro moves further =
     let n = length rest in
     let range = range_with_len (p + 1 + 1) n in
@@ -208,7 +242,10 @@ pair_moves before p z y rest c front x places len no_coeng no_vowel is few ro mo
     ∙ result_moves places (before, Coeng p y) es moves
     ∙ ap (λ ps. result places (each_after before ps)) (sym parts)
 
-coeng_stays : (before : List Part) (p z y : ℕ) (rest : List ℕ) (c : ℕ) (front places : List ℕ) → is_coeng y ≡ false → is_left_vowel y ≡ false → is_coeng z ≡ true → (is_ro y && nat_le c 2) ≡ false → is_mover (before, Coeng p y) ≡ false → Moved (before ++ Coeng p y ∷ []) (p + 2) rest (counted_on c y) ((front ++ z ∷ []) ++ y ∷ []) (places ++ p ∷ ((p + 1) ∷ [])) → Moved before p (z ∷ (y ∷ rest)) c front places
+coeng_stays : (before : List Part) (p z y : ℕ) (rest : List ℕ) (c : ℕ) (front places : List ℕ) → is_coeng y ≡ false
+    → is_left_vowel y ≡ false → is_coeng z ≡ true → (is_ro y && nat_le c 2) ≡ false → is_mover (before, Coeng p y)
+    ≡ false → Moved (before ++ Coeng p y ∷ []) (p + 2) rest (counted_on c y) ((front ++ z ∷ []) ++ y ∷ [])
+    (places ++ p ∷ ((p + 1) ∷ [])) → Moved before p (z ∷ (y ∷ rest)) c front places
 coeng_stays before p z y rest c front places no_coeng no_vowel is stays no_mover further =
     let n = length rest in
     let range = range_with_len (p + 1 + 1) n in
@@ -223,17 +260,23 @@ coeng_stays before p z y rest c front places no_coeng no_vowel is stays no_mover
     ∙ ap (λ ps. result places (each_after before ps)) (sym parts)
 
 -- the count behind one part more
-pub count_alone : (before : List Part) (p z c : ℕ) → counted 0 (behind_coengs before) ≡ c → counted 0 (behind_coengs (before ++ Alone p z ∷ [])) ≡ c
+pub count_alone : (before : List Part) (p z c : ℕ) → counted 0 (behind_coengs before) ≡ c
+    → counted 0 (behind_coengs (before ++ Alone p z ∷ [])) ≡ c
 count_alone before p z c is = ap (counted 0) (behind_alone before p z) ∙ is
 
-pub count_coeng : (before : List Part) (p y c : ℕ) → counted 0 (behind_coengs before) ≡ c → counted 0 (behind_coengs (before ++ Coeng p y ∷ [])) ≡ counted_on c y
-count_coeng before p y c is = ap (counted 0) (behind_coeng before p y) ∙ counted_more 0 (behind_coengs before) y ∙ ap (λ n. counted_on n y) is
+pub count_coeng : (before : List Part) (p y c : ℕ) → counted 0 (behind_coengs before) ≡ c
+    → counted 0 (behind_coengs (before ++ Coeng p y ∷ [])) ≡ counted_on c y
+count_coeng before p y c is = ap (counted 0) (behind_coeng before p y) ∙ counted_more 0 (behind_coengs before) y
+    ∙ ap (λ n. counted_on n y) is
 
 pub longer : (a b : List ℕ) (x y : ℕ) → length a ≡ length b → length (a ++ x ∷ []) ≡ length (b ++ y ∷ [])
 longer a b x y same = length-append a (x ∷ []) ∙ ap (λ n. n + 1) same ∙ sym (length-append b (y ∷ []))
 
 -- what is looked at, behind a front whose last is neither Coeng nor a left vowel
-movers_moved : (before : List Part) (p : ℕ) (categories : List ℕ) (c : ℕ) (front : List ℕ) (x : ℕ) (places : List ℕ) → length places ≡ length (front ++ x ∷ []) → is_coeng x ≡ false → is_left_vowel x ≡ false → is_inner categories ≡ true → counted 0 (behind_coengs before) ≡ c → Moved before p categories c (front ++ x ∷ []) places
+movers_moved : (before : List Part) (p : ℕ) (categories : List ℕ) (c : ℕ) (front : List ℕ) (x : ℕ) (places : List ℕ)
+    → length places ≡ length (front ++ x ∷ []) → is_coeng x ≡ false → is_left_vowel x ≡ false
+    → is_inner categories ≡ true → counted 0 (behind_coengs before) ≡ c
+    → Moved before p categories c (front ++ x ∷ []) places
 movers_moved before p [] c front x places len no_coeng no_vowel inner count = refl
 movers_moved before p (z ∷ []) c front x places len no_coeng no_vowel inner count =
     let all = front ++ x ∷ [] in
@@ -249,41 +292,54 @@ movers_moved before p (z ∷ (y ∷ rest)) c front x places len no_coeng no_vowe
           let behind = inner_behind z y rest inner is in
           let tail = inner_tail y rest (inner_tail z categories inner) in
           let counts = count_coeng before p y c count in
-          let test : is_mover (before, Coeng p y) ≡ (is_ro y && nat_le c 2) = ap (λ b. is_ro y && b) (moves_by_count (behind_coengs before) ∙ ap (λ n. nat_le n 2) count) in
+          let test : is_mover (before, Coeng p y) ≡ (is_ro y && nat_le c 2) =
+          ap (λ b. is_ro y && b) (moves_by_count (behind_coengs before) ∙ ap (λ n. nat_le n 2) count) in
           elim (cases_Bool (is_ro y && nat_le c 2)) [
             | inl on ↦
                 let both = and_parts (is_ro y) (nat_le c 2) on in
                 let two : counted_on c y ≡ 2 = rw (both.1, both.0) refl in
                 pair_moves before p z y rest c front x places len no_coeng no_vowel is both.1 both.0 (test ∙ on)
-                (movers_moved (before ++ Coeng p y ∷ []) (p + 2) rest 2 (z ∷ (y ∷ front)) x (p ∷ ((p + 1) ∷ places)) (ap (λ n. suc (suc n)) len) no_coeng no_vowel tail (counts ∙ two))
+                (movers_moved (before ++ Coeng p y ∷ []) (p + 2) rest 2 (z ∷ (y ∷ front)) x (p ∷ ((p + 1) ∷ places))
+                (ap (λ n. suc (suc n)) len) no_coeng no_vowel tail (counts ∙ two))
             | inr off ↦
                 coeng_stays before p z y rest c all places behind.0 behind.1 is off (test ∙ off)
-                (movers_moved (before ++ Coeng p y ∷ []) (p + 2) rest (counted_on c y) (all ++ z ∷ []) y (places ++ p ∷ ((p + 1) ∷ []))
-                (ap length (sym (append_assoc places (p ∷ []) ((p + 1) ∷ []))) ∙ longer (places ++ p ∷ []) (all ++ z ∷ []) (p + 1) y (longer places all p z len)) behind.0 behind.1 tail counts)
+                (movers_moved (before ++ Coeng p y ∷ []) (p + 2) rest (counted_on c y) (all ++ z ∷ []) y
+                (places ++ p ∷ ((p + 1) ∷ []))
+                (ap length (sym (append_assoc places (p ∷ []) ((p + 1) ∷ [])))
+                ∙ longer (places ++ p ∷ []) (all ++ z ∷ []) (p + 1) y (longer places all p z len)) behind.0 behind.1
+                tail counts)
           ]
       | inr off ↦
           let tail = inner_tail z categories inner in
           let counts = count_alone before p z c count in
           let parts : parts_from p (z ∷ categories) ≡ Alone p z ∷ parts_from (p + 1) categories = rw off refl in
           elim (cases_Bool (is_left_vowel z)) [
-            | inl vowel ↦ alone_moves before p z categories c all places len vowel parts (movers_moved (before ++ Alone p z ∷ []) (p + 1) (y ∷ rest) c (z ∷ front) x (p ∷ places) (ap suc len) no_coeng no_vowel tail counts)
-            | inr other ↦ alone_stays before p z categories c all places other parts (looked_other all z categories c off other) (movers_moved (before ++ Alone p z ∷ []) (p + 1) (y ∷ rest) c all z (places ++ p ∷ []) (longer places all p z len) off other tail counts)
+            | inl vowel ↦ alone_moves before p z categories c all places len vowel parts
+                (movers_moved (before ++ Alone p z ∷ []) (p + 1) (y ∷ rest) c (z ∷ front) x (p ∷ places) (ap suc len)
+                no_coeng no_vowel tail counts)
+            | inr other ↦ alone_stays before p z categories c all places other parts
+                (looked_other all z categories c off other)
+                (movers_moved (before ++ Alone p z ∷ []) (p + 1) (y ∷ rest) c all z (places ++ p ∷ [])
+                (longer places all p z len) off other tail counts)
           ]
     ]
 
 -- A SYLLABLE. Its first glyph is the front, and the others are looked at
-pub first_looked : (g : hb_glyph_info_t) (gs : List hb_glyph_info_t) → khmer_moves (g ∷ gs) ≡ looked (g.category ∷ []) (categories_of gs) 0
+pub first_looked : (g : hb_glyph_info_t) (gs : List hb_glyph_info_t)
+    → khmer_moves (g ∷ gs) ≡ looked (g.category ∷ []) (categories_of gs) 0
 first_looked g [] = refl
 first_looked g (h ∷ gs) = refl
 
-pub first_part : (x : ℕ) (categories : List ℕ) → is_coeng x ≡ false → parts_from 0 (x ∷ categories) ≡ Alone 0 x ∷ parts_from 1 categories
+pub first_part : (x : ℕ) (categories : List ℕ) → is_coeng x ≡ false → parts_from 0 (x ∷ categories)
+    ≡ Alone 0 x ∷ parts_from 1 categories
 first_part x [] off = refl
 first_part x (y ∷ categories) off = rw off refl
 
 by_result : (categories : List ℕ) → result [] (each_after [] (parts_from 0 categories)) ≡ order_by_movers categories
 by_result categories =
     let es = each_after [] (parts_from 0 categories) in
-    sym (flat_map-append (λ (e : List Part × Part). part_places e.1) (reverse (filter is_mover es)) (filter is_stayer es))
+    sym (flat_map-append (λ (e : List Part × Part). part_places e.1) (reverse (filter is_mover es))
+    (filter is_stayer es))
 
 pub khmer_order_by_movers : KhmerMoversLaw
 khmer_order_by_movers [] regular = refl
@@ -295,7 +351,8 @@ khmer_order_by_movers (g ∷ gs) regular =
     let es = each_after (Alone 0 x ∷ []) (parts_from 1 categories) in
     ap (λ ms. moved_all ms (0 ∷ range_with_len 1 (length gs))) (first_looked g gs)
     ∙ ap (λ n. moved_all (looked (x ∷ []) categories 0) (0 ∷ range_with_len 1 n)) (sym (length-categories gs))
-    ∙ movers_moved (Alone 0 x ∷ []) 1 categories 0 [] x (0 ∷ []) refl first.0 first.1 (inner_tail x categories both.1) refl
+    ∙ movers_moved (Alone 0 x ∷ []) 1 categories 0
+    [] x (0 ∷ []) refl first.0 first.1 (inner_tail x categories both.1) refl
     ∙ result_stays [] ([], Alone 0 x) es first.1
     ∙ ap (λ ps. result [] (each_after [] ps)) (sym (first_part x categories first.0))
     ∙ by_result (x ∷ categories)

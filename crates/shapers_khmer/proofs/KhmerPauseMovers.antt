@@ -18,9 +18,11 @@ use Rattle.shapers_khmer.proofs.KhmerByMovers.{by_movers_law}
 use Rattle.shapers_khmer.proofs.KhmerMovers.{khmer_order_by_movers}
 use Rattle.shapers_khmer.proofs.KhmerMoverMerges.{khmer_merges_by_movers}
 
-flat_map_same : {X Y : Type 0} (f g : X → List Y) → ((x : X) → f x ≡ g x) → (xs : List X) → flat_map f xs ≡ flat_map g xs
+flat_map_same : {X Y : Type 0} (f g : X → List Y) → ((x : X) → f x ≡ g x) → (xs : List X)
+    → flat_map f xs ≡ flat_map g xs
 flat_map_same f g same [] = refl
-flat_map_same f g same (x ∷ xs) = ap (λ ys. ys ++ flat_map f xs) (same x) ∙ ap (λ ys. g x ++ ys) (flat_map_same f g same xs)
+flat_map_same f g same (x ∷ xs) = ap (λ ys. ys ++ flat_map f xs) (same x)
+    ∙ ap (λ ys. g x ++ ys) (flat_map_same f g same xs)
 
 map_same : {X Y : Type 0} (f g : X → Y) → ((x : X) → f x ≡ g x) → (xs : List X) → map f xs ≡ map g xs
 map_same f g same [] = refl
@@ -39,20 +41,28 @@ step_same gs = elim (cases_Bool (is_regular (categories_of gs))) [
         let ordered = khmer_order_by_movers gs on in
         let merged = khmer_merges_by_movers gs on in
         rw (on, kind)
-        (ap (λ sts. let step : Step = record { merged_first = sts; places = khmer_places gs; merged_then = [] } in step ∷ []) merged
-        ∙ ap (λ ps. let step : Step = record { merged_first = merges_by_movers (categories_of gs); places = ps; merged_then = [] } in step ∷ []) ordered)
+        (ap (λ sts. let step : Step = record { merged_first = sts; places = khmer_places gs; merged_then = [] } in step
+        ∷ []) merged
+        ∙ ap (λ ps. let step : Step =
+        record { merged_first = merges_by_movers (categories_of gs); places = ps; merged_then = [] } in step ∷ [])
+        ordered)
     | inr other ↦ rw (on, other) refl
   ]
   | inr off ↦ rw off refl
 ]
 
-pub pause_by_movers : (r : KhmerOrder) (circles : Option DottedCircles) (old new : Buffer) → PauseReordered circles (khmer_order r) khmer_steps old new → PauseReordered circles (ordered_by_movers r) steps_by_movers old new
+pub pause_by_movers : (r : KhmerOrder) (circles : Option DottedCircles) (old new : Buffer)
+    → PauseReordered circles (khmer_order r) khmer_steps old new
+    → PauseReordered circles (ordered_by_movers r) steps_by_movers old new
 pause_by_movers r circles old new p =
     let opened = circled circles old.glyphs in
     let pieces = syllables (order_view opened) in
     record {
       others = p.others;
       order = p.order ∙ flat_map_same (khmer_order r) (ordered_by_movers r) (order_same r) pieces;
-      moved = p.moved ∙ ap (λ sts. map carried (run_steps old.level (steps_along (length (order_view opened)) 0 sts) opened))
-          (map_same (λ (syl : List hb_glyph_info_t). (length syl, khmer_steps syl)) (λ (syl : List hb_glyph_info_t). (length syl, steps_by_movers syl)) (λ syl. ap (λ sts. (length syl, sts)) (step_same syl)) pieces);
+      moved = p.moved
+          ∙ ap (λ sts. map carried (run_steps old.level (steps_along (length (order_view opened)) 0 sts) opened))
+          (map_same (λ (syl : List hb_glyph_info_t). (length syl, khmer_steps syl))
+          (λ (syl : List hb_glyph_info_t). (length syl, steps_by_movers syl))
+          (λ syl. ap (λ sts. (length syl, sts)) (step_same syl)) pieces);
     }

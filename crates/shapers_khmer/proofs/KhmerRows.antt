@@ -15,7 +15,8 @@ use Rattle.shapers_buffer.specs.Syllables.{unknown_refusal}
 use Rattle.shapers_buffer.specs.declared.buffer.refusal.ShaperError.TheVariants.{UnknownSyllable}
 use Rattle.shapers_syllabic.specs.Characters.{composed_behind, with_category, with_category_and_position}
 
--- CHARACTERS, by a table in which 17C1 and 17D2 are marks, all compose to 1 and decompose to 2 and 3, and each has category 15 and position 8
+-- CHARACTERS, by a table in which 17C1 and 17D2 are marks, all compose to 1 and decompose to 2 and
+-- 3, and each has category 15 and position 8
 abbrev table : CharacterTables
 table = record {
   joining = λ c. U;
@@ -29,12 +30,25 @@ table = record {
 compositions : map (λ a. composed_behind table a 0x17B8) (0x17C1 ∷ 0x17D2 ∷ 0x1784 ∷ []) ≡ None ∷ None ∷ Some 1 ∷ []
 compositions = refl
 
-decompositions : map (decomposed_in_khmer table) (0x17BD ∷ 0x17BE ∷ 0x17BF ∷ 0x17C0 ∷ 0x17C1 ∷ 0x17C3 ∷ 0x17C4 ∷ 0x17C5 ∷ 0x17C6 ∷ []) ≡ Some (2, 3) ∷ Some (0x17C1, 0x17BE) ∷ Some (0x17C1, 0x17BF) ∷ Some (0x17C1, 0x17C0) ∷ Some (2, 3) ∷ Some (2, 3) ∷ Some (0x17C1, 0x17C4) ∷ Some (0x17C1, 0x17C5) ∷ Some (2, 3) ∷ []
+decompositions : map (decomposed_in_khmer table) (0x17BD ∷ 0x17BE ∷ 0x17BF ∷ 0x17C0 ∷ 0x17C1 ∷ 0x17C3 ∷ 0x17C4 ∷ 0x17C5
+    ∷ 0x17C6 ∷ []) ≡ Some (2, 3) ∷ Some (0x17C1, 0x17BE) ∷ Some (0x17C1, 0x17BF) ∷ Some (0x17C1, 0x17C0) ∷ Some (2, 3)
+    ∷ Some (2, 3) ∷ Some (0x17C1, 0x17C4) ∷ Some (0x17C1, 0x17C5) ∷ Some (2, 3) ∷ []
 decompositions = refl
 
 -- a glyph with all fields set: nothing but the named ones change
 abbrev full : hb_glyph_info_t
-full = record default_glyph { glyph_id = 0x179A; cluster = 7; mask = 0x1003; var = 0x7A; syllable = 0x21; category = 4; auxiliary = 5; general_category = Lo; modified_combining_class = 9; lig_comp = 2 }
+full = record default_glyph {
+  glyph_id = 0x179A;
+  cluster = 7;
+  mask = 0x1003;
+  var = 0x7A;
+  syllable = 0x21;
+  category = 4;
+  auxiliary = 5;
+  general_category = Lo;
+  modified_combining_class = 9;
+  lig_comp = 2;
+}
 
 categories : with_category table full ≡ record full { category = 15 }
 categories = refl
@@ -47,7 +61,14 @@ masks = refl
 
 -- SYLLABLES: glyphs by number and category, of a syllable of a kind, in clusters 0, 1, 2 ..
 abbrev glyphs : ℕ → List (ℕ × ℕ) → List hb_glyph_info_t
-glyphs kind gs = map (λ p. let g : hb_glyph_info_t = record default_glyph { glyph_id = p.1.0; cluster = p.0; syllable = 0x30 + kind; category = p.1.1 } in g) (enumerate_from 0 gs)
+glyphs kind gs =
+    map (λ p. let g : hb_glyph_info_t = record default_glyph {
+      glyph_id = p.1.0;
+      cluster = p.0;
+      syllable = 0x30
+          + kind;
+      category = p.1.1;
+    } in g) (enumerate_from 0 gs)
 
 -- with the masks of pref 10, of blwf, abvf and pstf E0, of cfar 100
 abbrev by_masks : KhmerOrder
@@ -74,21 +95,25 @@ abbrev pre : ℕ → ℕ × ℕ
 pre n = (n, 22)
 
 -- the categories
-signs : map is_coeng (3 ∷ 4 ∷ 5 ∷ []) ++ (map is_ro (14 ∷ 15 ∷ 16 ∷ []) ++ map is_left_vowel (21 ∷ 22 ∷ 23 ∷ [])) ≡ false ∷ true ∷ false ∷ false ∷ true ∷ false ∷ false ∷ true ∷ false ∷ []
+signs : map is_coeng (3 ∷ 4 ∷ 5 ∷ []) ++ (map is_ro (14 ∷ 15 ∷ 16 ∷ []) ++ map is_left_vowel (21 ∷ 22 ∷ 23 ∷ []))
+    ≡ false ∷ true ∷ false ∷ false ∷ true ∷ false ∷ false ∷ true ∷ false ∷ []
 signs = refl
 
 -- the kinds: consonant syllables and broken ones
-kinds : map (λ kind. is_reordered_in_khmer (glyphs kind (c 1 ∷ []))) (0 ∷ 1 ∷ 2 ∷ 3 ∷ []) ≡ true ∷ true ∷ false ∷ false ∷ []
+kinds : map (λ kind. is_reordered_in_khmer (glyphs kind (c 1 ∷ []))) (0 ∷ 1 ∷ 2 ∷ 3 ∷ []) ≡ true ∷ true ∷ false ∷ false
+    ∷ []
 kinds = refl
 
 nothing : is_reordered_in_khmer [] ≡ false
 nothing = refl
 
 -- C H Ra H C
-one_pair : shown 0 (c 0x1784 ∷ h 0x17D2 ∷ ra 0x179A ∷ h 0x17D2 ∷ c 0x1782 ∷ []) ≡ (0x17D2, 0xF0) ∷ (0x179A, 0xF0) ∷ (0x1784, 0) ∷ (0x17D2, 0x1E0) ∷ (0x1782, 0x1E0) ∷ []
+one_pair : shown 0 (c 0x1784 ∷ h 0x17D2 ∷ ra 0x179A ∷ h 0x17D2 ∷ c 0x1782 ∷ []) ≡ (0x17D2, 0xF0) ∷ (0x179A, 0xF0)
+    ∷ (0x1784, 0) ∷ (0x17D2, 0x1E0) ∷ (0x1782, 0x1E0) ∷ []
 one_pair = refl
 
-one_pair_clusters : clusters_after 0 (c 0x1784 ∷ h 0x17D2 ∷ ra 0x179A ∷ h 0x17D2 ∷ c 0x1782 ∷ []) ≡ 0 ∷ 0 ∷ 0 ∷ 3 ∷ 4 ∷ []
+one_pair_clusters : clusters_after 0 (c 0x1784 ∷ h 0x17D2 ∷ ra 0x179A ∷ h 0x17D2 ∷ c 0x1782 ∷ []) ≡ 0 ∷ 0 ∷ 0 ∷ 3 ∷ 4
+    ∷ []
 one_pair_clusters = refl
 
 -- C H1 Ra1 H2 Ra2: the last pair stands first, and has cfar for the one before it
@@ -99,14 +124,17 @@ two_pairs_clusters : clusters_after 0 (c 1 ∷ h 2 ∷ ra 3 ∷ h 4 ∷ ra 5 ∷
 two_pairs_clusters = refl
 
 -- the third Coeng met still moves, the fourth doesn't
-third_coeng : shown 0 (c 1 ∷ h 2 ∷ c 3 ∷ h 4 ∷ c 5 ∷ h 6 ∷ ra 7 ∷ []) ≡ (6, 0xF0) ∷ (7, 0xF0) ∷ (1, 0) ∷ (2, 0xE0) ∷ (3, 0xE0) ∷ (4, 0xE0) ∷ (5, 0xE0) ∷ []
+third_coeng : shown 0 (c 1 ∷ h 2 ∷ c 3 ∷ h 4 ∷ c 5 ∷ h 6 ∷ ra 7 ∷ []) ≡ (6, 0xF0) ∷ (7, 0xF0) ∷ (1, 0) ∷ (2, 0xE0)
+    ∷ (3, 0xE0) ∷ (4, 0xE0) ∷ (5, 0xE0) ∷ []
 third_coeng = refl
 
-fourth_coeng : shown 0 (c 1 ∷ h 2 ∷ c 3 ∷ h 4 ∷ c 5 ∷ h 6 ∷ c 7 ∷ h 8 ∷ ra 9 ∷ []) ≡ (1, 0) ∷ (2, 0xE0) ∷ (3, 0xE0) ∷ (4, 0xE0) ∷ (5, 0xE0) ∷ (6, 0xE0) ∷ (7, 0xE0) ∷ (8, 0xE0) ∷ (9, 0xE0) ∷ []
+fourth_coeng : shown 0 (c 1 ∷ h 2 ∷ c 3 ∷ h 4 ∷ c 5 ∷ h 6 ∷ c 7 ∷ h 8 ∷ ra 9 ∷ []) ≡ (1, 0) ∷ (2, 0xE0) ∷ (3, 0xE0)
+    ∷ (4, 0xE0) ∷ (5, 0xE0) ∷ (6, 0xE0) ∷ (7, 0xE0) ∷ (8, 0xE0) ∷ (9, 0xE0) ∷ []
 fourth_coeng = refl
 
 -- after a pair a Coeng without Ro counts, and no later pair moves
-pair_then_other : shown 0 (c 1 ∷ h 2 ∷ ra 3 ∷ h 4 ∷ c 5 ∷ h 6 ∷ ra 7 ∷ []) ≡ (2, 0xF0) ∷ (3, 0xF0) ∷ (1, 0) ∷ (4, 0x1E0) ∷ (5, 0x1E0) ∷ (6, 0x1E0) ∷ (7, 0x1E0) ∷ []
+pair_then_other : shown 0 (c 1 ∷ h 2 ∷ ra 3 ∷ h 4 ∷ c 5 ∷ h 6 ∷ ra 7 ∷ []) ≡ (2, 0xF0) ∷ (3, 0xF0) ∷ (1, 0) ∷ (4, 0x1E0)
+    ∷ (5, 0x1E0) ∷ (6, 0x1E0) ∷ (7, 0x1E0) ∷ []
 pair_then_other = refl
 
 -- a last Coeng stays, and a vowel moves with no mask of its own
@@ -133,8 +161,10 @@ two_coengs = refl
 two_coengs_clusters : clusters_after 0 (h 1 ∷ h 2 ∷ ra 3 ∷ ra 4 ∷ []) ≡ 0 ∷ 0 ∷ 0 ∷ 0 ∷ []
 two_coengs_clusters = refl
 
--- C H1 VPre H2 Ra1 Ra2: behind the pair that moved, the Coeng before the vowel is looked at again, and it moves with a Ro three places behind it
-looked_at_again : shown 0 (c 1 ∷ h 2 ∷ pre 3 ∷ h 4 ∷ ra 5 ∷ ra 6 ∷ []) ≡ (2, 0xF0) ∷ (6, 0x1F0) ∷ (4, 0xF0) ∷ (5, 0xF0) ∷ (3, 0xE0) ∷ (1, 0) ∷ []
+-- C H1 VPre H2 Ra1 Ra2: behind the pair that moved, the Coeng before the vowel is looked at again,
+-- and it moves with a Ro three places behind it
+looked_at_again : shown 0 (c 1 ∷ h 2 ∷ pre 3 ∷ h 4 ∷ ra 5 ∷ ra 6 ∷ []) ≡ (2, 0xF0) ∷ (6, 0x1F0) ∷ (4, 0xF0) ∷ (5, 0xF0)
+    ∷ (3, 0xE0) ∷ (1, 0) ∷ []
 looked_at_again = refl
 
 looked_at_again_clusters : clusters_after 0 (c 1 ∷ h 2 ∷ pre 3 ∷ h 4 ∷ ra 5 ∷ ra 6 ∷ []) ≡ 0 ∷ 0 ∷ 0 ∷ 0 ∷ 0 ∷ 0 ∷ []
@@ -148,7 +178,8 @@ broken = refl
 abbrev full_of : ℕ → hb_glyph_info_t
 full_of category = record full { category = category; marks = record { 0 = 31 } }
 
-fields_stay : khmer_order by_masks (full_of 1 ∷ full_of 4 ∷ full_of 15 ∷ []) ≡ record (full_of 4) { mask = 0x10F3 } ∷ record (full_of 15) { mask = 0x10F3 } ∷ full_of 1 ∷ []
+fields_stay : khmer_order by_masks (full_of 1 ∷ full_of 4 ∷ full_of 15 ∷ []) ≡ record (full_of 4) { mask = 0x10F3 }
+    ∷ record (full_of 15) { mask = 0x10F3 } ∷ full_of 1 ∷ []
 fields_stay = refl
 
 -- what isn't Khmer stays as it is, and one glyph alone does

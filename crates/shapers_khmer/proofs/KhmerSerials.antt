@@ -19,7 +19,8 @@ use Rattle.shapers_syllabic.specs.Borders.{unnumbered}
 -- without serials, the kind, the categories and the length stay
 kind_stays : (gs : List hb_glyph_info_t) → is_reordered_in_khmer (map unnumbered gs) ≡ is_reordered_in_khmer gs
 kind_stays [] = refl
-kind_stays (g ∷ gs) = let same : kind_of (kind_of g.syllable) ≡ kind_of g.syllable = omega arith in ap (λ (k : ℕ). list_any (λ kind. kind == k) (0 ∷ 1 ∷ [])) same
+kind_stays (g ∷ gs) = let same : kind_of (kind_of g.syllable) ≡ kind_of g.syllable =
+    omega arith in ap (λ (k : ℕ). list_any (λ kind. kind == k) (0 ∷ 1 ∷ [])) same
 
 categories_stay : (gs : List hb_glyph_info_t) → categories_of (map unnumbered gs) ≡ categories_of gs
 categories_stay [] = refl
@@ -34,14 +35,17 @@ moves_stay gs =
 
 places_stay : (gs : List hb_glyph_info_t) → khmer_places (map unnumbered gs) ≡ khmer_places gs
 places_stay gs =
-    ap (λ ms. moved_all ms (range_with_len 0 (length (map unnumbered gs)))) (moves_stay gs) ∙ ap (λ n. moved_all (khmer_moves gs) (range_with_len 0 n)) (length_stays gs)
+    ap (λ ms. moved_all ms (range_with_len 0 (length (map unnumbered gs)))) (moves_stay gs)
+    ∙ ap (λ n. moved_all (khmer_moves gs) (range_with_len 0 n)) (length_stays gs)
 
 -- masks go by places, so they commute
-mask_all : (m : ℕ) (gs : List hb_glyph_info_t) → map unnumbered (map (with_mask m) gs) ≡ map (with_mask m) (map unnumbered gs)
+mask_all : (m : ℕ) (gs : List hb_glyph_info_t) → map unnumbered (map (with_mask m) gs)
+    ≡ map (with_mask m) (map unnumbered gs)
 mask_all m [] = refl
 mask_all m (g ∷ gs) = ap (λ xs. unnumbered (with_mask m g) ∷ xs) (mask_all m gs)
 
-masked_stays : (m s e : ℕ) (gs : List hb_glyph_info_t) → map unnumbered (masked m s e gs) ≡ masked m s e (map unnumbered gs)
+masked_stays : (m s e : ℕ) (gs : List hb_glyph_info_t) → map unnumbered (masked m s e gs)
+    ≡ masked m s e (map unnumbered gs)
 masked_stays m s e gs =
     let a = take s gs in
     let b = stretch_of s e gs in
@@ -53,7 +57,8 @@ masked_stays m s e gs =
     ∙ ap (λ xs. xs ++ map unnumbered c) (mask_all m b ∙ ap (map (with_mask m)) (map-stretch unnumbered s e gs))
     ∙ ap (λ xs. map (with_mask m) (stretch_of s e us) ++ xs) (sym (drop-map unnumbered e gs)))
 
-masked_for_stays : (r : KhmerOrder) (move : Move) (order : List ℕ) (gs : List hb_glyph_info_t) → map unnumbered (masked_for r move order gs) ≡ masked_for r move order (map unnumbered gs)
+masked_for_stays : (r : KhmerOrder) (move : Move) (order : List ℕ) (gs : List hb_glyph_info_t)
+    → map unnumbered (masked_for r move order gs) ≡ masked_for r move order (map unnumbered gs)
 masked_for_stays r (Vowel over) order gs = refl
 masked_for_stays r (Pair over) order gs =
     let coeng = get_or order over 0 in
@@ -61,15 +66,20 @@ masked_for_stays r (Pair over) order gs =
     let first = masked r.pref coeng (coeng + 1) gs in
     let second = masked r.pref ro (ro + 1) first in
     masked_stays r.cfar (over + 2) (length gs) second
-    ∙ ap (masked r.cfar (over + 2) (length gs)) (masked_stays r.pref ro (ro + 1) first ∙ ap (masked r.pref ro (ro + 1)) (masked_stays r.pref coeng (coeng + 1) gs))
-    ∙ ap (λ n. masked r.cfar (over + 2) n (masked r.pref ro (ro + 1) (masked r.pref coeng (coeng + 1) (map unnumbered gs)))) (sym (length_stays gs))
+    ∙ ap (masked r.cfar (over + 2) (length gs)) (masked_stays r.pref ro (ro + 1) first
+    ∙ ap (masked r.pref ro (ro + 1)) (masked_stays r.pref coeng (coeng + 1) gs))
+    ∙ ap (λ n. masked r.cfar (over + 2) n
+    (masked r.pref ro (ro + 1) (masked r.pref coeng (coeng + 1) (map unnumbered gs)))) (sym (length_stays gs))
 
-masked_all_stays : (r : KhmerOrder) (moves : List Move) (order : List ℕ) (gs : List hb_glyph_info_t) → map unnumbered (masked_all r moves order gs) ≡ masked_all r moves order (map unnumbered gs)
+masked_all_stays : (r : KhmerOrder) (moves : List Move) (order : List ℕ) (gs : List hb_glyph_info_t)
+    → map unnumbered (masked_all r moves order gs) ≡ masked_all r moves order (map unnumbered gs)
 masked_all_stays r [] order gs = refl
 masked_all_stays r (move ∷ moves) order gs =
-    masked_all_stays r moves (moved move order) (masked_for r move order gs) ∙ ap (masked_all r moves (moved move order)) (masked_for_stays r move order gs)
+    masked_all_stays r moves (moved move order) (masked_for r move order gs)
+    ∙ ap (masked_all r moves (moved move order)) (masked_for_stays r move order gs)
 
-khmer_masked_stays : (r : KhmerOrder) (gs : List hb_glyph_info_t) → map unnumbered (khmer_masked r gs) ≡ khmer_masked r (map unnumbered gs)
+khmer_masked_stays : (r : KhmerOrder) (gs : List hb_glyph_info_t) → map unnumbered (khmer_masked r gs)
+    ≡ khmer_masked r (map unnumbered gs)
 khmer_masked_stays r gs =
     let us = map unnumbered gs in
     masked_all_stays r (khmer_moves gs) (range_with_len 0 (length gs)) (masked r.others 1 (length gs) gs)
@@ -77,7 +87,8 @@ khmer_masked_stays r gs =
     ∙ ap (λ ms. masked_all r ms (range_with_len 0 (length gs)) (masked r.others 1 (length gs) us)) (sym (moves_stay gs))
     ∙ ap (λ n. masked_all r (khmer_moves us) (range_with_len 0 n) (masked r.others 1 n us)) (sym (length_stays gs))
 
-order_stays : (r : KhmerOrder) (gs : List hb_glyph_info_t) → map unnumbered (khmer_order r gs) ≡ khmer_order r (map unnumbered gs)
+order_stays : (r : KhmerOrder) (gs : List hb_glyph_info_t) → map unnumbered (khmer_order r gs)
+    ≡ khmer_order r (map unnumbered gs)
 order_stays r gs =
     let us = map unnumbered gs in
     elim (cases_Bool (is_reordered_in_khmer gs)) [
@@ -103,11 +114,27 @@ step_stays gs =
     elim (cases_Bool (is_reordered_in_khmer gs)) [
       | inl on ↦
           let on_too : is_reordered_in_khmer us ≡ true = kind_stays gs ∙ on in
-          let left : khmer_step us ≡ record { merged_first = map merged_by_move (khmer_moves us); places = khmer_places us; merged_then = [] } = rw on_too refl in
-          let right : khmer_step gs ≡ record { merged_first = map merged_by_move (khmer_moves gs); places = khmer_places gs; merged_then = [] } = rw on refl in
+          let left : khmer_step us
+          ≡ record {
+            merged_first = map merged_by_move (khmer_moves us);
+            places = khmer_places us;
+            merged_then =
+                [];
+          } = rw on_too refl in
+          let right : khmer_step gs
+          ≡ record {
+            merged_first = map merged_by_move (khmer_moves gs);
+            places = khmer_places gs;
+            merged_then =
+                [];
+          } = rw on refl in
           left
-          ∙ ap (λ (ms : List Move). let st : Step = record { merged_first = map merged_by_move ms; places = khmer_places us; merged_then = [] } in st) (moves_stay gs)
-          ∙ ap (λ (ps : List ℕ). let st : Step = record { merged_first = map merged_by_move (khmer_moves gs); places = ps; merged_then = [] } in st) (places_stay gs)
+          ∙ ap (λ (ms : List Move). let st : Step =
+          record { merged_first = map merged_by_move ms; places = khmer_places us; merged_then = [] } in st)
+          (moves_stay gs)
+          ∙ ap (λ (ps : List ℕ). let st : Step =
+          record { merged_first = map merged_by_move (khmer_moves gs); places = ps; merged_then = [] } in st)
+          (places_stay gs)
           ∙ sym right
       | inr off ↦
           let off_too : is_reordered_in_khmer us ≡ false = kind_stays gs ∙ off in

@@ -1,4 +1,5 @@
--- What Khmer keeps in the plan, computed: each mask at the place of its feature, none for the features of the whole text.
+-- What Khmer keeps in the plan, computed: each mask at the place of its feature, none for the
+-- features of the whole text.
 use Rattle.std.specs.Prelude.{◌≡◌, ℕ, List, [], ◌∷◌, None, true, codes, refl}
 use Prim.Native.String.{String}
 use Rattle.shapers_base.specs.Map.{Map}

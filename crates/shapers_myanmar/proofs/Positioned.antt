@@ -20,13 +20,15 @@ below_part (g ∷ gs) =
     let after : Bool → ℕ = λ b. if b then 8 else 9 in
     let m : ℕ = prefix_len carries_on_below gs in
     let one : suc m ≡ 1 + m = omega arith in
-    let parts : ℕ → List hb_glyph_info_t = λ n. map in_below_part (take n (g ∷ gs)) ++ map (at_position 9) (drop n (g ∷ gs)) in
+    let parts : ℕ → List hb_glyph_info_t =
+    λ n. map in_below_part (take n (g ∷ gs)) ++ map (at_position 9) (drop n (g ∷ gs)) in
     elim (carries_on_below g) as (λ b. in_part (after b) g ∷ behind_part (after b) gs ≡ parts (cond b (1 + m) 0)) [
       | true ↦ ap (λ xs. in_below_part g ∷ xs) (below_part gs) ∙ ap parts one
       | false ↦ ap (λ xs. at_position 9 g ∷ xs) (last_part gs)
     ]
 
-opens_below : (g : hb_glyph_info_t) (gs : List hb_glyph_info_t) → (g.category == OT_VBlw) ≡ true → behind_part 8 (g ∷ gs) ≡ in_part 8 g ∷ behind_part 8 gs
+opens_below : (g : hb_glyph_info_t) (gs : List hb_glyph_info_t) → (g.category == OT_VBlw) ≡ true
+    → behind_part 8 (g ∷ gs) ≡ in_part 8 g ∷ behind_part 8 gs
 opens_below g gs is =
     let carries : carries_on_below g ≡ true = grind (arith, nat_tests, is) in
     ap (λ b. (let n : ℕ = if b then 8 else 9 in in_part n g ∷ behind_part n gs)) carries
@@ -37,19 +39,28 @@ parts_behind (g ∷ gs) =
     let part : Bool → ℕ = λ b. if b then 8 else 5 in
     let n : Bool → ℕ = λ b. cond (not b) (1 + main_len gs) 0 in
     let one : suc (main_len gs) ≡ 1 + main_len gs = omega arith in
-    (elim (g.category == OT_VBlw) as (λ b. (g.category == OT_VBlw) ≡ b → in_part (part b) g ∷ behind_part (part b) gs ≡ main_part (take (n b) (g ∷ gs)) ++ below_parts (drop (n b) (g ∷ gs))) [
+    (elim (g.category == OT_VBlw) as (λ b. (g.category == OT_VBlw) ≡ b → in_part (part b) g ∷ behind_part (part b) gs
+    ≡ main_part (take (n b) (g ∷ gs)) ++ below_parts (drop (n b) (g ∷ gs))) [
       | true ↦ λ is. sym (opens_below g gs is) ∙ below_part (g ∷ gs)
-      | false ↦ λ is. ap (λ xs. at_position 5 g ∷ xs) (parts_behind gs) ∙ ap (λ n. main_part (take n (g ∷ gs)) ++ below_parts (drop n (g ∷ gs))) one
+      | false ↦ λ is. ap (λ xs. at_position 5 g ∷ xs) (parts_behind gs)
+          ∙ ap (λ n. main_part (take n (g ∷ gs)) ++ below_parts (drop n (g ∷ gs))) one
     ]) refl
 
-over_part : (before r : ℕ) (g : hb_glyph_info_t) → at_position (own_position before (in_part r g)) (in_part r g) ≡ at_position (own_position before (in_part r g)) g
-over_part before r g = elim (r == 8) as (λ b. (let x : hb_glyph_info_t = if b then in_below_part g else at_position r g in at_position (own_position before x) x ≡ at_position (own_position before x) g)) [
-  | true ↦ refl
-  | false ↦ refl
-]
+over_part : (before r : ℕ) (g : hb_glyph_info_t) → at_position (own_position before (in_part r g)) (in_part r g)
+    ≡ at_position (own_position before (in_part r g)) g
+over_part before r g =
+    elim (r == 8) as (λ b. (let x : hb_glyph_info_t = if b then in_below_part g else at_position r g in at_position
+    (own_position before x) x ≡ at_position (own_position before x) g)) [
+      | true ↦ refl
+      | false ↦ refl
+    ]
 
 -- one more glyph
-pub own_next : (before part : ℕ) (gs total : List hb_glyph_info_t) (i : ℕ) (d : hb_glyph_info_t) (q p : ℕ) → i < length gs → take i gs ++ with_own_positions before (behind_part part (drop i gs)) ≡ total → q ≡ part_of part (get_or gs i d) → p ≡ own_position before (in_part q (get_or gs i d)) → take (i + 1) (set gs i (at_position p (get_or gs i d))) ++ with_own_positions p (behind_part q (drop (i + 1) (set gs i (at_position p (get_or gs i d))))) ≡ total
+pub own_next : (before part : ℕ) (gs total : List hb_glyph_info_t) (i : ℕ) (d : hb_glyph_info_t) (q p : ℕ)
+    → i < length gs → take i gs ++ with_own_positions before (behind_part part (drop i gs)) ≡ total
+    → q ≡ part_of part (get_or gs i d) → p ≡ own_position before (in_part q (get_or gs i d))
+    → take (i + 1) (set gs i (at_position p (get_or gs i d)))
+    ++ with_own_positions p (behind_part q (drop (i + 1) (set gs i (at_position p (get_or gs i d))))) ≡ total
 own_next before part gs total i d q p l same is_q is =
     let g = get_or gs i d in
     let h = at_position p g in
@@ -58,7 +69,9 @@ own_next before part gs total i d q p l same is_q is =
     ∙ append_assoc (take i gs) (h ∷ []) (with_own_positions p (behind_part q (drop (i + 1) (set gs i h))))
     ∙ ap (λ ys. take i gs ++ h ∷ with_own_positions p (behind_part q ys)) (drop-set-lt (i + 1) gs i h (omega arith))
     ∙ ap (λ r. take i gs ++ at_position r g ∷ with_own_positions r (behind_part q rest)) is
-    ∙ ap (λ r. take i gs ++ at_position (own_position before (in_part r g)) g ∷ with_own_positions (own_position before (in_part r g)) (behind_part r rest)) is_q
-    ∙ ap (λ x. take i gs ++ x ∷ with_own_positions (own_position before (in_part (part_of part g) g)) (behind_part (part_of part g) rest)) (sym (over_part before (part_of part g) g))
+    ∙ ap (λ r. take i gs ++ at_position (own_position before (in_part r g)) g
+    ∷ with_own_positions (own_position before (in_part r g)) (behind_part r rest)) is_q
+    ∙ ap (λ x. take i gs ++ x ∷ with_own_positions (own_position before (in_part (part_of part g) g))
+    (behind_part (part_of part g) rest)) (sym (over_part before (part_of part g) g))
     ∙ sym (ap (λ ys. take i gs ++ with_own_positions before (behind_part part ys)) (drop_more gs i d l))
     ∙ same

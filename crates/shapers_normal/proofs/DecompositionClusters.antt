@@ -12,58 +12,94 @@ use Rattle.shapers_normal.specs.Sorting.{is_mark_glyph}
 use Rattle.shapers_normal.specs.Variants.{cut_before_others, form_written, forms_written, is_kept_cluster, is_selector_glyph, selecting_nothing, with_first, with_number}
 
 -- whichever of two glyphs it is
-either : {X : Type 0} (P : ℕ → Type 0) (f : X → hb_glyph_info_t) (o : Option X) (g : hb_glyph_info_t) → ((x : X) → P (f x).cluster) → P g.cluster → P (option_map_or f o g).cluster
+either : {X : Type 0} (P : ℕ → Type 0) (f : X → hb_glyph_info_t) (o : Option X) (g : hb_glyph_info_t)
+    → ((x : X) → P (f x).cluster) → P g.cluster → P (option_map_or f o g).cluster
 either P f None g some none = none
 either P f (Some x) g some none = some x
 
 without : (P : ℕ → Type 0) (context : Context) (g : hb_glyph_info_t) → P g.cluster → P (without_glyph context g).cluster
-without P context g p = either P (λ space. let r : hb_glyph_info_t = record g { var = space.1.0; modified_combining_class = space.0 } in r) (drawn_space context g) _ (λ space. p) p
+without P context g p =
+    either P (λ space. let r : hb_glyph_info_t = record g { var = space.1.0; modified_combining_class = space.0 } in r)
+    (drawn_space context g) _ (λ space. p) p
 
-each-parts : (P : ℕ → Type 0) (context : Context) (g : hb_glyph_info_t) (cs : List ℕ) → P g.cluster → Each P (map (as_part context g) cs)
+each-parts : (P : ℕ → Type 0) (context : Context) (g : hb_glyph_info_t) (cs : List ℕ) → P g.cluster
+    → Each P (map (as_part context g) cs)
 each-parts P context g [] p = tt
 each-parts P context g (c ∷ cs) p = (p, each-parts P context g cs p)
 
-pub each-written : (P : ℕ → Type 0) (context : Context) (g : hb_glyph_info_t) (cs : List ℕ) → P g.cluster → Each P (written_as context g cs)
-each-written P context g [] p = (either P (λ (glyph : GlyphId). let r : hb_glyph_info_t = record g { var = glyph.0 } in r) (context.nominal g.glyph_id) (without_glyph context g) (λ glyph. p) (without P context g p), tt)
+pub each-written : (P : ℕ → Type 0) (context : Context) (g : hb_glyph_info_t) (cs : List ℕ) → P g.cluster
+    → Each P (written_as context g cs)
+each-written P context g [] p = (
+  either P (λ (glyph : GlyphId). let r : hb_glyph_info_t = record g { var = glyph.0 } in r)
+      (context.nominal g.glyph_id) (without_glyph context g) (λ glyph. p) (without P context g p),
+  tt,
+)
 each-written P context g (c ∷ cs) p = (p, each-parts P context g cs p)
 
 numbered : (P : ℕ → Type 0) (context : Context) (g : hb_glyph_info_t) → P g.cluster → P (with_number context g).cluster
-numbered P context g p = either P (λ (glyph : GlyphId). let r : hb_glyph_info_t = record g { var = glyph.0 } in r) (context.nominal g.glyph_id) g (λ glyph. p) p
+numbered P context g p = either P (λ (glyph : GlyphId). let r : hb_glyph_info_t = record g { var = glyph.0 } in r)
+    (context.nominal g.glyph_id) g (λ glyph. p) p
 
-each-numbered : (P : ℕ → Type 0) (context : Context) (gs : List hb_glyph_info_t) → Each P gs → Each P (map (with_number context) gs)
+each-numbered : (P : ℕ → Type 0) (context : Context) (gs : List hb_glyph_info_t) → Each P gs
+    → Each P (map (with_number context) gs)
 each-numbered P context [] p = tt
 each-numbered P context (g ∷ gs) p = (numbered P context g p.0, each-numbered P context gs p.1)
 
-each-by : (P : ℕ → Type 0) (context : Context) (g selector : hb_glyph_info_t) (more : List hb_glyph_info_t) (o : Option GlyphId) → Each P (g ∷ (selector ∷ more)) → Each P (option_map_or (λ (variant : GlyphId). (let r : hb_glyph_info_t = record g { var = variant.0 } in r) ∷ map (with_number context) more) o (with_number context g ∷ with_number context (selecting_nothing context selector) ∷ map (with_number context) more))
-each-by P context g selector more None p = (numbered P context g p.0, (numbered P context (selecting_nothing context selector) p.1.0, each-numbered P context more p.1.1))
+each-by : (P : ℕ → Type 0) (context : Context) (g selector : hb_glyph_info_t) (more : List hb_glyph_info_t)
+    (o : Option GlyphId) → Each P (g ∷ (selector ∷ more))
+    → Each P (option_map_or (λ (variant : GlyphId). (let r : hb_glyph_info_t = record g { var = variant.0 } in r)
+    ∷ map (with_number context) more) o
+    (with_number context g ∷ with_number context (selecting_nothing context selector) ∷ map (with_number context) more))
+each-by P context g selector more None p = (
+  numbered P context g p.0,
+  (
+    numbered P context (selecting_nothing context selector) p.1.0,
+    each-numbered P context
+        more p.1.1,
+  ),
+)
 each-by P context g selector more (Some variant) p = (p.0, each-numbered P context more p.1.1)
 
-pub each-form : (P : ℕ → Type 0) (context : Context) (form : List hb_glyph_info_t) → Each P form → Each P (form_written context form)
+pub each-form : (P : ℕ → Type 0) (context : Context) (form : List hb_glyph_info_t) → Each P form
+    → Each P (form_written context form)
 each-form P context [] p = tt
 each-form P context (g ∷ []) p = each-numbered P context (g ∷ []) p
-each-form P context (g ∷ (selector ∷ more)) p = each-by P context g selector more (context.variant g.glyph_id selector.glyph_id) p
+each-form P context (g ∷ (selector ∷ more)) p =
+    each-by P context g selector more (context.variant g.glyph_id selector.glyph_id) p
 
-each-first : (P : ℕ → Type 0) (follows : hb_glyph_info_t → Bool) (g : hb_glyph_info_t) (clusters : List (List hb_glyph_info_t)) → P g.cluster → AllByRecursion (Each P) clusters → AllByRecursion (Each P) (with_first follows g clusters)
+each-first : (P : ℕ → Type 0) (follows : hb_glyph_info_t → Bool) (g : hb_glyph_info_t)
+    (clusters : List (List hb_glyph_info_t)) → P g.cluster → AllByRecursion (Each P) clusters
+    → AllByRecursion (Each P) (with_first follows g clusters)
 each-first P follows g [] p all = ((p, tt), tt)
 each-first P follows g ([] ∷ clusters) p all = ((p, tt), all)
 each-first P follows g ((h ∷ cluster) ∷ clusters) p all =
-    elim (follows h) as (λ b. AllByRecursion (Each P) (cond b ((g ∷ h ∷ cluster) ∷ clusters) ((g ∷ []) ∷ (h ∷ cluster) ∷ clusters))) [
+    elim (follows h) as (λ b. AllByRecursion (Each P)
+    (cond b ((g ∷ h ∷ cluster) ∷ clusters) ((g ∷ []) ∷ (h ∷ cluster) ∷ clusters))) [
       | true ↦ ((p, all.0), all.1)
       | false ↦ ((p, tt), all)
     ]
 
-each-group : (P : ℕ → Type 0) (follows : hb_glyph_info_t → Bool) (gs : List hb_glyph_info_t) → Each P gs → AllByRecursion (Each P) (cut_before_others follows gs)
+each-group : (P : ℕ → Type 0) (follows : hb_glyph_info_t → Bool) (gs : List hb_glyph_info_t) → Each P gs
+    → AllByRecursion (Each P) (cut_before_others follows gs)
 each-group P follows [] p = tt
-each-group P follows (g ∷ gs) p = each-first P follows g (cut_before_others follows gs) p.0 (each-group P follows gs p.1)
+each-group P follows (g ∷ gs) p =
+    each-first P follows g (cut_before_others follows gs) p.0 (each-group P follows gs p.1)
 
-pub each-became : (P : ℕ → Type 0) (context : Context) (cluster : List hb_glyph_info_t) → Each P cluster → Each P (cluster_becomes context cluster)
+pub each-became : (P : ℕ → Type 0) (context : Context) (cluster : List hb_glyph_info_t) → Each P cluster
+    → Each P (cluster_becomes context cluster)
 each-became P context cluster p =
     let way = apart_way context cluster in
     let Own : hb_glyph_info_t → Type 0 = λ g. P g.cluster in
-    elim (is_kept_cluster cluster) as (λ b. Each P (cond b (forms_written context cluster) (flat_map (becomes context way) cluster))) [
-      | true ↦ all-flat_map (Each P) Own (form_written context) (λ form q. each-form P context form q) (cut_before_others is_selector_glyph cluster) (each-group P is_selector_glyph cluster p)
-      | false ↦ all-flat_map Own Own (becomes context way) (λ g q. each-written P context g (image context way g.glyph_id) q) cluster p
+    elim (is_kept_cluster cluster) as (λ b. Each P
+    (cond b (forms_written context cluster) (flat_map (becomes context way) cluster))) [
+      | true ↦ all-flat_map (Each P) Own (form_written context) (λ form q. each-form P context form q)
+          (cut_before_others is_selector_glyph cluster) (each-group P is_selector_glyph cluster p)
+      | false ↦ all-flat_map Own Own (becomes context way)
+          (λ g q. each-written P context g (image context way g.glyph_id) q) cluster p
     ]
 
-pub each-decomposed : (P : ℕ → Type 0) (context : Context) (gs : List hb_glyph_info_t) → Each P gs → Each P (text_decomposed context gs)
-each-decomposed P context gs p = all-flat_map (Each P) (λ (g : hb_glyph_info_t). P g.cluster) (cluster_becomes context) (λ cluster q. each-became P context cluster q) (mark_clusters gs) (each-group P is_mark_glyph gs p)
+pub each-decomposed : (P : ℕ → Type 0) (context : Context) (gs : List hb_glyph_info_t) → Each P gs
+    → Each P (text_decomposed context gs)
+each-decomposed P context gs p =
+    all-flat_map (Each P) (λ (g : hb_glyph_info_t). P g.cluster) (cluster_becomes context)
+    (λ cluster q. each-became P context cluster q) (mark_clusters gs) (each-group P is_mark_glyph gs p)

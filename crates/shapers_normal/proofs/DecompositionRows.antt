@@ -15,7 +15,8 @@ use Rattle.shapers_normal.specs.Properties.{is_seen_by_lookups}
 use Rattle.shapers_normal.proofs.RowContext.{with_font, text}
 
 abbrev latin : List ℕ
-latin = 0x65 ∷ 0xEA ∷ 0x1EBF ∷ 0xE9 ∷ 0x301 ∷ 0x302 ∷ 0x308 ∷ 0x323 ∷ 0x41 ∷ 0xC5 ∷ 0x30A ∷ 0x344 ∷ 0xFE00 ∷ 0x20 ∷ 0x2010 ∷ []
+latin = 0x65 ∷ 0xEA ∷ 0x1EBF ∷ 0xE9 ∷ 0x301 ∷ 0x302 ∷ 0x308 ∷ 0x323 ∷ 0x41 ∷ 0xC5 ∷ 0x30A ∷ 0x344 ∷ 0xFE00 ∷ 0x20
+    ∷ 0x2010 ∷ []
 
 abbrev become : NormalizationMode → List ℕ → List ℕ → List ℕ
 become mode font cs = characters (text_decomposed (with_font mode font) (text (with_font mode font) cs))
@@ -75,26 +76,32 @@ mark_behind : become AUTO latin (0x65 ∷ 0x344 ∷ []) ≡ 0x65 ∷ 0x308 ∷ 0
 mark_behind = refl
 
 -- a cluster with a selector is kept, and its neighbours aren't
-with_selector : become AUTO latin (0x1EBF ∷ 0xFE00 ∷ 0x344 ∷ 0x1EBF ∷ 0x323 ∷ []) ≡ 0x1EBF ∷ 0xFE00 ∷ 0x344 ∷ 0x65 ∷ 0x302 ∷ 0x301 ∷ 0x323 ∷ []
+with_selector : become AUTO latin (0x1EBF ∷ 0xFE00 ∷ 0x344 ∷ 0x1EBF ∷ 0x323 ∷ []) ≡ 0x1EBF ∷ 0xFE00 ∷ 0x344 ∷ 0x65
+    ∷ 0x302 ∷ 0x301 ∷ 0x323 ∷ []
 with_selector = refl
 
 -- parts keep the cluster of what they came from
-parts_clusters : clusters (text_decomposed (with_font CD latin) (text (with_font CD latin) (0xE9 ∷ 0x1EBF ∷ 0x65 ∷ []))) ≡ 0 ∷ 0 ∷ 1 ∷ 1 ∷ 1 ∷ 2 ∷ []
+parts_clusters : clusters (text_decomposed (with_font CD latin) (text (with_font CD latin) (0xE9 ∷ 0x1EBF ∷ 0x65 ∷ [])))
+    ≡ 0 ∷ 0 ∷ 1 ∷ 1 ∷ 1 ∷ 2 ∷ []
 parts_clusters = refl
 
 -- eight steps and no more
 abbrev private_use : List ℕ
 private_use = 0x301 ∷ range_with_len 0xE000 10
 
-eight_steps : become CD private_use (0xE008 ∷ []) ≡ 0xE000 ∷ 0x301 ∷ 0x301 ∷ 0x301 ∷ 0x301 ∷ 0x301 ∷ 0x301 ∷ 0x301 ∷ 0x301 ∷ []
+eight_steps : become CD private_use (0xE008 ∷ []) ≡ 0xE000 ∷ 0x301 ∷ 0x301 ∷ 0x301 ∷ 0x301 ∷ 0x301 ∷ 0x301 ∷ 0x301
+    ∷ 0x301 ∷ []
 eight_steps = refl
 
-nine_steps : become CD private_use (0xE009 ∷ []) ≡ 0xE001 ∷ 0x301 ∷ 0x301 ∷ 0x301 ∷ 0x301 ∷ 0x301 ∷ 0x301 ∷ 0x301 ∷ 0x301 ∷ []
+nine_steps : become CD private_use (0xE009 ∷ []) ≡ 0xE001 ∷ 0x301 ∷ 0x301 ∷ 0x301 ∷ 0x301 ∷ 0x301 ∷ 0x301 ∷ 0x301
+    ∷ 0x301 ∷ []
 nine_steps = refl
 
 -- the numbers of glyphs, and the byte that a space's width is kept in
 abbrev numbers : List ℕ → List ℕ → List (ℕ × ℕ)
-numbers font cs = map (λ g. (g.var, g.modified_combining_class)) (text_decomposed (with_font AUTO font) (text (with_font AUTO font) cs))
+numbers font cs =
+    map (λ g. (g.var, g.modified_combining_class))
+    (text_decomposed (with_font AUTO font) (text (with_font AUTO font) cs))
 
 own : numbers latin (0x65 ∷ 0x1EBF ∷ []) ≡ (0x65, 0) ∷ (0x1EBF, 0) ∷ []
 own = refl
@@ -125,35 +132,47 @@ kept_number : numbers (0xFE00 ∷ []) (0x2011 ∷ 0xFE00 ∷ []) ≡ (0, 0) ∷ 
 kept_number = refl
 
 -- the widths of spaces: of each space and its neighbours
-spaces_wide : map space_kind (range_with_len 0x1FFF 14) ≡ None ∷ Some 2 ∷ Some 1 ∷ Some 2 ∷ Some 1 ∷ Some 3 ∷ Some 4 ∷ Some 6 ∷ Some 19 ∷ Some 20 ∷ Some 5 ∷ Some 16 ∷ None ∷ None ∷ []
+spaces_wide : map space_kind (range_with_len 0x1FFF 14) ≡ None ∷ Some 2 ∷ Some 1 ∷ Some 2 ∷ Some 1 ∷ Some 3 ∷ Some 4
+    ∷ Some 6 ∷ Some 19 ∷ Some 20 ∷ Some 5 ∷ Some 16 ∷ None ∷ None ∷ []
 spaces_wide = refl
 
-other_spaces : map space_kind (0x1F ∷ 0x20 ∷ 0x21 ∷ 0x9F ∷ 0xA0 ∷ 0xA1 ∷ 0x202E ∷ 0x202F ∷ 0x2030 ∷ 0x205E ∷ 0x205F ∷ 0x2060 ∷ 0x2FFF ∷ 0x3000 ∷ 0x3001 ∷ []) ≡ None ∷ Some 18 ∷ None ∷ None ∷ Some 18 ∷ None ∷ None ∷ Some 21 ∷ None ∷ None ∷ Some 17 ∷ None ∷ None ∷ Some 1 ∷ None ∷ []
+other_spaces : map space_kind (0x1F ∷ 0x20 ∷ 0x21 ∷ 0x9F ∷ 0xA0 ∷ 0xA1 ∷ 0x202E ∷ 0x202F ∷ 0x2030 ∷ 0x205E ∷ 0x205F
+    ∷ 0x2060 ∷ 0x2FFF ∷ 0x3000 ∷ 0x3001 ∷ []) ≡ None ∷ Some 18 ∷ None ∷ None ∷ Some 18 ∷ None ∷ None ∷ Some 21 ∷ None
+    ∷ None ∷ Some 17 ∷ None ∷ None ∷ Some 1 ∷ None ∷ []
 other_spaces = refl
 
 -- a variant stands for a character and its selector, in one cluster; further selectors stay
 abbrev forms : BufferClusterLevel → List ℕ → List (ℕ × ℕ × ℕ)
-forms level cs = map (λ g. (g.glyph_id, g.var, g.cluster)) (first_round (with_font AUTO latin) level (text (with_font AUTO latin) cs))
+forms level cs =
+    map (λ g. (g.glyph_id, g.var, g.cluster))
+    (first_round (with_font AUTO latin) level (text (with_font AUTO latin) cs))
 
 variant_stands : forms MonotoneGraphemes (0x65 ∷ 0xFE01 ∷ []) ≡ (0x65, 7, 0) ∷ []
 variant_stands = refl
 
-further_stay : forms MonotoneCharacters (0x65 ∷ 0xFE01 ∷ 0xFE00 ∷ 0x65 ∷ []) ≡ (0x65, 7, 0) ∷ (0xFE00, 0xFE00, 2) ∷ (0x65, 0x65, 3) ∷ []
+further_stay : forms MonotoneCharacters (0x65 ∷ 0xFE01 ∷ 0xFE00 ∷ 0x65 ∷ []) ≡ (0x65, 7, 0) ∷ (0xFE00, 0xFE00, 2)
+    ∷ (0x65, 0x65, 3) ∷ []
 further_stay = refl
 
-behind_others : forms MonotoneGraphemes (0x41 ∷ 0x301 ∷ 0x65 ∷ 0xFE01 ∷ 0x301 ∷ []) ≡ (0x41, 0x41, 0) ∷ (0x301, 0x301, 1) ∷ (0x65, 7, 2) ∷ (0x301, 0x301, 4) ∷ []
+behind_others : forms MonotoneGraphemes (0x41 ∷ 0x301 ∷ 0x65 ∷ 0xFE01 ∷ 0x301 ∷ []) ≡ (0x41, 0x41, 0)
+    ∷ (0x301, 0x301, 1) ∷ (0x65, 7, 2) ∷ (0x301, 0x301, 4) ∷ []
 behind_others = refl
 
 -- a selector that opens the text has a variant; one behind another selects nothing
 opens_text : forms MonotoneGraphemes (0xFE00 ∷ 0xFE01 ∷ []) ≡ (0xFE00, 7, 0) ∷ []
 opens_text = refl
 
-behind_selector : forms MonotoneGraphemes (0x41 ∷ 0xFE00 ∷ 0xFE01 ∷ []) ≡ (0x41, 0x41, 0) ∷ (0xFE00, 0xFE00, 1) ∷ (0xFE01, 0, 2) ∷ []
+behind_selector : forms MonotoneGraphemes (0x41 ∷ 0xFE00 ∷ 0xFE01 ∷ []) ≡ (0x41, 0x41, 0) ∷ (0xFE00, 0xFE00, 1)
+    ∷ (0xFE01, 0, 2) ∷ []
 behind_selector = refl
 
 -- clusters that fall, at a level that merges and at the one that doesn't
 abbrev fallen : BufferClusterLevel → List (ℕ × ℕ)
-fallen level = map (λ g. (g.cluster, g.mask)) (first_round (with_font AUTO latin) level (map (λ g. let r : hb_glyph_info_t = record g { cluster = 1 - g.cluster } in r) (text (with_font AUTO latin) (0x65 ∷ 0xFE01 ∷ []))))
+fallen level =
+    map (λ g. (g.cluster, g.mask))
+    (first_round (with_font AUTO latin) level
+    (map (λ g. let r : hb_glyph_info_t = record g { cluster = 1 - g.cluster } in r)
+    (text (with_font AUTO latin) (0x65 ∷ 0xFE01 ∷ []))))
 
 fallen_merged : fallen MonotoneCharacters ≡ (0, 0) ∷ []
 fallen_merged = refl
@@ -163,7 +182,10 @@ fallen_flagged = refl
 
 -- a selector that selects nothing becomes a format character, and isn't ignorable where it is drawn
 abbrev unselected : Bool → List (ℕ × ℕ × hb_unicode_general_category_t)
-unselected draws = map (λ g. (g.marks.0, g.modified_combining_class, g.general_category)) (text_decomposed (record (with_font AUTO latin) { draws_selectors = draws }) (text (with_font AUTO latin) (0x41 ∷ 0xFE00 ∷ 0xFE01 ∷ [])))
+unselected draws =
+    map (λ g. (g.marks.0, g.modified_combining_class, g.general_category))
+    (text_decomposed (record (with_font AUTO latin) { draws_selectors = draws })
+    (text (with_font AUTO latin) (0x41 ∷ 0xFE00 ∷ 0xFE01 ∷ [])))
 
 stays_ignorable : unselected false ≡ (0, 0, Ll) ∷ (24, 4, Cf) ∷ (16, 0, Mn) ∷ []
 stays_ignorable = refl
@@ -172,8 +194,11 @@ is_drawn : unselected true ≡ (0, 0, Ll) ∷ (16, 4, Cf) ∷ (16, 0, Mn) ∷ []
 is_drawn = refl
 
 -- both ends of each range
-selectors : map selects_form (0xFDFF ∷ 0xFE00 ∷ 0xFE0F ∷ 0xFE10 ∷ 0xE00FF ∷ 0xE0100 ∷ 0xE01EF ∷ 0xE01F0 ∷ []) ≡ false ∷ true ∷ true ∷ false ∷ false ∷ true ∷ true ∷ false ∷ []
+selectors : map selects_form (0xFDFF ∷ 0xFE00 ∷ 0xFE0F ∷ 0xFE10 ∷ 0xE00FF ∷ 0xE0100 ∷ 0xE01EF ∷ 0xE01F0 ∷ [])
+    ≡ false ∷ true ∷ true ∷ false ∷ false ∷ true ∷ true ∷ false ∷ []
 selectors = refl
 
-seen : map is_seen_by_lookups (0x34E ∷ 0x34F ∷ 0x350 ∷ 0x180A ∷ 0x180B ∷ 0x180D ∷ 0x180E ∷ 0x180F ∷ 0x1810 ∷ 0xE001F ∷ 0xE0020 ∷ 0xE007F ∷ 0xE0080 ∷ []) ≡ false ∷ true ∷ false ∷ false ∷ true ∷ true ∷ false ∷ true ∷ false ∷ false ∷ true ∷ true ∷ false ∷ []
+seen : map is_seen_by_lookups (0x34E ∷ 0x34F ∷ 0x350 ∷ 0x180A ∷ 0x180B ∷ 0x180D ∷ 0x180E ∷ 0x180F ∷ 0x1810 ∷ 0xE001F
+    ∷ 0xE0020 ∷ 0xE007F ∷ 0xE0080 ∷ []) ≡ false ∷ true ∷ false ∷ false ∷ true ∷ true ∷ false ∷ true ∷ false ∷ false
+    ∷ true ∷ true ∷ false ∷ []
 seen = refl

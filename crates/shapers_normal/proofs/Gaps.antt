@@ -11,12 +11,14 @@ use Rattle.shapers_normal.specs.Recomposition.{StarterWalk, next_glyph, recompos
 use Rattle.shapers_normal.specs.RecompositionWalk.{over_gap, walk_at}
 
 -- reading and writing before the gap
-pub get_or-apart : (to from s : ℕ) (gs : List hb_glyph_info_t) → s < to → to ≤ length gs → get_or (over_gap to from gs) s default_glyph ≡ get_or gs s default_glyph
+pub get_or-apart : (to from s : ℕ) (gs : List hb_glyph_info_t) → s < to → to ≤ length gs
+    → get_or (over_gap to from gs) s default_glyph ≡ get_or gs s default_glyph
 get_or-apart to from s gs before within =
     get_or_append_left (take to gs) (drop from gs) default_glyph s (omega (arith, length-take-le to gs within))
     ∙ get_or-take to gs s default_glyph before
 
-pub apart-set : (to from s : ℕ) (gs : List hb_glyph_info_t) (g : hb_glyph_info_t) → s < to → to ≤ from → to ≤ length gs → over_gap to from (set gs s g) ≡ set (over_gap to from gs) s g
+pub apart-set : (to from s : ℕ) (gs : List hb_glyph_info_t) (g : hb_glyph_info_t) → s < to → to ≤ from → to ≤ length gs
+    → over_gap to from (set gs s g) ≡ set (over_gap to from gs) s g
 apart-set to from s gs g before gap within =
     ap (λ xs. xs ++ drop from (set gs s g)) (take-set-lt to gs s g before)
     ∙ ap (λ xs. set (take to gs) s g ++ xs) (drop-set-lt from gs s g (omega arith))
@@ -24,18 +26,21 @@ apart-set to from s gs g before gap within =
 
 -- the glyph behind the gap, written in front of it, and what follows
 pub front_written : (to from : ℕ) (gs : List hb_glyph_info_t) → to ≤ from → from < length gs →
-    take (to + 1) (take (from + 1) (set gs to (get_or gs from default_glyph))) ++ drop (from + 1) (set gs to (get_or gs from default_glyph)) ≡ over_gap to from gs
+    take (to + 1) (take (from + 1) (set gs to (get_or gs from default_glyph)))
+    ++ drop (from + 1) (set gs to (get_or gs from default_glyph)) ≡ over_gap to from gs
 front_written to from gs gap within =
     let g = get_or gs from default_glyph in
     let next : suc from ≡ from + 1 = omega arith in
-    ap (λ xs. xs ++ drop (from + 1) (set gs to g)) (take-take (to + 1) (from + 1) (set gs to g) (omega arith) ∙ take_more_set gs to g (omega arith))
+    ap (λ xs. xs ++ drop (from + 1) (set gs to g)) (take-take (to + 1) (from + 1) (set gs to g) (omega arith)
+    ∙ take_more_set gs to g (omega arith))
     ∙ ap (λ xs. (take to gs ++ g ∷ []) ++ xs) (drop-set-lt (from + 1) gs to g (omega arith))
     ∙ append_assoc (take to gs) (g ∷ []) (drop (from + 1) gs)
     ∙ ap (λ n. take to gs ++ g ∷ drop n gs) (sym next)
     ∙ ap (λ xs. take to gs ++ xs) (sym (drop-cons gs from default_glyph within))
 
 -- what is written over both sides of the gap, without the place that goes
-pub gap_wider : (to from : ℕ) (xs gap ys : List hb_glyph_info_t) → to ≤ from → length xs ≡ to + 1 → length gap ≡ from - to → over_gap to (from + 1) (xs ++ (gap ++ ys)) ≡ without_place to (xs ++ ys)
+pub gap_wider : (to from : ℕ) (xs gap ys : List hb_glyph_info_t) → to ≤ from → length xs ≡ to + 1
+    → length gap ≡ from - to → over_gap to (from + 1) (xs ++ (gap ++ ys)) ≡ without_place to (xs ++ ys)
 gap_wider to from xs gap ys order long wide =
     let all : from + 1 ≡ length xs + length gap = omega arith in
     let none : length gap ≡ length gap + 0 = omega arith in
@@ -48,23 +53,30 @@ gap_wider to from xs gap ys order long wide =
     ∙ ap (λ zs. zs ++ drop (to + 1) (xs ++ ys)) (sym (front ys))
 
 -- the walk so far, and to its end
-pub record Recomposing (context : Context) (level : BufferClusterLevel) (old now : List hb_glyph_info_t) (p : Place) : Type 0 where
+pub record Recomposing (context : Context) (level : BufferClusterLevel) (old now : List hb_glyph_info_t) (p : Place) :
+    Type 0 where
   pub text : (walk_over context level (length now - p.from) (walk_at p now)).glyphs ≡ recomposed context level old
   pub starter : p.starter < p.to
   pub gap : p.to ≤ p.from
   pub within : p.from ≤ length now
   pub same_length : length now ≡ length old
 
-pub recomposing_start : (context : Context) (level : BufferClusterLevel) (gs : List hb_glyph_info_t) → 0 < length gs → Recomposing context level gs gs (record { starter = 0; to = 1; from = 1 })
+pub recomposing_start : (context : Context) (level : BufferClusterLevel) (gs : List hb_glyph_info_t) → 0 < length gs
+    → Recomposing context level gs gs (record { starter = 0; to = 1; from = 1 })
 recomposing_start context level gs some = record {
-  text = ap (λ xs. (walk_over context level (length gs - 1) (let w : StarterWalk = record { starter = 0; place = 1; glyphs = xs } in w)).glyphs) (take-append-drop 1 gs);
+  text = ap (λ xs.
+      (walk_over context level (length gs - 1)
+      (let w : StarterWalk = record { starter = 0; place = 1; glyphs = xs } in w)).glyphs) (take-append-drop 1 gs);
   starter = omega arith;
   gap = omega arith;
   within = omega arith;
   same_length = refl;
 }
 
-pub recomposing_next : (context : Context) (level : BufferClusterLevel) (old now new : List hb_glyph_info_t) (p q : Place) → Recomposing context level old now p → p.from < length now → length new ≡ length now → walk_at q new ≡ next_glyph context level (walk_at p now) → q.from ≡ p.from + 1 → q.to ≤ q.from → q.starter < q.to → Recomposing context level old new q
+pub recomposing_next : (context : Context) (level : BufferClusterLevel) (old now new : List hb_glyph_info_t)
+    (p q : Place) → Recomposing context level old now p → p.from < length now → length new ≡ length now
+    → walk_at q new ≡ next_glyph context level (walk_at p now) → q.from ≡ p.from + 1 → q.to ≤ q.from → q.starter < q.to
+    → Recomposing context level old new q
 recomposing_next context level old now new p q r some long next from gap starter =
     let less : length now - p.from ≡ suc (length new - q.from) = omega arith in
     record {
@@ -78,7 +90,8 @@ recomposing_next context level old now new p q r some long next from gap starter
       same_length = long ∙ r.same_length;
     }
 
-pub recomposing_end : (context : Context) (level : BufferClusterLevel) (old now : List hb_glyph_info_t) (p : Place) → Recomposing context level old now p → length now ≤ p.from → take p.to now ≡ recomposed context level old
+pub recomposing_end : (context : Context) (level : BufferClusterLevel) (old now : List hb_glyph_info_t) (p : Place)
+    → Recomposing context level old now p → length now ≤ p.from → take p.to now ≡ recomposed context level old
 recomposing_end context level old now p r met =
     let none : length now - p.from ≡ 0 = omega arith in
     sym (append-nil (take p.to now))

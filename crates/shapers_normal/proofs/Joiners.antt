@@ -27,7 +27,9 @@ class_passed before behind g =
     elim seen as (λ b. class_of (cond b shown g) ≡ class_of g) [ true ↦ refl | false ↦ refl ]
 
 -- one more place, with a glyph on either side
-pub showing_next : (old now new : List hb_glyph_info_t) (i : ℕ) → Showing old now i → i + 1 < length now → new ≡ set now i (passes_over (class_of (glyph_at now (i - 1))) (class_of (glyph_at now (i + 1))) (glyph_at now i)) → Showing old new (i + 1)
+pub showing_next : (old now new : List hb_glyph_info_t) (i : ℕ) → Showing old now i → i + 1 < length now
+    → new ≡ set now i (passes_over (class_of (glyph_at now (i - 1))) (class_of (glyph_at now (i + 1))) (glyph_at now i))
+    → Showing old new (i + 1)
 showing_next old now new i s within is =
     let before = class_of (glyph_at now (i - 1)) in
     let passed_marks = passes_over before (class_of (glyph_at now (i + 1))) (glyph_at now i) in
@@ -35,17 +37,24 @@ showing_next old now new i s within is =
     let next : suc i ≡ i + 1 = omega arith in
     let last : i + 1 - 1 ≡ i = omega arith in
     let two : drop i now ≡ glyph_at now i ∷ (glyph_at now (i + 1) ∷ drop (suc (i + 1)) now) =
-    drop-cons now i default_glyph here ∙ ap (λ n. glyph_at now i ∷ drop n now) next ∙ ap (λ gs. glyph_at now i ∷ gs) (drop-cons now (i + 1) default_glyph within) in
-    let front : take (i + 1) new ≡ take i now ++ passed_marks ∷ [] = ap (take (i + 1)) is ∙ take_more_set now i passed_marks here in
-    let back : drop (i + 1) new ≡ glyph_at now (i + 1) ∷ drop (suc (i + 1)) now = ap (drop (i + 1)) is ∙ drop-set-lt (i + 1) now i passed_marks (omega arith) ∙ drop-cons now (i + 1) default_glyph within in
+    drop-cons now i default_glyph here ∙ ap (λ n. glyph_at now i ∷ drop n now) next
+    ∙ ap (λ gs. glyph_at now i ∷ gs) (drop-cons now (i + 1) default_glyph within) in
+    let front : take (i + 1) new ≡ take i now ++ passed_marks ∷ [] = ap (take (i + 1)) is
+    ∙ take_more_set now i passed_marks here in
+    let back : drop (i + 1) new ≡ glyph_at now (i + 1) ∷ drop (suc (i + 1)) now = ap (drop (i + 1)) is
+    ∙ drop-set-lt (i + 1) now i passed_marks (omega arith) ∙ drop-cons now (i + 1) default_glyph within in
     let class : class_of (glyph_at new (i + 1 - 1)) ≡ class_of (glyph_at now i) =
-    ap (λ n. class_of (glyph_at new n)) last ∙ ap (λ gs. class_of (glyph_at gs i)) is ∙ ap class_of (get_or-set_same now i passed_marks default_glyph here) ∙ class_passed before (class_of (glyph_at now (i + 1))) (glyph_at now i) in
+    ap (λ n. class_of (glyph_at new n)) last ∙ ap (λ gs. class_of (glyph_at gs i)) is
+    ∙ ap class_of (get_or-set_same now i passed_marks default_glyph here)
+    ∙ class_passed before (class_of (glyph_at now (i + 1))) (glyph_at now i) in
     record {
       text =
           ap (λ c. take (i + 1) new ++ shown_behind c (drop (i + 1) new)) class
           ∙ ap (λ gs. take (i + 1) new ++ shown_behind (class_of (glyph_at now i)) gs) back
-          ∙ ap (λ gs. gs ++ shown_behind (class_of (glyph_at now i)) (glyph_at now (i + 1) ∷ drop (suc (i + 1)) now)) front
-          ∙ append_assoc (take i now) (passed_marks ∷ []) (shown_behind (class_of (glyph_at now i)) (glyph_at now (i + 1) ∷ drop (suc (i + 1)) now))
+          ∙ ap (λ gs. gs ++ shown_behind (class_of (glyph_at now i)) (glyph_at now (i + 1) ∷ drop (suc (i + 1)) now))
+          front
+          ∙ append_assoc (take i now) (passed_marks ∷ [])
+          (shown_behind (class_of (glyph_at now i)) (glyph_at now (i + 1) ∷ drop (suc (i + 1)) now))
           ∙ sym (ap (λ gs. take i now ++ shown_behind before gs) two)
           ∙ s.text;
       some = omega arith;
@@ -57,8 +66,10 @@ shown_short before [] few = refl
 shown_short before (g ∷ []) few = refl
 shown_short before (g ∷ (h ∷ gs)) few = absurd (omega arith)
 
-pub showing_end : (old now : List hb_glyph_info_t) (i : ℕ) → Showing old now i → length now ≤ i + 1 → now ≡ joiners_shown old
+pub showing_end : (old now : List hb_glyph_info_t) (i : ℕ) → Showing old now i → length now ≤ i + 1
+    → now ≡ joiners_shown old
 showing_end old now i s met =
     sym (take-append-drop i now)
-    ∙ ap (λ gs. take i now ++ gs) (sym (shown_short (class_of (glyph_at now (i - 1))) (drop i now) (omega (arith, length-drop i now))))
+    ∙ ap (λ gs. take i now ++ gs)
+    (sym (shown_short (class_of (glyph_at now (i - 1))) (drop i now) (omega (arith, length-drop i now))))
     ∙ s.text

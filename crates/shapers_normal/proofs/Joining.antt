@@ -11,12 +11,15 @@ use Rattle.shapers_buffer.proofs.ClusterLemmas.{flood_merged, last-read, merge_i
 use Rattle.shapers_buffer.proofs.OneCluster.{length-flooded}
 use Rattle.shapers_clusters.proofs.Appended.{assembled}
 
-merge_taken : (n : ℕ) (a : Bool) {X : Type 0} (x z : X) → a ≡ true → 1 < n → (if a && not (nat_lt n 2) then x else z) ≡ x
+merge_taken : (n : ℕ) (a : Bool) {X : Type 0} (x z : X) → a ≡ true → 1 < n → (if a && not (nat_lt n 2) then x else z)
+    ≡ x
 merge_taken n true x z h two = grind (arith, nat_tests)
 merge_taken n false x z h two = absurd (grind arith)
 
-merged_two : (level : BufferClusterLevel) (s e : ℕ) (gs : List hb_glyph_info_t) → merges level ≡ true → 1 < e - s → merge level s e gs ≡ assembled (take s gs) (stretch_of s e gs) (drop e gs)
-merged_two level s e gs on two = merge_is level s e gs ∙ merge_taken (e - s) (merges level) (flood_merged s e gs) gs on two
+merged_two : (level : BufferClusterLevel) (s e : ℕ) (gs : List hb_glyph_info_t) → merges level ≡ true → 1 < e - s
+    → merge level s e gs ≡ assembled (take s gs) (stretch_of s e gs) (drop e gs)
+merged_two level s e gs on two = merge_is level s e gs
+    ∙ merge_taken (e - s) (merges level) (flood_merged s e gs) gs on two
 
 record Parts (s : ℕ) (xs ys : List hb_glyph_info_t) : Type 0 where
   front : take s (xs ++ ys) ≡ take s xs
@@ -28,11 +31,13 @@ parts s xs ys h =
     let long : length xs - s ≡ length (drop s xs) = omega (arith, length-drop s xs) in
     record {
       front = take-append-le s xs ys h;
-      middle = ap (take (length xs - s)) (drop-append-le s xs ys h) ∙ ap (λ n. take n (drop s xs ++ ys)) long ∙ take-append_seam (drop s xs) ys;
+      middle = ap (take (length xs - s)) (drop-append-le s xs ys h) ∙ ap (λ n. take n (drop s xs ++ ys)) long
+          ∙ take-append_seam (drop s xs) ys;
       behind = drop-append_seam xs ys;
     }
 
-as_assembled : (level : BufferClusterLevel) (s : ℕ) (xs ys : List hb_glyph_info_t) → merges level ≡ true → s + 1 < length xs → merge level s (length xs) (xs ++ ys) ≡ assembled (take s xs) (drop s xs) ys
+as_assembled : (level : BufferClusterLevel) (s : ℕ) (xs ys : List hb_glyph_info_t) → merges level ≡ true
+    → s + 1 < length xs → merge level s (length xs) (xs ++ ys) ≡ assembled (take s xs) (drop s xs) ys
 as_assembled level s xs ys on two =
     let p = parts s xs ys (omega arith) in
     merged_two level s (length xs) (xs ++ ys) on (omega arith)
@@ -41,7 +46,8 @@ as_assembled level s xs ys on two =
     ∙ ap (assembled (take s xs) (drop s xs)) p.behind
 
 -- the last glyph's cluster, before the merge; and the cluster at s, after it
-last_of_rest : (s : ℕ) (xs : List hb_glyph_info_t) → s + 1 < length xs → last_cluster (drop s xs) ≡ (get_or xs (length xs - 1) default_glyph).cluster
+last_of_rest : (s : ℕ) (xs : List hb_glyph_info_t) → s + 1 < length xs
+    → last_cluster (drop s xs) ≡ (get_or xs (length xs - 1) default_glyph).cluster
 last_of_rest s xs two =
     let long : length (drop s xs) ≡ length xs - s = length-drop s xs in
     let place : s + (length (drop s xs) - 1) ≡ length xs - 1 = omega (arith, long) in
@@ -52,29 +58,35 @@ last_of_rest s xs two =
 cluster-in_cluster : (m : ℕ) (g : hb_glyph_info_t) → (in_cluster m g).cluster ≡ m
 cluster-in_cluster m g = grind (arith, nat_tests)
 
-first_assembled : (front middle rest : List hb_glyph_info_t) → 0 < length middle → (get_or (assembled front middle rest) (length front) default_glyph).cluster ≡ least (clusters middle)
+first_assembled : (front middle rest : List hb_glyph_info_t) → 0 < length middle
+    → (get_or (assembled front middle rest) (length front) default_glyph).cluster ≡ least (clusters middle)
 first_assembled front middle rest some =
     let m = least (clusters middle) in
     let before = reverse (flooded (first_cluster middle) m (reverse front)) in
     let behind = flooded (last_cluster middle) m rest in
-    let long : length before ≡ length front = length-reverse (flooded (first_cluster middle) m (reverse front)) ∙ length-flooded (first_cluster middle) m (reverse front) ∙ length-reverse front in
+    let long : length before ≡ length front = length-reverse (flooded (first_cluster middle) m (reverse front))
+    ∙ length-flooded (first_cluster middle) m (reverse front) ∙ length-reverse front in
     let none : length front - length front ≡ 0 = omega arith in
     let there : 0 < length (map (in_cluster m) middle) = omega (arith, length-map middle (in_cluster m)) in
     ap (λ (g : hb_glyph_info_t). g.cluster)
-    (get_or-append_right before (map (in_cluster m) middle ++ behind) (length front) (length front) default_glyph long (omega arith)
+    (get_or-append_right before (map (in_cluster m) middle ++ behind) (length front) (length front) default_glyph long
+    (omega arith)
     ∙ ap (λ n. get_or (map (in_cluster m) middle ++ behind) n default_glyph) none
     ∙ get_or_append_left (map (in_cluster m) middle) behind default_glyph 0 there
     ∙ get_or-map (in_cluster m) middle 0 default_glyph default_glyph some)
     ∙ cluster-in_cluster m (get_or middle 0 default_glyph)
 
 -- The merge of the two lists: that of the first, and the second's first glyphs of the last cluster.
-pub joined_lists : (level : BufferClusterLevel) (s : ℕ) (xs ys : List hb_glyph_info_t) → merges level ≡ true → s + 1 < length xs → merge level s (length xs) xs ++ flooded (get_or xs (length xs - 1) default_glyph).cluster (get_or (merge level s (length xs) xs) s default_glyph).cluster ys ≡ merge level s (length xs) (xs ++ ys)
+pub joined_lists : (level : BufferClusterLevel) (s : ℕ) (xs ys : List hb_glyph_info_t) → merges level ≡ true
+    → s + 1 < length xs → merge level s (length xs) xs ++ flooded (get_or xs (length xs - 1) default_glyph).cluster
+    (get_or (merge level s (length xs) xs) s default_glyph).cluster ys ≡ merge level s (length xs) (xs ++ ys)
 joined_lists level s xs ys on two =
     let front = take s xs in
     let middle = drop s xs in
     let m = least (clusters middle) in
     let before = reverse (flooded (first_cluster middle) m (reverse front)) in
-    let alone : merge level s (length xs) xs ≡ assembled front middle [] = ap (merge level s (length xs)) (sym (append-nil xs)) ∙ as_assembled level s xs [] on two in
+    let alone : merge level s (length xs) xs ≡ assembled front middle [] =
+    ap (merge level s (length xs)) (sym (append-nil xs)) ∙ as_assembled level s xs [] on two in
     let long : length front ≡ s = length-take-le s xs (omega arith) in
     let some : 0 < length middle = omega (arith, length-drop s xs) in
     let cluster : (get_or (merge level s (length xs) xs) s default_glyph).cluster ≡ m =

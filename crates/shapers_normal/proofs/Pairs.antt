@@ -25,8 +25,11 @@ from_pairs R (g ∷ gs) p = AllPairs-cons R g.cluster (clusters gs) (all_of (R g
 
 pub to_pairs : (R : ℕ → ℕ → Type 0) (gs : List hb_glyph_info_t) → AllPairs R (clusters gs) → Pairs R gs
 to_pairs R [] h = tt
-to_pairs R (g ∷ gs) h =
-    (each_of (R g.cluster) gs (λ j d within. h 0 (suc j) d (omega arith) (omega arith)), to_pairs R gs (λ i j d before within. h (suc i) (suc j) d (omega arith) (omega arith)))
+to_pairs R (g ∷ gs) h = (
+  each_of (R g.cluster) gs (λ j d within. h 0 (suc j) d (omega arith) (omega arith)),
+  to_pairs R gs
+      (λ i j d before within. h (suc i) (suc j) d (omega arith) (omega arith)),
+)
 
 -- ---- lists put together
 
@@ -38,7 +41,8 @@ each-last : (P : ℕ → Type 0) (gs hs : List hb_glyph_info_t) → Each P (gs +
 each-last P [] hs p = p
 each-last P (g ∷ gs) hs p = each-last P gs hs p.1
 
-pub pairs-append : (R : ℕ → ℕ → Type 0) (gs hs : List hb_glyph_info_t) → Pairs R gs → Pairs R hs → Cross R gs hs → Pairs R (gs ++ hs)
+pub pairs-append : (R : ℕ → ℕ → Type 0) (gs hs : List hb_glyph_info_t) → Pairs R gs → Pairs R hs → Cross R gs hs
+    → Pairs R (gs ++ hs)
 pairs-append R [] hs p q x = q
 pairs-append R (g ∷ gs) hs p q x = (each-append (R g.cluster) gs hs p.0 x.0, pairs-append R gs hs p.1 q x.1)
 
@@ -64,13 +68,16 @@ pairs-drop R (suc n) [] p = tt
 pairs-drop R (suc n) (g ∷ gs) p = pairs-drop R n gs p.1
 
 -- a glyph goes
-pub pairs-without : (R : ℕ → ℕ → Type 0) (i : ℕ) (gs : List hb_glyph_info_t) → Pairs R gs → Pairs R (take i gs ++ drop (i + 1) gs)
+pub pairs-without : (R : ℕ → ℕ → Type 0) (i : ℕ) (gs : List hb_glyph_info_t) → Pairs R gs
+    → Pairs R (take i gs ++ drop (i + 1) gs)
 pairs-without R i gs p =
     let whole : Pairs R (take i gs ++ drop i gs) = subst (Pairs R) (sym (take-append-drop i gs)) p in
     let rest : drop 1 (drop i gs) ≡ drop (i + 1) gs = drop-drop 1 i gs in
     let last : Pairs R (drop (i + 1) gs) = pairs-drop R (i + 1) gs p in
     pairs-append R (take i gs) (drop (i + 1) gs) (pairs-first R (take i gs) (drop i gs) whole) last
-    (each_as (λ k. Each (R k) (drop i gs)) (λ k. Each (R k) (drop (i + 1) gs)) (take i gs) (λ k e. subst (λ xs. Each (R k) xs) rest (each-drop (R k) 1 (drop i gs) e)) (pairs-cross R (take i gs) (drop i gs) whole))
+    (each_as (λ k. Each (R k) (drop i gs)) (λ k. Each (R k) (drop (i + 1) gs)) (take i gs)
+    (λ k e. subst (λ xs. Each (R k) xs) rest (each-drop (R k) 1 (drop i gs) e))
+    (pairs-cross R (take i gs) (drop i gs) whole))
 
 -- ---- groups that become others
 
@@ -81,30 +88,42 @@ together groups = flat_map (λ group. group) groups
 abbrev pub KeepsEach : (List hb_glyph_info_t → List hb_glyph_info_t) → Type 1
 KeepsEach f = (P : ℕ → Type 0) (group : List hb_glyph_info_t) → Each P group → Each P (f group)
 
-each_together : (f : List hb_glyph_info_t → List hb_glyph_info_t) → KeepsEach f → (P : ℕ → Type 0) (groups : List (List hb_glyph_info_t)) → Each P (together groups) → Each P (flat_map f groups)
+each_together : (f : List hb_glyph_info_t → List hb_glyph_info_t) → KeepsEach f
+    → (P : ℕ → Type 0) (groups : List (List hb_glyph_info_t)) → Each P (together groups) → Each P (flat_map f groups)
 each_together f keeps P [] p = tt
 each_together f keeps P (group ∷ groups) p =
-    each-append P (f group) (flat_map f groups) (keeps P group (each-first P group (together groups) p)) (each_together f keeps P groups (each-last P group (together groups) p))
+    each-append P (f group) (flat_map f groups) (keeps P group (each-first P group (together groups) p))
+    (each_together f keeps P groups (each-last P group (together groups) p))
 
-pub pairs_together : (R : ℕ → ℕ → Type 0) (f : List hb_glyph_info_t → List hb_glyph_info_t) → KeepsEach f → ((group : List hb_glyph_info_t) → Pairs R group → Pairs R (f group)) → (groups : List (List hb_glyph_info_t)) → Pairs R (together groups) → Pairs R (flat_map f groups)
+pub pairs_together : (R : ℕ → ℕ → Type 0) (f : List hb_glyph_info_t → List hb_glyph_info_t) → KeepsEach f
+    → ((group : List hb_glyph_info_t) → Pairs R group → Pairs R (f group)) → (groups : List (List hb_glyph_info_t))
+    → Pairs R (together groups) → Pairs R (flat_map f groups)
 pairs_together R f keeps each [] p = tt
 pairs_together R f keeps each (group ∷ groups) p =
     let rest = together groups in
     let new = flat_map f groups in
-    pairs-append R (f group) new (each group (pairs-first R group rest p)) (pairs_together R f keeps each groups (pairs-last R group rest p))
-    (keeps (λ k. Each (R k) new) group (each_as (λ k. Each (R k) rest) (λ k. Each (R k) new) group (λ k e. each_together f keeps (R k) groups e) (pairs-cross R group rest p)))
+    pairs-append R (f group) new (each group (pairs-first R group rest p))
+    (pairs_together R f keeps each groups (pairs-last R group rest p))
+    (keeps (λ k. Each (R k) new) group
+    (each_as (λ k. Each (R k) rest) (λ k. Each (R k) new) group (λ k e. each_together f keeps (R k) groups e)
+    (pairs-cross R group rest p)))
 
 -- ---- clusters that rise or fall
 
-pub mono_by : (gs hs : List hb_glyph_info_t) → ((R : ℕ → ℕ → Type 0) → ((k : ℕ) → R k k) → Pairs R gs → Pairs R hs) → IsMonotone (clusters gs) → IsMonotone (clusters hs)
-mono_by gs hs f (inl rises) = let R : ℕ → ℕ → Type 0 = λ a b. a ≤ b in inl (from_pairs R hs (f R (λ k. omega arith) (to_pairs R gs rises)))
-mono_by gs hs f (inr falls) = let R : ℕ → ℕ → Type 0 = λ a b. b ≤ a in inr (from_pairs R hs (f R (λ k. omega arith) (to_pairs R gs falls)))
+pub mono_by : (gs hs : List hb_glyph_info_t) → ((R : ℕ → ℕ → Type 0) → ((k : ℕ) → R k k) → Pairs R gs → Pairs R hs)
+    → IsMonotone (clusters gs) → IsMonotone (clusters hs)
+mono_by gs hs f (inl rises) = let R : ℕ → ℕ → Type 0 =
+    λ a b. a ≤ b in inl (from_pairs R hs (f R (λ k. omega arith) (to_pairs R gs rises)))
+mono_by gs hs f (inr falls) = let R : ℕ → ℕ → Type 0 =
+    λ a b. b ≤ a in inr (from_pairs R hs (f R (λ k. omega arith) (to_pairs R gs falls)))
 
 -- the same clusters
-pub pairs_same : (R : ℕ → ℕ → Type 0) (gs hs : List hb_glyph_info_t) → clusters hs ≡ clusters gs → Pairs R gs → Pairs R hs
+pub pairs_same : (R : ℕ → ℕ → Type 0) (gs hs : List hb_glyph_info_t) → clusters hs ≡ clusters gs → Pairs R gs
+    → Pairs R hs
 pairs_same R gs hs same p = to_pairs R hs (subst (AllPairs R) (sym same) (from_pairs R gs p))
 
-pub clusters-set : (i : ℕ) (g : hb_glyph_info_t) (gs : List hb_glyph_info_t) → g.cluster ≡ (get_or gs i g).cluster → clusters (set gs i g) ≡ clusters gs
+pub clusters-set : (i : ℕ) (g : hb_glyph_info_t) (gs : List hb_glyph_info_t) → g.cluster ≡ (get_or gs i g).cluster
+    → clusters (set gs i g) ≡ clusters gs
 clusters-set i g [] same = refl
 clusters-set zero g (h ∷ gs) same = ap (λ k. k ∷ clusters gs) same
 clusters-set (suc i) g (h ∷ gs) same = ap (λ ks. h.cluster ∷ ks) (clusters-set i g gs same)

@@ -42,7 +42,8 @@ as_mark = refl
 abbrev samples : List ℕ
 samples = 0x65 ∷ 0x301 ∷ 0xAD ∷ 0x200C ∷ 0x200D ∷ 0x34F ∷ 0x180B ∷ 0x41 ∷ []
 
-marks_of : map (λ c. (character_marks (with_font AUTO []) c (record { 0 = 0 })).0) samples ≡ 0 ∷ 16 ∷ 8 ∷ 8 ∷ 8 ∷ 56 ∷ 40 ∷ 0 ∷ []
+marks_of : map (λ c. (character_marks (with_font AUTO []) c (record { 0 = 0 })).0) samples ≡ 0 ∷ 16 ∷ 8 ∷ 8 ∷ 8 ∷ 56
+    ∷ 40 ∷ 0 ∷ []
 marks_of = refl
 
 bytes_of : map (class_byte (with_font AUTO [])) samples ≡ 0 ∷ 230 ∷ 0 ∷ 2 ∷ 1 ∷ 0 ∷ 0 ∷ 0 ∷ []

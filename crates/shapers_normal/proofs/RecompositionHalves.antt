@@ -20,7 +20,13 @@ use Rattle.shapers_normal.proofs.SortingHalves.{glyph_in_part, twice_not}
 
 -- the walk over a part of a text
 abbrev in_text : List hb_glyph_info_t → List hb_glyph_info_t → StarterWalk → StarterWalk
-in_text before behind w = record { starter = length before + w.starter; place = length before + w.place; glyphs = before ++ (w.glyphs ++ behind) }
+in_text before behind w =
+    record {
+      starter = length before + w.starter;
+      place = length before + w.place;
+      glyphs = before
+          ++ (w.glyphs ++ behind);
+    }
 
 -- so many glyphs are still to come
 pub record Walking (P : ℕ → Type 0) (n : ℕ) (w : StarterWalk) : Type 0 where
@@ -28,12 +34,14 @@ pub record Walking (P : ℕ → Type 0) (n : ℕ) (w : StarterWalk) : Type 0 whe
   pub left : w.place + n ≡ length w.glyphs
   pub clusters : Each P w.glyphs
 
-each-at : (P : ℕ → Type 0) (i : ℕ) (gs : List hb_glyph_info_t) → i < length gs → Each P gs → P (get_or gs i default_glyph).cluster
+each-at : (P : ℕ → Type 0) (i : ℕ) (gs : List hb_glyph_info_t) → i < length gs → Each P gs
+    → P (get_or gs i default_glyph).cluster
 each-at P i [] within p = absurd (omega arith)
 each-at P zero (g ∷ gs) within p = p.0
 each-at P (suc i) (g ∷ gs) within p = each-at P i gs (omega arith) p.1
 
-each-set : (P : ℕ → Type 0) (i : ℕ) (g : hb_glyph_info_t) (gs : List hb_glyph_info_t) → P g.cluster → Each P gs → Each P (set gs i g)
+each-set : (P : ℕ → Type 0) (i : ℕ) (g : hb_glyph_info_t) (gs : List hb_glyph_info_t) → P g.cluster → Each P gs
+    → Each P (set gs i g)
 each-set P i g [] new p = tt
 each-set P zero g (h ∷ gs) new p = (new, p.1)
 each-set P (suc i) g (h ∷ gs) new p = (p.0, each-set P i g gs new p.1)
@@ -45,69 +53,95 @@ abbrev pub left_over : BufferClusterLevel → StarterWalk → List hb_glyph_info
 left_over level w = without_place w.place (merge level w.starter (w.place + 1) w.glyphs)
 
 length-without : (i : ℕ) (gs : List hb_glyph_info_t) → i < length gs → length (without_place i gs) + 1 ≡ length gs
-length-without i gs within = omega (arith, length-append (take i gs) (drop (i + 1) gs), length-take-le i gs (omega arith), length-drop (i + 1) gs)
+length-without i gs within =
+    omega (
+      arith,
+      length-append (take i gs) (drop (i + 1) gs),
+      length-take-le i gs (omega arith),
+      length-drop (i + 1)
+          gs,
+    )
 
-pub length-left : (level : BufferClusterLevel) (w : StarterWalk) → w.place < length w.glyphs → length (left_over level w) + 1 ≡ length w.glyphs
+pub length-left : (level : BufferClusterLevel) (w : StarterWalk) → w.place < length w.glyphs
+    → length (left_over level w) + 1 ≡ length w.glyphs
 length-left level w within =
-    let same : length (merge level w.starter (w.place + 1) w.glyphs) ≡ length w.glyphs = length-merge level w.starter (w.place + 1) w.glyphs (omega arith) in
+    let same : length (merge level w.starter (w.place + 1) w.glyphs) ≡ length w.glyphs =
+    length-merge level w.starter (w.place + 1) w.glyphs (omega arith) in
     length-without w.place (merge level w.starter (w.place + 1) w.glyphs) (omega arith) ∙ same
 
-pub each-left : (P : ℕ → Type 0) (level : BufferClusterLevel) (w : StarterWalk) → w.place < length w.glyphs → Each P w.glyphs → Each P (left_over level w)
+pub each-left : (P : ℕ → Type 0) (level : BufferClusterLevel) (w : StarterWalk) → w.place < length w.glyphs
+    → Each P w.glyphs → Each P (left_over level w)
 each-left P level w within p =
     let ms = merge level w.starter (w.place + 1) w.glyphs in
     let q : Each P ms = each-merge P level w.starter (w.place + 1) w.glyphs (omega arith) p in
     each-append P (take w.place ms) (drop (w.place + 1) ms) (each-take P w.place ms q) (each-drop P (w.place + 1) ms q)
 
-without_in_text : (i : ℕ) (before gs behind : List hb_glyph_info_t) → i < length gs → without_place (length before + i) (before ++ (gs ++ behind)) ≡ before ++ (without_place i gs ++ behind)
+without_in_text : (i : ℕ) (before gs behind : List hb_glyph_info_t) → i < length gs
+    → without_place (length before + i) (before ++ (gs ++ behind)) ≡ before ++ (without_place i gs ++ behind)
 without_in_text i before gs behind within =
     let whole = before ++ (gs ++ behind) in
     let next : length before + i + 1 ≡ length before + (i + 1) = omega arith in
-    ap (λ xs. xs ++ drop (length before + i + 1) whole) (take-append-add before (gs ++ behind) i ∙ ap (λ xs. before ++ xs) (take-append-le i gs behind (omega arith)))
+    ap (λ xs. xs ++ drop (length before + i + 1) whole) (take-append-add before (gs ++ behind) i
+    ∙ ap (λ xs. before ++ xs) (take-append-le i gs behind (omega arith)))
     ∙ ap (λ n. (before ++ take i gs) ++ drop n whole) next
-    ∙ ap (λ xs. (before ++ take i gs) ++ xs) (drop-append-add before (gs ++ behind) (i + 1) ∙ drop-append-le (i + 1) gs behind (omega arith))
+    ∙ ap (λ xs. (before ++ take i gs) ++ xs) (drop-append-add before (gs ++ behind) (i + 1)
+    ∙ drop-append-le (i + 1) gs behind (omega arith))
     ∙ append_assoc before (take i gs) (drop (i + 1) gs ++ behind)
     ∙ ap (λ xs. before ++ xs) (sym (append_assoc (take i gs) (drop (i + 1) gs) behind))
 
-left_in_text : (P : ℕ → Type 0) (level : BufferClusterLevel) (before behind : List hb_glyph_info_t) (w : StarterWalk) → w.place < length w.glyphs → Each P w.glyphs → Each (Not P) before → Each (Not P) behind → left_over level (in_text before behind w) ≡ before ++ (left_over level w ++ behind)
+left_in_text : (P : ℕ → Type 0) (level : BufferClusterLevel) (before behind : List hb_glyph_info_t) (w : StarterWalk)
+    → w.place < length w.glyphs → Each P w.glyphs → Each (Not P) before → Each (Not P) behind
+    → left_over level (in_text before behind w) ≡ before ++ (left_over level w ++ behind)
 left_in_text P level before behind w within p x y =
     let a = length before in
     let next : a + w.place + 1 ≡ a + (w.place + 1) = omega arith in
-    let same : length (merge level w.starter (w.place + 1) w.glyphs) ≡ length w.glyphs = length-merge level w.starter (w.place + 1) w.glyphs (omega arith) in
+    let same : length (merge level w.starter (w.place + 1) w.glyphs) ≡ length w.glyphs =
+    length-merge level w.starter (w.place + 1) w.glyphs (omega arith) in
     ap (λ e. without_place (a + w.place) (merge level (a + w.starter) e (before ++ (w.glyphs ++ behind)))) next
-    ∙ ap (without_place (a + w.place)) (merge_alone P level w.starter (w.place + 1) before w.glyphs behind (omega arith) p x y)
+    ∙ ap (without_place (a + w.place)) (merge_alone P level w.starter (w.place + 1) before w.glyphs behind (omega arith)
+    p x y)
     ∙ without_in_text w.place before (merge level w.starter (w.place + 1) w.glyphs) behind (omega arith)
 
-pub set_in_text : (i : ℕ) (g : hb_glyph_info_t) (before gs behind : List hb_glyph_info_t) → i < length gs → set (before ++ (gs ++ behind)) (length before + i) g ≡ before ++ (set gs i g ++ behind)
+pub set_in_text : (i : ℕ) (g : hb_glyph_info_t) (before gs behind : List hb_glyph_info_t) → i < length gs
+    → set (before ++ (gs ++ behind)) (length before + i) g ≡ before ++ (set gs i g ++ behind)
 set_in_text i g before gs behind within =
     let back : length before + i - length before ≡ i = omega arith in
     set-append_right before (gs ++ behind) (length before) (length before + i) g refl (omega arith)
     ∙ ap (λ k. before ++ set (gs ++ behind) k g) back
     ∙ ap (λ xs. before ++ xs) (set-append_left gs behind i g within)
 
-taken_in_text : (P : ℕ → Type 0) (context : Context) (level : BufferClusterLevel) (drawn : ℕ × GlyphId) (before behind : List hb_glyph_info_t) (w : StarterWalk) → w.starter < w.place → w.place < length w.glyphs → Each P w.glyphs → Each (Not P) before → Each (Not P) behind → taken_in context level drawn (in_text before behind w) ≡ in_text before behind (taken_in context level drawn w)
+taken_in_text : (P : ℕ → Type 0) (context : Context) (level : BufferClusterLevel) (drawn : ℕ × GlyphId)
+    (before behind : List hb_glyph_info_t) (w : StarterWalk) → w.starter < w.place → w.place < length w.glyphs
+    → Each P w.glyphs → Each (Not P) before → Each (Not P) behind
+    → taken_in context level drawn (in_text before behind w) ≡ in_text before behind (taken_in context level drawn w)
 taken_in_text P context level drawn before behind w order within p x y =
     let a = length before in
     let st = w.starter in
     let left = left_over level w in
     let new = λ (g : hb_glyph_info_t). as_character context drawn.0 drawn.1.0 g in
     let inside : st < length left = omega (arith, length-left level w within) in
-    let put = λ (xs : List hb_glyph_info_t). let v : StarterWalk = record { starter = a + st; place = a + w.place; glyphs = xs } in v in
+    let put = λ (xs : List hb_glyph_info_t). let v : StarterWalk =
+    record { starter = a + st; place = a + w.place; glyphs = xs } in v in
     ap put
-    (ap (λ xs. set xs (a + st) (new (get_or xs (a + st) default_glyph))) (left_in_text P level before behind w within p x y)
+    (ap (λ xs. set xs (a + st) (new (get_or xs (a + st) default_glyph)))
+    (left_in_text P level before behind w within p x y)
     ∙ ap (λ g. set (before ++ (left ++ behind)) (a + st) (new g)) (glyph_in_part before left behind st inside)
     ∙ set_in_text st (new (get_or left st default_glyph)) before left behind inside)
 
 -- ---- one glyph
 
-glyph_in_text : (before behind : List hb_glyph_info_t) (w : StarterWalk) (i : ℕ) → i < length w.glyphs → glyph_at (before ++ (w.glyphs ++ behind)) (length before + i) ≡ glyph_at w.glyphs i
+glyph_in_text : (before behind : List hb_glyph_info_t) (w : StarterWalk) (i : ℕ) → i < length w.glyphs
+    → glyph_at (before ++ (w.glyphs ++ behind)) (length before + i) ≡ glyph_at w.glyphs i
 glyph_in_text before behind w i within = glyph_in_part before w.glyphs behind i within
 
 -- what a starter and a mark compose to, by the glyphs that decide it
 abbrev composed_by : Context → hb_glyph_info_t → hb_glyph_info_t → hb_glyph_info_t → Bool → Option (ℕ × GlyphId)
 composed_by context starter last mark next =
-    cond (is_mark_glyph mark && (next || nat_lt (class_of last) (class_of mark))) (if_drawn context (context.composed starter.glyph_id mark.glyph_id)) None
+    cond (is_mark_glyph mark && (next || nat_lt (class_of last) (class_of mark)))
+    (if_drawn context (context.composed starter.glyph_id mark.glyph_id)) None
 
-composition_in_text : (context : Context) (before behind : List hb_glyph_info_t) (w : StarterWalk) → w.starter < w.place → w.place < length w.glyphs → composition context (in_text before behind w) ≡ composition context w
+composition_in_text : (context : Context) (before behind : List hb_glyph_info_t) (w : StarterWalk) → w.starter < w.place
+    → w.place < length w.glyphs → composition context (in_text before behind w) ≡ composition context w
 composition_in_text context before behind w order within =
     let a = length before in
     let whole = before ++ (w.glyphs ++ behind) in
@@ -118,36 +152,55 @@ composition_in_text context before behind w order within =
     let previous : a + pl - 1 ≡ a + (pl - 1) = omega arith in
     let last = glyph_in_text before behind w (pl - 1) (omega arith) in
     let next : eqb (a + st + 1) (a + pl) ≡ eqb (st + 1) pl = grind (arith, nat_tests) in
-    ap (λ b. composed_by context (glyph_at whole (a + st)) (glyph_at whole (a + pl - 1)) (glyph_at whole (a + pl)) b) next
-    ∙ ap (λ k. composed_by context (glyph_at whole (a + st)) (glyph_at whole k) (glyph_at whole (a + pl)) (eqb (st + 1) pl)) previous
+    ap (λ b. composed_by context (glyph_at whole (a + st)) (glyph_at whole (a + pl - 1)) (glyph_at whole (a + pl)) b)
+    next
+    ∙ ap (λ k. composed_by context (glyph_at whole (a + st)) (glyph_at whole k) (glyph_at whole (a + pl))
+    (eqb (st + 1) pl)) previous
     ∙ ap (λ g. composed_by context (glyph_at whole (a + st)) g (glyph_at whole (a + pl)) (eqb (st + 1) pl)) last
     ∙ ap (λ g. composed_by context (glyph_at whole (a + st)) (glyph_at w.glyphs (pl - 1)) g (eqb (st + 1) pl)) here
     ∙ ap (λ g. composed_by context g (glyph_at w.glyphs (pl - 1)) (glyph_at w.glyphs pl) (eqb (st + 1) pl)) first
 
-left_as_is_in_text : (before behind : List hb_glyph_info_t) (w : StarterWalk) → w.place < length w.glyphs → left_as_is (in_text before behind w) ≡ in_text before behind (left_as_is w)
+left_as_is_in_text : (before behind : List hb_glyph_info_t) (w : StarterWalk) → w.place < length w.glyphs
+    → left_as_is (in_text before behind w) ≡ in_text before behind (left_as_is w)
 left_as_is_in_text before behind w within =
     let a = length before in
     let next : a + w.place + 1 ≡ a + (w.place + 1) = omega arith in
-    let put = λ (s p : ℕ). let v : StarterWalk = record { starter = s; place = p; glyphs = before ++ (w.glyphs ++ behind) } in v in
-    ap (λ g. put (cond (eqb (class_of g) 0) (a + w.place) (a + w.starter)) (a + w.place + 1)) (glyph_in_text before behind w w.place within)
+    let put = λ (s p : ℕ). let v : StarterWalk =
+    record { starter = s; place = p; glyphs = before ++ (w.glyphs ++ behind) } in v in
+    ap (λ g. put (cond (eqb (class_of g) 0) (a + w.place) (a + w.starter)) (a + w.place + 1))
+    (glyph_in_text before behind w w.place within)
     ∙ ap (put (cond (eqb (class_of (glyph_at w.glyphs w.place)) 0) (a + w.place) (a + w.starter))) next
-    ∙ ap (λ s. put s (a + (w.place + 1))) (elim (eqb (class_of (glyph_at w.glyphs w.place)) 0) as (λ b. cond b (a + w.place) (a + w.starter) ≡ a + cond b w.place w.starter) [ true ↦ refl | false ↦ refl ])
+    ∙ ap (λ s. put s (a + (w.place + 1)))
+    (elim (eqb (class_of (glyph_at w.glyphs w.place)) 0) as (λ b. cond b (a + w.place) (a + w.starter)
+    ≡ a + cond b w.place w.starter) [ true ↦ refl | false ↦ refl ])
 
-next_by : (P : ℕ → Type 0) (context : Context) (level : BufferClusterLevel) (before behind : List hb_glyph_info_t) (w : StarterWalk) (o : Option (ℕ × GlyphId)) → w.starter < w.place → w.place < length w.glyphs → Each P w.glyphs → Each (Not P) before → Each (Not P) behind →
-    option_map_or (λ drawn. taken_in context level drawn (in_text before behind w)) o (left_as_is (in_text before behind w)) ≡ in_text before behind (option_map_or (λ drawn. taken_in context level drawn w) o (left_as_is w))
+next_by : (P : ℕ → Type 0) (context : Context) (level : BufferClusterLevel) (before behind : List hb_glyph_info_t)
+    (w : StarterWalk) (o : Option (ℕ × GlyphId)) → w.starter < w.place → w.place < length w.glyphs → Each P w.glyphs
+    → Each (Not P) before → Each (Not P) behind →
+    option_map_or (λ drawn. taken_in context level drawn (in_text before behind w)) o
+    (left_as_is (in_text before behind w))
+    ≡ in_text before behind (option_map_or (λ drawn. taken_in context level drawn w) o (left_as_is w))
 next_by P context level before behind w None order within p x y = left_as_is_in_text before behind w within
-next_by P context level before behind w (Some drawn) order within p x y = taken_in_text P context level drawn before behind w order within p x y
+next_by P context level before behind w (Some drawn) order within p x y =
+    taken_in_text P context level drawn before behind w order within p x y
 
-next_in_text : (P : ℕ → Type 0) (context : Context) (level : BufferClusterLevel) (before behind : List hb_glyph_info_t) (w : StarterWalk) → w.starter < w.place → w.place < length w.glyphs → Each P w.glyphs → Each (Not P) before → Each (Not P) behind → next_glyph context level (in_text before behind w) ≡ in_text before behind (next_glyph context level w)
+next_in_text : (P : ℕ → Type 0) (context : Context) (level : BufferClusterLevel) (before behind : List hb_glyph_info_t)
+    (w : StarterWalk) → w.starter < w.place → w.place < length w.glyphs → Each P w.glyphs → Each (Not P) before
+    → Each (Not P) behind → next_glyph context level (in_text before behind w)
+    ≡ in_text before behind (next_glyph context level w)
 next_in_text P context level before behind w order within p x y =
-    ap (λ o. option_map_or (λ drawn. taken_in context level drawn (in_text before behind w)) o (left_as_is (in_text before behind w))) (composition_in_text context before behind w order within)
+    ap (λ o. option_map_or (λ drawn. taken_in context level drawn (in_text before behind w)) o
+    (left_as_is (in_text before behind w))) (composition_in_text context before behind w order within)
     ∙ next_by P context level before behind w (composition context w) order within p x y
 
 -- ---- all glyphs of a part
 
-pub walking_by : (P : ℕ → Type 0) (context : Context) (level : BufferClusterLevel) (n : ℕ) (w : StarterWalk) (o : Option (ℕ × GlyphId)) → Walking P (suc n) w → Walking P n (option_map_or (λ drawn. taken_in context level drawn w) o (left_as_is w))
+pub walking_by : (P : ℕ → Type 0) (context : Context) (level : BufferClusterLevel) (n : ℕ) (w : StarterWalk)
+    (o : Option (ℕ × GlyphId)) → Walking P (suc n) w
+    → Walking P n (option_map_or (λ drawn. taken_in context level drawn w) o (left_as_is w))
 walking_by P context level n w None i = record {
-  starter = elim (eqb (class_of (glyph_at w.glyphs w.place)) 0) as (λ b. cond b w.place w.starter < w.place + 1) [ true ↦ omega arith | false ↦ omega (arith, i.starter) ];
+  starter = elim (eqb (class_of (glyph_at w.glyphs w.place)) 0) as (λ b. cond b w.place w.starter < w.place + 1)
+      [ true ↦ omega arith | false ↦ omega (arith, i.starter) ];
   left = omega (arith, i.left);
   clusters = i.clusters;
 }
@@ -158,21 +211,36 @@ walking_by P context level n w (Some drawn) i =
     let p : Each P left = each-left P level w within i.clusters in
     record {
       starter = i.starter;
-      left = omega (arith, i.left, length-left level w within, length-set left w.starter (as_character context drawn.0 drawn.1.0 starter));
-      clusters = each-set P w.starter (as_character context drawn.0 drawn.1.0 starter) left (each-at P w.starter left (omega (arith, i.starter, length-left level w within)) p) p;
+      left = omega (
+        arith,
+        i.left,
+        length-left level w within,
+        length-set left w.starter
+            (as_character context drawn.0 drawn.1.0 starter),
+      );
+      clusters = each-set P w.starter (as_character context drawn.0 drawn.1.0 starter) left
+          (each-at P w.starter left (omega (arith, i.starter, length-left level w within)) p) p;
     }
 
-walking_end : (P : ℕ → Type 0) (context : Context) (level : BufferClusterLevel) (n : ℕ) (w : StarterWalk) → Walking P n w → Walking P 0 (walk_over context level n w)
+walking_end : (P : ℕ → Type 0) (context : Context) (level : BufferClusterLevel) (n : ℕ) (w : StarterWalk)
+    → Walking P n w → Walking P 0 (walk_over context level n w)
 walking_end P context level zero w i = i
-walking_end P context level (suc n) w i = walking_end P context level n (next_glyph context level w) (walking_by P context level n w (composition context w) i)
+walking_end P context level (suc n) w i =
+    walking_end P context level n (next_glyph context level w)
+    (walking_by P context level n w (composition context w) i)
 
-walk_in_text : (P : ℕ → Type 0) (context : Context) (level : BufferClusterLevel) (before behind : List hb_glyph_info_t) (n : ℕ) (w : StarterWalk) → Walking P n w → Each (Not P) before → Each (Not P) behind → walk_over context level n (in_text before behind w) ≡ in_text before behind (walk_over context level n w)
+walk_in_text : (P : ℕ → Type 0) (context : Context) (level : BufferClusterLevel) (before behind : List hb_glyph_info_t)
+    (n : ℕ) (w : StarterWalk) → Walking P n w → Each (Not P) before → Each (Not P) behind
+    → walk_over context level n (in_text before behind w) ≡ in_text before behind (walk_over context level n w)
 walk_in_text P context level before behind zero w i x y = refl
 walk_in_text P context level before behind (suc n) w i x y =
-    ap (walk_over context level n) (next_in_text P context level before behind w i.starter (omega (arith, i.left)) i.clusters x y)
-    ∙ walk_in_text P context level before behind n (next_glyph context level w) (walking_by P context level n w (composition context w) i) x y
+    ap (walk_over context level n) (next_in_text P context level before behind w i.starter (omega (arith, i.left))
+    i.clusters x y)
+    ∙ walk_in_text P context level before behind n (next_glyph context level w)
+    (walking_by P context level n w (composition context w) i) x y
 
-walk_on : (context : Context) (level : BufferClusterLevel) (m n : ℕ) (w : StarterWalk) → walk_over context level (m + n) w ≡ walk_over context level n (walk_over context level m w)
+walk_on : (context : Context) (level : BufferClusterLevel) (m n : ℕ) (w : StarterWalk)
+    → walk_over context level (m + n) w ≡ walk_over context level n (walk_over context level m w)
 walk_on context level zero n w = let none : 0 + n ≡ n = omega arith in ap (λ k. walk_over context level k w) none
 walk_on context level (suc m) n w =
     let one : suc m + n ≡ suc (m + n) = omega arith in
@@ -181,30 +249,41 @@ walk_on context level (suc m) n w =
 abbrev pub walk_start : List hb_glyph_info_t → StarterWalk
 walk_start gs = record { starter = 0; place = 1; glyphs = gs }
 
-pub walking_start : (P : ℕ → Type 0) (g : hb_glyph_info_t) (gs : List hb_glyph_info_t) → Each P (g ∷ gs) → Walking P (length gs) (walk_start (g ∷ gs))
+pub walking_start : (P : ℕ → Type 0) (g : hb_glyph_info_t) (gs : List hb_glyph_info_t) → Each P (g ∷ gs)
+    → Walking P (length gs) (walk_start (g ∷ gs))
 walking_start P g gs p = record { starter = omega arith; left = omega arith; clusters = p }
 
 -- a letter is the next starter
-letter_next : (context : Context) (level : BufferClusterLevel) (s : ℕ) (done : List hb_glyph_info_t) (g : hb_glyph_info_t) (behind : List hb_glyph_info_t) → is_mark_glyph g ≡ false →
-    next_glyph context level (let w : StarterWalk = record { starter = s; place = length done; glyphs = done ++ g ∷ behind } in w) ≡ in_text done [] (walk_start (g ∷ behind))
+letter_next : (context : Context) (level : BufferClusterLevel) (s : ℕ) (done : List hb_glyph_info_t)
+    (g : hb_glyph_info_t) (behind : List hb_glyph_info_t) → is_mark_glyph g ≡ false →
+    next_glyph context level
+    (let w : StarterWalk = record { starter = s; place = length done; glyphs = done ++ g ∷ behind } in w)
+    ≡ in_text done [] (walk_start (g ∷ behind))
 letter_next context level s done g behind letter =
     let w : StarterWalk = record { starter = s; place = length done; glyphs = done ++ g ∷ behind } in
     let none : length done + 0 ≡ length done = omega arith in
-    let here : glyph_at (done ++ g ∷ behind) (length done) ≡ g = sym (ap (λ k. get_or (done ++ g ∷ behind) k default_glyph) none) ∙ get_or-append-add done (g ∷ behind) 0 default_glyph in
+    let here : glyph_at (done ++ g ∷ behind) (length done) ≡ g =
+    sym (ap (λ k. get_or (done ++ g ∷ behind) k default_glyph) none)
+    ∙ get_or-append-add done (g ∷ behind) 0 default_glyph in
     let first = glyph_at w.glyphs s in
     let last = glyph_at w.glyphs (length done - 1) in
     let next = eqb (s + 1) (length done) in
-    let put = λ (a : ℕ) (xs : List hb_glyph_info_t). let v : StarterWalk = record { starter = a; place = length done + 1; glyphs = done ++ xs } in v in
+    let put = λ (a : ℕ) (xs : List hb_glyph_info_t). let v : StarterWalk =
+    record { starter = a; place = length done + 1; glyphs = done ++ xs } in v in
     ap (λ o. option_map_or (λ drawn. taken_in context level drawn w) o (left_as_is w))
     (ap (λ h. composed_by context first last h next) here
-    ∙ ap (λ b. cond (b && (next || nat_lt (class_of last) (class_of g))) (if_drawn context (context.composed first.glyph_id g.glyph_id)) None) letter)
+    ∙ ap (λ b. cond (b && (next || nat_lt (class_of last) (class_of g)))
+    (if_drawn context (context.composed first.glyph_id g.glyph_id)) None) letter)
     ∙ ap (λ h. put (cond (eqb (class_of h) 0) (length done) s) (g ∷ behind)) here
     ∙ ap (λ b. put (cond (eqb (cond b g.modified_combining_class 0) 0) (length done) s) (g ∷ behind)) letter
     ∙ ap (λ a. put a (g ∷ behind)) (sym none)
     ∙ ap (put (length done + 0)) (sym (append-nil (g ∷ behind)))
 
 -- a text cut before a glyph that is no mark: its halves recomposed are the whole recomposed
-pub recomposed_halves : (P : ℕ → Type 0) (context : Context) (level : BufferClusterLevel) (front : List hb_glyph_info_t) (g : hb_glyph_info_t) (behind : List hb_glyph_info_t) → Each P front → Each (Not P) (g ∷ behind) → is_mark_glyph g ≡ false → recomposed context level (front ++ g ∷ behind) ≡ recomposed context level front ++ recomposed context level (g ∷ behind)
+pub recomposed_halves : (P : ℕ → Type 0) (context : Context) (level : BufferClusterLevel) (front : List hb_glyph_info_t)
+    (g : hb_glyph_info_t) (behind : List hb_glyph_info_t) → Each P front → Each (Not P) (g ∷ behind)
+    → is_mark_glyph g ≡ false → recomposed context level (front ++ g ∷ behind) ≡ recomposed context level front
+    ++ recomposed context level (g ∷ behind)
 recomposed_halves P context level [] g behind p n letter = refl
 recomposed_halves P context level (f ∷ front) g behind p n letter =
     let whole = f ∷ (front ++ g ∷ behind) in
@@ -212,25 +291,35 @@ recomposed_halves P context level (f ∷ front) g behind p n letter =
     let end = walk_over context level (length front) (walk_start (f ∷ front)) in
     let done = end.glyphs in
     let stop = walking_end P context level (length front) (walk_start (f ∷ front)) start in
-    let steps : length whole - 1 ≡ length front + suc (length behind) = omega (arith, length-append front (g ∷ behind)) in
+    let steps : length whole - 1 ≡ length front + suc (length behind) =
+    omega (arith, length-append front (g ∷ behind)) in
     let all : length (f ∷ front) - 1 ≡ length front = omega arith in
     let rest : length (g ∷ behind) - 1 ≡ length behind = omega arith in
     let place : 0 + end.place ≡ length done = omega (arith, stop.left) in
-    let at = λ (k : ℕ). let v : StarterWalk = record { starter = 0 + end.starter; place = k; glyphs = done ++ g ∷ behind } in v in
+    let at = λ (k : ℕ). let v : StarterWalk =
+    record { starter = 0 + end.starter; place = k; glyphs = done ++ g ∷ behind } in v in
     let glyphs = λ (w : StarterWalk). w.glyphs in
     ap (λ k. glyphs (walk_over context level k (walk_start whole))) steps
     ∙ ap glyphs (walk_on context level (length front) (suc (length behind)) (walk_start whole))
-    ∙ ap (λ w. glyphs (walk_over context level (suc (length behind)) w)) (walk_in_text P context level [] (g ∷ behind) (length front) (walk_start (f ∷ front)) start tt n)
+    ∙ ap (λ w. glyphs (walk_over context level (suc (length behind)) w)) (walk_in_text P context level
+    [] (g ∷ behind) (length front) (walk_start (f ∷ front)) start tt n)
     ∙ ap (λ k. glyphs (walk_over context level (suc (length behind)) (at k))) place
-    ∙ ap (λ w. glyphs (walk_over context level (length behind) w)) (letter_next context level (0 + end.starter) done g behind letter)
-    ∙ ap glyphs (walk_in_text (Not P) context level done [] (length behind) (walk_start (g ∷ behind)) (walking_start (Not P) g behind n) (twice_not P done stop.clusters) tt)
+    ∙ ap (λ w. glyphs (walk_over context level (length behind) w))
+    (letter_next context level (0 + end.starter) done g behind letter)
+    ∙ ap glyphs (walk_in_text (Not P) context level done
+    [] (length behind) (walk_start (g ∷ behind)) (walking_start (Not P) g behind n) (twice_not P done stop.clusters)
+    tt)
     ∙ ap (λ xs. done ++ xs) (append-nil (walk_over context level (length behind) (walk_start (g ∷ behind))).glyphs)
-    ∙ ap (λ k. glyphs (walk_over context level k (walk_start (f ∷ front))) ++ glyphs (walk_over context level (length behind) (walk_start (g ∷ behind)))) (sym all)
-    ∙ ap (λ k. recomposed context level (f ∷ front) ++ glyphs (walk_over context level k (walk_start (g ∷ behind)))) (sym rest)
+    ∙ ap (λ k. glyphs (walk_over context level k (walk_start (f ∷ front)))
+    ++ glyphs (walk_over context level (length behind) (walk_start (g ∷ behind)))) (sym all)
+    ∙ ap (λ k. recomposed context level (f ∷ front) ++ glyphs (walk_over context level k (walk_start (g ∷ behind))))
+    (sym rest)
 
 -- what holds of each cluster still does
-pub each-recomposed : (P : ℕ → Type 0) (context : Context) (level : BufferClusterLevel) (gs : List hb_glyph_info_t) → Each P gs → Each P (recomposed context level gs)
+pub each-recomposed : (P : ℕ → Type 0) (context : Context) (level : BufferClusterLevel) (gs : List hb_glyph_info_t)
+    → Each P gs → Each P (recomposed context level gs)
 each-recomposed P context level [] p = tt
 each-recomposed P context level (g ∷ gs) p =
     let all : length (g ∷ gs) - 1 ≡ length gs = omega arith in
-    subst (λ n. Each P (walk_over context level n (walk_start (g ∷ gs))).glyphs) (sym all) (walking_end P context level (length gs) (walk_start (g ∷ gs)) (walking_start P g gs p)).clusters
+    subst (λ n. Each P (walk_over context level n (walk_start (g ∷ gs))).glyphs) (sym all)
+    (walking_end P context level (length gs) (walk_start (g ∷ gs)) (walking_start P g gs p)).clusters

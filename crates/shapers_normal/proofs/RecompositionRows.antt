@@ -66,7 +66,9 @@ never_merged : compose_clusters Characters (0x65 ∷ 0x65 ∷ 0x323 ∷ 0x301 �
 never_merged = refl
 
 -- what it becomes has the properties of its character, and its glyph
-made : map {B = ℕ × ℕ} (λ g. (g.var, g.modified_combining_class)) (recomposed (with_font AUTO font) MonotoneGraphemes (text (with_font AUTO font) (0x65 ∷ 0x301 ∷ []))) ≡ (0xE9, 0) ∷ []
+made : map {B = ℕ × ℕ} (λ g. (g.var, g.modified_combining_class))
+    (recomposed (with_font AUTO font) MonotoneGraphemes (text (with_font AUTO font) (0x65 ∷ 0x301 ∷ [])))
+    ≡ (0xE9, 0) ∷ []
 made = refl
 
 -- a joiner is passed over where it kept nothing apart, but never at an end of the text
@@ -76,7 +78,8 @@ marks_of cs = map (λ g. g.marks.0) (joiners_shown (text (with_font AUTO font) c
 kept_something : marks_of (0x65 ∷ 0x301 ∷ 0x34F ∷ 0x323 ∷ []) ≡ 0 ∷ 16 ∷ 56 ∷ 16 ∷ []
 kept_something = refl
 
-kept_nothing : marks_of (0x65 ∷ 0x323 ∷ 0x34F ∷ 0x301 ∷ 0x301 ∷ 0x34F ∷ 0x301 ∷ []) ≡ 0 ∷ 16 ∷ 24 ∷ 16 ∷ 16 ∷ 24 ∷ 16 ∷ []
+kept_nothing : marks_of (0x65 ∷ 0x323 ∷ 0x34F ∷ 0x301 ∷ 0x301 ∷ 0x34F ∷ 0x301 ∷ []) ≡ 0 ∷ 16 ∷ 24 ∷ 16 ∷ 16 ∷ 24 ∷ 16
+    ∷ []
 kept_nothing = refl
 
 before_letter : marks_of (0x65 ∷ 0x301 ∷ 0x34F ∷ 0x65 ∷ []) ≡ 0 ∷ 16 ∷ 24 ∷ 0 ∷ []
@@ -87,7 +90,8 @@ at_ends = refl
 
 -- all three rounds: what comes apart is sorted and composed
 abbrev normal : NormalizationMode → Rounds → List ℕ → List ℕ
-normal mode rounds cs = characters (normalized (with_font mode font) rounds MonotoneGraphemes (text (with_font mode font) cs))
+normal mode rounds cs =
+    characters (normalized (with_font mode font) rounds MonotoneGraphemes (text (with_font mode font) cs))
 
 three_rounds : normal AUTO AsCode (0xE9 ∷ 0x323 ∷ []) ≡ 0xE9 ∷ 0x323 ∷ []
 three_rounds = refl

@@ -26,25 +26,29 @@ record Stays (context : Context) (g : hb_glyph_info_t) : Type 0 where
   no_mark : is_mark_glyph g ≡ false
   has : has_glyph context g.glyph_id ≡ true
 
-stays : (context : Context) (g : hb_glyph_info_t) (mark has : Bool) → is_mark_glyph g ≡ mark → has_glyph context g.glyph_id ≡ has → (not mark && has) ≡ true → Stays context g
+stays : (context : Context) (g : hb_glyph_info_t) (mark has : Bool) → is_mark_glyph g ≡ mark
+    → has_glyph context g.glyph_id ≡ has → (not mark && has) ≡ true → Stays context g
 stays context g false true x y e = record { no_mark = x; has = y }
 stays context g false false x y e = absurd (false≢true e)
 stays context g true has x y e = absurd (false≢true e)
 
-all_stay : (context : Context) (gs : List hb_glyph_info_t) → list_all (stays_alone context) gs ≡ true → AllByRecursion (Stays context) gs
+all_stay : (context : Context) (gs : List hb_glyph_info_t) → list_all (stays_alone context) gs ≡ true
+    → AllByRecursion (Stays context) gs
 all_stay context [] e = tt
 all_stay context (g ∷ gs) e =
     let parts = and_parts (stays_alone context g) (list_all (stays_alone context) gs) e in
     (stays context g (is_mark_glyph g) (has_glyph context g.glyph_id) refl refl parts.0, all_stay context gs parts.1)
 
-no_mark_at : (context : Context) (gs : List hb_glyph_info_t) (k : ℕ) → AllByRecursion (Stays context) gs → is_mark_glyph (get_or gs k default_glyph) ≡ false
+no_mark_at : (context : Context) (gs : List hb_glyph_info_t) (k : ℕ) → AllByRecursion (Stays context) gs
+    → is_mark_glyph (get_or gs k default_glyph) ≡ false
 no_mark_at context [] k all = refl
 no_mark_at context (g ∷ gs) zero all = all.0.no_mark
 no_mark_at context (g ∷ gs) (suc k) all = no_mark_at context gs k all.1
 
 -- ---- the first round
 
-each_alone : (context : Context) (gs : List hb_glyph_info_t) → AllByRecursion (Stays context) gs → mark_clusters gs ≡ map (λ g. g ∷ []) gs
+each_alone : (context : Context) (gs : List hb_glyph_info_t) → AllByRecursion (Stays context) gs
+    → mark_clusters gs ≡ map (λ g. g ∷ []) gs
 each_alone context [] all = refl
 each_alone context (g ∷ []) all = refl
 each_alone context (g ∷ (h ∷ gs)) all =
@@ -52,14 +56,16 @@ each_alone context (g ∷ (h ∷ gs)) all =
     ap (with_first is_mark_glyph g) (each_alone context (h ∷ gs) all.1)
     ∙ ap (λ b. cond b ((g ∷ h ∷ []) ∷ rest) ((g ∷ []) ∷ (h ∷ []) ∷ rest)) all.1.0.no_mark
 
-whichever : {X Y : Type 0} (f : X → Y) (o : Option X) (a b : Y) → is_some o ≡ true → option_map_or f o a ≡ option_map_or f o b
+whichever : {X Y : Type 0} (f : X → Y) (o : Option X) (a b : Y) → is_some o ≡ true
+    → option_map_or f o a ≡ option_map_or f o b
 whichever f None a b e = absurd (false≢true e)
 whichever f (Some x) a b e = refl
 
 abbrev by_way : Context → hb_glyph_info_t → Way → List hb_glyph_info_t
 by_way context g way = flat_map (becomes context way) (g ∷ [])
 
-one_becomes : (context : Context) (g : hb_glyph_info_t) → is_short_alone context.mode ≡ true → Stays context g → cluster_becomes context (g ∷ []) ≡ with_number context g ∷ []
+one_becomes : (context : Context) (g : hb_glyph_info_t) → is_short_alone context.mode ≡ true → Stays context g
+    → cluster_becomes context (g ∷ []) ≡ with_number context g ∷ []
 one_becomes context g short s =
     let c = g.glyph_id in
     let f = λ (glyph : GlyphId). let r : hb_glyph_info_t = record g { var = glyph.0 } in r in
@@ -67,68 +73,92 @@ one_becomes context g short s =
     ∙ ap (λ b. written_as context g (cond b [] (apart_in context true 8 c)) ++ []) s.has
     ∙ ap (λ (h : hb_glyph_info_t). h ∷ []) (whichever f (context.nominal c) (without_glyph context g) g s.has)
 
-all_become : (context : Context) (gs : List hb_glyph_info_t) → is_short_alone context.mode ≡ true → AllByRecursion (Stays context) gs → flat_map (cluster_becomes context) (map (λ g. g ∷ []) gs) ≡ map (with_number context) gs
+all_become : (context : Context) (gs : List hb_glyph_info_t) → is_short_alone context.mode ≡ true
+    → AllByRecursion (Stays context) gs → flat_map (cluster_becomes context) (map (λ g. g ∷ []) gs)
+    ≡ map (with_number context) gs
 all_become context [] short all = refl
 all_become context (g ∷ gs) short all =
     ap (λ xs. xs ++ flat_map (cluster_becomes context) (map (λ g. g ∷ []) gs)) (one_becomes context g short all.0)
     ∙ ap (λ xs. with_number context g ∷ xs) (all_become context gs short all.1)
 
-none_joined : (context : Context) (level : BufferClusterLevel) (gs : List hb_glyph_info_t) (i : ℕ) → AllByRecursion (Stays context) gs → variant_joined context level gs i ≡ gs
+none_joined : (context : Context) (level : BufferClusterLevel) (gs : List hb_glyph_info_t) (i : ℕ)
+    → AllByRecursion (Stays context) gs → variant_joined context level gs i ≡ gs
 none_joined context level gs i all =
     let s = get_or gs (i + 1) default_glyph in
-    ap (λ b. cond (b && is_selector_glyph s && not (is_selector_behind gs i) && is_some (context.variant (get_or gs i default_glyph).glyph_id s.glyph_id)) (stay_together level i (i + 2) gs) gs) (no_mark_at context gs (i + 1) all)
+    ap (λ b. cond (b && is_selector_glyph s && not (is_selector_behind gs i)
+    && is_some (context.variant (get_or gs i default_glyph).glyph_id s.glyph_id)) (stay_together level i (i + 2) gs)
+    gs) (no_mark_at context gs (i + 1) all)
 
-nothing_joined : (context : Context) (level : BufferClusterLevel) (gs : List hb_glyph_info_t) (places : List ℕ) → AllByRecursion (Stays context) gs → fold (λ gs i. variant_joined context level gs i) gs places ≡ gs
+nothing_joined : (context : Context) (level : BufferClusterLevel) (gs : List hb_glyph_info_t) (places : List ℕ)
+    → AllByRecursion (Stays context) gs → fold (λ gs i. variant_joined context level gs i) gs places ≡ gs
 nothing_joined context level gs [] all = refl
-nothing_joined context level gs (i ∷ places) all = ap (λ xs. fold (λ gs i. variant_joined context level gs i) xs places) (none_joined context level gs i all) ∙ nothing_joined context level gs places all
+nothing_joined context level gs (i ∷ places) all =
+    ap (λ xs. fold (λ gs i. variant_joined context level gs i) xs places) (none_joined context level gs i all)
+    ∙ nothing_joined context level gs places all
 
-first_by : (context : Context) (level : BufferClusterLevel) (gs : List hb_glyph_info_t) → is_short_alone context.mode ≡ true → AllByRecursion (Stays context) gs → first_round context level gs ≡ map (with_number context) gs
+first_by : (context : Context) (level : BufferClusterLevel) (gs : List hb_glyph_info_t) → is_short_alone context.mode
+    ≡ true → AllByRecursion (Stays context) gs → first_round context level gs ≡ map (with_number context) gs
 first_by context level gs short all =
     ap (text_decomposed context) (nothing_joined context level gs (range_with_len 0 (length gs - 1)) all)
     ∙ ap (flat_map (cluster_becomes context)) (each_alone context gs all)
     ∙ all_become context gs short all
 
 -- the first round, as the code writes it
-pub whole_round : (context : Context) (level : BufferClusterLevel) (gs : List hb_glyph_info_t) → is_whole context gs ≡ true → map (with_number context) gs ≡ first_round context level gs
+pub whole_round : (context : Context) (level : BufferClusterLevel) (gs : List hb_glyph_info_t)
+    → is_whole context gs ≡ true → map (with_number context) gs ≡ first_round context level gs
 whole_round context level gs whole =
     let parts = and_parts (is_short_alone context.mode) (list_all (stays_alone context) gs) whole in
     sym (first_by context level gs parts.0 (all_stay context gs parts.1))
 
-pub whole_length : (context : Context) (level : BufferClusterLevel) (gs : List hb_glyph_info_t) → is_whole context gs ≡ true → length (first_round context level gs) ≡ length gs
+pub whole_length : (context : Context) (level : BufferClusterLevel) (gs : List hb_glyph_info_t)
+    → is_whole context gs ≡ true → length (first_round context level gs) ≡ length gs
 whole_length context level gs whole =
     let parts = and_parts (is_short_alone context.mode) (list_all (stays_alone context) gs) whole in
     ap length (first_by context level gs parts.0 (all_stay context gs parts.1)) ∙ length-map gs (with_number context)
 
 -- ---- the later rounds
 
-seen_through : (context : Context) (g : hb_glyph_info_t) (o : Option GlyphId) (Same : hb_glyph_info_t → Type 0) → ((n : ℕ) → Same (record g { var = n })) → Same g → Same (option_map_or (λ (glyph : GlyphId). let r : hb_glyph_info_t = record g { var = glyph.0 } in r) o g)
+seen_through : (context : Context) (g : hb_glyph_info_t) (o : Option GlyphId) (Same : hb_glyph_info_t → Type 0)
+    → ((n : ℕ) → Same (record g { var = n })) → Same g
+    → Same (option_map_or (λ (glyph : GlyphId). let r : hb_glyph_info_t = record g { var = glyph.0 } in r) o g)
 seen_through context g None Same some none = none
 seen_through context g (Some glyph) Same some none = some glyph.0
 
 numbered_stays : (context : Context) (g : hb_glyph_info_t) → Stays context g → Stays context (with_number context g)
-numbered_stays context g s = seen_through context g (context.nominal g.glyph_id) (Stays context) (λ n. record { no_mark = s.no_mark; has = s.has }) s
+numbered_stays context g s =
+    seen_through context g (context.nominal g.glyph_id) (Stays context)
+    (λ n. record { no_mark = s.no_mark; has = s.has }) s
 
-all_numbered : (context : Context) (gs : List hb_glyph_info_t) → AllByRecursion (Stays context) gs → AllByRecursion (Stays context) (map (with_number context) gs)
+all_numbered : (context : Context) (gs : List hb_glyph_info_t) → AllByRecursion (Stays context) gs
+    → AllByRecursion (Stays context) (map (with_number context) gs)
 all_numbered context [] all = tt
 all_numbered context (g ∷ gs) all = (numbered_stays context g all.0, all_numbered context gs all.1)
 
 abbrev Empty : ℕ × ℕ → Type 0
 Empty run = run.0 ≡ run.1
 
-runs_empty : (context : Context) (i : ℕ) (gs : List hb_glyph_info_t) → AllByRecursion (Stays context) gs → AllByRecursion Empty (mark_runs i i (classes gs))
+runs_empty : (context : Context) (i : ℕ) (gs : List hb_glyph_info_t) → AllByRecursion (Stays context) gs
+    → AllByRecursion Empty (mark_runs i i (classes gs))
 runs_empty context i [] all = (refl, tt)
 runs_empty context i (g ∷ gs) all =
     let letter : class_of g ≡ 0 = ap (λ b. cond b g.modified_combining_class 0) all.0.no_mark in
-    subst (λ c. AllByRecursion Empty (cond (eqb c 0) ((i, i) ∷ mark_runs (i + 1) (i + 1) (classes gs)) (mark_runs i (i + 1) (classes gs)))) (sym letter) (refl, runs_empty context (i + 1) gs all.1)
+    subst (λ c. AllByRecursion Empty
+    (cond (eqb c 0) ((i, i) ∷ mark_runs (i + 1) (i + 1) (classes gs)) (mark_runs i (i + 1) (classes gs))))
+    (sym letter) (refl, runs_empty context (i + 1) gs all.1)
 
-empty_stays : (context : Context) (level : BufferClusterLevel) (gs : List hb_glyph_info_t) (run : ℕ × ℕ) → Empty run → run_ordered context level run gs ≡ gs
+empty_stays : (context : Context) (level : BufferClusterLevel) (gs : List hb_glyph_info_t) (run : ℕ × ℕ) → Empty run
+    → run_ordered context level run gs ≡ gs
 empty_stays context level gs run same =
     let none : nat_lt run.0 run.1 ≡ false = grind (arith, nat_tests) in
-    ap (λ b. cond (b && nat_le (run.1 - run.0) 32) (context.reordered level run.0 run.1 (run_sorted level run.0 run.1 gs)) gs) none
+    ap (λ b. cond (b && nat_le (run.1 - run.0) 32)
+    (context.reordered level run.0 run.1 (run_sorted level run.0 run.1 gs)) gs) none
 
-all_empty : (context : Context) (level : BufferClusterLevel) (gs : List hb_glyph_info_t) (runs : List (ℕ × ℕ)) → AllByRecursion Empty runs → fold (λ gs run. run_ordered context level run gs) gs runs ≡ gs
+all_empty : (context : Context) (level : BufferClusterLevel) (gs : List hb_glyph_info_t) (runs : List (ℕ × ℕ))
+    → AllByRecursion Empty runs → fold (λ gs run. run_ordered context level run gs) gs runs ≡ gs
 all_empty context level gs [] all = refl
-all_empty context level gs (run ∷ runs) all = ap (λ xs. fold (λ gs run. run_ordered context level run gs) xs runs) (empty_stays context level gs run all.0) ∙ all_empty context level gs runs all.1
+all_empty context level gs (run ∷ runs) all =
+    ap (λ xs. fold (λ gs run. run_ordered context level run gs) xs runs) (empty_stays context level gs run all.0)
+    ∙ all_empty context level gs runs all.1
 
 abbrev NoJoiner : hb_glyph_info_t → Type 0
 NoJoiner g = eqb g.glyph_id 0x034F ≡ false
@@ -137,32 +167,43 @@ none_shown : (before : ℕ) (gs : List hb_glyph_info_t) → AllByRecursion NoJoi
 none_shown before [] all = refl
 none_shown before (g ∷ []) all = refl
 none_shown before (g ∷ (h ∷ gs)) all =
-    ap (λ x. x ∷ shown_behind (class_of g) (h ∷ gs)) (not_joiner before (class_of h) g all.0) ∙ ap (λ xs. g ∷ xs) (none_shown (class_of g) (h ∷ gs) all.1)
+    ap (λ x. x ∷ shown_behind (class_of g) (h ∷ gs)) (not_joiner before (class_of h) g all.0)
+    ∙ ap (λ xs. g ∷ xs) (none_shown (class_of g) (h ∷ gs) all.1)
 
 no_joiner_shown : (gs : List hb_glyph_info_t) → AllByRecursion NoJoiner gs → joiners_shown gs ≡ gs
 no_joiner_shown [] all = refl
 no_joiner_shown (g ∷ gs) all = ap (λ xs. g ∷ xs) (none_shown (class_of g) gs all.1)
 
-no_joiners : (context : Context) (gs : List hb_glyph_info_t) → list_any (λ g. eqb g.glyph_id 0x034F) gs ≡ false → AllByRecursion NoJoiner (map (with_number context) gs)
+no_joiners : (context : Context) (gs : List hb_glyph_info_t) → list_any (λ g. eqb g.glyph_id 0x034F) gs ≡ false
+    → AllByRecursion NoJoiner (map (with_number context) gs)
 no_joiners context [] e = tt
 no_joiners context (g ∷ gs) e =
     let parts = or_parts (eqb g.glyph_id 0x034F) (list_any (λ g. eqb g.glyph_id 0x034F) gs) e in
     (seen_through context g (context.nominal g.glyph_id) NoJoiner (λ n. parts.0) parts.0, no_joiners context gs parts.1)
 
-nothing_taken : (context : Context) (level : BufferClusterLevel) (n : ℕ) (w : StarterWalk) → AllByRecursion (Stays context) w.glyphs → (walk_over context level n w).glyphs ≡ w.glyphs
+nothing_taken : (context : Context) (level : BufferClusterLevel) (n : ℕ) (w : StarterWalk)
+    → AllByRecursion (Stays context) w.glyphs → (walk_over context level n w).glyphs ≡ w.glyphs
 nothing_taken context level zero w all = refl
 nothing_taken context level (suc n) w all =
     let mark = get_or w.glyphs w.place default_glyph in
-    ap (λ b. (walk_over context level n (option_map_or (λ drawn. taken_in context level drawn w) (cond (b && is_free w) (if_drawn context (context.composed (get_or w.glyphs w.starter default_glyph).glyph_id mark.glyph_id)) None) (left_as_is w))).glyphs) (no_mark_at context w.glyphs w.place all)
+    ap (λ b. (walk_over context level n
+    (option_map_or (λ drawn. taken_in context level drawn w)
+    (cond (b && is_free w)
+    (if_drawn context (context.composed (get_or w.glyphs w.starter default_glyph).glyph_id mark.glyph_id)) None)
+    (left_as_is w))).glyphs) (no_mark_at context w.glyphs w.place all)
     ∙ nothing_taken context level n (left_as_is w) all
 
-nothing_composed : (context : Context) (level : BufferClusterLevel) (composing : Bool) (gs : List hb_glyph_info_t) → AllByRecursion (Stays context) gs → cond composing (recomposed context level gs) gs ≡ gs
-nothing_composed context level true gs all = nothing_taken context level (length gs - 1) (record { starter = 0; place = 1; glyphs = gs }) all
+nothing_composed : (context : Context) (level : BufferClusterLevel) (composing : Bool) (gs : List hb_glyph_info_t)
+    → AllByRecursion (Stays context) gs → cond composing (recomposed context level gs) gs ≡ gs
+nothing_composed context level true gs all =
+    nothing_taken context level (length gs - 1) (record { starter = 0; place = 1; glyphs = gs }) all
 nothing_composed context level false gs all = refl
 
-nothing_later : (context : Context) (level : BufferClusterLevel) (runs : Bool) (gs : List hb_glyph_info_t) → AllByRecursion (Stays context) gs → AllByRecursion NoJoiner gs → later_rounds context runs level gs ≡ gs
+nothing_later : (context : Context) (level : BufferClusterLevel) (runs : Bool) (gs : List hb_glyph_info_t)
+    → AllByRecursion (Stays context) gs → AllByRecursion NoJoiner gs → later_rounds context runs level gs ≡ gs
 nothing_later context level true gs all none =
-    let round = λ (xs : List hb_glyph_info_t). cond (composes context.mode) (recomposed context level (joiners_shown xs)) (joiners_shown xs) in
+    let round = λ (xs : List hb_glyph_info_t). cond (composes context.mode)
+    (recomposed context level (joiners_shown xs)) (joiners_shown xs) in
     ap round (all_empty context level gs (mark_runs 0 0 (classes gs)) (runs_empty context 0 gs all))
     ∙ ap (λ xs. cond (composes context.mode) (recomposed context level xs) xs) (no_joiner_shown gs none)
     ∙ nothing_composed context level (composes context.mode) gs all
@@ -173,4 +214,5 @@ whole_texts_stay context rounds level gs whole none =
     let parts = and_parts (is_short_alone context.mode) (list_all (stays_alone context) gs) whole in
     let all = all_stay context gs parts.1 in
     ap (later_rounds context (has_rounds rounds gs) level) (first_by context level gs parts.0 all)
-    ∙ nothing_later context level (has_rounds rounds gs) (map (with_number context) gs) (all_numbered context gs all) (no_joiners context gs none)
+    ∙ nothing_later context level (has_rounds rounds gs) (map (with_number context) gs) (all_numbered context gs all)
+    (no_joiners context gs none)

@@ -41,20 +41,43 @@ each-moved P gs p =
     let middle : Each P s.middle = each-take P (prefix_len (has_lower_class 230) third) third p3 in
     let above : Each P s.modifiers_above = each-take P (prefix_len (is_modifier_of 230) fourth) fourth p4 in
     let rest : Each P s.rest = each-drop P (prefix_len (is_modifier_of 230) fourth) fourth p4 in
-    each-append P (map (in_class CCC22) s.modifiers_below) (map (in_class CCC26) s.modifiers_above ++ (s.low ++ (s.middle ++ s.rest))) (each-classed P CCC22 s.modifiers_below below)
-    (each-append P (map (in_class CCC26) s.modifiers_above) (s.low ++ (s.middle ++ s.rest)) (each-classed P CCC26 s.modifiers_above above)
+    each-append P (map (in_class CCC22) s.modifiers_below) (map (in_class CCC26) s.modifiers_above
+    ++ (s.low ++ (s.middle ++ s.rest))) (each-classed P CCC22 s.modifiers_below below)
+    (each-append P (map (in_class CCC26) s.modifiers_above) (s.low ++ (s.middle ++ s.rest))
+    (each-classed P CCC26 s.modifiers_above above)
     (each-append P s.low (s.middle ++ s.rest) low (each-append P s.middle s.rest middle rest)))
 
-pub sum_joined : (s : Marks) → length (joined_parts s) ≡ length s.low + length s.modifiers_below + length s.middle + length s.modifiers_above + length s.rest
+pub sum_joined : (s : Marks) → length (joined_parts s) ≡ length s.low + length s.modifiers_below + length s.middle
+    + length s.modifiers_above + length s.rest
 sum_joined s =
-    omega (arith, length-append s.low (s.modifiers_below ++ (s.middle ++ (s.modifiers_above ++ s.rest))), length-append s.modifiers_below (s.middle ++ (s.modifiers_above ++ s.rest)), length-append s.middle (s.modifiers_above ++ s.rest), length-append s.modifiers_above s.rest)
+    omega (
+      arith,
+      length-append s.low (s.modifiers_below ++ (s.middle ++ (s.modifiers_above ++ s.rest))),
+      length-append
+          s.modifiers_below (s.middle ++ (s.modifiers_above ++ s.rest)),
+      length-append s.middle
+          (s.modifiers_above ++ s.rest),
+      length-append s.modifiers_above s.rest,
+    )
 
 length-moved : (gs : List hb_glyph_info_t) → length (moved gs) ≡ length gs
 length-moved gs =
     let s = split_marks gs in
     let below = map (in_class CCC22) s.modifiers_below in
     let above = map (in_class CCC26) s.modifiers_above in
-    omega (arith, length-append below (above ++ (s.low ++ (s.middle ++ s.rest))), length-append above (s.low ++ (s.middle ++ s.rest)), length-append s.low (s.middle ++ s.rest), length-append s.middle s.rest, length-map s.modifiers_below (in_class CCC22), length-map s.modifiers_above (in_class CCC26), sum_joined s, ap length (split-joined gs))
+    omega (
+      arith,
+      length-append below (above ++ (s.low ++ (s.middle ++ s.rest))),
+      length-append above
+          (s.low ++ (s.middle ++ s.rest)),
+      length-append s.low (s.middle ++ s.rest),
+      length-append s.middle s.rest,
+      length-map s.modifiers_below (in_class CCC22),
+      length-map s.modifiers_above (in_class CCC26),
+      sum_joined s,
+      ap
+          length (split-joined gs),
+    )
 
 -- what merges of these marks
 abbrev merged_of : List hb_glyph_info_t → List (ℕ × ℕ)
@@ -63,14 +86,20 @@ merged_of marks = (arabic_mark_step (split_marks marks)).merged_first
 merged_within : (marks : List hb_glyph_info_t) → EndWithin (length marks) (merged_of marks)
 merged_within marks =
     let s = split_marks marks in
-    let all : length s.low + length s.modifiers_below + length s.middle + length s.modifiers_above + length s.rest ≡ length marks = sym (sum_joined s) ∙ ap length (split-joined marks) in
-    subst (λ n. EndWithin n (merged_of marks)) all (moves-merged (length s.low) (length s.modifiers_below) (length s.middle) (length s.modifiers_above) (length s.rest)).fits.first_within
+    let all : length s.low + length s.modifiers_below + length s.middle + length s.modifiers_above + length s.rest
+    ≡ length marks = sym (sum_joined s) ∙ ap length (split-joined marks) in
+    subst (λ n. EndWithin n (merged_of marks)) all
+    (moves-merged (length s.low) (length s.modifiers_below) (length s.middle) (length s.modifiers_above)
+    (length s.rest)).fits.first_within
 
-merges_alone : (P : ℕ → Type 0) (level : BufferClusterLevel) (s m n : ℕ) (sts : List (ℕ × ℕ)) → s + m ≤ n → EndWithin m sts → Local n P (merge_all level (shifted s sts)) (λ k. merge_all level (shifted (k + s) sts))
+merges_alone : (P : ℕ → Type 0) (level : BufferClusterLevel) (s m n : ℕ) (sts : List (ℕ × ℕ)) → s + m ≤ n
+    → EndWithin m sts → Local n P (merge_all level (shifted s sts)) (λ k. merge_all level (shifted (k + s) sts))
 merges_alone P level s m n [] room all = local_nothing n P
 merges_alone P level s m n (st ∷ sts) room all =
-    local_then n P (merge level (s + st.0) (s + st.1)) (merge_all level (shifted s sts)) (λ k. merge level (k + s + st.0) (k + s + st.1)) (λ k. merge_all level (shifted (k + s) sts))
-    (local_as n P (merge level (s + st.0) (s + st.1)) (λ k. merge level (k + (s + st.0)) (k + (s + st.1))) (λ k. merge level (k + s + st.0) (k + s + st.1))
+    local_then n P (merge level (s + st.0) (s + st.1)) (merge_all level (shifted s sts))
+    (λ k. merge level (k + s + st.0) (k + s + st.1)) (λ k. merge_all level (shifted (k + s) sts))
+    (local_as n P (merge level (s + st.0) (s + st.1)) (λ k. merge level (k + (s + st.0)) (k + (s + st.1)))
+    (λ k. merge level (k + s + st.0) (k + s + st.1))
     (local_merge P level (s + st.0) (s + st.1) n (omega (arith, all.0)))
     (λ k gs.
     let start : k + s + st.0 ≡ k + (s + st.0) = omega arith in
@@ -78,38 +107,53 @@ merges_alone P level s m n (st ∷ sts) room all =
     ap (λ a. merge level a (k + s + st.1) gs) start ∙ ap (λ b. merge level (k + (s + st.0)) b gs) end))
     (merges_alone P level s m n sts room all.1)
 
-pub arabic_alone : (P : ℕ → Type 0) (level : BufferClusterLevel) (s e : ℕ) (before gs rest : List hb_glyph_info_t) → s < e → e ≤ length gs → Each P gs → Each (Not P) before → Each (Not P) rest →
-    marks_reordered (length before + s) (length before + e) (marks_merged level (length before + s) (length before + e) (before ++ (gs ++ rest))) ≡ before ++ (marks_reordered s e (marks_merged level s e gs) ++ rest)
+pub arabic_alone : (P : ℕ → Type 0) (level : BufferClusterLevel) (s e : ℕ) (before gs rest : List hb_glyph_info_t)
+    → s < e → e ≤ length gs → Each P gs → Each (Not P) before → Each (Not P) rest →
+    marks_reordered (length before + s) (length before + e)
+    (marks_merged level (length before + s) (length before + e) (before ++ (gs ++ rest)))
+    ≡ before ++ (marks_reordered s e (marks_merged level s e gs) ++ rest)
 arabic_alone P level s e before gs rest some within p x y =
     let k = length before in
     let n = length gs in
     let whole = before ++ (gs ++ rest) in
     let marks = stretch_of s e gs in
     let sts = merged_of marks in
-    let ends : EndWithin (e - s) sts = subst (λ m. EndWithin m sts) (length-stretch s e gs within) (merged_within marks) in
-    let both = local_then n P (merge_all level (shifted s sts)) (with_stretch s e moved) (λ k. merge_all level (shifted (k + s) sts)) (λ k. with_stretch (k + s) (k + e) moved)
-    (merges_alone P level s (e - s) n sts (omega arith) ends) (local_stretch P s e n moved (omega arith) within length-moved (each-moved P)) in
-    ap (λ ms. with_stretch (k + s) (k + e) moved (merge_all level (shifted (k + s) (merged_of ms)) whole)) (within_part s e before gs rest (omega arith) within)
+    let ends : EndWithin (e - s) sts =
+    subst (λ m. EndWithin m sts) (length-stretch s e gs within) (merged_within marks) in
+    let both = local_then n P (merge_all level (shifted s sts)) (with_stretch s e moved)
+    (λ k. merge_all level (shifted (k + s) sts)) (λ k. with_stretch (k + s) (k + e) moved)
+    (merges_alone P level s (e - s) n sts (omega arith) ends)
+    (local_stretch P s e n moved (omega arith) within length-moved (each-moved P)) in
+    ap (λ ms. with_stretch (k + s) (k + e) moved (merge_all level (shifted (k + s) (merged_of ms)) whole))
+    (within_part s e before gs rest (omega arith) within)
     ∙ both.alone before gs rest (omega arith) p x y
 
-pub arabic_in_front : (level : BufferClusterLevel) (s e : ℕ) (gs : List hb_glyph_info_t) → s < e → e ≤ length gs → take s (order_view (marks_reordered s e (marks_merged level s e gs))) ≡ take s (order_view gs)
+pub arabic_in_front : (level : BufferClusterLevel) (s e : ℕ) (gs : List hb_glyph_info_t) → s < e → e ≤ length gs
+    → take s (order_view (marks_reordered s e (marks_merged level s e gs))) ≡ take s (order_view gs)
 arabic_in_front level s e gs some within =
     let view = order_view gs in
     let long : length view ≡ length gs = length-map gs plain in
     ap (take s) (marks_view level s e gs)
-    ∙ take-append-le s (take s view) (moved (stretch_of s e view) ++ drop e view) (omega (arith, length-take-le s view (omega arith)))
+    ∙ take-append-le s (take s view) (moved (stretch_of s e view) ++ drop e view)
+    (omega (arith, length-take-le s view (omega arith)))
     ∙ take-take s s view (omega arith)
 
-pub arabic_same_length : (level : BufferClusterLevel) (s e : ℕ) (gs : List hb_glyph_info_t) → s < e → e ≤ length gs → length (marks_reordered s e (marks_merged level s e gs)) ≡ length gs
+pub arabic_same_length : (level : BufferClusterLevel) (s e : ℕ) (gs : List hb_glyph_info_t) → s < e → e ≤ length gs
+    → length (marks_reordered s e (marks_merged level s e gs)) ≡ length gs
 arabic_same_length level s e gs some within =
     let new = marks_reordered s e (marks_merged level s e gs) in
-    sym (length-map new (λ g. g.cluster)) ∙ (mark_laws level s e gs (omega arith) within).in_clusters.at_all_levels.same_length ∙ length-map gs (λ g. g.cluster)
+    sym (length-map new (λ g. g.cluster))
+    ∙ (mark_laws level s e gs (omega arith) within).in_clusters.at_all_levels.same_length
+    ∙ length-map gs (λ g. g.cluster)
 
-pub arabic_old_clusters : (level : BufferClusterLevel) (s e : ℕ) (gs : List hb_glyph_info_t) → s < e → e ≤ length gs → All (Contains (clusters gs)) (clusters (marks_reordered s e (marks_merged level s e gs)))
-arabic_old_clusters level s e gs some within = (mark_laws level s e gs (omega arith) within).in_clusters.at_all_levels.old_clusters
+pub arabic_old_clusters : (level : BufferClusterLevel) (s e : ℕ) (gs : List hb_glyph_info_t) → s < e → e ≤ length gs
+    → All (Contains (clusters gs)) (clusters (marks_reordered s e (marks_merged level s e gs)))
+arabic_old_clusters level s e gs some within =
+    (mark_laws level s e gs (omega arith) within).in_clusters.at_all_levels.old_clusters
 
 -- what stands behind the marks keeps its classes
-pub arabic_behind : (level : BufferClusterLevel) (s e : ℕ) (gs : List hb_glyph_info_t) → s < e → e ≤ length gs → drop e (classes (marks_reordered s e (marks_merged level s e gs))) ≡ drop e (classes gs)
+pub arabic_behind : (level : BufferClusterLevel) (s e : ℕ) (gs : List hb_glyph_info_t) → s < e → e ≤ length gs
+    → drop e (classes (marks_reordered s e (marks_merged level s e gs))) ≡ drop e (classes gs)
 arabic_behind level s e gs some within =
     let sts = (text_step s e gs).merged_first in
     let ms = merge_all level sts gs in
@@ -117,6 +161,8 @@ arabic_behind level s e gs some within =
     let seen : classes ms ≡ classes gs = map-merge_all class_of (λ g. refl) level sts gs in
     let long : length ms ≡ length gs = sym (length-map ms class_of) ∙ ap length seen ∙ length-map gs class_of in
     drop-map class_of e new
-    ∙ ap (map class_of) (drop-changed s e e moved ms (omega arith) (omega arith) (omega arith) (length-moved (stretch_of s e ms) ∙ length-stretch s e ms (omega arith)))
+    ∙ ap (map class_of)
+    (drop-changed s e e moved ms (omega arith) (omega arith) (omega arith) (length-moved (stretch_of s e ms)
+    ∙ length-stretch s e ms (omega arith)))
     ∙ sym (drop-map class_of e ms)
     ∙ ap (drop e) seen

@@ -26,7 +26,8 @@ order_alone (Some Arabic) plan font variants tables texts invisible draws = reco
   same_length = arabic_same_length;
   old_clusters = arabic_old_clusters;
   in_front = arabic_in_front;
-  alone = λ level s e before gs behind some within x y. arabic_alone (Contains (clusters gs)) level s e before gs behind some within (own gs) (apart gs before x) (apart gs behind y);
+  alone = λ level s e before gs behind some within x y. arabic_alone (Contains (clusters gs)) level s e before gs behind
+      some within (own gs) (apart gs before x) (apart gs behind y);
 }
 order_alone (Some Hangul) plan font variants tables texts invisible draws = record {
   same_length = λ level s e gs some within. refl;
@@ -38,7 +39,8 @@ order_alone (Some Hebrew) plan font variants tables texts invisible draws = reco
   same_length = hebrew_same_length;
   old_clusters = hebrew_old_clusters;
   in_front = hebrew_in_front;
-  alone = λ level s e before gs behind some within x y. hebrew_alone (Contains (clusters gs)) level s e before gs behind some within (own gs) (apart gs before x) (apart gs behind y);
+  alone = λ level s e before gs behind some within x y. hebrew_alone (Contains (clusters gs)) level s e before gs behind
+      some within (own gs) (apart gs before x) (apart gs behind y);
 }
 order_alone (Some Indic) plan font variants tables texts invisible draws = record {
   same_length = λ level s e gs some within. refl;

@@ -24,26 +24,39 @@ use Rattle.shapers_normalize.proofs.ArabicAlone.{sum_joined}
 use Rattle.shapers_normalize.proofs.HebrewAlone.{within}
 
 -- a step that moves inside what it merges
-by_step : (level : BufferClusterLevel) (view : hb_glyph_info_t → hb_glyph_info_t) (step : Step) (gs new : List hb_glyph_info_t) → merges level ≡ true → MovesMerged (length gs) step → ReorderedHold view level (step ∷ []) gs new → IsMonotone (clusters gs) → IsMonotone (clusters new)
+by_step : (level : BufferClusterLevel) (view : hb_glyph_info_t → hb_glyph_info_t) (step : Step)
+    (gs new : List hb_glyph_info_t) → merges level ≡ true → MovesMerged (length gs) step
+    → ReorderedHold view level (step ∷ []) gs new → IsMonotone (clusters gs) → IsMonotone (clusters new)
 by_step level view step gs new m moves held rises =
     let sts = all_first (step ∷ []) in
-    let merged : IsMonotone (clusters (merge_all level sts gs)) = (exact_cuts_hold level sts gs m (end_within-all_first (length gs) (step ∷ []) (moves, tt)) rises).1 in
+    let merged : IsMonotone (clusters (merge_all level sts gs)) =
+    (exact_cuts_hold level sts gs m (end_within-all_first (length gs) (step ∷ []) (moves, tt)) rises).1 in
     subst IsMonotone (clusters-merge_all level sts gs ∙ sym (held.in_clusters.where_merging m).only_merged) merged
 
 arabic_moves : (marks : List hb_glyph_info_t) → MovesMerged (length marks) (arabic_mark_step (split_marks marks))
 arabic_moves marks =
     let s = split_marks marks in
-    subst (λ n. MovesMerged n (arabic_mark_step s)) (sym (sum_joined s) ∙ ap length (split-joined marks)) (moves-merged (length s.low) (length s.modifiers_below) (length s.middle) (length s.modifiers_above) (length s.rest))
+    subst (λ n. MovesMerged n (arabic_mark_step s)) (sym (sum_joined s) ∙ ap length (split-joined marks))
+    (moves-merged (length s.low) (length s.modifiers_below) (length s.middle) (length s.modifiers_above)
+    (length s.rest))
 
-arabic_mono : (level : BufferClusterLevel) (s e : ℕ) (gs : List hb_glyph_info_t) → merges level ≡ true → s < e → e ≤ length gs → IsMonotone (clusters gs) → IsMonotone (clusters (marks_reordered s e (marks_merged level s e gs)))
+arabic_mono : (level : BufferClusterLevel) (s e : ℕ) (gs : List hb_glyph_info_t) → merges level ≡ true → s < e
+    → e ≤ length gs → IsMonotone (clusters gs) → IsMonotone (clusters (marks_reordered s e (marks_merged level s e gs)))
 arabic_mono level s e gs m some long rises =
     let marks = stretch_of s e gs in
-    let moves : MovesMerged (e - s) (arabic_mark_step (split_marks marks)) = subst (λ n. MovesMerged n (arabic_mark_step (split_marks marks))) (length-stretch s e gs long) (arabic_moves marks) in
-    by_step level without_class (text_step s e gs) gs (marks_reordered s e (marks_merged level s e gs)) m (moves-widened s e (length gs) (arabic_mark_step (split_marks marks)) (omega arith) long moves) (arabic.mark_laws level s e gs (omega arith) long) rises
+    let moves : MovesMerged (e - s) (arabic_mark_step (split_marks marks)) =
+    subst (λ n. MovesMerged n (arabic_mark_step (split_marks marks))) (length-stretch s e gs long)
+    (arabic_moves marks) in
+    by_step level without_class (text_step s e gs) gs (marks_reordered s e (marks_merged level s e gs)) m
+    (moves-widened s e (length gs) (arabic_mark_step (split_marks marks)) (omega arith) long moves)
+    (arabic.mark_laws level s e gs (omega arith) long) rises
 
-hebrew_mono : (level : BufferClusterLevel) (s e : ℕ) (gs : List hb_glyph_info_t) → merges level ≡ true → s < e → e ≤ length gs → IsMonotone (clusters gs) → IsMonotone (clusters (run_step level (hebrew_mark_step s e gs) gs))
+hebrew_mono : (level : BufferClusterLevel) (s e : ℕ) (gs : List hb_glyph_info_t) → merges level ≡ true → s < e
+    → e ≤ length gs → IsMonotone (clusters gs) → IsMonotone (clusters (run_step level (hebrew_mark_step s e gs) gs))
 hebrew_mono level s e gs m some long rises =
-    by_step level whole (hebrew_mark_step s e gs) gs (run_step level (hebrew_mark_step s e gs) gs) m (hebrew.mark_moves_merged s e gs (within s e gs some long)) (hebrew.mark_laws level s e gs (within s e gs some long)) rises
+    by_step level whole (hebrew_mark_step s e gs) gs (run_step level (hebrew_mark_step s e gs) gs) m
+    (hebrew.mark_moves_merged s e gs (within s e gs some long))
+    (hebrew.mark_laws level s e gs (within s e gs some long)) rises
 
 pub order_monotone : ShapersOrderMonotone
 order_monotone None plan font variants tables texts invisible draws = λ level s e gs m some long rises. rises
@@ -53,6 +66,8 @@ order_monotone (Some Hebrew) plan font variants tables texts invisible draws = h
 order_monotone (Some Indic) plan font variants tables texts invisible draws = λ level s e gs m some long rises. rises
 order_monotone (Some Khmer) plan font variants tables texts invisible draws = λ level s e gs m some long rises. rises
 order_monotone (Some Myanmar) plan font variants tables texts invisible draws = λ level s e gs m some long rises. rises
-order_monotone (Some MyanmarZawgyi) plan font variants tables texts invisible draws = λ level s e gs m some long rises. rises
+order_monotone (Some MyanmarZawgyi) plan font variants tables texts invisible draws =
+    λ level s e gs m some long rises. rises
 order_monotone (Some Thai) plan font variants tables texts invisible draws = λ level s e gs m some long rises. rises
-order_monotone (Some Universal) plan font variants tables texts invisible draws = λ level s e gs m some long rises. rises
+order_monotone (Some Universal) plan font variants tables texts invisible draws =
+    λ level s e gs m some long rises. rises

@@ -47,32 +47,43 @@ numbers : map are_numbers_or_flags (
     ≡ true ∷ true ∷ true ∷ true ∷ false ∷ false ∷ false ∷ false ∷ []
 numbers = refl
 
-beside_letters : map (λ c. are_numbers_or_flags (of_category Nd ∷ of_category c ∷ [])) (Ll ∷ Lm ∷ Lo ∷ Lt ∷ Lu ∷ Mn ∷ So ∷ []) ≡ false ∷ false ∷ false ∷ false ∷ false ∷ true ∷ true ∷ []
+beside_letters : map (λ c. are_numbers_or_flags (of_category Nd ∷ of_category c ∷ [])) (Ll ∷ Lm ∷ Lo ∷ Lt ∷ Lu ∷ Mn ∷ So
+    ∷ []) ≡ false ∷ false ∷ false ∷ false ∷ false ∷ true ∷ true ∷ []
 beside_letters = refl
 
 letters_first : are_numbers_or_flags (of_category Lo ∷ of_category Nd ∷ []) ≡ false
 letters_first = refl
 
 -- only a text from left to right whose script runs the other way keeps its direction by its numbers
-own : map (λ d. text_direction d RightToLeft (of_category Nd ∷ [])) (Invalid ∷ LeftToRight ∷ RightToLeft ∷ TopToBottom ∷ BottomToTop ∷ []) ≡ RightToLeft ∷ LeftToRight ∷ RightToLeft ∷ RightToLeft ∷ RightToLeft ∷ []
+own : map (λ d. text_direction d RightToLeft (of_category Nd ∷ [])) (Invalid ∷ LeftToRight ∷ RightToLeft ∷ TopToBottom
+    ∷ BottomToTop ∷ []) ≡ RightToLeft ∷ LeftToRight ∷ RightToLeft ∷ RightToLeft ∷ RightToLeft ∷ []
 own = refl
 
-own_letters : map (λ d. text_direction LeftToRight d (of_category Lo ∷ [])) (Invalid ∷ LeftToRight ∷ RightToLeft ∷ []) ≡ Invalid ∷ LeftToRight ∷ RightToLeft ∷ []
+own_letters : map (λ d. text_direction LeftToRight d (of_category Lo ∷ [])) (Invalid ∷ LeftToRight ∷ RightToLeft ∷ [])
+    ≡ Invalid ∷ LeftToRight ∷ RightToLeft ∷ []
 own_letters = refl
 
 -- the other direction, for each direction of a text and of its script
 abbrev turned_for : Direction → List Bool
 turned_for native = map (λ d. is_turned d native) (Invalid ∷ LeftToRight ∷ RightToLeft ∷ TopToBottom ∷ BottomToTop ∷ [])
 
-turned_by : map turned_for (Invalid ∷ LeftToRight ∷ RightToLeft ∷ []) ≡ (false ∷ false ∷ false ∷ false ∷ true ∷ []) ∷ (false ∷ false ∷ true ∷ false ∷ true ∷ []) ∷ (false ∷ true ∷ false ∷ false ∷ true ∷ []) ∷ []
+turned_by : map turned_for (Invalid ∷ LeftToRight ∷ RightToLeft ∷ []) ≡ (false ∷ false ∷ false ∷ false ∷ true ∷ [])
+    ∷ (false ∷ false ∷ true ∷ false ∷ true ∷ []) ∷ (false ∷ true ∷ false ∷ false ∷ true ∷ []) ∷ []
 turned_by = refl
 
-opposites : map opposite_direction (Invalid ∷ LeftToRight ∷ RightToLeft ∷ TopToBottom ∷ BottomToTop ∷ []) ≡ Invalid ∷ RightToLeft ∷ LeftToRight ∷ BottomToTop ∷ TopToBottom ∷ []
+opposites : map opposite_direction (Invalid ∷ LeftToRight ∷ RightToLeft ∷ TopToBottom ∷ BottomToTop ∷ [])
+    ≡ Invalid ∷ RightToLeft ∷ LeftToRight ∷ BottomToTop ∷ TopToBottom ∷ []
 opposites = refl
 
 -- a text: of each glyph its number and cluster, and whether it goes on
 abbrev text : List (ℕ × Bool) → List hb_glyph_info_t
-text ps = map (λ p. let g : hb_glyph_info_t = record default_glyph { glyph_id = p.0; cluster = p.0; general_category = Lo; marks = set_mark CONTINUATION p.1 default_glyph.marks } in g) ps
+text ps = map
+    (λ p. let g : hb_glyph_info_t = record default_glyph {
+      glyph_id = p.0;
+      cluster = p.0;
+      general_category = Lo;
+      marks = set_mark CONTINUATION p.1 default_glyph.marks;
+    } in g) ps
 
 abbrev six : List hb_glyph_info_t
 six = text ((0, false) ∷ (1, true) ∷ (2, true) ∷ (3, false) ∷ (4, false) ∷ (5, true) ∷ [])
@@ -93,20 +104,24 @@ nothing = refl
 abbrev prepared : BufferClusterLevel → Direction → List hb_glyph_info_t → Buffer
 prepared level direction gs =
     let hebrew : Script = record { 0 = codes "Hebr" } in
-    let b : Buffer = record (new_buffer 9) { glyphs = gs; direction = direction; level = level; script = Some hebrew } in
+    let b : Buffer =
+    record (new_buffer 9) { glyphs = gs; direction = direction; level = level; script = Some hebrew } in
     in_native_direction b
 
 -- at the level of graphemes their clusters are formed before
-at_graphemes : seen (prepared MonotoneGraphemes LeftToRight six).glyphs ≡ (4, 4) ∷ (5, 5) ∷ (3, 3) ∷ (0, 0) ∷ (1, 1) ∷ (2, 2) ∷ []
+at_graphemes : seen (prepared MonotoneGraphemes LeftToRight six).glyphs ≡ (4, 4) ∷ (5, 5) ∷ (3, 3) ∷ (0, 0) ∷ (1, 1)
+    ∷ (2, 2) ∷ []
 at_graphemes = refl
 
-at_characters : seen (prepared MonotoneCharacters LeftToRight six).glyphs ≡ (4, 4) ∷ (5, 4) ∷ (3, 3) ∷ (0, 0) ∷ (1, 0) ∷ (2, 0) ∷ []
+at_characters : seen (prepared MonotoneCharacters LeftToRight six).glyphs ≡ (4, 4) ∷ (5, 4) ∷ (3, 3) ∷ (0, 0) ∷ (1, 0)
+    ∷ (2, 0) ∷ []
 at_characters = refl
 
 apart : seen (prepared Characters LeftToRight six).glyphs ≡ (4, 4) ∷ (5, 5) ∷ (3, 3) ∷ (0, 0) ∷ (1, 1) ∷ (2, 2) ∷ []
 apart = refl
 
-directions : map (λ d. (prepared MonotoneCharacters d six).direction) (LeftToRight ∷ RightToLeft ∷ TopToBottom ∷ BottomToTop ∷ []) ≡ RightToLeft ∷ RightToLeft ∷ TopToBottom ∷ TopToBottom ∷ []
+directions : map (λ d. (prepared MonotoneCharacters d six).direction) (LeftToRight ∷ RightToLeft ∷ TopToBottom
+    ∷ BottomToTop ∷ []) ≡ RightToLeft ∷ RightToLeft ∷ TopToBottom ∷ TopToBottom ∷ []
 directions = refl
 
 -- a text in its own direction stays, and its clusters, and so do numbers

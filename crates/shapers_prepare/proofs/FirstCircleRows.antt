@@ -46,7 +46,8 @@ glyph general = record {
 }
 
 abbrev buffer : ℕ → List ℕ → List hb_glyph_info_t → Buffer
-buffer flags before gs = let b : Buffer = record (new_buffer 9) { glyphs = gs; flags = record { 0 = flags }; before = before } in b
+buffer flags before gs = let b : Buffer =
+    record (new_buffer 9) { glyphs = gs; flags = record { 0 = flags }; before = before } in b
 
 -- the circle has the mark's cluster and mask and nothing else of it
 circle_made : with_first_circle sample (font_with 0x25CC) (buffer 2 [] (glyph Mn ∷ glyph Lo ∷ [])) ≡ record {

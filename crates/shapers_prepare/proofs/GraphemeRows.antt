@@ -7,12 +7,16 @@ use Rattle.shapers_buffer.specs.Marks.{CONTINUATION, set_mark}
 use Rattle.shapers_prepare.specs.Graphemes.{clusters_formed, grapheme_stretches}
 
 -- the graphemes: two, one alone, one that begins with what goes on; none
-stretches : map grapheme_stretches ((false ∷ true ∷ true ∷ false ∷ []) ∷ (false ∷ []) ∷ (true ∷ true ∷ false ∷ false ∷ true ∷ []) ∷ [] ∷ []) ≡ ((0, 3) ∷ (3, 4) ∷ []) ∷ ((0, 1) ∷ []) ∷ ((0, 2) ∷ (2, 3) ∷ (3, 5) ∷ []) ∷ [] ∷ []
+stretches : map grapheme_stretches ((false ∷ true ∷ true ∷ false ∷ []) ∷ (false ∷ [])
+    ∷ (true ∷ true ∷ false ∷ false ∷ true ∷ []) ∷ [] ∷ []) ≡ ((0, 3) ∷ (3, 4) ∷ []) ∷ ((0, 1) ∷ [])
+    ∷ ((0, 2) ∷ (2, 3) ∷ (3, 5) ∷ []) ∷ [] ∷ []
 stretches = refl
 
 -- a text: of each glyph its cluster, and whether it goes on
 abbrev text : List (ℕ × Bool) → List hb_glyph_info_t
-text ps = map (λ p. let g : hb_glyph_info_t = record default_glyph { cluster = p.0; mask = 8; marks = set_mark CONTINUATION p.1 default_glyph.marks } in g) ps
+text ps = map
+    (λ p. let g : hb_glyph_info_t = record default_glyph
+    { cluster = p.0; mask = 8; marks = set_mark CONTINUATION p.1 default_glyph.marks } in g) ps
 
 abbrev seen : List hb_glyph_info_t → List (ℕ × ℕ)
 seen gs = map (λ g. (g.cluster, g.mask)) gs
@@ -21,18 +25,22 @@ abbrev three : List hb_glyph_info_t
 three = text ((0, false) ∷ (1, true) ∷ (2, true) ∷ (3, false) ∷ (4, false) ∷ (5, true) ∷ [])
 
 -- each grapheme in one cluster
-merged_graphemes : seen (clusters_formed MonotoneGraphemes three) ≡ (0, 8) ∷ (0, 8) ∷ (0, 8) ∷ (3, 8) ∷ (4, 8) ∷ (4, 8) ∷ []
+merged_graphemes : seen (clusters_formed MonotoneGraphemes three) ≡ (0, 8) ∷ (0, 8) ∷ (0, 8) ∷ (3, 8) ∷ (4, 8) ∷ (4, 8)
+    ∷ []
 merged_graphemes = refl
 
 -- at the other levels flagged inside, and at none of them merged
-flagged_characters : seen (clusters_formed MonotoneCharacters three) ≡ (0, 8) ∷ (1, 11) ∷ (2, 11) ∷ (3, 8) ∷ (4, 8) ∷ (5, 11) ∷ []
+flagged_characters : seen (clusters_formed MonotoneCharacters three) ≡ (0, 8) ∷ (1, 11) ∷ (2, 11) ∷ (3, 8) ∷ (4, 8)
+    ∷ (5, 11) ∷ []
 flagged_characters = refl
 
 flagged_apart : seen (clusters_formed Characters three) ≡ (0, 8) ∷ (1, 11) ∷ (2, 11) ∷ (3, 8) ∷ (4, 8) ∷ (5, 11) ∷ []
 flagged_apart = refl
 
 -- clusters that fall; a grapheme whose cluster reaches into the next takes that along
-falling : clusters (clusters_formed MonotoneGraphemes (text ((5, false) ∷ (4, true) ∷ (4, false) ∷ (3, true) ∷ (2, false) ∷ []))) ≡ 3 ∷ 3 ∷ 3 ∷ 3 ∷ 2 ∷ []
+falling : clusters
+    (clusters_formed MonotoneGraphemes (text ((5, false) ∷ (4, true) ∷ (4, false) ∷ (3, true) ∷ (2, false) ∷ [])))
+    ≡ 3 ∷ 3 ∷ 3 ∷ 3 ∷ 2 ∷ []
 falling = refl
 
 none : clusters_formed MonotoneGraphemes [] ≡ []

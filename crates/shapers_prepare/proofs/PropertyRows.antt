@@ -23,7 +23,8 @@ abbrev sample : CharacterProperties
 sample = record {
   general = category_of;
   class = λ c. if c == 0x301 then 230 else if c == 0x41 then 7 else 0;
-  ignorable = λ c. c == 0x34F || c == 0x200C || c == 0x200D || c == 0x180B || c == 0xAD || c == 0x41 || is_from_to 0xE0000 0xE0FFF c;
+  ignorable = λ c. c == 0x34F || c == 0x200C || c == 0x200D || c == 0x180B || c == 0xAD || c == 0x41
+      || is_from_to 0xE0000 0xE0FFF c;
   pictographic = λ c. c == 0xA9 || c == 0x1F1E5 || is_from_to 0x1F400 0x1F4FF c;
   mirroring = λ c. None;
   vertical = λ c. None;
@@ -65,7 +66,8 @@ as_mark = refl
 abbrev samples : List ℕ
 samples = 0x905 ∷ 0x301 ∷ 0xAD ∷ 0x200C ∷ 0x200D ∷ 0x34F ∷ 0x180B ∷ 0xE0020 ∷ 0xE001F ∷ 0x41 ∷ []
 
-marks_of : map (λ c. (kept_marks sample false c (record { 0 = 0 })).0) samples ≡ 0 ∷ 0 ∷ 8 ∷ 8 ∷ 8 ∷ 40 ∷ 40 ∷ 40 ∷ 8 ∷ 0 ∷ []
+marks_of : map (λ c. (kept_marks sample false c (record { 0 = 0 })).0) samples ≡ 0 ∷ 0 ∷ 8 ∷ 8 ∷ 8 ∷ 40 ∷ 40 ∷ 40 ∷ 8
+    ∷ 0 ∷ []
 marks_of = refl
 
 bytes_of : map (kept_class sample) samples ≡ 0 ∷ 230 ∷ 0 ∷ 2 ∷ 1 ∷ 0 ∷ 0 ∷ 0 ∷ 0 ∷ 0 ∷ []
@@ -73,14 +75,18 @@ bytes_of = refl
 
 -- which of these characters carry on a grapheme
 abbrev going_on : List ℕ → List Bool
-going_on cs = map (λ g. is_continuation g.marks) (properties_set sample (map (λ c. let g : hb_glyph_info_t = record default_glyph { glyph_id = c } in g) cs))
+going_on cs =
+    map (λ g. is_continuation g.marks)
+    (properties_set sample (map (λ c. let g : hb_glyph_info_t = record default_glyph { glyph_id = c } in g) cs))
 
 -- the three kinds of marks, also in front; none of ASCII's is
 marks_go_on : going_on (0x301 ∷ 0x905 ∷ 0x903 ∷ 0x20DD ∷ 0x41 ∷ []) ≡ true ∷ false ∷ true ∷ true ∷ false ∷ []
 marks_go_on = refl
 
 -- what always does, to both ends; tag space is the first tag, and the non-joiner doesn't
-others_go_on : going_on (0x1F3FA ∷ 0x1F3FB ∷ 0x1F3FF ∷ 0xFF9D ∷ 0xFF9E ∷ 0xFF9F ∷ 0xFFA0 ∷ 0xE001F ∷ 0xE0020 ∷ 0xE007F ∷ 0xE0080 ∷ 0x200C ∷ 0x200D ∷ []) ≡ false ∷ true ∷ true ∷ false ∷ true ∷ true ∷ false ∷ false ∷ true ∷ true ∷ false ∷ false ∷ true ∷ []
+others_go_on : going_on (0x1F3FA ∷ 0x1F3FB ∷ 0x1F3FF ∷ 0xFF9D ∷ 0xFF9E ∷ 0xFF9F ∷ 0xFFA0 ∷ 0xE001F ∷ 0xE0020 ∷ 0xE007F
+    ∷ 0xE0080 ∷ 0x200C ∷ 0x200D ∷ []) ≡ false ∷ true ∷ true ∷ false ∷ true ∷ true ∷ false ∷ false ∷ true ∷ true ∷ false
+    ∷ false ∷ true ∷ []
 others_go_on = refl
 
 -- regional indicators by pairs: five; two pairs apart; what stands right before the first indicator
@@ -88,14 +94,16 @@ others_go_on = refl
 flags_go_on : going_on (0x1F1E6 ∷ 0x1F1FF ∷ 0x1F1E9 ∷ 0x1F1EA ∷ 0x1F1EB ∷ []) ≡ false ∷ true ∷ false ∷ true ∷ false ∷ []
 flags_go_on = refl
 
-flags_apart : going_on (0x1F1E6 ∷ 0x905 ∷ 0x1F1E7 ∷ 0x1F1E8 ∷ 0x1F1E5 ∷ 0x1F200 ∷ []) ≡ false ∷ false ∷ false ∷ true ∷ false ∷ false ∷ []
+flags_apart : going_on (0x1F1E6 ∷ 0x905 ∷ 0x1F1E7 ∷ 0x1F1E8 ∷ 0x1F1E5 ∷ 0x1F200 ∷ []) ≡ false ∷ false ∷ false ∷ true
+    ∷ false ∷ false ∷ []
 flags_apart = refl
 
 flags_broken : going_on (0x1F1E6 ∷ 0x301 ∷ 0x1F1E7 ∷ 0x1F1E8 ∷ []) ≡ false ∷ true ∷ false ∷ true ∷ []
 flags_broken = refl
 
 -- a pictograph goes on right behind ZWJ alone, and a letter doesn't
-joined_go_on : going_on (0x1F468 ∷ 0x200D ∷ 0x1F469 ∷ 0x1F469 ∷ 0x200D ∷ 0x905 ∷ 0x200D ∷ 0x301 ∷ 0x1F469 ∷ 0x200D ∷ 0xA9 ∷ []) ≡ false ∷ true ∷ true ∷ false ∷ true ∷ false ∷ true ∷ true ∷ false ∷ true ∷ true ∷ []
+joined_go_on : going_on (0x1F468 ∷ 0x200D ∷ 0x1F469 ∷ 0x1F469 ∷ 0x200D ∷ 0x905 ∷ 0x200D ∷ 0x301 ∷ 0x1F469 ∷ 0x200D
+    ∷ 0xA9 ∷ []) ≡ false ∷ true ∷ true ∷ false ∷ true ∷ false ∷ true ∷ true ∷ false ∷ true ∷ true ∷ []
 joined_go_on = refl
 
 -- in front of a text, and an indicator behind ZWJ

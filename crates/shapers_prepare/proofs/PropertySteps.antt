@@ -27,8 +27,12 @@ joined_no_flag xs joined =
       | inr p ↦
           let is : (b : Bool) → is_zero_width_joiner p.last ≡ b → suffix_len is_regional_indicator xs ≡ 0 = λ b.
           elim b as (λ b. is_zero_width_joiner p.last ≡ b → suffix_len is_regional_indicator xs ≡ 0) [
-            | true ↦ λ e. ap (suffix_len is_regional_indicator) p.parts ∙ suffix_len_no is_regional_indicator p.front p.last (no_flag p.last e)
-            | false ↦ λ e. absurd (false≢true (sym (ap (λ n. not (n == 0)) (ap (suffix_len is_zero_width_joiner) p.parts ∙ suffix_len_no is_zero_width_joiner p.front p.last e)) ∙ joined))
+            | true ↦ λ e. ap (suffix_len is_regional_indicator) p.parts
+                ∙ suffix_len_no is_regional_indicator p.front p.last (no_flag p.last e)
+            | false ↦ λ e. absurd
+                (false≢true (sym
+                (ap (λ n. not (n == 0)) (ap (suffix_len is_zero_width_joiner) p.parts
+                ∙ suffix_len_no is_zero_width_joiner p.front p.last e)) ∙ joined))
           ] in
           is (is_zero_width_joiner p.last) refl
     ]
@@ -54,7 +58,8 @@ not_both : (xs : List ℕ) → ends_joined xs ≡ true → ends_in_half_flag xs 
 not_both xs joined half = false≢true (sym (ap (λ n. n % 2 == 1) (joined_no_flag xs joined)) ∙ half)
 
 -- half a flag behind one more character that is no joiner
-half_by : (flag joined half : Bool) → (joined ≡ true → half ≡ true → ⊥) → cond (flag && not half) HalfFlag Nothing ≡ cond flag (half_flag_behind (cond joined Joiner (cond half HalfFlag Nothing))) Nothing
+half_by : (flag joined half : Bool) → (joined ≡ true → half ≡ true → ⊥) → cond (flag && not half) HalfFlag Nothing
+    ≡ cond flag (half_flag_behind (cond joined Joiner (cond half HalfFlag Nothing))) Nothing
 half_by false joined half never = refl
 half_by true true true never = absurd (never refl refl)
 half_by true true false never = refl
@@ -68,33 +73,43 @@ open_next xs c =
     let half = ends_in_half_flag xs in
     let joiner : (b : Bool) → is_zero_width_joiner c ≡ b → ends_joined all ≡ b = λ b.
     elim b as (λ b. is_zero_width_joiner c ≡ b → ends_joined all ≡ b) [
-      | true ↦ λ e. ap (λ n. not (n == 0)) (suffix_len_yes is_zero_width_joiner xs c e) ∙ some_more (suffix_len is_zero_width_joiner xs)
+      | true ↦ λ e. ap (λ n. not (n == 0)) (suffix_len_yes is_zero_width_joiner xs c e)
+          ∙ some_more (suffix_len is_zero_width_joiner xs)
       | false ↦ λ e. ap (λ n. not (n == 0)) (suffix_len_no is_zero_width_joiner xs c e)
     ] in
     let flag : (b : Bool) → is_regional_indicator c ≡ b → ends_in_half_flag all ≡ (b && not half) = λ b.
     elim b as (λ b. is_regional_indicator c ≡ b → ends_in_half_flag all ≡ (b && not half)) [
-      | true ↦ λ e. ap (λ n. n % 2 == 1) (suffix_len_yes is_regional_indicator xs c e) ∙ odd_behind (suffix_len is_regional_indicator xs)
+      | true ↦ λ e. ap (λ n. n % 2 == 1) (suffix_len_yes is_regional_indicator xs c e)
+          ∙ odd_behind (suffix_len is_regional_indicator xs)
       | false ↦ λ e. ap (λ n. n % 2 == 1) (suffix_len_no is_regional_indicator xs c e)
     ] in
     ap (λ b. cond b Joiner (cond (ends_in_half_flag all) HalfFlag Nothing)) (joiner (is_zero_width_joiner c) refl)
     ∙ ap (λ b. cond (is_zero_width_joiner c) Joiner (cond b HalfFlag Nothing)) (flag (is_regional_indicator c) refl)
     ∙ ap (cond (is_zero_width_joiner c) Joiner) (half_by (is_regional_indicator c) (ends_joined xs) half (not_both xs))
 
-goes_by : (mark always pict flag joined half : Bool) → (joined ≡ true → half ≡ true → ⊥) → (mark || always || (joined && pict) || (half && flag)) ≡ (mark || cond joined (always || pict) (cond half (always || flag) always))
+goes_by : (mark always pict flag joined half : Bool) → (joined ≡ true → half ≡ true → ⊥)
+    → (mark || always || (joined && pict) || (half && flag))
+    ≡ (mark || cond joined (always || pict) (cond half (always || flag) always))
 goes_by mark always pict flag true true never = absurd (never refl refl)
 goes_by mark always pict flag true false never = or-false (mark || always || pict) ∙ or_assoc mark always pict
-goes_by mark always pict flag false true never = ap (λ b. b || flag) (or-false (mark || always)) ∙ or_assoc mark always flag
+goes_by mark always pict flag false true never = ap (λ b. b || flag) (or-false (mark || always))
+    ∙ or_assoc mark always flag
 goes_by mark always pict flag false false never = or-false (mark || always || false) ∙ or-false (mark || always)
 
-goes_on_by : (p : CharacterProperties) (c : ℕ) (joined half : Bool) → goes_on_behind p (cond joined Joiner (cond half HalfFlag Nothing)) c ≡ cond joined (always_continues c || p.pictographic c) (cond half (always_continues c || is_regional_indicator c) (always_continues c))
+goes_on_by : (p : CharacterProperties) (c : ℕ) (joined half : Bool)
+    → goes_on_behind p (cond joined Joiner (cond half HalfFlag Nothing)) c
+    ≡ cond joined (always_continues c || p.pictographic c)
+    (cond half (always_continues c || is_regional_indicator c) (always_continues c))
 goes_on_by p c true half = refl
 goes_on_by p c false true = refl
 goes_on_by p c false false = refl
 
 -- the rule by what is open
-pub continues_open : (p : CharacterProperties) (xs : List ℕ) (c : ℕ) → continues_grapheme p xs c ≡ (is_mark_character p c || goes_on_behind p (left_open xs) c)
+pub continues_open : (p : CharacterProperties) (xs : List ℕ) (c : ℕ)
+    → continues_grapheme p xs c ≡ (is_mark_character p c || goes_on_behind p (left_open xs) c)
 continues_open p xs c =
-    goes_by (is_mark_character p c) (always_continues c) (p.pictographic c) (is_regional_indicator c) (ends_joined xs) (ends_in_half_flag xs) (not_both xs)
+    goes_by (is_mark_character p c) (always_continues c) (p.pictographic c) (is_regional_indicator c) (ends_joined xs)
+    (ends_in_half_flag xs) (not_both xs)
     ∙ ap (λ b. is_mark_character p c || b) (sym (goes_on_by p c (ends_joined xs) (ends_in_half_flag xs)))
 
 -- the walk over the glyphs that are left
@@ -104,7 +119,9 @@ set_behind p o (g ∷ gs) =
     with_properties p (is_mark_character p g.glyph_id || goes_on_behind p o g.glyph_id) g
     ∷ set_behind p (then_open o g.glyph_id) gs
 
-set_from : (p : CharacterProperties) (before gs : List hb_glyph_info_t) → set_behind p (left_open (characters before)) gs ≡ map (λ x. with_properties_behind p x.0 x.1) (each_after before gs)
+set_from : (p : CharacterProperties) (before gs : List hb_glyph_info_t)
+    → set_behind p (left_open (characters before)) gs
+    ≡ map (λ x. with_properties_behind p x.0 x.1) (each_after before gs)
 set_from p before [] = refl
 set_from p before (g ∷ gs) =
     let c = g.glyph_id in

@@ -18,7 +18,8 @@ sample = record {
   ignorable = λ c. false;
   pictographic = λ c. false;
   mirroring = λ c. if c == 0x28 then Some 0x29 else if c == 0x300C then Some 0x300D else None;
-  vertical = λ c. if c == 0x300C then Some 0xFE41 else if c == 0x300D then Some 0xFE42 else if c == 0x2026 then Some 0xFE19 else None;
+  vertical = λ c. if c == 0x300C then Some 0xFE41 else if c == 0x300D then Some 0xFE42 else if c == 0x2026 then Some
+      0xFE19 else None;
 }
 
 -- a font with these two
@@ -56,14 +57,19 @@ abbrev seen : Font → CharRotation → ℕ → ℕ × ℕ
 seen font r c = let g = rotated_glyph sample font r (glyph c) in (g.glyph_id, g.mask)
 
 -- the font lacks the mirrored bracket; a letter without one
-lacking : map {B = ℕ × ℕ} (seen (font_with 0x28 0x30) (to RightToLeft false)) (0x28 ∷ 0x5D0 ∷ []) ≡ (0x28, 0x183) ∷ (0x5D0, 0x183) ∷ []
+lacking : map {B = ℕ × ℕ} (seen (font_with 0x28 0x30) (to RightToLeft false)) (0x28 ∷ 0x5D0 ∷ []) ≡ (0x28, 0x183)
+    ∷ (0x5D0, 0x183) ∷ []
 lacking = refl
 
 -- a bracket in each direction, and a form for vertical text with and without the font's feature
-by_direction : map {B = ℕ × ℕ} (λ d. seen (font_with 0x29 0x30) (to d false) 0x28) (Invalid ∷ LeftToRight ∷ RightToLeft ∷ TopToBottom ∷ BottomToTop ∷ []) ≡ (0x28, 0x103) ∷ (0x28, 0x103) ∷ (0x29, 0x103) ∷ (0x28, 0x103) ∷ (0x29, 0x103) ∷ []
+by_direction : map {B = ℕ × ℕ} (λ d. seen (font_with 0x29 0x30) (to d false) 0x28) (Invalid ∷ LeftToRight ∷ RightToLeft
+    ∷ TopToBottom ∷ BottomToTop ∷ []) ≡ (0x28, 0x103) ∷ (0x28, 0x103) ∷ (0x29, 0x103) ∷ (0x28, 0x103) ∷ (0x29, 0x103)
+    ∷ []
 by_direction = refl
 
-upright : map {B = ℕ × ℕ} (λ d. seen (font_with 0xFE19 0x30) (to d false) 0x2026) (Invalid ∷ LeftToRight ∷ RightToLeft ∷ TopToBottom ∷ BottomToTop ∷ []) ≡ (0x2026, 0x103) ∷ (0x2026, 0x103) ∷ (0x2026, 0x183) ∷ (0xFE19, 0x103) ∷ (0xFE19, 0x183) ∷ []
+upright : map {B = ℕ × ℕ} (λ d. seen (font_with 0xFE19 0x30) (to d false) 0x2026) (Invalid ∷ LeftToRight ∷ RightToLeft
+    ∷ TopToBottom ∷ BottomToTop ∷ []) ≡ (0x2026, 0x103) ∷ (0x2026, 0x103) ∷ (0x2026, 0x183) ∷ (0xFE19, 0x103)
+    ∷ (0xFE19, 0x183) ∷ []
 upright = refl
 
 by_feature : seen (font_with 0xFE19 0x30) (to TopToBottom true) 0x2026 ≡ (0x2026, 0x103)

@@ -20,20 +20,33 @@ pub record Turned (all now : List hb_glyph_info_t) (s : ℕ) (rest : List (ℕ �
 pub turned_start : (gs : List hb_glyph_info_t) → Turned gs gs 0 (graphemes gs)
 turned_start gs = record { whole = append-nil (graphemes_turned gs); behind = refl }
 
-pub turned_next : (all now new : List hb_glyph_info_t) (s i : ℕ) (rest : List (ℕ × ℕ)) → s ≤ i → i ≤ length now → Turned all now s ((s, i) ∷ rest) → new ≡ with_stretch s i reverse now → Turned all new i rest
+pub turned_next : (all now new : List hb_glyph_info_t) (s i : ℕ) (rest : List (ℕ × ℕ)) → s ≤ i → i ≤ length now
+    → Turned all now s ((s, i) ∷ rest) → new ≡ with_stretch s i reverse now → Turned all new i rest
 turned_next all now new s i rest order within t is =
     let front = take s now in
     let part = stretch_of s i now in
     let back = drop i now in
     let done = front ++ reverse part in
     let parts : new ≡ done ++ back = is ∙ sym (append_assoc front (reverse part) back) in
-    let end : length done ≡ i = omega (arith, length-append front (reverse part), length-reverse part, length-take (i - s) (drop s now), length-drop s now, length-take s now) in
+    let end : length done ≡ i =
+    omega (
+      arith,
+      length-append front (reverse part),
+      length-reverse part,
+      length-take (i - s) (drop s now),
+      length-drop s now,
+      length-take s now,
+    ) in
     let same : s + (i - s) ≡ i = omega arith in
-    let on : (xs : List hb_glyph_info_t) → drop (i - s) (drop s xs) ≡ drop i xs = λ xs. drop-drop (i - s) s xs ∙ ap (λ n. drop n xs) same in
-    let taken : take i new ≡ done = ap (take i) parts ∙ ap (λ n. take n (done ++ back)) (sym end) ∙ take-append_seam done back in
+    let on : (xs : List hb_glyph_info_t) → drop (i - s) (drop s xs) ≡ drop i xs = λ xs. drop-drop (i - s) s xs
+    ∙ ap (λ n. drop n xs) same in
+    let taken : take i new ≡ done = ap (take i) parts ∙ ap (λ n. take n (done ++ back)) (sym end)
+    ∙ take-append_seam done back in
     let turned : reverse done ≡ part_of all (s, i) ++ reverse front =
-    reverse-append front (reverse part) ∙ ap (λ xs. xs ++ reverse front) (reverse-reverse part ∙ ap (take (i - s)) t.behind) in
-    let last : flat_map (part_of all) (reverse ((s, i) ∷ rest)) ≡ flat_map (part_of all) (reverse rest) ++ part_of all (s, i) =
+    reverse-append front (reverse part)
+    ∙ ap (λ xs. xs ++ reverse front) (reverse-reverse part ∙ ap (take (i - s)) t.behind) in
+    let last : flat_map (part_of all) (reverse ((s, i) ∷ rest)) ≡ flat_map (part_of all) (reverse rest)
+    ++ part_of all (s, i) =
     ap (flat_map (part_of all)) (reverse-append ((s, i) ∷ []) rest)
     ∙ flat_map-append (part_of all) (reverse rest) ((s, i) ∷ [])
     ∙ ap (λ xs. flat_map (part_of all) (reverse rest) ++ xs) (append-nil (part_of all (s, i))) in
@@ -53,12 +66,15 @@ turned_next all now new s i rest order within t is =
           ∙ on all;
     }
 
-pub turned_all : (all now : List hb_glyph_info_t) (n : ℕ) → length now ≤ n → Turned all now n [] → reverse now ≡ graphemes_turned all
+pub turned_all : (all now : List hb_glyph_info_t) (n : ℕ) → length now ≤ n → Turned all now n []
+    → reverse now ≡ graphemes_turned all
 turned_all all now n met t = ap reverse (sym (take_all n now met)) ∙ t.whole
 
 -- what is read behind there is the text's
-pub read_behind : (all now : List hb_glyph_info_t) (s i : ℕ) → s ≤ i → drop s now ≡ drop s all → get_or now i default_glyph ≡ get_or all i default_glyph
+pub read_behind : (all now : List hb_glyph_info_t) (s i : ℕ) → s ≤ i → drop s now ≡ drop s all
+    → get_or now i default_glyph ≡ get_or all i default_glyph
 read_behind all now s i order same =
     let there : s + (i - s) ≡ i = omega arith in
-    let at : (gs : List hb_glyph_info_t) → get_or (drop s gs) (i - s) default_glyph ≡ get_or gs i default_glyph = λ gs. get_or-drop s gs (i - s) default_glyph ∙ ap (λ n. get_or gs n default_glyph) there in
+    let at : (gs : List hb_glyph_info_t) → get_or (drop s gs) (i - s) default_glyph ≡ get_or gs i default_glyph =
+    λ gs. get_or-drop s gs (i - s) default_glyph ∙ ap (λ n. get_or gs n default_glyph) there in
     sym (at now) ∙ ap (λ gs. get_or gs (i - s) default_glyph) same ∙ at all

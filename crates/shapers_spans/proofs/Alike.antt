@@ -31,10 +31,12 @@ either_passed false true r m n h f = f h
 either_passed false false r m n h f = refl
 
 -- the first glyph that isn't CGJ stands in the left half, or is no mark
-mark-within : (ks hs : List hb_glyph_info_t) → list_all (λ (h : hb_glyph_info_t). h.category == 6) ks ≡ false → next_is_mark (ks ++ hs) ≡ next_is_mark ks
+mark-within : (ks hs : List hb_glyph_info_t) → list_all (λ (h : hb_glyph_info_t). h.category == 6) ks ≡ false
+    → next_is_mark (ks ++ hs) ≡ next_is_mark ks
 mark-within [] hs h = cc
 mark-within (k ∷ ks) hs h =
-    chosen (k.category == 6) (list_all (λ (g : hb_glyph_info_t). g.category == 6) ks) (next_is_mark (ks ++ hs)) (next_is_mark ks) _ h (mark-within ks hs)
+    chosen (k.category == 6) (list_all (λ (g : hb_glyph_info_t). g.category == 6) ks) (next_is_mark (ks ++ hs))
+    (next_is_mark ks) _ h (mark-within ks hs)
 
 mark-none : (ks hs : List hb_glyph_info_t) → next_is_mark hs ≡ false → next_is_mark (ks ++ hs) ≡ next_is_mark ks
 mark-none [] hs h = h
@@ -42,17 +44,24 @@ mark-none (k ∷ ks) hs h = kept (k.category == 6) (next_is_mark (ks ++ hs)) (ne
 
 no-joiner : (fs ks : List hb_glyph_info_t) → ends_with_joiner (fs ++ ks) ≡ false → ends_with_joiner ks ≡ false
 no-joiner [] ks h = h
-no-joiner (f ∷ fs) ks h = no-joiner fs ks (or_parts ((f.category == 14) && list_all (λ (g : hb_glyph_info_t). g.category == 6) (fs ++ ks)) (ends_with_joiner (fs ++ ks)) h).1
+no-joiner (f ∷ fs) ks h =
+    no-joiner fs ks (or_parts ((f.category == 14) && list_all (λ (g : hb_glyph_info_t). g.category == 6) (fs ++ ks))
+    (ends_with_joiner (fs ++ ks)) h).1
 
-opens-alike : (ks hs : List hb_glyph_info_t) → 0 < length ks → (ends_with_joiner ks ≡ false) ⊎ (next_is_mark hs ≡ false) → opens_passed (ks ++ hs) ≡ opens_passed ks
+opens-alike : (ks hs : List hb_glyph_info_t) → 0 < length ks → (ends_with_joiner ks ≡ false) ⊎ (next_is_mark hs ≡ false)
+    → opens_passed (ks ++ hs) ≡ opens_passed ks
 opens-alike [] hs l s = absurd (omega arith)
 opens-alike (k ∷ ks) hs l s =
     ⊎_elim
-    (λ h. either_passed (k.category == 6) (k.category == 14) (list_all (λ (g : hb_glyph_info_t). g.category == 6) ks) (next_is_mark (ks ++ hs)) (next_is_mark ks)
-    (or_parts ((k.category == 14) && list_all (λ (g : hb_glyph_info_t). g.category == 6) ks) (ends_with_joiner ks) h).0 (mark-within ks hs))
+    (λ h. either_passed (k.category == 6) (k.category == 14) (list_all (λ (g : hb_glyph_info_t). g.category == 6) ks)
+    (next_is_mark (ks ++ hs)) (next_is_mark ks)
+    (or_parts ((k.category == 14) && list_all (λ (g : hb_glyph_info_t). g.category == 6) ks) (ends_with_joiner ks) h).0
+    (mark-within ks hs))
     (λ h. ap (λ m. (k.category == 6) || ((k.category == 14) && m)) (mark-none ks hs h)) s
 
-pub universal-alike : (g : Grammar) (gs hs : List hb_glyph_info_t) → g.passes ≡ opens_passed → joiner_waits gs hs ≡ false → ReadsAlike g gs hs
+pub universal-alike : (g : Grammar) (gs hs : List hb_glyph_info_t) → g.passes ≡ opens_passed
+    → joiner_waits gs hs ≡ false → ReadsAlike g gs hs
 universal-alike g gs hs e w fs ks s l =
-    let o = opens-alike ks hs l (⊎_elim (λ h. inl (no-joiner fs ks (ap ends_with_joiner (sym s) ∙ h))) (λ h. inr h) (and_parts (ends_with_joiner gs) (next_is_mark hs) w)) in
+    let o = opens-alike ks hs l (⊎_elim (λ h. inl (no-joiner fs ks (ap ends_with_joiner (sym s) ∙ h))) (λ h. inr h)
+    (and_parts (ends_with_joiner gs) (next_is_mark hs) w)) in
     ap (λ f. f (ks ++ hs)) e ∙ o ∙ sym (ap (λ f. f ks) e)

@@ -8,6 +8,8 @@ use Rattle.shapers_spans.proofs.Reached.{reach-le}
 pub opens_within : (g : Grammar) (gs : List hb_glyph_info_t) (span : Span) → OpensWith g gs span → span.len ≤ length gs
 opens_within g gs span o = let h = reach-le g.passes gs o.read.len in omega (arith, h, o.len)
 
-pub opens_fits : (g : Grammar) (gs : List hb_glyph_info_t) (span : Span) → KindsFit g → OpensWith g gs span → span.kind ≤ 15
+pub opens_fits : (g : Grammar) (gs : List hb_glyph_info_t) (span : Span) → KindsFit g → OpensWith g gs span
+    → span.kind ≤ 15
 opens_fits g gs span f o =
-    ⊎_elim (λ l. omega (arith, l.kind, f.rules l.rule, o.kind)) (λ y. omega (arith, y.kind, f.other_fits, o.kind)) o.syllable
+    ⊎_elim (λ l. omega (arith, l.kind, f.rules l.rule, o.kind)) (λ y. omega (arith, y.kind, f.other_fits, o.kind))
+    o.syllable

@@ -38,7 +38,9 @@ dead_ok t d =
     let some = cond (nat_lt 0 t.row_len) classes false in
     cond (get_or t.kind_in d 255 == 255) some false
 
-dead_stays : (t : Tables) (d : ℕ) → 0 < t.row_len → entries_below t.row_len t.class_of ≡ true → length (take t.row_len (drop (d * t.row_len) t.rows)) ≡ t.row_len → entries_are d (take t.row_len (drop (d * t.row_len) t.rows)) ≡ true → (k : ℕ) → state_behind t d k ≡ d
+dead_stays : (t : Tables) (d : ℕ) → 0 < t.row_len → entries_below t.row_len t.class_of ≡ true
+    → length (take t.row_len (drop (d * t.row_len) t.rows)) ≡ t.row_len
+    → entries_are d (take t.row_len (drop (d * t.row_len) t.rows)) ≡ true → (k : ℕ) → state_behind t d k ≡ d
 dead_stays t d some classes whole stays k =
     let c = get_or t.class_of k 0 in
     let l : c < t.row_len = entry-below t.row_len t.class_of k some classes in

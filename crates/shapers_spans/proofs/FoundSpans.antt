@@ -21,7 +21,8 @@ pub record Found (g : Grammar) (gs : List hb_glyph_info_t) (start : ℕ) (spans 
   pub read : g.passes (drop start gs) ≡ false
   pub rest : List Span
   pub whole : spans ≡ lead_spans (reach_of g.passes gs 0) g.other ++ rest
-  pub cut : (more : List Span) → IsCutFrom g (drop start gs) more → IsCutFrom g (drop (reach_of g.passes gs 0) gs) (rest ++ more)
+  pub cut : (more : List Span) → IsCutFrom g (drop start gs) more
+      → IsCutFrom g (drop (reach_of g.passes gs 0) gs) (rest ++ more)
   pub len : sum_by (λ (s : Span). s.len) spans ≡ start
   pub each : list_all (λ (s : Span). nat_lt 0 s.len) spans ≡ true
   pub kinds : All (λ (s : Span). s.kind ≤ 15) spans
@@ -44,7 +45,8 @@ lead_each n k =
     above : (n : ℕ) → (n ≡ 0 → ⊥) → 0 < n
     above n h = omega (arith, h)
 
-    some : (n : ℕ) → (n == 0) ≡ false → list_all (λ (t : Span). nat_lt 0 t.len) ((let s : Span = record { len = n; kind = k } in s) ∷ []) ≡ true
+    some : (n : ℕ) → (n == 0) ≡ false
+        → list_all (λ (t : Span). nat_lt 0 t.len) ((let s : Span = record { len = n; kind = k } in s) ∷ []) ≡ true
     some n h = and_from (nat_lt 0 n) true (lt-ltb 0 n (above n (eqb-false n 0 h))) refl
 
 lead_kinds : (n k : ℕ) → k ≤ 15 → All (λ (s : Span). s.kind ≤ 15) (lead_spans n k)
@@ -53,7 +55,8 @@ lead_kinds n k h =
     cond_both (n == 0) [] (s ∷ []) (λ (ss : List Span). All (λ (t : Span). t.kind ≤ 15) ss)
     (λ _. search rules) (λ _. one_fits s h)
 
-pub found_start : (g : Grammar) (gs : List hb_glyph_info_t) (start : ℕ) (spans : List Span) → g.passes [] ≡ false → g.other ≤ 15 → start ≡ reach_of g.passes gs 0 → spans ≡ lead_spans start g.other → Found g gs start spans
+pub found_start : (g : Grammar) (gs : List hb_glyph_info_t) (start : ℕ) (spans : List Span) → g.passes [] ≡ false
+    → g.other ≤ 15 → start ≡ reach_of g.passes gs 0 → spans ≡ lead_spans start g.other → Found g gs start spans
 found_start g gs start spans z k e s = record {
   within = (let h = reach-le g.passes gs 0 in omega (arith, h, e));
   read = ap (λ n. g.passes (drop n gs)) e ∙ behind-is-read g.passes z gs;
@@ -65,50 +68,66 @@ found_start g gs start spans z k e s = record {
   kinds = subst (λ (ss : List Span). All (λ (t : Span). t.kind ≤ 15) ss) (sym s) (lead_kinds start g.other k);
 }
 
-pub found_next : (g : Grammar) (gs : List hb_glyph_info_t) (start : ℕ) (span : Span) (spans new : List Span) → Found g gs start spans → OpensWith g (drop start gs) span → 0 < span.len → span.len ≤ length (drop start gs) → span.kind ≤ 15 → g.passes (drop span.len (drop start gs)) ≡ false → new ≡ spans ++ span ∷ [] → Found g gs (start + span.len) new
+pub found_next : (g : Grammar) (gs : List hb_glyph_info_t) (start : ℕ) (span : Span) (spans new : List Span)
+    → Found g gs start spans → OpensWith g (drop start gs) span → 0 < span.len → span.len ≤ length (drop start gs)
+    → span.kind ≤ 15 → g.passes (drop span.len (drop start gs)) ≡ false → new ≡ spans ++ span ∷ []
+    → Found g gs (start + span.len) new
 found_next g gs start span spans new f opens some within kind read e =
     let on : drop span.len (drop start gs) ≡ drop (start + span.len) gs = drop-drop span.len start gs in
     record {
       within = (let a = f.within in omega (arith, a, within, length-drop start gs));
       read = ap g.passes (sym on) ∙ read;
       rest = f.rest ++ span ∷ [];
-      whole = e ∙ ap (λ (ss : List Span). ss ++ span ∷ []) f.whole ∙ append_assoc (lead_spans (reach_of g.passes gs 0) g.other) f.rest (span ∷ []);
+      whole = e ∙ ap (λ (ss : List Span). ss ++ span ∷ []) f.whole
+          ∙ append_assoc (lead_spans (reach_of g.passes gs 0) g.other) f.rest (span ∷ []);
       cut = (λ more h.
           subst (λ ss. IsCutFrom g (drop (reach_of g.passes gs 0) gs) ss) (sym (append_assoc f.rest (span ∷ []) more))
           (f.cut (span ∷ more) (opens, subst (λ xs. IsCutFrom g xs more) (sym on) h)));
       len =
-          let a : sum_by (λ (t : Span). t.len) (spans ++ span ∷ []) ≡ sum_by (λ (t : Span). t.len) spans + sum_by (λ (t : Span). t.len) (span ∷ []) = sum_by-append (λ (t : Span). t.len) spans (span ∷ []) in
+          let a : sum_by (λ (t : Span). t.len) (spans ++ span ∷ []) ≡ sum_by (λ (t : Span). t.len) spans
+          + sum_by (λ (t : Span). t.len) (span ∷ []) = sum_by-append (λ (t : Span). t.len) spans (span ∷ []) in
           let b : sum_by (λ (t : Span). t.len) (span ∷ []) ≡ span.len = search rules in
-          let c : sum_by (λ (t : Span). t.len) (spans ++ span ∷ []) ≡ start + span.len = (let l = f.len in omega (arith, a, b, l)) in
+          let c : sum_by (λ (t : Span). t.len) (spans ++ span ∷ []) ≡ start + span.len =
+          (let l = f.len in omega (arith, a, b, l)) in
           ap (λ (ss : List Span). sum_by (λ (t : Span). t.len) ss) e ∙ c;
       each =
-          ap (λ (ss : List Span). list_all (λ (t : Span). nat_lt 0 t.len) ss) e ∙ list_all-append (λ (t : Span). nat_lt 0 t.len) spans (span ∷ [])
-          ∙ and_from (list_all (λ (t : Span). nat_lt 0 t.len) spans) (list_all (λ (t : Span). nat_lt 0 t.len) (span ∷ [])) f.each (and_from (nat_lt 0 span.len) true (lt-ltb 0 span.len some) refl);
-      kinds = subst (λ (ss : List Span). All (λ (t : Span). t.kind ≤ 15) ss) (sym e) (All-append (λ (t : Span). t.kind ≤ 15) spans (span ∷ []) f.kinds (one_fits span kind));
+          ap (λ (ss : List Span). list_all (λ (t : Span). nat_lt 0 t.len) ss) e
+          ∙ list_all-append (λ (t : Span). nat_lt 0 t.len) spans (span ∷ [])
+          ∙ and_from (list_all (λ (t : Span). nat_lt 0 t.len) spans)
+          (list_all (λ (t : Span). nat_lt 0 t.len) (span ∷ [])) f.each
+          (and_from (nat_lt 0 span.len) true (lt-ltb 0 span.len some) refl);
+      kinds = subst (λ (ss : List Span). All (λ (t : Span). t.kind ≤ 15) ss) (sym e)
+          (All-append (λ (t : Span). t.kind ≤ 15) spans (span ∷ []) f.kinds (one_fits span kind));
     }
 
-pub found_all : (g : Grammar) (gs : List hb_glyph_info_t) (start : ℕ) (spans : List Span) → Found g gs start spans → length gs ≤ start → AreSpansOf g gs spans
+pub found_all : (g : Grammar) (gs : List hb_glyph_info_t) (start : ℕ) (spans : List Span) → Found g gs start spans
+    → length gs ≤ start → AreSpansOf g gs spans
 found_all g gs start spans f l =
     let e : start ≡ length gs = (let a = f.within in omega (arith, a, l)) in
     record {
       cut = record {
         rest = f.rest;
         whole = f.whole;
-        cut = subst (λ ss. IsCutFrom g (drop (reach_of g.passes gs 0) gs) ss) (append-nil f.rest) (f.cut [] (drop_all start gs l));
+        cut = subst (λ ss. IsCutFrom g (drop (reach_of g.passes gs 0) gs) ss) (append-nil f.rest) (f.cut
+            [] (drop_all start gs l));
       };
-      cover = and_from (list_all (λ (s : Span). nat_lt 0 s.len) spans) (sum_by (λ (s : Span). s.len) spans == length gs) f.each (eq-eqb (sum_by (λ (s : Span). s.len) spans) (length gs) (f.len ∙ e));
+      cover = and_from (list_all (λ (s : Span). nat_lt 0 s.len) spans) (sum_by (λ (s : Span). s.len) spans == length gs)
+          f.each (eq-eqb (sum_by (λ (s : Span). s.len) spans) (length gs) (f.len ∙ e));
       kinds = f.kinds;
     }
 
 -- before the first span
 
-pub knows_none : (p : List hb_glyph_info_t → Bool) (j : ℕ → Bool) (ends : ℕ → List ℕ → Option ℕ) (gs : List hb_glyph_info_t) (len stuck : ℕ) → p gs ≡ false → len ≡ 0 → KnowsJoiners p j ends gs len stuck
+pub knows_none : (p : List hb_glyph_info_t → Bool) (j : ℕ → Bool) (ends : ℕ → List ℕ
+    → Option ℕ) (gs : List hb_glyph_info_t) (len stuck : ℕ) → p gs ≡ false → len ≡ 0
+    → KnowsJoiners p j ends gs len stuck
 knows_none p j ends gs len stuck h e = record {
   joined = subst (λ n. Joined p j gs n) (sym e) h;
   ends_none = (λ l. absurd (omega (arith, l, e)));
 }
 
-pub watched_none : (p : List hb_glyph_info_t → Bool) (turned : ℕ) (gs : List hb_glyph_info_t) (len stuck before : ℕ) (watch : Watch) → watch.reads ≡ before → IsWatched p turned gs len stuck before watch
+pub watched_none : (p : List hb_glyph_info_t → Bool) (turned : ℕ) (gs : List hb_glyph_info_t) (len stuck before : ℕ)
+    (watch : Watch) → watch.reads ≡ before → IsWatched p turned gs len stuck before watch
 watched_none p turned gs len stuck before watch e = record {
   since = omega (arith, e);
   few = omega (arith, e);
@@ -116,8 +135,10 @@ watched_none p turned gs len stuck before watch e = record {
 }
 
 -- what the next span starts in: the slice behind `start`
-pub sliced : (P : List hb_glyph_info_t → Type 0) (gs : List hb_glyph_info_t) (start : ℕ) → P (take (length gs - start) (drop start gs)) → P (drop start gs)
+pub sliced : (P : List hb_glyph_info_t → Type 0) (gs : List hb_glyph_info_t) (start : ℕ)
+    → P (take (length gs - start) (drop start gs)) → P (drop start gs)
 sliced P gs start h = subst P (take_rest gs start) h
 
-pub unsliced : (P : List hb_glyph_info_t → Type 0) (gs : List hb_glyph_info_t) (start : ℕ) → P (drop start gs) → P (take (length gs - start) (drop start gs))
+pub unsliced : (P : List hb_glyph_info_t → Type 0) (gs : List hb_glyph_info_t) (start : ℕ) → P (drop start gs)
+    → P (take (length gs - start) (drop start gs))
 unsliced P gs start h = subst P (sym (take_rest gs start)) h

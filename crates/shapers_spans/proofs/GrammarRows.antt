@@ -19,7 +19,8 @@ mark : ℕ → hb_glyph_info_t
 mark c = record default_glyph { category = c; general_category = Mn }
 
 -- CGJ is passed over, whatever is around it; ZWNJ before a mark, CGJs between them apart
-read : read_of opens_passed (letter 6 ∷ letter 1 ∷ letter 6 ∷ letter 14 ∷ letter 6 ∷ mark 33 ∷ letter 14 ∷ letter 1 ∷ mark 6 ∷ letter 14 ∷ letter 6 ∷ []) ≡ 1 ∷ 33 ∷ 14 ∷ 1 ∷ 14 ∷ []
+read : read_of opens_passed (letter 6 ∷ letter 1 ∷ letter 6 ∷ letter 14 ∷ letter 6 ∷ mark 33 ∷ letter 14 ∷ letter 1
+    ∷ mark 6 ∷ letter 14 ∷ letter 6 ∷ []) ≡ 1 ∷ 33 ∷ 14 ∷ 1 ∷ 14 ∷ []
 unfolding letter mark
 read = refl
 
@@ -38,7 +39,8 @@ reaches : List ℕ
 unfolding letter mark
 reaches =
     let text = letter 6 ∷ letter 6 ∷ letter 1 ∷ letter 6 ∷ letter 14 ∷ mark 33 ∷ letter 6 ∷ [] in
-    reach_of opens_passed text 0 ∷ reach_of opens_passed text 1 ∷ reach_of opens_passed text 2 ∷ reach_of opens_passed text 3 ∷ []
+    reach_of opens_passed text 0 ∷ reach_of opens_passed text 1 ∷ reach_of opens_passed text 2
+    ∷ reach_of opens_passed text 3 ∷ []
 
 reaches_are : reaches ≡ 2 ∷ 5 ∷ 7 ∷ 7 ∷ []
 unfolding reaches letter mark

@@ -10,8 +10,10 @@ indic_categories : List ℕ
 indic_categories = 1 ∷ 2 ∷ 3 ∷ 4 ∷ 5 ∷ 6 ∷ 7 ∷ 8 ∷ 9 ∷ 10 ∷ 11 ∷ 12 ∷ 13 ∷ 14 ∷ 15 ∷ 16 ∷ 17 ∷ 18 ∷ 57 ∷ 0 ∷ []
 
 -- each alone (255: no rule takes it)
-indic_alone : map (kind_by indic_grammar) (map (λ (k : ℕ). k ∷ []) indic_categories) ≡ 0 ∷ 1 ∷ 4 ∷ 4 ∷ 255 ∷ 255 ∷ 4 ∷ 4 ∷ 4 ∷ 2 ∷ 2 ∷ 4 ∷ 4 ∷ 4 ∷ 0 ∷ 4 ∷ 3 ∷ 255 ∷ 5 ∷ 255 ∷ []
-unfolding indic_rules indic_grammar kind_by nullable same chain member before insert union step first_kind after indic_categories
+indic_alone : map (kind_by indic_grammar) (map (λ (k : ℕ). k ∷ []) indic_categories) ≡ 0 ∷ 1 ∷ 4 ∷ 4 ∷ 255 ∷ 255 ∷ 4 ∷ 4
+    ∷ 4 ∷ 2 ∷ 2 ∷ 4 ∷ 4 ∷ 4 ∷ 0 ∷ 4 ∷ 3 ∷ 255 ∷ 5 ∷ 255 ∷ []
+unfolding indic_rules indic_grammar kind_by nullable same chain member before insert union step first_kind after
+    indic_categories
 indic_alone = refl
 
 -- each pair of neighbours: a row for each first category
@@ -24,7 +26,8 @@ indic_pairs : map (λ (a : ℕ). map (λ (b : ℕ). kind_by indic_grammar (a ∷
     (255 ∷ 255 ∷ 255 ∷ 4 ∷ 255 ∷ 255 ∷ 4 ∷ 4 ∷ 255 ∷ 255 ∷ 255 ∷ 255 ∷ 4 ∷ 255 ∷ 255 ∷ 255 ∷ 255 ∷ 255 ∷ 4 ∷ 255 ∷ []) ∷
     (255 ∷ 255 ∷ 4 ∷ 4 ∷ 255 ∷ 255 ∷ 4 ∷ 4 ∷ 4 ∷ 255 ∷ 255 ∷ 255 ∷ 4 ∷ 255 ∷ 255 ∷ 255 ∷ 255 ∷ 255 ∷ 4 ∷ 255 ∷ []) ∷
     (255 ∷ 255 ∷ 255 ∷ 255 ∷ 4 ∷ 255 ∷ 255 ∷ 4 ∷ 4 ∷ 255 ∷ 255 ∷ 255 ∷ 4 ∷ 255 ∷ 255 ∷ 255 ∷ 255 ∷ 255 ∷ 4 ∷ 255 ∷ []) ∷
-    (255 ∷ 255 ∷ 255 ∷ 255 ∷ 255 ∷ 255 ∷ 255 ∷ 255 ∷ 4 ∷ 255 ∷ 255 ∷ 255 ∷ 255 ∷ 255 ∷ 255 ∷ 255 ∷ 255 ∷ 255 ∷ 255 ∷ 255 ∷ []) ∷
+    (255 ∷ 255 ∷ 255 ∷ 255 ∷ 255 ∷ 255 ∷ 255 ∷ 255 ∷ 4 ∷ 255 ∷ 255 ∷ 255 ∷ 255 ∷ 255 ∷ 255 ∷ 255 ∷ 255 ∷ 255 ∷ 255 ∷ 255
+    ∷ []) ∷
     (255 ∷ 255 ∷ 2 ∷ 2 ∷ 255 ∷ 255 ∷ 2 ∷ 2 ∷ 2 ∷ 255 ∷ 255 ∷ 2 ∷ 2 ∷ 255 ∷ 255 ∷ 2 ∷ 255 ∷ 255 ∷ 2 ∷ 255 ∷ []) ∷
     (255 ∷ 255 ∷ 2 ∷ 2 ∷ 255 ∷ 255 ∷ 2 ∷ 2 ∷ 2 ∷ 255 ∷ 255 ∷ 2 ∷ 2 ∷ 255 ∷ 255 ∷ 2 ∷ 255 ∷ 255 ∷ 2 ∷ 255 ∷ []) ∷
     (255 ∷ 255 ∷ 4 ∷ 4 ∷ 255 ∷ 255 ∷ 4 ∷ 4 ∷ 4 ∷ 255 ∷ 255 ∷ 255 ∷ 4 ∷ 255 ∷ 255 ∷ 4 ∷ 255 ∷ 255 ∷ 4 ∷ 255 ∷ []) ∷
@@ -32,12 +35,16 @@ indic_pairs : map (λ (a : ℕ). map (λ (b : ℕ). kind_by indic_grammar (a ∷
     (0 ∷ 1 ∷ 4 ∷ 4 ∷ 255 ∷ 255 ∷ 4 ∷ 4 ∷ 4 ∷ 2 ∷ 2 ∷ 4 ∷ 4 ∷ 255 ∷ 0 ∷ 4 ∷ 255 ∷ 255 ∷ 4 ∷ 255 ∷ []) ∷
     (255 ∷ 255 ∷ 0 ∷ 0 ∷ 255 ∷ 0 ∷ 0 ∷ 0 ∷ 0 ∷ 255 ∷ 255 ∷ 0 ∷ 0 ∷ 255 ∷ 255 ∷ 0 ∷ 255 ∷ 255 ∷ 0 ∷ 255 ∷ []) ∷
     (255 ∷ 255 ∷ 255 ∷ 4 ∷ 255 ∷ 255 ∷ 4 ∷ 4 ∷ 4 ∷ 255 ∷ 255 ∷ 255 ∷ 4 ∷ 255 ∷ 255 ∷ 255 ∷ 255 ∷ 255 ∷ 4 ∷ 255 ∷ []) ∷
-    (255 ∷ 255 ∷ 3 ∷ 255 ∷ 255 ∷ 255 ∷ 255 ∷ 3 ∷ 3 ∷ 255 ∷ 255 ∷ 255 ∷ 255 ∷ 255 ∷ 255 ∷ 255 ∷ 255 ∷ 255 ∷ 3 ∷ 255 ∷ []) ∷
-    (0 ∷ 255 ∷ 255 ∷ 255 ∷ 255 ∷ 255 ∷ 255 ∷ 255 ∷ 255 ∷ 2 ∷ 255 ∷ 255 ∷ 255 ∷ 255 ∷ 0 ∷ 255 ∷ 255 ∷ 255 ∷ 255 ∷ 255 ∷ []) ∷
+    (255 ∷ 255 ∷ 3 ∷ 255 ∷ 255 ∷ 255 ∷ 255 ∷ 3 ∷ 3 ∷ 255 ∷ 255 ∷ 255 ∷ 255 ∷ 255 ∷ 255 ∷ 255 ∷ 255 ∷ 255 ∷ 3 ∷ 255 ∷ [])
+    ∷
+    (0 ∷ 255 ∷ 255 ∷ 255 ∷ 255 ∷ 255 ∷ 255 ∷ 255 ∷ 255 ∷ 2 ∷ 255 ∷ 255 ∷ 255 ∷ 255 ∷ 0 ∷ 255 ∷ 255 ∷ 255 ∷ 255 ∷ 255
+    ∷ []) ∷
     (255 ∷ 255 ∷ 255 ∷ 255 ∷ 4 ∷ 255 ∷ 255 ∷ 4 ∷ 4 ∷ 255 ∷ 255 ∷ 255 ∷ 4 ∷ 255 ∷ 255 ∷ 255 ∷ 255 ∷ 255 ∷ 4 ∷ 255 ∷ []) ∷
-    (255 ∷ 255 ∷ 255 ∷ 255 ∷ 255 ∷ 255 ∷ 255 ∷ 255 ∷ 255 ∷ 255 ∷ 255 ∷ 255 ∷ 255 ∷ 255 ∷ 255 ∷ 255 ∷ 255 ∷ 255 ∷ 255 ∷ 255 ∷ []) ∷
+    (255 ∷ 255 ∷ 255 ∷ 255 ∷ 255 ∷ 255 ∷ 255 ∷ 255 ∷ 255 ∷ 255 ∷ 255 ∷ 255 ∷ 255 ∷ 255 ∷ 255 ∷ 255 ∷ 255 ∷ 255 ∷ 255
+    ∷ 255 ∷ []) ∷
     []
-unfolding indic_rules indic_grammar kind_by nullable same chain member before insert union step first_kind after indic_categories
+unfolding indic_rules indic_grammar kind_by nullable same chain member before insert union step first_kind after
+    indic_categories
 indic_pairs = refl
 
 -- syllables of each rule, short and long, broken ones, and texts that no rule takes
@@ -71,6 +78,7 @@ indic_kinds : map (kind_by indic_grammar) (
     (13 ∷ []) ∷
     (5 ∷ 5 ∷ 7 ∷ []) ∷
     (57 ∷ 7 ∷ []) ∷
-    []) ≡ 0 ∷ 0 ∷ 255 ∷ 0 ∷ 0 ∷ 1 ∷ 1 ∷ 1 ∷ 2 ∷ 2 ∷ 2 ∷ 2 ∷ 3 ∷ 3 ∷ 5 ∷ 4 ∷ 4 ∷ 4 ∷ 4 ∷ 4 ∷ 4 ∷ 4 ∷ 4 ∷ 255 ∷ 255 ∷ 255 ∷ 4 ∷ 4 ∷ 255 ∷ []
+    []) ≡ 0 ∷ 0 ∷ 255 ∷ 0 ∷ 0 ∷ 1 ∷ 1 ∷ 1 ∷ 2 ∷ 2 ∷ 2 ∷ 2 ∷ 3 ∷ 3 ∷ 5 ∷ 4 ∷ 4 ∷ 4 ∷ 4 ∷ 4 ∷ 4 ∷ 4 ∷ 4 ∷ 255 ∷ 255 ∷ 255
+    ∷ 4 ∷ 4 ∷ 255 ∷ []
 unfolding indic_rules indic_grammar kind_by nullable same chain member before insert union step first_kind after
 indic_kinds = refl

@@ -10,8 +10,10 @@ khmer_categories : List ℕ
 khmer_categories = 1 ∷ 2 ∷ 4 ∷ 5 ∷ 6 ∷ 10 ∷ 11 ∷ 15 ∷ 20 ∷ 21 ∷ 22 ∷ 23 ∷ 25 ∷ 26 ∷ 27 ∷ 0 ∷ []
 
 -- each alone (255: no rule takes it)
-khmer_alone : map (kind_by khmer_grammar) (map (λ (k : ℕ). k ∷ []) khmer_categories) ≡ 0 ∷ 0 ∷ 1 ∷ 255 ∷ 255 ∷ 0 ∷ 0 ∷ 0 ∷ 1 ∷ 1 ∷ 1 ∷ 1 ∷ 1 ∷ 1 ∷ 1 ∷ 255 ∷ []
-unfolding khmer_rules khmer_grammar kind_by nullable same chain member before insert union step first_kind after khmer_categories
+khmer_alone : map (kind_by khmer_grammar) (map (λ (k : ℕ). k ∷ []) khmer_categories) ≡ 0 ∷ 0 ∷ 1 ∷ 255 ∷ 255 ∷ 0 ∷ 0 ∷ 0
+    ∷ 1 ∷ 1 ∷ 1 ∷ 1 ∷ 1 ∷ 1 ∷ 1 ∷ 255 ∷ []
+unfolding khmer_rules khmer_grammar kind_by nullable same chain member before insert union step first_kind after
+    khmer_categories
 khmer_alone = refl
 
 -- each pair of neighbours: a row for each first category
@@ -33,7 +35,8 @@ khmer_pairs : map (λ (a : ℕ). map (λ (b : ℕ). kind_by khmer_grammar (a ∷
     (255 ∷ 255 ∷ 255 ∷ 255 ∷ 255 ∷ 255 ∷ 255 ∷ 255 ∷ 255 ∷ 255 ∷ 255 ∷ 255 ∷ 255 ∷ 255 ∷ 1 ∷ 255 ∷ []) ∷
     (255 ∷ 255 ∷ 255 ∷ 255 ∷ 255 ∷ 255 ∷ 255 ∷ 255 ∷ 255 ∷ 255 ∷ 255 ∷ 255 ∷ 255 ∷ 255 ∷ 255 ∷ 255 ∷ []) ∷
     []
-unfolding khmer_rules khmer_grammar kind_by nullable same chain member before insert union step first_kind after khmer_categories
+unfolding khmer_rules khmer_grammar kind_by nullable same chain member before insert union step first_kind after
+    khmer_categories
 khmer_pairs = refl
 
 -- syllables of each rule, short and long, broken ones, and texts that no rule takes

@@ -27,13 +27,20 @@ pub record Reading (ends : ℕ → List ℕ → Option ℕ) (start other : ℕ) 
   pub reads : (v : List ℕ) → ends start (take n w ++ v) ≡ ends q v
   pub best : IsBest (ends start) other w n span
 
-pub reading_start : (ends : ℕ → List ℕ → Option ℕ) (start other : ℕ) (w : List ℕ) (span : Span) → span.len ≡ 1 → span.kind ≡ other → Reading ends start other w 0 start span
+pub reading_start : (ends : ℕ → List ℕ → Option ℕ) (start other : ℕ) (w : List ℕ) (span : Span) → span.len ≡ 1
+    → span.kind ≡ other → Reading ends start other w 0 start span
 reading_start ends start other w span one kind =
-    record { reads = (λ v. refl); best = inr (record { single = one; known = kind; none = (λ m a b. absurd (omega arith)) }) }
+    record {
+      reads = (λ v. refl);
+      best = inr
+          (record { single = one; known = kind; none = (λ m a b. absurd (omega arith)) });
+    }
 
 -- one more category
 
-pub reads_next : (ends : ℕ → List ℕ → Option ℕ) (start : ℕ) (w : List ℕ) (n q p k : ℕ) → ((v : List ℕ) → ends start (take n w ++ v) ≡ ends q v) → n < length w → get_or w n 0 ≡ k → ((v : List ℕ) → ends q (k ∷ v) ≡ ends p v) → (v : List ℕ) → ends start (take (n + 1) w ++ v) ≡ ends p v
+pub reads_next : (ends : ℕ → List ℕ → Option ℕ) (start : ℕ) (w : List ℕ) (n q p k : ℕ)
+    → ((v : List ℕ) → ends start (take n w ++ v) ≡ ends q v) → n < length w → get_or w n 0 ≡ k
+    → ((v : List ℕ) → ends q (k ∷ v) ≡ ends p v) → (v : List ℕ) → ends start (take (n + 1) w ++ v) ≡ ends p v
 reads_next ends start w n q p k h l e s v =
     ap (λ u. ends start (u ++ v)) (take_more w n 0 l)
     ∙ ap (λ u. ends start u) (append_assoc (take n w) (get_or w n 0 ∷ []) v)
@@ -41,15 +48,19 @@ reads_next ends start w n q p k h l e s v =
     ∙ ap (λ x. ends q (x ∷ v)) e
     ∙ s v
 
-front_next : (ends : ℕ → List ℕ → Option ℕ) (start : ℕ) (w : List ℕ) (n p : ℕ) → ((v : List ℕ) → ends start (take (n + 1) w ++ v) ≡ ends p v) → ends start (take (n + 1) w) ≡ ends p []
+front_next : (ends : ℕ → List ℕ → Option ℕ) (start : ℕ) (w : List ℕ) (n p : ℕ)
+    → ((v : List ℕ) → ends start (take (n + 1) w ++ v) ≡ ends p v) → ends start (take (n + 1) w) ≡ ends p []
 front_next ends start w n p h = ap (λ u. ends start u) (sym (append-nil (take (n + 1) w))) ∙ h []
 
-one_more : (f : List ℕ → Option ℕ) (w : List ℕ) (from n : ℕ) → ((m : ℕ) → from < m → m ≤ n → f (take m w) ≡ None) → f (take (n + 1) w) ≡ None → (m : ℕ) → from < m → m ≤ n + 1 → f (take m w) ≡ None
+one_more : (f : List ℕ → Option ℕ) (w : List ℕ) (from n : ℕ) → ((m : ℕ) → from < m → m ≤ n → f (take m w) ≡ None)
+    → f (take (n + 1) w) ≡ None → (m : ℕ) → from < m → m ≤ n + 1 → f (take m w) ≡ None
 one_more f w from n h e m a b =
     ⊎_elim (λ l. let le : m ≤ n = omega arith in h m a le)
     (λ l. let same : n + 1 ≡ m = omega arith in subst (λ i. f (take i w) ≡ None) same e) (cases_lt m (n + 1))
 
-pub reading_none : (ends : ℕ → List ℕ → Option ℕ) (start other : ℕ) (w : List ℕ) (n q p k : ℕ) (span : Span) → Reading ends start other w n q span → n < length w → get_or w n 0 ≡ k → ((v : List ℕ) → ends q (k ∷ v) ≡ ends p v) → ends p [] ≡ None → Reading ends start other w (n + 1) p span
+pub reading_none : (ends : ℕ → List ℕ → Option ℕ) (start other : ℕ) (w : List ℕ) (n q p k : ℕ) (span : Span)
+    → Reading ends start other w n q span → n < length w → get_or w n 0 ≡ k → ((v : List ℕ) → ends q (k ∷ v) ≡ ends p v)
+    → ends p [] ≡ None → Reading ends start other w (n + 1) p span
 reading_none ends start other w n q p k span r l e s none =
     let reads = reads_next ends start w n q p k r.reads l e s in
     let here = front_next ends start w n p reads ∙ none in
@@ -66,7 +77,9 @@ reading_none ends start other w n q p k span r l e s none =
           r.best;
     }
 
-pub reading_some : (ends : ℕ → List ℕ → Option ℕ) (start other : ℕ) (w : List ℕ) (n q p k : ℕ) (span new : Span) → Reading ends start other w n q span → n < length w → get_or w n 0 ≡ k → ((v : List ℕ) → ends q (k ∷ v) ≡ ends p v) → ends p [] ≡ Some new.kind → new.len ≡ n + 1 → Reading ends start other w (n + 1) p new
+pub reading_some : (ends : ℕ → List ℕ → Option ℕ) (start other : ℕ) (w : List ℕ) (n q p k : ℕ) (span new : Span)
+    → Reading ends start other w n q span → n < length w → get_or w n 0 ≡ k → ((v : List ℕ) → ends q (k ∷ v) ≡ ends p v)
+    → ends p [] ≡ Some new.kind → new.len ≡ n + 1 → Reading ends start other w (n + 1) p new
 reading_some ends start other w n q p k span new r l e s some len =
     let reads = reads_next ends start w n q p k r.reads l e s in
     record {
@@ -81,7 +94,9 @@ reading_some ends start other w n q p k span new r l e s some len =
 
 -- the end
 
-beyond : (ends : ℕ → List ℕ → Option ℕ) (start : ℕ) (w : List ℕ) (n p : ℕ) → ((v : List ℕ) → ends start (take (n + 1) w ++ v) ≡ ends p v) → ((v : List ℕ) → ends p v ≡ None) → (m : ℕ) → n < m → ends start (take m w) ≡ None
+beyond : (ends : ℕ → List ℕ → Option ℕ) (start : ℕ) (w : List ℕ) (n p : ℕ)
+    → ((v : List ℕ) → ends start (take (n + 1) w ++ v) ≡ ends p v) → ((v : List ℕ) → ends p v ≡ None) → (m : ℕ) → n < m
+    → ends start (take m w) ≡ None
 beyond ends start w n p h dead m l =
     let le : n + 1 ≤ m = omega arith in
     ap (λ u. ends start u) (sym (take-append-drop (n + 1) (take m w)))
@@ -89,7 +104,9 @@ beyond ends start w n p h dead m l =
     ∙ h (drop (n + 1) (take m w))
     ∙ dead (drop (n + 1) (take m w))
 
-pub reading_dead : (ends : ℕ → List ℕ → Option ℕ) (start other : ℕ) (w : List ℕ) (n q p k : ℕ) (span : Span) → Reading ends start other w n q span → n < length w → get_or w n 0 ≡ k → ((v : List ℕ) → ends q (k ∷ v) ≡ ends p v) → ((v : List ℕ) → ends p v ≡ None) → IsBest (ends start) other w (length w) span
+pub reading_dead : (ends : ℕ → List ℕ → Option ℕ) (start other : ℕ) (w : List ℕ) (n q p k : ℕ) (span : Span)
+    → Reading ends start other w n q span → n < length w → get_or w n 0 ≡ k → ((v : List ℕ) → ends q (k ∷ v) ≡ ends p v)
+    → ((v : List ℕ) → ends p v ≡ None) → IsBest (ends start) other w (length w) span
 reading_dead ends start other w n q p k span r l e s dead =
     let out = beyond ends start w n p (reads_next ends start w n q p k r.reads l e s) dead in
     ⊎_elim
@@ -107,14 +124,17 @@ reading_dead ends start other w n q p k span r l e s dead =
     r.best
 
 -- nothing ends from the state, whatever front of what is left is read
-pub reading_stuck : (ends : ℕ → List ℕ → Option ℕ) (start other : ℕ) (w : List ℕ) (n q : ℕ) (span : Span) → Reading ends start other w n q span → n ≤ length w → ((m : ℕ) → ends q (take m (drop n w)) ≡ None) → IsBest (ends start) other w (length w) span
+pub reading_stuck : (ends : ℕ → List ℕ → Option ℕ) (start other : ℕ) (w : List ℕ) (n q : ℕ) (span : Span)
+    → Reading ends start other w n q span → n ≤ length w → ((m : ℕ) → ends q (take m (drop n w)) ≡ None)
+    → IsBest (ends start) other w (length w) span
 reading_stuck ends start other w n q span r within none =
     ⊎_elim
     (λ f. inl (record {
       some = f.some;
       within = omega (arith, f.within, within);
       known = f.known;
-      longest = (λ m a b. ⊎_elim (λ c. out m c) (λ c. let le : m ≤ n = omega (arith, c) in f.longest m a le) (cases_lt n m));
+      longest = (λ m a b. ⊎_elim (λ c. out m c) (λ c. let le : m ≤ n = omega (arith, c) in f.longest m a le)
+          (cases_lt n m));
     }))
     (λ f. inr (record {
       single = f.single;
@@ -126,9 +146,11 @@ reading_stuck ends start other w n q span r within none =
     out : (m : ℕ) → n < m → ends start (take m w) ≡ None
     out m l =
         let e : n + (m - n) ≡ m = omega (arith, l) in
-        ap (λ i. ends start (take i w)) (sym e) ∙ ap (λ u. ends start u) (take-add n (m - n) w) ∙ r.reads (take (m - n) (drop n w)) ∙ none (m - n)
+        ap (λ i. ends start (take i w)) (sym e) ∙ ap (λ u. ends start u) (take-add n (m - n) w)
+        ∙ r.reads (take (m - n) (drop n w)) ∙ none (m - n)
 
-pub best_is_syllable : (g : Grammar) (f : List ℕ → Option ℕ) (w : List ℕ) (span : Span) → ((u : List ℕ) → IsKind g u (f u)) → 0 < length w → IsBest f g.other w (length w) span → IsSyllable g w span
+pub best_is_syllable : (g : Grammar) (f : List ℕ → Option ℕ) (w : List ℕ) (span : Span)
+    → ((u : List ℕ) → IsKind g u (f u)) → 0 < length w → IsBest f g.other w (length w) span → IsSyllable g w span
 best_is_syllable g f w span kinds some best =
     ⊎_elim
     (λ b. let p = subst (λ o. IsKind g (take span.len w) o) b.known (kinds (take span.len w)) in
@@ -148,5 +170,7 @@ best_is_syllable g f w span kinds some best =
     }))
     best
 
-pub syllable_within : (g : Grammar) (w : List ℕ) (span : Span) → IsSyllable g w span → (0 < span.len) × (span.len ≤ length w)
-syllable_within g w span s = ⊎_elim (λ l. (l.some, l.within)) (λ o. (omega (arith, o.one), omega (arith, o.one, o.within))) s
+pub syllable_within : (g : Grammar) (w : List ℕ) (span : Span) → IsSyllable g w span → (0 < span.len)
+    × (span.len ≤ length w)
+syllable_within g w span s =
+    ⊎_elim (λ l. (l.some, l.within)) (λ o. (omega (arith, o.one), omega (arith, o.one, o.within))) s

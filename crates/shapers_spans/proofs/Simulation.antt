@@ -50,10 +50,12 @@ step-far n k none h l = refl
 step-far n k empty h l = refl
 step-far n k (one j) h l =
     let lt : j < n = ltb-true j n h in
-    cond-false (j == k) empty none (ne_eqb j k (λ e. omega arith)) ∙ sym (cond-false (j == n) empty none (ne_eqb j n (λ e. omega arith)))
+    cond-false (j == k) empty none (ne_eqb j k (λ e. omega arith))
+    ∙ sym (cond-false (j == n) empty none (ne_eqb j n (λ e. omega arith)))
 step-far n k (seq a b) h l =
     let p = cond_and (below n a) (below n b) h in
-    ap₂ (λ (x y : Re). cond (nullable a) (union (chain x b) y) (chain x b)) (step-far n k a p.0 l) (step-far n k b p.1 l)
+    ap₂ (λ (x y : Re). cond (nullable a) (union (chain x b) y) (chain x b)) (step-far n k a p.0 l)
+    (step-far n k b p.1 l)
 step-far n k (alt a b) h l =
     let p = cond_and (below n a) (below n b) h in ap₂ union (step-far n k a p.0 l) (step-far n k b p.1 l)
 step-far n k (star a) h l = ap (λ (x : Re). chain x (star a)) (step-far n k a h l)
@@ -88,7 +90,8 @@ cell_ok all count states class here rs k n =
 unfoldable pub row_ok : List (List Re) → ℕ → List ℕ → List ℕ → List ℕ → List Re → ℕ → List ℕ → Bool
 row_ok all count states class here rs k [] = true
 row_ok all count states class here rs k (n ∷ ns) =
-    let rest = row_ok all count states class here rs (suc k) ns in cond (cell_ok all count states class here rs k n) rest false
+    let rest = row_ok all count states class here rs (suc k) ns in cond (cell_ok all count states class here rs k n)
+    rest false
 
 -- so for each category below n, and for n, which no rule names
 unfoldable pub state_ok : List (List Re) → ℕ → List ℕ → Tables → ℕ → List ℕ → List Re → ℕ → List ℕ → Bool
@@ -98,41 +101,56 @@ state_ok all count states t n kinds rs q row =
     let low = cond (all_below n rs) fits false in
     cond (get_or t.kind_in q 255 == first_kind kinds rs) low false
 
-unfoldable pub states_ok : List (List Re) → ℕ → List ℕ → Tables → ℕ → List ℕ → List (List Re) → List ℕ → List (List ℕ) → Bool
+unfoldable pub states_ok : List (List Re) → ℕ → List ℕ → Tables → ℕ → List ℕ → List (List Re) → List ℕ → List (List ℕ)
+    → Bool
 states_ok all count states t n kinds [] [] [] = true
 states_ok all count states t n kinds (rs ∷ more) (q ∷ qs) (row ∷ rows) =
-    let rest = states_ok all count states t n kinds more qs rows in cond (state_ok all count states t n kinds rs q row) rest false
+    let rest = states_ok all count states t n kinds more qs rows in cond (state_ok all count states t n kinds rs q row)
+    rest false
 states_ok _ _ _ _ _ _ _ _ _ = false
 
-row-at : (all : List (List Re)) (count : ℕ) (states class here : List ℕ) (rs : List Re) (k : ℕ) (row : List ℕ) (j : ℕ) → row_ok all count states class here rs k row ≡ true → j < length row → cell_ok all count states class here rs (k + j) (get_or row j 0) ≡ true
+row-at : (all : List (List Re)) (count : ℕ) (states class here : List ℕ) (rs : List Re) (k : ℕ) (row : List ℕ) (j : ℕ)
+    → row_ok all count states class here rs k row ≡ true → j < length row
+    → cell_ok all count states class here rs (k + j) (get_or row j 0) ≡ true
 unfolding row_ok
 row-at all count states class here rs k [] j h l = absurd (omega arith)
 row-at all count states class here rs k (n ∷ ns) zero h l =
     let e : k ≡ k + 0 = omega arith in
-    subst (λ i. cell_ok all count states class here rs i n ≡ true) e (cond_and (cell_ok all count states class here rs k n) (row_ok all count states class here rs (suc k) ns) h).0
+    subst (λ i. cell_ok all count states class here rs i n ≡ true) e
+    (cond_and (cell_ok all count states class here rs k n) (row_ok all count states class here rs (suc k) ns) h).0
 row-at all count states class here rs k (n ∷ ns) (suc j) h l =
     let e : suc k + j ≡ k + suc j = omega arith in
     subst (λ i. cell_ok all count states class here rs i (get_or ns j 0) ≡ true) e
-    (row-at all count states class here rs (suc k) ns j (cond_and (cell_ok all count states class here rs k n) (row_ok all count states class here rs (suc k) ns) h).1 (omega arith))
+    (row-at all count states class here rs (suc k) ns j
+    (cond_and (cell_ok all count states class here rs k n) (row_ok all count states class here rs (suc k) ns) h).1
+    (omega arith))
 
-states-at : (all : List (List Re)) (count : ℕ) (states : List ℕ) (t : Tables) (n : ℕ) (kinds : List ℕ) (xs : List (List Re)) (qs : List ℕ) (rows : List (List ℕ)) (i : ℕ) → states_ok all count states t n kinds xs qs rows ≡ true → i < length xs → state_ok all count states t n kinds (get_or xs i []) (get_or qs i 0) (get_or rows i []) ≡ true
+states-at : (all : List (List Re)) (count : ℕ) (states : List ℕ) (t : Tables) (n : ℕ) (kinds : List ℕ)
+    (xs : List (List Re)) (qs : List ℕ) (rows : List (List ℕ)) (i : ℕ) → states_ok all count states t n kinds xs qs rows
+    ≡ true → i < length xs → state_ok all count states t n kinds (get_or xs i []) (get_or qs i 0) (get_or rows i [])
+    ≡ true
 unfolding states_ok
 states-at all count states t n kinds [] [] [] i h l = absurd (omega arith)
 states-at all count states t n kinds (x ∷ xs) (q ∷ qs) (row ∷ rows) zero h l =
     (cond_and (state_ok all count states t n kinds x q row) (states_ok all count states t n kinds xs qs rows) h).0
 states-at all count states t n kinds (x ∷ xs) (q ∷ qs) (row ∷ rows) (suc i) h l =
-    states-at all count states t n kinds xs qs rows i (cond_and (state_ok all count states t n kinds x q row) (states_ok all count states t n kinds xs qs rows) h).1 (omega arith)
+    states-at all count states t n kinds xs qs rows i
+    (cond_and (state_ok all count states t n kinds x q row) (states_ok all count states t n kinds xs qs rows) h).1
+    (omega arith)
 states-at all count states t n kinds [] [] (row ∷ rows) i h l = cc
 states-at all count states t n kinds [] (q ∷ qs) rows i h l = cc
 states-at all count states t n kinds (x ∷ xs) [] rows i h l = cc
 states-at all count states t n kinds (x ∷ xs) (q ∷ qs) [] i h l = cc
 
-record CellFacts (all : List (List Re)) (count : ℕ) (states : List ℕ) (t : Tables) (rs : List Re) (q k n : ℕ) : Type 0 where
+record CellFacts (all : List (List Re)) (count : ℕ) (states : List ℕ) (t : Tables) (rs : List Re) (q k n : ℕ) : Type
+    0 where
   within : n < count
   left : steps k rs ≡ get_or all n []
   moved : state_behind t q k ≡ get_or states n 0
 
-cell-facts : (all : List (List Re)) (count : ℕ) (states : List ℕ) (t : Tables) (rs : List Re) (q k n : ℕ) → cell_ok all count states t.class_of (drop (q * t.row_len) t.rows) rs k n ≡ true → CellFacts all count states t rs q k n
+cell-facts : (all : List (List Re)) (count : ℕ) (states : List ℕ) (t : Tables) (rs : List Re) (q k n : ℕ)
+    → cell_ok all count states t.class_of (drop (q * t.row_len) t.rows) rs k n ≡ true
+    → CellFacts all count states t rs q k n
 unfolding cell_ok
 cell-facts all count states t rs q k n h =
     let here = drop (q * t.row_len) t.rows in
@@ -143,16 +161,20 @@ cell-facts all count states t rs q k n h =
     record {
       within = ltb-true n count p.0;
       left = same_all-true (steps k rs) (get_or all n []) r.0;
-      moved = sym (get_or-drop (q * t.row_len) t.rows (get_or t.class_of k 0) 0) ∙ eqb-true (get_or here (get_or t.class_of k 0) 0) (get_or states n 0) r.1;
+      moved = sym (get_or-drop (q * t.row_len) t.rows (get_or t.class_of k 0) 0)
+          ∙ eqb-true (get_or here (get_or t.class_of k 0) 0) (get_or states n 0) r.1;
     }
 
-record StateFacts (all : List (List Re)) (count : ℕ) (states : List ℕ) (t : Tables) (n : ℕ) (kinds : List ℕ) (rs : List Re) (q : ℕ) (row : List ℕ) : Type 0 where
+record StateFacts (all : List (List Re)) (count : ℕ) (states : List ℕ) (t : Tables) (n : ℕ) (kinds : List ℕ)
+    (rs : List Re) (q : ℕ) (row : List ℕ) : Type 0 where
   ending : get_or t.kind_in q 255 ≡ first_kind kinds rs
   low : all_below n rs ≡ true
   len : length row ≡ suc n
   cells : row_ok all count states t.class_of (drop (q * t.row_len) t.rows) rs 0 row ≡ true
 
-state-facts : (all : List (List Re)) (count : ℕ) (states : List ℕ) (t : Tables) (n : ℕ) (kinds : List ℕ) (rs : List Re) (q : ℕ) (row : List ℕ) → state_ok all count states t n kinds rs q row ≡ true → StateFacts all count states t n kinds rs q row
+state-facts : (all : List (List Re)) (count : ℕ) (states : List ℕ) (t : Tables) (n : ℕ) (kinds : List ℕ) (rs : List Re)
+    (q : ℕ) (row : List ℕ) → state_ok all count states t n kinds rs q row ≡ true
+    → StateFacts all count states t n kinds rs q row
 unfolding state_ok
 state-facts all count states t n kinds rs q row h =
     let cells = row_ok all count states t.class_of (drop (q * t.row_len) t.rows) rs 0 row in
@@ -180,13 +202,18 @@ record Leads (all : List (List Re)) (count : ℕ) (states : List ℕ) (t : Table
   to : ℕ
   facts : CellFacts all count states t rs q k to
 
-cell_from : (all : List (List Re)) (count : ℕ) (states : List ℕ) (t : Tables) (n : ℕ) (kinds : List ℕ) (rs : List Re) (q : ℕ) (row : List ℕ) (j : ℕ) → StateFacts all count states t n kinds rs q row → j < length row → CellFacts all count states t rs q j (get_or row j 0)
+cell_from : (all : List (List Re)) (count : ℕ) (states : List ℕ) (t : Tables) (n : ℕ) (kinds : List ℕ) (rs : List Re)
+    (q : ℕ) (row : List ℕ) (j : ℕ) → StateFacts all count states t n kinds rs q row → j < length row
+    → CellFacts all count states t rs q j (get_or row j 0)
 cell_from all count states t n kinds rs q row j s l =
     let here = drop (q * t.row_len) t.rows in
     cell-facts all count states t rs q j (get_or row j 0)
-    (subst (λ i. cell_ok all count states t.class_of here rs i (get_or row j 0) ≡ true) (zero-add j) (row-at all count states t.class_of here rs 0 row j s.cells l))
+    (subst (λ i. cell_ok all count states t.class_of here rs i (get_or row j 0) ≡ true) (zero-add j)
+    (row-at all count states t.class_of here rs 0 row j s.cells l))
 
-leads : (all : List (List Re)) (count : ℕ) (states : List ℕ) (t : Tables) (n : ℕ) (kinds : List ℕ) (rs : List Re) (q : ℕ) (row : List ℕ) → state_ok all count states t n kinds rs q row ≡ true → zeros (drop n t.class_of) ≡ true → (k : ℕ) → Leads all count states t rs q k
+leads : (all : List (List Re)) (count : ℕ) (states : List ℕ) (t : Tables) (n : ℕ) (kinds : List ℕ) (rs : List Re)
+    (q : ℕ) (row : List ℕ) → state_ok all count states t n kinds rs q row ≡ true → zeros (drop n t.class_of) ≡ true
+    → (k : ℕ) → Leads all count states t rs q k
 leads all count states t n kinds rs q row h z k =
     let s = state-facts all count states t n kinds rs q row h in
     ⊎_elim
@@ -207,10 +234,14 @@ leads all count states t n kinds rs q row h z k =
     (cases_lt k n)
 
 -- What the tables say from a state is what is left there of the rules.
-simulates : (all : List (List Re)) (states : List ℕ) (t : Tables) (n : ℕ) (kinds : List ℕ) (rows : List (List ℕ)) → states_ok all (length all) states t n kinds all states rows ≡ true → zeros (drop n t.class_of) ≡ true → (w : List ℕ) (i : ℕ) → i < length all → get_or t.kind_in (run t (get_or states i 0) w) 255 ≡ first_kind kinds (after w (get_or all i []))
+simulates : (all : List (List Re)) (states : List ℕ) (t : Tables) (n : ℕ) (kinds : List ℕ) (rows : List (List ℕ))
+    → states_ok all (length all) states t n kinds all states rows ≡ true → zeros (drop n t.class_of) ≡ true
+    → (w : List ℕ) (i : ℕ) → i < length all → get_or t.kind_in (run t (get_or states i 0) w) 255
+    ≡ first_kind kinds (after w (get_or all i []))
 unfolding run after
 simulates all states t n kinds rows h z [] i l =
-    (state-facts all (length all) states t n kinds (get_or all i []) (get_or states i 0) (get_or rows i []) (states-at all (length all) states t n kinds all states rows i h l)).ending
+    (state-facts all (length all) states t n kinds (get_or all i []) (get_or states i 0) (get_or rows i [])
+    (states-at all (length all) states t n kinds all states rows i h l)).ending
 simulates all states t n kinds rows h z (k ∷ ks) i l =
     let ok = states-at all (length all) states t n kinds all states rows i h l in
     let m = leads all (length all) states t n kinds (get_or all i []) (get_or states i 0) (get_or rows i []) ok z k in
@@ -228,7 +259,8 @@ machine_ok all states t n rows g =
     let some = cond (nat_lt 0 (length all)) starts false in
     cond (same_all (get_or all 0 []) g.rules) some false
 
-pub machine-is : (all : List (List Re)) (states : List ℕ) (t : Tables) (n : ℕ) (rows : List (List ℕ)) (g : Grammar) → machine_ok all states t n rows g ≡ true → (w : List ℕ) → IsKind g w (ends_by t 0 w)
+pub machine-is : (all : List (List Re)) (states : List ℕ) (t : Tables) (n : ℕ) (rows : List (List ℕ)) (g : Grammar)
+    → machine_ok all states t n rows g ≡ true → (w : List ℕ) → IsKind g w (ends_by t 0 w)
 unfolding machine_ok
 machine-is all states t n rows g h w =
     let table = states_ok all (length all) states t n g.kinds all states rows in

@@ -53,7 +53,8 @@ takes-nullable empty i = refl
 takes-nullable (one k) i = cc
 takes-nullable (seq a b) i =
     let p = nothing_joined i.0 i.1 i.2 in
-    and_cond (nullable a) (nullable b) (takes-nullable a (subst (IsIn a) p.0 i.3)) (takes-nullable b (subst (IsIn b) p.1 i.4))
+    and_cond (nullable a) (nullable b) (takes-nullable a (subst (IsIn a) p.0 i.3))
+    (takes-nullable b (subst (IsIn b) p.1 i.4))
 takes-nullable (alt a b) i =
     or_cond (nullable a) (nullable b) (⊎_elim (λ j. inl (takes-nullable a j)) (λ j. inr (takes-nullable b j)) i)
 takes-nullable (star a) i = refl
@@ -76,8 +77,14 @@ unfolding chain
 chain-complete none b w i = i.3
 chain-complete empty b w i = subst (IsIn b) (sym (i.2 ∙ ap (λ t. t ++ i.1) i.3)) i.4
 chain-complete (seq x y) b w i =
-    let p = i.3 in
-    (p.0, p.1 ++ i.1, i.2 ∙ ap (λ t. t ++ i.1) p.2 ∙ append_assoc p.0 p.1 i.1, p.3, chain-complete y b (p.1 ++ i.1) (p.1, i.1, refl, p.4, i.4))
+    let p = i.3 in (
+      p.0,
+      p.1 ++ i.1,
+      i.2 ∙ ap (λ t. t ++ i.1) p.2
+          ∙ append_assoc p.0 p.1 i.1,
+      p.3,
+      chain-complete y b (p.1 ++ i.1) (p.1, i.1, refl, p.4, i.4),
+    )
 chain-complete (one k) b w i = i
 chain-complete (alt x y) b w i = i
 chain-complete (star x) b w i = i
@@ -130,7 +137,8 @@ before-complete a (star x) w i = i
 insert-sound : (a b : Re) (w : List ℕ) → IsIn (insert a b) w → IsIn a w ⊎ IsIn b w
 unfolding insert
 insert-sound a b w =
-    cond_both (member a b) b (before a b) (λ r. IsIn r w → IsIn a w ⊎ IsIn b w) (λ _ i. inr i) (λ _ i. before-sound a b w i)
+    cond_both (member a b) b (before a b) (λ r. IsIn r w → IsIn a w ⊎ IsIn b w) (λ _ i. inr i)
+    (λ _ i. before-sound a b w i)
 
 insert-complete : (a b : Re) (w : List ℕ) → IsIn a w ⊎ IsIn b w → IsIn (insert a b) w
 unfolding insert
@@ -142,7 +150,8 @@ union-sound : (a b : Re) (w : List ℕ) → IsIn (union a b) w → IsIn a w ⊎ 
 unfolding union
 union-sound none b w i = inr i
 union-sound (alt x y) b w i =
-    ⊎_elim (λ j. inl (inl j)) (λ j. ⊎_elim (λ l. inl (inr l)) (λ l. inr l) (union-sound y b w j)) (union-sound x (union y b) w i)
+    ⊎_elim (λ j. inl (inl j)) (λ j. ⊎_elim (λ l. inl (inr l)) (λ l. inr l) (union-sound y b w j))
+    (union-sound x (union y b) w i)
 union-sound empty b w i = insert-sound empty b w i
 union-sound (one k) b w i = insert-sound (one k) b w i
 union-sound (seq x y) b w i = insert-sound (seq x y) b w i
@@ -153,7 +162,8 @@ unfolding union
 union-complete none b w s = ⊎_elim (λ i. absurd i) (λ i. i) s
 union-complete (alt x y) b w s =
     union-complete x (union y b) w
-    (⊎_elim (λ i. ⊎_elim (λ j. inl j) (λ j. inr (union-complete y b w (inl j))) i) (λ i. inr (union-complete y b w (inr i))) s)
+    (⊎_elim (λ i. ⊎_elim (λ j. inl j) (λ j. inr (union-complete y b w (inl j))) i)
+    (λ i. inr (union-complete y b w (inr i))) s)
 union-complete empty b w s = insert-complete empty b w s
 union-complete (one k) b w s = insert-complete (one k) b w s
 union-complete (seq x y) b w s = insert-complete (seq x y) b w s
@@ -173,7 +183,8 @@ step-sound k (seq a b) w i =
     λ h. let s = chain-sound (step k a) b w h in (k ∷ s.0, s.1, ap (λ t. k ∷ t) s.2, step-sound k a s.0 s.3, s.4) in
     cond_both (nullable a) (union (chain (step k a) b) (step k b)) (chain (step k a) b)
     (λ r. IsIn r w → IsIn (seq a b) (k ∷ w))
-    (λ e h. ⊎_elim front (λ j. ([], k ∷ w, refl, nullable-takes a e, step-sound k b w j)) (union-sound (chain (step k a) b) (step k b) w h))
+    (λ e h. ⊎_elim front (λ j. ([], k ∷ w, refl, nullable-takes a e, step-sound k b w j))
+    (union-sound (chain (step k a) b) (step k b) w h))
     (λ _ h. front h) i
 step-sound k (alt a b) w i =
     ⊎_elim (λ j. inl (step-sound k a w j)) (λ j. inr (step-sound k b w j)) (union-sound (step k a) (step k b) w i)
@@ -182,12 +193,14 @@ step-sound k (star a) w i =
     more (k ∷ w) (k ∷ s.0) s.1 (ap (λ t. k ∷ t) s.2) (step-sound k a s.0 s.3) s.4
 
 -- where a list that begins with k is taken by A and then B, A takes nothing or what begins with k
-begins : (k : ℕ) (w u v : List ℕ) (A B : List ℕ → Type 0) → k ∷ w ≡ u ++ v → A u → B v → (A [] × B (k ∷ w)) ⊎ ((u : List ℕ) × (w ≡ u ++ v) × A (k ∷ u))
+begins : (k : ℕ) (w u v : List ℕ) (A B : List ℕ → Type 0) → k ∷ w ≡ u ++ v → A u → B v → (A [] × B (k ∷ w))
+    ⊎ ((u : List ℕ) × (w ≡ u ++ v) × A (k ∷ u))
 begins k w [] v A B e a b = inl (a, subst B (sym e) b)
 begins k w (x ∷ u) v A B e a b =
     let p = cons_parts k x w (u ++ v) e in inr (u, p.1, subst (λ t. A (t ∷ u)) (sym p.0) a)
 
-many_begins : (A : List ℕ → Type 0) (k : ℕ) (w x : List ℕ) → Many A x → x ≡ k ∷ w → (u : List ℕ) × (v : List ℕ) × (w ≡ u ++ v) × A (k ∷ u) × Many A v
+many_begins : (A : List ℕ → Type 0) (k : ℕ) (w x : List ℕ) → Many A x → x ≡ k ∷ w → (u : List ℕ) × (v : List ℕ)
+    × (w ≡ u ++ v) × A (k ∷ u) × Many A v
 many_begins A k w x (done _ z) e = no_cons k w (sym e ∙ z)
 many_begins A k w x (more _ [] v s a rest) e = many_begins A k w v rest (sym s ∙ e)
 many_begins A k w x (more _ (y ∷ u) v s a rest) e =
@@ -212,7 +225,8 @@ step-complete k (seq a b) w i =
     (λ _. union-complete (chain (step k a) b) (step k b) w (inl f)) (λ _. f))
     (begins k w i.0 i.1 (IsIn a) (IsIn b) i.2 i.3 i.4)
 step-complete k (alt a b) w i =
-    union-complete (step k a) (step k b) w (⊎_elim (λ j. inl (step-complete k a w j)) (λ j. inr (step-complete k b w j)) i)
+    union-complete (step k a) (step k b) w (⊎_elim (λ j. inl (step-complete k a w j)) (λ j. inr (step-complete k b w j))
+    i)
 step-complete k (star a) w i =
     let m = many_begins (IsIn a) k w (k ∷ w) i refl in
     chain-complete (step k a) (star a) w (m.0, m.1, m.2, step-complete k a m.0 m.3, m.4)

@@ -67,10 +67,12 @@ fit-parts x b h =
     cond_both (x == 255) false b (λ t. t ≡ true → (x ≡ 255 → ⊥) × (b ≡ true))
     (λ _ e. cc) (λ n e. (eqb-false x 255 n, e)) h
 
-none-first : (ks : List ℕ) (rs : List Re) → kinds_fit ks rs ≡ true → first_kind ks rs ≡ 255 → (j : ℕ) → nullable (get_or rs j none) ≡ true → ⊥
+none-first : (ks : List ℕ) (rs : List Re) → kinds_fit ks rs ≡ true → first_kind ks rs ≡ 255 → (j : ℕ)
+    → nullable (get_or rs j none) ≡ true → ⊥
 unfolding kinds_fit first_kind nullable
 none-first [] [] f e j n = cc
-none-first (k ∷ ks) (r ∷ rs) f e zero n = (fit-parts k (kinds_fit ks rs) f).0 (sym (cond-true (nullable r) k (first_kind ks rs) n) ∙ e)
+none-first (k ∷ ks) (r ∷ rs) f e zero n =
+    (fit-parts k (kinds_fit ks rs) f).0 (sym (cond-true (nullable r) k (first_kind ks rs) n) ∙ e)
 none-first (k ∷ ks) (r ∷ rs) f e (suc j) n =
     let p = fit-parts k (kinds_fit ks rs) f in
     cond_both (nullable r) k (first_kind ks rs) (λ x. x ≡ 255 → ⊥) (λ _ h. p.0 h) (λ _ h. none-first ks rs p.1 h j n) e
@@ -84,11 +86,14 @@ record FirstHere (ks : List ℕ) (rs : List Re) (k : ℕ) : Type 0 where
   before : (i : ℕ) → i < rule → nullable (get_or rs i none) ≡ true → ⊥
   same_kind : k ≡ get_or ks rule 0
 
-before_suc : (r : Re) (rs : List Re) (j : ℕ) → nullable r ≡ false → ((i : ℕ) → i < j → nullable (get_or rs i none) ≡ true → ⊥) → (i : ℕ) → i < suc j → nullable (get_or (r ∷ rs) i none) ≡ true → ⊥
+before_suc : (r : Re) (rs : List Re) (j : ℕ) → nullable r ≡ false
+    → ((i : ℕ) → i < j → nullable (get_or rs i none) ≡ true → ⊥) → (i : ℕ) → i < suc j
+    → nullable (get_or (r ∷ rs) i none) ≡ true → ⊥
 before_suc r rs j n h zero l t = cc
 before_suc r rs j n h (suc i) l t = h i (omega arith) t
 
-some-first : (ks : List ℕ) (rs : List Re) → kinds_fit ks rs ≡ true → (first_kind ks rs ≡ 255 → ⊥) → FirstHere ks rs (first_kind ks rs)
+some-first : (ks : List ℕ) (rs : List Re) → kinds_fit ks rs ≡ true → (first_kind ks rs ≡ 255 → ⊥)
+    → FirstHere ks rs (first_kind ks rs)
 unfolding kinds_fit first_kind nullable
 some-first (k ∷ ks) (r ∷ rs) f e =
     cond_both (nullable r) k (first_kind ks rs) (λ x. (x ≡ 255 → ⊥) → FirstHere (k ∷ ks) (r ∷ rs) x)
@@ -105,13 +110,15 @@ some-first [] (r ∷ rs) f e = cc
 some-first (k ∷ ks) [] f e = cc
 
 -- what the rules say of w is what the first that is left behind w says
-pub kind-is : (g : Grammar) (w : List ℕ) → kinds_fit g.kinds g.rules ≡ true → IsKind g w (kind_or_none (first_kind g.kinds (after w g.rules)))
+pub kind-is : (g : Grammar) (w : List ℕ) → kinds_fit g.kinds g.rules ≡ true
+    → IsKind g w (kind_or_none (first_kind g.kinds (after w g.rules)))
 kind-is g w f =
     let rs = after w g.rules in
     let k = first_kind g.kinds rs in
     let fit = fit-after w g.kinds g.rules f in
     cond_both (k == 255) None (Some k) (λ o. IsKind g w o)
-    (λ e j i. none-first g.kinds rs fit (eqb-true k 255 e) j (takes-nullable (get_or rs j none) (after-complete w g.rules j i)))
+    (λ e j i. none-first g.kinds rs fit (eqb-true k 255 e) j
+    (takes-nullable (get_or rs j none) (after-complete w g.rules j i)))
     (λ e. let p = some-first g.kinds rs fit (eqb-false k 255 e) in (
       p.rule,
       record {

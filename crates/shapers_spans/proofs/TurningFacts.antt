@@ -102,7 +102,8 @@ cond_unless : (x y : Bool) → cond x true y ≡ true → x ≡ false → y ≡ 
 cond_unless true y h e = cc
 cond_unless false y h e = h
 
-cell-facts : (t : Tables) (f : Turning) (q k p : ℕ) → cell_turns t f q (get_or t.class_of k 0) p ≡ true → CellTurns t f q k p
+cell-facts : (t : Tables) (f : Turning) (q k p : ℕ) → cell_turns t f q (get_or t.class_of k 0) p ≡ true
+    → CellTurns t f q k p
 unfolding cell_turns
 cell-facts t f q k p h =
     let joiner = joins t f k in
@@ -142,7 +143,8 @@ cell-facts t f q k p h =
       falls = (λ i n m.
           ltb-true (rank_of f p) (rank_of f q)
           (cond_unless (has_turn f p) (nat_lt (rank_of f p) (rank_of f q))
-          (cond_then mute lower (cond_then (nat_lt 0 (rank_of f q)) fall u.0 (lt-ltb 0 (rank_of f q) i)) (silent t p n)) m));
+          (cond_then mute lower (cond_then (nat_lt 0 (rank_of f q)) fall u.0 (lt-ltb 0 (rank_of f q) i)) (silent t p n))
+          m));
       low = (let l : rank_of f p < 3 = ltb-true (rank_of f p) 3 v.0 in omega (arith, l));
       one = (λ i j. cond_then joiner (has_begun f p) (cond_then (q == 0) opened w.0 (eq-eqb q 0 i)) j);
       begun = (λ i.
@@ -153,12 +155,16 @@ cell-facts t f q k p h =
           let m = cond_and mute home (cond_then joiner quiet (cond_then (has_begun f q) second y.0 i) j) in
           (eqb-true p f.turned m.1, quiet_ends t p m.0));
       waits = (λ i.
-          let m = cond_and joiner before (cond_then (has_wait f p) led z.0 i) in
-          (m.0, ⊎_elim (λ o. inl o) (λ o. inr (λ n. not_both (get_or t.kind_in q 255 == 255) o (silent t q n))) (cond_or (has_wait f q) ended m.1)));
+          let m = cond_and joiner before (cond_then (has_wait f p) led z.0 i) in (
+            m.0,
+            ⊎_elim (λ o. inl o) (λ o. inr (λ n. not_both (get_or t.kind_in q 255 == 255) o (silent t q n)))
+                (cond_or (has_wait f q) ended m.1),
+          ));
       stays = (λ i j. eqb-true p q (cond_then joiner same (cond_then turning stay z.1 i) j));
     }
 
-row-turns : (t : Tables) (f : Turning) (q c : ℕ) (row : List ℕ) (j : ℕ) → row_turns t f q c row ≡ true → j < length row → cell_turns t f q (c + j) (get_or row j 0) ≡ true
+row-turns : (t : Tables) (f : Turning) (q c : ℕ) (row : List ℕ) (j : ℕ) → row_turns t f q c row ≡ true → j < length row
+    → cell_turns t f q (c + j) (get_or row j 0) ≡ true
 unfolding row_turns
 row-turns t f q c [] j h l = absurd (omega arith)
 row-turns t f q c (p ∷ ps) zero h l =
@@ -177,7 +183,8 @@ state-at t f (suc n) q h l =
     ⊎_elim (λ m. state-at t f n q p.1 m)
     (λ m. let e : n ≡ q = omega arith in subst (λ i. state_turns t f i ≡ true) e p.0) (cases_lt q n)
 
-pub cell-turns : (t : Tables) (f : Turning) (n : ℕ) → turning_ok t f n ≡ true → (q k : ℕ) → q < n → get_or t.class_of k 0 < t.row_len → CellTurns t f q k (get_or t.rows (q * t.row_len + get_or t.class_of k 0) 0)
+pub cell-turns : (t : Tables) (f : Turning) (n : ℕ) → turning_ok t f n ≡ true → (q k : ℕ) → q < n
+    → get_or t.class_of k 0 < t.row_len → CellTurns t f q k (get_or t.rows (q * t.row_len + get_or t.class_of k 0) 0)
 unfolding turning_ok state_turns
 cell-turns t f n h q k l m =
     let c = get_or t.class_of k 0 in
@@ -186,13 +193,17 @@ cell-turns t f n h q k l m =
     let s = state-at t f n q w.1 l in
     let waits = cond (has_turn f q) (has_wait f q) true in
     let both = cond waits (row_turns t f q 0 row) false in
-    let r : row_turns t f q 0 row ≡ true = (cond_and waits (row_turns t f q 0 row) (cond_and (cond (q == f.dead) true (nat_lt 0 (rank_of f q))) both s).1).1 in
+    let r : row_turns t f q 0 row ≡ true =
+    (cond_and waits (row_turns t f q 0 row)
+    (cond_and (cond (q == f.dead) true (nat_lt 0 (rank_of f q))) both s).1).1 in
     let e : length t.rows ≡ n * t.row_len = eqb-true (length t.rows) (n * t.row_len) w.0 in
     let whole : length row ≡ t.row_len = row-len t.row_len n q t.rows l e in
-    let here : get_or row c 0 ≡ get_or t.rows (q * t.row_len + c) 0 = get_or-take t.row_len (drop (q * t.row_len) t.rows) c 0 m ∙ get_or-drop (q * t.row_len) t.rows c 0 in
+    let here : get_or row c 0 ≡ get_or t.rows (q * t.row_len + c) 0 =
+    get_or-take t.row_len (drop (q * t.row_len) t.rows) c 0 m ∙ get_or-drop (q * t.row_len) t.rows c 0 in
     let in_row : c < length row = omega (arith, m, whole) in
     subst (λ p. CellTurns t f q k p) here
-    (cell-facts t f q k (get_or row c 0) (subst (λ i. cell_turns t f q i (get_or row c 0) ≡ true) (zero-add c) (row-turns t f q 0 row c r in_row)))
+    (cell-facts t f q k (get_or row c 0)
+    (subst (λ i. cell_turns t f q i (get_or row c 0) ≡ true) (zero-add c) (row-turns t f q 0 row c r in_row)))
   where
     row-within : (w n q : ℕ) → q < n → q * w + w ≤ n * w
     row-within w n q l =
@@ -207,7 +218,8 @@ cell-turns t f n h q k l m =
         let le : w ≤ length (drop (q * w) rows) = omega (arith, b, d, e) in
         length-take-le w (drop (q * w) rows) le
 
-pub state-turns : (t : Tables) (f : Turning) (n : ℕ) → turning_ok t f n ≡ true → (q : ℕ) → q < n → IsTrue (has_turn f q) → has_wait f q ≡ true
+pub state-turns : (t : Tables) (f : Turning) (n : ℕ) → turning_ok t f n ≡ true → (q : ℕ) → q < n → IsTrue (has_turn f q)
+    → has_wait f q ≡ true
 unfolding turning_ok state_turns
 state-turns t f n h q l u =
     let w = cond_and (length t.rows == n * t.row_len) (states_turn t f n) h in
@@ -215,12 +227,15 @@ state-turns t f n h q l u =
     let row = row_turns t f q 0 (take t.row_len (drop (q * t.row_len) t.rows)) in
     let waits = cond (has_turn f q) (has_wait f q) true in
     let both = cond waits row false in
-    cond_then (has_turn f q) (has_wait f q) (cond_and waits row (cond_and (cond (q == f.dead) true (nat_lt 0 (rank_of f q))) both s).1).0 (is-true (has_turn f q) u)
+    cond_then (has_turn f q) (has_wait f q)
+    (cond_and waits row (cond_and (cond (q == f.dead) true (nat_lt 0 (rank_of f q))) both s).1).0
+    (is-true (has_turn f q) u)
   where
     is-true : (b : Bool) → IsTrue b → b ≡ true
     is-true b i = search rules
 
-pub state-lives : (t : Tables) (f : Turning) (n : ℕ) → turning_ok t f n ≡ true → (q : ℕ) → q < n → (q == f.dead) ≡ false → 0 < rank_of f q
+pub state-lives : (t : Tables) (f : Turning) (n : ℕ) → turning_ok t f n ≡ true → (q : ℕ) → q < n → (q == f.dead) ≡ false
+    → 0 < rank_of f q
 unfolding turning_ok state_turns
 state-lives t f n h q l u =
     let w = cond_and (length t.rows == n * t.row_len) (states_turn t f n) h in
@@ -228,5 +243,6 @@ state-lives t f n h q l u =
     let row = row_turns t f q 0 (take t.row_len (drop (q * t.row_len) t.rows)) in
     let waits = cond (has_turn f q) (has_wait f q) true in
     let both = cond waits row false in
-    let r : cond (q == f.dead) true (nat_lt 0 (rank_of f q)) ≡ true = (cond_and (cond (q == f.dead) true (nat_lt 0 (rank_of f q))) both s).0 in
+    let r : cond (q == f.dead) true (nat_lt 0 (rank_of f q)) ≡ true =
+    (cond_and (cond (q == f.dead) true (nat_lt 0 (rank_of f q))) both s).0 in
     ltb-true 0 (rank_of f q) (sym (cond-false (q == f.dead) true (nat_lt 0 (rank_of f q)) u) ∙ r)

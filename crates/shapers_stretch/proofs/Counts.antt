@@ -26,108 +26,188 @@ rightward pen step zero = refl
 rightward pen step (suc n) = ap (λ xs. pen ∷ xs) (rightward (pen +ℤ step) step n)
 
 -- the offsets of equal copies fit exactly if those of the first and the last do
-ends_tell : (right_to_left : Bool) (pen step : ℤ) (n : ℕ) → offsets_fit right_to_left pen (replicate (suc n) step) ≡ (fits_i32 (stands_at right_to_left pen step) && fits_i32 (last_at right_to_left (pen_behind right_to_left pen (pos (suc n) *ℤ step)) step))
+ends_tell : (right_to_left : Bool) (pen step : ℤ) (n : ℕ) → offsets_fit right_to_left pen (replicate (suc n) step)
+    ≡ (fits_i32 (stands_at right_to_left pen step)
+    && fits_i32 (last_at right_to_left (pen_behind right_to_left pen (pos (suc n) *ℤ step)) step))
 ends_tell true pen step n =
-    let last : (pen -ℤ step) +ℤ pos n *ℤ neg_ℤ step ≡ pen -ℤ pos (suc n) *ℤ step = omega (arith, ints, times_suc n step, times_neg n step) in
-    ap (list_all fits_i32) (leftward pen step n) ∙ stepping_fits (pen -ℤ step) (neg_ℤ step) n ∙ ap (λ x. fits_i32 (pen -ℤ step) && fits_i32 x) last
+    let last : (pen -ℤ step) +ℤ pos n *ℤ neg_ℤ step ≡ pen -ℤ pos (suc n) *ℤ step =
+    omega (arith, ints, times_suc n step, times_neg n step) in
+    ap (list_all fits_i32) (leftward pen step n) ∙ stepping_fits (pen -ℤ step) (neg_ℤ step) n
+    ∙ ap (λ x. fits_i32 (pen -ℤ step) && fits_i32 x) last
 ends_tell false pen step n =
     let last : pen +ℤ pos n *ℤ step ≡ (pen +ℤ pos (suc n) *ℤ step) -ℤ step = omega (arith, ints, times_suc n step) in
     ap (list_all fits_i32) (rightward pen step n) ∙ stepping_fits pen step n ∙ ap (λ x. fits_i32 pen && fits_i32 x) last
 
 -- a pen behind copies of which the last one fits
-number_behind : (right_to_left : Bool) (behind step : ℤ) → fits_i32 (last_at right_to_left behind step) ≡ true → negsuc (2 ^ 36) ≤ℤ step → step ≤ℤ pos (2 ^ 36) → IsNumber behind
-number_behind true behind step e low high = let near = fits_bounds behind e in record { low = omega (arith, ints); high = omega (arith, ints) }
-number_behind false behind step e low high = let near = fits_bounds (behind -ℤ step) e in record { low = omega (arith, ints); high = omega (arith, ints) }
+number_behind : (right_to_left : Bool) (behind step : ℤ) → fits_i32 (last_at right_to_left behind step) ≡ true
+    → negsuc (2 ^ 36) ≤ℤ step → step ≤ℤ pos (2 ^ 36) → IsNumber behind
+number_behind true behind step e low high = let near =
+    fits_bounds behind e in record { low = omega (arith, ints); high = omega (arith, ints) }
+number_behind false behind step e low high = let near =
+    fits_bounds (behind -ℤ step) e in record { low = omega (arith, ints); high = omega (arith, ints) }
 
-tells : (right_to_left : Bool) (pen step behind : ℤ) (count : ℕ) → 0 < count → behind ≡ pen_behind right_to_left pen (pos count *ℤ step) → offsets_fit right_to_left pen (replicate count step) ≡ (fits_i32 (stands_at right_to_left pen step) && fits_i32 (last_at right_to_left behind step))
+tells : (right_to_left : Bool) (pen step behind : ℤ) (count : ℕ) → 0 < count
+    → behind ≡ pen_behind right_to_left pen (pos count *ℤ step) → offsets_fit right_to_left pen (replicate count step)
+    ≡ (fits_i32 (stands_at right_to_left pen step) && fits_i32 (last_at right_to_left behind step))
 tells right_to_left pen step behind zero p e = absurd (omega arith)
-tells right_to_left pen step behind (suc n) p e = ends_tell right_to_left pen step n ∙ ap (λ b. fits_i32 (stands_at right_to_left pen step) && fits_i32 (last_at right_to_left b step)) (sym e)
+tells right_to_left pen step behind (suc n) p e = ends_tell right_to_left pen step n
+    ∙ ap (λ b. fits_i32 (stands_at right_to_left pen step) && fits_i32 (last_at right_to_left b step)) (sym e)
 
-pub copies_walked : (right_to_left : Bool) (pen step behind : ℤ) (count : ℕ) → 0 < count → behind ≡ pen_behind right_to_left pen (pos count *ℤ step) → (fits_i32 (stands_at right_to_left pen step) && fits_i32 (last_at right_to_left behind step)) ≡ true → negsuc (2 ^ 36) ≤ℤ step → step ≤ℤ pos (2 ^ 36) → WalksPen right_to_left pen (replicate count step) (Some behind)
+pub copies_walked : (right_to_left : Bool) (pen step behind : ℤ) (count : ℕ) → 0 < count
+    → behind ≡ pen_behind right_to_left pen (pos count *ℤ step)
+    → (fits_i32 (stands_at right_to_left pen step) && fits_i32 (last_at right_to_left behind step)) ≡ true
+    → negsuc (2 ^ 36) ≤ℤ step → step ≤ℤ pos (2 ^ 36) → WalksPen right_to_left pen (replicate count step) (Some behind)
 copies_walked right_to_left pen step behind count p e fits low high =
-    let both = and_parts (fits_i32 (stands_at right_to_left pen step)) (fits_i32 (last_at right_to_left behind step)) fits in
-    (tells right_to_left pen step behind count p e ∙ fits, e ∙ ap (pen_behind right_to_left pen) (sym (total-replicate count step)), number_behind right_to_left behind step both.1 low high)
+    let both = and_parts (fits_i32 (stands_at right_to_left pen step)) (fits_i32 (last_at right_to_left behind step))
+    fits in (
+      tells right_to_left pen step behind count p e ∙ fits,
+      e
+          ∙ ap (pen_behind right_to_left pen) (sym (total-replicate count step)),
+      number_behind right_to_left behind step
+          both.1 low high,
+    )
 
-pub copies_stopped : (right_to_left : Bool) (pen step behind : ℤ) (count : ℕ) → 0 < count → behind ≡ pen_behind right_to_left pen (pos count *ℤ step) → (fits_i32 (stands_at right_to_left pen step) && fits_i32 (last_at right_to_left behind step)) ≡ false → WalksPen right_to_left pen (replicate count step) None
+pub copies_stopped : (right_to_left : Bool) (pen step behind : ℤ) (count : ℕ) → 0 < count
+    → behind ≡ pen_behind right_to_left pen (pos count *ℤ step)
+    → (fits_i32 (stands_at right_to_left pen step) && fits_i32 (last_at right_to_left behind step)) ≡ false
+    → WalksPen right_to_left pen (replicate count step) None
 copies_stopped right_to_left pen step behind count p e fails = tells right_to_left pen step behind count p e ∙ fails
 
 -- how far copies that each move the pen by a width less an overlap move it together
-pub widths_within : (n : ℕ) (w : ℤ) → FitsSigned w32 w → (neg_ℤ (pos (2147483648 * n)) ≤ℤ (pos n *ℤ w)) × ((pos n *ℤ w) ≤ℤ pos (2147483648 * n))
+pub widths_within : (n : ℕ) (w : ℤ) → FitsSigned w32 w → (neg_ℤ (pos (2147483648 * n)) ≤ℤ (pos n *ℤ w))
+    × ((pos n *ℤ w) ≤ℤ pos (2147483648 * n))
 widths_within zero w f = (omega (arith, ints, times_zero w), omega (arith, ints, times_zero w))
-widths_within (suc n) w f = let before = widths_within n w f in (omega (arith, ints, times_suc n w, before.0, f), omega (arith, ints, times_suc n w, before.1, f))
+widths_within (suc n) w f = let before =
+    widths_within n w
+    f in (omega (arith, ints, times_suc n w, before.0, f), omega (arith, ints, times_suc n w, before.1, f))
 
-pub far_moves : (n : ℕ) (w o step : ℤ) → n ≤ 2 ^ 31 → FitsSigned w32 w → pos 0 ≤ℤ o → (pos n *ℤ o) ≤ℤ pos (2 ^ 34) → step ≡ w -ℤ o → (negsuc (3 * 2 ^ 61) ≤ℤ (pos n *ℤ step)) × ((pos n *ℤ step) ≤ℤ pos (3 * 2 ^ 61))
+pub far_moves : (n : ℕ) (w o step : ℤ) → n ≤ 2 ^ 31 → FitsSigned w32 w → pos 0 ≤ℤ o → (pos n *ℤ o) ≤ℤ pos (2 ^ 34)
+    → step ≡ w -ℤ o → (negsuc (3 * 2 ^ 61) ≤ℤ (pos n *ℤ step)) × ((pos n *ℤ step) ≤ℤ pos (3 * 2 ^ 61))
 far_moves n w o step few f up most e =
     let apart : step ≡ w +ℤ neg_ℤ o = omega (arith, ints, e) in
-    let sum : pos n *ℤ step ≡ pos n *ℤ w +ℤ neg_ℤ (pos n *ℤ o) = ap (λ x. pos n *ℤ x) apart ∙ times_sum n w (neg_ℤ o) ∙ ap (λ x. pos n *ℤ w +ℤ x) (times_neg n o) in
+    let sum : pos n *ℤ step ≡ pos n *ℤ w +ℤ neg_ℤ (pos n *ℤ o) = ap (λ x. pos n *ℤ x) apart ∙ times_sum n w (neg_ℤ o)
+    ∙ ap (λ x. pos n *ℤ w +ℤ x) (times_neg n o) in
     let width = widths_within n w f in
     (omega (arith, ints, sum, width.0, most, few), omega (arith, ints, sum, width.1, times_up n o up, few))
 
 -- the same of one copy
-number_after : (right_to_left : Bool) (pen step : ℤ) → fits_i32 (stands_at right_to_left pen step) ≡ true → negsuc (2 ^ 36) ≤ℤ step → step ≤ℤ pos (2 ^ 36) → IsNumber (pen_behind right_to_left pen step)
-number_after true pen step e low high = let near = fits_bounds (pen -ℤ step) e in record { low = omega (arith, ints); high = omega (arith, ints) }
-number_after false pen step e low high = let near = fits_bounds pen e in record { low = omega (arith, ints); high = omega (arith, ints) }
+number_after : (right_to_left : Bool) (pen step : ℤ) → fits_i32 (stands_at right_to_left pen step) ≡ true
+    → negsuc (2 ^ 36) ≤ℤ step → step ≤ℤ pos (2 ^ 36) → IsNumber (pen_behind right_to_left pen step)
+number_after true pen step e low high = let near =
+    fits_bounds (pen -ℤ step) e in record { low = omega (arith, ints); high = omega (arith, ints) }
+number_after false pen step e low high = let near =
+    fits_bounds pen e in record { low = omega (arith, ints); high = omega (arith, ints) }
 
-pub copy_walked : (right_to_left : Bool) (pen step behind : ℤ) → behind ≡ pen_behind right_to_left pen step → fits_i32 (stands_at right_to_left pen step) ≡ true → negsuc (2 ^ 36) ≤ℤ step → step ≤ℤ pos (2 ^ 36) → WalksPen right_to_left pen (step ∷ []) (Some behind)
+pub copy_walked : (right_to_left : Bool) (pen step behind : ℤ) → behind ≡ pen_behind right_to_left pen step
+    → fits_i32 (stands_at right_to_left pen step) ≡ true → negsuc (2 ^ 36) ≤ℤ step → step ≤ℤ pos (2 ^ 36)
+    → WalksPen right_to_left pen (step ∷ []) (Some behind)
 copy_walked right_to_left pen step behind e fits low high =
-    let sum : total (step ∷ []) ≡ step = omega (arith, ints, total_cons step []) in
-    (ap (λ b. b && true) fits, e ∙ ap (pen_behind right_to_left pen) (sym sum), subst IsNumber (sym e) (number_after right_to_left pen step fits low high))
+    let sum : total (step ∷ []) ≡ step = omega (arith, ints, total_cons step []) in (
+      ap (λ b. b && true) fits,
+      e
+          ∙ ap (pen_behind right_to_left pen) (sym sum),
+      subst IsNumber (sym e)
+          (number_after right_to_left pen step fits low high),
+    )
 
-pub copy_stopped : (right_to_left : Bool) (pen step : ℤ) → fits_i32 (stands_at right_to_left pen step) ≡ false → WalksPen right_to_left pen (step ∷ []) None
+pub copy_stopped : (right_to_left : Bool) (pen step : ℤ) → fits_i32 (stands_at right_to_left pen step) ≡ false
+    → WalksPen right_to_left pen (step ∷ []) None
 copy_stopped right_to_left pen step fails = ap (λ b. b && true) fails
 
 no_move : (right_to_left : Bool) (pen : ℤ) → pen_behind right_to_left pen (pos 0) ≡ pen
 no_move true pen = omega (arith, ints)
 no_move false pen = omega (arith, ints)
 
-then_move : (right_to_left : Bool) (pen a b : ℤ) → pen_behind right_to_left (pen_behind right_to_left pen a) b ≡ pen_behind right_to_left pen (a +ℤ b)
+then_move : (right_to_left : Bool) (pen a b : ℤ) → pen_behind right_to_left (pen_behind right_to_left pen a) b
+    ≡ pen_behind right_to_left pen (a +ℤ b)
 then_move true pen a b = omega (arith, ints)
 then_move false pen a b = omega (arith, ints)
 
-offsets_on-append : (right_to_left : Bool) (pen : ℤ) (xs ys : List ℤ) → offsets_on right_to_left pen (xs ++ ys) ≡ offsets_on right_to_left pen xs ++ offsets_on right_to_left (pen_behind right_to_left pen (total xs)) ys
+offsets_on-append : (right_to_left : Bool) (pen : ℤ) (xs ys : List ℤ) → offsets_on right_to_left pen (xs ++ ys)
+    ≡ offsets_on right_to_left pen xs ++ offsets_on right_to_left (pen_behind right_to_left pen (total xs)) ys
 offsets_on-append right_to_left pen [] ys = ap (λ p. offsets_on right_to_left p ys) (sym (no_move right_to_left pen))
 offsets_on-append right_to_left pen (x ∷ xs) ys =
-    let behind : pen_behind right_to_left (pen_behind right_to_left pen x) (total xs) ≡ pen_behind right_to_left pen (total (x ∷ xs)) = then_move right_to_left pen x (total xs) ∙ ap (pen_behind right_to_left pen) (sym (total_cons x xs)) in
-    ap (λ zs. stands_at right_to_left pen x ∷ zs) (offsets_on-append right_to_left (pen_behind right_to_left pen x) xs ys ∙ ap (λ p. offsets_on right_to_left (pen_behind right_to_left pen x) xs ++ offsets_on right_to_left p ys) behind)
+    let behind : pen_behind right_to_left (pen_behind right_to_left pen x) (total xs)
+    ≡ pen_behind right_to_left pen (total (x ∷ xs)) = then_move right_to_left pen x (total xs)
+    ∙ ap (pen_behind right_to_left pen) (sym (total_cons x xs)) in
+    ap (λ zs. stands_at right_to_left pen x ∷ zs)
+    (offsets_on-append right_to_left (pen_behind right_to_left pen x) xs ys
+    ∙ ap (λ p. offsets_on right_to_left (pen_behind right_to_left pen x) xs ++ offsets_on right_to_left p ys)
+    behind)
 
-offsets_fit-append : (right_to_left : Bool) (pen : ℤ) (xs ys : List ℤ) → offsets_fit right_to_left pen (xs ++ ys) ≡ (offsets_fit right_to_left pen xs && offsets_fit right_to_left (pen_behind right_to_left pen (total xs)) ys)
-offsets_fit-append right_to_left pen xs ys = ap (list_all fits_i32) (offsets_on-append right_to_left pen xs ys) ∙ list_all-append fits_i32 (offsets_on right_to_left pen xs) _
+offsets_fit-append : (right_to_left : Bool) (pen : ℤ) (xs ys : List ℤ) → offsets_fit right_to_left pen (xs ++ ys)
+    ≡ (offsets_fit right_to_left pen xs && offsets_fit right_to_left (pen_behind right_to_left pen (total xs)) ys)
+offsets_fit-append right_to_left pen xs ys = ap (list_all fits_i32) (offsets_on-append right_to_left pen xs ys)
+    ∙ list_all-append fits_i32 (offsets_on right_to_left pen xs) _
 
 -- moves and then others
-pub walks_then : (right_to_left : Bool) (pen : ℤ) (xs ys : List ℤ) (behind : ℤ) (r : Option ℤ) → WalksPen right_to_left pen xs (Some behind) → WalksPen right_to_left behind ys r → WalksPen right_to_left pen (xs ++ ys) r
+pub walks_then : (right_to_left : Bool) (pen : ℤ) (xs ys : List ℤ) (behind : ℤ) (r : Option ℤ)
+    → WalksPen right_to_left pen xs (Some behind) → WalksPen right_to_left behind ys r
+    → WalksPen right_to_left pen (xs ++ ys) r
 walks_then right_to_left pen xs ys behind None first rest =
-    offsets_fit-append right_to_left pen xs ys ∙ ap (λ b. b && offsets_fit right_to_left (pen_behind right_to_left pen (total xs)) ys) first.0 ∙ ap (λ p. offsets_fit right_to_left p ys) (sym first.1) ∙ rest
+    offsets_fit-append right_to_left pen xs ys
+    ∙ ap (λ b. b && offsets_fit right_to_left (pen_behind right_to_left pen (total xs)) ys) first.0
+    ∙ ap (λ p. offsets_fit right_to_left p ys) (sym first.1) ∙ rest
 walks_then right_to_left pen xs ys behind (Some last) first rest =
-    let fits = offsets_fit-append right_to_left pen xs ys ∙ ap (λ b. b && offsets_fit right_to_left (pen_behind right_to_left pen (total xs)) ys) first.0 ∙ ap (λ p. offsets_fit right_to_left p ys) (sym first.1) ∙ rest.0 in
-    let at = rest.1 ∙ ap (λ p. pen_behind right_to_left p (total ys)) first.1 ∙ then_move right_to_left pen (total xs) (total ys) ∙ ap (pen_behind right_to_left pen) (sym (total-append xs ys)) in
+    let fits = offsets_fit-append right_to_left pen xs ys
+    ∙ ap (λ b. b && offsets_fit right_to_left (pen_behind right_to_left pen (total xs)) ys) first.0
+    ∙ ap (λ p. offsets_fit right_to_left p ys) (sym first.1) ∙ rest.0 in
+    let at = rest.1 ∙ ap (λ p. pen_behind right_to_left p (total ys)) first.1
+    ∙ then_move right_to_left pen (total xs) (total ys)
+    ∙ ap (pen_behind right_to_left pen) (sym (total-append xs ys)) in
     (fits, at, rest.2)
 
-pub walks_stop : (right_to_left : Bool) (pen : ℤ) (xs ys : List ℤ) → offsets_fit right_to_left pen xs ≡ false → offsets_fit right_to_left pen (xs ++ ys) ≡ false
-walks_stop right_to_left pen xs ys fails = offsets_fit-append right_to_left pen xs ys ∙ ap (λ b. b && offsets_fit right_to_left (pen_behind right_to_left pen (total xs)) ys) fails
+pub walks_stop : (right_to_left : Bool) (pen : ℤ) (xs ys : List ℤ) → offsets_fit right_to_left pen xs ≡ false
+    → offsets_fit right_to_left pen (xs ++ ys) ≡ false
+walks_stop right_to_left pen xs ys fails = offsets_fit-append right_to_left pen xs ys
+    ∙ ap (λ b. b && offsets_fit right_to_left (pen_behind right_to_left pen (total xs)) ys) fails
 
 -- the copies of one tile, the first and then the added ones
-tile_if : (b : Bool) (right_to_left : Bool) (pen width step behind : ℤ) (n : ℕ) (r : Option ℤ) → b ≡ true → WalksPen right_to_left pen (width ∷ []) (Some behind) → WalksPen right_to_left behind (replicate n step) r → WalksPen right_to_left pen (width ∷ cond b (replicate n step) []) r
-tile_if true right_to_left pen width step behind n r e first rest = walks_then right_to_left pen (width ∷ []) (replicate n step) behind r first rest
+tile_if : (b : Bool) (right_to_left : Bool) (pen width step behind : ℤ) (n : ℕ) (r : Option ℤ) → b ≡ true
+    → WalksPen right_to_left pen (width ∷ []) (Some behind) → WalksPen right_to_left behind (replicate n step) r
+    → WalksPen right_to_left pen (width ∷ cond b (replicate n step) []) r
+tile_if true right_to_left pen width step behind n r e first rest =
+    walks_then right_to_left pen (width ∷ []) (replicate n step) behind r first rest
 tile_if false right_to_left pen width step behind n r e first rest = absurd (clash e)
 
-pub tile_walked : (font : Font) (lay : Lay) (g : hb_glyph_info_t) (right_to_left : Bool) (pen width step behind : ℤ) (r : Option ℤ) → repeats g ≡ true → width ≡ width_of font g → step ≡ width -ℤ lay.overlap → WalksPen right_to_left pen (width ∷ []) (Some behind) → WalksPen right_to_left behind (replicate lay.added step) r → WalksPen right_to_left pen (moves_of font lay g) r
+pub tile_walked : (font : Font) (lay : Lay) (g : hb_glyph_info_t) (right_to_left : Bool) (pen width step behind : ℤ)
+    (r : Option ℤ) → repeats g ≡ true → width ≡ width_of font g → step ≡ width -ℤ lay.overlap
+    → WalksPen right_to_left pen (width ∷ []) (Some behind) → WalksPen right_to_left behind (replicate lay.added step) r
+    → WalksPen right_to_left pen (moves_of font lay g) r
 tile_walked font lay g right_to_left pen width step behind r e w s first rest =
-    let P : ℤ → Type 0 = λ width. step ≡ width -ℤ lay.overlap → WalksPen right_to_left pen (width ∷ []) (Some behind) → WalksPen right_to_left pen (moves_of font lay g) r in
+    let P : ℤ → Type 0 = λ width. step ≡ width -ℤ lay.overlap → WalksPen right_to_left pen (width ∷ []) (Some behind)
+    → WalksPen right_to_left pen (moves_of font lay g) r in
     let Q : ℤ → Type 0 = λ step. WalksPen right_to_left behind (replicate lay.added step) r in
-    subst P (sym w) (λ s first. tile_if (repeats g) right_to_left pen (width_of font g) (width_of font g -ℤ lay.overlap) behind lay.added r e first (subst Q s rest)) s first
+    subst P (sym w) (λ s first. tile_if (repeats g) right_to_left pen (width_of font g) (width_of font g -ℤ lay.overlap)
+    behind lay.added r e first (subst Q s rest)) s first
 
 -- the last tile of a run is laid first
-run_moves_push : (font : Font) (lay : Lay) (tiles : List hb_glyph_info_t) (g : hb_glyph_info_t) → run_moves font lay (tiles ++ g ∷ []) ≡ moves_of font lay g ++ run_moves font lay tiles
+run_moves_push : (font : Font) (lay : Lay) (tiles : List hb_glyph_info_t) (g : hb_glyph_info_t)
+    → run_moves font lay (tiles ++ g ∷ []) ≡ moves_of font lay g ++ run_moves font lay tiles
 run_moves_push font lay tiles g = ap (flat_map (moves_of font lay)) (reverse-append tiles (g ∷ []))
 
-run_moves_more : (font : Font) (lay : Lay) (tiles : List hb_glyph_info_t) (i : ℕ) (d : hb_glyph_info_t) → i < length tiles → run_moves font lay (take (i + 1) tiles) ≡ moves_of font lay (get_or tiles i d) ++ run_moves font lay (take i tiles)
-run_moves_more font lay tiles i d p = ap (run_moves font lay) (take_more tiles i d p) ∙ run_moves_push font lay (take i tiles) (get_or tiles i d)
+run_moves_more : (font : Font) (lay : Lay) (tiles : List hb_glyph_info_t) (i : ℕ) (d : hb_glyph_info_t)
+    → i < length tiles → run_moves font lay (take (i + 1) tiles) ≡ moves_of font lay (get_or tiles i d)
+    ++ run_moves font lay (take i tiles)
+run_moves_more font lay tiles i d p = ap (run_moves font lay) (take_more tiles i d p)
+    ∙ run_moves_push font lay (take i tiles) (get_or tiles i d)
 
-pub fits_next : (font : Font) (lay : Lay) (right_to_left : Bool) (pen behind : ℤ) (tiles : List hb_glyph_info_t) (i : ℕ) (d : hb_glyph_info_t) → i < length tiles → WalksPen right_to_left pen (moves_of font lay (get_or tiles i d)) (Some behind) → offsets_fit right_to_left behind (run_moves font lay (take i tiles)) ≡ offsets_fit right_to_left pen (run_moves font lay (take (i + 1) tiles))
+pub fits_next : (font : Font) (lay : Lay) (right_to_left : Bool) (pen behind : ℤ) (tiles : List hb_glyph_info_t) (i : ℕ)
+    (d : hb_glyph_info_t) → i < length tiles
+    → WalksPen right_to_left pen (moves_of font lay (get_or tiles i d)) (Some behind)
+    → offsets_fit right_to_left behind (run_moves font lay (take i tiles))
+    ≡ offsets_fit right_to_left pen (run_moves font lay (take (i + 1) tiles))
 fits_next font lay right_to_left pen behind tiles i d p w =
     let first = moves_of font lay (get_or tiles i d) in
     let rest = run_moves font lay (take i tiles) in
-    sym (ap (offsets_fit right_to_left pen) (run_moves_more font lay tiles i d p) ∙ offsets_fit-append right_to_left pen first rest ∙ ap (λ b. b && offsets_fit right_to_left (pen_behind right_to_left pen (total first)) rest) w.0 ∙ ap (λ p. offsets_fit right_to_left p rest) (sym w.1))
+    sym (ap (offsets_fit right_to_left pen) (run_moves_more font lay tiles i d p)
+    ∙ offsets_fit-append right_to_left pen first rest
+    ∙ ap (λ b. b && offsets_fit right_to_left (pen_behind right_to_left pen (total first)) rest) w.0
+    ∙ ap (λ p. offsets_fit right_to_left p rest) (sym w.1))
 
-pub fits_not : (font : Font) (lay : Lay) (right_to_left : Bool) (pen : ℤ) (tiles : List hb_glyph_info_t) (i : ℕ) (d : hb_glyph_info_t) → i < length tiles → offsets_fit right_to_left pen (moves_of font lay (get_or tiles i d)) ≡ false → offsets_fit right_to_left pen (run_moves font lay (take (i + 1) tiles)) ≡ false
-fits_not font lay right_to_left pen tiles i d p fails = ap (offsets_fit right_to_left pen) (run_moves_more font lay tiles i d p) ∙ walks_stop right_to_left pen (moves_of font lay (get_or tiles i d)) (run_moves font lay (take i tiles)) fails
+pub fits_not : (font : Font) (lay : Lay) (right_to_left : Bool) (pen : ℤ) (tiles : List hb_glyph_info_t) (i : ℕ)
+    (d : hb_glyph_info_t) → i < length tiles → offsets_fit right_to_left pen (moves_of font lay (get_or tiles i d))
+    ≡ false → offsets_fit right_to_left pen (run_moves font lay (take (i + 1) tiles)) ≡ false
+fits_not font lay right_to_left pen tiles i d p fails =
+    ap (offsets_fit right_to_left pen) (run_moves_more font lay tiles i d p)
+    ∙ walks_stop right_to_left pen (moves_of font lay (get_or tiles i d)) (run_moves font lay (take i tiles)) fails

@@ -21,13 +21,17 @@ use Rattle.shapers_stretch.proofs.Pen.{laid_on-append, no_move}
 use Rattle.shapers_stretch.proofs.Sums.{total_cons}
 use Rattle.shapers_stretch.proofs.Zips.{zip-set, length-zipped}
 
-one_move : (right_to_left : Bool) (at : ℤ) (c : Copy) → pen_behind right_to_left at (moves (c ∷ [])) ≡ pen_behind right_to_left at c.move
+one_move : (right_to_left : Bool) (at : ℤ) (c : Copy) → pen_behind right_to_left at (moves (c ∷ []))
+    ≡ pen_behind right_to_left at c.move
 one_move right_to_left at c = ap (pen_behind right_to_left at) (total_cons c.move [] ∙ omega (arith, ints))
 
 -- one copy
-pub one_laid : (right_to_left : Bool) (copy : Copy) (pen : Pen) (gs : List hb_glyph_info_t) (ps : List GlyphPosition) (at x : ℤ) → CanLay right_to_left (copy ∷ []) pen gs ps → at ≡ pen_behind right_to_left pen.at copy.move → x ≡ stands_at right_to_left pen.at copy.move →
+pub one_laid : (right_to_left : Bool) (copy : Copy) (pen : Pen) (gs : List hb_glyph_info_t) (ps : List GlyphPosition)
+    (at x : ℤ) → CanLay right_to_left (copy ∷ []) pen gs ps → at ≡ pen_behind right_to_left pen.at copy.move
+    → x ≡ stands_at right_to_left pen.at copy.move →
     let standing : GlyphPosition = record copy.tile.1 { x_advance = pos 0; x_offset = x } in
-    Lays right_to_left (copy ∷ []) pen (record { at = at; place = pen.place - 1 }) (zip gs ps) (zip (set gs (pen.place - 1) copy.tile.0) (set ps (pen.place - 1) standing))
+    Lays right_to_left (copy ∷ []) pen (record { at = at; place = pen.place - 1 }) (zip gs ps)
+    (zip (set gs (pen.place - 1) copy.tile.0) (set ps (pen.place - 1) standing))
 one_laid right_to_left copy pen gs ps at x can is_at is_x =
     let cells = zip gs ps in
     let i = pen.place - 1 in
@@ -40,25 +44,33 @@ one_laid right_to_left copy pen gs ps at x can is_at is_x =
       pen = is_at ∙ sym (one_move right_to_left pen.at copy);
       place = next;
       kept = ap (take i) now ∙ take-set cells i y;
-      behind = ap (drop i) now ∙ drop-set cells i y within ∙ ap (λ n. y ∷ drop n cells) next ∙ ap (λ x. (copy.tile.0, standing x) ∷ drop pen.place cells) is_x;
+      behind = ap (drop i) now ∙ drop-set cells i y within ∙ ap (λ n. y ∷ drop n cells) next
+          ∙ ap (λ x. (copy.tile.0, standing x) ∷ drop pen.place cells) is_x;
     }
 
-pen_moved_all : (right_to_left : Bool) (at : ℤ) (xs ys : List Copy) → pen_behind right_to_left (pen_behind right_to_left at (moves xs)) (moves ys) ≡ pen_behind right_to_left at (moves (xs ++ ys))
+pen_moved_all : (right_to_left : Bool) (at : ℤ) (xs ys : List Copy)
+    → pen_behind right_to_left (pen_behind right_to_left at (moves xs)) (moves ys)
+    ≡ pen_behind right_to_left at (moves (xs ++ ys))
 pen_moved_all true at xs ys = omega (arith, ints, moves-append xs ys)
 pen_moved_all false at xs ys = omega (arith, ints, moves-append xs ys)
 
 -- copies, and then others
-pub lays_then : (right_to_left : Bool) (xs ys : List Copy) (a b c : Pen) (old mid now : List Cell) → Lays right_to_left xs a b old mid → Lays right_to_left ys b c mid now → Lays right_to_left (xs ++ ys) a c old now
+pub lays_then : (right_to_left : Bool) (xs ys : List Copy) (a b c : Pen) (old mid now : List Cell)
+    → Lays right_to_left xs a b old mid → Lays right_to_left ys b c mid now → Lays right_to_left (xs ++ ys) a c old now
 lays_then right_to_left xs ys a b c old mid now l m =
     let before : c.place ≤ b.place = omega (arith, m.place) in
     let first = laid_on right_to_left a.at xs in
     let second = laid_on right_to_left b.at ys in
-    let both : laid_on right_to_left a.at (xs ++ ys) ≡ first ++ second = laid_on-append right_to_left a.at xs ys ∙ ap (λ at. first ++ laid_on right_to_left at ys) (sym l.pen) in
+    let both : laid_on right_to_left a.at (xs ++ ys) ≡ first ++ second = laid_on-append right_to_left a.at xs ys
+    ∙ ap (λ at. first ++ laid_on right_to_left at ys) (sym l.pen) in
     record {
       pen = m.pen ∙ ap (λ at. pen_behind right_to_left at (moves ys)) l.pen ∙ pen_moved_all right_to_left a.at xs ys;
       place = omega (arith, m.place, l.place, length-append xs ys);
-      kept = m.kept ∙ sym (take-take c.place b.place mid before) ∙ ap (take c.place) l.kept ∙ take-take c.place b.place old before;
-      behind = m.behind ∙ ap (λ z. reverse second ++ z) l.behind ∙ sym (append_assoc (reverse second) (reverse first) (drop a.place old)) ∙ ap (λ z. z ++ drop a.place old) (sym (ap reverse both ∙ reverse-append first second));
+      kept = m.kept ∙ sym (take-take c.place b.place mid before) ∙ ap (take c.place) l.kept
+          ∙ take-take c.place b.place old before;
+      behind = m.behind ∙ ap (λ z. reverse second ++ z) l.behind
+          ∙ sym (append_assoc (reverse second) (reverse first) (drop a.place old))
+          ∙ ap (λ z. z ++ drop a.place old) (sym (ap reverse both ∙ reverse-append first second));
     }
 
 -- none
@@ -70,14 +82,20 @@ none_laid right_to_left pen old = record {
   behind = refl;
 }
 
-offsets-append : (right_to_left : Bool) (at : ℤ) (xs ys : List Copy) → list_all fits_i32 (offsets (laid_on right_to_left at (xs ++ ys))) ≡ (list_all fits_i32 (offsets (laid_on right_to_left at xs)) && list_all fits_i32 (offsets (laid_on right_to_left (pen_behind right_to_left at (moves xs)) ys)))
+offsets-append : (right_to_left : Bool) (at : ℤ) (xs ys : List Copy)
+    → list_all fits_i32 (offsets (laid_on right_to_left at (xs ++ ys)))
+    ≡ (list_all fits_i32 (offsets (laid_on right_to_left at xs))
+    && list_all fits_i32 (offsets (laid_on right_to_left (pen_behind right_to_left at (moves xs)) ys)))
 offsets-append right_to_left at xs ys =
     let first = laid_on right_to_left at xs in
     let second = laid_on right_to_left (pen_behind right_to_left at (moves xs)) ys in
-    ap (λ cs. list_all fits_i32 (offsets cs)) (laid_on-append right_to_left at xs ys) ∙ ap (list_all fits_i32) (map-append (λ (c : Cell). c.1.x_offset) first second) ∙ list_all-append fits_i32 (offsets first) (offsets second)
+    ap (λ cs. list_all fits_i32 (offsets cs)) (laid_on-append right_to_left at xs ys)
+    ∙ ap (list_all fits_i32) (map-append (λ (c : Cell). c.1.x_offset) first second)
+    ∙ list_all-append fits_i32 (offsets first) (offsets second)
 
 -- where copies can be laid, the first of them can, and behind these the others
-pub can_first : (right_to_left : Bool) (xs ys : List Copy) (pen : Pen) (gs : List hb_glyph_info_t) (ps : List GlyphPosition) → CanLay right_to_left (xs ++ ys) pen gs ps → CanLay right_to_left xs pen gs ps
+pub can_first : (right_to_left : Bool) (xs ys : List Copy) (pen : Pen) (gs : List hb_glyph_info_t)
+    (ps : List GlyphPosition) → CanLay right_to_left (xs ++ ys) pen gs ps → CanLay right_to_left xs pen gs ps
 can_first right_to_left xs ys pen gs ps can = record {
   fits = (and_parts _ _ (sym (offsets-append right_to_left pen.at xs ys) ∙ can.fits)).0;
   room = omega (arith, can.room, length-append xs ys);
@@ -85,9 +103,13 @@ can_first right_to_left xs ys pen gs ps can = record {
   both = can.both;
 }
 
-pub can_rest : (right_to_left : Bool) (xs ys : List Copy) (pen after : Pen) (gs hs : List hb_glyph_info_t) (ps qs : List GlyphPosition) (old now : List Cell) → CanLay right_to_left (xs ++ ys) pen gs ps → Lays right_to_left xs pen after old now → length hs ≡ length gs → length hs ≡ length qs → CanLay right_to_left ys after hs qs
+pub can_rest : (right_to_left : Bool) (xs ys : List Copy) (pen after : Pen) (gs hs : List hb_glyph_info_t)
+    (ps qs : List GlyphPosition) (old now : List Cell) → CanLay right_to_left (xs ++ ys) pen gs ps
+    → Lays right_to_left xs pen after old now → length hs ≡ length gs → length hs ≡ length qs
+    → CanLay right_to_left ys after hs qs
 can_rest right_to_left xs ys pen after gs hs ps qs old now can laid same both = record {
-  fits = ap (λ at. list_all fits_i32 (offsets (laid_on right_to_left at ys))) laid.pen ∙ (and_parts _ _ (sym (offsets-append right_to_left pen.at xs ys) ∙ can.fits)).1;
+  fits = ap (λ at. list_all fits_i32 (offsets (laid_on right_to_left at ys))) laid.pen
+      ∙ (and_parts _ _ (sym (offsets-append right_to_left pen.at xs ys) ∙ can.fits)).1;
   room = omega (arith, can.room, length-append xs ys, laid.place);
   within = omega (arith, can.within, laid.place);
   both = both;
@@ -97,7 +119,8 @@ less : (count k : ℕ) → k < count → count - k ≡ suc (count - (k + 1))
 less count k p = omega arith
 
 -- one more of so many copies
-pub replicate_first : {X : Type 0} (count k : ℕ) (x : X) → k < count → replicate (count - k) x ≡ (x ∷ []) ++ replicate (count - (k + 1)) x
+pub replicate_first : {X : Type 0} (count k : ℕ) (x : X) → k < count
+    → replicate (count - k) x ≡ (x ∷ []) ++ replicate (count - (k + 1)) x
 replicate_first count k x p = ap (λ n. replicate n x) (less count k p)
 
 -- a number far from the ends of its 64 bits fits them
@@ -106,35 +129,73 @@ near_fits (pos n) near = record { sfits = omega (arith, ints, near.high) }
 near_fits (negsuc n) near = record { sfits = omega (arith, ints, near.low) }
 
 -- the copies of a tile, by whether it repeats
-copies_once : (font : Font) (lay : Lay) (c : Cell) (one : Copy) → one ≡ record { tile = c; move = width_of font c.0 } → repeats c.0 ≡ false → copies_by font lay c ≡ one ∷ []
-copies_once font lay c one e r = ap (λ b. let first : Copy = record { tile = c; move = width_of font c.0 } in let copy : Copy = record { tile = c; move = width_of font c.0 -ℤ lay.overlap } in first ∷ cond b (replicate lay.added copy) []) r ∙ ap (λ x. x ∷ []) (sym e)
+copies_once : (font : Font) (lay : Lay) (c : Cell) (one : Copy) → one ≡ record { tile = c; move = width_of font c.0 }
+    → repeats c.0 ≡ false → copies_by font lay c ≡ one ∷ []
+copies_once font lay c one e r =
+    ap (λ b. let first : Copy = record { tile = c; move = width_of font c.0 } in let copy : Copy =
+    record { tile = c; move = width_of font c.0 -ℤ lay.overlap } in first ∷ cond b (replicate lay.added copy) []) r
+    ∙ ap (λ x. x ∷ []) (sym e)
 
-copies_more : (font : Font) (lay : Lay) (c : Cell) (one two : Copy) (n : ℕ) → one ≡ record { tile = c; move = width_of font c.0 } → two ≡ record { tile = c; move = width_of font c.0 -ℤ lay.overlap } → n ≡ lay.added → repeats c.0 ≡ true → copies_by font lay c ≡ (one ∷ []) ++ replicate n two
-copies_more font lay c one two n e f g r = ap (λ b. let first : Copy = record { tile = c; move = width_of font c.0 } in let copy : Copy = record { tile = c; move = width_of font c.0 -ℤ lay.overlap } in first ∷ cond b (replicate lay.added copy) []) r ∙ ap (λ x. x ∷ replicate lay.added (record { tile = c; move = width_of font c.0 -ℤ lay.overlap })) (sym e) ∙ ap (λ x. one ∷ replicate lay.added x) (sym f) ∙ ap (λ k. one ∷ replicate k two) (sym g)
+copies_more : (font : Font) (lay : Lay) (c : Cell) (one two : Copy) (n : ℕ)
+    → one ≡ record { tile = c; move = width_of font c.0 }
+    → two ≡ record { tile = c; move = width_of font c.0 -ℤ lay.overlap } → n ≡ lay.added → repeats c.0 ≡ true
+    → copies_by font lay c ≡ (one ∷ []) ++ replicate n two
+copies_more font lay c one two n e f g r =
+    ap (λ b. let first : Copy = record { tile = c; move = width_of font c.0 } in let copy : Copy =
+    record { tile = c; move = width_of font c.0 -ℤ lay.overlap } in first ∷ cond b (replicate lay.added copy) []) r
+    ∙ ap (λ x. x ∷ replicate lay.added (record { tile = c; move = width_of font c.0 -ℤ lay.overlap })) (sym e)
+    ∙ ap (λ x. one ∷ replicate lay.added x) (sym f) ∙ ap (λ k. one ∷ replicate k two) (sym g)
 
 moving : (c : Cell) (w v : ℤ) → w ≡ v → ◌≡◌ {A = Copy} (record { tile = c; move = w }) (record { tile = c; move = v })
 moving c w v e = ap (λ m. let copy : Copy = record { tile = c; move = m } in copy) e
 
 -- the steps of laying a tile
-tile_cut : (right_to_left : Bool) (font : Font) (lay : Lay) (c : Cell) (one : Copy) (pen : Pen) (gs : List hb_glyph_info_t) (ps : List GlyphPosition) → one ≡ record { tile = c; move = width_of font c.0 } → (b : Bool) → repeats c.0 ≡ b → CanLay right_to_left (copies_by font lay c) pen gs ps → CanLay right_to_left (one ∷ []) pen gs ps
-tile_cut right_to_left font lay c one pen gs ps e false r can = subst (λ copies. CanLay right_to_left copies pen gs ps) (copies_once font lay c one e r) can
-tile_cut right_to_left font lay c one pen gs ps e true r can = can_first right_to_left (one ∷ []) _ pen gs ps (subst (λ copies. CanLay right_to_left copies pen gs ps) (copies_more font lay c one _ _ e refl refl r) can)
+tile_cut : (right_to_left : Bool) (font : Font) (lay : Lay) (c : Cell) (one : Copy) (pen : Pen)
+    (gs : List hb_glyph_info_t) (ps : List GlyphPosition) → one ≡ record { tile = c; move = width_of font c.0 }
+    → (b : Bool) → repeats c.0 ≡ b → CanLay right_to_left (copies_by font lay c) pen gs ps
+    → CanLay right_to_left (one ∷ []) pen gs ps
+tile_cut right_to_left font lay c one pen gs ps e false r can =
+    subst (λ copies. CanLay right_to_left copies pen gs ps) (copies_once font lay c one e r) can
+tile_cut right_to_left font lay c one pen gs ps e true r can =
+    can_first right_to_left (one ∷ []) _ pen gs ps
+    (subst (λ copies. CanLay right_to_left copies pen gs ps) (copies_more font lay c one _ _ e refl refl r) can)
 
-pub tile_first : (right_to_left : Bool) (font : Font) (lay : Lay) (c : Cell) (w : ℤ) (pen : Pen) (gs : List hb_glyph_info_t) (ps : List GlyphPosition) → w ≡ width_of font c.0 → CanLay right_to_left (copies_by font lay c) pen gs ps → CanLay right_to_left (record { tile = c; move = w } ∷ []) pen gs ps
-tile_first right_to_left font lay c w pen gs ps e can = tile_cut right_to_left font lay c (record { tile = c; move = w }) pen gs ps (moving c w _ e) (repeats c.0) refl can
+pub tile_first : (right_to_left : Bool) (font : Font) (lay : Lay) (c : Cell) (w : ℤ) (pen : Pen)
+    (gs : List hb_glyph_info_t) (ps : List GlyphPosition) → w ≡ width_of font c.0
+    → CanLay right_to_left (copies_by font lay c) pen gs ps
+    → CanLay right_to_left (record { tile = c; move = w } ∷ []) pen gs ps
+tile_first right_to_left font lay c w pen gs ps e can =
+    tile_cut right_to_left font lay c (record { tile = c; move = w }) pen gs ps (moving c w _ e) (repeats c.0) refl can
 
-pub tile_more : (right_to_left : Bool) (font : Font) (lay : Lay) (c : Cell) (w m : ℤ) (n : ℕ) (pen after : Pen) (gs hs : List hb_glyph_info_t) (ps qs : List GlyphPosition) (old now : List Cell) → repeats c.0 ≡ true → w ≡ width_of font c.0 → m ≡ width_of font c.0 -ℤ lay.overlap → n ≡ lay.added → CanLay right_to_left (copies_by font lay c) pen gs ps → Lays right_to_left (record { tile = c; move = w } ∷ []) pen after old now → length hs ≡ length gs → length hs ≡ length qs → CanLay right_to_left (replicate n (record { tile = c; move = m })) after hs qs
+pub tile_more : (right_to_left : Bool) (font : Font) (lay : Lay) (c : Cell) (w m : ℤ) (n : ℕ) (pen after : Pen)
+    (gs hs : List hb_glyph_info_t) (ps qs : List GlyphPosition) (old now : List Cell) → repeats c.0 ≡ true
+    → w ≡ width_of font c.0 → m ≡ width_of font c.0 -ℤ lay.overlap → n ≡ lay.added
+    → CanLay right_to_left (copies_by font lay c) pen gs ps
+    → Lays right_to_left (record { tile = c; move = w } ∷ []) pen after old now → length hs ≡ length gs
+    → length hs ≡ length qs → CanLay right_to_left (replicate n (record { tile = c; move = m })) after hs qs
 tile_more right_to_left font lay c w m n pen after gs hs ps qs old now r e f g can laid same both =
     let one : Copy = record { tile = c; move = w } in
     let two : Copy = record { tile = c; move = m } in
-    can_rest right_to_left (one ∷ []) (replicate n two) pen after gs hs ps qs old now (subst (λ copies. CanLay right_to_left copies pen gs ps) (copies_more font lay c one two n (moving c w _ e) (moving c m _ f) g r) can) laid same both
+    can_rest right_to_left (one ∷ []) (replicate n two) pen after gs hs ps qs old now
+    (subst (λ copies. CanLay right_to_left copies pen gs ps)
+    (copies_more font lay c one two n (moving c w _ e) (moving c m _ f) g r) can) laid same both
 
-pub tile_once : (right_to_left : Bool) (font : Font) (lay : Lay) (c : Cell) (w : ℤ) (pen after : Pen) (old now : List Cell) → repeats c.0 ≡ false → w ≡ width_of font c.0 → Lays right_to_left (record { tile = c; move = w } ∷ []) pen after old now → Lays right_to_left (copies_by font lay c) pen after old now
+pub tile_once : (right_to_left : Bool) (font : Font) (lay : Lay) (c : Cell) (w : ℤ) (pen after : Pen)
+    (old now : List Cell) → repeats c.0 ≡ false → w ≡ width_of font c.0
+    → Lays right_to_left (record { tile = c; move = w } ∷ []) pen after old now
+    → Lays right_to_left (copies_by font lay c) pen after old now
 tile_once right_to_left font lay c w pen after old now r e laid =
-    subst (λ copies. Lays right_to_left copies pen after old now) (sym (copies_once font lay c (record { tile = c; move = w }) (moving c w _ e) r)) laid
+    subst (λ copies. Lays right_to_left copies pen after old now)
+    (sym (copies_once font lay c (record { tile = c; move = w }) (moving c w _ e) r)) laid
 
-pub tile_all : (right_to_left : Bool) (font : Font) (lay : Lay) (c : Cell) (w m : ℤ) (n : ℕ) (pen mid after : Pen) (old between now : List Cell) → repeats c.0 ≡ true → w ≡ width_of font c.0 → m ≡ width_of font c.0 -ℤ lay.overlap → n ≡ lay.added → Lays right_to_left (record { tile = c; move = w } ∷ []) pen mid old between → Lays right_to_left (replicate n (record { tile = c; move = m })) mid after between now → Lays right_to_left (copies_by font lay c) pen after old now
+pub tile_all : (right_to_left : Bool) (font : Font) (lay : Lay) (c : Cell) (w m : ℤ) (n : ℕ) (pen mid after : Pen)
+    (old between now : List Cell) → repeats c.0 ≡ true → w ≡ width_of font c.0 → m ≡ width_of font c.0 -ℤ lay.overlap
+    → n ≡ lay.added → Lays right_to_left (record { tile = c; move = w } ∷ []) pen mid old between
+    → Lays right_to_left (replicate n (record { tile = c; move = m })) mid after between now
+    → Lays right_to_left (copies_by font lay c) pen after old now
 tile_all right_to_left font lay c w m n pen mid after old between now r e f g first rest =
     let one : Copy = record { tile = c; move = w } in
     let two : Copy = record { tile = c; move = m } in
-    subst (λ copies. Lays right_to_left copies pen after old now) (sym (copies_more font lay c one two n (moving c w _ e) (moving c m _ f) g r)) (lays_then right_to_left (one ∷ []) (replicate n two) pen mid after old between now first rest)
+    subst (λ copies. Lays right_to_left copies pen after old now)
+    (sym (copies_more font lay c one two n (moving c w _ e) (moving c m _ f) g r))
+    (lays_then right_to_left (one ∷ []) (replicate n two) pen mid after old between now first rest)

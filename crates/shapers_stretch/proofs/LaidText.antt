@@ -32,11 +32,13 @@ use Rattle.shapers_stretch.proofs.Zips.{length-zipped}
 use Rattle.std.proofs.lemmas.Int.{ints}
 
 -- a text is its parts
-onto : {X : Type 0} (x : X) (pieces : List (List X)) → flat_map (λ p. p) (onto_first x pieces) ≡ x ∷ flat_map (λ p. p) pieces
+onto : {X : Type 0} (x : X) (pieces : List (List X)) → flat_map (λ p. p) (onto_first x pieces)
+    ≡ x ∷ flat_map (λ p. p) pieces
 onto x [] = refl
 onto x (p ∷ pieces) = refl
 
-either : {X : Type 0} (b : Bool) (x : X) (xs : List X) (pieces : List (List X)) → flat_map (λ p. p) pieces ≡ xs → flat_map (λ p. p) (cond b ((x ∷ []) ∷ pieces) (onto_first x pieces)) ≡ x ∷ xs
+either : {X : Type 0} (b : Bool) (x : X) (xs : List X) (pieces : List (List X)) → flat_map (λ p. p) pieces ≡ xs
+    → flat_map (λ p. p) (cond b ((x ∷ []) ∷ pieces) (onto_first x pieces)) ≡ x ∷ xs
 either true x xs pieces e = ap (λ ys. x ∷ ys) e
 either false x xs pieces e = onto x pieces ∙ ap (λ ys. x ∷ ys) e
 
@@ -57,37 +59,63 @@ no_copies font part e =
     let z = run_of_part font part in
     ap (λ k. times_added z * k) (none_repeat (tiles_of part) (no_tiles part e)) ∙ mul-zero (times_added z)
 
-longer_by : (how : Laying) (part : List Cell) (b : Bool) → has_run part ≡ b → length (stretched_part how part) ≡ length part + copies_added (run_of_part how.font part)
+longer_by : (how : Laying) (part : List Cell) (b : Bool) → has_run part ≡ b → length (stretched_part how part)
+    ≡ length part + copies_added (run_of_part how.font part)
 longer_by how part true e = run_length how part e
 longer_by how part false e = omega (arith, ap length (no_run_length how part e), no_copies how.font part e)
 
 abbrev copies_of_run : Font → List Cell → ℕ
 copies_of_run font part = copies_added (run_of_part font part)
 
-parts_longer : (how : Laying) (ps : List (List Cell)) → length (flat_map (stretched_part how) ps) ≡ length (flat_map (λ p. p) ps) + sum_by (copies_of_run how.font) ps
+parts_longer : (how : Laying) (ps : List (List Cell)) → length (flat_map (stretched_part how) ps)
+    ≡ length (flat_map (λ p. p) ps) + sum_by (copies_of_run how.font) ps
 parts_longer how [] = refl
-parts_longer how (p ∷ ps) = omega (arith, length-append (stretched_part how p) (flat_map (stretched_part how) ps), length-append p (flat_map (λ p. p) ps), longer_by how p (has_run p) refl, parts_longer how ps, sum_by-cons (copies_of_run how.font) p ps)
+parts_longer how (p ∷ ps) =
+    omega (
+      arith,
+      length-append (stretched_part how p) (flat_map (stretched_part how) ps),
+      length-append p
+          (flat_map (λ p. p) ps),
+      longer_by how p (has_run p) refl,
+      parts_longer how ps,
+      sum_by-cons (copies_of_run how.font)
+          p ps,
+    )
 
-text_longer : (how : Laying) (cs : List Cell) → length (stretched how cs) ≡ length cs + sum_by (copies_of_run how.font) (parts_of_text cs)
-text_longer how cs = parts_longer how (parts_of_text cs) ∙ ap (λ n. n + sum_by (copies_of_run how.font) (parts_of_text cs)) (ap length (pieces_join run_ends cs))
+text_longer : (how : Laying) (cs : List Cell)
+    → length (stretched how cs) ≡ length cs + sum_by (copies_of_run how.font) (parts_of_text cs)
+text_longer how cs = parts_longer how (parts_of_text cs)
+    ∙ ap (λ n. n + sum_by (copies_of_run how.font) (parts_of_text cs)) (ap length (pieces_join run_ends cs))
 
 length-in_order : {X : Type 0} (r : Bool) (xs : List X) → length (in_working_order r xs) ≡ length xs
 length-in_order true xs = refl
 length-in_order false xs = length-reverse xs
 
-longer_if : (s : Bool) (x b : Buffer) (n : ℕ) → length x.glyphs ≡ length b.glyphs + n → length (cond s x b).glyphs ≡ length b.glyphs + cond s n 0
+longer_if : (s : Bool) (x b : Buffer) (n : ℕ) → length x.glyphs ≡ length b.glyphs + n
+    → length (cond s x b).glyphs ≡ length b.glyphs + cond s n 0
 longer_if true x b n e = e
 longer_if false x b n e = omega arith
 
-pub marks_longer : (font : Font) (choice : StretchStart) (b : Buffer) → length b.positions ≡ length b.glyphs → length (marks_stretched font choice b).glyphs ≡ length b.glyphs + copies_in font b
+pub marks_longer : (font : Font) (choice : StretchStart) (b : Buffer) → length b.positions ≡ length b.glyphs
+    → length (marks_stretched font choice b).glyphs ≡ length b.glyphs + copies_in font b
 marks_longer font choice b both =
     let how = laying font choice b in
     let r = how.right_to_left in
     let cs = in_working_order r (cells b) in
     let after = in_working_order r (stretched how cs) in
-    longer_if b.stch (with_cells after b) b (sum_by (copies_of_run font) (parts_of_text cs)) (omega (arith, length-map after (λ c. c.0), length-in_order r (stretched how cs), text_longer how cs, length-in_order r (cells b), length-zipped b.glyphs b.positions (sym both)))
+    longer_if b.stch (with_cells after b) b (sum_by (copies_of_run font) (parts_of_text cs))
+    (omega (
+      arith,
+      length-map after (λ c. c.0),
+      length-in_order r (stretched how cs),
+      text_longer how cs,
+      length-in_order r (cells b),
+      length-zipped b.glyphs b.positions (sym both),
+    ))
 
-pub grows : {T : Type 0} (font : Font) (choice : StretchStart) (b new : Buffer) (r : Result T ShaperError) → length b.positions ≡ length b.glyphs → OnOk r (new ≡ marks_stretched font choice b) → OnOk r (length new.glyphs ≡ length b.glyphs + copies_in font b)
+pub grows : {T : Type 0} (font : Font) (choice : StretchStart) (b new : Buffer) (r : Result T ShaperError)
+    → length b.positions ≡ length b.glyphs → OnOk r (new ≡ marks_stretched font choice b)
+    → OnOk r (length new.glyphs ≡ length b.glyphs + copies_in font b)
 grows font choice b new (Ok v) both h = ap (λ b. length b.glyphs) h ∙ marks_longer font choice b both
 grows font choice b new (Err v) both h = tt
 
@@ -99,53 +127,66 @@ laid_on-ids : (r : Bool) (pen : ℤ) (cs : List Copy) → ids (laid_on r pen cs)
 laid_on-ids r pen [] = refl
 laid_on-ids r pen (c ∷ cs) = ap (λ ns. copy_id c ∷ ns) (laid_on-ids r (pen_behind r pen c.move) cs)
 
-laid_on-advances : (r : Bool) (pen : ℤ) (cs : List Copy) → map (λ c. c.1.x_advance) (laid_on r pen cs) ≡ replicate (length cs) (pos 0)
+laid_on-advances : (r : Bool) (pen : ℤ) (cs : List Copy) → map (λ c. c.1.x_advance) (laid_on r pen cs)
+    ≡ replicate (length cs) (pos 0)
 laid_on-advances r pen [] = refl
 laid_on-advances r pen (c ∷ cs) = ap (λ ns. pos 0 ∷ ns) (laid_on-advances r (pen_behind r pen c.move) cs)
 
-tile_ids : (b : Bool) (n : ℕ) (w v : ℤ) (c : Cell) → map copy_id (record { tile = c; move = w } ∷ cond b (replicate n (record { tile = c; move = v })) []) ≡ replicate (cond b (suc n) 1) c.0.glyph_id
+tile_ids : (b : Bool) (n : ℕ) (w v : ℤ) (c : Cell)
+    → map copy_id (record { tile = c; move = w } ∷ cond b (replicate n (record { tile = c; move = v })) [])
+    ≡ replicate (cond b (suc n) 1) c.0.glyph_id
 tile_ids true n w v c = ap (λ ns. c.0.glyph_id ∷ ns) (map-replicate copy_id n (record { tile = c; move = v }))
 tile_ids false n w v c = refl
 
 abbrev ids_of_tile : ℕ → hb_glyph_info_t → List ℕ
 ids_of_tile n g = replicate (cond (repeats g) (suc n) 1) g.glyph_id
 
-flat_ids : (font : Font) (z : Run) (cs : List Cell) → map copy_id (flat_map (copies_of font z) cs) ≡ flat_map (ids_of_tile (times_added z)) (glyphs_of cs)
+flat_ids : (font : Font) (z : Run) (cs : List Cell) → map copy_id (flat_map (copies_of font z) cs)
+    ≡ flat_map (ids_of_tile (times_added z)) (glyphs_of cs)
 flat_ids font z [] = refl
 flat_ids font z (c ∷ cs) =
     map-append copy_id (copies_of font z c) (flat_map (copies_of font z) cs)
-    ∙ ap (λ ns. ns ++ map copy_id (flat_map (copies_of font z) cs)) (tile_ids (repeats c.0) (times_added z) (width_of font c.0) (width_of font c.0 -ℤ overlap z) c)
+    ∙ ap (λ ns. ns ++ map copy_id (flat_map (copies_of font z) cs))
+    (tile_ids (repeats c.0) (times_added z) (width_of font c.0) (width_of font c.0 -ℤ overlap z) c)
     ∙ ap (λ ns. ids_of_tile (times_added z) c.0 ++ ns) (flat_ids font z cs)
 
-copies-ids : (font : Font) (z : Run) (tiles : List Cell) → map copy_id (copies font z tiles) ≡ laid_ids (times_added z) (glyphs_of tiles)
-copies-ids font z tiles = flat_ids font z (reverse tiles) ∙ ap (flat_map (ids_of_tile (times_added z))) (map-reverse (λ c. c.0) tiles)
+copies-ids : (font : Font) (z : Run) (tiles : List Cell) → map copy_id (copies font z tiles)
+    ≡ laid_ids (times_added z) (glyphs_of tiles)
+copies-ids font z tiles = flat_ids font z (reverse tiles)
+    ∙ ap (flat_map (ids_of_tile (times_added z))) (map-reverse (λ c. c.0) tiles)
 
 flagged_copies-ids : (m : ℕ) (cs : List Copy) → map copy_id (map (flag_copy m) cs) ≡ map copy_id cs
 flagged_copies-ids m [] = refl
-flagged_copies-ids m (c ∷ cs) = ap (λ n. n ∷ map copy_id (map (flag_copy m) cs)) (same_id m c.tile.0) ∙ ap (λ ns. copy_id c ∷ ns) (flagged_copies-ids m cs)
+flagged_copies-ids m (c ∷ cs) = ap (λ n. n ∷ map copy_id (map (flag_copy m) cs)) (same_id m c.tile.0)
+    ∙ ap (λ ns. copy_id c ∷ ns) (flagged_copies-ids m cs)
 
 flagged-ids : (m : ℕ) (cs : List Cell) → ids (map (flag_cell m) cs) ≡ ids cs
 flagged-ids m [] = refl
-flagged-ids m (c ∷ cs) = ap (λ n. n ∷ ids (map (flag_cell m) cs)) (same_id m c.0) ∙ ap (λ ns. c.0.glyph_id ∷ ns) (flagged-ids m cs)
+flagged-ids m (c ∷ cs) = ap (λ n. n ∷ ids (map (flag_cell m) cs)) (same_id m c.0)
+    ∙ ap (λ ns. c.0.glyph_id ∷ ns) (flagged-ids m cs)
 
 flagged-positions : (m : ℕ) (cs : List Cell) → positions_of (map (flag_cell m) cs) ≡ positions_of cs
 flagged-positions m [] = refl
 flagged-positions m (c ∷ cs) = ap (λ ps. c.1 ∷ ps) (flagged-positions m cs)
 
 -- where they stand
-stands_is : (r : Bool) (from : ℤ) (before : List ℤ) (m : ℤ) → stands r from before m ≡ stands_at r (pen_behind r from (total before)) m
+stands_is : (r : Bool) (from : ℤ) (before : List ℤ) (m : ℤ)
+    → stands r from before m ≡ stands_at r (pen_behind r from (total before)) m
 stands_is true from before m = omega (arith, ints, total-push before m)
 stands_is false from before m = refl
 
-pen_on : (r : Bool) (from : ℤ) (before : List ℤ) (m : ℤ) → pen_behind r from (total (before ++ m ∷ [])) ≡ pen_behind r (pen_behind r from (total before)) m
+pen_on : (r : Bool) (from : ℤ) (before : List ℤ) (m : ℤ) → pen_behind r from (total (before ++ m ∷ []))
+    ≡ pen_behind r (pen_behind r from (total before)) m
 pen_on true from before m = omega (arith, ints, total-push before m)
 pen_on false from before m = omega (arith, ints, total-push before m)
 
-offsets_after : (r : Bool) (from : ℤ) (before ms : List ℤ) → offsets_on r (pen_behind r from (total before)) ms ≡ map (λ p. stands r from p.0 p.1) (each_after before ms)
+offsets_after : (r : Bool) (from : ℤ) (before ms : List ℤ) → offsets_on r (pen_behind r from (total before)) ms
+    ≡ map (λ p. stands r from p.0 p.1) (each_after before ms)
 offsets_after r from before [] = refl
 offsets_after r from before (m ∷ ms) =
     let rest = map (λ p. stands r from p.0 p.1) (each_after (before ++ m ∷ []) ms) in
-    ap (λ xs. stands_at r (pen_behind r from (total before)) m ∷ xs) (ap (λ pen. offsets_on r pen ms) (sym (pen_on r from before m)) ∙ offsets_after r from (before ++ m ∷ []) ms)
+    ap (λ xs. stands_at r (pen_behind r from (total before)) m ∷ xs)
+    (ap (λ pen. offsets_on r pen ms) (sym (pen_on r from before m)) ∙ offsets_after r from (before ++ m ∷ []) ms)
     ∙ ap (λ x. x ∷ rest) (sym (stands_is r from before m))
 
 nothing_moved : (r : Bool) (from : ℤ) → pen_behind r from (total []) ≡ from
@@ -156,10 +197,12 @@ offsets_are : (r : Bool) (from : ℤ) (ms : List ℤ) → offsets_on r from ms �
 offsets_are r from ms = ap (λ pen. offsets_on r pen ms) (sym (nothing_moved r from)) ∙ offsets_after r from [] ms
 
 -- the flagged tiles of a run laid
-laid_flagged : (how : Laying) (z : Run) (m : ℕ) (tiles : List Cell) → laid_run how z (map (flag_cell m) tiles) ≡ laid_on how.right_to_left (start how.choice how.right_to_left z) (map (flag_copy m) (copies how.font z tiles))
+laid_flagged : (how : Laying) (z : Run) (m : ℕ) (tiles : List Cell) → laid_run how z (map (flag_cell m) tiles)
+    ≡ laid_on how.right_to_left (start how.choice how.right_to_left z) (map (flag_copy m) (copies how.font z tiles))
 laid_flagged how z m tiles =
     let from = start how.choice how.right_to_left z in
-    laid_is how.right_to_left from (copies how.font z (map (flag_cell m) tiles)) ∙ ap (laid_on how.right_to_left from) (flag_copies how.font z m tiles)
+    laid_is how.right_to_left from (copies how.font z (map (flag_cell m) tiles))
+    ∙ ap (laid_on how.right_to_left from) (flag_copies how.font z m tiles)
 
 run_laid : (how : Laying) (part : List Cell) → has_run part ≡ true → RunIsLaid how part (stretched_part how part)
 run_laid how part e =
@@ -173,21 +216,33 @@ run_laid how part e =
     let from = start how.choice r z in
     let its = copies how.font z tiles in
     let made = laid_run how z (drop (length word) whole) in
-    let is : made ≡ laid_on r from (map (flag_copy m) its) = ap (laid_run how z) (tiles_are word tiles) ∙ laid_flagged how z m tiles in
+    let is : made ≡ laid_on r from (map (flag_copy m) its) = ap (laid_run how z) (tiles_are word tiles)
+    ∙ laid_flagged how z m tiles in
     let on = take (length word) whole in
-    let over : on ≡ map f word = ap (take (length word)) (unbroken_is (word ++ tiles) ∙ map-append f word tiles) ∙ take_at (map f word) (map f tiles) (length word) (length-map word f) in
+    let over : on ≡ map f word = ap (take (length word)) (unbroken_is (word ++ tiles) ∙ map-append f word tiles)
+    ∙ take_at (map f word) (map f tiles) (length word) (length-map word f) in
     let before : before_word part ++ word ≡ before_tiles part = take-append-drop _ (before_tiles part) in
-    let long : length made ≡ length (map (flag_copy m) its) = length-laid r from (copies how.font z (drop (length word) whole)) ∙ ap length (ap (copies how.font z) (tiles_are word tiles) ∙ flag_copies how.font z m tiles) in
+    let long : length made ≡ length (map (flag_copy m) its) =
+    length-laid r from (copies how.font z (drop (length word) whole))
+    ∙ ap length (ap (copies how.font z) (tiles_are word tiles) ∙ flag_copies how.font z m tiles) in
     record {
       front = before_word part ++ on;
       copies = made;
-      joined = ap (λ b. cond (not b) part (before_word part ++ (on ++ reverse made))) e ∙ sym (append_assoc (before_word part) on (reverse made));
-      front_ids = map-append (λ c. c.0.glyph_id) (before_word part) on ∙ ap (λ ns. ids (before_word part) ++ ns) (ap ids over ∙ flagged-ids m word) ∙ sym (map-append (λ c. c.0.glyph_id) (before_word part) word) ∙ ap ids before;
-      front_positions = map-append (λ c. c.1) (before_word part) on ∙ ap (λ ps. positions_of (before_word part) ++ ps) (ap positions_of over ∙ flagged-positions m word) ∙ sym (map-append (λ c. c.1) (before_word part) word) ∙ ap positions_of before;
-      tiles = ap ids is ∙ laid_on-ids r from (map (flag_copy m) its) ∙ flagged_copies-ids m its ∙ copies-ids how.font z tiles;
+      joined = ap (λ b. cond (not b) part (before_word part ++ (on ++ reverse made))) e
+          ∙ sym (append_assoc (before_word part) on (reverse made));
+      front_ids = map-append (λ c. c.0.glyph_id) (before_word part) on
+          ∙ ap (λ ns. ids (before_word part) ++ ns) (ap ids over ∙ flagged-ids m word)
+          ∙ sym (map-append (λ c. c.0.glyph_id) (before_word part) word) ∙ ap ids before;
+      front_positions = map-append (λ c. c.1) (before_word part) on
+          ∙ ap (λ ps. positions_of (before_word part) ++ ps) (ap positions_of over ∙ flagged-positions m word)
+          ∙ sym (map-append (λ c. c.1) (before_word part) word) ∙ ap positions_of before;
+      tiles = ap ids is ∙ laid_on-ids r from (map (flag_copy m) its) ∙ flagged_copies-ids m its
+          ∙ copies-ids how.font z tiles;
       many = long ∙ length-map its (flag_copy m) ∙ length-copies how.font z tiles;
-      advances = ap (map (λ c. c.1.x_advance)) is ∙ laid_on-advances r from (map (flag_copy m) its) ∙ ap (λ n. replicate n (pos 0)) (sym long);
-      offsets = ap offsets is ∙ flag_offsets r m from its ∙ ap offsets (sym (laid_is r from its)) ∙ run_offsets how z tiles ∙ offsets_are r from (moves_in how part);
+      advances = ap (map (λ c. c.1.x_advance)) is ∙ laid_on-advances r from (map (flag_copy m) its)
+          ∙ ap (λ n. replicate n (pos 0)) (sym long);
+      offsets = ap offsets is ∙ flag_offsets r m from its ∙ ap offsets (sym (laid_is r from its))
+          ∙ run_offsets how z tiles ∙ offsets_are r from (moves_in how part);
       width = ap total (sym (moved_copies how z tiles)) ∙ moves_hold how.font part;
       covers = widths_hold how.font part;
     }
@@ -213,13 +268,18 @@ twice_in_order : {X : Type 0} (r : Bool) (xs : List X) → in_working_order r (i
 twice_in_order true xs = refl
 twice_in_order false xs = reverse-reverse xs
 
-pub stretch_is_as_wide : (font : Font) (choice : StretchStart) (old new : Buffer) → old.stch ≡ true → length old.positions ≡ length old.glyphs → new ≡ marks_stretched font choice old → (length new.positions ≡ length new.glyphs) × TextIsLaid (laying font choice old) (cells_in_order old) (cells_in_order new)
+pub stretch_is_as_wide : (font : Font) (choice : StretchStart) (old new : Buffer) → old.stch ≡ true
+    → length old.positions ≡ length old.glyphs → new ≡ marks_stretched font choice old
+    → (length new.positions ≡ length new.glyphs)
+    × TextIsLaid (laying font choice old) (cells_in_order old) (cells_in_order new)
 stretch_is_as_wide font choice old new marked both e =
     let how = laying font choice old in
     let r = how.right_to_left in
     let cs = cells_in_order old in
     let after = in_working_order r (stretched how cs) in
     let is : new ≡ with_cells after old = e ∙ ap (λ b. cond b (with_cells after old) old) marked in
-    let lengths : length new.positions ≡ length new.glyphs = ap (λ b. length b.positions) is ∙ length-map after (λ c. c.1) ∙ sym (length-map after (λ c. c.0)) ∙ sym (ap (λ b. length b.glyphs) is) in
-    let now : cells_in_order new ≡ stretched how cs = ap cells_in_order is ∙ ap (in_working_order r) (zipped after) ∙ twice_in_order r (stretched how cs) in
+    let lengths : length new.positions ≡ length new.glyphs = ap (λ b. length b.positions) is
+    ∙ length-map after (λ c. c.1) ∙ sym (length-map after (λ c. c.0)) ∙ sym (ap (λ b. length b.glyphs) is) in
+    let now : cells_in_order new ≡ stretched how cs = ap cells_in_order is ∙ ap (in_working_order r) (zipped after)
+    ∙ twice_in_order r (stretched how cs) in
     (lengths, subst (TextIsLaid how cs) (sym now) (text_laid how cs))

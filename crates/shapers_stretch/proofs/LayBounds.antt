@@ -35,11 +35,18 @@ small_from z e =
     let d = and_parts (fits_i32 (left z)) _ c.1 in
     let f = and_parts (fits_i32 (reach z (times_added z))) _ d.1 in
     let h = and_parts (fits_i32 (pos (copies_added z))) _ f.1 in
-    record { left = fits_from (left z) d.0; reach = fits_from (reach z (times_added z)) f.0; copies = ltb-true (copies_added z) (2 ^ 31) h.0 }
+    record {
+      left = fits_from (left z) d.0;
+      reach = fits_from (reach z (times_added z)) f.0;
+      copies = ltb-true
+          (copies_added z) (2 ^ 31) h.0;
+    }
 
 numbers_small : (choice : StretchStart) (z : Run) → list_all fits_i32 (numbers_to_fit choice z) ≡ true → SmallRun z
 numbers_small AsCode z e = small_from z e
-numbers_small Centred z e = small_from z (and_parts _ _ (sym (list_all-append fits_i32 (run_numbers z) (laid_width z ∷ (z.word -ℤ laid_width z) ∷ [])) ∙ e)).0
+numbers_small Centred z e =
+    small_from z (and_parts _ _
+    (sym (list_all-append fits_i32 (run_numbers z) (laid_width z ∷ (z.word -ℤ laid_width z) ∷ [])) ∙ e)).0
 
 magnitude : (x : ℤ) → FitsSigned w32 x → unsigned_abs x ≤ 2 ^ 31
 magnitude (pos n) fits = omega (arith, ints)
@@ -50,7 +57,14 @@ fit_small r m fits =
     by_lt_z {P = fit r m < 2 ^ 31} r m
     (λ h. by_lt_z {P = fit r m < 2 ^ 31} (pos 0) r
     (λ p. let above : pos 0 <ℤ m = omega (arith, ints) in
-    omega (arith, fit_yes r m h p, quotient_abs m r above p, div-le_self (unsigned_abs m) (unsigned_abs r), magnitude m fits))
+    omega (
+      arith,
+      fit_yes r m h p,
+      quotient_abs m r above p,
+      div-le_self (unsigned_abs m) (unsigned_abs r),
+      magnitude m
+          fits,
+    ))
     (λ p. omega (arith, fit_width r m p)))
     (λ h. omega (arith, fit_room r m h))
 
@@ -59,20 +73,33 @@ added_if true n h = omega arith
 added_if false n h = omega arith
 
 overlap_small : (z : Run) (b : Bool) → squeezes z ≡ b → SmallRun z → (pos 0 ≤ℤ overlap z) × (overlap z ≤ℤ pos (2 ^ 34))
-overlap_small z true e s = let bounds = overlap_bounds z e in (omega (arith, ints), omega (arith, ints, s.left, s.reach))
+overlap_small z true e s = let bounds =
+    overlap_bounds z e in (omega (arith, ints), omega (arith, ints, s.left, s.reach))
 overlap_small z false e s = let none = overlap_no z e in (omega (arith, ints), omega (arith, ints))
 
 times_more : (n k : ℕ) (o : ℤ) → 0 < k → pos 0 ≤ℤ o → (pos n *ℤ o) ≤ℤ (pos (n * k) *ℤ o)
 times_more n zero o p h = absurd (omega arith)
-times_more n (suc k) o p h = omega (arith, ints, ap (λ m. pos m *ℤ o) (mul-suc n k), times_add n (n * k) o, times_up (n * k) o h)
+times_more n (suc k) o p h =
+    omega (arith, ints, ap (λ m. pos m *ℤ o) (mul-suc n k), times_add n (n * k) o, times_up (n * k) o h)
 
 shared_small : (z : Run) (b : Bool) → squeezes z ≡ b → SmallRun z → (pos (times_added z) *ℤ overlap z) ≤ℤ pos (2 ^ 34)
-shared_small z true e s = omega (arith, ints, times_more (times_added z) z.repeaters (overlap z) (squeezed_tile z e) (overlap_bounds z e).0, (shared_bounds z e).1, s.left, s.reach)
-shared_small z false e s = omega (arith, ints, ap (λ o. pos (times_added z) *ℤ o) (overlap_no z e) ∙ *ℤ-zero (pos (times_added z)))
+shared_small z true e s =
+    omega (
+      arith,
+      ints,
+      times_more (times_added z) z.repeaters (overlap z) (squeezed_tile z e) (overlap_bounds z e).0,
+      (shared_bounds z e).1,
+      s.left,
+      s.reach,
+    )
+shared_small z false e s =
+    omega (arith, ints, ap (λ o. pos (times_added z) *ℤ o) (overlap_no z e) ∙ *ℤ-zero (pos (times_added z)))
 
 half_small : (x : ℤ) → FitsSigned w32 x → IsNumber (int_div x (pos 2))
-half_small (pos n) fits = record { low = omega (arith, ints, div-le_self n 2); high = omega (arith, ints, div-le_self n 2) }
-half_small (negsuc n) fits = record { low = omega (arith, ints, div-le_self (suc n) 2); high = omega (arith, ints, div-le_self (suc n) 2) }
+half_small (pos n) fits =
+    record { low = omega (arith, ints, div-le_self n 2); high = omega (arith, ints, div-le_self n 2) }
+half_small (negsuc n) fits =
+    record { low = omega (arith, ints, div-le_self (suc n) 2); high = omega (arith, ints, div-le_self (suc n) 2) }
 
 number_if : (b : Bool) (x y : ℤ) → IsNumber x → IsNumber y → IsNumber (cond b x y)
 number_if true x y p q = p
@@ -82,13 +109,18 @@ number_zero : IsNumber (pos 0)
 number_zero = record { low = omega (arith, ints); high = omega (arith, ints) }
 
 number_neg : (x : ℤ) → FitsSigned w32 x → IsNumber (neg_ℤ (int_div x (pos 2)))
-number_neg (pos n) fits = record { low = omega (arith, ints, div-le_self n 2); high = omega (arith, ints, div-le_self n 2) }
-number_neg (negsuc n) fits = record { low = omega (arith, ints, div-le_self (suc n) 2); high = omega (arith, ints, div-le_self (suc n) 2) }
+number_neg (pos n) fits =
+    record { low = omega (arith, ints, div-le_self n 2); high = omega (arith, ints, div-le_self n 2) }
+number_neg (negsuc n) fits =
+    record { low = omega (arith, ints, div-le_self (suc n) 2); high = omega (arith, ints, div-le_self (suc n) 2) }
 
-start_small : (choice : StretchStart) (right_to_left : Bool) (z : Run) → list_all fits_i32 (numbers_to_fit choice z) ≡ true → IsNumber (start choice right_to_left z)
-start_small AsCode right_to_left z e = number_if (squeezes z) _ _ number_zero (half_small (left z) (small_from z e).left)
+start_small : (choice : StretchStart) (right_to_left : Bool) (z : Run) → list_all fits_i32 (numbers_to_fit choice z)
+    ≡ true → IsNumber (start choice right_to_left z)
+start_small AsCode right_to_left z e =
+    number_if (squeezes z) _ _ number_zero (half_small (left z) (small_from z e).left)
 start_small Centred right_to_left z e =
-    let both = and_parts _ _ (sym (list_all-append fits_i32 (run_numbers z) (laid_width z ∷ (z.word -ℤ laid_width z) ∷ [])) ∙ e) in
+    let both = and_parts _ _
+    (sym (list_all-append fits_i32 (run_numbers z) (laid_width z ∷ (z.word -ℤ laid_width z) ∷ [])) ∙ e) in
     let gap = fits_from (z.word -ℤ laid_width z) (and_parts _ _ (and_parts (fits_i32 (laid_width z)) _ both.1).1).0 in
     number_if right_to_left _ _ (number_neg (z.word -ℤ laid_width z) gap) (half_small (z.word -ℤ laid_width z) gap)
 
@@ -99,32 +131,55 @@ pub record FoundLay (choice : StretchStart) (right_to_left : Bool) (z : Run) (la
   pub small : IsLay lay
   pub copies : lay.added * z.repeaters < 2 ^ 31
 
-found_here : (choice : StretchStart) (right_to_left : Bool) (z : Run) → list_all fits_i32 (numbers_to_fit choice z) ≡ true → FoundLay choice right_to_left z (lay_of choice right_to_left z)
+found_here : (choice : StretchStart) (right_to_left : Bool) (z : Run) → list_all fits_i32 (numbers_to_fit choice z)
+    ≡ true → FoundLay choice right_to_left z (lay_of choice right_to_left z)
 found_here choice right_to_left z e =
     let s = numbers_small choice z e in
     let over = overlap_small z (squeezes z) refl s in
     let few : times_added z ≤ 2 ^ 31 = added_if (falls_short z) (fitting z) (fit_small z.repeating (left z) s.left) in
-    record { fits = e; is = refl; small = record { added = few; low = over.0; high = over.1; shared = shared_small z (squeezes z) refl s; start = start_small choice right_to_left z e }; copies = s.copies }
+    record {
+      fits = e;
+      is = refl;
+      small =
+          record {
+            added = few;
+            low = over.0;
+            high = over.1;
+            shared = shared_small z (squeezes z) refl s;
+            start =
+                start_small choice right_to_left z e;
+          };
+      copies = s.copies;
+    }
 
 abbrev lay_or : Lay → Option Lay → Lay
 lay_or d (Some lay) = lay
 lay_or d None = d
 
-pub found_lay : (choice : StretchStart) (right_to_left : Bool) (z : Run) (lay : Lay) → lay_if_fits choice right_to_left z ≡ Some lay → FoundLay choice right_to_left z lay
+pub found_lay : (choice : StretchStart) (right_to_left : Bool) (z : Run) (lay : Lay)
+    → lay_if_fits choice right_to_left z ≡ Some lay → FoundLay choice right_to_left z lay
 found_lay choice right_to_left z lay e =
-    elim (list_all fits_i32 (numbers_to_fit choice z)) as (λ b. list_all fits_i32 (numbers_to_fit choice z) ≡ b → cond b (Some (lay_of choice right_to_left z)) None ≡ Some lay → FoundLay choice right_to_left z lay) [
+    elim (list_all fits_i32 (numbers_to_fit choice z)) as (λ b. list_all fits_i32 (numbers_to_fit choice z) ≡ b
+    → cond b (Some (lay_of choice right_to_left z)) None ≡ Some lay → FoundLay choice right_to_left z lay) [
       | true ↦ λ f e. subst (FoundLay choice right_to_left z) (ap (lay_or lay) e) (found_here choice right_to_left z f)
       | false ↦ λ f e. absurd (none-some lay e)
     ] refl e
 
-pub no_lay : (choice : StretchStart) (right_to_left : Bool) (z : Run) → lay_if_fits choice right_to_left z ≡ None → list_all fits_i32 (numbers_to_fit choice z) ≡ false
+pub no_lay : (choice : StretchStart) (right_to_left : Bool) (z : Run) → lay_if_fits choice right_to_left z ≡ None
+    → list_all fits_i32 (numbers_to_fit choice z) ≡ false
 no_lay choice right_to_left z e =
-    elim (list_all fits_i32 (numbers_to_fit choice z)) as (λ b. list_all fits_i32 (numbers_to_fit choice z) ≡ b → cond b (Some (lay_of choice right_to_left z)) None ≡ None → b ≡ false) [
+    elim (list_all fits_i32 (numbers_to_fit choice z)) as (λ b. list_all fits_i32 (numbers_to_fit choice z) ≡ b
+    → cond b (Some (lay_of choice right_to_left z)) None ≡ None → b ≡ false) [
       | true ↦ λ f e. absurd (none-some (lay_of choice right_to_left z) (sym e))
       | false ↦ λ f e. refl
     ] refl e
 
 -- a run of which a number doesn't fit adds nothing
-pub unmeasured : (choice : StretchStart) (right_to_left : Bool) (font : Font) (z : Run) (tiles : List hb_glyph_info_t) → list_all fits_i32 (z.word ∷ z.fixed ∷ z.repeating ∷ left z ∷ []) ≡ false → None ≡ run_added choice right_to_left font z tiles
+pub unmeasured : (choice : StretchStart) (right_to_left : Bool) (font : Font) (z : Run) (tiles : List hb_glyph_info_t)
+    → list_all fits_i32 (z.word ∷ z.fixed ∷ z.repeating ∷ left z ∷ []) ≡ false
+    → None ≡ run_added choice right_to_left font z tiles
 unmeasured choice right_to_left font z tiles e =
-    sym (ap (λ b. cond (b && offsets_fit right_to_left (start choice right_to_left z) (run_moves font (lay_of choice right_to_left z) tiles)) (Some (copies_added z)) None) (numbers_apart choice z e))
+    sym (ap (λ b. cond
+    (b && offsets_fit right_to_left (start choice right_to_left z)
+    (run_moves font (lay_of choice right_to_left z) tiles)) (Some (copies_added z)) None)
+    (numbers_apart choice z e))

@@ -51,7 +51,8 @@ backwards = refl
 word_backwards-added : copies_added (run (negsuc 299) (pos 0) (pos 200) 1) ≡ 0
 word_backwards-added = refl
 
-word_backwards : numbers_of (run (negsuc 299) (pos 0) (pos 200) 1) ≡ pos 0 ∷ (negsuc 149) ∷ pos 200 ∷ (negsuc 249) ∷ pos 250 ∷ []
+word_backwards : numbers_of (run (negsuc 299) (pos 0) (pos 200) 1) ≡ pos 0 ∷ (negsuc 149) ∷ pos 200 ∷ (negsuc 249)
+    ∷ pos 250 ∷ []
 word_backwards = refl
 
 fixed_alone-added : copies_added (run (pos 100) (pos 40) (pos 0) 0) ≡ 0
@@ -63,19 +64,22 @@ fixed_alone = refl
 lowest-added : copies_added (run (negsuc 2147483647) (pos 0) (pos 1) 1) ≡ 0
 lowest-added = refl
 
-lowest : numbers_of (run (negsuc 2147483647) (pos 0) (pos 1) 1) ≡ pos 0 ∷ (negsuc 1073741823) ∷ pos 1 ∷ (negsuc 1073741823) ∷ pos 1073741824 ∷ []
+lowest : numbers_of (run (negsuc 2147483647) (pos 0) (pos 1) 1) ≡ pos 0 ∷ (negsuc 1073741823) ∷ pos 1
+    ∷ (negsuc 1073741823) ∷ pos 1073741824 ∷ []
 lowest = refl
 
 highest-added : copies_added (run (pos 2147483647) (pos 0) (negsuc 49) 1) ≡ 1
 highest-added = refl
 
-highest : numbers_of (run (pos 2147483647) (pos 0) (negsuc 49) 1) ≡ pos 0 ∷ pos 1073741823 ∷ (negsuc 99) ∷ pos 1073741873 ∷ (negsuc 1073741872) ∷ []
+highest : numbers_of (run (pos 2147483647) (pos 0) (negsuc 49) 1) ≡ pos 0 ∷ pos 1073741823 ∷ (negsuc 99)
+    ∷ pos 1073741873 ∷ (negsuc 1073741872) ∷ []
 highest = refl
 
 high-added : copies_added (run (pos 2147483600) (pos 0) (negsuc 39) 1) ≡ 1
 high-added = refl
 
-high : numbers_of (run (pos 2147483600) (pos 0) (negsuc 39) 1) ≡ pos 0 ∷ pos 1073741800 ∷ (negsuc 79) ∷ pos 1073741840 ∷ (negsuc 1073741839) ∷ []
+high : numbers_of (run (pos 2147483600) (pos 0) (negsuc 39) 1) ≡ pos 0 ∷ pos 1073741800 ∷ (negsuc 79) ∷ pos 1073741840
+    ∷ (negsuc 1073741839) ∷ []
 high = refl
 
 two_tiles-added : copies_added (run (pos 1000) (pos 0) (pos 300) 2) ≡ 6
@@ -128,12 +132,15 @@ two_one_too_far : numbers_of (run (pos 599) (pos 0) (pos 300) 2) ≡ pos 0 ∷ p
 two_one_too_far = refl
 
 -- the ends of 32 bits
-ends : map fits_i32 (pos 2147483647 ∷ pos 2147483648 ∷ negsuc 2147483647 ∷ negsuc 2147483648 ∷ pos 0 ∷ []) ≡ true ∷ false ∷ true ∷ false ∷ true ∷ []
+ends : map fits_i32 (pos 2147483647 ∷ pos 2147483648 ∷ negsuc 2147483647 ∷ negsuc 2147483648 ∷ pos 0 ∷ [])
+    ≡ true ∷ false ∷ true ∷ false ∷ true ∷ []
 ends = refl
 
 -- which numbers must fit, by the choice of a start
-as_code : numbers_to_fit AsCode (run (pos 1000) (pos 100) (pos 200) 1) ≡ pos 1000 ∷ pos 100 ∷ pos 200 ∷ pos 900 ∷ pos 1000 ∷ pos 4 ∷ []
+as_code : numbers_to_fit AsCode (run (pos 1000) (pos 100) (pos 200) 1) ≡ pos 1000 ∷ pos 100 ∷ pos 200 ∷ pos 900
+    ∷ pos 1000 ∷ pos 4 ∷ []
 as_code = refl
 
-centred : numbers_to_fit Centred (run (pos 1000) (pos 0) (pos 300) 1) ≡ pos 1000 ∷ pos 0 ∷ pos 300 ∷ pos 1000 ∷ pos 1200 ∷ pos 3 ∷ pos 1002 ∷ negsuc 1 ∷ []
+centred : numbers_to_fit Centred (run (pos 1000) (pos 0) (pos 300) 1) ≡ pos 1000 ∷ pos 0 ∷ pos 300 ∷ pos 1000 ∷ pos 1200
+    ∷ pos 3 ∷ pos 1002 ∷ negsuc 1 ∷ []
 centred = refl

@@ -1,7 +1,7 @@
 -- What the code computes of the numbers of a run.
 use Rattle.std.proofs.Common.{◌≡◌, ◌^◌, ℕ, zero, suc, ◌*◌, ◌*ℤ◌, ◌-◌, ◌/◌, ◌<◌, ◌≤◌, ◌+◌, ℤ, pos, negsuc, ◌-ℤ◌, ◌≤ℤ◌, ◌<ℤ◌, nat_abs, unsigned_abs, int_lt, int_div, Bool, true, false, cond, ◌&&◌, IsTrue, nat_lt, FitsSigned, [], ◌∷◌, Option, None, Some, refl, sym, subst, ◌∙◌, ap, arith, mul-pos, div-le_self}
 use Rattle.std.specs.List.{list_all}
-use Rattle.std.proofs.lemmas.Int.{ints, by_lt_z, fits_signed_mul}
+use Rattle.std.proofs.lemmas.Int.{ints, fits_signed_mul}
 use borrow.Author.Tests.{ltb-true, clash}
 use Rattle.std.proofs.lemmas.Option.{none-some}
 use Rattle.std.proofs.lemmas.Bool.Decides.{nat_tests}
@@ -26,7 +26,9 @@ abs_within (pos n) f = omega (arith, f.sfits)
 abs_within (negsuc n) f = omega (arith, f.sfits)
 
 pub reach_fits : (z : Run) (n : ℕ) → TileRunFits z → n ≤ 2 ^ 31 → FitsSigned w64 (reach z n)
-reach_fits z n fits few = fits_signed_mul w64 (pos (suc n)) z.repeating (2 ^ 31 + 1) (2 ^ 31) (omega arith) (abs_within z.repeating fits.repeating) (omega arith)
+reach_fits z n fits few =
+    fits_signed_mul w64 (pos (suc n)) z.repeating (2 ^ 31 + 1) (2 ^ 31) (omega arith)
+    (abs_within z.repeating fits.repeating) (omega arith)
 
 -- what fits 32 bits fits 64
 pub wide : (x : ℤ) → FitsSigned w32 x → FitsSigned w64 x
@@ -37,13 +39,20 @@ wide (negsuc n) f = record { sfits = omega (arith, f.sfits) }
 pub is_true_from : (b : Bool) → IsTrue b → b ≡ true
 is_true_from b t = t
 
-pub run_fits_from : (z : Run) → IsTrue (list_all fits_i32 (z.word ∷ z.fixed ∷ z.repeating ∷ left z ∷ [])) → TileRunFits z
+pub run_fits_from : (z : Run) → IsTrue (list_all fits_i32 (z.word ∷ z.fixed ∷ z.repeating ∷ left z ∷ []))
+    → TileRunFits z
 run_fits_from z t =
     let first = and_parts (fits_i32 z.word) _ (is_true_from _ t) in
     let second = and_parts (fits_i32 z.fixed) _ first.1 in
     let third = and_parts (fits_i32 z.repeating) _ second.1 in
     let fourth = and_parts (fits_i32 (left z)) _ third.1 in
-    record { word = fits_from z.word first.0; fixed = fits_from z.fixed second.0; repeating = fits_from z.repeating third.0; left = fits_from (left z) fourth.0 }
+    record {
+      word = fits_from z.word first.0;
+      fixed = fits_from z.fixed second.0;
+      repeating = fits_from z.repeating
+          third.0;
+      left = fits_from (left z) fourth.0;
+    }
 
 pub quotient_abs : (a b : ℤ) → pos 0 <ℤ a → pos 0 <ℤ b → nat_abs (int_div a b) ≡ unsigned_abs a / unsigned_abs b
 quotient_abs (pos a) (pos b) p q = refl
@@ -90,7 +99,8 @@ rest_at z n e = ap (reach z) e
 
 -- where tiles fall short, there is one to be copied
 short_is : (z : Run) → pos 0 <ℤ (left z -ℤ reach z (fitting z)) → 0 < z.repeaters → falls_short z ≡ true
-short_is z h p = ap (λ v. v && nat_lt 0 z.repeaters) (lt_yes (pos 0) (left z -ℤ reach z (fitting z)) h) ∙ grind (arith, nat_tests)
+short_is z h p = ap (λ v. v && nat_lt 0 z.repeaters) (lt_yes (pos 0) (left z -ℤ reach z (fitting z)) h)
+    ∙ grind (arith, nat_tests)
 
 full_is : (z : Run) → (left z -ℤ reach z (fitting z)) ≤ℤ pos 0 → falls_short z ≡ false
 full_is z h = ap (λ v. v && nat_lt 0 z.repeaters) (lt_not (pos 0) (left z -ℤ reach z (fitting z)) h)
@@ -104,7 +114,8 @@ squeezes_full z h = ap (λ v. v && int_lt (pos 0) (excess z)) (full_is z h)
 pub squeezes_none : (z : Run) → z.repeaters ≡ 0 → squeezes z ≡ false
 squeezes_none z h = ap (λ v. v && int_lt (pos 0) (excess z)) (none_is z h)
 
-pub squeezes_short : (z : Run) → pos 0 <ℤ (left z -ℤ reach z (fitting z)) → 0 < z.repeaters → squeezes z ≡ int_lt (pos 0) (excess z)
+pub squeezes_short : (z : Run) → pos 0 <ℤ (left z -ℤ reach z (fitting z)) → 0 < z.repeaters
+    → squeezes z ≡ int_lt (pos 0) (excess z)
 squeezes_short z h p = ap (λ v. v && int_lt (pos 0) (excess z)) (short_is z h p)
 
 -- where copies overlap, there are some, and they reach too far
@@ -128,10 +139,12 @@ quotient_bounds (pos a) n h p = (omega (arith, ints), omega (arith, ints, div-le
 quotient_bounds (negsuc a) n h p = absurd (omega (arith, ints))
 
 -- what copies that overlap share together: no more than they reach too far
-quotient_times : (a : ℤ) (n : ℕ) → pos 0 ≤ℤ a → 0 < n → (pos 0 ≤ℤ (pos n *ℤ int_div a (pos n))) × ((pos n *ℤ int_div a (pos n)) ≤ℤ a)
+quotient_times : (a : ℤ) (n : ℕ) → pos 0 ≤ℤ a → 0 < n → (pos 0 ≤ℤ (pos n *ℤ int_div a (pos n)))
+    × ((pos n *ℤ int_div a (pos n)) ≤ℤ a)
 quotient_times a zero h p = absurd (omega arith)
 quotient_times (pos a) (suc n) h p =
-    let product : pos (suc n) *ℤ int_div (pos a) (pos (suc n)) ≡ pos (suc n * (a / suc n)) = pos-*ℤ-pos (suc n) (a / suc n) in
+    let product : pos (suc n) *ℤ int_div (pos a) (pos (suc n)) ≡ pos (suc n * (a / suc n)) =
+    pos-*ℤ-pos (suc n) (a / suc n) in
     (omega (arith, ints, product), omega (arith, ints, product))
 quotient_times (negsuc a) (suc n) h p = absurd (omega (arith, ints))
 
@@ -141,7 +154,8 @@ squeezed_tile z e =
     let short = and_parts (int_lt (pos 0) (left z -ℤ reach z (fitting z))) (nat_lt 0 z.repeaters) both.0 in
     ltb-true 0 z.repeaters short.1
 
-pub shared_bounds : (z : Run) → squeezes z ≡ true → (pos 0 ≤ℤ (pos (copies_added z) *ℤ overlap z)) × ((pos (copies_added z) *ℤ overlap z) ≤ℤ excess z)
+pub shared_bounds : (z : Run) → squeezes z ≡ true → (pos 0 ≤ℤ (pos (copies_added z) *ℤ overlap z))
+    × ((pos (copies_added z) *ℤ overlap z) ≤ℤ excess z)
 shared_bounds z e =
     let some = squeezed_some z e in
     let P : ℤ → Type 0 = λ o. (pos 0 ≤ℤ (pos (copies_added z) *ℤ o)) × ((pos (copies_added z) *ℤ o) ≤ℤ excess z) in
@@ -150,21 +164,20 @@ shared_bounds z e =
 share_nothing : (n : ℕ) (o : ℤ) → o ≡ pos 0 → pos n *ℤ o ≡ pos 0
 share_nothing n o e = ap (λ o. pos n *ℤ o) e ∙ *ℤ-zero (pos n)
 
-shared_if : (z : Run) (b : Bool) → squeezes z ≡ b → FitsSigned w32 (left z) → FitsSigned w32 (reach z (times_added z)) → (pos 0 ≤ℤ (pos (copies_added z) *ℤ overlap z)) × ((pos (copies_added z) *ℤ overlap z) ≤ℤ pos (2 ^ 34))
+shared_if : (z : Run) (b : Bool) → squeezes z ≡ b → FitsSigned w32 (left z) → FitsSigned w32 (reach z (times_added z))
+    → (pos 0 ≤ℤ (pos (copies_added z) *ℤ overlap z)) × ((pos (copies_added z) *ℤ overlap z) ≤ℤ pos (2 ^ 34))
 shared_if z true e l r = let bounds = shared_bounds z e in (bounds.0, omega (arith, ints, bounds.1, l, r))
-shared_if z false e l r = let none = share_nothing (copies_added z) (overlap z) (overlap_no z e) in (omega (arith, ints, none), omega (arith, ints, none))
+shared_if z false e l r = let none =
+    share_nothing (copies_added z) (overlap z)
+    (overlap_no z e) in (omega (arith, ints, none), omega (arith, ints, none))
 
-pub shared_within : (z : Run) → FitsSigned w32 (left z) → FitsSigned w32 (reach z (times_added z)) → (pos 0 ≤ℤ (pos (copies_added z) *ℤ overlap z)) × ((pos (copies_added z) *ℤ overlap z) ≤ℤ pos (2 ^ 34))
+pub shared_within : (z : Run) → FitsSigned w32 (left z) → FitsSigned w32 (reach z (times_added z))
+    → (pos 0 ≤ℤ (pos (copies_added z) *ℤ overlap z)) × ((pos (copies_added z) *ℤ overlap z) ≤ℤ pos (2 ^ 34))
 shared_within z l r = shared_if z (squeezes z) refl l r
 
-lt_gap : (a b : ℤ) → int_lt a b ≡ int_lt (pos 0) (b -ℤ a)
-lt_gap a b = by_lt_z a b (λ h. let over : pos 0 <ℤ (b -ℤ a) = omega (arith, ints) in lt_yes a b h ∙ sym (lt_yes (pos 0) (b -ℤ a) over)) (λ h. let under : (b -ℤ a) ≤ℤ pos 0 = omega (arith, ints) in lt_not a b h ∙ sym (lt_not (pos 0) (b -ℤ a) under))
-
-pub squeezes_at : (z : Run) (l r : ℤ) → l ≡ left z → r ≡ reach z (times_added z) → pos 0 <ℤ (left z -ℤ reach z (fitting z)) → 0 < z.repeaters → int_lt l r ≡ squeezes z
-squeezes_at z l r e f h p = ap (λ l. int_lt l r) e ∙ ap (λ r. int_lt (left z) r) f ∙ lt_gap (left z) (reach z (times_added z)) ∙ sym (squeezes_short z h p)
-
 -- the quotient that overlap is, and its bounds
-pub overlap_at : (z : Run) (q ex n : ℤ) → squeezes z ≡ true → q ≡ int_div ex n → ex ≡ excess z → n ≡ pos (copies_added z) → q ≡ overlap z
+pub overlap_at : (z : Run) (q ex n : ℤ) → squeezes z ≡ true → q ≡ int_div ex n → ex ≡ excess z
+    → n ≡ pos (copies_added z) → q ≡ overlap z
 overlap_at z q ex n e d f h = d ∙ ap (λ x. int_div x n) f ∙ ap (λ m. int_div (excess z) m) h ∙ sym (overlap_yes z e)
 
 pub overlap_bounds : (z : Run) → squeezes z ≡ true → (pos 0 ≤ℤ overlap z) × (overlap z ≤ℤ excess z)
@@ -173,18 +186,20 @@ overlap_bounds z e =
     let P : ℤ → Type 0 = λ o. (pos 0 ≤ℤ o) × (o ≤ℤ excess z) in
     subst P (sym (overlap_yes z e)) (quotient_bounds (excess z) (copies_added z) (omega (arith, ints)) some.0)
 
--- the second choice of a start, from a number that is the laid width
-pub centred_wide : (right_to_left : Bool) (z : Run) (w : ℤ) → w ≡ laid_width z → fits_i32 w ≡ false → None ≡ start_if_fits Centred right_to_left z
-centred_wide right_to_left z w e f = sym (if_first (fits_i32 (laid_width z)) _ _ _ (sym (ap fits_i32 e) ∙ f))
+pub centred_apart : (right_to_left : Bool) (z : Run) (w : ℤ) → w ≡ laid_width z → fits_i32 (z.word -ℤ w) ≡ false
+    → None ≡ start_if_fits Centred right_to_left z
+centred_apart right_to_left z w e f =
+    sym (if_second (fits_i32 (laid_width z)) _ _ _ (ap (λ b. b && true) (sym (ap (λ w. fits_i32 (z.word -ℤ w)) e) ∙ f)))
 
-pub centred_apart : (right_to_left : Bool) (z : Run) (w : ℤ) → w ≡ laid_width z → fits_i32 (z.word -ℤ w) ≡ false → None ≡ start_if_fits Centred right_to_left z
-centred_apart right_to_left z w e f = sym (if_second (fits_i32 (laid_width z)) _ _ _ (ap (λ b. b && true) (sym (ap (λ w. fits_i32 (z.word -ℤ w)) e) ∙ f)))
-
-pub centred_fits : (right_to_left : Bool) (z : Run) (w : ℤ) → w ≡ laid_width z → fits_i32 w ≡ true → fits_i32 (z.word -ℤ w) ≡ true → Some (start Centred right_to_left z) ≡ start_if_fits Centred right_to_left z
-centred_fits right_to_left z w e f h = sym (if_both (fits_i32 (laid_width z)) _ _ _ (sym (ap fits_i32 e) ∙ f) (ap (λ b. b && true) (sym (ap (λ w. fits_i32 (z.word -ℤ w)) e) ∙ h)))
+pub centred_fits : (right_to_left : Bool) (z : Run) (w : ℤ) → w ≡ laid_width z → fits_i32 w ≡ true
+    → fits_i32 (z.word -ℤ w) ≡ true → Some (start Centred right_to_left z) ≡ start_if_fits Centred right_to_left z
+centred_fits right_to_left z w e f h =
+    sym (if_both (fits_i32 (laid_width z)) _ _ _ (sym (ap fits_i32 e) ∙ f)
+    (ap (λ b. b && true) (sym (ap (λ w. fits_i32 (z.word -ℤ w)) e) ∙ h)))
 
 -- how a run is laid, by the tests in turn
-four_true : (a b c d : Bool) (rest : Bool) → (a && (b && (c && (d && true)))) ≡ true → (a && (b && (c && (d && rest)))) ≡ rest
+four_true : (a b c d : Bool) (rest : Bool) → (a && (b && (c && (d && true)))) ≡ true → (a && (b && (c && (d && rest))))
+    ≡ rest
 four_true true true true true rest e = refl
 four_true true true true false rest e = absurd (clash e)
 four_true true true false d rest e = absurd (clash e)
@@ -203,21 +218,38 @@ number_or None = pos 0
 some_same : {x y : ℤ} → Some x ≡ Some y → x ≡ y
 some_same e = ap number_or e
 
-as_code_found : (right_to_left : Bool) (z : Run) (b : Bool) (s : ℤ) → b ≡ true → start AsCode right_to_left z ≡ s → cond b (Some (lay_of AsCode right_to_left z)) None ≡ Some (record (lay_of AsCode right_to_left z) { start = s })
-as_code_found right_to_left z b s e f = ap (λ b. cond b (Some (lay_of AsCode right_to_left z)) None) e ∙ ap (λ s. let r : Lay = record (lay_of AsCode right_to_left z) { start = s } in Some r) f
+as_code_found : (right_to_left : Bool) (z : Run) (b : Bool) (s : ℤ) → b ≡ true → start AsCode right_to_left z ≡ s
+    → cond b (Some (lay_of AsCode right_to_left z)) None ≡ Some (record (lay_of AsCode right_to_left z) { start = s })
+as_code_found right_to_left z b s e f = ap (λ b. cond b (Some (lay_of AsCode right_to_left z)) None) e
+    ∙ ap (λ s. let r : Lay = record (lay_of AsCode right_to_left z) { start = s } in Some r) f
 
-pub four_and_two : (z : Run) (rest : Bool) → list_all fits_i32 (z.word ∷ z.fixed ∷ z.repeating ∷ left z ∷ []) ≡ true → list_all fits_i32 (reach z (times_added z) ∷ pos (copies_added z) ∷ []) ≡ true → (fits_i32 z.word && (fits_i32 z.fixed && (fits_i32 z.repeating && (fits_i32 (left z) && (fits_i32 (reach z (times_added z)) && (fits_i32 (pos (copies_added z)) && rest)))))) ≡ rest
-four_and_two z rest e f = four_true (fits_i32 z.word) (fits_i32 z.fixed) (fits_i32 z.repeating) (fits_i32 (left z)) _ e ∙ two_true (fits_i32 (reach z (times_added z))) (fits_i32 (pos (copies_added z))) rest f
+pub four_and_two : (z : Run) (rest : Bool) → list_all fits_i32 (z.word ∷ z.fixed ∷ z.repeating ∷ left z ∷ []) ≡ true
+    → list_all fits_i32 (reach z (times_added z) ∷ pos (copies_added z) ∷ []) ≡ true
+    → (fits_i32 z.word
+    && (fits_i32 z.fixed
+    && (fits_i32 z.repeating
+    && (fits_i32 (left z) && (fits_i32 (reach z (times_added z)) && (fits_i32 (pos (copies_added z)) && rest))))))
+    ≡ rest
+four_and_two z rest e f = four_true (fits_i32 z.word) (fits_i32 z.fixed) (fits_i32 z.repeating) (fits_i32 (left z)) _ e
+    ∙ two_true (fits_i32 (reach z (times_added z))) (fits_i32 (pos (copies_added z))) rest f
 
-centred_found : (right_to_left : Bool) (z : Run) (b : Bool) (s : ℤ) → cond b (Some (start Centred right_to_left z)) None ≡ Some s → cond b (Some (lay_of Centred right_to_left z)) None ≡ Some (record (lay_of Centred right_to_left z) { start = s })
-centred_found right_to_left z true s e = ap (λ s. let r : Lay = record (lay_of Centred right_to_left z) { start = s } in Some r) (some_same e)
+centred_found : (right_to_left : Bool) (z : Run) (b : Bool) (s : ℤ) → cond b (Some (start Centred right_to_left z)) None
+    ≡ Some s → cond b (Some (lay_of Centred right_to_left z)) None
+    ≡ Some (record (lay_of Centred right_to_left z) { start = s })
+centred_found right_to_left z true s e =
+    ap (λ s. let r : Lay = record (lay_of Centred right_to_left z) { start = s } in Some r) (some_same e)
 centred_found right_to_left z false s e = absurd (none-some s e)
 
-pub lay_found : (choice : StretchStart) (right_to_left : Bool) (z : Run) (s : ℤ) → list_all fits_i32 (z.word ∷ z.fixed ∷ z.repeating ∷ left z ∷ []) ≡ true → list_all fits_i32 (reach z (times_added z) ∷ pos (copies_added z) ∷ []) ≡ true → start_if_fits choice right_to_left z ≡ Some s → lay_if_fits choice right_to_left z ≡ Some (record (lay_of choice right_to_left z) { start = s })
+pub lay_found : (choice : StretchStart) (right_to_left : Bool) (z : Run) (s : ℤ)
+    → list_all fits_i32 (z.word ∷ z.fixed ∷ z.repeating ∷ left z ∷ []) ≡ true
+    → list_all fits_i32 (reach z (times_added z) ∷ pos (copies_added z) ∷ []) ≡ true
+    → start_if_fits choice right_to_left z ≡ Some s → lay_if_fits choice right_to_left z
+    ≡ Some (record (lay_of choice right_to_left z) { start = s })
 lay_found AsCode right_to_left z s e f h = as_code_found right_to_left z _ s (four_and_two z true e f) (some_same h)
 lay_found Centred right_to_left z s e f h =
     let rest = list_all fits_i32 (laid_width z ∷ (z.word -ℤ laid_width z) ∷ []) in
-    ap (λ b. cond b (Some (lay_of Centred right_to_left z)) None) (four_and_two z rest e f) ∙ centred_found right_to_left z rest s h
+    ap (λ b. cond b (Some (lay_of Centred right_to_left z)) None) (four_and_two z rest e f)
+    ∙ centred_found right_to_left z rest s h
 
 -- where a number doesn't fit, there is no way to lay it
 four_false : (a b c d rest : Bool) → (a && (b && (c && (d && true)))) ≡ false → (a && (b && (c && (d && rest)))) ≡ false
@@ -232,39 +264,66 @@ two_false true true rest e = absurd (clash (sym e))
 two_false true false rest e = refl
 two_false false b rest e = refl
 
-run_apart : (z : Run) (rest : Bool) → list_all fits_i32 (z.word ∷ z.fixed ∷ z.repeating ∷ left z ∷ []) ≡ false → (fits_i32 z.word && (fits_i32 z.fixed && (fits_i32 z.repeating && (fits_i32 (left z) && rest)))) ≡ false
+run_apart : (z : Run) (rest : Bool) → list_all fits_i32 (z.word ∷ z.fixed ∷ z.repeating ∷ left z ∷ []) ≡ false
+    → (fits_i32 z.word && (fits_i32 z.fixed && (fits_i32 z.repeating && (fits_i32 (left z) && rest)))) ≡ false
 run_apart z rest e = four_false (fits_i32 z.word) (fits_i32 z.fixed) (fits_i32 z.repeating) (fits_i32 (left z)) rest e
 
-added_apart : (z : Run) (rest : Bool) → list_all fits_i32 (z.word ∷ z.fixed ∷ z.repeating ∷ left z ∷ []) ≡ true → list_all fits_i32 (reach z (times_added z) ∷ pos (copies_added z) ∷ []) ≡ false → (fits_i32 z.word && (fits_i32 z.fixed && (fits_i32 z.repeating && (fits_i32 (left z) && (fits_i32 (reach z (times_added z)) && (fits_i32 (pos (copies_added z)) && rest)))))) ≡ false
-added_apart z rest e f = four_true (fits_i32 z.word) (fits_i32 z.fixed) (fits_i32 z.repeating) (fits_i32 (left z)) _ e ∙ two_false (fits_i32 (reach z (times_added z))) (fits_i32 (pos (copies_added z))) rest f
+added_apart : (z : Run) (rest : Bool) → list_all fits_i32 (z.word ∷ z.fixed ∷ z.repeating ∷ left z ∷ []) ≡ true
+    → list_all fits_i32 (reach z (times_added z) ∷ pos (copies_added z) ∷ []) ≡ false
+    → (fits_i32 z.word
+    && (fits_i32 z.fixed
+    && (fits_i32 z.repeating
+    && (fits_i32 (left z) && (fits_i32 (reach z (times_added z)) && (fits_i32 (pos (copies_added z)) && rest))))))
+    ≡ false
+added_apart z rest e f = four_true (fits_i32 z.word) (fits_i32 z.fixed) (fits_i32 z.repeating) (fits_i32 (left z)) _ e
+    ∙ two_false (fits_i32 (reach z (times_added z))) (fits_i32 (pos (copies_added z))) rest f
 
-pub repeating_apart : (z : Run) → fits_i32 z.repeating ≡ false → list_all fits_i32 (z.word ∷ z.fixed ∷ z.repeating ∷ left z ∷ []) ≡ false
-repeating_apart z e = and_right (fits_i32 z.word) _ (and_right (fits_i32 z.fixed) _ (ap (λ b. b && (fits_i32 (left z) && true)) e))
+pub repeating_apart : (z : Run) → fits_i32 z.repeating ≡ false
+    → list_all fits_i32 (z.word ∷ z.fixed ∷ z.repeating ∷ left z ∷ []) ≡ false
+repeating_apart z e =
+    and_right (fits_i32 z.word) _ (and_right (fits_i32 z.fixed) _ (ap (λ b. b && (fits_i32 (left z) && true)) e))
 
 -- a run by its numbers
-pub same_run : (w v f h r s : ℤ) (n m : ℕ) → w ≡ v → f ≡ h → r ≡ s → n ≡ m → ◌≡◌ {A = Run} (record { word = w; fixed = f; repeating = r; repeaters = n }) (record { word = v; fixed = h; repeating = s; repeaters = m })
+pub same_run : (w v f h r s : ℤ) (n m : ℕ) → w ≡ v → f ≡ h → r ≡ s → n ≡ m
+    → ◌≡◌ {A = Run} (record { word = w; fixed = f; repeating = r; repeaters = n })
+    (record { word = v; fixed = h; repeating = s; repeaters = m })
 same_run w v f h r s n m a b c d =
     let run : ℤ → ℤ → ℤ → ℕ → Run = λ w f r n. record { word = w; fixed = f; repeating = r; repeaters = n } in
     ap (λ w. run w f r n) a ∙ ap (λ f. run v f r n) b ∙ ap (λ r. run v h r n) c ∙ ap (run v h s) d
 
-pub numbers_apart : (choice : StretchStart) (z : Run) → list_all fits_i32 (z.word ∷ z.fixed ∷ z.repeating ∷ left z ∷ []) ≡ false → list_all fits_i32 (numbers_to_fit choice z) ≡ false
+pub numbers_apart : (choice : StretchStart) (z : Run) → list_all fits_i32 (z.word ∷ z.fixed ∷ z.repeating ∷ left z ∷ [])
+    ≡ false → list_all fits_i32 (numbers_to_fit choice z) ≡ false
 numbers_apart AsCode z e = run_apart z _ e
 numbers_apart Centred z e = run_apart z _ e
 
-pub no_lay_run : (choice : StretchStart) (right_to_left : Bool) (z : Run) → list_all fits_i32 (z.word ∷ z.fixed ∷ z.repeating ∷ left z ∷ []) ≡ false → None ≡ lay_if_fits choice right_to_left z
-no_lay_run AsCode right_to_left z e = sym (ap (λ b. cond b (Some (lay_of AsCode right_to_left z)) None) (run_apart z _ e))
-no_lay_run Centred right_to_left z e = sym (ap (λ b. cond b (Some (lay_of Centred right_to_left z)) None) (run_apart z _ e))
+pub no_lay_run : (choice : StretchStart) (right_to_left : Bool) (z : Run)
+    → list_all fits_i32 (z.word ∷ z.fixed ∷ z.repeating ∷ left z ∷ []) ≡ false
+    → None ≡ lay_if_fits choice right_to_left z
+no_lay_run AsCode right_to_left z e =
+    sym (ap (λ b. cond b (Some (lay_of AsCode right_to_left z)) None) (run_apart z _ e))
+no_lay_run Centred right_to_left z e =
+    sym (ap (λ b. cond b (Some (lay_of Centred right_to_left z)) None) (run_apart z _ e))
 
-pub no_lay_added : (choice : StretchStart) (right_to_left : Bool) (z : Run) → list_all fits_i32 (z.word ∷ z.fixed ∷ z.repeating ∷ left z ∷ []) ≡ true → list_all fits_i32 (reach z (times_added z) ∷ pos (copies_added z) ∷ []) ≡ false → None ≡ lay_if_fits choice right_to_left z
-no_lay_added AsCode right_to_left z e f = sym (ap (λ b. cond b (Some (lay_of AsCode right_to_left z)) None) (added_apart z _ e f))
-no_lay_added Centred right_to_left z e f = sym (ap (λ b. cond b (Some (lay_of Centred right_to_left z)) None) (added_apart z _ e f))
+pub no_lay_added : (choice : StretchStart) (right_to_left : Bool) (z : Run)
+    → list_all fits_i32 (z.word ∷ z.fixed ∷ z.repeating ∷ left z ∷ []) ≡ true
+    → list_all fits_i32 (reach z (times_added z) ∷ pos (copies_added z) ∷ []) ≡ false
+    → None ≡ lay_if_fits choice right_to_left z
+no_lay_added AsCode right_to_left z e f =
+    sym (ap (λ b. cond b (Some (lay_of AsCode right_to_left z)) None) (added_apart z _ e f))
+no_lay_added Centred right_to_left z e f =
+    sym (ap (λ b. cond b (Some (lay_of Centred right_to_left z)) None) (added_apart z _ e f))
 
-no_start : (right_to_left : Bool) (z : Run) (b : Bool) → cond b (Some (start Centred right_to_left z)) None ≡ None → cond b (Some (lay_of Centred right_to_left z)) None ≡ None
+no_start : (right_to_left : Bool) (z : Run) (b : Bool) → cond b (Some (start Centred right_to_left z)) None ≡ None
+    → cond b (Some (lay_of Centred right_to_left z)) None ≡ None
 no_start right_to_left z true e = absurd (none-some _ (sym e))
 no_start right_to_left z false e = refl
 
-pub no_lay_start : (choice : StretchStart) (right_to_left : Bool) (z : Run) → list_all fits_i32 (z.word ∷ z.fixed ∷ z.repeating ∷ left z ∷ []) ≡ true → list_all fits_i32 (reach z (times_added z) ∷ pos (copies_added z) ∷ []) ≡ true → start_if_fits choice right_to_left z ≡ None → None ≡ lay_if_fits choice right_to_left z
+pub no_lay_start : (choice : StretchStart) (right_to_left : Bool) (z : Run)
+    → list_all fits_i32 (z.word ∷ z.fixed ∷ z.repeating ∷ left z ∷ []) ≡ true
+    → list_all fits_i32 (reach z (times_added z) ∷ pos (copies_added z) ∷ []) ≡ true
+    → start_if_fits choice right_to_left z ≡ None → None ≡ lay_if_fits choice right_to_left z
 no_lay_start AsCode right_to_left z e f h = absurd (none-some _ (sym h))
 no_lay_start Centred right_to_left z e f h =
     let rest = list_all fits_i32 (laid_width z ∷ (z.word -ℤ laid_width z) ∷ []) in
-    sym (ap (λ b. cond b (Some (lay_of Centred right_to_left z)) None) (four_and_two z rest e f) ∙ no_start right_to_left z rest h)
+    sym (ap (λ b. cond b (Some (lay_of Centred right_to_left z)) None) (four_and_two z rest e f)
+    ∙ no_start right_to_left z rest h)

@@ -12,37 +12,50 @@ use Rattle.shapers_stretch.proofs.Sums.{total_cons}
 moves-push : (before : List Copy) (c : Copy) → moves (before ++ c ∷ []) ≡ moves before +ℤ c.move
 moves-push before c = omega (arith, ints, moves-append before (c ∷ []), total_cons c.move [])
 
-offset_is : (right_to_left : Bool) (from : ℤ) (before : List Copy) (c : Copy) → offset right_to_left from before c ≡ stands_at right_to_left (pen_behind right_to_left from (moves before)) c.move
+offset_is : (right_to_left : Bool) (from : ℤ) (before : List Copy) (c : Copy) → offset right_to_left from before c
+    ≡ stands_at right_to_left (pen_behind right_to_left from (moves before)) c.move
 offset_is true from before c = omega (arith, ints, moves-push before c)
 offset_is false from before c = refl
 
-pen_next : (right_to_left : Bool) (from : ℤ) (before : List Copy) (c : Copy) → pen_behind right_to_left from (moves (before ++ c ∷ [])) ≡ pen_behind right_to_left (pen_behind right_to_left from (moves before)) c.move
+pen_next : (right_to_left : Bool) (from : ℤ) (before : List Copy) (c : Copy)
+    → pen_behind right_to_left from (moves (before ++ c ∷ []))
+    ≡ pen_behind right_to_left (pen_behind right_to_left from (moves before)) c.move
 pen_next true from before c = omega (arith, ints, moves-push before c)
 pen_next false from before c = omega (arith, ints, moves-push before c)
 
-laid_after : (right_to_left : Bool) (from : ℤ) (before cs : List Copy) → map (λ p. laid_at (offset right_to_left from p.0 p.1) p.1.tile) (each_after before cs) ≡ laid_on right_to_left (pen_behind right_to_left from (moves before)) cs
+laid_after : (right_to_left : Bool) (from : ℤ) (before cs : List Copy)
+    → map (λ p. laid_at (offset right_to_left from p.0 p.1) p.1.tile) (each_after before cs)
+    ≡ laid_on right_to_left (pen_behind right_to_left from (moves before)) cs
 laid_after right_to_left from before [] = refl
 laid_after right_to_left from before (c ∷ cs) =
     let rest = map (λ p. laid_at (offset right_to_left from p.0 p.1) p.1.tile) (each_after (before ++ c ∷ []) cs) in
     let first = laid_at (stands_at right_to_left (pen_behind right_to_left from (moves before)) c.move) c.tile in
-    ap (λ x. laid_at x c.tile ∷ rest) (offset_is right_to_left from before c) ∙ ap (λ ys. first ∷ ys) (laid_after right_to_left from (before ++ c ∷ []) cs ∙ ap (λ pen. laid_on right_to_left pen cs) (pen_next right_to_left from before c))
+    ap (λ x. laid_at x c.tile ∷ rest) (offset_is right_to_left from before c)
+    ∙ ap (λ ys. first ∷ ys) (laid_after right_to_left from (before ++ c ∷ []) cs
+    ∙ ap (λ pen. laid_on right_to_left pen cs) (pen_next right_to_left from before c))
 
 pub no_move : (right_to_left : Bool) (from : ℤ) → pen_behind right_to_left from (moves []) ≡ from
 no_move true from = omega (arith, ints)
 no_move false from = omega (arith, ints)
 
 -- so the laid list of a run is laid from its start on
-pub laid_is : (right_to_left : Bool) (from : ℤ) (cs : List Copy) → laid right_to_left from cs ≡ laid_on right_to_left from cs
-laid_is right_to_left from cs = laid_after right_to_left from [] cs ∙ ap (λ pen. laid_on right_to_left pen cs) (no_move right_to_left from)
+pub laid_is : (right_to_left : Bool) (from : ℤ) (cs : List Copy)
+    → laid right_to_left from cs ≡ laid_on right_to_left from cs
+laid_is right_to_left from cs = laid_after right_to_left from [] cs
+    ∙ ap (λ pen. laid_on right_to_left pen cs) (no_move right_to_left from)
 
-pen_moved_on : (right_to_left : Bool) (pen : ℤ) (c : Copy) (xs : List Copy) → pen_behind right_to_left (pen_behind right_to_left pen c.move) (moves xs) ≡ pen_behind right_to_left pen (moves (c ∷ xs))
+pen_moved_on : (right_to_left : Bool) (pen : ℤ) (c : Copy) (xs : List Copy)
+    → pen_behind right_to_left (pen_behind right_to_left pen c.move) (moves xs)
+    ≡ pen_behind right_to_left pen (moves (c ∷ xs))
 pen_moved_on true pen c xs = omega (arith, ints, total_cons c.move (map (λ copy. copy.move) xs))
 pen_moved_on false pen c xs = omega (arith, ints, total_cons c.move (map (λ copy. copy.move) xs))
 
 -- copies and then others
-pub laid_on-append : (right_to_left : Bool) (pen : ℤ) (xs ys : List Copy) → laid_on right_to_left pen (xs ++ ys) ≡ laid_on right_to_left pen xs ++ laid_on right_to_left (pen_behind right_to_left pen (moves xs)) ys
+pub laid_on-append : (right_to_left : Bool) (pen : ℤ) (xs ys : List Copy) → laid_on right_to_left pen (xs ++ ys)
+    ≡ laid_on right_to_left pen xs ++ laid_on right_to_left (pen_behind right_to_left pen (moves xs)) ys
 laid_on-append right_to_left pen [] ys = ap (λ pen. laid_on right_to_left pen ys) (sym (no_move right_to_left pen))
 laid_on-append right_to_left pen (c ∷ xs) ys =
     let first = laid_at (stands_at right_to_left pen c.move) c.tile in
     let rest = laid_on right_to_left (pen_behind right_to_left pen c.move) xs in
-    ap (λ zs. first ∷ zs) (laid_on-append right_to_left (pen_behind right_to_left pen c.move) xs ys ∙ ap (λ pen. rest ++ laid_on right_to_left pen ys) (pen_moved_on right_to_left pen c xs))
+    ap (λ zs. first ∷ zs) (laid_on-append right_to_left (pen_behind right_to_left pen c.move) xs ys
+    ∙ ap (λ pen. rest ++ laid_on right_to_left pen ys) (pen_moved_on right_to_left pen c xs))

@@ -11,23 +11,39 @@ use Rattle.shapers_stretch.specs.Recorded.{recorded, start_of, tiles_recorded}
 
 -- a glyph with all fields set
 abbrev set : ℕ → ℕ → ℕ → hb_glyph_info_t
-set marks component action = record { glyph_id = 5; cluster = 6; mask = 7; var = 0x7A; syllable = 8; category = 9; auxiliary = action; general_category = Lo; modified_combining_class = 11; lig_comp = component; marks = record { 0 = marks } }
+set marks component action =
+    record {
+      glyph_id = 5;
+      cluster = 6;
+      mask = 7;
+      var = 0x7A;
+      syllable = 8;
+      category = 9;
+      auxiliary = action;
+      general_category = Lo;
+      modified_combining_class = 11;
+      lig_comp = component;
+      marks = record { 0 = marks };
+    }
 
 -- odd and even components, the ends among them; without the mark nothing changes, and no other mark counts
-rows : map recorded (set 4 3 1 ∷ set 4 2 1 ∷ set 4 0 1 ∷ set 4 1 1 ∷ set 4 15 1 ∷ set 31 14 1 ∷ set 0 3 1 ∷ set 27 3 1 ∷ []) ≡ set 4 3 9 ∷ set 4 2 8 ∷ set 4 0 8 ∷ set 4 1 9 ∷ set 4 15 9 ∷ set 31 14 8 ∷ set 0 3 1 ∷ set 27 3 1 ∷ []
+rows : map recorded (set 4 3 1 ∷ set 4 2 1 ∷ set 4 0 1 ∷ set 4 1 1 ∷ set 4 15 1 ∷ set 31 14 1 ∷ set 0 3 1 ∷ set 27 3 1
+    ∷ []) ≡ set 4 3 9 ∷ set 4 2 8 ∷ set 4 0 8 ∷ set 4 1 9 ∷ set 4 15 9 ∷ set 31 14 8 ∷ set 0 3 1 ∷ set 27 3 1 ∷ []
 rows = refl
 
 abbrev with_stch : PlanData
 with_stch = Arabic (record { mask_array = []; has_stch = true; stretch_start = Centred; break_flags = breaks.AsCode })
 
 abbrev without_stch : PlanData
-without_stch = Arabic (record { mask_array = []; has_stch = false; stretch_start = AsCode; break_flags = breaks.AsCode })
+without_stch =
+    Arabic (record { mask_array = []; has_stch = false; stretch_start = AsCode; break_flags = breaks.AsCode })
 
 abbrev text : List hb_glyph_info_t → Buffer
 text gs = record (new_buffer 9) { glyphs = gs }
 
 -- the mark "has stch" comes with a tile, and stays where there is none
-marked : tiles_recorded with_stch (text (set 0 0 1 ∷ set 4 3 1 ∷ [])) ≡ record (text (set 0 0 1 ∷ set 4 3 9 ∷ [])) { stch = true }
+marked : tiles_recorded with_stch (text (set 0 0 1 ∷ set 4 3 1 ∷ []))
+    ≡ record (text (set 0 0 1 ∷ set 4 3 9 ∷ [])) { stch = true }
 marked = refl
 
 unmarked : tiles_recorded with_stch (text (set 0 0 1 ∷ set 0 3 1 ∷ [])) ≡ text (set 0 0 1 ∷ set 0 3 1 ∷ [])

@@ -1,10 +1,9 @@
 -- Equal steps: what stands between two ends stays between them.
-use Rattle.std.proofs.Common.{◌≡◌, ℕ, zero, suc, ◌+◌, ℤ, pos, ◌+ℤ◌, ◌*ℤ◌, ◌≤ℤ◌, ◌-ℤ◌, ◌^◌, negsuc, neg_ℤ, Bool, true, false, ◌&&◌, List, [], ◌∷◌, replicate, refl, sym, ◌∙◌, arith, ap}
+use Rattle.std.proofs.Common.{◌≡◌, ℕ, zero, suc, ◌+◌, ℤ, pos, ◌+ℤ◌, ◌*ℤ◌, ◌≤ℤ◌, ◌^◌, negsuc, Bool, true, false, ◌&&◌, List, [], ◌∷◌, refl, sym, ◌∙◌, arith, ap}
 use Rattle.std.specs.List.{list_all}
 use borrow.Author.Tests.{lt-true}
 use Rattle.std.proofs.lemmas.Int.{ints, by_lt_z}
 use Rattle.shapers_stretch.specs.Measure.{fits_i32}
-use Rattle.shapers_stretch.specs.Stretch.{Copy}
 use Rattle.shapers_stretch.proofs.Numbers.{fits_from}
 pub use Rattle.shapers_stretch.specs.LayingWalk.{laid_on, offsets}
 use Rattle.shapers_stretch.proofs.Sums.{times_add, times_suc, times_zero}
@@ -18,11 +17,21 @@ times_down zero d h = omega (arith, ints, times_zero d)
 times_down (suc n) d h = omega (arith, ints, times_suc n d, times_down n d h)
 
 -- the place after c steps of n lies between the first and the last
-pub steps_between : (low high a d : ℤ) (c k : ℕ) → low ≤ℤ a → a ≤ℤ high → low ≤ℤ (a +ℤ pos (c + k) *ℤ d) → (a +ℤ pos (c + k) *ℤ d) ≤ℤ high → (low ≤ℤ (a +ℤ pos c *ℤ d)) × ((a +ℤ pos c *ℤ d) ≤ℤ high)
+pub steps_between : (low high a d : ℤ) (c k : ℕ) → low ≤ℤ a → a ≤ℤ high → low ≤ℤ (a +ℤ pos (c + k) *ℤ d)
+    → (a +ℤ pos (c + k) *ℤ d) ≤ℤ high → (low ≤ℤ (a +ℤ pos c *ℤ d)) × ((a +ℤ pos c *ℤ d) ≤ℤ high)
 steps_between low high a d c k p q r s =
     by_lt_z {P = (low ≤ℤ (a +ℤ pos c *ℤ d)) × ((a +ℤ pos c *ℤ d) ≤ℤ high)} d (pos 0)
-    (λ h. let down : d ≤ℤ pos 0 = omega (arith, ints) in (omega (arith, ints, times_add c k d, times_down c d down, times_down k d down), omega (arith, ints, times_add c k d, times_down c d down, times_down k d down)))
-    (λ h. (omega (arith, ints, times_add c k d, times_up c d h, times_up k d h), omega (arith, ints, times_add c k d, times_up c d h, times_up k d h)))
+    (λ h. let down : d ≤ℤ pos 0 = omega
+    (arith, ints) in (
+      omega (arith, ints, times_add c k d, times_down c d down, times_down k d down),
+      omega
+          (arith, ints, times_add c k d, times_down c d down, times_down k d down),
+    ))
+    (λ h. (
+      omega (arith, ints, times_add c k d, times_up c d h, times_up k d h),
+      omega
+          (arith, ints, times_add c k d, times_up c d h, times_up k d h),
+    ))
 
 fits_yes : (x : ℤ) → negsuc 2147483647 ≤ℤ x → x ≤ℤ pos 2147483647 → fits_i32 x ≡ true
 fits_yes (pos n) p q = sym (lt-true n (2 ^ 31) (omega (arith, ints)))
@@ -62,22 +71,8 @@ stepping_fits a d (suc n) =
     let first = fits_bounds a e in
     let second = fits_bounds (a +ℤ pos (suc n) *ℤ d) f in
     let sum : a +ℤ pos (1 + n) *ℤ d ≡ a +ℤ pos (suc n) *ℤ d = ap (λ k. a +ℤ pos k *ℤ d) (omega arith) in
-    let both = steps_between (negsuc 2147483647) (pos 2147483647) a d 1 n first.0 first.1 (omega (arith, ints)) (omega (arith, ints)) in
+    let both = steps_between (negsuc 2147483647) (pos 2147483647) a d 1 n first.0 first.1 (omega (arith, ints))
+    (omega (arith, ints)) in
     fits_yes (a +ℤ d) (omega (arith, ints)) (omega (arith, ints)) in
-    ap (λ b. fits_i32 a && b) (stepping_fits (a +ℤ d) d n ∙ ap (λ x. fits_i32 (a +ℤ d) && fits_i32 x) last) ∙ middle (fits_i32 a) (fits_i32 (a +ℤ d)) (fits_i32 (a +ℤ pos (suc n) *ℤ d)) between
-
--- the offsets of equal copies
-pub leftward_offsets : (pen : ℤ) (copy : Copy) (n : ℕ) → pen ∷ offsets (laid_on true pen (replicate n copy)) ≡ stepping pen (neg_ℤ copy.move) n
-leftward_offsets pen copy zero = refl
-leftward_offsets pen copy (suc n) = ap (λ xs. pen ∷ xs) (leftward_offsets (pen -ℤ copy.move) copy n)
-
-pub rightward_offsets : (pen : ℤ) (copy : Copy) (n : ℕ) → offsets (laid_on false pen (replicate (suc n) copy)) ≡ stepping pen copy.move n
-rightward_offsets pen copy zero = refl
-rightward_offsets pen copy (suc n) = ap (λ xs. pen ∷ xs) (rightward_offsets (pen +ℤ copy.move) copy n)
-
--- a tile's offsets all fit exactly if the first and the last do; from left to right the second one too
-pub leftward_tile_fits : (pen : ℤ) (first copy : Copy) (n : ℕ) → list_all fits_i32 (offsets (laid_on true pen (first ∷ replicate n copy))) ≡ (fits_i32 (pen -ℤ first.move) && fits_i32 ((pen -ℤ first.move) +ℤ pos n *ℤ neg_ℤ copy.move))
-leftward_tile_fits pen first copy n = ap (list_all fits_i32) (leftward_offsets (pen -ℤ first.move) copy n) ∙ stepping_fits (pen -ℤ first.move) (neg_ℤ copy.move) n
-
-pub rightward_tile_fits : (pen : ℤ) (first copy : Copy) (n : ℕ) → list_all fits_i32 (offsets (laid_on false pen (first ∷ replicate (suc n) copy))) ≡ (fits_i32 pen && (fits_i32 (pen +ℤ first.move) && fits_i32 ((pen +ℤ first.move) +ℤ pos n *ℤ copy.move)))
-rightward_tile_fits pen first copy n = ap (λ xs. fits_i32 pen && list_all fits_i32 xs) (rightward_offsets (pen +ℤ first.move) copy n) ∙ ap (λ b. fits_i32 pen && b) (stepping_fits (pen +ℤ first.move) copy.move n)
+    ap (λ b. fits_i32 a && b) (stepping_fits (a +ℤ d) d n ∙ ap (λ x. fits_i32 (a +ℤ d) && fits_i32 x) last)
+    ∙ middle (fits_i32 a) (fits_i32 (a +ℤ d)) (fits_i32 (a +ℤ pos (suc n) *ℤ d)) between

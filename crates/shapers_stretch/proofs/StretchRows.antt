@@ -18,7 +18,8 @@ use Rattle.shapers_stretch.specs.Stretch.{cells, marks_stretched, stretch_refusa
 
 -- a font by the advances of its glyphs
 abbrev pub font : (ℕ → ℤ) → Font
-font widths = record { nominal = λ c. None; advance = λ g. widths g.0; applies = λ lookup gs zero. false; offers = λ tag. false }
+font widths =
+    record { nominal = λ c. None; advance = λ g. widths g.0; applies = λ lookup gs zero. false; offers = λ tag. false }
 
 -- glyph 2 is a fixed tile of 100, glyph 3 a repeating one of 200, glyph 4 a repeating one of 1
 abbrev pub widths : ℕ → ℤ
@@ -27,8 +28,24 @@ widths n = if n == 2 then pos 100 else if n == 3 then pos 200 else if n == 4 the
 -- a cell by its glyph, its cluster, its category, its action and its advance; other fields are set, to be kept
 abbrev cell : ℕ → ℕ → hb_unicode_general_category_t → ℕ → ℤ → Cell
 cell n cluster category action advance =
-    let g : hb_glyph_info_t = record { glyph_id = n; cluster = cluster; mask = 16; var = 0x7A; syllable = 8; category = 9; auxiliary = action; general_category = category; modified_combining_class = 11; lig_comp = 5; marks = record { 0 = 7 } } in
-    let p : GlyphPosition = record { x_advance = advance; y_advance = pos 12; x_offset = pos 13; y_offset = negsuc 13 } in
+    let g : hb_glyph_info_t =
+    record {
+      glyph_id = n;
+      cluster = cluster;
+      mask = 16;
+      var = 0x7A;
+      syllable = 8;
+      category = 9;
+      auxiliary =
+          action;
+      general_category = category;
+      modified_combining_class = 11;
+      lig_comp = 5;
+      marks =
+          record { 0 = 7 };
+    } in
+    let p : GlyphPosition =
+    record { x_advance = advance; y_advance = pos 12; x_offset = pos 13; y_offset = negsuc 13 } in
     (g, p)
 
 abbrev pub letter : ℕ → ℤ → Cell
@@ -51,72 +68,111 @@ abbrev at : ℤ → Cell → Cell
 at x c = let p : GlyphPosition = record c.1 { x_advance = pos 0; x_offset = x } in (c.0, p)
 
 abbrev pub text : Direction → List Cell → Buffer
-text direction cs = record (new_buffer 99) { glyphs = map (λ c. c.0) cs; positions = map (λ c. c.1) cs; direction = direction; stch = true }
+text direction cs =
+    record (new_buffer 99) {
+      glyphs = map (λ c. c.0) cs;
+      positions = map (λ c. c.1) cs;
+      direction = direction;
+      stch =
+          true;
+    }
 
 abbrev after : StretchStart → Buffer → List Cell
 after choice b = cells (marks_stretched (font widths) choice b)
 
 -- a word of 1000, a fixed tile of 100, a repeating one of 200
-seven : after AsCode (text RightToLeft (letter 0 (pos 1000) ∷ fixed_tile ∷ repeating_tile ∷ [])) ≡ letter 0 (pos 1000) ∷ at (negsuc 999) fixed_tile ∷ at (negsuc 899) repeating_tile ∷ at (negsuc 724) repeating_tile ∷ at (negsuc 549) repeating_tile ∷ at (negsuc 374) repeating_tile ∷ at (negsuc 199) repeating_tile ∷ []
+seven : after AsCode (text RightToLeft (letter 0 (pos 1000) ∷ fixed_tile ∷ repeating_tile ∷ [])) ≡ letter 0 (pos 1000)
+    ∷ at (negsuc 999) fixed_tile ∷ at (negsuc 899) repeating_tile ∷ at (negsuc 724) repeating_tile
+    ∷ at (negsuc 549) repeating_tile ∷ at (negsuc 374) repeating_tile ∷ at (negsuc 199) repeating_tile ∷ []
 seven = refl
 
 abbrev seven_backwards : List Cell
-seven_backwards = at (pos 0) repeating_tile ∷ at (pos 200) repeating_tile ∷ at (pos 375) repeating_tile ∷ at (pos 550) repeating_tile ∷ at (pos 725) repeating_tile ∷ at (pos 900) fixed_tile ∷ letter 0 (pos 1000) ∷ []
+seven_backwards = at (pos 0) repeating_tile ∷ at (pos 200) repeating_tile ∷ at (pos 375) repeating_tile
+    ∷ at (pos 550) repeating_tile ∷ at (pos 725) repeating_tile ∷ at (pos 900) fixed_tile ∷ letter 0 (pos 1000) ∷ []
 
-seven_leftward : after AsCode (text LeftToRight (repeating_tile ∷ fixed_tile ∷ letter 0 (pos 1000) ∷ [])) ≡ seven_backwards
+seven_leftward : after AsCode (text LeftToRight (repeating_tile ∷ fixed_tile ∷ letter 0 (pos 1000) ∷ []))
+    ≡ seven_backwards
 seven_leftward = refl
 
-seven_centred : after Centred (text RightToLeft (letter 0 (pos 1000) ∷ fixed_tile ∷ repeating_tile ∷ [])) ≡ after AsCode (text RightToLeft (letter 0 (pos 1000) ∷ fixed_tile ∷ repeating_tile ∷ []))
+seven_centred : after Centred (text RightToLeft (letter 0 (pos 1000) ∷ fixed_tile ∷ repeating_tile ∷ []))
+    ≡ after AsCode (text RightToLeft (letter 0 (pos 1000) ∷ fixed_tile ∷ repeating_tile ∷ []))
 seven_centred = refl
 
 -- any direction but right to left is in order backwards, also upward and none
-upward : map (λ d. after AsCode (text d (repeating_tile ∷ fixed_tile ∷ letter 0 (pos 1000) ∷ []))) (BottomToTop ∷ Invalid ∷ TopToBottom ∷ []) ≡ seven_backwards ∷ seven_backwards ∷ seven_backwards ∷ []
+upward : map (λ d. after AsCode (text d (repeating_tile ∷ fixed_tile ∷ letter 0 (pos 1000) ∷ [])))
+    (BottomToTop ∷ Invalid ∷ TopToBottom ∷ []) ≡ seven_backwards ∷ seven_backwards ∷ seven_backwards ∷ []
 upward = refl
 
-upward_centred : map (λ d. after Centred (text d (fixed_tile ∷ letter 0 (pos 160) ∷ []))) (BottomToTop ∷ Invalid ∷ RightToLeft ∷ []) ≡ (at (pos 30) fixed_tile ∷ letter 0 (pos 160) ∷ []) ∷ (at (pos 30) fixed_tile ∷ letter 0 (pos 160) ∷ []) ∷ (at (negsuc 49) fixed_tile ∷ letter 0 (pos 160) ∷ []) ∷ []
+upward_centred : map (λ d. after Centred (text d (fixed_tile ∷ letter 0 (pos 160) ∷ [])))
+    (BottomToTop ∷ Invalid ∷ RightToLeft ∷ []) ≡ (at (pos 30) fixed_tile ∷ letter 0 (pos 160) ∷ [])
+    ∷ (at (pos 30) fixed_tile ∷ letter 0 (pos 160) ∷ []) ∷ (at (negsuc 49) fixed_tile ∷ letter 0 (pos 160) ∷ []) ∷ []
 upward_centred = refl
 
-downward : after AsCode (text TopToBottom (repeating_tile ∷ letter 0 (pos 200) ∷ [])) ≡ at (pos 100) repeating_tile ∷ letter 0 (pos 200) ∷ []
+downward : after AsCode (text TopToBottom (repeating_tile ∷ letter 0 (pos 200) ∷ [])) ≡ at (pos 100) repeating_tile
+    ∷ letter 0 (pos 200) ∷ []
 downward = refl
 
 -- a fixed tile alone, both starts, both directions
-alone : after AsCode (text RightToLeft (letter 0 (pos 140) ∷ fixed_tile ∷ [])) ≡ letter 0 (pos 140) ∷ at (negsuc 79) fixed_tile ∷ []
+alone : after AsCode (text RightToLeft (letter 0 (pos 140) ∷ fixed_tile ∷ [])) ≡ letter 0 (pos 140)
+    ∷ at (negsuc 79) fixed_tile ∷ []
 alone = refl
 
-alone_centred : after Centred (text RightToLeft (letter 0 (pos 160) ∷ fixed_tile ∷ [])) ≡ letter 0 (pos 160) ∷ at (negsuc 129) fixed_tile ∷ []
+alone_centred : after Centred (text RightToLeft (letter 0 (pos 160) ∷ fixed_tile ∷ [])) ≡ letter 0 (pos 160)
+    ∷ at (negsuc 129) fixed_tile ∷ []
 alone_centred = refl
 
-alone_leftward : after Centred (text LeftToRight (fixed_tile ∷ letter 0 (pos 160) ∷ [])) ≡ at (pos 30) fixed_tile ∷ letter 0 (pos 160) ∷ []
+alone_leftward : after Centred (text LeftToRight (fixed_tile ∷ letter 0 (pos 160) ∷ [])) ≡ at (pos 30) fixed_tile
+    ∷ letter 0 (pos 160) ∷ []
 alone_leftward = refl
 
 -- two tiles that repeat: each is laid as often as it repeats before the next one is
 abbrev pub second_tile : Cell
 second_tile = cell 2 0 Lo 9 (pos 100)
 
-two_repeat : after AsCode (text LeftToRight (second_tile ∷ repeating_tile ∷ letter 0 (pos 600) ∷ [])) ≡ at (pos 300) second_tile ∷ at (pos 400) second_tile ∷ at (pos 500) repeating_tile ∷ at (pos 700) repeating_tile ∷ letter 0 (pos 600) ∷ []
+two_repeat : after AsCode (text LeftToRight (second_tile ∷ repeating_tile ∷ letter 0 (pos 600) ∷ []))
+    ≡ at (pos 300) second_tile ∷ at (pos 400) second_tile ∷ at (pos 500) repeating_tile ∷ at (pos 700) repeating_tile
+    ∷ letter 0 (pos 600) ∷ []
 two_repeat = refl
 
 -- word and run have no break, their clusters 0, 1 and 2; what stands before the word and behind the run is left alone
-flagged_word : after AsCode (text RightToLeft (cell 5 0 Zs 7 (pos 55) ∷ letter 0 (pos 200) ∷ letter 1 (pos 200) ∷ cell 3 2 Lo 9 (pos 200) ∷ cell 5 3 Zs 7 (pos 55) ∷ [])) ≡ cell 5 0 Zs 7 (pos 55) ∷ letter 0 (pos 200) ∷ flags 19 (letter 1 (pos 200)) ∷ flags 19 (at (negsuc 199) (cell 3 2 Lo 9 (pos 200))) ∷ flags 19 (at (pos 0) (cell 3 2 Lo 9 (pos 200))) ∷ cell 5 3 Zs 7 (pos 55) ∷ []
+flagged_word : after AsCode
+    (text RightToLeft (cell 5 0 Zs 7 (pos 55) ∷ letter 0 (pos 200) ∷ letter 1 (pos 200) ∷ cell 3 2 Lo 9 (pos 200)
+    ∷ cell 5 3 Zs 7 (pos 55) ∷ [])) ≡ cell 5 0 Zs 7 (pos 55) ∷ letter 0 (pos 200) ∷ flags 19 (letter 1 (pos 200))
+    ∷ flags 19 (at (negsuc 199) (cell 3 2 Lo 9 (pos 200))) ∷ flags 19 (at (pos 0) (cell 3 2 Lo 9 (pos 200)))
+    ∷ cell 5 3 Zs 7 (pos 55) ∷ []
 flagged_word = refl
 
--- two tiles of different clusters: each copy has that of its own tile, and in both directions the least cluster has no flags
-two_clusters : after AsCode (text RightToLeft (letter 0 (pos 400) ∷ cell 2 1 Lo 9 (pos 100) ∷ cell 3 2 Lo 9 (pos 200) ∷ [])) ≡ letter 0 (pos 400) ∷ flags 19 (at (negsuc 399) (cell 2 1 Lo 9 (pos 100))) ∷ flags 19 (at (negsuc 399) (cell 2 1 Lo 9 (pos 100))) ∷ flags 19 (at (negsuc 299) (cell 3 2 Lo 9 (pos 200))) ∷ flags 19 (at (negsuc 199) (cell 3 2 Lo 9 (pos 200))) ∷ []
+-- two tiles of different clusters: each copy has that of its own tile, and in both directions the
+-- least cluster has no flags
+two_clusters : after AsCode
+    (text RightToLeft (letter 0 (pos 400) ∷ cell 2 1 Lo 9 (pos 100) ∷ cell 3 2 Lo 9 (pos 200) ∷ []))
+    ≡ letter 0 (pos 400) ∷ flags 19 (at (negsuc 399) (cell 2 1 Lo 9 (pos 100)))
+    ∷ flags 19 (at (negsuc 399) (cell 2 1 Lo 9 (pos 100))) ∷ flags 19 (at (negsuc 299) (cell 3 2 Lo 9 (pos 200)))
+    ∷ flags 19 (at (negsuc 199) (cell 3 2 Lo 9 (pos 200))) ∷ []
 two_clusters = refl
 
-two_clusters_backwards : after AsCode (text LeftToRight (cell 3 0 Lo 9 (pos 200) ∷ cell 2 1 Lo 9 (pos 100) ∷ letter 2 (pos 400) ∷ [])) ≡ at (pos 0) (cell 3 0 Lo 9 (pos 200)) ∷ at (pos 200) (cell 3 0 Lo 9 (pos 200)) ∷ flags 19 (at (pos 300) (cell 2 1 Lo 9 (pos 100))) ∷ flags 19 (at (pos 400) (cell 2 1 Lo 9 (pos 100))) ∷ flags 19 (letter 2 (pos 400)) ∷ []
+two_clusters_backwards : after AsCode
+    (text LeftToRight (cell 3 0 Lo 9 (pos 200) ∷ cell 2 1 Lo 9 (pos 100) ∷ letter 2 (pos 400) ∷ []))
+    ≡ at (pos 0) (cell 3 0 Lo 9 (pos 200)) ∷ at (pos 200) (cell 3 0 Lo 9 (pos 200))
+    ∷ flags 19 (at (pos 300) (cell 2 1 Lo 9 (pos 100))) ∷ flags 19 (at (pos 400) (cell 2 1 Lo 9 (pos 100)))
+    ∷ flags 19 (letter 2 (pos 400)) ∷ []
 two_clusters_backwards = refl
 
 -- two runs, each with its own word; a run directly behind another has no word
-two_runs : after AsCode (text RightToLeft (letter 0 (pos 300) ∷ repeating_tile ∷ letter 0 (pos 200) ∷ repeating_tile ∷ [])) ≡ letter 0 (pos 300) ∷ at (negsuc 299) repeating_tile ∷ at (negsuc 199) repeating_tile ∷ letter 0 (pos 200) ∷ at (negsuc 99) repeating_tile ∷ []
+two_runs : after AsCode
+    (text RightToLeft (letter 0 (pos 300) ∷ repeating_tile ∷ letter 0 (pos 200) ∷ repeating_tile ∷ []))
+    ≡ letter 0 (pos 300) ∷ at (negsuc 299) repeating_tile ∷ at (negsuc 199) repeating_tile ∷ letter 0 (pos 200)
+    ∷ at (negsuc 99) repeating_tile ∷ []
 two_runs = refl
 
 -- a run without a word
-no_word : after AsCode (text RightToLeft (letter 0 (pos 300) ∷ space ∷ repeating_tile ∷ [])) ≡ letter 0 (pos 300) ∷ space ∷ at (negsuc 199) repeating_tile ∷ []
+no_word : after AsCode (text RightToLeft (letter 0 (pos 300) ∷ space ∷ repeating_tile ∷ [])) ≡ letter 0 (pos 300)
+    ∷ space ∷ at (negsuc 199) repeating_tile ∷ []
 no_word = refl
 
 -- no run, and no mark "has stch"
-no_run : after AsCode (text LeftToRight (letter 0 (pos 300) ∷ letter 1 (pos 300) ∷ [])) ≡ letter 0 (pos 300) ∷ letter 1 (pos 300) ∷ []
+no_run : after AsCode (text LeftToRight (letter 0 (pos 300) ∷ letter 1 (pos 300) ∷ [])) ≡ letter 0 (pos 300)
+    ∷ letter 1 (pos 300) ∷ []
 no_run = refl
 
 abbrev unmarked : Buffer
@@ -126,7 +182,9 @@ not_marked : marks_stretched (font widths) AsCode unmarked ≡ unmarked
 not_marked = refl
 
 -- the parts of a text: cut behind each run
-text_parts : parts_of_text (letter 0 (pos 1) ∷ fixed_tile ∷ repeating_tile ∷ space ∷ letter 0 (pos 2) ∷ fixed_tile ∷ letter 0 (pos 3) ∷ []) ≡ (letter 0 (pos 1) ∷ fixed_tile ∷ repeating_tile ∷ []) ∷ (space ∷ letter 0 (pos 2) ∷ fixed_tile ∷ []) ∷ (letter 0 (pos 3) ∷ []) ∷ []
+text_parts : parts_of_text (letter 0 (pos 1) ∷ fixed_tile ∷ repeating_tile ∷ space ∷ letter 0 (pos 2) ∷ fixed_tile
+    ∷ letter 0 (pos 3) ∷ []) ≡ (letter 0 (pos 1) ∷ fixed_tile ∷ repeating_tile ∷ [])
+    ∷ (space ∷ letter 0 (pos 2) ∷ fixed_tile ∷ []) ∷ (letter 0 (pos 3) ∷ []) ∷ []
 text_parts = refl
 
 tiles_first : parts_of_text (fixed_tile ∷ letter 0 (pos 1) ∷ []) ≡ (fixed_tile ∷ []) ∷ (letter 0 (pos 1) ∷ []) ∷ []
@@ -147,20 +205,26 @@ its_rest = refl
 
 -- an undrawn space is of the word unless a lookup put it in; the marks are bits 0 (substituted) and 3 (ignorable)
 abbrev undrawn : ℕ → Cell
-undrawn marks = let g : hb_glyph_info_t = record default_glyph { general_category = Cf; marks = record { 0 = marks } } in (g, default_position)
+undrawn marks = let g : hb_glyph_info_t =
+    record default_glyph { general_category = Cf; marks = record { 0 = marks } } in (g, default_position)
 
-undrawn_word : map (λ marks. word_of (undrawn marks ∷ fixed_tile ∷ [])) (8 ∷ 9 ∷ 0 ∷ 30 ∷ []) ≡ (undrawn 8 ∷ []) ∷ [] ∷ [] ∷ (undrawn 30 ∷ []) ∷ []
+undrawn_word : map (λ marks. word_of (undrawn marks ∷ fixed_tile ∷ [])) (8 ∷ 9 ∷ 0 ∷ 30 ∷ []) ≡ (undrawn 8 ∷ []) ∷ []
+    ∷ [] ∷ (undrawn 30 ∷ []) ∷ []
 undrawn_word = refl
 
 -- each category
-categories : map is_word_category (Cc ∷ Cf ∷ Cn ∷ Co ∷ Cs ∷ Ll ∷ Lm ∷ Lo ∷ Lt ∷ Lu ∷ Mc ∷ Me ∷ Mn ∷ Nd ∷ Nl ∷ No ∷ Pc ∷ Pd ∷ Pe ∷ Pf ∷ Pi ∷ Po ∷ Ps ∷ Sc ∷ Sk ∷ Sm ∷ So ∷ Zl ∷ Zp ∷ Zs ∷ []) ≡ false ∷ false ∷ true ∷ true ∷ false ∷ false ∷ true ∷ true ∷ false ∷ false ∷ true ∷ true ∷ true ∷ true ∷ true ∷ true ∷ false ∷ false ∷ false ∷ false ∷ false ∷ false ∷ false ∷ true ∷ true ∷ true ∷ true ∷ false ∷ false ∷ false ∷ []
+categories : map is_word_category (Cc ∷ Cf ∷ Cn ∷ Co ∷ Cs ∷ Ll ∷ Lm ∷ Lo ∷ Lt ∷ Lu ∷ Mc ∷ Me ∷ Mn ∷ Nd ∷ Nl ∷ No ∷ Pc
+    ∷ Pd ∷ Pe ∷ Pf ∷ Pi ∷ Po ∷ Ps ∷ Sc ∷ Sk ∷ Sm ∷ So ∷ Zl ∷ Zp ∷ Zs ∷ []) ≡ false ∷ false ∷ true ∷ true ∷ false ∷ false
+    ∷ true ∷ true ∷ false ∷ false ∷ true ∷ true ∷ true ∷ true ∷ true ∷ true ∷ false ∷ false ∷ false ∷ false ∷ false
+    ∷ false ∷ false ∷ true ∷ true ∷ true ∷ true ∷ false ∷ false ∷ false ∷ []
 categories = refl
 
 -- refusals: the sum of a word, an offset, and none
 abbrev refusal : StretchStart → Direction → List Cell → Option ShaperError
 refusal choice direction cs = stretch_refusal (font widths) choice (text direction cs)
 
-too_wide : refusal AsCode RightToLeft (letter 0 (pos 2147483647) ∷ letter 1 (pos 2147483647) ∷ cell 4 2 Lo 9 (pos 1) ∷ []) ≡ Some StretchOverflow
+too_wide : refusal AsCode RightToLeft (letter 0 (pos 2147483647) ∷ letter 1 (pos 2147483647) ∷ cell 4 2 Lo 9 (pos 1)
+    ∷ []) ≡ Some StretchOverflow
 too_wide = refl
 
 wide : refusal AsCode RightToLeft (letter 0 (pos 2147483647) ∷ fixed_tile ∷ []) ≡ None
@@ -171,10 +235,15 @@ too_low : refusal AsCode RightToLeft (letter 0 (negsuc 2147483647) ∷ fixed_til
 too_low = refl
 
 -- an offset: right to left the first copy of a tile of 100 goes below a start that is nearly the least
-offset_too_low : map (λ b. stretch_refusal (font (λ n. if n == 2 then pos 1500000000 else negsuc 1499999999)) AsCode b) (text RightToLeft (letter 0 (pos 0) ∷ cell 3 0 Lo 8 (pos 0) ∷ fixed_tile ∷ fixed_tile ∷ cell 3 0 Lo 8 (pos 0) ∷ []) ∷ text RightToLeft (letter 0 (pos 0) ∷ cell 3 0 Lo 8 (pos 0) ∷ fixed_tile ∷ cell 3 0 Lo 8 (pos 0) ∷ fixed_tile ∷ []) ∷ []) ≡ None ∷ None ∷ []
+offset_too_low : map (λ b. stretch_refusal (font (λ n. if n == 2 then pos 1500000000 else negsuc 1499999999)) AsCode b)
+    (text RightToLeft (letter 0 (pos 0) ∷ cell 3 0 Lo 8 (pos 0) ∷ fixed_tile ∷ fixed_tile ∷ cell 3 0 Lo 8 (pos 0) ∷ [])
+    ∷ text RightToLeft (letter 0 (pos 0) ∷ cell 3 0 Lo 8 (pos 0) ∷ fixed_tile ∷ cell 3 0 Lo 8 (pos 0) ∷ fixed_tile ∷ [])
+    ∷ []) ≡ None ∷ None ∷ []
 offset_too_low = refl
 
-two_before_two : map (λ d. stretch_refusal (font (λ n. if n == 2 then pos 1500000000 else negsuc 1499999999)) AsCode (text d (cell 3 0 Lo 8 (pos 0) ∷ cell 3 0 Lo 8 (pos 0) ∷ fixed_tile ∷ fixed_tile ∷ []))) (RightToLeft ∷ LeftToRight ∷ []) ≡ Some StretchOverflow ∷ Some StretchOverflow ∷ []
+two_before_two : map (λ d. stretch_refusal (font (λ n. if n == 2 then pos 1500000000 else negsuc 1499999999)) AsCode
+    (text d (cell 3 0 Lo 8 (pos 0) ∷ cell 3 0 Lo 8 (pos 0) ∷ fixed_tile ∷ fixed_tile ∷ [])))
+    (RightToLeft ∷ LeftToRight ∷ []) ≡ Some StretchOverflow ∷ Some StretchOverflow ∷ []
 two_before_two = refl
 
 -- of several runs one that overflows is enough, be it the first or the last
@@ -184,12 +253,16 @@ wide_run = letter 0 (pos 2147483647) ∷ letter 1 (pos 2147483647) ∷ fixed_til
 abbrev narrow_run : List Cell
 narrow_run = letter 0 (pos 140) ∷ fixed_tile ∷ []
 
-one_of_several : map (refusal AsCode RightToLeft) ((narrow_run ++ wide_run) ∷ (wide_run ++ narrow_run) ∷ (wide_run ++ space ∷ []) ∷ (narrow_run ++ narrow_run) ∷ []) ≡ Some StretchOverflow ∷ Some StretchOverflow ∷ Some StretchOverflow ∷ None ∷ []
+one_of_several : map (refusal AsCode RightToLeft) ((narrow_run ++ wide_run) ∷ (wide_run ++ narrow_run)
+    ∷ (wide_run ++ space ∷ []) ∷ (narrow_run ++ narrow_run) ∷ []) ≡ Some StretchOverflow ∷ Some StretchOverflow
+    ∷ Some StretchOverflow ∷ None ∷ []
 one_of_several = refl
 
 -- a word that isn't before a run is never summed
 no_run_to_measure : refusal AsCode RightToLeft (letter 0 (pos 2147483647) ∷ letter 1 (pos 2147483647) ∷ []) ≡ None
 no_run_to_measure = refl
 
-refusal_unmarked : stretch_refusal (font widths) AsCode (record (text RightToLeft (letter 0 (pos 2147483647) ∷ letter 1 (pos 2147483647) ∷ fixed_tile ∷ [])) { stch = false }) ≡ None
+refusal_unmarked : stretch_refusal (font widths) AsCode
+    (record (text RightToLeft (letter 0 (pos 2147483647) ∷ letter 1 (pos 2147483647) ∷ fixed_tile ∷ []))
+    { stch = false }) ≡ None
 refusal_unmarked = refl

@@ -166,5 +166,9 @@ no_width : row (λ n. pos 0) AsCode false (letter 0 (pos 50) ∷ repeating_tile 
 no_width = refl
 
 -- how many copies a text adds: none without the mark, the sum of its runs, found in working order
-many : map (copies_in (font widths)) (text RightToLeft seven ∷ (let b : Buffer = record (text RightToLeft seven) { stch = false } in b) ∷ text LeftToRight seven ∷ text LeftToRight (repeating_tile ∷ fixed_tile ∷ letter 0 (pos 1000) ∷ []) ∷ text RightToLeft (letter 0 (pos 300) ∷ repeating_tile ∷ letter 0 (pos 1000) ∷ repeating_tile ∷ letter 0 (pos 900) ∷ []) ∷ text RightToLeft (letter 0 (pos 1000) ∷ fixed_tile ∷ []) ∷ []) ≡ 4 ∷ 0 ∷ 0 ∷ 4 ∷ 5 ∷ 0 ∷ []
+many : map (copies_in (font widths))
+    (text RightToLeft seven ∷ (let b : Buffer = record (text RightToLeft seven) { stch = false } in b)
+    ∷ text LeftToRight seven ∷ text LeftToRight (repeating_tile ∷ fixed_tile ∷ letter 0 (pos 1000) ∷ [])
+    ∷ text RightToLeft (letter 0 (pos 300) ∷ repeating_tile ∷ letter 0 (pos 1000) ∷ repeating_tile ∷ letter 0 (pos 900)
+    ∷ []) ∷ text RightToLeft (letter 0 (pos 1000) ∷ fixed_tile ∷ []) ∷ []) ≡ 4 ∷ 0 ∷ 0 ∷ 4 ∷ 5 ∷ 0 ∷ []
 many = refl

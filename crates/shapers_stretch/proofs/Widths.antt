@@ -9,7 +9,8 @@ use Rattle.shapers_stretch.proofs.Sums.{times_suc}
 use lib.IntN.{pos-*ℤ-pos, *ℤ-zero}
 
 -- the quotient x of M by R, of which at least one fits
-fits_times : (R M x rem : ℕ) → suc R * x + rem ≡ M → rem < suc R → suc R ≤ M → (suc (x - 1) * suc R ≤ M) × (M < suc (x - 1) * suc R + suc R)
+fits_times : (R M x rem : ℕ) → suc R * x + rem ≡ M → rem < suc R → suc R ≤ M → (suc (x - 1) * suc R ≤ M)
+    × (M < suc (x - 1) * suc R + suc R)
 fits_times R M zero rem e l h = absurd (omega (arith, mul-zero (suc R)))
 fits_times R M (suc y) rem e l h =
     let same : suc (suc y - 1) ≡ suc y = omega arith in
@@ -19,19 +20,24 @@ fits_times R M (suc y) rem e l h =
 abbrev fit_if : Bool → ℕ → ℕ → ℕ
 fit_if b R M = cond (b && true) (M / suc R - 1) 0
 
-fit_if_bounds : (b : Bool) (R M : ℕ) → (b ≡ true → suc R < M) → (b ≡ false → M ≤ suc R) → suc R ≤ M → (suc (fit_if b R M) * suc R ≤ M) × (M < suc (fit_if b R M) * suc R + suc R)
+fit_if_bounds : (b : Bool) (R M : ℕ) → (b ≡ true → suc R < M) → (b ≡ false → M ≤ suc R) → suc R ≤ M
+    → (suc (fit_if b R M) * suc R ≤ M) × (M < suc (fit_if b R M) * suc R + suc R)
 fit_if_bounds true R M above most h = fits_times R M (M / suc R) (M % suc R) (omega arith) (omega arith) h
-fit_if_bounds false R M above most h = let at : M ≤ suc R = most refl in (omega (arith, suc-mul 0 (suc R)), omega (arith, suc-mul 0 (suc R)))
+fit_if_bounds false R M above most h = let at : M ≤ suc R =
+    most refl in (omega (arith, suc-mul 0 (suc R)), omega (arith, suc-mul 0 (suc R)))
 
-pub fit_bounds : (r m : ℤ) → pos 0 <ℤ r → r ≤ℤ m → ((pos (suc (fit r m)) *ℤ r) ≤ℤ m) × (m <ℤ (pos (suc (fit r m)) *ℤ r +ℤ r))
+pub fit_bounds : (r m : ℤ) → pos 0 <ℤ r → r ≤ℤ m → ((pos (suc (fit r m)) *ℤ r) ≤ℤ m)
+    × (m <ℤ (pos (suc (fit r m)) *ℤ r +ℤ r))
 fit_bounds (pos zero) m p h = absurd (omega (arith, ints))
 fit_bounds (negsuc n) m p h = absurd (omega (arith, ints))
 fit_bounds (pos (suc R)) (negsuc n) p h = absurd (omega (arith, ints))
 fit_bounds (pos (suc R)) (pos M) p h =
     let within : suc R ≤ M = omega (arith, ints) in
     let b = fit_if_bounds (nat_lt (suc R) M) R M (λ e. ltb-true (suc R) M e) (λ e. ltb-false (suc R) M e) within in
-    let same : fit (pos (suc R)) (pos M) ≡ fit_if (nat_lt (suc R) M) R M = ap (λ c. cond (nat_lt (suc R) M && c) (M / suc R - 1) 0) (sym (lt-true 0 (suc R) (omega arith))) in
-    let at : pos (suc (fit (pos (suc R)) (pos M))) *ℤ pos (suc R) ≡ pos (suc (fit_if (nat_lt (suc R) M) R M) * suc R) = ap (λ n. pos (suc n) *ℤ pos (suc R)) same ∙ pos-*ℤ-pos _ _ in
+    let same : fit (pos (suc R)) (pos M) ≡ fit_if (nat_lt (suc R) M) R M =
+    ap (λ c. cond (nat_lt (suc R) M && c) (M / suc R - 1) 0) (sym (lt-true 0 (suc R) (omega arith))) in
+    let at : pos (suc (fit (pos (suc R)) (pos M))) *ℤ pos (suc R) ≡ pos (suc (fit_if (nat_lt (suc R) M) R M) * suc R) =
+    ap (λ n. pos (suc n) *ℤ pos (suc R)) same ∙ pos-*ℤ-pos _ _ in
     (omega (arith, ints), omega (arith, ints))
 
 -- a run whose added copies reach too far by a number E above 0
@@ -44,11 +50,13 @@ Covers word w n = (word ≤ℤ w) × ((w ≡ word) ⊎ (w <ℤ (word +ℤ pos n)
 over_is : (E N : ℕ) → overlap_if true (pos (suc E)) N ≡ pos (suc E / N)
 over_is E N = ap (λ b. cond b (pos (suc E / N)) (pos 0)) (sym (lt-true 0 (suc E) (omega arith)))
 
-squeezed : (f left ex reach : ℤ) (E N : ℕ) → 0 < N → ex ≡ pos (suc E) → reach ≡ left +ℤ ex → Covers (left +ℤ f) ((f +ℤ reach) -ℤ pos N *ℤ overlap_if true ex N) N
+squeezed : (f left ex reach : ℤ) (E N : ℕ) → 0 < N → ex ≡ pos (suc E) → reach ≡ left +ℤ ex
+    → Covers (left +ℤ f) ((f +ℤ reach) -ℤ pos N *ℤ overlap_if true ex N) N
 squeezed f left ex reach E N p e h =
     let P : ℤ → Type 0 = λ x. reach ≡ left +ℤ x → Covers (left +ℤ f) ((f +ℤ reach) -ℤ pos N *ℤ overlap_if true x N) N in
     let at : P (pos (suc E)) = λ h.
-    let product : pos N *ℤ overlap_if true (pos (suc E)) N ≡ pos (N * (suc E / N)) = ap (λ o. pos N *ℤ o) (over_is E N) ∙ pos-*ℤ-pos _ _ in
+    let product : pos N *ℤ overlap_if true (pos (suc E)) N ≡ pos (N * (suc E / N)) = ap (λ o. pos N *ℤ o) (over_is E N)
+    ∙ pos-*ℤ-pos _ _ in
     (omega (arith, ints), inr (omega (arith, ints))) in
     subst P (sym e) at h
 
@@ -56,8 +64,10 @@ above_zero : (x : ℤ) → pos 0 <ℤ x → x ≡ pos (suc (nat_abs x - 1))
 above_zero (pos n) p = ap pos (omega (arith, ints))
 above_zero (negsuc n) p = absurd (omega (arith, ints))
 
--- the copies that fit leave less than one more: where that is something and there is a tile, one more round reaches over it
-covered : (f left r : ℤ) (q k : ℕ) (short : Bool) → 0 < k → (pos (suc q) *ℤ r) ≤ℤ left → left <ℤ (pos (suc q) *ℤ r +ℤ r) → (short ≡ true → (pos (suc q) *ℤ r) <ℤ left) → (short ≡ false → left ≤ℤ (pos (suc q) *ℤ r)) →
+-- the copies that fit leave less than one more: where that is something and there is a tile, one
+-- more round reaches over it
+covered : (f left r : ℤ) (q k : ℕ) (short : Bool) → 0 < k → (pos (suc q) *ℤ r) ≤ℤ left → left <ℤ (pos (suc q) *ℤ r +ℤ r)
+    → (short ≡ true → (pos (suc q) *ℤ r) <ℤ left) → (short ≡ false → left ≤ℤ (pos (suc q) *ℤ r)) →
     let n = cond short (suc q) q in
     let reached = pos (suc n) *ℤ r in
     Covers (left +ℤ f) ((f +ℤ reached) -ℤ pos (n * k) *ℤ overlap_if short (reached -ℤ left) (n * k)) (n * k)
@@ -66,7 +76,8 @@ covered f left r q k true p low high more none =
     let over : pos 0 <ℤ ((pos (suc (suc q)) *ℤ r) -ℤ left) = omega (arith, ints) in
     let E : ℕ = nat_abs (pos (suc (suc q)) *ℤ r -ℤ left) - 1 in
     let is : pos (suc (suc q)) *ℤ r -ℤ left ≡ pos (suc E) = above_zero _ over in
-    squeezed f left (pos (suc (suc q)) *ℤ r -ℤ left) (pos (suc (suc q)) *ℤ r) E (suc q * k) (mul-pos (omega arith) p) is (omega (arith, ints))
+    squeezed f left (pos (suc (suc q)) *ℤ r -ℤ left) (pos (suc (suc q)) *ℤ r) E (suc q * k) (mul-pos (omega arith) p) is
+    (omega (arith, ints))
 covered f left r q k false p low high more none =
     let exactly : left ≤ℤ (pos (suc q) *ℤ r) = none refl in
     let nothing : pos (q * k) *ℤ overlap_if false (pos (suc q) *ℤ r -ℤ left) (q * k) ≡ pos 0 = *ℤ-zero (pos (q * k)) in
@@ -76,7 +87,8 @@ covered f left r q k false p low high more none =
 short_above : (rest : ℤ) (k : ℕ) {P : Type 0} → (int_lt (pos 0) rest && nat_lt 0 k) ≡ true → (pos 0 <ℤ rest → P) → P
 short_above rest k e then = then (grind (arith, ints))
 
-short_most : (rest : ℤ) (k : ℕ) {P : Type 0} → 0 < k → (int_lt (pos 0) rest && nat_lt 0 k) ≡ false → (rest ≤ℤ pos 0 → P) → P
+short_most : (rest : ℤ) (k : ℕ) {P : Type 0} → 0 < k → (int_lt (pos 0) rest && nat_lt 0 k) ≡ false → (rest ≤ℤ pos 0 → P)
+    → P
 short_most rest k some e then = then (grind (arith, ints))
 
 pub covers : (z : Run) → 0 < z.repeaters → TilesFit z → CoversTheWord z
@@ -84,8 +96,10 @@ covers z some fits =
     let bounds = fit_bounds z.repeating (left z) fits.0 fits.1 in
     let q = fit z.repeating (left z) in
     let rest = left z -ℤ pos (suc q) *ℤ z.repeating in
-    let above : falls_short z ≡ true → (pos (suc q) *ℤ z.repeating) <ℤ left z = λ e. short_above rest z.repeaters e (λ p. omega (arith, ints)) in
-    let most : falls_short z ≡ false → left z ≤ℤ (pos (suc q) *ℤ z.repeating) = λ e. short_most rest z.repeaters some e (λ p. omega (arith, ints)) in
+    let above : falls_short z ≡ true → (pos (suc q) *ℤ z.repeating) <ℤ left z =
+    λ e. short_above rest z.repeaters e (λ p. omega (arith, ints)) in
+    let most : falls_short z ≡ false → left z ≤ℤ (pos (suc q) *ℤ z.repeating) =
+    λ e. short_most rest z.repeaters some e (λ p. omega (arith, ints)) in
     let all = covered z.fixed (left z) z.repeating q z.repeaters (falls_short z) some bounds.0 bounds.1 above most in
     let word : left z +ℤ z.fixed ≡ z.word = omega (arith, ints) in
     let P : ℤ → Type 0 = λ t. Covers t (laid_width z) (copies_added z) in

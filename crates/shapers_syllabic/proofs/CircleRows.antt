@@ -35,9 +35,11 @@ circled_text k repha place b = circled (circles_for (Some (record { 0 = 7 })) k 
 abbrev circled_bytes : ℕ → List ℕ → List ℕ
 circled_bytes k bytes = categories (circled_text k None None (broken_text (of_bytes bytes)))
 
--- sixteen syllables of one glyph, the first and the last one broken: the serial wraps, so their bytes are equal; both open a circle
+-- sixteen syllables of one glyph, the first and the last one broken: the serial wraps, so their
+-- bytes are equal; both open a circle
 abbrev sixteen : List ℕ
-sixteen = 0x14 ∷ 0x20 ∷ 0x30 ∷ 0x40 ∷ 0x50 ∷ 0x60 ∷ 0x70 ∷ 0x80 ∷ 0x90 ∷ 0xA0 ∷ 0xB0 ∷ 0xC0 ∷ 0xD0 ∷ 0xE0 ∷ 0xF0 ∷ 0x14 ∷ []
+sixteen = 0x14 ∷ 0x20 ∷ 0x30 ∷ 0x40 ∷ 0x50 ∷ 0x60 ∷ 0x70 ∷ 0x80 ∷ 0x90 ∷ 0xA0 ∷ 0xB0 ∷ 0xC0 ∷ 0xD0 ∷ 0xE0 ∷ 0xF0 ∷ 0x14
+    ∷ []
 
 two_circles : circled_bytes 4 sixteen ≡ 11 ∷ 1 ∷ 1 ∷ 1 ∷ 1 ∷ 1 ∷ 1 ∷ 1 ∷ 1 ∷ 1 ∷ 1 ∷ 1 ∷ 1 ∷ 1 ∷ 1 ∷ 1 ∷ 11 ∷ 1 ∷ []
 two_circles = refl
@@ -75,33 +77,55 @@ no_text : circled_bytes 4 [] ≡ []
 no_text = refl
 
 -- a repha stays in front of the circle, which takes cluster, mask and syllable byte of the first glyph
-repha_in_front : shown (circled_text 4 (Some 14) (Some 14) (broken_text (glyph 0 14 0x14 ∷ glyph 1 1 0x14 ∷ []))) ≡ (0, 14, 0, 0x14) ∷ (0, 11, 14, 0x14) ∷ (1, 1, 0, 0x14) ∷ []
+repha_in_front : shown (circled_text 4 (Some 14) (Some 14) (broken_text (glyph 0 14 0x14 ∷ glyph 1 1 0x14 ∷ [])))
+    ≡ (0, 14, 0, 0x14) ∷ (0, 11, 14, 0x14) ∷ (1, 1, 0, 0x14) ∷ []
 repha_in_front = refl
 
 -- so do several, up to the first glyph of another category
-rephas_in_front : shown (circled_text 4 (Some 14) None (broken_text (glyph 0 14 0x14 ∷ glyph 1 14 0x14 ∷ glyph 2 1 0x14 ∷ glyph 3 14 0x14 ∷ []))) ≡ (0, 14, 0, 0x14) ∷ (1, 14, 0, 0x14) ∷ (0, 11, 0, 0x14) ∷ (2, 1, 0, 0x14) ∷ (3, 14, 0, 0x14) ∷ []
+rephas_in_front : shown
+    (circled_text 4 (Some 14) None
+    (broken_text (glyph 0 14 0x14 ∷ glyph 1 14 0x14 ∷ glyph 2 1 0x14 ∷ glyph 3 14 0x14 ∷ []))) ≡ (0, 14, 0, 0x14)
+    ∷ (1, 14, 0, 0x14) ∷ (0, 11, 0, 0x14) ∷ (2, 1, 0, 0x14) ∷ (3, 14, 0, 0x14) ∷ []
 rephas_in_front = refl
 
 -- with no category of rephas the circle stands in front of all
-no_repha : shown (circled_text 4 None None (broken_text (glyph 0 14 0x14 ∷ glyph 1 1 0x14 ∷ []))) ≡ (0, 11, 0, 0x14) ∷ (0, 14, 0, 0x14) ∷ (1, 1, 0, 0x14) ∷ []
+no_repha : shown (circled_text 4 None None (broken_text (glyph 0 14 0x14 ∷ glyph 1 1 0x14 ∷ []))) ≡ (0, 11, 0, 0x14)
+    ∷ (0, 14, 0, 0x14) ∷ (1, 1, 0, 0x14) ∷ []
 no_repha = refl
 
--- a syllable of rephas alone has its circle behind it, not in the next syllable, which has other glyphs of that category
-rephas_alone : shown (circled_text 4 (Some 14) None (broken_text (glyph 0 14 0x14 ∷ glyph 1 14 0x20 ∷ []))) ≡ (0, 14, 0, 0x14) ∷ (0, 11, 0, 0x14) ∷ (1, 14, 0, 0x20) ∷ []
+-- a syllable of rephas alone has its circle behind it, not in the next syllable, which has other
+-- glyphs of that category
+rephas_alone : shown (circled_text 4 (Some 14) None (broken_text (glyph 0 14 0x14 ∷ glyph 1 14 0x20 ∷ [])))
+    ≡ (0, 14, 0, 0x14) ∷ (0, 11, 0, 0x14) ∷ (1, 14, 0, 0x20) ∷ []
 rephas_alone = refl
 
 -- a glyph with all fields set stays as it is, and each field of the circle
 abbrev full : hb_glyph_info_t
-full = record { glyph_id = 0x916; cluster = 5; mask = 0x1F; var = 0x7A; syllable = 0x24; category = 1; auxiliary = 3; general_category = Mn; modified_combining_class = 9; lig_comp = 2; marks = record { 0 = 31 } }
+full = record {
+  glyph_id = 0x916;
+  cluster = 5;
+  mask = 0x1F;
+  var = 0x7A;
+  syllable = 0x24;
+  category = 1;
+  auxiliary = 3;
+  general_category = Mn;
+  modified_combining_class = 9;
+  lig_comp = 2;
+  marks = record { 0 = 31 };
+}
 
-all_fields : circled_text 4 (Some 14) (Some 6) (broken_text (full ∷ [])) ≡ record default_glyph { glyph_id = 7; cluster = 5; mask = 0x1F; syllable = 0x24; category = 11; auxiliary = 6 } ∷ full ∷ []
+all_fields : circled_text 4 (Some 14) (Some 6) (broken_text (full ∷ []))
+    ≡ record default_glyph { glyph_id = 7; cluster = 5; mask = 0x1F; syllable = 0x24; category = 11; auxiliary = 6 }
+    ∷ full ∷ []
 all_fields = refl
 
 -- no circle where no syllable is broken, where the caller forbids circles and where the font has none
 none_broken : length (circled_text 4 None None (record (broken_text (of_bytes sixteen)) { broken = false })) ≡ 16
 none_broken = refl
 
-forbidden : length (circled_text 4 None None (record (broken_text (of_bytes sixteen)) { flags = record { 0 = 0x60 } })) ≡ 16
+forbidden : length (circled_text 4 None None (record (broken_text (of_bytes sixteen)) { flags = record { 0 = 0x60 } }))
+    ≡ 16
 forbidden = refl
 
 no_glyph : circles_for None 4 11 None None (broken_text (of_bytes sixteen)) ≡ None
@@ -123,5 +147,6 @@ circled_places = refl
 circles_added : shown (circles_of rule two_broken) ≡ (0, 11, 0, 0x14) ∷ (3, 11, 0, 0x34) ∷ []
 circles_added = refl
 
-all_together : shown (with_circles rule two_broken) ≡ (0, 14, 0, 0x14) ∷ (0, 11, 0, 0x14) ∷ (1, 1, 0, 0x14) ∷ (2, 1, 0, 0x20) ∷ (3, 11, 0, 0x34) ∷ (3, 1, 0, 0x34) ∷ []
+all_together : shown (with_circles rule two_broken) ≡ (0, 14, 0, 0x14) ∷ (0, 11, 0, 0x14) ∷ (1, 1, 0, 0x14)
+    ∷ (2, 1, 0, 0x20) ∷ (3, 11, 0, 0x34) ∷ (3, 1, 0, 0x34) ∷ []
 all_together = refl

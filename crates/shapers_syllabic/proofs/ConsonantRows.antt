@@ -9,12 +9,14 @@ use Rattle.shapers_syllabic.specs.Consonants.{consonants, is_consonant}
 abbrev glyph_with : ℕ → ℕ → hb_glyph_info_t
 glyph_with marks c = record default_glyph { category = c; marks = record { 0 = marks } }
 
--- the categories, of all 0 to 41, and of the others of a byte, that are consonants: C V PLACEHOLDER DOTTEDCIRCLE Ra CM CS
+-- the categories, of all 0 to 41, and of the others of a byte, that are consonants: C V PLACEHOLDER
+-- DOTTEDCIRCLE Ra CM CS
 with_no_marks : filter (λ c. is_consonant (glyph_with 0 c)) (range_with_len 0 256) ≡ 1 ∷ 2 ∷ 10 ∷ 11 ∷ 15 ∷ 16 ∷ 18 ∷ []
 with_no_marks = refl
 
 -- other marks than the one of a ligature don't matter
-with_other_marks : filter (λ c. is_consonant (glyph_with 0xFD c)) (range_with_len 0 42) ≡ 1 ∷ 2 ∷ 10 ∷ 11 ∷ 15 ∷ 16 ∷ 18 ∷ []
+with_other_marks : filter (λ c. is_consonant (glyph_with 0xFD c)) (range_with_len 0 42) ≡ 1 ∷ 2 ∷ 10 ∷ 11 ∷ 15 ∷ 16 ∷ 18
+    ∷ []
 with_other_marks = refl
 
 -- what a lookup put in for several is none

@@ -25,5 +25,4 @@ mod SyllabicRows
 pub mod SyllableAlone
 pub mod SyllableThen
 pub mod SyllableWalks
-mod Turning
 pub mod Views

@@ -1,13 +1,12 @@
 -- The walk that reorders syllable by syllable, for any order: what it still has to do, and what a chain comes to.
 use Rattle.std.proofs.Common.{append-nil, take_all, ℕ, ◌+◌, ◌-◌, ◌<◌, ◌≤◌, ◌≡◌, ◌≢◌, List, [], ◌∷◌, ◌++◌, map, length, take, drop, refl, sym, ◌∙◌, ap, subst, arith, append_assoc, length-append, length-take-le, length-drop}
-use Rattle.std.specs.Prelude.{Bool, true, false, IsOk, Option, Result}
+use Rattle.std.specs.Prelude.{Bool, true, false, Option}
 use Rattle.std.specs.List.{AllByRecursion, flat_map, list_any}
 use Rattle.std.specs.List.Sorted.{IsPermutation}
 use Rattle.std.proofs.lemmas.List.{drop_all, drop-map, length-map, take_at, drop_at, drop-drop}
 use Rattle.std.proofs.lemmas.List.Sorted.{length_permutation}
 use Rattle.std.proofs.lemmas.List.Sums.{fold-append}
 use Rattle.shapers_buffer.specs.declared.buffer.glyph.hb_glyph_info_t.{hb_glyph_info_t}
-use Rattle.shapers_buffer.specs.declared.buffer.refusal.ShaperError.{ShaperError}
 use Rattle.shapers_buffer.specs.declared.buffer.tag.Script.{Script}
 use Rattle.shapers_buffer.specs.Buffer.{Buffer, but_places}
 use Rattle.shapers_buffer.specs.Clusters.{stretch_of}
@@ -15,7 +14,7 @@ use Rattle.shapers_buffer.specs.Glyph.{order_view, plain}
 use Rattle.shapers_buffer.specs.Syllables.{first_syllable_len, syllables}
 use Rattle.shapers_buffer.proofs.ClusterLemmas.{length-stretch, map-stretch}
 use Rattle.shapers_clusters.specs.Steps.{Step, run_step, run_steps, steps_along, widened}
-use Rattle.shapers_syllabic.specs.Reordering.{Chain, RefusesIf, SyllableOrdered, SyllableReordered, SyllablesLinked, SyllablesReordered, TakesText, TextOrdered, carried, glyph_numbers, syllable_lens, text_order}
+use Rattle.shapers_syllabic.specs.Reordering.{Chain, SyllableOrdered, SyllableReordered, SyllablesLinked, SyllablesReordered, TakesText, TextOrdered, carried, glyph_numbers, syllable_lens, text_order}
 use Rattle.shapers_syllabic.specs.ReorderingLaws.{IsNextChanging}
 use Rattle.shapers_syllabic.proofs.Borders.{syllables-viewed}
 use Rattle.shapers_syllabic.proofs.ReorderingLemmas.{run_steps-carried}
@@ -236,7 +235,8 @@ pub past_changing : (meaning : Meaning) (takes : List ℕ → Type 0) (changes :
     PermutesNumbers meaning → Orders meaning link → Stays changes link → IsNextChanging changes start gs first →
     ToLink takes link old now start → end ≡ first + first_syllable_len (drop first now.glyphs) →
     link first end now new → LinkedNext takes link old now new end
-past_changing meaning takes changes link old now new gs start first end is permutes orders stays found to end_is linked =
+past_changing meaning takes changes link old now new gs start first end is permutes orders stays found to end_is linked
+    =
     let reached = to_changing meaning takes changes link old now gs start first is permutes orders stays found to in
     let inside = found.inside in
     let some : first < length now.glyphs = omega (arith, inside, ap length is) in
@@ -425,8 +425,3 @@ takes_any takes all gs = each (map glyph_numbers (syllables gs))
     each : (pieces : List (List ℕ)) → AllByRecursion takes pieces
     each [] = tt
     each (piece ∷ pieces) = (all piece, each pieces)
-
--- an order that never refuses
-pub sure_is_ok : (b : Bool) (result : Result Unit ShaperError) → RefusesIf b result → b ≡ false → IsOk result
-sure_is_ok true result h is = absurd (cc)
-sure_is_ok false result h is = h

@@ -5,8 +5,11 @@ use Rattle.std.proofs.lemmas.Bool.{or_parts}
 use Rattle.std.proofs.lemmas.List.Folds.{list_any-append}
 
 -- the part behind some of them
-pub none_behind : {X : Type 0} (test : X → Bool) (n : ℕ) (xs : List X) → list_any test xs ≡ false → list_any test (drop n xs) ≡ false
-none_behind test n xs none = (or_parts _ _ (sym (list_any-append test (take n xs) (drop n xs)) ∙ ap (list_any test) (take-append-drop n xs) ∙ none)).1
+pub none_behind : {X : Type 0} (test : X → Bool) (n : ℕ) (xs : List X) → list_any test xs ≡ false
+    → list_any test (drop n xs) ≡ false
+none_behind test n xs none =
+    (or_parts _ _ (sym (list_any-append test (take n xs) (drop n xs)) ∙ ap (list_any test) (take-append-drop n xs)
+    ∙ none)).1
 
 -- a filter keeps none, and one of the others keeps all
 pub filter-none : {X : Type 0} (test : X → Bool) (xs : List X) → list_any test xs ≡ false → filter test xs ≡ []
@@ -15,7 +18,8 @@ filter-none test (x ∷ xs) h =
     let parts : (test x ≡ false) × (list_any test xs ≡ false) = or_parts (test x) (list_any test xs) h in
     rw parts.0 (filter-none test xs parts.1)
 
-pub filter_not-none : {X : Type 0} (test : X → Bool) (xs : List X) → list_any test xs ≡ false → filter (λ x. not (test x)) xs ≡ xs
+pub filter_not-none : {X : Type 0} (test : X → Bool) (xs : List X) → list_any test xs ≡ false
+    → filter (λ x. not (test x)) xs ≡ xs
 filter_not-none test [] h = refl
 filter_not-none test (x ∷ xs) h =
     let parts : (test x ≡ false) × (list_any test xs ≡ false) = or_parts (test x) (list_any test xs) h in

@@ -18,7 +18,8 @@ use Rattle.shapers_syllabic.proofs.Serials.{serials_dont_count}
 use Rattle.shapers_syllabic.proofs.SpanCuts.{spans_cut}
 
 -- a set-up keeps the clusters
-pub clusters-flagged : (pieces : List (List hb_glyph_info_t)) → clusters (flat_map (flagged 3) pieces) ≡ clusters (flat_map (λ piece. piece) pieces)
+pub clusters-flagged : (pieces : List (List hb_glyph_info_t)) → clusters (flat_map (flagged 3) pieces)
+    ≡ clusters (flat_map (λ piece. piece) pieces)
 clusters-flagged [] = refl
 clusters-flagged (piece ∷ pieces) =
     let cluster : hb_glyph_info_t → ℕ = λ g. g.cluster in
@@ -33,12 +34,15 @@ clusters-with_bytes [] bytes = refl
 clusters-with_bytes (g ∷ gs) [] = refl
 clusters-with_bytes (g ∷ gs) (byte ∷ bytes) = ap (λ cs. g.cluster ∷ cs) (clusters-with_bytes gs bytes)
 
-pub clusters-set_up : (spans : List Span) (broken_kind : ℕ) (b : Buffer) → clusters (spans_set_up spans broken_kind b).glyphs ≡ clusters b.glyphs
+pub clusters-set_up : (spans : List Span) (broken_kind : ℕ) (b : Buffer)
+    → clusters (spans_set_up spans broken_kind b).glyphs ≡ clusters b.glyphs
 clusters-set_up spans broken_kind b =
     let cut = with_bytes b.glyphs (span_bytes 0 spans) in
-    clusters-flagged (syllables cut) ∙ ap clusters (joined-syllables cut) ∙ clusters-with_bytes b.glyphs (span_bytes 0 spans)
+    clusters-flagged (syllables cut) ∙ ap clusters (joined-syllables cut)
+    ∙ clusters-with_bytes b.glyphs (span_bytes 0 spans)
 
-pub apart_by : (xs ys gs hs : List hb_glyph_info_t) → clusters xs ≡ clusters gs → clusters ys ≡ clusters hs → ShareNone gs hs → ShareNone xs ys
+pub apart_by : (xs ys gs hs : List hb_glyph_info_t) → clusters xs ≡ clusters gs → clusters ys ≡ clusters hs
+    → ShareNone gs hs → ShareNone xs ys
 apart_by xs ys gs hs a b none i j il jl same =
     let cluster : hb_glyph_info_t → ℕ = λ g. g.cluster in
     let x : length xs ≡ length gs = sym (length-map xs cluster) ∙ ap length a ∙ length-map gs cluster in
@@ -57,10 +61,12 @@ pauses_cut circles meaning steps spans broken_kind old new laws reads kinds done
     let serials = serials_dont_count circles meaning steps old.level behind half reads cut.renumbered in
     let front : clusters before ≡ clusters gs = clusters-set_up ss broken_kind (record old { glyphs = gs }) in
     let whole : clusters before ++ clusters behind ≡ clusters gs ++ clusters hs =
-    sym (map-append cluster before behind) ∙ sym (ap clusters cut.parts) ∙ clusters-set_up spans broken_kind old ∙ ap clusters text ∙ map-append cluster gs hs in
+    sym (map-append cluster before behind) ∙ sym (ap clusters cut.parts) ∙ clusters-set_up spans broken_kind old
+    ∙ ap clusters text ∙ map-append cluster gs hs in
     let n = length (clusters gs) in
     let back : clusters behind ≡ clusters hs =
-    sym (drop_at (clusters before) (clusters behind) n (ap length front)) ∙ ap (drop n) whole ∙ drop_at (clusters gs) (clusters hs) n refl in
+    sym (drop_at (clusters before) (clusters behind) n (ap length front)) ∙ ap (drop n) whole
+    ∙ drop_at (clusters gs) (clusters hs) n refl in
     record {
       order =
           ap (map unnumbered) pause.order
@@ -68,6 +74,7 @@ pauses_cut circles meaning steps spans broken_kind old new laws reads kinds done
           ∙ ap (λ l. map unnumbered (paused_order circles meaning before) ++ l) serials.order;
       moved = λ none.
           ap (map unnumbered) (pause.moved (apart_by before behind gs hs front back none))
-          ∙ map-append unnumbered (paused_carried circles steps old.level before) (paused_carried circles steps old.level behind)
+          ∙ map-append unnumbered (paused_carried circles steps old.level before)
+          (paused_carried circles steps old.level behind)
           ∙ ap (λ l. map unnumbered (paused_carried circles steps old.level before) ++ l) serials.moved;
     }

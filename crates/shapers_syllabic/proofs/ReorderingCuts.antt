@@ -23,11 +23,13 @@ use Rattle.shapers_syllabic.proofs.ReorderingLaws.{each_piece, sum-syllables, te
 use Rattle.shapers_syllabic.proofs.ReorderingWalk.{pieces_of}
 
 -- a circle keeps the ends of its syllable
-circle_byte : (byte : ℕ) (gs : List hb_glyph_info_t) (circle : hb_glyph_info_t) → OfByte byte gs → (circle_in gs circle).syllable ≡ byte
+circle_byte : (byte : ℕ) (gs : List hb_glyph_info_t) (circle : hb_glyph_info_t) → OfByte byte gs
+    → (circle_in gs circle).syllable ≡ byte
 circle_byte byte [] circle u = let a = u.some in absurd (omega arith)
 circle_byte byte (g ∷ gs) circle u = All-head (λ (h : hb_glyph_info_t). h.syllable ≡ byte) g gs u.all
 
-circled_byte : (rule : DottedCircles) (byte : ℕ) (gs : List hb_glyph_info_t) (broken : Bool) → OfByte byte gs → OfByte byte (if broken then with_circle rule gs else gs)
+circled_byte : (rule : DottedCircles) (byte : ℕ) (gs : List hb_glyph_info_t) (broken : Bool) → OfByte byte gs
+    → OfByte byte (if broken then with_circle rule gs else gs)
 circled_byte rule byte gs false u = u
 circled_byte rule byte gs true u =
     let P : hb_glyph_info_t → Type 0 = λ g. g.syllable ≡ byte in
@@ -35,67 +37,93 @@ circled_byte rule byte gs true u =
     let circle = circle_in gs rule.circle in
     record {
       some = omega (arith, length-append (take n gs) (circle ∷ drop n gs));
-      all = All-append P (take n gs) (circle ∷ drop n gs) (All-take P n gs u.all) (All-cons P circle (drop n gs) (circle_byte byte gs rule.circle u) (All-drop P n gs u.all));
+      all = All-append P (take n gs) (circle ∷ drop n gs) (All-take P n gs u.all)
+          (All-cons P circle (drop n gs) (circle_byte byte gs rule.circle u) (All-drop P n gs u.all));
     }
 
-pub circled_syllable_byte : (rule : DottedCircles) (byte : ℕ) (gs : List hb_glyph_info_t) → OfByte byte gs → OfByte byte (circled_syllable rule gs)
+pub circled_syllable_byte : (rule : DottedCircles) (byte : ℕ) (gs : List hb_glyph_info_t) → OfByte byte gs
+    → OfByte byte (circled_syllable rule gs)
 circled_syllable_byte rule byte gs u = circled_byte rule byte gs (is_of_kind rule.broken_kind gs) u
 
 ends-circled : (circles : Option DottedCircles) (gs : List hb_glyph_info_t) → SameEnds (circled circles gs) gs
 ends-circled None gs = record { some = λ l. l; first = refl; last = refl }
-ends-circled (Some rule) gs = subst (SameEnds (with_circles rule gs)) (joined-syllables gs) (ends-kept (circled_syllable rule) (circled_syllable_byte rule) (syllables gs) (syllables_cut gs))
+ends-circled (Some rule) gs =
+    subst (SameEnds (with_circles rule gs)) (joined-syllables gs)
+    (ends-kept (circled_syllable rule) (circled_syllable_byte rule) (syllables gs) (syllables_cut gs))
 
 -- circles of the halves
-pub border-circled : (circles : Option DottedCircles) (gs hs : List hb_glyph_info_t) → MeetAtBorder gs hs → MeetAtBorder (circled circles gs) (circled circles hs)
-border-circled circles gs hs border = border_by (circled circles gs) (circled circles hs) gs hs (ends-circled circles gs) (ends-circled circles hs) border
+pub border-circled : (circles : Option DottedCircles) (gs hs : List hb_glyph_info_t) → MeetAtBorder gs hs
+    → MeetAtBorder (circled circles gs) (circled circles hs)
+border-circled circles gs hs border =
+    border_by (circled circles gs) (circled circles hs) gs hs (ends-circled circles gs) (ends-circled circles hs) border
 
-pub circled-append : (circles : Option DottedCircles) (gs hs : List hb_glyph_info_t) → MeetAtBorder gs hs → circled circles (gs ++ hs) ≡ circled circles gs ++ circled circles hs
+pub circled-append : (circles : Option DottedCircles) (gs hs : List hb_glyph_info_t) → MeetAtBorder gs hs
+    → circled circles (gs ++ hs) ≡ circled circles gs ++ circled circles hs
 circled-append None gs hs border = refl
-circled-append (Some rule) gs hs border = ap (flat_map (circled_syllable rule)) (syllables-append gs hs border) ∙ flat_map-append (circled_syllable rule) (syllables gs) (syllables hs)
+circled-append (Some rule) gs hs border = ap (flat_map (circled_syllable rule)) (syllables-append gs hs border)
+    ∙ flat_map-append (circled_syllable rule) (syllables gs) (syllables hs)
 
-cluster_of : (circles : Option DottedCircles) (gs : List hb_glyph_info_t) (i : ℕ) → i < length (circled circles gs) → (k : ℕ) × (k < length gs) × (slice_index (clusters gs) k ≡ slice_index (clusters (circled circles gs)) i)
+cluster_of : (circles : Option DottedCircles) (gs : List hb_glyph_info_t) (i : ℕ) → i < length (circled circles gs)
+    → (k : ℕ) × (k < length gs) × (slice_index (clusters gs) k ≡ slice_index (clusters (circled circles gs)) i)
 cluster_of None gs i h = (i, h, refl)
 cluster_of (Some rule) gs i h =
     let cluster : hb_glyph_info_t → ℕ = λ g. g.cluster in
     let after = clusters (with_circles rule gs) in
     let P : ℕ → Type 0 = λ c. Contains (clusters gs) c in
     let n = length-map gs cluster in
-    let found = All-get_or P after i 0 (omega (arith, length-map (with_circles rule gs) cluster)) (circles_keep_clusters rule gs) in
+    let found = All-get_or P after i 0 (omega (arith, length-map (with_circles rule gs) cluster))
+    (circles_keep_clusters rule gs) in
     (found.0, omega (arith, found.1), get_or_default (clusters gs) found.0 0 (get_or after i 0) found.1 ∙ found.2)
 
-pub apart-circled : (circles : Option DottedCircles) (gs hs : List hb_glyph_info_t) → ShareNone gs hs → ShareNone (circled circles gs) (circled circles hs)
+pub apart-circled : (circles : Option DottedCircles) (gs hs : List hb_glyph_info_t) → ShareNone gs hs
+    → ShareNone (circled circles gs) (circled circles hs)
 apart-circled circles gs hs none i j il jl same =
     let a = cluster_of circles gs i il in
     let b = cluster_of circles hs j jl in
     none a.0 b.0 a.1 b.1 (a.2 ∙ same ∙ sym b.2)
 
 -- the text order of the halves, and their steps
-pub text_order-append : (meaning : List hb_glyph_info_t → List hb_glyph_info_t) (gs hs : List hb_glyph_info_t) → MeetAtBorder gs hs → text_order meaning (gs ++ hs) ≡ text_order meaning gs ++ text_order meaning hs
-text_order-append meaning gs hs border = ap (flat_map meaning) (syllables-append gs hs border) ∙ flat_map-append meaning (syllables gs) (syllables hs)
+pub text_order-append : (meaning : List hb_glyph_info_t → List hb_glyph_info_t) (gs hs : List hb_glyph_info_t)
+    → MeetAtBorder gs hs → text_order meaning (gs ++ hs) ≡ text_order meaning gs ++ text_order meaning hs
+text_order-append meaning gs hs border = ap (flat_map meaning) (syllables-append gs hs border)
+    ∙ flat_map-append meaning (syllables gs) (syllables hs)
 
-pub text_order-halves : (meaning : List hb_glyph_info_t → List hb_glyph_info_t) (gs hs : List hb_glyph_info_t) → MeetAtBorder gs hs → text_order meaning (order_view (gs ++ hs)) ≡ text_order meaning (order_view gs) ++ text_order meaning (order_view hs)
-text_order-halves meaning gs hs border = ap (text_order meaning) (map-append plain gs hs) ∙ text_order-append meaning (order_view gs) (order_view hs) (border-view gs hs border)
+pub text_order-halves : (meaning : List hb_glyph_info_t → List hb_glyph_info_t) (gs hs : List hb_glyph_info_t)
+    → MeetAtBorder gs hs → text_order meaning (order_view (gs ++ hs)) ≡ text_order meaning (order_view gs)
+    ++ text_order meaning (order_view hs)
+text_order-halves meaning gs hs border = ap (text_order meaning) (map-append plain gs hs)
+    ∙ text_order-append meaning (order_view gs) (order_view hs) (border-view gs hs border)
 
-pub steps-halves : (meaning : List hb_glyph_info_t → List hb_glyph_info_t) (steps : List hb_glyph_info_t → List Step) (level : BufferClusterLevel) (gs hs : List hb_glyph_info_t) → ReorderLaws meaning steps → MeetAtBorder gs hs → ShareNone gs hs → run_steps level (text_steps steps (order_view (gs ++ hs))) (gs ++ hs) ≡ run_steps level (text_steps steps (order_view gs)) gs ++ run_steps level (text_steps steps (order_view hs)) hs
+pub steps-halves : (meaning : List hb_glyph_info_t → List hb_glyph_info_t) (steps : List hb_glyph_info_t
+    → List Step) (level : BufferClusterLevel) (gs hs : List hb_glyph_info_t) → ReorderLaws meaning steps
+    → MeetAtBorder gs hs → ShareNone gs hs → run_steps level (text_steps steps (order_view (gs ++ hs))) (gs ++ hs)
+    ≡ run_steps level (text_steps steps (order_view gs)) gs ++ run_steps level (text_steps steps (order_view hs)) hs
 steps-halves meaning steps level gs hs laws border none =
     let xs = order_view gs in
     let ys = order_view hs in
     let ps = pieces_of steps (syllables xs) in
     let qs = pieces_of steps (syllables ys) in
-    let both : syllables (order_view (gs ++ hs)) ≡ syllables xs ++ syllables ys = ap syllables (map-append plain gs hs) ∙ syllables-append xs ys (border-view gs hs border) in
+    let both : syllables (order_view (gs ++ hs)) ≡ syllables xs ++ syllables ys = ap syllables (map-append plain gs hs)
+    ∙ syllables-append xs ys (border-view gs hs border) in
     ap (λ sts. run_steps level sts (gs ++ hs)) (text_steps-long steps (gs ++ hs))
-    ∙ ap (λ n. run_steps level (steps_along n 0 (pieces_of steps (syllables (order_view (gs ++ hs))))) (gs ++ hs)) (length-append gs hs)
-    ∙ ap (λ pieces. run_steps level (steps_along (length gs + length hs) 0 pieces) (gs ++ hs)) (ap (pieces_of steps) both ∙ map-append (λ syl. (length syl, steps syl)) (syllables xs) (syllables ys))
-    ∙ halves_hold level ps qs gs hs (sum-syllables steps xs ∙ length-map gs plain) (sum-syllables steps ys ∙ length-map hs plain) (each_piece FitsStep steps laws.fits (syllables xs)) (each_piece FitsStep steps laws.fits (syllables ys)) none
+    ∙ ap (λ n. run_steps level (steps_along n 0 (pieces_of steps (syllables (order_view (gs ++ hs))))) (gs ++ hs))
+    (length-append gs hs)
+    ∙ ap (λ pieces. run_steps level (steps_along (length gs + length hs) 0 pieces) (gs ++ hs))
+    (ap (pieces_of steps) both ∙ map-append (λ syl. (length syl, steps syl)) (syllables xs) (syllables ys))
+    ∙ halves_hold level ps qs gs hs (sum-syllables steps xs ∙ length-map gs plain) (sum-syllables steps ys
+    ∙ length-map hs plain) (each_piece FitsStep steps laws.fits (syllables xs))
+    (each_piece FitsStep steps laws.fits (syllables ys)) none
     ∙ sym (ap (λ sts. run_steps level sts gs ++ run_steps level (text_steps steps ys) hs) (text_steps-long steps gs)
-    ∙ ap (λ sts. run_steps level (steps_along (length gs) 0 ps) gs ++ run_steps level sts hs) (text_steps-long steps hs))
+    ∙ ap (λ sts. run_steps level (steps_along (length gs) 0 ps) gs ++ run_steps level sts hs)
+    (text_steps-long steps hs))
 
 -- a whole pause
 pub cuts_at_borders : ReorderingCutsAtBorders
 cuts_at_borders circles meaning steps old new laws done gs hs whole border =
     let xs = circled circles gs in
     let ys = circled circles hs in
-    let text : circled circles old.glyphs ≡ xs ++ ys = ap (circled circles) whole ∙ circled-append circles gs hs border in
+    let text : circled circles old.glyphs ≡ xs ++ ys = ap (circled circles) whole
+    ∙ circled-append circles gs hs border in
     let meet = border-circled circles gs hs border in
     record {
       order = done.order ∙ ap (λ zs. text_order meaning (order_view zs)) text ∙ text_order-halves meaning xs ys meet;
@@ -103,5 +131,6 @@ cuts_at_borders circles meaning steps old new laws done gs hs whole border =
           done.moved
           ∙ ap (λ zs. map carried (run_steps old.level (text_steps steps (order_view zs)) zs)) text
           ∙ ap (map carried) (steps-halves meaning steps old.level xs ys laws meet (apart-circled circles gs hs none))
-          ∙ map-append carried (run_steps old.level (text_steps steps (order_view xs)) xs) (run_steps old.level (text_steps steps (order_view ys)) ys);
+          ∙ map-append carried (run_steps old.level (text_steps steps (order_view xs)) xs)
+          (run_steps old.level (text_steps steps (order_view ys)) ys);
     }

@@ -24,36 +24,43 @@ use Rattle.shapers_syllabic.specs.Reordering.{SyllableReordered, carried}
 flags-carried : (m : ℕ) → without_flags m % 8 ≡ without_flags (m % 8)
 flags-carried m = omega arith
 
-no_flags : (m : ℕ) → without_flags (m % 8) ≡ 0
-no_flags m = omega arith
-
 pub carried_hides : HidesFields carried
 carried_hides = record {
   shows = record { cluster = λ g. refl; flags = λ g. (let i : g.mask % 8 % 8 ≡ g.mask % 8 = omega arith in i) };
-  apart = λ g. (let i : without_flags (without_flags g.mask % 8) ≡ without_flags (g.mask % 8) = omega arith in ap (λ (x : ℕ). record g { cluster = 0; mask = x; category = 0; auxiliary = 0; marks = no_marks }) i);
+  apart = λ g. (let i : without_flags (without_flags g.mask % 8)
+      ≡ without_flags (g.mask % 8) =
+      omega arith in ap (λ (x : ℕ). record g { cluster = 0; mask = x; category = 0; auxiliary = 0; marks = no_marks })
+      i);
 }
 
 pub carried_passes : PassesMerges carried
 carried_passes = record {
   cluster = λ g. refl;
-  put = λ m g. elim (g.cluster == m) as (λ b. carried (if b then g else record g { cluster = m; mask = without_flags g.mask }) ≡ (if b then carried g else record (carried g) { cluster = m; mask = without_flags (g.mask % 8) })) [
-    | true ↦ refl
-    | false ↦ ap (λ (x : ℕ). record g { cluster = m; mask = x; category = 0; auxiliary = 0; marks = no_marks }) (flags-carried g.mask)
-  ];
+  put = λ m g. elim (g.cluster == m) as (λ b. carried
+      (if b then g else record g { cluster = m; mask = without_flags g.mask })
+      ≡ (if b then carried g else record (carried g) { cluster = m; mask = without_flags (g.mask % 8) })) [
+        | true ↦ refl
+        | false ↦ ap (λ (x : ℕ). record g { cluster = m; mask = x; category = 0; auxiliary = 0; marks = no_marks })
+            (flags-carried g.mask)
+      ];
 }
 
 -- changes that don't show stay so through merges, places and steps
-pub merge-carried : (level : BufferClusterLevel) (s e : ℕ) (xs ys : List hb_glyph_info_t) → map carried xs ≡ map carried ys → map carried (merge level s e xs) ≡ map carried (merge level s e ys)
+pub merge-carried : (level : BufferClusterLevel) (s e : ℕ) (xs ys : List hb_glyph_info_t)
+    → map carried xs ≡ map carried ys → map carried (merge level s e xs) ≡ map carried (merge level s e ys)
 merge-carried level s e xs ys same = merge-same carried carried_passes level s e xs ys same
 
-pub merge_all-carried : (level : BufferClusterLevel) (sts : List (ℕ × ℕ)) (xs ys : List hb_glyph_info_t) → map carried xs ≡ map carried ys → map carried (merge_all level sts xs) ≡ map carried (merge_all level sts ys)
+pub merge_all-carried : (level : BufferClusterLevel) (sts : List (ℕ × ℕ)) (xs ys : List hb_glyph_info_t)
+    → map carried xs ≡ map carried ys → map carried (merge_all level sts xs) ≡ map carried (merge_all level sts ys)
 merge_all-carried level sts xs ys same = merge_all-same carried carried_passes level sts xs ys same
 
-pub run_steps-carried : (level : BufferClusterLevel) (steps : List Step) (xs ys : List hb_glyph_info_t) → map carried xs ≡ map carried ys → map carried (run_steps level steps xs) ≡ map carried (run_steps level steps ys)
+pub run_steps-carried : (level : BufferClusterLevel) (steps : List Step) (xs ys : List hb_glyph_info_t)
+    → map carried xs ≡ map carried ys → map carried (run_steps level steps xs) ≡ map carried (run_steps level steps ys)
 run_steps-carried level steps xs ys same = run_steps-same carried carried_passes level steps xs ys same
 
 -- what is placed, by the places of the whole
-pick-in_parts : {X : Type 0} (s e : ℕ) (ps : List ℕ) (xs : List X) → s ≤ e → e ≤ length xs → pick (range_with_len 0 s ++ (ps ++ range_with_len e (length xs - e))) xs ≡ take s xs ++ (pick ps xs ++ drop e xs)
+pick-in_parts : {X : Type 0} (s e : ℕ) (ps : List ℕ) (xs : List X) → s ≤ e → e ≤ length xs
+    → pick (range_with_len 0 s ++ (ps ++ range_with_len e (length xs - e))) xs ≡ take s xs ++ (pick ps xs ++ drop e xs)
 pick-in_parts s e ps xs h l =
     let rest = range_with_len e (length xs - e) in
     pick-append (range_with_len 0 s) (ps ++ rest) xs
@@ -62,11 +69,15 @@ pick-in_parts s e ps xs h l =
     ∙ ap (λ ys. pick ps xs ++ ys) (pick-range e (length xs - e) xs (omega arith) ∙ take_rest xs e))
 
 -- Glyphs placed by the step's places, from s to e: those that the widened step picks; so by a list that lists these.
-pub picked-step : {X : Type 0} (s e : ℕ) (ps : List ℕ) (step : Step) (xs : List X) → s ≤ e → e ≤ length xs → ps ≡ map (λ p. s + p) step.places → with_stretch s e (λ _. pick ps xs) xs ≡ pick (widened s e (length xs) step).places xs
+pub picked-step : {X : Type 0} (s e : ℕ) (ps : List ℕ) (step : Step) (xs : List X) → s ≤ e → e ≤ length xs
+    → ps ≡ map (λ p. s + p) step.places → with_stretch s e (λ _. pick ps xs) xs
+    ≡ pick (widened s e (length xs) step).places xs
 picked-step s e ps step xs h l is =
     ap (λ ps. take s xs ++ (pick ps xs ++ drop e xs)) is ∙ sym (pick-in_parts s e (map (λ p. s + p) step.places) xs h l)
 
-pub placed-step : {X : Type 0} (s e : ℕ) (places : List ℕ) (step : Step) (xs : List X) → s ≤ e → e ≤ length xs → listed s e places ≡ map (λ p. s + p) step.places → placed s e places xs ≡ pick (widened s e (length xs) step).places xs
+pub placed-step : {X : Type 0} (s e : ℕ) (places : List ℕ) (step : Step) (xs : List X) → s ≤ e → e ≤ length xs
+    → listed s e places ≡ map (λ p. s + p) step.places
+    → placed s e places xs ≡ pick (widened s e (length xs) step).places xs
 placed-step s e places step xs h l lists = picked-step s e (listed s e places) step xs h l lists
 
 -- places picked of all places
@@ -78,7 +89,8 @@ picked_range n (p ∷ ps) h =
     ∙ ap (λ k. k ∷ pick ps (range_with_len 0 n)) (get_or-range_with_len 0 n p 0 first ∙ zero-add p)
     ∙ ap (λ l. p ∷ l) (picked_range n ps h.1)
 
-pub map-picked : {X Y : Type 0} (f : X → Y) (s e : ℕ) (ps : List ℕ) (xs : List X) → map f (with_stretch s e (λ _. pick ps xs) xs) ≡ with_stretch s e (λ _. pick ps (map f xs)) (map f xs)
+pub map-picked : {X Y : Type 0} (f : X → Y) (s e : ℕ) (ps : List ℕ) (xs : List X)
+    → map f (with_stretch s e (λ _. pick ps xs) xs) ≡ with_stretch s e (λ _. pick ps (map f xs)) (map f xs)
 map-picked f s e ps xs =
     map-append f (take s xs) (pick ps xs ++ drop e xs)
     ∙ ap (λ ys. ys ++ map f (pick ps xs ++ drop e xs)) (sym (take-map f s xs))
@@ -86,12 +98,20 @@ map-picked f s e ps xs =
     ∙ ap (λ ys. ys ++ map f (drop e xs)) (sym (pick-map f ps xs))
     ∙ ap (λ ys. pick ps (map f xs) ++ ys) (sym (drop-map f e xs)))
 
--- Glyphs gs merged as the step merges them first, with changes that don't show: ms. These placed are what the step leads to.
-pub moved_by_places : (level : BufferClusterLevel) (s e : ℕ) (step : Step) (ps : List ℕ) (gs ms ns : List hb_glyph_info_t) → s ≤ e → e ≤ length gs → FitsStep (e - s) step → step.merged_then ≡ [] → ps ≡ map (λ p. s + p) step.places → map carried ms ≡ map carried (merge_all level (shifted s step.merged_first) gs) → ns ≡ with_stretch s e (λ _. pick ps ms) ms → map carried ns ≡ map carried (run_steps level (map (widened s e (length gs)) (step ∷ [])) gs)
+-- Glyphs gs merged as the step merges them first, with changes that don't show: ms. These placed
+-- are what the step leads to.
+pub moved_by_places : (level : BufferClusterLevel) (s e : ℕ) (step : Step) (ps : List ℕ)
+    (gs ms ns : List hb_glyph_info_t) → s ≤ e → e ≤ length gs → FitsStep (e - s) step → step.merged_then ≡ []
+    → ps ≡ map (λ p. s + p) step.places
+    → map carried ms ≡ map carried (merge_all level (shifted s step.merged_first) gs)
+    → ns ≡ with_stretch s e (λ _. pick ps ms) ms
+    → map carried ns ≡ map carried (run_steps level (map (widened s e (length gs)) (step ∷ [])) gs)
 moved_by_places level s e step ps gs ms ns h l f nothing are same is =
     let w = widened s e (length gs) step in
     let merged = merge_all level (shifted s step.merged_first) gs in
-    let k : length merged ≡ length gs = length-merge_all level (shifted s step.merged_first) gs (fits-widened s e (length gs) step h l f).first_within in
+    let k : length merged ≡ length gs =
+    length-merge_all level (shifted s step.merged_first) gs
+    (fits-widened s e (length gs) step h l f).first_within in
     let m : length ms ≡ length gs = length-same carried ms merged same ∙ k in
     ap (map carried) (is ∙ picked-step s e ps step ms h (omega arith) are)
     ∙ ap (λ n. map carried (pick (widened s e n step).places ms)) m
@@ -99,7 +119,11 @@ moved_by_places level s e step ps gs ms ns h l f nothing are same is =
     ∙ sym (ap (λ sts. map carried (merge_all level (shifted s sts) (pick w.places merged))) nothing)
 
 -- Where the order view of ms is that of gs with a changed stretch, the placed glyphs have the changed stretch's places.
-pub order_by_places : (s e : ℕ) (step : Step) (change : List hb_glyph_info_t → List hb_glyph_info_t) (ps : List ℕ) (gs ms ns : List hb_glyph_info_t) → s ≤ e → e ≤ length gs → FitsStep (e - s) step → ps ≡ map (λ p. s + p) step.places → length (change (stretch_of s e (order_view gs))) ≡ e - s → order_view ms ≡ with_stretch s e change (order_view gs) → ns ≡ with_stretch s e (λ _. pick ps ms) ms → order_view ns ≡ with_stretch s e (λ xs. pick step.places (change xs)) (order_view gs)
+pub order_by_places : (s e : ℕ) (step : Step) (change : List hb_glyph_info_t → List hb_glyph_info_t) (ps : List ℕ)
+    (gs ms ns : List hb_glyph_info_t) → s ≤ e → e ≤ length gs → FitsStep (e - s) step
+    → ps ≡ map (λ p. s + p) step.places → length (change (stretch_of s e (order_view gs))) ≡ e - s
+    → order_view ms ≡ with_stretch s e change (order_view gs) → ns ≡ with_stretch s e (λ _. pick ps ms) ms
+    → order_view ns ≡ with_stretch s e (λ xs. pick step.places (change xs)) (order_view gs)
 order_by_places s e step change ps gs ms ns h l f are as_many changed is =
     let xs = order_view gs in
     let a = take s xs in
@@ -116,7 +140,9 @@ order_by_places s e step change ps gs ms ns h l f are as_many changed is =
     ∙ pick-parts s e (length (a ++ (b ++ c))) step a b c h an as_many (omega arith) f
 
 -- What a body shows that merges and changes its syllable, and then places it: ms are the glyphs before they are placed.
-pub record Placed (meaning : List hb_glyph_info_t → List hb_glyph_info_t) (steps : List hb_glyph_info_t → List Step) (s e : ℕ) (step : Step) (change : List hb_glyph_info_t → List hb_glyph_info_t) (old new : Buffer) (ms : List hb_glyph_info_t) : Type 0 where
+pub record Placed (meaning : List hb_glyph_info_t → List hb_glyph_info_t) (steps : List hb_glyph_info_t
+    → List Step) (s e : ℕ) (step : Step) (change : List hb_glyph_info_t → List hb_glyph_info_t) (old new : Buffer)
+    (ms : List hb_glyph_info_t) : Type 0 where
   pub in_order : s ≤ e
   pub in_range : e ≤ length old.glyphs
   pub places : List ℕ
@@ -129,26 +155,40 @@ pub record Placed (meaning : List hb_glyph_info_t → List hb_glyph_info_t) (ste
   pub as_many : length (change (stretch_of s e (order_view old.glyphs))) ≡ e - s
   pub places_are : places ≡ map (λ p. s + p) step.places
   pub placed_are : new.glyphs ≡ with_stretch s e (λ _. pick places ms) ms
-  pub meant : meaning (stretch_of s e (order_view old.glyphs)) ≡ pick step.places (change (stretch_of s e (order_view old.glyphs)))
+  pub meant : meaning (stretch_of s e (order_view old.glyphs))
+      ≡ pick step.places (change (stretch_of s e (order_view old.glyphs)))
 
-pub reordered_by_places : (meaning : List hb_glyph_info_t → List hb_glyph_info_t) (steps : List hb_glyph_info_t → List Step) (s e : ℕ) (step : Step) (change : List hb_glyph_info_t → List hb_glyph_info_t) (old new : Buffer) (ms : List hb_glyph_info_t) → Placed meaning steps s e step change old new ms → SyllableReordered meaning steps s e old new
+pub reordered_by_places : (meaning : List hb_glyph_info_t → List hb_glyph_info_t) (steps : List hb_glyph_info_t
+    → List Step) (s e : ℕ) (step : Step) (change : List hb_glyph_info_t → List hb_glyph_info_t) (old new : Buffer)
+    (ms : List hb_glyph_info_t) → Placed meaning steps s e step change old new ms
+    → SyllableReordered meaning steps s e old new
 reordered_by_places meaning steps s e step change old new ms p =
     let xs = order_view old.glyphs in
     record {
       others = p.others;
-      order = order_by_places s e step change p.places old.glyphs ms new.glyphs p.in_order p.in_range p.fits p.places_are p.as_many p.changed p.placed_are
+      order = order_by_places s e step change p.places old.glyphs ms new.glyphs p.in_order p.in_range p.fits
+          p.places_are p.as_many p.changed p.placed_are
           ∙ ap (λ ys. take s xs ++ (ys ++ drop e xs)) (sym p.meant);
-      moved = moved_by_places old.level s e step p.places old.glyphs ms new.glyphs p.in_order p.in_range p.fits p.nothing_then p.places_are p.merged p.placed_are
-          ∙ sym (ap (λ sts. map carried (run_steps old.level (map (widened s e (length old.glyphs)) sts) old.glyphs)) p.one_step);
+      moved = moved_by_places old.level s e step p.places old.glyphs ms new.glyphs p.in_order p.in_range p.fits
+          p.nothing_then p.places_are p.merged p.placed_are
+          ∙ sym (ap (λ sts. map carried (run_steps old.level (map (widened s e (length old.glyphs)) sts) old.glyphs))
+          p.one_step);
     }
 
 -- a step in which nothing moves: its merges alone
-pub moved_by_merges : (level : BufferClusterLevel) (s e : ℕ) (step : Step) (gs ns : List hb_glyph_info_t) → s ≤ e → e ≤ length gs → FitsStep (e - s) step → step.places ≡ range_with_len 0 (e - s) → step.merged_then ≡ [] → map carried ns ≡ map carried (merge_all level (shifted s step.merged_first) gs) → map carried ns ≡ map carried (run_steps level (map (widened s e (length gs)) (step ∷ [])) gs)
+pub moved_by_merges : (level : BufferClusterLevel) (s e : ℕ) (step : Step) (gs ns : List hb_glyph_info_t) → s ≤ e
+    → e ≤ length gs → FitsStep (e - s) step → step.places ≡ range_with_len 0 (e - s) → step.merged_then ≡ []
+    → map carried ns ≡ map carried (merge_all level (shifted s step.merged_first) gs)
+    → map carried ns ≡ map carried (run_steps level (map (widened s e (length gs)) (step ∷ [])) gs)
 moved_by_merges level s e step gs ns h l f stay nothing same =
     let w = widened s e (length gs) step in
     let merged = merge_all level (shifted s step.merged_first) gs in
-    let k : length merged ≡ length gs = length-merge_all level (shifted s step.merged_first) gs (fits-widened s e (length gs) step h l f).first_within in
-    let all : w.places ≡ range_with_len 0 (length gs) = ap (λ ps. range_with_len 0 s ++ (map (λ p. s + p) ps ++ range_with_len e (length gs - e))) stay ∙ sym (range-three s e (length gs) h l) in
+    let k : length merged ≡ length gs =
+    length-merge_all level (shifted s step.merged_first) gs
+    (fits-widened s e (length gs) step h l f).first_within in
+    let all : w.places ≡ range_with_len 0 (length gs) =
+    ap (λ ps. range_with_len 0 s ++ (map (λ p. s + p) ps ++ range_with_len e (length gs - e))) stay
+    ∙ sym (range-three s e (length gs) h l) in
     same
     ∙ sym (ap (map carried) (ap (λ ps. pick ps merged) all ∙ pick-all (length gs) merged k))
     ∙ sym (ap (λ sts. map carried (merge_all level (shifted s sts) (pick w.places merged))) nothing)
@@ -157,21 +197,29 @@ moved_by_merges level s e step gs ns h l f stay nothing same =
 pub still_fits : (n : ℕ) → FitsStep n (still_step n)
 still_fits n = (still_moves_merged n).fits
 
-pub still_moved : (level : BufferClusterLevel) (s e : ℕ) (gs ns : List hb_glyph_info_t) → s ≤ e → e ≤ length gs → map carried ns ≡ map carried gs → map carried ns ≡ map carried (run_steps level (map (widened s e (length gs)) (still_step (e - s) ∷ [])) gs)
-still_moved level s e gs ns h l same = moved_by_merges level s e (still_step (e - s)) gs ns h l (still_fits (e - s)) refl refl same
+pub still_moved : (level : BufferClusterLevel) (s e : ℕ) (gs ns : List hb_glyph_info_t) → s ≤ e → e ≤ length gs
+    → map carried ns ≡ map carried gs
+    → map carried ns ≡ map carried (run_steps level (map (widened s e (length gs)) (still_step (e - s) ∷ [])) gs)
+still_moved level s e gs ns h l same =
+    moved_by_merges level s e (still_step (e - s)) gs ns h l (still_fits (e - s)) refl refl same
 
 -- What a body shows that changes its syllable alone, and moves and merges nothing.
-pub record Still (meaning : List hb_glyph_info_t → List hb_glyph_info_t) (steps : List hb_glyph_info_t → List Step) (s e : ℕ) (old new : Buffer) : Type 0 where
+pub record Still (meaning : List hb_glyph_info_t → List hb_glyph_info_t) (steps : List hb_glyph_info_t
+    → List Step) (s e : ℕ) (old new : Buffer) : Type 0 where
   pub in_order : s ≤ e
   pub in_range : e ≤ length old.glyphs
   pub others : but_places new ≡ record (but_places old) { glyphs = new.glyphs }
-  pub still : (steps (stretch_of s e (order_view old.glyphs)) ≡ []) ⊎ (steps (stretch_of s e (order_view old.glyphs)) ≡ still_step (e - s) ∷ [])
+  pub still : (steps (stretch_of s e (order_view old.glyphs)) ≡ [])
+      ⊎ (steps (stretch_of s e (order_view old.glyphs)) ≡ still_step (e - s) ∷ [])
   pub same : map carried new.glyphs ≡ map carried old.glyphs
   pub changed : order_view new.glyphs ≡ with_stretch s e meaning (order_view old.glyphs)
 
-pub reordered_still : (meaning : List hb_glyph_info_t → List hb_glyph_info_t) (steps : List hb_glyph_info_t → List Step) (s e : ℕ) (old new : Buffer) → Still meaning steps s e old new → SyllableReordered meaning steps s e old new
+pub reordered_still : (meaning : List hb_glyph_info_t → List hb_glyph_info_t) (steps : List hb_glyph_info_t
+    → List Step) (s e : ℕ) (old new : Buffer) → Still meaning steps s e old new
+    → SyllableReordered meaning steps s e old new
 reordered_still meaning steps s e old new p =
-    let ran : List Step → List hb_glyph_info_t = λ sts. map carried (run_steps old.level (map (widened s e (length old.glyphs)) sts) old.glyphs) in
+    let ran : List Step → List hb_glyph_info_t =
+    λ sts. map carried (run_steps old.level (map (widened s e (length old.glyphs)) sts) old.glyphs) in
     record {
       others = p.others;
       order = p.changed;
@@ -182,20 +230,26 @@ reordered_still meaning steps s e old new p =
     }
 
 -- a syllable that is left alone
-pub stretch_stays : {X : Type 0} (s e : ℕ) (f : List X → List X) (xs : List X) → s ≤ e → f (stretch_of s e xs) ≡ stretch_of s e xs → with_stretch s e f xs ≡ xs
+pub stretch_stays : {X : Type 0} (s e : ℕ) (f : List X → List X) (xs : List X) → s ≤ e
+    → f (stretch_of s e xs) ≡ stretch_of s e xs → with_stretch s e f xs ≡ xs
 stretch_stays s e f xs h same = ap (λ ys. take s xs ++ (ys ++ drop e xs)) same ∙ three_parts s e xs h
 
 -- a change of the syllable's glyphs that doesn't show, and what it makes of the order view
-pub stretch-carried : (s e : ℕ) (change : List hb_glyph_info_t → List hb_glyph_info_t) (gs : List hb_glyph_info_t) → s ≤ e → map carried (change (stretch_of s e gs)) ≡ map carried (stretch_of s e gs) → map carried (with_stretch s e change gs) ≡ map carried gs
+pub stretch-carried : (s e : ℕ) (change : List hb_glyph_info_t → List hb_glyph_info_t) (gs : List hb_glyph_info_t)
+    → s ≤ e → map carried (change (stretch_of s e gs)) ≡ map carried (stretch_of s e gs)
+    → map carried (with_stretch s e change gs) ≡ map carried gs
 stretch-carried s e change gs h same =
     let a = take s gs in
     let c = drop e gs in
     map-append carried a (change (stretch_of s e gs) ++ c)
-    ∙ ap (λ ys. map carried a ++ ys) (map-append carried (change (stretch_of s e gs)) c ∙ ap (λ ys. ys ++ map carried c) same ∙ sym (map-append carried (stretch_of s e gs) c))
+    ∙ ap (λ ys. map carried a ++ ys) (map-append carried (change (stretch_of s e gs)) c
+    ∙ ap (λ ys. ys ++ map carried c) same ∙ sym (map-append carried (stretch_of s e gs) c))
     ∙ sym (map-append carried a (stretch_of s e gs ++ c))
     ∙ ap (map carried) (three_parts s e gs h)
 
-pub stretch-viewed : (s e : ℕ) (change meant : List hb_glyph_info_t → List hb_glyph_info_t) (gs : List hb_glyph_info_t) → order_view (change (stretch_of s e gs)) ≡ meant (order_view (stretch_of s e gs)) → order_view (with_stretch s e change gs) ≡ with_stretch s e meant (order_view gs)
+pub stretch-viewed : (s e : ℕ) (change meant : List hb_glyph_info_t → List hb_glyph_info_t) (gs : List hb_glyph_info_t)
+    → order_view (change (stretch_of s e gs)) ≡ meant (order_view (stretch_of s e gs))
+    → order_view (with_stretch s e change gs) ≡ with_stretch s e meant (order_view gs)
 stretch-viewed s e change meant gs same =
     let a = take s gs in
     let b = change (stretch_of s e gs) in
@@ -211,5 +265,8 @@ pub old_places_one : (n : ℕ) (step : Step) → FitsStep n step → old_places 
 old_places_one n step f = picked_range n step.places f.within
 
 -- a law of the meaning from what one step picks of what shows
-pub agrees_by_places : (step : Step) (gs ms : List hb_glyph_info_t) → FitsStep (length gs) step → seen carried ms ≡ pick step.places (seen carried gs) → seen carried ms ≡ pick (old_places (length gs) (step ∷ [])) (seen carried gs)
-agrees_by_places step gs ms f same = same ∙ ap (λ ps. pick ps (seen carried gs)) (sym (old_places_one (length gs) step f))
+pub agrees_by_places : (step : Step) (gs ms : List hb_glyph_info_t) → FitsStep (length gs) step
+    → seen carried ms ≡ pick step.places (seen carried gs)
+    → seen carried ms ≡ pick (old_places (length gs) (step ∷ [])) (seen carried gs)
+agrees_by_places step gs ms f same =
+    same ∙ ap (λ ps. pick ps (seen carried gs)) (sym (old_places_one (length gs) step f))

@@ -20,12 +20,38 @@ use Rattle.shapers_syllabic.specs.ReorderingLaws.{paused_carried, paused_order}
 
 -- what is carried along, and what is hidden, field by field
 abbrev full : hb_glyph_info_t
-full = record { glyph_id = 0x916; cluster = 5; mask = 0x1F; var = 0x7A; syllable = 0x24; category = 1; auxiliary = 3; general_category = Mn; modified_combining_class = 9; lig_comp = 2; marks = record { 0 = 31 } }
+full = record {
+  glyph_id = 0x916;
+  cluster = 5;
+  mask = 0x1F;
+  var = 0x7A;
+  syllable = 0x24;
+  category = 1;
+  auxiliary = 3;
+  general_category = Mn;
+  modified_combining_class = 9;
+  lig_comp = 2;
+  marks = record { 0 = 31 };
+}
 
-carried_full : carried full ≡ record { glyph_id = 0x916; cluster = 5; mask = 7; var = 0x7A; syllable = 0x24; category = 0; auxiliary = 0; general_category = Mn; modified_combining_class = 9; lig_comp = 2; marks = record { 0 = 0 } }
+carried_full : carried full
+    ≡ record {
+      glyph_id = 0x916;
+      cluster = 5;
+      mask = 7;
+      var = 0x7A;
+      syllable = 0x24;
+      category = 0;
+      auxiliary = 0;
+      general_category = Mn;
+      modified_combining_class = 9;
+      lig_comp = 2;
+      marks = record { 0 = 0 };
+    }
 carried_full = refl
 
-carried_masks : map (λ m. (carried (record full { mask = m })).mask) (0 ∷ 1 ∷ 2 ∷ 4 ∷ 7 ∷ 8 ∷ 9 ∷ 16 ∷ 0x7FFFFFFF ∷ 0x80000000 ∷ []) ≡ 0 ∷ 1 ∷ 2 ∷ 4 ∷ 7 ∷ 0 ∷ 1 ∷ 0 ∷ 7 ∷ 0 ∷ []
+carried_masks : map (λ m. (carried (record full { mask = m })).mask) (0 ∷ 1 ∷ 2 ∷ 4 ∷ 7 ∷ 8 ∷ 9 ∷ 16 ∷ 0x7FFFFFFF
+    ∷ 0x80000000 ∷ []) ≡ 0 ∷ 1 ∷ 2 ∷ 4 ∷ 7 ∷ 0 ∷ 1 ∷ 0 ∷ 7 ∷ 0 ∷ []
 carried_masks = refl
 
 carried_default : carried default_glyph ≡ default_glyph
@@ -69,7 +95,8 @@ takes_not_the_last all = omega (arith, all.1.1.0)
 abbrev noted : ℕ → ℕ → Buffer → Buffer → Type 0
 noted s e old new = new ≡ record old { max_len = old.max_len * 100 + (s * 10 + e) }
 
-chain_of_three : SyllablesLinked noted (record (new_buffer 0) { glyphs = three; places = 7 ∷ [] }) (record (new_buffer 22336) { glyphs = three })
+chain_of_three : SyllablesLinked noted (record (new_buffer 0) { glyphs = three; places = 7 ∷ [] })
+    (record (new_buffer 22336) { glyphs = three })
 chain_of_three =
     let at : ℕ → Buffer = λ n. record (new_buffer n) { glyphs = three; places = 7 ∷ [] } in
     (at 2, refl, (at 223, refl, (at 22336, refl, refl)))
@@ -92,29 +119,48 @@ order_of_nothing = refl
 
 -- a syllable that merges whole and turns backwards; the same merging its first two places once more then
 abbrev turned : List hb_glyph_info_t → List Step
-turned syl = record { merged_first = (0, length syl) ∷ []; places = reverse (range_with_len 0 (length syl)); merged_then = [] } ∷ []
+turned syl = record {
+  merged_first = (0, length syl) ∷ [];
+  places = reverse (range_with_len 0 (length syl));
+  merged_then
+      = [];
+} ∷ []
 
 abbrev turned_twice : List hb_glyph_info_t → List Step
-turned_twice syl = record { merged_first = []; places = reverse (range_with_len 0 (length syl)); merged_then = (0, 2) ∷ [] } ∷ turned syl
+turned_twice syl =
+    record { merged_first = []; places = reverse (range_with_len 0 (length syl)); merged_then = (0, 2) ∷ [] }
+    ∷ turned syl
 
-steps_of_text : text_steps turned three ≡ record { merged_first = (0, 2) ∷ []; places = 1 ∷ 0 ∷ 2 ∷ 3 ∷ 4 ∷ 5 ∷ []; merged_then = [] } ∷ record { merged_first = (2, 3) ∷ []; places = 0 ∷ 1 ∷ 2 ∷ 3 ∷ 4 ∷ 5 ∷ []; merged_then = [] } ∷ record { merged_first = (3, 6) ∷ []; places = 0 ∷ 1 ∷ 2 ∷ 5 ∷ 4 ∷ 3 ∷ []; merged_then = [] } ∷ []
+steps_of_text : text_steps turned three
+    ≡ record { merged_first = (0, 2) ∷ []; places = 1 ∷ 0 ∷ 2 ∷ 3 ∷ 4 ∷ 5 ∷ []; merged_then = [] }
+    ∷ record { merged_first = (2, 3) ∷ []; places = 0 ∷ 1 ∷ 2 ∷ 3 ∷ 4 ∷ 5 ∷ []; merged_then = [] }
+    ∷ record { merged_first = (3, 6) ∷ []; places = 0 ∷ 1 ∷ 2 ∷ 5 ∷ 4 ∷ 3 ∷ []; merged_then = [] } ∷ []
 steps_of_text = refl
 
-steps_in_their_order : text_steps turned_twice (text ((1, 0, 0x20) ∷ (2, 1, 0x10) ∷ (3, 2, 0x10) ∷ [])) ≡ record { merged_first = []; places = 0 ∷ 1 ∷ 2 ∷ []; merged_then = (0, 2) ∷ [] } ∷ record { merged_first = (0, 1) ∷ []; places = 0 ∷ 1 ∷ 2 ∷ []; merged_then = [] } ∷ record { merged_first = []; places = 0 ∷ 2 ∷ 1 ∷ []; merged_then = (1, 3) ∷ [] } ∷ record { merged_first = (1, 3) ∷ []; places = 0 ∷ 2 ∷ 1 ∷ []; merged_then = [] } ∷ []
+steps_in_their_order : text_steps turned_twice (text ((1, 0, 0x20) ∷ (2, 1, 0x10) ∷ (3, 2, 0x10) ∷ []))
+    ≡ record { merged_first = []; places = 0 ∷ 1 ∷ 2 ∷ []; merged_then = (0, 2) ∷ [] }
+    ∷ record { merged_first = (0, 1) ∷ []; places = 0 ∷ 1 ∷ 2 ∷ []; merged_then = [] }
+    ∷ record { merged_first = []; places = 0 ∷ 2 ∷ 1 ∷ []; merged_then = (1, 3) ∷ [] }
+    ∷ record { merged_first = (1, 3) ∷ []; places = 0 ∷ 2 ∷ 1 ∷ []; merged_then = [] } ∷ []
 steps_in_their_order = refl
 
 steps_of_nothing : text_steps turned [] ≡ []
 steps_of_nothing = refl
 
 -- where the steps lead, at a level that merges and at one that doesn't
-steps_lead : map (λ g. let row : ℕ × ℕ × ℕ = (g.glyph_id, g.cluster, g.mask) in row) (run_steps MonotoneGraphemes (text_steps turned three) three) ≡ (2, 0, 8) ∷ (1, 0, 9) ∷ (3, 2, 9) ∷ (6, 3, 8) ∷ (5, 3, 8) ∷ (4, 3, 9) ∷ []
+steps_lead : map (λ g. let row : ℕ × ℕ × ℕ = (g.glyph_id, g.cluster, g.mask) in row)
+    (run_steps MonotoneGraphemes (text_steps turned three) three) ≡ (2, 0, 8) ∷ (1, 0, 9) ∷ (3, 2, 9) ∷ (6, 3, 8)
+    ∷ (5, 3, 8) ∷ (4, 3, 9) ∷ []
 steps_lead = refl
 
 steps_move : clusters (run_steps Characters (text_steps turned three) three) ≡ 1 ∷ 0 ∷ 2 ∷ 5 ∷ 4 ∷ 3 ∷ []
 steps_move = refl
 
 -- syllables of equal clusters merge across their border
-steps_across : clusters (run_steps MonotoneGraphemes (text_steps turned (text ((1, 0, 0x10) ∷ (2, 2, 0x20) ∷ (3, 2, 0x30) ∷ (4, 1, 0x30) ∷ []))) (text ((1, 0, 0x10) ∷ (2, 2, 0x20) ∷ (3, 2, 0x30) ∷ (4, 1, 0x30) ∷ []))) ≡ 0 ∷ 1 ∷ 1 ∷ 1 ∷ []
+steps_across : clusters
+    (run_steps MonotoneGraphemes
+    (text_steps turned (text ((1, 0, 0x10) ∷ (2, 2, 0x20) ∷ (3, 2, 0x30) ∷ (4, 1, 0x30) ∷ [])))
+    (text ((1, 0, 0x10) ∷ (2, 2, 0x20) ∷ (3, 2, 0x30) ∷ (4, 1, 0x30) ∷ []))) ≡ 0 ∷ 1 ∷ 1 ∷ 1 ∷ []
 steps_across = refl
 
 -- a whole pause: circles first, and then the order of the circled syllables
@@ -130,7 +176,9 @@ pause_order = refl
 pause_order_without : glyph_numbers (paused_order None reverse broken) ≡ 2 ∷ 1 ∷ 3 ∷ []
 pause_order_without = refl
 
-pause_carried : map (λ g. let row : ℕ × ℕ × ℕ × ℕ = (g.glyph_id, g.cluster, g.mask, g.category) in row) (paused_carried (Some circles) turned MonotoneGraphemes broken) ≡ (2, 0, 0, 0) ∷ (1, 0, 1, 0) ∷ (7, 0, 1, 0) ∷ (3, 2, 1, 0) ∷ []
+pause_carried : map (λ g. let row : ℕ × ℕ × ℕ × ℕ = (g.glyph_id, g.cluster, g.mask, g.category) in row)
+    (paused_carried (Some circles) turned MonotoneGraphemes broken) ≡ (2, 0, 0, 0) ∷ (1, 0, 1, 0) ∷ (7, 0, 1, 0)
+    ∷ (3, 2, 1, 0) ∷ []
 pause_carried = refl
 
 -- texts that meet at a border: other bytes at the cut, or nothing on one side; and two that don't
@@ -150,10 +198,12 @@ no_border meets = meets (omega arith) (omega arith) refl
 unnumbered_full : unnumbered full ≡ record full { syllable = 4 }
 unnumbered_full = refl
 
-unnumbered_bytes : map (λ byte. (unnumbered (record full { syllable = byte })).syllable) (0 ∷ 0x0F ∷ 0x10 ∷ 0x14 ∷ 0xF4 ∷ 0xFF ∷ []) ≡ 0 ∷ 15 ∷ 0 ∷ 4 ∷ 4 ∷ 15 ∷ []
+unnumbered_bytes : map (λ byte. (unnumbered (record full { syllable = byte })).syllable) (0 ∷ 0x0F ∷ 0x10 ∷ 0x14 ∷ 0xF4
+    ∷ 0xFF ∷ []) ≡ 0 ∷ 15 ∷ 0 ∷ 4 ∷ 4 ∷ 15 ∷ []
 unnumbered_bytes = refl
 
-other_serials : SameButSerials (text ((1, 0, 0x14) ∷ (2, 0, 0x20) ∷ (3, 0, 0x20) ∷ [])) (text ((1, 0, 0xF4) ∷ (2, 0, 0x10) ∷ (3, 0, 0x10) ∷ []))
+other_serials : SameButSerials (text ((1, 0, 0x14) ∷ (2, 0, 0x20) ∷ (3, 0, 0x20) ∷ []))
+    (text ((1, 0, 0xF4) ∷ (2, 0, 0x10) ∷ (3, 0, 0x10) ∷ []))
 other_serials = refl
 
 other_kinds : SameButSerials (text ((1, 0, 0x14) ∷ [])) (text ((1, 0, 0x15) ∷ [])) → ⊥
@@ -162,14 +212,19 @@ other_kinds same = absurd (omega (arith, ap (λ ps. slice_index (map (λ g. g.sy
 other_cut : SameButSerials (text ((1, 0, 0x14) ∷ (2, 0, 0x14) ∷ [])) (text ((1, 0, 0x14) ∷ (2, 0, 0x24) ∷ [])) → ⊥
 other_cut same = absurd (omega (arith, ap length same))
 
--- spans of two glyphs, one and two, set up whole and in halves: the second half has other serials, and nothing else differs
+-- spans of two glyphs, one and two, set up whole and in halves: the second half has other serials,
+-- and nothing else differs
 abbrev spans_of : List (ℕ × ℕ) → List Span
 spans_of rows = map (λ row. let span : Span = record { len = row.0; kind = row.1 } in span) rows
 
 abbrev set_up_of : List (ℕ × ℕ) → List ℕ → List (ℕ × ℕ × ℕ)
-set_up_of spans cs = map (λ g. let row : ℕ × ℕ × ℕ = (g.cluster, g.syllable, g.mask) in row) (spans_set_up (spans_of spans) 4 (record (new_buffer 100) { glyphs = map (λ c. record default_glyph { cluster = c }) cs })).glyphs
+set_up_of spans cs =
+    map (λ g. let row : ℕ × ℕ × ℕ = (g.cluster, g.syllable, g.mask) in row)
+    (spans_set_up (spans_of spans) 4
+    (record (new_buffer 100) { glyphs = map (λ c. record default_glyph { cluster = c }) cs })).glyphs
 
-set_up_whole : set_up_of ((2, 0) ∷ (1, 4) ∷ (2, 1) ∷ []) (0 ∷ 1 ∷ 2 ∷ 3 ∷ 4 ∷ []) ≡ (0, 0x10, 0) ∷ (1, 0x10, 3) ∷ (2, 0x24, 0) ∷ (3, 0x31, 0) ∷ (4, 0x31, 3) ∷ []
+set_up_whole : set_up_of ((2, 0) ∷ (1, 4) ∷ (2, 1) ∷ []) (0 ∷ 1 ∷ 2 ∷ 3 ∷ 4 ∷ []) ≡ (0, 0x10, 0) ∷ (1, 0x10, 3)
+    ∷ (2, 0x24, 0) ∷ (3, 0x31, 0) ∷ (4, 0x31, 3) ∷ []
 set_up_whole = refl
 
 set_up_first : set_up_of ((2, 0) ∷ (1, 4) ∷ []) (0 ∷ 1 ∷ 2 ∷ []) ≡ (0, 0x10, 0) ∷ (1, 0x10, 3) ∷ (2, 0x24, 0) ∷ []
@@ -183,9 +238,21 @@ abbrev script : ScriptCircles
 script = record { broken_kind = 4; category = 11; repha = Some 14; position = Some 3 }
 
 abbrev font_of : Option GlyphId → Font
-font_of glyph = record { nominal = λ c. (if c == 0x25CC then glyph else None); advance = λ g. pos 0; applies = λ lookup gs context. false; offers = λ tag. false }
+font_of glyph =
+    record {
+      nominal = λ c. (if c == 0x25CC then glyph else None);
+      advance = λ g. pos 0;
+      applies = λ lookup gs context.
+          false;
+      offers = λ tag. false;
+    }
 
-circles_wanted : script_circles script (font_of (Some (record { 0 = 7 }))) (record (new_buffer 9) { broken = true }) ≡ Some (record { broken_kind = 4; circle = record default_glyph { glyph_id = 7; category = 11; auxiliary = 3 }; repha = Some 14 })
+circles_wanted : script_circles script (font_of (Some (record { 0 = 7 }))) (record (new_buffer 9) { broken = true })
+    ≡ Some (record {
+      broken_kind = 4;
+      circle = record default_glyph { glyph_id = 7; category = 11; auxiliary = 3 };
+      repha = Some 14;
+    })
 circles_wanted = refl
 
 circles_without_broken : script_circles script (font_of (Some (record { 0 = 7 }))) (new_buffer 9) ≡ None
@@ -204,5 +271,6 @@ kind_unknown = refl
 kinds_all_known : kind_refusal None (text ((1, 0, 0x1F) ∷ [])) ≡ None
 kinds_all_known = refl
 
-kind_at_once : map (λ last. first_unknown (Some last) (text ((1, 0, 0x12) ∷ (2, 0, 0x12) ∷ (3, 0, 0x21) ∷ []))) (0 ∷ 1 ∷ 2 ∷ []) ≡ Some 0 ∷ Some 0 ∷ None ∷ []
+kind_at_once : map (λ last. first_unknown (Some last) (text ((1, 0, 0x12) ∷ (2, 0, 0x12) ∷ (3, 0, 0x21) ∷ [])))
+    (0 ∷ 1 ∷ 2 ∷ []) ≡ Some 0 ∷ Some 0 ∷ None ∷ []
 kind_at_once = refl

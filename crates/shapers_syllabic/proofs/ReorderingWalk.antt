@@ -25,7 +25,8 @@ abbrev pub pieces_of : (List hb_glyph_info_t → List Step) → List (List hb_gl
 pieces_of steps pieces = map (λ syl. (length syl, steps syl)) pieces
 
 -- a syllable has as many glyphs after
-pub length-meaning : (meaning : List hb_glyph_info_t → List hb_glyph_info_t) (steps : List hb_glyph_info_t → List Step) → ReorderLaws meaning steps → (gs : List hb_glyph_info_t) → length (meaning gs) ≡ length gs
+pub length-meaning : (meaning : List hb_glyph_info_t → List hb_glyph_info_t) (steps : List hb_glyph_info_t → List Step)
+    → ReorderLaws meaning steps → (gs : List hb_glyph_info_t) → length (meaning gs) ≡ length gs
 length-meaning meaning steps laws gs =
     let olds = old_places (length gs) (steps gs) in
     let n : length (seen carried gs) ≡ length gs = length-map gs (λ g. plain (carried g)) in
@@ -36,7 +37,8 @@ length-meaning meaning steps laws gs =
     ∙ length-old_places (length gs) (steps gs) (laws.fits gs)
 
 -- the first syllable, seen in the order view
-prefix-view : (byte : ℕ) (gs : List hb_glyph_info_t) → prefix_len (has_byte byte) (order_view gs) ≡ prefix_len (has_byte byte) gs
+prefix-view : (byte : ℕ) (gs : List hb_glyph_info_t) → prefix_len (has_byte byte) (order_view gs)
+    ≡ prefix_len (has_byte byte) gs
 prefix-view byte [] = refl
 prefix-view byte (g ∷ gs) = ap (λ n. cond (g.syllable == byte) (1 + n) 0) (prefix-view byte gs)
 
@@ -54,5 +56,10 @@ first_len-within [] = omega arith
 first_len-within (g ∷ gs) = omega (arith, prefix_len-le-length (has_byte g.syllable) gs)
 
 -- a buffer with its circles, and then reordered
-pub pause_reordered : (circles : Option DottedCircles) (meaning : Option Script → List hb_glyph_info_t → List hb_glyph_info_t) (steps : Option Script → List hb_glyph_info_t → List Step) (old opened new : Buffer) → opened ≡ record old { glyphs = circled circles old.glyphs } → SyllablesReordered (meaning opened.script) (steps opened.script) opened new → PauseReordered circles (meaning old.script) (steps old.script) old new
-pause_reordered circles meaning steps old opened new is done = subst (λ (b : Buffer). SyllablesReordered (meaning b.script) (steps b.script) b new) is done
+pub pause_reordered : (circles : Option DottedCircles) (meaning : Option Script → List hb_glyph_info_t
+    → List hb_glyph_info_t) (steps : Option Script → List hb_glyph_info_t → List Step) (old opened new : Buffer)
+    → opened ≡ record old { glyphs = circled circles old.glyphs }
+    → SyllablesReordered (meaning opened.script) (steps opened.script) opened new
+    → PauseReordered circles (meaning old.script) (steps old.script) old new
+pause_reordered circles meaning steps old opened new is done =
+    subst (λ (b : Buffer). SyllablesReordered (meaning b.script) (steps b.script) b new) is done

@@ -8,26 +8,32 @@ use Rattle.shapers_buffer.specs.Syllables.{first_syllable_len, syllables}
 use Rattle.shapers_buffer.proofs.SyllableLaws.{syllables_are_runs}
 
 -- a text, and one from place s on, by its first syllable
-by_first : (gs : List hb_glyph_info_t) (n : ℕ) → 0 < length gs → n ≡ first_syllable_len gs → syllables gs ≡ take n gs ∷ syllables (drop n gs)
+by_first : (gs : List hb_glyph_info_t) (n : ℕ) → 0 < length gs → n ≡ first_syllable_len gs
+    → syllables gs ≡ take n gs ∷ syllables (drop n gs)
 by_first [] n some is = absurd (omega arith)
 by_first (g ∷ gs) n some is = rw is (syllables_are_runs g gs)
 
-pub syllables_from : (s n : ℕ) (gs : List hb_glyph_info_t) → 0 < length (drop s gs) → n ≡ first_syllable_len (drop s gs) → syllables (drop s gs) ≡ take n (drop s gs) ∷ syllables (drop (s + n) gs)
-syllables_from s n gs some is = by_first (drop s gs) n some is ∙ ap (λ xs. take n (drop s gs) ∷ syllables xs) (drop-drop n s gs)
+pub syllables_from : (s n : ℕ) (gs : List hb_glyph_info_t) → 0 < length (drop s gs) → n ≡ first_syllable_len (drop s gs)
+    → syllables (drop s gs) ≡ take n (drop s gs) ∷ syllables (drop (s + n) gs)
+syllables_from s n gs some is = by_first (drop s gs) n some is
+    ∙ ap (λ xs. take n (drop s gs) ∷ syllables xs) (drop-drop n s gs)
 
 -- a changed stretch of the same length: what stands up to its end, and behind it
-pub record Changed (f : List hb_glyph_info_t → List hb_glyph_info_t) (s e : ℕ) (gs hs : List hb_glyph_info_t) : Type 0 where
+pub record Changed (f : List hb_glyph_info_t → List hb_glyph_info_t) (s e : ℕ) (gs hs : List hb_glyph_info_t) : Type
+    0 where
   pub before : take e hs ≡ take s gs ++ f (stretch_of s e gs)
   pub behind : drop e hs ≡ drop e gs
 
-pub changed_stretch : (f : List hb_glyph_info_t → List hb_glyph_info_t) (s e : ℕ) (gs hs : List hb_glyph_info_t) → s ≤ e → e ≤ length gs → hs ≡ with_stretch s e f gs → length hs ≡ length gs → Changed f s e gs hs
+pub changed_stretch : (f : List hb_glyph_info_t → List hb_glyph_info_t) (s e : ℕ) (gs hs : List hb_glyph_info_t) → s ≤ e
+    → e ≤ length gs → hs ≡ with_stretch s e f gs → length hs ≡ length gs → Changed f s e gs hs
 changed_stretch f s e gs hs order inside is as_long =
     let a = take s gs in
     let b = f (stretch_of s e gs) in
     let c = drop e gs in
     let whole : length (a ++ (b ++ c)) ≡ length gs = ap length (sym is) ∙ as_long in
     let an : length a ≡ s = length-take-le s gs (omega arith) in
-    let long : length (a ++ b) ≡ e = omega (arith, length-append a (b ++ c), length-append b c, length-append a b, length-drop e gs) in
+    let long : length (a ++ b) ≡ e =
+    omega (arith, length-append a (b ++ c), length-append b c, length-append a b, length-drop e gs) in
     let split : hs ≡ (a ++ b) ++ c = is ∙ sym (append_assoc a b c) in
     record {
       before = ap (take e) split ∙ take_at (a ++ b) c e long;
@@ -35,7 +41,10 @@ changed_stretch f s e gs hs order inside is as_long =
     }
 
 -- after one syllable
-pub change_next : (f : List hb_glyph_info_t → List hb_glyph_info_t) (s e : ℕ) (gs hs : List hb_glyph_info_t) → s < length gs → e ≡ s + first_syllable_len (drop s gs) → e ≤ length gs → hs ≡ with_stretch s e f gs → length hs ≡ length gs → take e hs ++ flat_map f (syllables (drop e hs)) ≡ take s gs ++ flat_map f (syllables (drop s gs))
+pub change_next : (f : List hb_glyph_info_t → List hb_glyph_info_t) (s e : ℕ) (gs hs : List hb_glyph_info_t)
+    → s < length gs → e ≡ s + first_syllable_len (drop s gs) → e ≤ length gs → hs ≡ with_stretch s e f gs
+    → length hs ≡ length gs → take e hs ++ flat_map f (syllables (drop e hs))
+    ≡ take s gs ++ flat_map f (syllables (drop s gs))
 change_next f s e gs hs some is inside changed as_long =
     let n = first_syllable_len (drop s gs) in
     let step = changed_stretch f s e gs hs (omega arith) inside changed as_long in
@@ -44,5 +53,6 @@ change_next f s e gs hs some is inside changed as_long =
     ap (λ xs. xs ++ flat_map f (syllables (drop e hs))) step.before
     ∙ append_assoc (take s gs) (f (stretch_of s e gs)) (flat_map f (syllables (drop e hs)))
     ∙ ap (λ k. take s gs ++ (f (take k (drop s gs)) ++ flat_map f (syllables (drop e hs)))) size
-    ∙ ap (λ xs. take s gs ++ (f (take n (drop s gs)) ++ flat_map f (syllables xs))) (step.behind ∙ ap (λ k. drop k gs) is)
+    ∙ ap (λ xs. take s gs ++ (f (take n (drop s gs)) ++ flat_map f (syllables xs))) (step.behind
+    ∙ ap (λ k. drop k gs) is)
     ∙ sym (ap (λ ps. take s gs ++ flat_map f ps) first)

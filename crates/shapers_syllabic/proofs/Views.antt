@@ -10,7 +10,11 @@ pub record View : Type 0 where
   pub in_syllables : ℕ → ℕ
 
 abbrev pub shown : View → hb_glyph_info_t → hb_glyph_info_t
-shown v g = record g { cluster = v.in_clusters g.cluster; mask = v.in_masks g.mask; syllable = v.in_syllables g.syllable }
+shown v g = record g {
+  cluster = v.in_clusters g.cluster;
+  mask = v.in_masks g.mask;
+  syllable = v.in_syllables g.syllable;
+}
 
 -- a list in that view
 abbrev pub seen_by : View → List hb_glyph_info_t → List hb_glyph_info_t

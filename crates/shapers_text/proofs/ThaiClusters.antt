@@ -28,14 +28,21 @@ use Rattle.shapers_text.proofs.ThaiFormWalks.{forms_hold}
 
 -- but for what the rewriting changes, a NIKHAHIT is the SARA AM that it comes of
 unnamed_nikhahit : (am : hb_glyph_info_t) → without_name (nikhahit am) ≡ without_name am
-unnamed_nikhahit am = ap (λ marks. let g : hb_glyph_info_t = record am { glyph_id = 0; general_category = Cc; marks = marks } in g) (cleared_after_set CONTINUATION am.marks refl)
+unnamed_nikhahit am =
+    ap (λ marks. let g : hb_glyph_info_t = record am { glyph_id = 0; general_category = Cc; marks = marks } in g)
+    (cleared_after_set CONTINUATION am.marks refl)
 
 -- the rule on made glyphs: what comes of a SARA AM comes of its place
 abbrev made_in_two : (gs : List hb_glyph_info_t) → SaraAmRule (Made without_name gs)
-made_in_two gs = read_by (λ m. m.glyph) (λ m. record m { glyph = nikhahit m.glyph; same = unnamed_nikhahit m.glyph ∙ m.same }) (λ m. record m { glyph = sara_aa m.glyph; same = m.same }) glyph_rule
+made_in_two gs =
+    read_by (λ m. m.glyph) (λ m. record m { glyph = nikhahit m.glyph; same = unnamed_nikhahit m.glyph ∙ m.same })
+    (λ m. record m { glyph = sara_aa m.glyph; same = m.same }) glyph_rule
 
 -- a SARA AM with marks merges with them, and that stretch holds together what comes of them
-shares : (level : BufferClusterLevel) (us cs js : List ℕ) → ClustersMade level (sara_am_stretches level us) (sara_am_sources us) cs js → merges level ≡ true → (xs : List ℕ) (u : ℕ) (ys : List ℕ) → us ≡ xs ++ u ∷ ys → is_sara_am u ≡ true → ShareCluster js (new_place xs) (new_place xs + suffix_len is_above_base xs)
+shares : (level : BufferClusterLevel) (us cs js : List ℕ)
+    → ClustersMade level (sara_am_stretches level us) (sara_am_sources us) cs js → merges level ≡ true
+    → (xs : List ℕ) (u : ℕ) (ys : List ℕ) → us ≡ xs ++ u ∷ ys → is_sara_am u ≡ true
+    → ShareCluster js (new_place xs) (new_place xs + suffix_len is_above_base xs)
 shares level us cs js made m xs u ys split is_am =
     let n = length xs in
     let w = suffix_len is_above_base xs in
@@ -44,11 +51,16 @@ shares level us cs js made m xs u ys split is_am =
     let P : ℕ → Type 0 = λ p. (n - w ≤ p) × (p < n + 1) in
     let (behind, parts) = sources_at xs u ys is_am in
     let long = length-range_with_len (n - w) w in
-    let merged : 0 < w → Contains (stretches_at level n u w) st = λ some. let test = lt-ltb 0 w some in rw (is_am, test) (0, omega arith, refl) in
+    let merged : 0 < w → Contains (stretches_at level n u w) st = λ some. let test =
+    lt-ltb 0 w some in rw (is_am, test) (0, omega arith, refl) in
     part_shares made m st (sara_am_sources (before_last_run is_above_base xs)) (n ∷ range_with_len (n - w) w) behind
-    (λ some. subst (λ vs. Contains (sara_am_stretches level vs) st) (sym split) (Contains-flat_map _ (each_after [] (xs ++ u ∷ ys)) (xs, u) st (Contains-each_after [] xs u ys) (merged (omega arith))))
+    (λ some. subst (λ vs. Contains (sara_am_stretches level vs) st) (sym split)
+    (Contains-flat_map _ (each_after [] (xs ++ u ∷ ys)) (xs, u) st (Contains-each_after [] xs u ys)
+    (merged (omega arith))))
     (ap sara_am_sources split ∙ parts)
-    (All-cons P n (range_with_len (n - w) w) (omega arith, omega arith) (All-from_recursion P (range_with_len (n - w) w) (all-range P (n - w) w (λ p low high. (omega arith, omega arith)))))
+    (All-cons P n (range_with_len (n - w) w) (omega arith, omega arith)
+    (All-from_recursion P (range_with_len (n - w) w)
+    (all-range P (n - w) w (λ p low high. (omega arith, omega arith)))))
     (new_place xs) (new_place xs + w) refl (omega arith)
 
 -- the rule makes the glyphs of the result, and their places are the sources
@@ -59,23 +71,43 @@ in_two_holds level gs =
     let ms = merge_all level sts gs in
     let standing = all_standing without_name ms in
     let made = in_two (made_in_two ms) standing in
-    let glyphs : map (λ m. m.glyph) made ≡ glyphs_in_two ms = in_two-map (λ m. m.glyph) _ _ glyph_rule (λ m. refl) (λ m. refl) standing ∙ ap glyphs_in_two (glyphs-standing without_name ms) in
-    let numbered = numbered-standing (λ g. g.glyph_id) without_name ms ∙ ap (enumerate_from 0) (characters-merge_all level sts gs) in
-    let pairs : map (λ m. (m.place, m.glyph.glyph_id)) made ≡ in_two place_rule (enumerate_from 0 us) = in_two-map (λ m. (m.place, m.glyph.glyph_id)) _ _ place_rule (λ m. refl) (λ m. refl) standing ∙ ap (in_two place_rule) numbered in
+    let glyphs : map (λ m. m.glyph) made ≡ glyphs_in_two ms =
+    in_two-map (λ m. m.glyph) _ _ glyph_rule (λ m. refl) (λ m. refl) standing
+    ∙ ap glyphs_in_two (glyphs-standing without_name ms) in
+    let numbered = numbered-standing (λ g. g.glyph_id) without_name ms
+    ∙ ap (enumerate_from 0) (characters-merge_all level sts gs) in
+    let pairs : map (λ m. (m.place, m.glyph.glyph_id)) made ≡ in_two place_rule (enumerate_from 0 us) =
+    in_two-map (λ m. (m.place, m.glyph.glyph_id)) _ _ place_rule (λ m. refl) (λ m. refl) standing
+    ∙ ap (in_two place_rule) numbered in
     let places = sym (map-map (λ p. p.0) (λ m. (m.place, m.glyph.glyph_id)) made) ∙ ap (map (λ p. p.0)) pairs in
-    let (same, h) = made_hold_by without_name (record { cluster = λ g. refl; flags = λ g. refl }) level sts (sara_am_sources us) gs (glyphs_in_two ms) (stretches_within level gs) made places glyphs in
+    let (same, h) =
+    made_hold_by without_name (record { cluster = λ g. refl; flags = λ g. refl }) level sts (sara_am_sources us)
+    gs (glyphs_in_two ms) (stretches_within level gs) made places glyphs in
     record {
       made = same;
       kept = (kept glyph_rule ms).whole;
-      in_clusters = record { made = h.clusters_made; none_lost = none_lost us; cluster_law = shares level us (clusters gs) (clusters (glyphs_in_two ms)) h.clusters_made };
+      in_clusters =
+          record {
+            made = h.clusters_made;
+            none_lost = none_lost us;
+            cluster_law = shares level us (clusters gs)
+                (clusters (glyphs_in_two ms)) h.clusters_made;
+          };
       falls = h.falls;
     }
 
 -- the whole hook: its forms leave the clusters
-pub plain_in_two : (level : BufferClusterLevel) (gs text : List hb_glyph_info_t) → text ≡ preprocessed_text false (λ _. false) level gs → ClustersInTwo level (characters gs) (clusters gs) (clusters text)
-plain_in_two level gs text is = subst (λ xs. ClustersInTwo level (characters gs) (clusters gs) (clusters xs)) (sym is) (in_two_holds level gs).in_clusters
+pub plain_in_two : (level : BufferClusterLevel) (gs text : List hb_glyph_info_t)
+    → text ≡ preprocessed_text false (λ _. false) level gs
+    → ClustersInTwo level (characters gs) (clusters gs) (clusters text)
+plain_in_two level gs text is =
+    subst (λ xs. ClustersInTwo level (characters gs) (clusters gs) (clusters xs)) (sym is)
+    (in_two_holds level gs).in_clusters
 
-pub shaped_in_two : (has : ℕ → Bool) (level : BufferClusterLevel) (gs text shaped : List hb_glyph_info_t) → text ≡ preprocessed_text false has level gs → shaped ≡ pua_shaped has text → ClustersInTwo level (characters gs) (clusters gs) (clusters shaped)
+pub shaped_in_two : (has : ℕ → Bool) (level : BufferClusterLevel) (gs text shaped : List hb_glyph_info_t)
+    → text ≡ preprocessed_text false has level gs → shaped ≡ pua_shaped has text
+    → ClustersInTwo level (characters gs) (clusters gs) (clusters shaped)
 shaped_in_two has level gs text shaped is forms =
-    let same : clusters shaped ≡ clusters (preprocessed_text false has level gs) = ap clusters (forms ∙ ap (pua_shaped has) is) ∙ (forms_hold has level gs).clusters_stay in
+    let same : clusters shaped ≡ clusters (preprocessed_text false has level gs) =
+    ap clusters (forms ∙ ap (pua_shaped has) is) ∙ (forms_hold has level gs).clusters_stay in
     subst (ClustersInTwo level (characters gs) (clusters gs)) (sym same) (in_two_holds level gs).in_clusters

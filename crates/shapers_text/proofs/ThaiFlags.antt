@@ -17,12 +17,15 @@ use Rattle.shapers_text.proofs.ThaiFormLaws.{length-forms}
 use Rattle.shapers_text.proofs.ThaiFormWalks.{in_order}
 
 -- what is read of glyphs, characters apart
-map-with_characters : {Y : Type 0} (f : hb_glyph_info_t → Y) → ((u : ℕ) (g : hb_glyph_info_t) → f (with_character g u) ≡ f g) → (us : List ℕ) (gs : List hb_glyph_info_t) → length us ≡ length gs → map f (with_characters us gs) ≡ map f gs
+map-with_characters : {Y : Type 0} (f : hb_glyph_info_t → Y)
+    → ((u : ℕ) (g : hb_glyph_info_t) → f (with_character g u) ≡ f g) → (us : List ℕ) (gs : List hb_glyph_info_t)
+    → length us ≡ length gs → map f (with_characters us gs) ≡ map f gs
 map-with_characters f apart [] [] same = refl
 map-with_characters f apart [] (g ∷ gs) same = absurd (omega arith)
 map-with_characters f apart (u ∷ us) [] same = absurd (omega arith)
 map-with_characters f apart (u ∷ us) (g ∷ gs) same =
-    ap (λ y. y ∷ map f (with_characters us gs)) (apart u g) ∙ ap (λ ys. f g ∷ ys) (map-with_characters f apart us gs (omega arith))
+    ap (λ y. y ∷ map f (with_characters us gs)) (apart u g)
+    ∙ ap (λ ys. f g ∷ ys) (map-with_characters f apart us gs (omega arith))
 
 forms_stay : (has : ℕ → Bool) (gs : List hb_glyph_info_t) → AllFlagsStay gs (pua_shaped has gs)
 forms_stay has gs =
@@ -30,13 +33,19 @@ forms_stay has gs =
     let flags = unsafe_all sts gs in
     let us = forms_between has [] (characters flags) [] in
     let long = length-forms has [] (characters flags) [] ∙ length-map flags (λ g. g.glyph_id) in
-    all_stay_as gs flags (with_characters us flags) (map-with_characters (λ g. g.cluster) (λ u g. refl) us flags long) (map-with_characters (λ g. g.mask) (λ u g. refl) us flags long) (unsafe_all_stays sts gs (in_order (each_after [] (characters gs))))
+    all_stay_as gs flags (with_characters us flags) (map-with_characters (λ g. g.cluster) (λ u g. refl) us flags long)
+    (map-with_characters (λ g. g.mask) (λ u g. refl) us flags long)
+    (unsafe_all_stays sts gs (in_order (each_after [] (characters gs))))
 
-pub plain_flags : (level : BufferClusterLevel) (gs text : List hb_glyph_info_t) → text ≡ preprocessed_text false (λ _. false) level gs → FlagsInTwo gs text
+pub plain_flags : (level : BufferClusterLevel) (gs text : List hb_glyph_info_t)
+    → text ≡ preprocessed_text false (λ _. false) level gs → FlagsInTwo gs text
 plain_flags level gs text is =
     let made = preprocessed_text false (λ _. false) level gs in
-    subst (FlagsInTwo gs) (sym is) (all_fallen (pick (sara_am_sources (characters gs)) gs) made (in_two_holds level gs).falls)
+    subst (FlagsInTwo gs) (sym is)
+    (all_fallen (pick (sara_am_sources (characters gs)) gs) made (in_two_holds level gs).falls)
 
-pub shaped_flags : (has : ℕ → Bool) (level : BufferClusterLevel) (gs text shaped : List hb_glyph_info_t) → text ≡ preprocessed_text false has level gs → shaped ≡ pua_shaped has text → FlagsInTwo gs shaped
+pub shaped_flags : (has : ℕ → Bool) (level : BufferClusterLevel) (gs text shaped : List hb_glyph_info_t)
+    → text ≡ preprocessed_text false has level gs → shaped ≡ pua_shaped has text → FlagsInTwo gs shaped
 shaped_flags has level gs text shaped is forms =
-    all_stay_on (pick (sara_am_sources (characters gs)) gs) text shaped (plain_flags level gs text is) (subst (AllFlagsStay text) (sym forms) (forms_stay has text))
+    all_stay_on (pick (sara_am_sources (characters gs)) gs) text shaped (plain_flags level gs text is)
+    (subst (AllFlagsStay text) (sym forms) (forms_stay has text))

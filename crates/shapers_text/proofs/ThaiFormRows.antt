@@ -18,8 +18,10 @@ all_forms action us = map (λ u. shaped_by (λ c. true) u action) us
 abbrev forms_in : List ℕ → Action → List ℕ → List ℕ
 forms_in font action us = map (λ u. shaped_by (λ c. list_any (λ f. f == c) font) u action) us
 
--- For each action: the first form where the font has both or the first alone, the second where it has that alone, and the
--- character itself where it has none; then the block of Thai in two halves: letters, and from SARA A on vowels, marks and digits
+-- For each action: the first form where the font has both or the first alone, the second where it
+-- has that alone, and the
+-- character itself where it has none; then the block of Thai in two halves: letters, and from SARA
+-- A on vowels, marks and digits
 abbrev letters : List ℕ
 letters = range_with_len 0x0E00 0x30
 
@@ -51,7 +53,10 @@ sd_of_none = refl
 sd_letters : all_forms SD letters ≡ letters
 sd_letters = refl
 
-sd_signs : all_forms SD signs ≡ 0x0E30 ∷ 0x0E31 ∷ 0x0E32 ∷ 0x0E33 ∷ 0x0E34 ∷ 0x0E35 ∷ 0x0E36 ∷ 0x0E37 ∷ 0xF718 ∷ 0xF719 ∷ 0xF71A ∷ 0x0E3B ∷ 0x0E3C ∷ 0x0E3D ∷ 0x0E3E ∷ 0x0E3F ∷ 0x0E40 ∷ 0x0E41 ∷ 0x0E42 ∷ 0x0E43 ∷ 0x0E44 ∷ 0x0E45 ∷ 0x0E46 ∷ 0x0E47 ∷ 0xF70A ∷ 0xF70B ∷ 0xF70C ∷ 0xF70D ∷ 0xF70E ∷ 0x0E4D ∷ 0x0E4E ∷ 0x0E4F ∷ 0x0E50 ∷ 0x0E51 ∷ 0x0E52 ∷ 0x0E53 ∷ 0x0E54 ∷ 0x0E55 ∷ 0x0E56 ∷ 0x0E57 ∷ 0x0E58 ∷ 0x0E59 ∷ 0x0E5A ∷ 0x0E5B ∷ 0x0E5C ∷ 0x0E5D ∷ 0x0E5E ∷ 0x0E5F ∷ []
+sd_signs : all_forms SD signs ≡ 0x0E30 ∷ 0x0E31 ∷ 0x0E32 ∷ 0x0E33 ∷ 0x0E34 ∷ 0x0E35 ∷ 0x0E36 ∷ 0x0E37 ∷ 0xF718 ∷ 0xF719
+    ∷ 0xF71A ∷ 0x0E3B ∷ 0x0E3C ∷ 0x0E3D ∷ 0x0E3E ∷ 0x0E3F ∷ 0x0E40 ∷ 0x0E41 ∷ 0x0E42 ∷ 0x0E43 ∷ 0x0E44 ∷ 0x0E45 ∷ 0x0E46
+    ∷ 0x0E47 ∷ 0xF70A ∷ 0xF70B ∷ 0xF70C ∷ 0xF70D ∷ 0xF70E ∷ 0x0E4D ∷ 0x0E4E ∷ 0x0E4F ∷ 0x0E50 ∷ 0x0E51 ∷ 0x0E52 ∷ 0x0E53
+    ∷ 0x0E54 ∷ 0x0E55 ∷ 0x0E56 ∷ 0x0E57 ∷ 0x0E58 ∷ 0x0E59 ∷ 0x0E5A ∷ 0x0E5B ∷ 0x0E5C ∷ 0x0E5D ∷ 0x0E5E ∷ 0x0E5F ∷ []
 sd_signs = refl
 
 -- the mark shifted down and left
@@ -79,18 +84,25 @@ sdl_of_none = refl
 sdl_letters : all_forms SDL letters ≡ letters
 sdl_letters = refl
 
-sdl_signs : all_forms SDL signs ≡ 0x0E30 ∷ 0x0E31 ∷ 0x0E32 ∷ 0x0E33 ∷ 0x0E34 ∷ 0x0E35 ∷ 0x0E36 ∷ 0x0E37 ∷ 0x0E38 ∷ 0x0E39 ∷ 0x0E3A ∷ 0x0E3B ∷ 0x0E3C ∷ 0x0E3D ∷ 0x0E3E ∷ 0x0E3F ∷ 0x0E40 ∷ 0x0E41 ∷ 0x0E42 ∷ 0x0E43 ∷ 0x0E44 ∷ 0x0E45 ∷ 0x0E46 ∷ 0x0E47 ∷ 0xF705 ∷ 0xF706 ∷ 0xF707 ∷ 0xF708 ∷ 0xF709 ∷ 0x0E4D ∷ 0x0E4E ∷ 0x0E4F ∷ 0x0E50 ∷ 0x0E51 ∷ 0x0E52 ∷ 0x0E53 ∷ 0x0E54 ∷ 0x0E55 ∷ 0x0E56 ∷ 0x0E57 ∷ 0x0E58 ∷ 0x0E59 ∷ 0x0E5A ∷ 0x0E5B ∷ 0x0E5C ∷ 0x0E5D ∷ 0x0E5E ∷ 0x0E5F ∷ []
+sdl_signs : all_forms SDL signs ≡ 0x0E30 ∷ 0x0E31 ∷ 0x0E32 ∷ 0x0E33 ∷ 0x0E34 ∷ 0x0E35 ∷ 0x0E36 ∷ 0x0E37 ∷ 0x0E38
+    ∷ 0x0E39 ∷ 0x0E3A ∷ 0x0E3B ∷ 0x0E3C ∷ 0x0E3D ∷ 0x0E3E ∷ 0x0E3F ∷ 0x0E40 ∷ 0x0E41 ∷ 0x0E42 ∷ 0x0E43 ∷ 0x0E44 ∷ 0x0E45
+    ∷ 0x0E46 ∷ 0x0E47 ∷ 0xF705 ∷ 0xF706 ∷ 0xF707 ∷ 0xF708 ∷ 0xF709 ∷ 0x0E4D ∷ 0x0E4E ∷ 0x0E4F ∷ 0x0E50 ∷ 0x0E51 ∷ 0x0E52
+    ∷ 0x0E53 ∷ 0x0E54 ∷ 0x0E55 ∷ 0x0E56 ∷ 0x0E57 ∷ 0x0E58 ∷ 0x0E59 ∷ 0x0E5A ∷ 0x0E5B ∷ 0x0E5C ∷ 0x0E5D ∷ 0x0E5E ∷ 0x0E5F
+    ∷ []
 sdl_signs = refl
 
 -- the mark shifted left
 abbrev sl_characters : List ℕ
-sl_characters = 0x0E31 ∷ 0x0E34 ∷ 0x0E35 ∷ 0x0E36 ∷ 0x0E37 ∷ 0x0E47 ∷ 0x0E48 ∷ 0x0E49 ∷ 0x0E4A ∷ 0x0E4B ∷ 0x0E4C ∷ 0x0E4D ∷ []
+sl_characters = 0x0E31 ∷ 0x0E34 ∷ 0x0E35 ∷ 0x0E36 ∷ 0x0E37 ∷ 0x0E47 ∷ 0x0E48 ∷ 0x0E49 ∷ 0x0E4A ∷ 0x0E4B ∷ 0x0E4C
+    ∷ 0x0E4D ∷ []
 
 abbrev sl_first : List ℕ
-sl_first = 0xF710 ∷ 0xF701 ∷ 0xF702 ∷ 0xF703 ∷ 0xF704 ∷ 0xF712 ∷ 0xF713 ∷ 0xF714 ∷ 0xF715 ∷ 0xF716 ∷ 0xF717 ∷ 0xF711 ∷ []
+sl_first = 0xF710 ∷ 0xF701 ∷ 0xF702 ∷ 0xF703 ∷ 0xF704 ∷ 0xF712 ∷ 0xF713 ∷ 0xF714 ∷ 0xF715 ∷ 0xF716 ∷ 0xF717 ∷ 0xF711
+    ∷ []
 
 abbrev sl_second : List ℕ
-sl_second = 0xF884 ∷ 0xF885 ∷ 0xF886 ∷ 0xF887 ∷ 0xF888 ∷ 0xF889 ∷ 0xF88A ∷ 0xF88D ∷ 0xF890 ∷ 0xF893 ∷ 0xF896 ∷ 0xF899 ∷ []
+sl_second = 0xF884 ∷ 0xF885 ∷ 0xF886 ∷ 0xF887 ∷ 0xF888 ∷ 0xF889 ∷ 0xF88A ∷ 0xF88D ∷ 0xF890 ∷ 0xF893 ∷ 0xF896 ∷ 0xF899
+    ∷ []
 
 sl_of_both : all_forms SL sl_characters ≡ sl_first
 sl_of_both = refl
@@ -107,7 +119,10 @@ sl_of_none = refl
 sl_letters : all_forms SL letters ≡ letters
 sl_letters = refl
 
-sl_signs : all_forms SL signs ≡ 0x0E30 ∷ 0xF710 ∷ 0x0E32 ∷ 0x0E33 ∷ 0xF701 ∷ 0xF702 ∷ 0xF703 ∷ 0xF704 ∷ 0x0E38 ∷ 0x0E39 ∷ 0x0E3A ∷ 0x0E3B ∷ 0x0E3C ∷ 0x0E3D ∷ 0x0E3E ∷ 0x0E3F ∷ 0x0E40 ∷ 0x0E41 ∷ 0x0E42 ∷ 0x0E43 ∷ 0x0E44 ∷ 0x0E45 ∷ 0x0E46 ∷ 0xF712 ∷ 0xF713 ∷ 0xF714 ∷ 0xF715 ∷ 0xF716 ∷ 0xF717 ∷ 0xF711 ∷ 0x0E4E ∷ 0x0E4F ∷ 0x0E50 ∷ 0x0E51 ∷ 0x0E52 ∷ 0x0E53 ∷ 0x0E54 ∷ 0x0E55 ∷ 0x0E56 ∷ 0x0E57 ∷ 0x0E58 ∷ 0x0E59 ∷ 0x0E5A ∷ 0x0E5B ∷ 0x0E5C ∷ 0x0E5D ∷ 0x0E5E ∷ 0x0E5F ∷ []
+sl_signs : all_forms SL signs ≡ 0x0E30 ∷ 0xF710 ∷ 0x0E32 ∷ 0x0E33 ∷ 0xF701 ∷ 0xF702 ∷ 0xF703 ∷ 0xF704 ∷ 0x0E38 ∷ 0x0E39
+    ∷ 0x0E3A ∷ 0x0E3B ∷ 0x0E3C ∷ 0x0E3D ∷ 0x0E3E ∷ 0x0E3F ∷ 0x0E40 ∷ 0x0E41 ∷ 0x0E42 ∷ 0x0E43 ∷ 0x0E44 ∷ 0x0E45 ∷ 0x0E46
+    ∷ 0xF712 ∷ 0xF713 ∷ 0xF714 ∷ 0xF715 ∷ 0xF716 ∷ 0xF717 ∷ 0xF711 ∷ 0x0E4E ∷ 0x0E4F ∷ 0x0E50 ∷ 0x0E51 ∷ 0x0E52 ∷ 0x0E53
+    ∷ 0x0E54 ∷ 0x0E55 ∷ 0x0E56 ∷ 0x0E57 ∷ 0x0E58 ∷ 0x0E59 ∷ 0x0E5A ∷ 0x0E5B ∷ 0x0E5C ∷ 0x0E5D ∷ 0x0E5E ∷ 0x0E5F ∷ []
 sl_signs = refl
 
 -- the base without its descender
@@ -132,7 +147,11 @@ rd_of_second = refl
 rd_of_none : forms_in [] RD rd_characters ≡ rd_characters
 rd_of_none = refl
 
-rd_letters : all_forms RD letters ≡ 0x0E00 ∷ 0x0E01 ∷ 0x0E02 ∷ 0x0E03 ∷ 0x0E04 ∷ 0x0E05 ∷ 0x0E06 ∷ 0x0E07 ∷ 0x0E08 ∷ 0x0E09 ∷ 0x0E0A ∷ 0x0E0B ∷ 0x0E0C ∷ 0xF70F ∷ 0x0E0E ∷ 0x0E0F ∷ 0xF700 ∷ 0x0E11 ∷ 0x0E12 ∷ 0x0E13 ∷ 0x0E14 ∷ 0x0E15 ∷ 0x0E16 ∷ 0x0E17 ∷ 0x0E18 ∷ 0x0E19 ∷ 0x0E1A ∷ 0x0E1B ∷ 0x0E1C ∷ 0x0E1D ∷ 0x0E1E ∷ 0x0E1F ∷ 0x0E20 ∷ 0x0E21 ∷ 0x0E22 ∷ 0x0E23 ∷ 0x0E24 ∷ 0x0E25 ∷ 0x0E26 ∷ 0x0E27 ∷ 0x0E28 ∷ 0x0E29 ∷ 0x0E2A ∷ 0x0E2B ∷ 0x0E2C ∷ 0x0E2D ∷ 0x0E2E ∷ 0x0E2F ∷ []
+rd_letters : all_forms RD letters ≡ 0x0E00 ∷ 0x0E01 ∷ 0x0E02 ∷ 0x0E03 ∷ 0x0E04 ∷ 0x0E05 ∷ 0x0E06 ∷ 0x0E07 ∷ 0x0E08
+    ∷ 0x0E09 ∷ 0x0E0A ∷ 0x0E0B ∷ 0x0E0C ∷ 0xF70F ∷ 0x0E0E ∷ 0x0E0F ∷ 0xF700 ∷ 0x0E11 ∷ 0x0E12 ∷ 0x0E13 ∷ 0x0E14 ∷ 0x0E15
+    ∷ 0x0E16 ∷ 0x0E17 ∷ 0x0E18 ∷ 0x0E19 ∷ 0x0E1A ∷ 0x0E1B ∷ 0x0E1C ∷ 0x0E1D ∷ 0x0E1E ∷ 0x0E1F ∷ 0x0E20 ∷ 0x0E21 ∷ 0x0E22
+    ∷ 0x0E23 ∷ 0x0E24 ∷ 0x0E25 ∷ 0x0E26 ∷ 0x0E27 ∷ 0x0E28 ∷ 0x0E29 ∷ 0x0E2A ∷ 0x0E2B ∷ 0x0E2C ∷ 0x0E2D ∷ 0x0E2E ∷ 0x0E2F
+    ∷ []
 rd_letters = refl
 
 rd_signs : all_forms RD signs ≡ signs
@@ -145,19 +164,50 @@ nop_signs : all_forms NOP signs ≡ signs
 nop_signs = refl
 
 -- the types of Thai characters as consonants, with their neighbours: KO KAI to HO NOKHUK
-consonants_thai : map consonant_type (range_with_len 0x0E00 0x50) ≡ NotConsonant ∷ NC ∷ NC ∷ NC ∷ NC ∷ NC ∷ NC ∷ NC ∷ NC ∷ NC ∷ NC ∷ NC ∷ NC ∷ RC ∷ DC ∷ DC ∷ RC ∷ NC ∷ NC ∷ NC ∷ NC ∷ NC ∷ NC ∷ NC ∷ NC ∷ NC ∷ NC ∷ AC ∷ NC ∷ AC ∷ NC ∷ AC ∷ NC ∷ NC ∷ NC ∷ NC ∷ NC ∷ NC ∷ NC ∷ NC ∷ NC ∷ NC ∷ NC ∷ NC ∷ NC ∷ NC ∷ NC ∷ NotConsonant ∷ NotConsonant ∷ NotConsonant ∷ NotConsonant ∷ NotConsonant ∷ NotConsonant ∷ NotConsonant ∷ NotConsonant ∷ NotConsonant ∷ NotConsonant ∷ NotConsonant ∷ NotConsonant ∷ NotConsonant ∷ NotConsonant ∷ NotConsonant ∷ NotConsonant ∷ NotConsonant ∷ NotConsonant ∷ NotConsonant ∷ NotConsonant ∷ NotConsonant ∷ NotConsonant ∷ NotConsonant ∷ NotConsonant ∷ NotConsonant ∷ NotConsonant ∷ NotConsonant ∷ NotConsonant ∷ NotConsonant ∷ NotConsonant ∷ NotConsonant ∷ NotConsonant ∷ NotConsonant ∷ []
+consonants_thai : map consonant_type (range_with_len 0x0E00 0x50) ≡ NotConsonant ∷ NC ∷ NC ∷ NC ∷ NC ∷ NC ∷ NC ∷ NC ∷ NC
+    ∷ NC ∷ NC ∷ NC ∷ NC ∷ RC ∷ DC ∷ DC ∷ RC ∷ NC ∷ NC ∷ NC ∷ NC ∷ NC ∷ NC ∷ NC ∷ NC ∷ NC ∷ NC ∷ AC ∷ NC ∷ AC ∷ NC ∷ AC
+    ∷ NC ∷ NC ∷ NC ∷ NC ∷ NC ∷ NC ∷ NC ∷ NC ∷ NC ∷ NC ∷ NC ∷ NC ∷ NC ∷ NC ∷ NC ∷ NotConsonant ∷ NotConsonant
+    ∷ NotConsonant ∷ NotConsonant ∷ NotConsonant ∷ NotConsonant ∷ NotConsonant ∷ NotConsonant ∷ NotConsonant
+    ∷ NotConsonant ∷ NotConsonant ∷ NotConsonant ∷ NotConsonant ∷ NotConsonant ∷ NotConsonant ∷ NotConsonant
+    ∷ NotConsonant ∷ NotConsonant ∷ NotConsonant ∷ NotConsonant ∷ NotConsonant ∷ NotConsonant ∷ NotConsonant
+    ∷ NotConsonant ∷ NotConsonant ∷ NotConsonant ∷ NotConsonant ∷ NotConsonant ∷ NotConsonant ∷ NotConsonant
+    ∷ NotConsonant ∷ NotConsonant ∷ NotConsonant ∷ []
 consonants_thai = refl
 
 -- Lao has none
-consonants_lao : map consonant_type (range_with_len 0x0E80 0x50) ≡ NotConsonant ∷ NotConsonant ∷ NotConsonant ∷ NotConsonant ∷ NotConsonant ∷ NotConsonant ∷ NotConsonant ∷ NotConsonant ∷ NotConsonant ∷ NotConsonant ∷ NotConsonant ∷ NotConsonant ∷ NotConsonant ∷ NotConsonant ∷ NotConsonant ∷ NotConsonant ∷ NotConsonant ∷ NotConsonant ∷ NotConsonant ∷ NotConsonant ∷ NotConsonant ∷ NotConsonant ∷ NotConsonant ∷ NotConsonant ∷ NotConsonant ∷ NotConsonant ∷ NotConsonant ∷ NotConsonant ∷ NotConsonant ∷ NotConsonant ∷ NotConsonant ∷ NotConsonant ∷ NotConsonant ∷ NotConsonant ∷ NotConsonant ∷ NotConsonant ∷ NotConsonant ∷ NotConsonant ∷ NotConsonant ∷ NotConsonant ∷ NotConsonant ∷ NotConsonant ∷ NotConsonant ∷ NotConsonant ∷ NotConsonant ∷ NotConsonant ∷ NotConsonant ∷ NotConsonant ∷ NotConsonant ∷ NotConsonant ∷ NotConsonant ∷ NotConsonant ∷ NotConsonant ∷ NotConsonant ∷ NotConsonant ∷ NotConsonant ∷ NotConsonant ∷ NotConsonant ∷ NotConsonant ∷ NotConsonant ∷ NotConsonant ∷ NotConsonant ∷ NotConsonant ∷ NotConsonant ∷ NotConsonant ∷ NotConsonant ∷ NotConsonant ∷ NotConsonant ∷ NotConsonant ∷ NotConsonant ∷ NotConsonant ∷ NotConsonant ∷ NotConsonant ∷ NotConsonant ∷ NotConsonant ∷ NotConsonant ∷ NotConsonant ∷ NotConsonant ∷ NotConsonant ∷ NotConsonant ∷ []
+consonants_lao : map consonant_type (range_with_len 0x0E80 0x50) ≡ NotConsonant ∷ NotConsonant ∷ NotConsonant
+    ∷ NotConsonant ∷ NotConsonant ∷ NotConsonant ∷ NotConsonant ∷ NotConsonant ∷ NotConsonant ∷ NotConsonant
+    ∷ NotConsonant ∷ NotConsonant ∷ NotConsonant ∷ NotConsonant ∷ NotConsonant ∷ NotConsonant ∷ NotConsonant
+    ∷ NotConsonant ∷ NotConsonant ∷ NotConsonant ∷ NotConsonant ∷ NotConsonant ∷ NotConsonant ∷ NotConsonant
+    ∷ NotConsonant ∷ NotConsonant ∷ NotConsonant ∷ NotConsonant ∷ NotConsonant ∷ NotConsonant ∷ NotConsonant
+    ∷ NotConsonant ∷ NotConsonant ∷ NotConsonant ∷ NotConsonant ∷ NotConsonant ∷ NotConsonant ∷ NotConsonant
+    ∷ NotConsonant ∷ NotConsonant ∷ NotConsonant ∷ NotConsonant ∷ NotConsonant ∷ NotConsonant ∷ NotConsonant
+    ∷ NotConsonant ∷ NotConsonant ∷ NotConsonant ∷ NotConsonant ∷ NotConsonant ∷ NotConsonant ∷ NotConsonant
+    ∷ NotConsonant ∷ NotConsonant ∷ NotConsonant ∷ NotConsonant ∷ NotConsonant ∷ NotConsonant ∷ NotConsonant
+    ∷ NotConsonant ∷ NotConsonant ∷ NotConsonant ∷ NotConsonant ∷ NotConsonant ∷ NotConsonant ∷ NotConsonant
+    ∷ NotConsonant ∷ NotConsonant ∷ NotConsonant ∷ NotConsonant ∷ NotConsonant ∷ NotConsonant ∷ NotConsonant
+    ∷ NotConsonant ∷ NotConsonant ∷ NotConsonant ∷ NotConsonant ∷ NotConsonant ∷ NotConsonant ∷ NotConsonant ∷ []
 consonants_lao = refl
 
 -- as marks
-marks_thai : map mark_type (range_with_len 0x0E00 0x50) ≡ NotMark ∷ NotMark ∷ NotMark ∷ NotMark ∷ NotMark ∷ NotMark ∷ NotMark ∷ NotMark ∷ NotMark ∷ NotMark ∷ NotMark ∷ NotMark ∷ NotMark ∷ NotMark ∷ NotMark ∷ NotMark ∷ NotMark ∷ NotMark ∷ NotMark ∷ NotMark ∷ NotMark ∷ NotMark ∷ NotMark ∷ NotMark ∷ NotMark ∷ NotMark ∷ NotMark ∷ NotMark ∷ NotMark ∷ NotMark ∷ NotMark ∷ NotMark ∷ NotMark ∷ NotMark ∷ NotMark ∷ NotMark ∷ NotMark ∷ NotMark ∷ NotMark ∷ NotMark ∷ NotMark ∷ NotMark ∷ NotMark ∷ NotMark ∷ NotMark ∷ NotMark ∷ NotMark ∷ NotMark ∷ NotMark ∷ AV ∷ NotMark ∷ NotMark ∷ AV ∷ AV ∷ AV ∷ AV ∷ BV ∷ BV ∷ BV ∷ NotMark ∷ NotMark ∷ NotMark ∷ NotMark ∷ NotMark ∷ NotMark ∷ NotMark ∷ NotMark ∷ NotMark ∷ NotMark ∷ NotMark ∷ NotMark ∷ AV ∷ T ∷ T ∷ T ∷ T ∷ T ∷ AV ∷ AV ∷ NotMark ∷ []
+marks_thai : map mark_type (range_with_len 0x0E00 0x50) ≡ NotMark ∷ NotMark ∷ NotMark ∷ NotMark ∷ NotMark ∷ NotMark
+    ∷ NotMark ∷ NotMark ∷ NotMark ∷ NotMark ∷ NotMark ∷ NotMark ∷ NotMark ∷ NotMark ∷ NotMark ∷ NotMark ∷ NotMark
+    ∷ NotMark ∷ NotMark ∷ NotMark ∷ NotMark ∷ NotMark ∷ NotMark ∷ NotMark ∷ NotMark ∷ NotMark ∷ NotMark ∷ NotMark
+    ∷ NotMark ∷ NotMark ∷ NotMark ∷ NotMark ∷ NotMark ∷ NotMark ∷ NotMark ∷ NotMark ∷ NotMark ∷ NotMark ∷ NotMark
+    ∷ NotMark ∷ NotMark ∷ NotMark ∷ NotMark ∷ NotMark ∷ NotMark ∷ NotMark ∷ NotMark ∷ NotMark ∷ NotMark ∷ AV ∷ NotMark
+    ∷ NotMark ∷ AV ∷ AV ∷ AV ∷ AV ∷ BV ∷ BV ∷ BV ∷ NotMark ∷ NotMark ∷ NotMark ∷ NotMark ∷ NotMark ∷ NotMark ∷ NotMark
+    ∷ NotMark ∷ NotMark ∷ NotMark ∷ NotMark ∷ NotMark ∷ AV ∷ T ∷ T ∷ T ∷ T ∷ T ∷ AV ∷ AV ∷ NotMark ∷ []
 marks_thai = refl
 
 -- Lao has none
-marks_lao : map mark_type (range_with_len 0x0E80 0x50) ≡ NotMark ∷ NotMark ∷ NotMark ∷ NotMark ∷ NotMark ∷ NotMark ∷ NotMark ∷ NotMark ∷ NotMark ∷ NotMark ∷ NotMark ∷ NotMark ∷ NotMark ∷ NotMark ∷ NotMark ∷ NotMark ∷ NotMark ∷ NotMark ∷ NotMark ∷ NotMark ∷ NotMark ∷ NotMark ∷ NotMark ∷ NotMark ∷ NotMark ∷ NotMark ∷ NotMark ∷ NotMark ∷ NotMark ∷ NotMark ∷ NotMark ∷ NotMark ∷ NotMark ∷ NotMark ∷ NotMark ∷ NotMark ∷ NotMark ∷ NotMark ∷ NotMark ∷ NotMark ∷ NotMark ∷ NotMark ∷ NotMark ∷ NotMark ∷ NotMark ∷ NotMark ∷ NotMark ∷ NotMark ∷ NotMark ∷ NotMark ∷ NotMark ∷ NotMark ∷ NotMark ∷ NotMark ∷ NotMark ∷ NotMark ∷ NotMark ∷ NotMark ∷ NotMark ∷ NotMark ∷ NotMark ∷ NotMark ∷ NotMark ∷ NotMark ∷ NotMark ∷ NotMark ∷ NotMark ∷ NotMark ∷ NotMark ∷ NotMark ∷ NotMark ∷ NotMark ∷ NotMark ∷ NotMark ∷ NotMark ∷ NotMark ∷ NotMark ∷ NotMark ∷ NotMark ∷ NotMark ∷ []
+marks_lao : map mark_type (range_with_len 0x0E80 0x50) ≡ NotMark ∷ NotMark ∷ NotMark ∷ NotMark ∷ NotMark ∷ NotMark
+    ∷ NotMark ∷ NotMark ∷ NotMark ∷ NotMark ∷ NotMark ∷ NotMark ∷ NotMark ∷ NotMark ∷ NotMark ∷ NotMark ∷ NotMark
+    ∷ NotMark ∷ NotMark ∷ NotMark ∷ NotMark ∷ NotMark ∷ NotMark ∷ NotMark ∷ NotMark ∷ NotMark ∷ NotMark ∷ NotMark
+    ∷ NotMark ∷ NotMark ∷ NotMark ∷ NotMark ∷ NotMark ∷ NotMark ∷ NotMark ∷ NotMark ∷ NotMark ∷ NotMark ∷ NotMark
+    ∷ NotMark ∷ NotMark ∷ NotMark ∷ NotMark ∷ NotMark ∷ NotMark ∷ NotMark ∷ NotMark ∷ NotMark ∷ NotMark ∷ NotMark
+    ∷ NotMark ∷ NotMark ∷ NotMark ∷ NotMark ∷ NotMark ∷ NotMark ∷ NotMark ∷ NotMark ∷ NotMark ∷ NotMark ∷ NotMark
+    ∷ NotMark ∷ NotMark ∷ NotMark ∷ NotMark ∷ NotMark ∷ NotMark ∷ NotMark ∷ NotMark ∷ NotMark ∷ NotMark ∷ NotMark
+    ∷ NotMark ∷ NotMark ∷ NotMark ∷ NotMark ∷ NotMark ∷ NotMark ∷ NotMark ∷ NotMark ∷ []
 marks_lao = refl
 
 -- each case of the actions, at counts 0, 1 and 2
@@ -230,30 +280,40 @@ notmark_on_notconsonant : by_above NotConsonant NotMark ≡ NOP ∷ NOP ∷ NOP 
 notmark_on_notconsonant = refl
 
 -- the base of what follows a text: the last character that isn't a mark, by its type; marks after it are counted
-bases : map base_type ([] ∷ (0x0E38 ∷ []) ∷ (0x0E0D ∷ []) ∷ (0x0E1B ∷ 0x0E0D ∷ 0x0E38 ∷ 0x0E48 ∷ []) ∷ (0x0E0D ∷ 0x0ECD ∷ 0x0E38 ∷ []) ∷ (0x0E0D ∷ 0x0020 ∷ []) ∷ (0x0E48 ∷ 0x0E1B ∷ []) ∷ []) ≡ NotConsonant ∷ NotConsonant ∷ RC ∷ RC ∷ NotConsonant ∷ NotConsonant ∷ AC ∷ []
+bases : map base_type ([] ∷ (0x0E38 ∷ []) ∷ (0x0E0D ∷ []) ∷ (0x0E1B ∷ 0x0E0D ∷ 0x0E38 ∷ 0x0E48 ∷ [])
+    ∷ (0x0E0D ∷ 0x0ECD ∷ 0x0E38 ∷ []) ∷ (0x0E0D ∷ 0x0020 ∷ []) ∷ (0x0E48 ∷ 0x0E1B ∷ []) ∷ [])
+    ≡ NotConsonant ∷ NotConsonant ∷ RC ∷ RC ∷ NotConsonant ∷ NotConsonant ∷ AC ∷ []
 bases = refl
 
-above_since : map marks_above ([] ∷ (0x0E48 ∷ []) ∷ (0x0E34 ∷ 0x0E0D ∷ []) ∷ (0x0E0D ∷ 0x0E34 ∷ 0x0E38 ∷ 0x0E48 ∷ []) ∷ (0x0E34 ∷ 0x0E48 ∷ 0x0E38 ∷ []) ∷ []) ≡ 0 ∷ 1 ∷ 0 ∷ 2 ∷ 2 ∷ []
+above_since : map marks_above ([] ∷ (0x0E48 ∷ []) ∷ (0x0E34 ∷ 0x0E0D ∷ []) ∷ (0x0E0D ∷ 0x0E34 ∷ 0x0E38 ∷ 0x0E48 ∷ [])
+    ∷ (0x0E34 ∷ 0x0E48 ∷ 0x0E38 ∷ []) ∷ []) ≡ 0 ∷ 1 ∷ 0 ∷ 2 ∷ 2 ∷ []
 above_since = refl
 
-below_since : map marks_below ([] ∷ (0x0E38 ∷ []) ∷ (0x0E39 ∷ 0x0E0D ∷ []) ∷ (0x0E0D ∷ 0x0E34 ∷ 0x0E38 ∷ 0x0E48 ∷ []) ∷ (0x0E3A ∷ 0x0E48 ∷ 0x0E38 ∷ []) ∷ []) ≡ 0 ∷ 1 ∷ 0 ∷ 1 ∷ 2 ∷ []
+below_since : map marks_below ([] ∷ (0x0E38 ∷ []) ∷ (0x0E39 ∷ 0x0E0D ∷ []) ∷ (0x0E0D ∷ 0x0E34 ∷ 0x0E38 ∷ 0x0E48 ∷ [])
+    ∷ (0x0E3A ∷ 0x0E48 ∷ 0x0E38 ∷ []) ∷ []) ≡ 0 ∷ 1 ∷ 0 ∷ 1 ∷ 2 ∷ []
 below_since = refl
 
-base_places : map thai_base_place ([] ∷ (0x0E38 ∷ []) ∷ (0x0E0D ∷ []) ∷ (0x0E1B ∷ 0x0E0D ∷ 0x0E38 ∷ 0x0E48 ∷ []) ∷ (0x0E0D ∷ 0x0ECD ∷ 0x0E38 ∷ []) ∷ []) ≡ 0 ∷ 0 ∷ 0 ∷ 1 ∷ 1 ∷ []
+base_places : map thai_base_place ([] ∷ (0x0E38 ∷ []) ∷ (0x0E0D ∷ []) ∷ (0x0E1B ∷ 0x0E0D ∷ 0x0E38 ∷ 0x0E48 ∷ [])
+    ∷ (0x0E0D ∷ 0x0ECD ∷ 0x0E38 ∷ []) ∷ []) ≡ 0 ∷ 0 ∷ 0 ∷ 1 ∷ 1 ∷ []
 base_places = refl
 
 -- a mark before any base: a vowel below goes down, the others do nothing
-before_any_base : map (action_after []) (0x0E38 ∷ 0x0E39 ∷ 0x0E3A ∷ 0x0E48 ∷ 0x0E31 ∷ 0x0E0D ∷ []) ≡ SD ∷ SD ∷ SD ∷ NOP ∷ NOP ∷ NOP ∷ []
+before_any_base : map (action_after []) (0x0E38 ∷ 0x0E39 ∷ 0x0E3A ∷ 0x0E48 ∷ 0x0E31 ∷ 0x0E0D ∷ []) ≡ SD ∷ SD ∷ SD ∷ NOP
+    ∷ NOP ∷ NOP ∷ []
 before_any_base = refl
 
--- the base gives up its descender to a vowel below among its own marks, wherever that stands there, and only a base that can
+-- the base gives up its descender to a vowel below among its own marks, wherever that stands there,
+-- and only a base that can
 abbrev has_all : ℕ → Bool
 has_all c = true
 
-descenders : map (λ after. form_between has_all [] 0x0E10 after) ([] ∷ (0x0E38 ∷ []) ∷ (0x0E48 ∷ 0x0E39 ∷ []) ∷ (0x0E48 ∷ []) ∷ (0x0E01 ∷ 0x0E38 ∷ []) ∷ (0x0ECD ∷ 0x0E38 ∷ []) ∷ []) ≡ 0x0E10 ∷ 0xF700 ∷ 0xF700 ∷ 0x0E10 ∷ 0x0E10 ∷ 0x0E10 ∷ []
+descenders : map (λ after. form_between has_all [] 0x0E10 after) ([] ∷ (0x0E38 ∷ []) ∷ (0x0E48 ∷ 0x0E39 ∷ [])
+    ∷ (0x0E48 ∷ []) ∷ (0x0E01 ∷ 0x0E38 ∷ []) ∷ (0x0ECD ∷ 0x0E38 ∷ []) ∷ []) ≡ 0x0E10 ∷ 0xF700 ∷ 0xF700 ∷ 0x0E10 ∷ 0x0E10
+    ∷ 0x0E10 ∷ []
 descenders = refl
 
-descenders_of : map (λ u. form_between has_all [] u (0x0E3A ∷ [])) (0x0E0D ∷ 0x0E0E ∷ 0x0E0F ∷ 0x0E10 ∷ 0x0E1B ∷ 0x0E01 ∷ 0x0E2F ∷ []) ≡ 0xF70F ∷ 0x0E0E ∷ 0x0E0F ∷ 0xF700 ∷ 0x0E1B ∷ 0x0E01 ∷ 0x0E2F ∷ []
+descenders_of : map (λ u. form_between has_all [] u (0x0E3A ∷ [])) (0x0E0D ∷ 0x0E0E ∷ 0x0E0F ∷ 0x0E10 ∷ 0x0E1B ∷ 0x0E01
+    ∷ 0x0E2F ∷ []) ≡ 0xF70F ∷ 0x0E0E ∷ 0x0E0F ∷ 0xF700 ∷ 0x0E1B ∷ 0x0E01 ∷ 0x0E2F ∷ []
 descenders_of = refl
 
 -- a text between two others reads what stands before and after it, and gives its own forms alone
@@ -261,12 +321,28 @@ between : forms_between has_all (0x0E1B ∷ 0x0E34 ∷ []) (0x0E48 ∷ 0x0E0D �
 between = refl
 
 -- the stretches that are unsafe to break: from the base, or the start of the text, to each mark
-stretches : mark_stretches (0x0E38 ∷ 0x0E14 ∷ 0x0E38 ∷ 0x0E48 ∷ 0x0E32 ∷ 0x0E1B ∷ 0x0E34 ∷ []) ≡ (0, 0) ∷ (1, 2) ∷ (1, 3) ∷ (5, 6) ∷ []
+stretches : mark_stretches (0x0E38 ∷ 0x0E14 ∷ 0x0E38 ∷ 0x0E48 ∷ 0x0E32 ∷ 0x0E1B ∷ 0x0E34 ∷ []) ≡ (0, 0) ∷ (1, 2)
+    ∷ (1, 3) ∷ (5, 6) ∷ []
 stretches = refl
 
 -- forms and flags change characters and masks alone
 abbrev full : hb_glyph_info_t
-full = record { glyph_id = 0x0E0D; cluster = 5; mask = 0x18; var = 0x7A; syllable = 0x24; category = 1; auxiliary = 3; general_category = Mn; modified_combining_class = 9; lig_comp = 2; marks = record { 0 = 31 } }
+full = record {
+  glyph_id = 0x0E0D;
+  cluster = 5;
+  mask = 0x18;
+  var = 0x7A;
+  syllable = 0x24;
+  category = 1;
+  auxiliary = 3;
+  general_category = Mn;
+  modified_combining_class = 9;
+  lig_comp = 2;
+  marks = record { 0 = 31 };
+}
 
-forms_keep : pua_shaped has_all (full ∷ record full { glyph_id = 0x0E38 } ∷ record full { glyph_id = 0x0E48; cluster = 6 } ∷ record full { glyph_id = 0x0E48; cluster = 7 } ∷ []) ≡ record full { glyph_id = 0xF70F } ∷ record full { glyph_id = 0x0E38 } ∷ record full { glyph_id = 0xF70A; cluster = 6; mask = 0x1B } ∷ record full { glyph_id = 0x0E48; cluster = 7 } ∷ []
+forms_keep : pua_shaped has_all (full ∷ record full { glyph_id = 0x0E38 }
+    ∷ record full { glyph_id = 0x0E48; cluster = 6 } ∷ record full { glyph_id = 0x0E48; cluster = 7 } ∷ [])
+    ≡ record full { glyph_id = 0xF70F } ∷ record full { glyph_id = 0x0E38 }
+    ∷ record full { glyph_id = 0xF70A; cluster = 6; mask = 0x1B } ∷ record full { glyph_id = 0x0E48; cluster = 7 } ∷ []
 forms_keep = refl

@@ -21,9 +21,11 @@ use Rattle.shapers_text.specs.ThaiWalk.{target, form_set, counted_base, base_aft
 use Rattle.shapers_text.specs.ThaiLaws.{without_form, FormsLaw}
 use Rattle.shapers_text.proofs.ThaiFormLaws.{IsBase, base_none, base_push, base_place_push, length-forms, no_action, action_put, shapes}
 
-in_order_at : (before : List ℕ) (u : ℕ) (rest : List (ℕ × ℕ)) → AllByRecursion (λ st. st.0 ≤ st.1) rest → AllByRecursion (λ st. st.0 ≤ st.1) (stretch_of_mark (thai_base_place before) (length before) u ++ rest)
+in_order_at : (before : List ℕ) (u : ℕ) (rest : List (ℕ × ℕ)) → AllByRecursion (λ st. st.0 ≤ st.1) rest
+    → AllByRecursion (λ st. st.0 ≤ st.1) (stretch_of_mark (thai_base_place before) (length before) u ++ rest)
 in_order_at before u rest all =
-    elim (is_thai_mark u) as (λ b. AllByRecursion (λ st. st.0 ≤ st.1) (cond b ((thai_base_place before, length before) ∷ []) [] ++ rest)) [
+    elim (is_thai_mark u) as (λ b. AllByRecursion (λ st. st.0 ≤ st.1)
+    (cond b ((thai_base_place before, length before) ∷ []) [] ++ rest)) [
       | true ↦ (omega arith, all)
       | false ↦ all
     ]
@@ -36,10 +38,17 @@ in_order (p ∷ each) = in_order_at p.0 p.1 (mark_stretches_of_each each) (in_or
 pub record Flagging (start now : List hb_glyph_info_t) (i base : ℕ) : Type 0 where
   pub same_text : characters now ≡ characters start
   pub base_is : base ≡ thai_base_place (take i (characters start))
-  pub rest : unsafe_all (mark_stretches_of_each (each_after (take i (characters start)) (drop i (characters start)))) (unsafe_inside base (i - 1) now) ≡ unsafe_all (mark_stretches (characters start)) start
+  pub rest : unsafe_all (mark_stretches_of_each (each_after (take i (characters start)) (drop i (characters start))))
+      (unsafe_inside base (i - 1) now) ≡ unsafe_all (mark_stretches (characters start)) start
 
 flagging_none : (start : List hb_glyph_info_t) → Flagging start start 0 0
-flagging_none start = record { same_text = refl; base_is = refl; rest = ap (unsafe_all (mark_stretches (characters start))) (unsafe_nothing 0 start) }
+flagging_none start =
+    record {
+      same_text = refl;
+      base_is = refl;
+      rest = ap (unsafe_all (mark_stretches (characters start)))
+          (unsafe_nothing 0 start);
+    }
 
 -- the text splits at place i
 pub record Splits (us : List ℕ) (i u : ℕ) : Type 0 where
@@ -54,32 +63,40 @@ splits us i u inside at = record {
   length_is = length-take-le i us (omega arith);
 }
 
-flagging_base : (start now : List hb_glyph_info_t) (i base : ℕ) → i ≤ length start → Flagging start now i base → base ≤ i - 1
+flagging_base : (start now : List hb_glyph_info_t) (i base : ℕ) → i ≤ length start → Flagging start now i base
+    → base ≤ i - 1
 flagging_base start now i base within f =
     omega (arith, f.base_is, length-take-le i (characters start) (omega (arith, length-map start (λ g. g.glyph_id))))
 
-flagging_length : (start now : List hb_glyph_info_t) (i base : ℕ) → Flagging start now i base → length now ≡ length start
-flagging_length start now i base f = sym (length-map now (λ g. g.glyph_id)) ∙ ap length f.same_text ∙ length-map start (λ g. g.glyph_id)
+flagging_length : (start now : List hb_glyph_info_t) (i base : ℕ) → Flagging start now i base
+    → length now ≡ length start
+flagging_length start now i base f = sym (length-map now (λ g. g.glyph_id)) ∙ ap length f.same_text
+    ∙ length-map start (λ g. g.glyph_id)
 
 -- the flags set at place i: those of the base before it, where its character u is no mark
 abbrev pub flags_at : ℕ → ℕ → ℕ → List hb_glyph_info_t → List hb_glyph_info_t
 flags_at u base i gs = cond (is_thai_mark u) gs (unsafe_inside base (i - 1) gs)
 
-still : (u base last i : ℕ) (gs : List hb_glyph_info_t) → base ≤ last → last ≤ i → i ≤ length gs → unsafe_all (stretch_of_mark base i u) (unsafe_inside base last gs) ≡ unsafe_inside (cond (is_thai_mark u) base i) i (cond (is_thai_mark u) gs (unsafe_inside base last gs))
+still : (u base last i : ℕ) (gs : List hb_glyph_info_t) → base ≤ last → last ≤ i → i ≤ length gs
+    → unsafe_all (stretch_of_mark base i u) (unsafe_inside base last gs)
+    ≡ unsafe_inside (cond (is_thai_mark u) base i) i (cond (is_thai_mark u) gs (unsafe_inside base last gs))
 still u base last i gs low high within =
-    elim (is_thai_mark u) as (λ b. unsafe_all (cond b ((base, i) ∷ []) []) (unsafe_inside base last gs) ≡ unsafe_inside (cond b base i) i (cond b gs (unsafe_inside base last gs))) [
+    elim (is_thai_mark u) as (λ b. unsafe_all (cond b ((base, i) ∷ []) []) (unsafe_inside base last gs)
+    ≡ unsafe_inside (cond b base i) i (cond b gs (unsafe_inside base last gs))) [
       | true ↦ unsafe_longer base last i gs low high within
       | false ↦ sym (unsafe_nothing i (unsafe_inside base last gs))
     ]
 
-characters-flags_at : (u base i : ℕ) (gs : List hb_glyph_info_t) → base ≤ i - 1 → characters (flags_at u base i gs) ≡ characters gs
+characters-flags_at : (u base i : ℕ) (gs : List hb_glyph_info_t) → base ≤ i - 1 → characters (flags_at u base i gs)
+    ≡ characters gs
 characters-flags_at u base i gs h =
     elim (is_thai_mark u) as (λ b. characters (cond b gs (unsafe_inside base (i - 1) gs)) ≡ characters gs) [
       | true ↦ refl
       | false ↦ map-unsafe_inside (λ g. g.glyph_id) (λ g. refl) base (i - 1) gs h
     ]
 
-flagging_next : (start now : List hb_glyph_info_t) (i base u : ℕ) → i < length start → Flagging start now i base → u ≡ get_or (characters start) i 0 → Flagging start (flags_at u base i now) (i + 1) (cond (is_thai_mark u) base i)
+flagging_next : (start now : List hb_glyph_info_t) (i base u : ℕ) → i < length start → Flagging start now i base
+    → u ≡ get_or (characters start) i 0 → Flagging start (flags_at u base i now) (i + 1) (cond (is_thai_mark u) base i)
 flagging_next start now i base u inside f read =
     let us = characters start in
     let long : length us ≡ length start = length-map start (λ x. x.glyph_id) in
@@ -93,9 +110,12 @@ flagging_next start now i base u inside f read =
     let back : i + 1 - 1 ≡ i = omega arith in
     let stretches : mark_stretches_of_each (each_after before (drop i us)) ≡ stretch_of_mark base i u ++ to_come =
     ap (λ vs. mark_stretches_of_each (each_after before vs)) s.rest_is
-    ∙ ap (λ n. stretch_of_mark (thai_base_place before) n u ++ mark_stretches_of_each (each_after (before ++ u ∷ []) (drop (i + 1) us))) s.length_is
-    ∙ ap (λ n. stretch_of_mark n i u ++ mark_stretches_of_each (each_after (before ++ u ∷ []) (drop (i + 1) us))) (sym f.base_is)
-    ∙ ap (λ vs. stretch_of_mark base i u ++ mark_stretches_of_each (each_after vs (drop (i + 1) us))) (sym s.front_is) in
+    ∙ ap (λ n. stretch_of_mark (thai_base_place before) n u
+    ++ mark_stretches_of_each (each_after (before ++ u ∷ []) (drop (i + 1) us))) s.length_is
+    ∙ ap (λ n. stretch_of_mark n i u ++ mark_stretches_of_each (each_after (before ++ u ∷ []) (drop (i + 1) us)))
+    (sym f.base_is)
+    ∙ ap (λ vs. stretch_of_mark base i u ++ mark_stretches_of_each (each_after vs (drop (i + 1) us)))
+    (sym s.front_is) in
     record {
       same_text = characters-flags_at u base i now low ∙ f.same_text;
       base_is =
@@ -111,24 +131,29 @@ flagging_next start now i base u inside f read =
           ∙ f.rest;
     }
 
-flagging_all : (start now : List hb_glyph_info_t) (i base : ℕ) → length start ≤ i → Flagging start now i base → unsafe_inside base (i - 1) now ≡ unsafe_all (mark_stretches (characters start)) start
+flagging_all : (start now : List hb_glyph_info_t) (i base : ℕ) → length start ≤ i → Flagging start now i base
+    → unsafe_inside base (i - 1) now ≡ unsafe_all (mark_stretches (characters start)) start
 flagging_all start now i base end f =
     let past : length (characters start) ≤ i = omega (arith, length-map start (λ g. g.glyph_id)) in
-    sym (ap (λ vs. unsafe_all (mark_stretches_of_each (each_after (take i (characters start)) vs)) (unsafe_inside base (i - 1) now)) (drop_all i (characters start) past)) ∙ f.rest
+    sym (ap (λ vs. unsafe_all (mark_stretches_of_each (each_after (take i (characters start)) vs))
+    (unsafe_inside base (i - 1) now)) (drop_all i (characters start) past)) ∙ f.rest
 
 -- glyphs without their characters
 abbrev blank : List hb_glyph_info_t → List hb_glyph_info_t
 blank gs = map (λ g. with_character g 0) gs
 
-blank-form_set : (has : ℕ → Bool) (gs : List hb_glyph_info_t) (place : ℕ) (action : Action) → blank (form_set has place action gs) ≡ blank gs
+blank-form_set : (has : ℕ → Bool) (gs : List hb_glyph_info_t) (place : ℕ) (action : Action)
+    → blank (form_set has place action gs) ≡ blank gs
 blank-form_set has [] place action = refl
 blank-form_set has (g ∷ gs) zero action = refl
 blank-form_set has (g ∷ gs) (suc place) action = ap (λ hs. with_character g 0 ∷ hs) (blank-form_set has gs place action)
 
-characters-form_set : (has : ℕ → Bool) (gs : List hb_glyph_info_t) (place : ℕ) (action : Action) → characters (form_set has place action gs) ≡ action_put has place action (characters gs)
+characters-form_set : (has : ℕ → Bool) (gs : List hb_glyph_info_t) (place : ℕ) (action : Action)
+    → characters (form_set has place action gs) ≡ action_put has place action (characters gs)
 characters-form_set has [] place action = refl
 characters-form_set has (g ∷ gs) zero action = refl
-characters-form_set has (g ∷ gs) (suc place) action = ap (λ us. g.glyph_id ∷ us) (characters-form_set has gs place action)
+characters-form_set has (g ∷ gs) (suc place) action =
+    ap (λ us. g.glyph_id ∷ us) (characters-form_set has gs place action)
 
 -- a list of glyphs is its characters on any list that is the same without them
 rebuilt : (gs hs : List hb_glyph_info_t) → blank gs ≡ blank hs → gs ≡ with_characters (characters gs) hs
@@ -140,14 +165,17 @@ rebuilt (g ∷ gs) (h ∷ hs) same =
     let tail : blank gs ≡ blank hs = cc in
     ap (λ x. with_character x g.glyph_id ∷ gs) head ∙ ap (λ xs. with_character h g.glyph_id ∷ xs) (rebuilt gs hs tail)
 
-map_same : (f g : hb_glyph_info_t → hb_glyph_info_t) → ((x : hb_glyph_info_t) → f x ≡ g x) → (xs : List hb_glyph_info_t) → map f xs ≡ map g xs
+map_same : (f g : hb_glyph_info_t → hb_glyph_info_t) → ((x : hb_glyph_info_t) → f x ≡ g x) → (xs : List hb_glyph_info_t)
+    → map f xs ≡ map g xs
 map_same f g same [] = refl
 map_same f g same (x ∷ xs) = ap (λ y. y ∷ map f xs) (same x) ∙ ap (λ ys. g x ∷ ys) (map_same f g same xs)
 
 -- flags don't look at characters
-blank_off : (low : ℕ) (g : hb_glyph_info_t) → with_bits_off 3 low (with_character g 0) ≡ with_character (with_bits_off 3 low g) 0
+blank_off : (low : ℕ) (g : hb_glyph_info_t) → with_bits_off 3 low (with_character g 0)
+    ≡ with_character (with_bits_off 3 low g) 0
 blank_off low g =
-    elim (eqb g.cluster low) as (λ b. cond b (with_character g 0) (with_bits 3 (with_character g 0)) ≡ with_character (cond b g (with_bits 3 g)) 0) [
+    elim (eqb g.cluster low) as (λ b. cond b (with_character g 0) (with_bits 3 (with_character g 0))
+    ≡ with_character (cond b g (with_bits 3 g)) 0) [
       | true ↦ refl
       | false ↦ refl
     ]
@@ -156,11 +184,14 @@ blank-flagged : (gs : List hb_glyph_info_t) → blank (flagged 3 gs) ≡ flagged
 blank-flagged gs =
     let low = least (clusters gs) in
     map-map (λ g. with_character g 0) (with_bits_off 3 low) gs
-    ∙ map_same (λ g. with_character (with_bits_off 3 low g) 0) (λ g. with_bits_off 3 low (with_character g 0)) (λ g. sym (blank_off low g)) gs
+    ∙ map_same (λ g. with_character (with_bits_off 3 low g) 0) (λ g. with_bits_off 3 low (with_character g 0))
+    (λ g. sym (blank_off low g)) gs
     ∙ sym (map-map (with_bits_off 3 low) (λ g. with_character g 0) gs)
-    ∙ ap (λ cs. map (with_bits_off 3 (least cs)) (blank gs)) (sym (map-map (λ g. g.cluster) (λ g. with_character g 0) gs))
+    ∙ ap (λ cs. map (with_bits_off 3 (least cs)) (blank gs))
+    (sym (map-map (λ g. g.cluster) (λ g. with_character g 0) gs))
 
-blank-unsafe_inside : (s e : ℕ) (gs : List hb_glyph_info_t) → blank (unsafe_inside s e gs) ≡ unsafe_inside s e (blank gs)
+blank-unsafe_inside : (s e : ℕ) (gs : List hb_glyph_info_t) → blank (unsafe_inside s e gs)
+    ≡ unsafe_inside s e (blank gs)
 blank-unsafe_inside s e gs =
     let f : hb_glyph_info_t → hb_glyph_info_t = λ g. with_character g 0 in
     map-append f (take s gs) (flagged 3 (stretch_of s e gs) ++ drop e gs)
@@ -176,7 +207,8 @@ pub record Shaping (has : ℕ → Bool) (us now : List ℕ) (i : ℕ) (base : Ba
   pub text_is : now ≡ forms_between has [] (take i us) [] ++ drop i us
   pub base_is : IsBase (take i us) base
 
-shaping_read : (has : ℕ → Bool) (us now : List ℕ) (i : ℕ) (base : Base) → i < length us → Shaping has us now i base → get_or now i 0 ≡ get_or us i 0
+shaping_read : (has : ℕ → Bool) (us now : List ℕ) (i : ℕ) (base : Base) → i < length us → Shaping has us now i base
+    → get_or now i 0 ≡ get_or us i 0
 shaping_read has us now i base inside s =
     let front = take i us in
     let fs = forms_between has [] front [] in
@@ -187,9 +219,12 @@ shaping_read has us now i base inside s =
 
 -- what the code's action does to the characters
 abbrev after_mark : (ℕ → Bool) → Base → ℕ → ℕ → List ℕ → List ℕ
-after_mark has base i u us = let action = action_of base.consonant (mark_type u) base.above base.below in action_put has (target action base.place i) action us
+after_mark has base i u us = let action =
+    action_of base.consonant (mark_type u) base.above base.below in action_put has (target action base.place i) action
+    us
 
-shaping_next : (has : ℕ → Bool) (us now : List ℕ) (i u : ℕ) (base : Base) → i < length us → Shaping has us now i base → u ≡ get_or us i 0 → Shaping has us (after_mark has base i u now) (i + 1) (base_after base i u)
+shaping_next : (has : ℕ → Bool) (us now : List ℕ) (i u : ℕ) (base : Base) → i < length us → Shaping has us now i base
+    → u ≡ get_or us i 0 → Shaping has us (after_mark has base i u now) (i + 1) (base_after base i u)
 shaping_next has us now i u base inside s read =
     let front = take i us in
     let fs = forms_between has [] front [] in
@@ -203,14 +238,18 @@ shaping_next has us now i u base inside s read =
       text_is =
           ap (λ a. action_put has (target a base.place i) a now) action
           ∙ ap (λ n. action_put has (target (action_after front u) n i) (action_after front u) now) b.place_is
-          ∙ ap (λ n. action_put has (target (action_after front u) (thai_base_place front) n) (action_after front u) now) (sym p.length_is)
-          ∙ ap (action_put has (target (action_after front u) (thai_base_place front) (length front)) (action_after front u)) (s.text_is ∙ ap (λ vs. fs ++ vs) p.rest_is)
+          ∙ ap (λ n. action_put has (target (action_after front u) (thai_base_place front) n) (action_after front u)
+          now) (sym p.length_is)
+          ∙ ap (action_put has (target (action_after front u) (thai_base_place front) (length front))
+          (action_after front u)) (s.text_is ∙ ap (λ vs. fs ++ vs) p.rest_is)
           ∙ shapes has front u (drop (i + 1) us)
           ∙ ap (λ vs. forms_between has [] vs [] ++ drop (i + 1) us) (sym p.front_is);
-      base_is = subst (λ vs. IsBase vs (base_after base i u)) (sym p.front_is) (base_push front u base i (sym p.length_is) b);
+      base_is = subst (λ vs. IsBase vs (base_after base i u)) (sym p.front_is)
+          (base_push front u base i (sym p.length_is) b);
     }
 
-shaping_all : (has : ℕ → Bool) (us now : List ℕ) (i : ℕ) (base : Base) → length us ≤ i → Shaping has us now i base → now ≡ forms_between has [] us []
+shaping_all : (has : ℕ → Bool) (us now : List ℕ) (i : ℕ) (base : Base) → length us ≤ i → Shaping has us now i base
+    → now ≡ forms_between has [] us []
 shaping_all has us now i base past s =
     s.text_is
     ∙ ap (λ vs. forms_between has [] vs [] ++ drop i us) (take_all i us past)
@@ -224,7 +263,8 @@ pub record Walking (has : ℕ → Bool) (start now : List hb_glyph_info_t) (i : 
   pub shaping : Shaping has (characters start) (characters now) i base
   pub same_rest : blank now ≡ blank flags
 
-pub walking_none : (has : ℕ → Bool) (start : List hb_glyph_info_t) (base : Base) → base ≡ record { place = 0; consonant = NotConsonant; above = 0; below = 0 } → Walking has start start 0 base
+pub walking_none : (has : ℕ → Bool) (start : List hb_glyph_info_t) (base : Base)
+    → base ≡ record { place = 0; consonant = NotConsonant; above = 0; below = 0 } → Walking has start start 0 base
 walking_none has start base none = subst (Walking has start start 0) (sym none) (record {
   flags = start;
   flagging = flagging_none start;
@@ -232,15 +272,19 @@ walking_none has start base none = subst (Walking has start start 0) (sym none) 
   same_rest = refl;
 })
 
-pub walking_length : (has : ℕ → Bool) (start now : List hb_glyph_info_t) (i : ℕ) (base : Base) → Walking has start now i base → length now ≡ length start
+pub walking_length : (has : ℕ → Bool) (start now : List hb_glyph_info_t) (i : ℕ) (base : Base)
+    → Walking has start now i base → length now ≡ length start
 walking_length has start now i base w =
-    sym (length-map now (λ g. with_character g 0)) ∙ ap length w.same_rest ∙ length-map w.flags (λ g. with_character g 0) ∙ flagging_length start w.flags i base.place w.flagging
+    sym (length-map now (λ g. with_character g 0)) ∙ ap length w.same_rest
+    ∙ length-map w.flags (λ g. with_character g 0) ∙ flagging_length start w.flags i base.place w.flagging
 
-pub walking_base : (has : ℕ → Bool) (start now : List hb_glyph_info_t) (i : ℕ) (base : Base) → i ≤ length start → Walking has start now i base → base.place ≤ i - 1
+pub walking_base : (has : ℕ → Bool) (start now : List hb_glyph_info_t) (i : ℕ) (base : Base) → i ≤ length start
+    → Walking has start now i base → base.place ≤ i - 1
 walking_base has start now i base within w = flagging_base start w.flags i base.place within w.flagging
 
 -- marks do nothing to flags, and other characters nothing to forms
-place_after : (mark : Mark) (base : Base) (i u : ℕ) → (counted_base mark base i u).place ≡ cond (stands_above mark || stands_below mark) base.place i
+place_after : (mark : Mark) (base : Base) (i u : ℕ) → (counted_base mark base i u).place
+    ≡ cond (stands_above mark || stands_below mark) base.place i
 place_after AV base i u = refl
 place_after BV base i u = refl
 place_after T base i u = refl
@@ -251,24 +295,34 @@ put_nop has [] i = refl
 put_nop has (u ∷ us) zero = refl
 put_nop has (u ∷ us) (suc i) = ap (λ vs. u ∷ vs) (put_nop has us i)
 
-characters-after : (has : ℕ → Bool) (base : Base) (i u : ℕ) (gs : List hb_glyph_info_t) → base.place ≤ i - 1 → characters (after_character has base i u gs) ≡ after_mark has base i u (characters gs)
+characters-after : (has : ℕ → Bool) (base : Base) (i u : ℕ) (gs : List hb_glyph_info_t) → base.place ≤ i - 1
+    → characters (after_character has base i u gs) ≡ after_mark has base i u (characters gs)
 characters-after has base i u gs low =
-    elim (is_thai_mark u) as (λ b. is_thai_mark u ≡ b → characters (cond b (after_action has base i (mark_type u) gs) (unsafe_inside base.place (i - 1) gs)) ≡ after_mark has base i u (characters gs)) [
+    elim (is_thai_mark u) as (λ b. is_thai_mark u ≡ b
+    → characters (cond b (after_action has base i (mark_type u) gs) (unsafe_inside base.place (i - 1) gs))
+    ≡ after_mark has base i u (characters gs)) [
       | true ↦ λ _. characters-form_set has gs _ _
       | false ↦ λ none.
           map-unsafe_inside (λ g. g.glyph_id) (λ g. refl) base.place (i - 1) gs low
           ∙ sym (put_nop has (characters gs) i)
-          ∙ ap (λ a. action_put has (target a base.place i) a (characters gs)) (sym (no_action base.consonant (mark_type u) base.above base.below none))
+          ∙ ap (λ a. action_put has (target a base.place i) a (characters gs))
+          (sym (no_action base.consonant (mark_type u) base.above base.below none))
     ] refl
 
-blank-after : (has : ℕ → Bool) (base : Base) (i u : ℕ) (gs hs : List hb_glyph_info_t) → blank gs ≡ blank hs → blank (after_character has base i u gs) ≡ blank (flags_at u base.place i hs)
+blank-after : (has : ℕ → Bool) (base : Base) (i u : ℕ) (gs hs : List hb_glyph_info_t) → blank gs ≡ blank hs
+    → blank (after_character has base i u gs) ≡ blank (flags_at u base.place i hs)
 blank-after has base i u gs hs same =
-    elim (is_thai_mark u) as (λ b. blank (cond b (after_action has base i (mark_type u) gs) (unsafe_inside base.place (i - 1) gs)) ≡ blank (cond b hs (unsafe_inside base.place (i - 1) hs))) [
+    elim (is_thai_mark u) as (λ b. blank
+    (cond b (after_action has base i (mark_type u) gs) (unsafe_inside base.place (i - 1) gs))
+    ≡ blank (cond b hs (unsafe_inside base.place (i - 1) hs))) [
       | true ↦ blank-form_set has gs _ _ ∙ same
-      | false ↦ blank-unsafe_inside base.place (i - 1) gs ∙ ap (unsafe_inside base.place (i - 1)) same ∙ sym (blank-unsafe_inside base.place (i - 1) hs)
+      | false ↦ blank-unsafe_inside base.place (i - 1) gs ∙ ap (unsafe_inside base.place (i - 1)) same
+          ∙ sym (blank-unsafe_inside base.place (i - 1) hs)
     ]
 
-pub walking_next : (has : ℕ → Bool) (start now after : List hb_glyph_info_t) (i u : ℕ) (base base' : Base) → i < length start → Walking has start now i base → u ≡ get_or (characters now) i 0 → after ≡ after_character has base i u now → base' ≡ base_after base i u → Walking has start after (i + 1) base'
+pub walking_next : (has : ℕ → Bool) (start now after : List hb_glyph_info_t) (i u : ℕ) (base base' : Base)
+    → i < length start → Walking has start now i base → u ≡ get_or (characters now) i 0
+    → after ≡ after_character has base i u now → base' ≡ base_after base i u → Walking has start after (i + 1) base'
 walking_next has start now after i u base base' inside w at changed counted =
     let us = characters start in
     let long : length us ≡ length start = length-map start (λ x. x.glyph_id) in
@@ -279,13 +333,17 @@ walking_next has start now after i u base base' inside w at changed counted =
     let hs = after_character has base i u now in
     let next : Walking has start hs (i + 1) (base_after base i u) = record {
       flags = flags_at u base.place i w.flags;
-      flagging = subst (λ n. Flagging start (flags_at u base.place i w.flags) (i + 1) n) (sym (place_after (mark_type u) base i u)) flagging;
-      shaping = subst (λ vs. Shaping has us vs (i + 1) (base_after base i u)) (sym (characters-after has base i u now low)) shaping;
+      flagging = subst (λ n. Flagging start (flags_at u base.place i w.flags) (i + 1) n)
+          (sym (place_after (mark_type u) base i u)) flagging;
+      shaping = subst (λ vs. Shaping has us vs (i + 1) (base_after base i u))
+          (sym (characters-after has base i u now low)) shaping;
       same_rest = blank-after has base i u now w.flags w.same_rest;
     } in
-    subst (λ b. Walking has start after (i + 1) b) (sym counted) (subst (λ xs. Walking has start xs (i + 1) (base_after base i u)) (sym changed) next)
+    subst (λ b. Walking has start after (i + 1) b) (sym counted)
+    (subst (λ xs. Walking has start xs (i + 1) (base_after base i u)) (sym changed) next)
 
-pub walking_all : (has : ℕ → Bool) (start now : List hb_glyph_info_t) (i : ℕ) (base : Base) → i ≡ length start → Walking has start now i base → unsafe_inside base.place (i - 1) now ≡ pua_shaped has start
+pub walking_all : (has : ℕ → Bool) (start now : List hb_glyph_info_t) (i : ℕ) (base : Base) → i ≡ length start
+    → Walking has start now i base → unsafe_inside base.place (i - 1) now ≡ pua_shaped has start
 walking_all has start now i base end w =
     let us = characters start in
     let long : length us ≡ length start = length-map start (λ x. x.glyph_id) in
@@ -299,24 +357,33 @@ walking_all has start now i base end w =
     ∙ sym (blank-unsafe_inside base.place (i - 1) w.flags)
     ∙ ap blank done in
     let text : characters whole ≡ forms_between has [] us [] =
-    map-unsafe_inside (λ g. g.glyph_id) (λ g. refl) base.place (i - 1) now low ∙ shaping_all has us (characters now) i base (omega arith) w.shaping in
-    let same : us ≡ characters flags = sym (map-unsafe_all (λ g. g.glyph_id) (λ g. refl) (mark_stretches us) start (in_order (each_after [] us))) in
+    map-unsafe_inside (λ g. g.glyph_id) (λ g. refl) base.place (i - 1) now low
+    ∙ shaping_all has us (characters now) i base (omega arith) w.shaping in
+    let same : us ≡ characters flags =
+    sym (map-unsafe_all (λ g. g.glyph_id) (λ g. refl) (mark_stretches us) start
+    (in_order (each_after [] us))) in
     rebuilt whole flags rest
     ∙ ap (λ vs. with_characters vs flags) text
     ∙ ap (λ vs. with_characters (forms_between has [] vs []) flags) same
 
 -- the forms change characters and masks alone
-pub without_form-with_characters : (us : List ℕ) (gs : List hb_glyph_info_t) → length us ≡ length gs → map without_form (with_characters us gs) ≡ map without_form gs
+pub without_form-with_characters : (us : List ℕ) (gs : List hb_glyph_info_t) → length us ≡ length gs
+    → map without_form (with_characters us gs) ≡ map without_form gs
 without_form-with_characters [] [] same = refl
 without_form-with_characters [] (g ∷ gs) same = absurd (omega arith)
 without_form-with_characters (u ∷ us) [] same = absurd (omega arith)
-without_form-with_characters (u ∷ us) (g ∷ gs) same = ap (λ xs. without_form g ∷ xs) (without_form-with_characters us gs (omega arith))
+without_form-with_characters (u ∷ us) (g ∷ gs) same =
+    ap (λ xs. without_form g ∷ xs) (without_form-with_characters us gs (omega arith))
 
-pub without_form-pua : (has : ℕ → Bool) (gs : List hb_glyph_info_t) → map without_form (pua_shaped has gs) ≡ map without_form gs
+pub without_form-pua : (has : ℕ → Bool) (gs : List hb_glyph_info_t) → map without_form (pua_shaped has gs)
+    ≡ map without_form gs
 without_form-pua has gs =
     let flags = unsafe_all (mark_stretches (characters gs)) gs in
-    without_form-with_characters (forms_between has [] (characters flags) []) flags (length-forms has [] (characters flags) [] ∙ length-map flags (λ g. g.glyph_id))
-    ∙ map-unsafe_all without_form (λ g. ap (λ (m : ℕ). let r : hb_glyph_info_t = record g { glyph_id = 0; mask = m } in r) (without_flags-or g.mask 3 refl)) (mark_stretches (characters gs)) gs (in_order (each_after [] (characters gs)))
+    without_form-with_characters (forms_between has [] (characters flags) []) flags (length-forms has
+    [] (characters flags) [] ∙ length-map flags (λ g. g.glyph_id))
+    ∙ map-unsafe_all without_form
+    (λ g. ap (λ (m : ℕ). let r : hb_glyph_info_t = record g { glyph_id = 0; mask = m } in r)
+    (without_flags-or g.mask 3 refl)) (mark_stretches (characters gs)) gs (in_order (each_after [] (characters gs)))
 
 pub forms_hold : FormsLaw
 forms_hold has level gs = record {

@@ -26,90 +26,130 @@ apart u h =
     ]
 
 -- a text without SARA AM stays
-pub in_two_plain : {X : Type 0} (rule : SaraAmRule X) (xs : List X) → list_any (is_am rule) xs ≡ false → in_two rule xs ≡ xs
+pub in_two_plain : {X : Type 0} (rule : SaraAmRule X) (xs : List X) → list_any (is_am rule) xs ≡ false
+    → in_two rule xs ≡ xs
 in_two_plain rule xs none = opened_pieces-none (is_am rule) (piece_in_two rule) xs none
 
 -- what stands before and after a SARA AM is rewritten for itself
-pub in_two-append : {X : Type 0} (rule : SaraAmRule X) (xs : List X) (am : X) (ys : List X) → is_am rule am ≡ true → in_two rule (xs ++ am ∷ ys) ≡ in_two rule (xs ++ am ∷ []) ++ in_two rule ys
+pub in_two-append : {X : Type 0} (rule : SaraAmRule X) (xs : List X) (am : X) (ys : List X) → is_am rule am ≡ true
+    → in_two rule (xs ++ am ∷ ys) ≡ in_two rule (xs ++ am ∷ []) ++ in_two rule ys
 in_two-append rule xs am ys h = opened_pieces-append (is_am rule) (piece_in_two rule) xs am ys h
 
 -- one more glyph that is no SARA AM
-pub in_two_push : {X : Type 0} (rule : SaraAmRule X) (xs : List X) (x : X) → is_am rule x ≡ false → in_two rule (xs ++ x ∷ []) ≡ in_two rule xs ++ x ∷ []
+pub in_two_push : {X : Type 0} (rule : SaraAmRule X) (xs : List X) (x : X) → is_am rule x ≡ false
+    → in_two rule (xs ++ x ∷ []) ≡ in_two rule xs ++ x ∷ []
 in_two_push rule xs x fails = opened_pieces-push (is_am rule) (piece_in_two rule) xs x fails
 
 -- where a NIKHAHIT is pending, what stands before an earlier SARA AM is rewritten for itself too
-pending_after : {X : Type 0} (rule : SaraAmRule X) (before : List X) (am : X) (after : List X) (nikhahit : X) → is_am rule am ≡ true → is_above rule am ≡ false → text_with_pending rule (before ++ am ∷ after) nikhahit ≡ in_two rule (before ++ am ∷ []) ++ text_with_pending rule after nikhahit
+pending_after : {X : Type 0} (rule : SaraAmRule X) (before : List X) (am : X) (after : List X) (nikhahit : X)
+    → is_am rule am ≡ true → is_above rule am ≡ false → text_with_pending rule (before ++ am ∷ after) nikhahit
+    ≡ in_two rule (before ++ am ∷ []) ++ text_with_pending rule after nikhahit
 pending_after rule before am after nikhahit h stops =
-    ap (λ zs. in_two rule zs ++ nikhahit ∷ last_run (is_above rule) (before ++ am ∷ after)) (before_last_run_stop (is_above rule) before am after stops)
-    ∙ ap (λ zs. in_two rule (before ++ am ∷ before_last_run (is_above rule) after) ++ nikhahit ∷ zs) (last_run_stop (is_above rule) before am after stops)
-    ∙ ap (λ zs. zs ++ nikhahit ∷ last_run (is_above rule) after) (in_two-append rule before am (before_last_run (is_above rule) after) h)
-    ∙ append_assoc (in_two rule (before ++ am ∷ [])) (in_two rule (before_last_run (is_above rule) after)) (nikhahit ∷ last_run (is_above rule) after)
+    ap (λ zs. in_two rule zs ++ nikhahit ∷ last_run (is_above rule) (before ++ am ∷ after))
+    (before_last_run_stop (is_above rule) before am after stops)
+    ∙ ap (λ zs. in_two rule (before ++ am ∷ before_last_run (is_above rule) after) ++ nikhahit ∷ zs)
+    (last_run_stop (is_above rule) before am after stops)
+    ∙ ap (λ zs. zs ++ nikhahit ∷ last_run (is_above rule) after)
+    (in_two-append rule before am (before_last_run (is_above rule) after) h)
+    ∙ append_assoc (in_two rule (before ++ am ∷ [])) (in_two rule (before_last_run (is_above rule) after))
+    (nikhahit ∷ last_run (is_above rule) after)
 
-in_two_push_am_first : {X : Type 0} (rule : SaraAmRule X) (xs : List X) (x : X) → list_any (is_am rule) xs ≡ false → is_am rule x ≡ true → in_two rule (xs ++ x ∷ []) ≡ text_with_pending rule xs (rule.nikhahit x) ++ rule.sara_aa x ∷ []
+in_two_push_am_first : {X : Type 0} (rule : SaraAmRule X) (xs : List X) (x : X) → list_any (is_am rule) xs ≡ false
+    → is_am rule x ≡ true → in_two rule (xs ++ x ∷ []) ≡ text_with_pending rule xs (rule.nikhahit x) ++ rule.sara_aa x
+    ∷ []
 in_two_push_am_first rule xs x none passes =
     let before = before_last_run (is_above rule) xs in
     let run = last_run (is_above rule) xs in
     one_piece (is_am rule) (piece_in_two rule) xs x none
     ∙ ap (λ b. cond b (piece_in_two rule xs x) (xs ++ x ∷ [])) passes
     ∙ sym (append_assoc before (rule.nikhahit x ∷ run) (rule.sara_aa x ∷ []))
-    ∙ ap (λ zs. (zs ++ rule.nikhahit x ∷ run) ++ rule.sara_aa x ∷ []) (sym (in_two_plain rule before (none_in_front (is_am rule) (length xs - suffix_len (is_above rule) xs) xs none)))
+    ∙ ap (λ zs. (zs ++ rule.nikhahit x ∷ run) ++ rule.sara_aa x ∷ [])
+    (sym (in_two_plain rule before
+    (none_in_front (is_am rule) (length xs - suffix_len (is_above rule) xs) xs none)))
 
-in_two_push_am_after : {X : Type 0} (rule : SaraAmRule X) (before : List X) (am : X) (after : List X) (x : X) → is_am rule am ≡ true → is_above rule am ≡ false → list_any (is_am rule) after ≡ false → is_am rule x ≡ true → in_two rule ((before ++ am ∷ after) ++ x ∷ []) ≡ text_with_pending rule (before ++ am ∷ after) (rule.nikhahit x) ++ rule.sara_aa x ∷ []
+in_two_push_am_after : {X : Type 0} (rule : SaraAmRule X) (before : List X) (am : X) (after : List X) (x : X)
+    → is_am rule am ≡ true → is_above rule am ≡ false → list_any (is_am rule) after ≡ false → is_am rule x ≡ true
+    → in_two rule ((before ++ am ∷ after) ++ x ∷ []) ≡ text_with_pending rule (before ++ am ∷ after) (rule.nikhahit x)
+    ++ rule.sara_aa x ∷ []
 in_two_push_am_after rule before am after x h stops none passes =
     ap (in_two rule) (append_assoc before (am ∷ after) (x ∷ []))
     ∙ in_two-append rule before am (after ++ x ∷ []) h
     ∙ ap (λ zs. in_two rule (before ++ am ∷ []) ++ zs) (in_two_push_am_first rule after x none passes)
-    ∙ sym (append_assoc (in_two rule (before ++ am ∷ [])) (text_with_pending rule after (rule.nikhahit x)) (rule.sara_aa x ∷ []))
+    ∙ sym (append_assoc (in_two rule (before ++ am ∷ [])) (text_with_pending rule after (rule.nikhahit x))
+    (rule.sara_aa x ∷ []))
     ∙ ap (λ zs. zs ++ rule.sara_aa x ∷ []) (sym (pending_after rule before am after (rule.nikhahit x) h stops))
 
 -- one more glyph that is a SARA AM: its NIKHAHIT is pending
-pub in_two_push_am : {X : Type 0} (rule : SaraAmRule X) (xs : List X) (x : X) → is_am rule x ≡ true → in_two rule (xs ++ x ∷ []) ≡ text_with_pending rule xs (rule.nikhahit x) ++ rule.sara_aa x ∷ []
+pub in_two_push_am : {X : Type 0} (rule : SaraAmRule X) (xs : List X) (x : X) → is_am rule x ≡ true
+    → in_two rule (xs ++ x ∷ []) ≡ text_with_pending rule xs (rule.nikhahit x) ++ rule.sara_aa x ∷ []
 in_two_push_am rule xs x passes =
     elim (last_pass (is_am rule) xs) [
       | inl none ↦ in_two_push_am_first rule xs x none passes
       | inr p ↦
           ap (λ zs. in_two rule (zs ++ x ∷ [])) p.parts
-          ∙ in_two_push_am_after rule p.before p.element p.after x p.passes (apart (rule.character p.element) p.passes) p.none_after passes
+          ∙ in_two_push_am_after rule p.before p.element p.after x p.passes (apart (rule.character p.element) p.passes)
+          p.none_after passes
           ∙ ap (λ zs. text_with_pending rule zs (rule.nikhahit x) ++ rule.sara_aa x ∷ []) (sym p.parts)
     ]
 
 -- one more above-base mark, or another glyph, where a NIKHAHIT is pending
-pub pending_push_mark : {X : Type 0} (rule : SaraAmRule X) (xs : List X) (x nikhahit : X) → is_above rule x ≡ true → text_with_pending rule (xs ++ x ∷ []) nikhahit ≡ text_with_pending rule xs nikhahit ++ x ∷ []
+pub pending_push_mark : {X : Type 0} (rule : SaraAmRule X) (xs : List X) (x nikhahit : X) → is_above rule x ≡ true
+    → text_with_pending rule (xs ++ x ∷ []) nikhahit ≡ text_with_pending rule xs nikhahit ++ x ∷ []
 pending_push_mark rule xs x nikhahit h =
-    ap (λ zs. in_two rule zs ++ nikhahit ∷ last_run (is_above rule) (xs ++ x ∷ [])) (before_last_run_yes (is_above rule) xs x h)
+    ap (λ zs. in_two rule zs ++ nikhahit ∷ last_run (is_above rule) (xs ++ x ∷ []))
+    (before_last_run_yes (is_above rule) xs x h)
     ∙ ap (λ zs. in_two rule (before_last_run (is_above rule) xs) ++ nikhahit ∷ zs) (last_run_yes (is_above rule) xs x h)
-    ∙ sym (append_assoc (in_two rule (before_last_run (is_above rule) xs)) (nikhahit ∷ last_run (is_above rule) xs) (x ∷ []))
+    ∙ sym (append_assoc (in_two rule (before_last_run (is_above rule) xs)) (nikhahit ∷ last_run (is_above rule) xs)
+    (x ∷ []))
 
-pub held_push_other : {X : Type 0} (rule : SaraAmRule X) (xs : List X) (x nikhahit : X) → is_above rule x ≡ false → text_with_pending rule (xs ++ x ∷ []) nikhahit ≡ in_two rule (xs ++ x ∷ []) ++ nikhahit ∷ []
+pub held_push_other : {X : Type 0} (rule : SaraAmRule X) (xs : List X) (x nikhahit : X) → is_above rule x ≡ false
+    → text_with_pending rule (xs ++ x ∷ []) nikhahit ≡ in_two rule (xs ++ x ∷ []) ++ nikhahit ∷ []
 held_push_other rule xs x nikhahit h =
-    ap (λ zs. in_two rule zs ++ nikhahit ∷ last_run (is_above rule) (xs ++ x ∷ [])) (before_last_run_no (is_above rule) xs x h)
+    ap (λ zs. in_two rule zs ++ nikhahit ∷ last_run (is_above rule) (xs ++ x ∷ []))
+    (before_last_run_no (is_above rule) xs x h)
     ∙ ap (λ zs. in_two rule (xs ++ x ∷ []) ++ nikhahit ∷ zs) (last_run_no (is_above rule) xs x h)
 
 -- an above-base mark is no SARA AM
 pub no_am : {X : Type 0} (rule : SaraAmRule X) (x : X) → is_above rule x ≡ true → is_am rule x ≡ false
 no_am rule x h =
-    elim (is_am rule x) as (λ b. is_am rule x ≡ b → b ≡ false) [ true ↦ λ e. sym h ∙ apart (rule.character x) e | false ↦ λ e. refl ] refl
+    elim (is_am rule x) as (λ b. is_am rule x ≡ b → b ≡ false)
+    [ true ↦ λ e. sym h ∙ apart (rule.character x) e | false ↦ λ e. refl ] refl
 
 -- at a SARA AM: what stands before its marks is rewritten for itself, and what stands behind it
-pub in_two_at : {X : Type 0} (rule : SaraAmRule X) (xs : List X) (am : X) (ys : List X) → is_am rule am ≡ true → in_two rule (xs ++ am ∷ ys) ≡ in_two rule (before_last_run (is_above rule) xs) ++ ((rule.nikhahit am ∷ last_run (is_above rule) xs) ++ (rule.sara_aa am ∷ in_two rule ys))
+pub in_two_at : {X : Type 0} (rule : SaraAmRule X) (xs : List X) (am : X) (ys : List X) → is_am rule am ≡ true
+    → in_two rule (xs ++ am ∷ ys) ≡ in_two rule (before_last_run (is_above rule) xs)
+    ++ ((rule.nikhahit am ∷ last_run (is_above rule) xs) ++ (rule.sara_aa am ∷ in_two rule ys))
 in_two_at rule xs am ys passes =
     in_two-append rule xs am ys passes
     ∙ ap (λ zs. zs ++ in_two rule ys) (in_two_push_am rule xs am passes)
     ∙ append_assoc (text_with_pending rule xs (rule.nikhahit am)) (rule.sara_aa am ∷ []) (in_two rule ys)
-    ∙ append_assoc (in_two rule (before_last_run (is_above rule) xs)) (rule.nikhahit am ∷ last_run (is_above rule) xs) (rule.sara_aa am ∷ in_two rule ys)
+    ∙ append_assoc (in_two rule (before_last_run (is_above rule) xs)) (rule.nikhahit am ∷ last_run (is_above rule) xs)
+    (rule.sara_aa am ∷ in_two rule ys)
 
--- the rule on what f reads as the other reads its own: what it makes leads to what the other makes, if its parts of a SARA AM do
+-- the rule on what f reads as the other reads its own: what it makes leads to what the other makes,
+-- if its parts of a SARA AM do
 abbrev pub read_by : {X Y : Type 0} → (X → Y) → (X → X) → (X → X) → SaraAmRule Y → SaraAmRule X
-read_by f nikhahit sara_aa rule = record { character = λ x. rule.character (f x); nikhahit = nikhahit; sara_aa = sara_aa }
+read_by f nikhahit sara_aa rule =
+    record { character = λ x. rule.character (f x); nikhahit = nikhahit; sara_aa = sara_aa }
 
-pub in_two-map : {X Y : Type 0} (f : X → Y) (nikhahit sara_aa : X → X) (rule : SaraAmRule Y) → ((x : X) → f (nikhahit x) ≡ rule.nikhahit (f x)) → ((x : X) → f (sara_aa x) ≡ rule.sara_aa (f x)) → (xs : List X) → map f (in_two (read_by f nikhahit sara_aa rule) xs) ≡ in_two rule (map f xs)
+pub in_two-map : {X Y : Type 0} (f : X → Y) (nikhahit sara_aa : X → X) (rule : SaraAmRule Y)
+    → ((x : X) → f (nikhahit x) ≡ rule.nikhahit (f x)) → ((x : X) → f (sara_aa x) ≡ rule.sara_aa (f x)) → (xs : List X)
+    → map f (in_two (read_by f nikhahit sara_aa rule) xs) ≡ in_two rule (map f xs)
 in_two-map f nikhahit sara_aa rule first second xs =
     let a = read_by f nikhahit sara_aa rule in
     opened_pieces-map f (is_am rule) (piece_in_two a) (piece_in_two rule)
-    (λ before x. simp (map-append, before_last_run-map (is_above rule) f before, last_run-map (is_above rule) f before, first x, second x)) xs
+    (λ before x. simp (
+      map-append,
+      before_last_run-map (is_above rule) f before,
+      last_run-map (is_above rule) f before,
+      first x,
+      second x,
+    )) xs
 
 -- the sources at a SARA AM: those of the text before its marks, the SARA AM, its marks, the SARA AM again, and so on
-pub sources_at : (xs : List ℕ) (u : ℕ) (ys : List ℕ) → is_sara_am u ≡ true → (behind : List ℕ) × (sara_am_sources (xs ++ u ∷ ys) ≡ sara_am_sources (before_last_run is_above_base xs) ++ ((length xs ∷ range_with_len (length xs - suffix_len is_above_base xs) (suffix_len is_above_base xs)) ++ behind))
+pub sources_at : (xs : List ℕ) (u : ℕ) (ys : List ℕ) → is_sara_am u ≡ true → (behind : List ℕ)
+    × (sara_am_sources (xs ++ u ∷ ys) ≡ sara_am_sources (before_last_run is_above_base xs)
+    ++ ((length xs ∷ range_with_len (length xs - suffix_len is_above_base xs) (suffix_len is_above_base xs)) ++ behind))
 sources_at xs u ys passes =
     let place : ℕ × ℕ → ℕ = λ p. p.0 in
     let rest = enumerate_from (length xs + 1) ys in (
@@ -119,8 +159,10 @@ sources_at xs u ys passes =
           ∙ simp (map-append, before_last_run-enumerate_from is_above_base 0 xs, places-last_run is_above_base xs),
     )
 
-pub above_marks_before-characters : (gs : List hb_glyph_info_t) (i : ℕ) → above_marks_before gs i ≡ suffix_len is_above_base (take i (characters gs))
-above_marks_before-characters gs i = sym (suffix_len-map is_above_base (λ g. g.glyph_id) (take i gs)) ∙ ap (suffix_len is_above_base) (sym (take-map (λ g. g.glyph_id) i gs))
+pub above_marks_before-characters : (gs : List hb_glyph_info_t) (i : ℕ)
+    → above_marks_before gs i ≡ suffix_len is_above_base (take i (characters gs))
+above_marks_before-characters gs i = sym (suffix_len-map is_above_base (λ g. g.glyph_id) (take i gs))
+    ∙ ap (suffix_len is_above_base) (sym (take-map (λ g. g.glyph_id) i gs))
 
 -- the lengths: one more glyph for each SARA AM
 pub record Lengths {X : Type 0} (rule : SaraAmRule X) (xs : List X) : Type 0 where
@@ -130,17 +172,43 @@ pub record Lengths {X : Type 0} (rule : SaraAmRule X) (xs : List X) : Type 0 whe
 longer : {X : Type 0} (xs ys : List X) (y : X) → xs ≡ ys ++ y ∷ [] → length xs ≡ length ys + 1
 longer xs ys y e = ap length e ∙ length_push ys y
 
-lengths_push : {X : Type 0} (rule : SaraAmRule X) (xs : List X) (x : X) → Lengths rule xs → length (in_two rule (xs ++ x ∷ [])) ≡ length (xs ++ x ∷ []) + count_by (is_am rule) (xs ++ x ∷ [])
+lengths_push : {X : Type 0} (rule : SaraAmRule X) (xs : List X) (x : X) → Lengths rule xs
+    → length (in_two rule (xs ++ x ∷ [])) ≡ length (xs ++ x ∷ []) + count_by (is_am rule) (xs ++ x ∷ [])
 lengths_push rule xs x p =
-    elim (is_am rule x) as (λ b. is_am rule x ≡ b → length (in_two rule (xs ++ x ∷ [])) ≡ length (xs ++ x ∷ []) + count_by (is_am rule) (xs ++ x ∷ [])) [
-      | true ↦ λ h. omega (arith, longer _ _ _ (in_two_push_am rule xs x h), p.pending (rule.nikhahit x), length_push xs x, count_push (is_am rule) xs x true h)
-      | false ↦ λ h. omega (arith, longer _ _ _ (in_two_push rule xs x h), p.whole, length_push xs x, count_push (is_am rule) xs x false h)
+    elim (is_am rule x) as (λ b. is_am rule x ≡ b → length (in_two rule (xs ++ x ∷ []))
+    ≡ length (xs ++ x ∷ []) + count_by (is_am rule) (xs ++ x ∷ [])) [
+      | true ↦ λ h. omega (
+        arith,
+        longer _ _ _ (in_two_push_am rule xs x h),
+        p.pending (rule.nikhahit x),
+        length_push xs
+            x,
+        count_push (is_am rule) xs x true h,
+      )
+      | false ↦ λ h. omega (
+        arith,
+        longer _ _ _ (in_two_push rule xs x h),
+        p.whole,
+        length_push xs x,
+        count_push
+            (is_am rule) xs x false h,
+      )
     ] refl
 
-lengths_push_held : {X : Type 0} (rule : SaraAmRule X) (xs : List X) (x nikhahit : X) → Lengths rule xs → length (text_with_pending rule (xs ++ x ∷ []) nikhahit) ≡ length (xs ++ x ∷ []) + count_by (is_am rule) (xs ++ x ∷ []) + 1
+lengths_push_held : {X : Type 0} (rule : SaraAmRule X) (xs : List X) (x nikhahit : X) → Lengths rule xs
+    → length (text_with_pending rule (xs ++ x ∷ []) nikhahit)
+    ≡ length (xs ++ x ∷ []) + count_by (is_am rule) (xs ++ x ∷ []) + 1
 lengths_push_held rule xs x nikhahit p =
-    elim (is_above rule x) as (λ b. is_above rule x ≡ b → length (text_with_pending rule (xs ++ x ∷ []) nikhahit) ≡ length (xs ++ x ∷ []) + count_by (is_am rule) (xs ++ x ∷ []) + 1) [
-      | true ↦ λ h. omega (arith, longer _ _ _ (pending_push_mark rule xs x nikhahit h), p.pending nikhahit, length_push xs x, count_push (is_am rule) xs x false (no_am rule x h))
+    elim (is_above rule x) as (λ b. is_above rule x ≡ b → length (text_with_pending rule (xs ++ x ∷ []) nikhahit)
+    ≡ length (xs ++ x ∷ []) + count_by (is_am rule) (xs ++ x ∷ []) + 1) [
+      | true ↦ λ h. omega (
+        arith,
+        longer _ _ _ (pending_push_mark rule xs x nikhahit h),
+        p.pending nikhahit,
+        length_push
+            xs x,
+        count_push (is_am rule) xs x false (no_am rule x h),
+      )
       | false ↦ λ h. omega (arith, longer _ _ _ (held_push_other rule xs x nikhahit h), lengths_push rule xs x p)
     ] refl
 
@@ -152,42 +220,58 @@ lengths rule xs =
 -- Nothing is lost: the result is what comes of each element, in some order; so is a text with a NIKHAHIT pending.
 pub record Kept {X : Type 0} (rule : SaraAmRule X) (xs : List X) : Type 0 where
   pub whole : IsPermutation (flat_map (in_parts rule) xs) (in_two rule xs)
-  pub pending : (nikhahit : X) → IsPermutation (nikhahit ∷ flat_map (in_parts rule) xs) (text_with_pending rule xs nikhahit)
+  pub pending : (nikhahit : X)
+      → IsPermutation (nikhahit ∷ flat_map (in_parts rule) xs) (text_with_pending rule xs nikhahit)
 
 permutation_by : {X : Type 0} (xs us ys vs : List X) → xs ≡ us → ys ≡ vs → IsPermutation us vs → IsPermutation xs ys
 permutation_by xs us ys vs e f p = subst (λ zs. IsPermutation zs ys) (sym e) (subst (IsPermutation us) (sym f) p)
 
-parts_push : {X : Type 0} (rule : SaraAmRule X) (xs : List X) (x : X) (b : Bool) → is_am rule x ≡ b → flat_map (in_parts rule) (xs ++ x ∷ []) ≡ flat_map (in_parts rule) xs ++ cond b (rule.nikhahit x ∷ (rule.sara_aa x ∷ [])) (x ∷ [])
+parts_push : {X : Type 0} (rule : SaraAmRule X) (xs : List X) (x : X) (b : Bool) → is_am rule x ≡ b
+    → flat_map (in_parts rule) (xs ++ x ∷ []) ≡ flat_map (in_parts rule) xs
+    ++ cond b (rule.nikhahit x ∷ (rule.sara_aa x ∷ [])) (x ∷ [])
 parts_push rule xs x b h =
-    flat_map-append (in_parts rule) xs (x ∷ []) ∙ ap (λ ys. flat_map (in_parts rule) xs ++ ys) (append-nil (in_parts rule x) ∙ ap (λ c. cond c (rule.nikhahit x ∷ (rule.sara_aa x ∷ [])) (x ∷ [])) h)
+    flat_map-append (in_parts rule) xs (x ∷ [])
+    ∙ ap (λ ys. flat_map (in_parts rule) xs ++ ys) (append-nil (in_parts rule x)
+    ∙ ap (λ c. cond c (rule.nikhahit x ∷ (rule.sara_aa x ∷ [])) (x ∷ [])) h)
 
-kept_push : {X : Type 0} (rule : SaraAmRule X) (xs : List X) (x : X) → Kept rule xs → IsPermutation (flat_map (in_parts rule) (xs ++ x ∷ [])) (in_two rule (xs ++ x ∷ []))
+kept_push : {X : Type 0} (rule : SaraAmRule X) (xs : List X) (x : X) → Kept rule xs
+    → IsPermutation (flat_map (in_parts rule) (xs ++ x ∷ [])) (in_two rule (xs ++ x ∷ []))
 kept_push rule xs x k =
     let flat = flat_map (in_parts rule) xs in
     let n = rule.nikhahit x in
     let s = rule.sara_aa x in
-    elim (is_am rule x) as (λ b. is_am rule x ≡ b → IsPermutation (flat_map (in_parts rule) (xs ++ x ∷ [])) (in_two rule (xs ++ x ∷ []))) [
+    elim (is_am rule x) as (λ b. is_am rule x ≡ b
+    → IsPermutation (flat_map (in_parts rule) (xs ++ x ∷ [])) (in_two rule (xs ++ x ∷ []))) [
       | true ↦ λ h.
-          permutation_by _ (flat ++ n ∷ (s ∷ [])) _ (text_with_pending rule xs n ++ s ∷ []) (parts_push rule xs x true h) (in_two_push_am rule xs x h)
-          (IsPermutation-trans _ (n ∷ (flat ++ s ∷ [])) _ (IsPermutation-middle flat n (s ∷ [])) (IsPermutation-append_left (s ∷ []) (n ∷ flat) (text_with_pending rule xs n) (k.pending n)))
-      | false ↦ λ h. permutation_by _ (flat ++ x ∷ []) _ (in_two rule xs ++ x ∷ []) (parts_push rule xs x false h) (in_two_push rule xs x h) (IsPermutation-append_left (x ∷ []) flat (in_two rule xs) k.whole)
+          permutation_by _ (flat ++ n ∷ (s ∷ [])) _ (text_with_pending rule xs n ++ s ∷ [])
+          (parts_push rule xs x true h) (in_two_push_am rule xs x h)
+          (IsPermutation-trans _ (n ∷ (flat ++ s ∷ [])) _ (IsPermutation-middle flat n (s ∷ []))
+          (IsPermutation-append_left (s ∷ []) (n ∷ flat) (text_with_pending rule xs n) (k.pending n)))
+      | false ↦ λ h. permutation_by _ (flat ++ x ∷ []) _ (in_two rule xs ++ x ∷ []) (parts_push rule xs x false h)
+          (in_two_push rule xs x h) (IsPermutation-append_left (x ∷ []) flat (in_two rule xs) k.whole)
     ] refl
 
-kept_push_held : {X : Type 0} (rule : SaraAmRule X) (xs : List X) (x n : X) → Kept rule xs → IsPermutation (n ∷ flat_map (in_parts rule) (xs ++ x ∷ [])) (text_with_pending rule (xs ++ x ∷ []) n)
+kept_push_held : {X : Type 0} (rule : SaraAmRule X) (xs : List X) (x n : X) → Kept rule xs
+    → IsPermutation (n ∷ flat_map (in_parts rule) (xs ++ x ∷ [])) (text_with_pending rule (xs ++ x ∷ []) n)
 kept_push_held rule xs x n k =
     let flat = flat_map (in_parts rule) xs in
     let next = in_two rule (xs ++ x ∷ []) in
-    elim (is_above rule x) as (λ b. is_above rule x ≡ b → IsPermutation (n ∷ flat_map (in_parts rule) (xs ++ x ∷ [])) (text_with_pending rule (xs ++ x ∷ []) n)) [
+    elim (is_above rule x) as (λ b. is_above rule x ≡ b
+    → IsPermutation (n ∷ flat_map (in_parts rule) (xs ++ x ∷ [])) (text_with_pending rule (xs ++ x ∷ []) n)) [
       | true ↦ λ h.
-          permutation_by _ (n ∷ (flat ++ x ∷ [])) _ (text_with_pending rule xs n ++ x ∷ []) (ap (λ ys. n ∷ ys) (parts_push rule xs x false (no_am rule x h))) (pending_push_mark rule xs x n h) (IsPermutation-append_left (x ∷ []) (n ∷ flat) (text_with_pending rule xs n) (k.pending n))
+          permutation_by _ (n ∷ (flat ++ x ∷ [])) _ (text_with_pending rule xs n ++ x ∷ [])
+          (ap (λ ys. n ∷ ys) (parts_push rule xs x false (no_am rule x h))) (pending_push_mark rule xs x n h)
+          (IsPermutation-append_left (x ∷ []) (n ∷ flat) (text_with_pending rule xs n) (k.pending n))
       | false ↦ λ h.
           permutation_by _ _ _ (next ++ n ∷ []) refl (held_push_other rule xs x n h)
-          (IsPermutation-trans _ (n ∷ next) _ (IsPermutation-cons n _ next (kept_push rule xs x k)) (IsPermutation-sym (next ++ n ∷ []) (n ∷ next) (IsPermutation-to_front next n)))
+          (IsPermutation-trans _ (n ∷ next) _ (IsPermutation-cons n _ next (kept_push rule xs x k))
+          (IsPermutation-sym (next ++ n ∷ []) (n ∷ next) (IsPermutation-to_front next n)))
     ] refl
 
 pub kept : {X : Type 0} (rule : SaraAmRule X) (xs : List X) → Kept rule xs
 kept rule xs =
-    from_end (Kept rule) (record { whole = IsPermutation-refl []; pending = λ n. IsPermutation-refl (n ∷ []) }) (λ xs x k. record { whole = kept_push rule xs x k; pending = λ n. kept_push_held rule xs x n k }) xs
+    from_end (Kept rule) (record { whole = IsPermutation-refl []; pending = λ n. IsPermutation-refl (n ∷ []) })
+    (λ xs x k. record { whole = kept_push rule xs x k; pending = λ n. kept_push_held rule xs x n k }) xs
 
 -- so each place has a glyph that comes of it
 pub none_lost : (us : List ℕ) (p : ℕ) → p < length us → Contains (sara_am_sources us) p
@@ -195,10 +279,16 @@ none_lost us p inside =
     let es = enumerate_from 0 us in
     let u = get_or us p 0 in
     let same : 0 + p ≡ p = omega arith in
-    let among : Contains es (p, u) = subst (Contains es) (get_or-enumerate_from 0 us p (0, 0) inside ∙ ap (λ k. (k, u)) same) (Contains-get_or es p (0, 0) (omega (arith, length-enumerate_from 0 us))) in
-    let made : (y : ℕ × ℕ) → Contains (in_parts place_rule (p, u)) y → Contains (map (λ q. q.0) (in_two place_rule es)) y.0 =
-    λ y part. Contains-map (λ q. q.0) (in_two place_rule es) y (Contains-permutation _ (in_two place_rule es) y (kept place_rule es).whole (Contains-flat_map (in_parts place_rule) es (p, u) y among part)) in
-    elim (is_sara_am u) as (λ b. ((y : ℕ × ℕ) → Contains (cond b ((p, u + 0x1A) ∷ ((p, u - 1) ∷ [])) ((p, u) ∷ [])) y → Contains (sara_am_sources us) y.0) → Contains (sara_am_sources us) p) [
+    let among : Contains es (p, u) =
+    subst (Contains es) (get_or-enumerate_from 0 us p (0, 0) inside ∙ ap (λ k. (k, u)) same)
+    (Contains-get_or es p (0, 0) (omega (arith, length-enumerate_from 0 us))) in
+    let made : (y : ℕ × ℕ) → Contains (in_parts place_rule (p, u)) y
+    → Contains (map (λ q. q.0) (in_two place_rule es)) y.0 =
+    λ y part. Contains-map (λ q. q.0) (in_two place_rule es) y
+    (Contains-permutation _ (in_two place_rule es) y (kept place_rule es).whole
+    (Contains-flat_map (in_parts place_rule) es (p, u) y among part)) in
+    elim (is_sara_am u) as (λ b. ((y : ℕ × ℕ) → Contains (cond b ((p, u + 0x1A) ∷ ((p, u - 1) ∷ [])) ((p, u) ∷ [])) y
+    → Contains (sara_am_sources us) y.0) → Contains (sara_am_sources us) p) [
       | true ↦ λ made. made (p, u + 0x1A) (0, omega arith, refl)
       | false ↦ λ made. made (p, u) (0, omega arith, refl)
     ] made

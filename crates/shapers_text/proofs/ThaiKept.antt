@@ -25,17 +25,25 @@ abbrev parts : hb_glyph_info_t → List hb_glyph_info_t
 parts g = in_parts glyph_rule g
 
 -- the parts of a glyph, seen by the view, are those of its order view
-seen_parts : (forms : Bool) (g : hb_glyph_info_t) → map (kept_view forms) (parts g) ≡ map (kept_view forms) (parts (plain g))
-seen_parts false g = elim (is_sara_am g.glyph_id) as (λ (b : Bool). map (kept_view false) (if b then nikhahit g ∷ (sara_aa g ∷ []) else g ∷ []) ≡ map (kept_view false) (if b then nikhahit (plain g) ∷ (sara_aa (plain g) ∷ []) else plain g ∷ [])) [
-  | true ↦ ap (λ (m : ℕ). masked false (nikhahit g) m ∷ (masked false (sara_aa g) m ∷ [])) (sym (without_flags-twice g.mask))
-  | false ↦ ap (λ (m : ℕ). masked false g m ∷ []) (sym (without_flags-twice g.mask))
-]
-seen_parts true g = elim (is_sara_am g.glyph_id) as (λ (b : Bool). map (kept_view true) (if b then nikhahit g ∷ (sara_aa g ∷ []) else g ∷ []) ≡ map (kept_view true) (if b then nikhahit (plain g) ∷ (sara_aa (plain g) ∷ []) else plain g ∷ [])) [
-  | true ↦ ap (λ (m : ℕ). masked true (nikhahit g) m ∷ (masked true (sara_aa g) m ∷ [])) (sym (without_flags-twice g.mask))
-  | false ↦ ap (λ (m : ℕ). masked true g m ∷ []) (sym (without_flags-twice g.mask))
-]
+seen_parts : (forms : Bool) (g : hb_glyph_info_t) → map (kept_view forms) (parts g)
+    ≡ map (kept_view forms) (parts (plain g))
+seen_parts false g =
+    elim (is_sara_am g.glyph_id) as (λ (b : Bool). map (kept_view false) (if b then nikhahit g ∷ (sara_aa g ∷ []) else g
+    ∷ []) ≡ map (kept_view false) (if b then nikhahit (plain g) ∷ (sara_aa (plain g) ∷ []) else plain g ∷ [])) [
+      | true ↦ ap (λ (m : ℕ). masked false (nikhahit g) m ∷ (masked false (sara_aa g) m ∷ []))
+          (sym (without_flags-twice g.mask))
+      | false ↦ ap (λ (m : ℕ). masked false g m ∷ []) (sym (without_flags-twice g.mask))
+    ]
+seen_parts true g =
+    elim (is_sara_am g.glyph_id) as (λ (b : Bool). map (kept_view true) (if b then nikhahit g ∷ (sara_aa g ∷ []) else g
+    ∷ []) ≡ map (kept_view true) (if b then nikhahit (plain g) ∷ (sara_aa (plain g) ∷ []) else plain g ∷ [])) [
+      | true ↦ ap (λ (m : ℕ). masked true (nikhahit g) m ∷ (masked true (sara_aa g) m ∷ []))
+          (sym (without_flags-twice g.mask))
+      | false ↦ ap (λ (m : ℕ). masked true g m ∷ []) (sym (without_flags-twice g.mask))
+    ]
 
-seen_all : (forms : Bool) (gs : List hb_glyph_info_t) → map (kept_view forms) (flat_map parts gs) ≡ map (kept_view forms) (flat_map parts (order_view gs))
+seen_all : (forms : Bool) (gs : List hb_glyph_info_t) → map (kept_view forms) (flat_map parts gs)
+    ≡ map (kept_view forms) (flat_map parts (order_view gs))
 seen_all forms [] = refl
 seen_all forms (g ∷ gs) =
     let v = kept_view forms in
@@ -45,29 +53,43 @@ seen_all forms (g ∷ gs) =
     ∙ sym (map-append v (parts (plain g)) (flat_map parts (order_view gs)))
 
 -- the rewriting of the merged text
-kept_merged : (forms : Bool) (level : BufferClusterLevel) (sts : List (ℕ × ℕ)) (gs : List hb_glyph_info_t) → KeptInTwo forms gs (glyphs_in_two (merge_all level sts gs))
+kept_merged : (forms : Bool) (level : BufferClusterLevel) (sts : List (ℕ × ℕ)) (gs : List hb_glyph_info_t)
+    → KeptInTwo forms gs (glyphs_in_two (merge_all level sts gs))
 kept_merged forms level sts gs =
     let v = kept_view forms in
     let ms = merge_all level sts gs in
-    let same : map v (flat_map parts ms) ≡ map v (flat_map parts gs) = seen_all forms ms ∙ ap (λ xs. map v (flat_map parts xs)) (order_view-merge_all level sts gs) ∙ sym (seen_all forms gs) in
-    subst (λ xs. IsPermutation xs (map v (glyphs_in_two ms))) same (IsPermutation-map v (flat_map parts ms) (glyphs_in_two ms) (kept glyph_rule ms).whole)
+    let same : map v (flat_map parts ms) ≡ map v (flat_map parts gs) = seen_all forms ms
+    ∙ ap (λ xs. map v (flat_map parts xs)) (order_view-merge_all level sts gs) ∙ sym (seen_all forms gs) in
+    subst (λ xs. IsPermutation xs (map v (glyphs_in_two ms))) same
+    (IsPermutation-map v (flat_map parts ms) (glyphs_in_two ms) (kept glyph_rule ms).whole)
 
 -- the forms change characters and flags alone
-formless : (has : ℕ → Bool) (text : List hb_glyph_info_t) → map (kept_view true) (pua_shaped has text) ≡ map (kept_view true) text
+formless : (has : ℕ → Bool) (text : List hb_glyph_info_t) → map (kept_view true) (pua_shaped has text)
+    ≡ map (kept_view true) text
 formless has text =
     let clear = λ (g : hb_glyph_info_t). let r : hb_glyph_info_t = record g { cluster = 0 } in r in
-    sym (map-map clear without_form (pua_shaped has text)) ∙ ap (map clear) (without_form-pua has text) ∙ map-map clear without_form text
+    sym (map-map clear without_form (pua_shaped has text)) ∙ ap (map clear) (without_form-pua has text)
+    ∙ map-map clear without_form text
 
-pub kept_in_two : (forms : Bool) (has : ℕ → Bool) (level : BufferClusterLevel) (gs : List hb_glyph_info_t) → KeptInTwo forms gs (preprocessed_text forms has level gs)
+pub kept_in_two : (forms : Bool) (has : ℕ → Bool) (level : BufferClusterLevel) (gs : List hb_glyph_info_t)
+    → KeptInTwo forms gs (preprocessed_text forms has level gs)
 kept_in_two false has level gs = kept_merged false level (sara_am_stretches level (characters gs)) gs
 kept_in_two true has level gs =
     let sts = sara_am_stretches level (characters gs) in
     let text = glyphs_in_two (merge_all level sts gs) in
-    subst (IsPermutation (map (kept_view true) (flat_map parts gs))) (sym (formless has text)) (kept_merged true level sts gs)
+    subst (IsPermutation (map (kept_view true) (flat_map parts gs))) (sym (formless has text))
+    (kept_merged true level sts gs)
 
 -- the whole hook
-pub plain_kept : (forms : Bool) → false ≡ forms → (level : BufferClusterLevel) (gs text : List hb_glyph_info_t) → text ≡ preprocessed_text false (λ _. false) level gs → KeptInTwo forms gs text
-plain_kept forms none level gs text is = subst (λ b. KeptInTwo b gs text) none (subst (KeptInTwo false gs) (sym is) (kept_in_two false (λ _. false) level gs))
+pub plain_kept : (forms : Bool) → false ≡ forms → (level : BufferClusterLevel) (gs text : List hb_glyph_info_t)
+    → text ≡ preprocessed_text false (λ _. false) level gs → KeptInTwo forms gs text
+plain_kept forms none level gs text is =
+    subst (λ b. KeptInTwo b gs text) none
+    (subst (KeptInTwo false gs) (sym is) (kept_in_two false (λ _. false) level gs))
 
-pub shaped_kept : (forms : Bool) → true ≡ forms → (has : ℕ → Bool) (level : BufferClusterLevel) (gs text shaped : List hb_glyph_info_t) → text ≡ preprocessed_text false has level gs → shaped ≡ pua_shaped has text → KeptInTwo forms gs shaped
-shaped_kept forms some has level gs text shaped is forms_are = subst (λ b. KeptInTwo b gs shaped) some (subst (KeptInTwo true gs) (sym (forms_are ∙ ap (pua_shaped has) is)) (kept_in_two true has level gs))
+pub shaped_kept : (forms : Bool) → true ≡ forms
+    → (has : ℕ → Bool) (level : BufferClusterLevel) (gs text shaped : List hb_glyph_info_t)
+    → text ≡ preprocessed_text false has level gs → shaped ≡ pua_shaped has text → KeptInTwo forms gs shaped
+shaped_kept forms some has level gs text shaped is forms_are =
+    subst (λ b. KeptInTwo b gs shaped) some
+    (subst (KeptInTwo true gs) (sym (forms_are ∙ ap (pua_shaped has) is)) (kept_in_two true has level gs))

@@ -22,7 +22,8 @@ use Rattle.shapers_text.specs.ThaiLaws.{kept_view, new_place, without_name}
 
 -- a text whose clusters count from 0
 abbrev text : List ℕ → List hb_glyph_info_t
-text us = map (λ p. let g : hb_glyph_info_t = record default_glyph { glyph_id = p.1; cluster = p.0 } in g) (enumerate_from 0 us)
+text us = map (λ p. let g : hb_glyph_info_t = record default_glyph { glyph_id = p.1; cluster = p.0 } in g)
+    (enumerate_from 0 us)
 
 -- the hook where GSUB has the script, and where it hasn't and the font has these characters
 abbrev found : BufferClusterLevel → List ℕ → List hb_glyph_info_t
@@ -49,17 +50,21 @@ tone-new_place : new_place (0x0E14 ∷ 0x0E4B ∷ []) ≡ 1
 tone-new_place = refl
 
 -- only NIKHAHIT is made a mark and a continuation
-made-marks : map (λ g. is_continuation g.marks) (found MonotoneGraphemes (0x0E14 ∷ 0x0E4B ∷ 0x0E33 ∷ [])) ≡ false ∷ true ∷ false ∷ false ∷ []
+made-marks : map (λ g. is_continuation g.marks) (found MonotoneGraphemes (0x0E14 ∷ 0x0E4B ∷ 0x0E33 ∷ []))
+    ≡ false ∷ true ∷ false ∷ false ∷ []
 made-marks = refl
 
-made-categories : map (λ g. g.general_category) (found MonotoneGraphemes (0x0E14 ∷ 0x0E4B ∷ 0x0E33 ∷ [])) ≡ Cc ∷ Mn ∷ Cc ∷ Cc ∷ []
+made-categories : map (λ g. g.general_category) (found MonotoneGraphemes (0x0E14 ∷ 0x0E4B ∷ 0x0E33 ∷ []))
+    ≡ Cc ∷ Mn ∷ Cc ∷ Cc ∷ []
 made-categories = refl
 
 -- before two marks
-two_marks : characters (found MonotoneGraphemes (0x0E14 ∷ 0x0E34 ∷ 0x0E48 ∷ 0x0E33 ∷ [])) ≡ 0x0E14 ∷ 0x0E4D ∷ 0x0E34 ∷ 0x0E48 ∷ 0x0E32 ∷ []
+two_marks : characters (found MonotoneGraphemes (0x0E14 ∷ 0x0E34 ∷ 0x0E48 ∷ 0x0E33 ∷ [])) ≡ 0x0E14 ∷ 0x0E4D ∷ 0x0E34
+    ∷ 0x0E48 ∷ 0x0E32 ∷ []
 two_marks = refl
 
-two_marks-clusters : clusters (found MonotoneGraphemes (0x0E14 ∷ 0x0E34 ∷ 0x0E48 ∷ 0x0E33 ∷ [])) ≡ 0 ∷ 1 ∷ 1 ∷ 1 ∷ 1 ∷ []
+two_marks-clusters : clusters (found MonotoneGraphemes (0x0E14 ∷ 0x0E34 ∷ 0x0E48 ∷ 0x0E33 ∷ [])) ≡ 0 ∷ 1 ∷ 1 ∷ 1 ∷ 1
+    ∷ []
 two_marks-clusters = refl
 
 -- one after another; without marks a SARA AM joins the glyph before it at level MonotoneGraphemes alone
@@ -94,7 +99,8 @@ left_twice : characters (shaped (0xF701 ∷ 0xF713 ∷ []) (0x0E1B ∷ 0x0E34 �
 left_twice = refl
 
 -- a base's type is that of its character before its form
-descender_and_tone : characters (shaped (0xF70F ∷ 0xF70A ∷ []) (0x0E0D ∷ 0x0E38 ∷ 0x0E48 ∷ [])) ≡ 0xF70F ∷ 0x0E38 ∷ 0xF70A ∷ []
+descender_and_tone : characters (shaped (0xF70F ∷ 0xF70A ∷ []) (0x0E0D ∷ 0x0E38 ∷ 0x0E48 ∷ [])) ≡ 0xF70F ∷ 0x0E38
+    ∷ 0xF70A ∷ []
 descender_and_tone = refl
 
 -- the second form where the font hasn't the first; the first where it has both
@@ -120,16 +126,31 @@ no_type : characters (shaped (0xF70F ∷ 0xF718 ∷ []) (0x0E0D ∷ 0x0ECD ∷ 0
 no_type = refl
 
 -- two bases, each with three marks
-two_bases : characters (shaped (0xF70F ∷ 0xF70A ∷ 0xF705 ∷ 0xF713 ∷ 0xF718 ∷ []) (0x0E0D ∷ 0x0E38 ∷ 0x0E48 ∷ 0x0E48 ∷ 0x0E1B ∷ 0x0E38 ∷ 0x0E48 ∷ 0x0E48 ∷ [])) ≡ 0xF70F ∷ 0x0E38 ∷ 0xF70A ∷ 0x0E48 ∷ 0x0E1B ∷ 0x0E38 ∷ 0xF705 ∷ 0xF713 ∷ []
+two_bases : characters
+    (shaped (0xF70F ∷ 0xF70A ∷ 0xF705 ∷ 0xF713 ∷ 0xF718 ∷ []) (0x0E0D ∷ 0x0E38 ∷ 0x0E48 ∷ 0x0E48 ∷ 0x0E1B ∷ 0x0E38
+    ∷ 0x0E48 ∷ 0x0E48 ∷ [])) ≡ 0xF70F ∷ 0x0E38 ∷ 0xF70A ∷ 0x0E48 ∷ 0x0E1B ∷ 0x0E38 ∷ 0xF705 ∷ 0xF713 ∷ []
 two_bases = refl
 
 -- a break between a base and its marks is unsafe, whether a form is found or not
 flags : masks (shaped [] (0x0E14 ∷ 0x0E38 ∷ 0x0E48 ∷ [])) ≡ 0 ∷ 3 ∷ 0 ∷ []
 flags = refl
 
--- a glyph whose fields are all set: without what the rewriting changes, and as it is kept where forms don't follow and where they do
+-- a glyph whose fields are all set: without what the rewriting changes, and as it is kept where
+-- forms don't follow and where they do
 abbrev full : hb_glyph_info_t
-full = record { glyph_id = 0x916; cluster = 5; mask = 0x1F; var = 0x7A; syllable = 0x24; category = 1; auxiliary = 3; general_category = Mn; modified_combining_class = 9; lig_comp = 2; marks = record { 0 = 31 } }
+full = record {
+  glyph_id = 0x916;
+  cluster = 5;
+  mask = 0x1F;
+  var = 0x7A;
+  syllable = 0x24;
+  category = 1;
+  auxiliary = 3;
+  general_category = Mn;
+  modified_combining_class = 9;
+  lig_comp = 2;
+  marks = record { 0 = 31 };
+}
 
 unnamed : without_name full ≡ record full { glyph_id = 0; general_category = Cc; marks = record { 0 = 15 } }
 unnamed = refl
@@ -155,13 +176,41 @@ told_by_class same = let e : 9 ≡ 8 = ap (λ g. g.modified_combining_class) sam
 
 -- the forms hang on the script of the plan, not on that of the buffer
 abbrev plan_for : String → hb_ot_shape_plan_t
-plan_for tag = record { script = Some (record { 0 = codes tag }); ot_map = record { features = []; stages = []; lookups = []; global = 0; chosen = None; found = false }; has_gpos_mark = false; stretch_start = starts.AsCode; break_flags = breaks.AsCode; base_search = WithoutMedials; plan_data = data_of.None }
+plan_for tag =
+    record {
+      script = Some (record { 0 = codes tag });
+      ot_map = record {
+        features = [];
+        stages = [];
+        lookups =
+            [];
+        global = 0;
+        chosen = None;
+        found = false;
+      };
+      has_gpos_mark = false;
+      stretch_start = starts.AsCode;
+      break_flags =
+          breaks.AsCode;
+      base_search = WithoutMedials;
+      plan_data = data_of.None;
+    }
 
 abbrev every : Font
-every = record { nominal = λ c. Some (record { 0 = 1 }); advance = λ g. pos 0; applies = λ lookup glyphs zero. false; offers = λ tag. false }
+every = record {
+  nominal = λ c. Some (record { 0 = 1 });
+  advance = λ g. pos 0;
+  applies = λ lookup glyphs zero. false;
+  offers = λ tag. false;
+}
 
 abbrev rewritten : String → String → List ℕ
-rewritten planned written = characters (preprocessed_in_thai (plan_for planned) every (record (new_buffer 9) { glyphs = text (0x0E1B ∷ 0x0E34 ∷ []); script = Some (record { 0 = codes written }) })).glyphs
+rewritten planned written =
+    characters (preprocessed_in_thai (plan_for planned) every
+    (record (new_buffer 9) {
+      glyphs = text (0x0E1B ∷ 0x0E34 ∷ []);
+      script = Some (record { 0 = codes written });
+    })).glyphs
 
 forms_by_plan : rewritten "Thai" "Laoo" ∷ rewritten "Laoo" "Thai" ∷ [] ≡ (0x0E1B ∷ 0xF701 ∷ []) ∷ (0x0E1B ∷ 0x0E34 ∷ []) ∷ []
 forms_by_plan = refl

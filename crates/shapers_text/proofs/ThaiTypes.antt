@@ -10,7 +10,8 @@ use Rattle.shapers_text.specs.ThaiWalk.{types_of}
 table_is : TYPES ≡ map types_of (range_with_len 0x0E00 96)
 table_is = refl
 
-pub types_read : (u : ℕ) (d : Types) → u < 4294967296 → (u + 4294963712) % 4294967296 < 96 → get_or TYPES ((u + 4294963712) % 4294967296) d ≡ types_of u
+pub types_read : (u : ℕ) (d : Types) → u < 4294967296 → (u + 4294963712) % 4294967296 < 96
+    → get_or TYPES ((u + 4294963712) % 4294967296) d ≡ types_of u
 types_read u d fits low =
     let i = (u + 4294963712) % 4294967296 in
     ap (λ ts. get_or ts i d) table_is ∙ get_or-map-range_with_len types_of 0x0E00 96 i u d low (omega arith)

@@ -10,6 +10,7 @@ use Rattle.shapers_unicode.specs.Values.{over}
 unfoldable pub class_stepped : Stepped modified_class
 unfolding modified_class rises_from class_rows class_exceptions changed_classes
 class_stepped =
-    zip_stepped over (value_in None class_exceptions) (λ c. value_in (combining_class c) changed_classes (combining_class c))
+    zip_stepped over (value_in None class_exceptions)
+    (λ c. value_in (combining_class c) changed_classes (combining_class c))
     (of_rows None class_exceptions refl)
     (map_stepped (λ k. value_in k changed_classes k) combining_class (of_rows 0 class_rows refl))

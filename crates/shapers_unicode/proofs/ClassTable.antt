@@ -15,7 +15,8 @@ CLASS-ok = refl
 pub IsTable-CLASS : IsTable 64 CLASS_INDEX CLASS_BLOCKS
 IsTable-CLASS = table_ok-IsTable 64 CLASS_INDEX CLASS_BLOCKS CLASS_TAIL _ CLASS-ok
 
-pub table_value-CLASS : (c : ℕ) → c < 0x11_0000 → table_value 64 CLASS_INDEX CLASS_BLOCKS CLASS_TAIL c ≡ modified_class c
+pub table_value-CLASS : (c : ℕ) → c < 0x11_0000 → table_value 64 CLASS_INDEX CLASS_BLOCKS CLASS_TAIL c
+    ≡ modified_class c
 table_value-CLASS = table_value-Stepped 64 CLASS_INDEX CLASS_BLOCKS CLASS_TAIL modified_class class_stepped CLASS-ok
 
 -- the first and the last cell of each block, and of each range above
@@ -59,6 +60,7 @@ CLASS-cells : cells_hold (
     ∷ (0x1D180, 220) ∷ (0x1D1BF, 0) ∷ (0x1D240, 0) ∷ (0x1D27F, 0) ∷ (0x1E000, 230) ∷ (0x1E03F, 0)
     ∷ (0x1E080, 0) ∷ (0x1E0BF, 0) ∷ (0x1E280, 0) ∷ (0x1E2BF, 0) ∷ (0x1E2C0, 0) ∷ (0x1E2FF, 0)
     ∷ (0x1E4C0, 0) ∷ (0x1E4FF, 0) ∷ (0x1E5C0, 0) ∷ (0x1E5FF, 0) ∷ (0x1E6C0, 0) ∷ (0x1E6FF, 0)
-    ∷ (0x1E8C0, 0) ∷ (0x1E8FF, 0) ∷ (0x1E940, 0) ∷ (0x1E97F, 0) ∷ (0x20000, 0) ∷ (0x10FFFF, 0) ∷ []) (runs_of modified_class class_stepped) ≡ true
+    ∷ (0x1E8C0, 0) ∷ (0x1E8FF, 0) ∷ (0x1E940, 0) ∷ (0x1E97F, 0) ∷ (0x20000, 0) ∷ (0x10FFFF, 0) ∷ [])
+    (runs_of modified_class class_stepped) ≡ true
 unfolding tables table_cells class_stepped
 CLASS-cells = refl

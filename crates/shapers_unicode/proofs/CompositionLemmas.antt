@@ -40,16 +40,20 @@ is_some_of-true p (Some x) h = ap Some (eqb-true x p h)
 
 -- ---- a scan of the pairs
 
-two_more : (xs : List ℕ) (i : ℕ) → i + 1 < length xs → drop i xs ≡ slice_index xs i ∷ slice_index xs (i + 1) ∷ drop (i + 2) xs
+two_more : (xs : List ℕ) (i : ℕ) → i + 1 < length xs → drop i xs ≡ slice_index xs i ∷ slice_index xs (i + 1)
+    ∷ drop (i + 2) xs
 two_more xs i h =
     let next : i + 1 + 1 ≡ i + 2 = omega arith in
-    drop_more xs i 0 (omega arith) ∙ ap (λ l. slice_index xs i ∷ l) (drop_more xs (i + 1) 0 h ∙ ap (λ n. slice_index xs (i + 1) ∷ drop n xs) next)
+    drop_more xs i 0 (omega arith)
+    ∙ ap (λ l. slice_index xs i ∷ l) (drop_more xs (i + 1) 0 h ∙ ap (λ n. slice_index xs (i + 1) ∷ drop n xs) next)
 
-pub paired_with-here : (b : ℕ) (xs : List ℕ) (i : ℕ) → i + 1 < length xs → slice_index xs i ≡ b → paired_with b (drop i xs) ≡ Some (slice_index xs (i + 1))
+pub paired_with-here : (b : ℕ) (xs : List ℕ) (i : ℕ) → i + 1 < length xs → slice_index xs i ≡ b
+    → paired_with b (drop i xs) ≡ Some (slice_index xs (i + 1))
 unfolding paired_with
 paired_with-here b xs i h same = ap (paired_with b) (two_more xs i h) ∙ cond-true _ _ _ (eq-eqb _ b same)
 
-pub paired_with-later : (b : ℕ) (xs : List ℕ) (i : ℕ) → i + 1 < length xs → slice_index xs i ≢ b → paired_with b (drop i xs) ≡ paired_with b (drop (i + 2) xs)
+pub paired_with-later : (b : ℕ) (xs : List ℕ) (i : ℕ) → i + 1 < length xs → slice_index xs i ≢ b
+    → paired_with b (drop i xs) ≡ paired_with b (drop (i + 2) xs)
 unfolding paired_with
 paired_with-later b xs i h other = ap (paired_with b) (two_more xs i h) ∙ cond-false _ _ _ (ne_eqb _ b other)
 
@@ -71,14 +75,16 @@ listed excluded pairs p _ = true
 abbrev entry_listed : (ℕ → Bool) → (ℕ → List ℕ) → ℕ → List ℕ → Bool
 entry_listed excluded pairs p entry = listed excluded pairs p (entry)
 
-all_listed : (p : ℕ) → is_empty (canonical_mapping p) ≡ false → listed is_excluded compositions p (canonical_mapping p) ≡ true
+all_listed : (p : ℕ) → is_empty (canonical_mapping p) ≡ false → listed is_excluded compositions p (canonical_mapping p)
+    ≡ true
 unfolding tables points_ok paired_with mapping_stepped composition_stepped excluded_stepped
 all_listed p some =
     let excluded = tree_value-tree_of is_excluded excluded_stepped in
     let pairs = tree_value-tree_of compositions composition_stepped in
     ap₂ (λ x y. listed x y p (canonical_mapping p)) excluded pairs
     ∙ Stepped-at_points canonical_mapping mapping_stepped (λ e. is_empty (e))
-    (entry_listed (tree_value false (tree_of is_excluded excluded_stepped)) (tree_value [] (tree_of compositions composition_stepped)))
+    (entry_listed (tree_value false (tree_of is_excluded excluded_stepped)) (tree_value
+    [] (tree_of compositions composition_stepped)))
     refl p some
 
 IsCompositeOf-paired_with : (a b p : ℕ) → IsCompositeOf a b p → paired_with b (compositions a) ≡ Some p
@@ -96,14 +102,16 @@ pairs_compose : (ℕ → Bool) → (ℕ → List ℕ) → ℕ → List ℕ → B
 pairs_compose excluded table a (b ∷ p ∷ rest) = composes excluded table a b p && pairs_compose excluded table a rest
 pairs_compose excluded table a _ = true
 
-all_compose : (a : ℕ) → is_empty (compositions a) ≡ false → pairs_compose is_excluded canonical_mapping a (compositions a) ≡ true
+all_compose : (a : ℕ) → is_empty (compositions a) ≡ false
+    → pairs_compose is_excluded canonical_mapping a (compositions a) ≡ true
 unfolding tables points_ok pairs_compose mapping_stepped composition_stepped excluded_stepped
 all_compose a some =
     let excluded = tree_value-tree_of is_excluded excluded_stepped in
     let table = tree_value-tree_of canonical_mapping mapping_stepped in
     ap₂ (λ x y. pairs_compose x y a (compositions a)) excluded table
     ∙ Stepped-at_points compositions composition_stepped is_empty
-    (pairs_compose (tree_value false (tree_of is_excluded excluded_stepped)) (tree_value [] (tree_of canonical_mapping mapping_stepped)))
+    (pairs_compose (tree_value false (tree_of is_excluded excluded_stepped)) (tree_value
+    [] (tree_of canonical_mapping mapping_stepped)))
     refl a some
 
 composes-IsCompositeOf : (a b p : ℕ) → composes is_excluded canonical_mapping a b p ≡ true → IsCompositeOf a b p
@@ -111,12 +119,15 @@ composes-IsCompositeOf a b p h =
     let parts = and_parts (is_pair a b (canonical_mapping p)) (not (is_excluded p)) h in
     record { mapping = is_pair-true a b _ parts.0; allowed = not-true _ parts.1 }
 
-pairs_compose-true : (a b p : ℕ) (pairs : List ℕ) → (is_empty pairs ≡ false → pairs_compose is_excluded canonical_mapping a pairs ≡ true) → paired_with b pairs ≡ Some p → IsCompositeOf a b p
+pairs_compose-true : (a b p : ℕ) (pairs : List ℕ)
+    → (is_empty pairs ≡ false → pairs_compose is_excluded canonical_mapping a pairs ≡ true)
+    → paired_with b pairs ≡ Some p → IsCompositeOf a b p
 unfolding pairs_compose paired_with
 pairs_compose-true a b p [] ok h = cc
 pairs_compose-true a b p (x ∷ []) ok h = cc
 pairs_compose-true a b p (x ∷ q ∷ rest) ok h =
-    let parts = and_parts (composes is_excluded canonical_mapping a x q) (pairs_compose is_excluded canonical_mapping a rest) (ok refl) in
+    let parts = and_parts (composes is_excluded canonical_mapping a x q)
+    (pairs_compose is_excluded canonical_mapping a rest) (ok refl) in
     cond_both (x == b) (Some q) (paired_with b rest) (λ o. o ≡ Some p → IsCompositeOf a b p)
     (λ here found.
     let second = eqb-true x b here in
@@ -144,27 +155,33 @@ unfolding tables rows_agree mapping_stepped
 all_agree = ap (λ table. rows_agree table mapping_rows) (tree_value-tree_of canonical_mapping mapping_stepped) ∙ refl
 
 module _ (a b p : ℕ) where
-  found_in-IsCompositeOf : (rs : List (Row (List ℕ))) → rows_agree canonical_mapping rs ≡ true → found_in a b rs ≡ Some p → IsCompositeOf a b p
+  found_in-IsCompositeOf : (rs : List (Row (List ℕ))) → rows_agree canonical_mapping rs ≡ true
+      → found_in a b rs ≡ Some p → IsCompositeOf a b p
   unfolding rows_agree
   found_in-IsCompositeOf [] ok h = cc
   found_in-IsCompositeOf (r ∷ rs) ok h =
       let test = λ (row : Row (List ℕ)). is_pair a b (row.2) && not (is_excluded row.0) in
-      let parts = and_parts (r.0 == r.1 && same_string (canonical_mapping r.0) r.2) (rows_agree canonical_mapping rs) ok in
+      let parts = and_parts (r.0 == r.1 && same_string (canonical_mapping r.0) r.2) (rows_agree canonical_mapping rs)
+      ok in
       let same = same_string-true _ _ (and_parts (r.0 == r.1) (same_string (canonical_mapping r.0) r.2) parts.0).1 in
-      cond_both (test r) (Some r) (find test rs) (λ o. option_map (λ (row : Row (List ℕ)). row.0) o ≡ Some p → IsCompositeOf a b p)
+      cond_both (test r) (Some r) (find test rs) (λ o. option_map (λ (row : Row (List ℕ)). row.0) o ≡ Some p
+      → IsCompositeOf a b p)
       (λ here found.
       let passes = and_parts (is_pair a b (r.2)) (not (is_excluded r.0)) here in
       let at : r.0 ≡ p = cc in
-      subst (IsCompositeOf a b) at (record { mapping = same ∙ is_pair-true a b _ passes.0; allowed = not-true _ passes.1 }))
+      subst (IsCompositeOf a b) at
+      (record { mapping = same ∙ is_pair-true a b _ passes.0; allowed = not-true _ passes.1 }))
       (λ _ found. found_in-IsCompositeOf rs parts.1 found)
       h
 
-  found_in-some : (rs : List (Row (List ℕ))) → rows_agree canonical_mapping rs ≡ true → is_pair a b (value_in [] rs p) ≡ true → is_excluded p ≡ false → is_some (found_in a b rs) ≡ true
+  found_in-some : (rs : List (Row (List ℕ))) → rows_agree canonical_mapping rs ≡ true → is_pair a b (value_in [] rs p)
+      ≡ true → is_excluded p ≡ false → is_some (found_in a b rs) ≡ true
   unfolding rows_agree value_in
   found_in-some [] ok pair allowed = pair
   found_in-some (r ∷ rs) ok pair allowed =
       let test = λ (row : Row (List ℕ)). is_pair a b (row.2) && not (is_excluded row.0) in
-      let parts = and_parts (r.0 == r.1 && same_string (canonical_mapping r.0) r.2) (rows_agree canonical_mapping rs) ok in
+      let parts = and_parts (r.0 == r.1 && same_string (canonical_mapping r.0) r.2) (rows_agree canonical_mapping rs)
+      ok in
       let single = eqb-true r.0 r.1 (and_parts (r.0 == r.1) (same_string (canonical_mapping r.0) r.2) parts.0).0 in
       cond_both (test r) (Some r) (find test rs) (λ o. is_some (option_map (λ (row : Row (List ℕ)). row.0) o) ≡ true)
       (λ _. refl)
@@ -190,7 +207,8 @@ composite-some : (a b p : ℕ) → IsCompositeOf a b p → is_some (primary_comp
 unfolding primary_composite
 composite-some a b p h = found_in-some a b p mapping_rows all_agree (is_pair-pair a b _ h.mapping) h.allowed
 
-same_answers : (x y : Option ℕ) → ((p : ℕ) → x ≡ Some p → y ≡ Some p) → ((p : ℕ) → y ≡ Some p → is_some x ≡ true) → x ≡ y
+same_answers : (x y : Option ℕ) → ((p : ℕ) → x ≡ Some p → y ≡ Some p) → ((p : ℕ) → y ≡ Some p → is_some x ≡ true)
+    → x ≡ y
 same_answers (Some p) y forth back = sym (forth p refl)
 same_answers None None forth back = refl
 same_answers None (Some p) forth back = let clash = back p refl in cc

@@ -14,7 +14,8 @@ property_stepped = of_ranges ignorable_ranges refl
 unfoldable pub ignorable_stepped : Stepped default_ignorable
 unfolding default_ignorable rises_from drawn_ranges property_stepped
 ignorable_stepped =
-    zip_stepped (λ i d. i && not d) ignorable_property (in_ranges drawn_ranges) property_stepped (of_ranges drawn_ranges refl)
+    zip_stepped (λ i d. i && not d) ignorable_property (in_ranges drawn_ranges) property_stepped
+    (of_ranges drawn_ranges refl)
 
 abbrev pub number_stepped : Stepped (λ c. one_if (default_ignorable c))
 number_stepped = map_stepped one_if default_ignorable ignorable_stepped

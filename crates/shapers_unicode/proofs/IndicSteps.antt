@@ -51,16 +51,20 @@ place_stepped = map_stepped (λ p. pair_place_in p INDIC_PAIRS) indic_categories
 -- the pair stands in the list, at its place
 abbrev pub is_listed_pair : ℕ × ℕ → Bool
 is_listed_pair p =
-    nat_lt (pair_place_in p INDIC_PAIRS) (length INDIC_PAIRS) && same_pair (get_or INDIC_PAIRS (pair_place_in p INDIC_PAIRS) (0, 0)) p
+    nat_lt (pair_place_in p INDIC_PAIRS) (length INDIC_PAIRS)
+    && same_pair (get_or INDIC_PAIRS (pair_place_in p INDIC_PAIRS) (0, 0)) p
 
 all_listed : (c : ℕ) → is_listed_pair (indic_categories c) ≡ true
 unfolding tables pair_place_in indic_stepped positional_stepped syllabic_stepped
-all_listed = Stepped-everywhere (λ c. is_listed_pair (indic_categories c)) (map_stepped is_listed_pair indic_categories indic_stepped) refl
+all_listed = Stepped-everywhere (λ c. is_listed_pair (indic_categories c))
+    (map_stepped is_listed_pair indic_categories indic_stepped) refl
 
 module _ (c : ℕ) where
-  both : (pair_place c < length INDIC_PAIRS) × (same_pair (get_or INDIC_PAIRS (pair_place c) (0, 0)) (indic_categories c) ≡ true)
+  both : (pair_place c < length INDIC_PAIRS)
+      × (same_pair (get_or INDIC_PAIRS (pair_place c) (0, 0)) (indic_categories c) ≡ true)
   both =
-      let parts = and_parts (nat_lt (pair_place c) (length INDIC_PAIRS)) (same_pair (get_or INDIC_PAIRS (pair_place c) (0, 0)) (indic_categories c)) (all_listed c) in
+      let parts = and_parts (nat_lt (pair_place c) (length INDIC_PAIRS))
+      (same_pair (get_or INDIC_PAIRS (pair_place c) (0, 0)) (indic_categories c)) (all_listed c) in
       (ltb-true _ _ parts.0, parts.1)
 
   pub pair-listed : pair_place c < length INDIC_PAIRS

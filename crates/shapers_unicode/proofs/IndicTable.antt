@@ -17,7 +17,8 @@ IsTable-INDIC = table_ok-IsTable 64 INDIC_INDEX INDIC_BLOCKS INDIC_TAIL _ INDIC-
 
 pub table_value-INDIC : (c : ℕ) → table_value 64 INDIC_INDEX INDIC_BLOCKS INDIC_TAIL c ≡ pair_place c
 unfolding tables indic_stepped pair_place_in syllabic_stepped positional_stepped
-table_value-INDIC = table_value-everywhere 64 INDIC_INDEX INDIC_BLOCKS INDIC_TAIL pair_place place_stepped INDIC-ok refl refl refl
+table_value-INDIC = table_value-everywhere 64 INDIC_INDEX INDIC_BLOCKS INDIC_TAIL pair_place place_stepped INDIC-ok refl
+    refl refl
 
 -- the first and the last cell of each block, and of each range above
 INDIC-cells : cells_hold (
@@ -33,6 +34,7 @@ INDIC-cells : cells_hold (
     ∷ (0x1CC0, 0) ∷ (0x1CFF, 0) ∷ (0x2000, 0) ∷ (0x203F, 0) ∷ (0x2040, 0) ∷ (0x207F, 0)
     ∷ (0x2080, 0) ∷ (0x20BF, 0) ∷ (0x25C0, 0) ∷ (0x25FF, 0) ∷ (0xA8C0, 0) ∷ (0xA8FF, 7)
     ∷ (0xA9C0, 0) ∷ (0xA9FF, 0) ∷ (0xAA40, 0) ∷ (0xAA7F, 5) ∷ (0xFE00, 41) ∷ (0xFE3F, 0)
-    ∷ (0x11300, 0) ∷ (0x1133F, 0) ∷ (0x116C0, 0) ∷ (0x116FF, 0) ∷ (0x20000, 0) ∷ (0x10FFFF, 0) ∷ []) (runs_of pair_place place_stepped) ≡ true
+    ∷ (0x11300, 0) ∷ (0x1133F, 0) ∷ (0x116C0, 0) ∷ (0x116FF, 0) ∷ (0x20000, 0) ∷ (0x10FFFF, 0) ∷ [])
+    (runs_of pair_place place_stepped) ≡ true
 unfolding tables table_cells indic_stepped pair_place_in syllabic_stepped positional_stepped
 INDIC-cells = refl

@@ -20,7 +20,8 @@ joining_stepped =
 abbrev pub number_stepped : Stepped (λ c. joining_number (joining_type c))
 number_stepped = map_stepped joining_number joining_type joining_stepped
 
-pub joining-found : (v : hb_arabic_joining_type_t) → find (λ t. joining_number t == joining_number v) joining_types ≡ Some v
+pub joining-found : (v : hb_arabic_joining_type_t) → find (λ t. joining_number t == joining_number v) joining_types
+    ≡ Some v
 joining-found joins.U = refl
 joining-found joins.L = refl
 joining-found joins.R = refl

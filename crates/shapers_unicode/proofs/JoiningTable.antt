@@ -9,15 +9,19 @@ use Rattle.shapers_base.specs.Numbers.{joining_number}
 use Rattle.shapers_unicode.specs.Joining.{joining_type}
 use Rattle.shapers_unicode.proofs.JoiningSteps.{joining_stepped, number_stepped}
 
-JOINING-ok : table_ok 64 JOINING_INDEX JOINING_BLOCKS JOINING_TAIL (runs_of (λ c. joining_number (joining_type c)) number_stepped) ≡ true
+JOINING-ok : table_ok 64 JOINING_INDEX JOINING_BLOCKS JOINING_TAIL
+    (runs_of (λ c. joining_number (joining_type c)) number_stepped) ≡ true
 unfolding tables table_cells joining_stepped
 JOINING-ok = refl
 
 pub IsTable-JOINING : IsTable 64 JOINING_INDEX JOINING_BLOCKS
 IsTable-JOINING = table_ok-IsTable 64 JOINING_INDEX JOINING_BLOCKS JOINING_TAIL _ JOINING-ok
 
-pub table_value-JOINING : (c : ℕ) → c < 0x11_0000 → table_value 64 JOINING_INDEX JOINING_BLOCKS JOINING_TAIL c ≡ joining_number (joining_type c)
-table_value-JOINING = table_value-Stepped 64 JOINING_INDEX JOINING_BLOCKS JOINING_TAIL (λ c. joining_number (joining_type c)) number_stepped JOINING-ok
+pub table_value-JOINING : (c : ℕ) → c < 0x11_0000 → table_value 64 JOINING_INDEX JOINING_BLOCKS JOINING_TAIL c
+    ≡ joining_number (joining_type c)
+table_value-JOINING =
+    table_value-Stepped 64 JOINING_INDEX JOINING_BLOCKS JOINING_TAIL (λ c. joining_number (joining_type c))
+    number_stepped JOINING-ok
 
 -- the first and the last cell of each block, and of each range above
 JOINING-cells : cells_hold (
@@ -79,6 +83,7 @@ JOINING-cells : cells_hold (
     ∷ (0x1E6C0, 0) ∷ (0x1E6FF, 0) ∷ (0x1E8C0, 0) ∷ (0x1E8FF, 0) ∷ (0x1E900, 3) ∷ (0x1E93F, 3)
     ∷ (0x1E940, 3) ∷ (0x1E97F, 0) ∷ (0x20000, 0) ∷ (0xE0000, 0) ∷ (0xE0001, 7) ∷ (0xE0001, 7)
     ∷ (0xE0002, 0) ∷ (0xE001F, 0) ∷ (0xE0020, 7) ∷ (0xE007F, 7) ∷ (0xE0080, 0) ∷ (0xE00FF, 0)
-    ∷ (0xE0100, 7) ∷ (0xE01EF, 7) ∷ (0xE01F0, 0) ∷ (0x10FFFF, 0) ∷ []) (runs_of (λ c. joining_number (joining_type c)) number_stepped) ≡ true
+    ∷ (0xE0100, 7) ∷ (0xE01EF, 7) ∷ (0xE01F0, 0) ∷ (0x10FFFF, 0) ∷ [])
+    (runs_of (λ c. joining_number (joining_type c)) number_stepped) ≡ true
 unfolding tables table_cells joining_stepped
 JOINING-cells = refl

@@ -11,16 +11,22 @@ use Rattle.ucd_table.proofs.GroupsCheck.{IsGroupsOf-Stepped, number_of, number_s
 use Rattle.ucd_table.specs.Groups.{IsGroupsOf}
 use Rattle.shapers_unicode.specs.declared.tables.mapping.TheConstants.{MAPPING_OFFSETS, MAPPING_CHARS}
 
-MAPPING-ok : table_ok 32 MAPPING_INDEX MAPPING_BLOCKS MAPPING_TAIL (runs_of (λ c. number_of canonical_mapping mapping_stepped c) (number_stepped canonical_mapping mapping_stepped)) ≡ true
+MAPPING-ok : table_ok 32 MAPPING_INDEX MAPPING_BLOCKS MAPPING_TAIL
+    (runs_of (λ c. number_of canonical_mapping mapping_stepped c) (number_stepped canonical_mapping mapping_stepped))
+    ≡ true
 unfolding tables table_cells mapping_stepped
 MAPPING-ok = refl
 
 pub IsTable-MAPPING : IsTable 32 MAPPING_INDEX MAPPING_BLOCKS
 IsTable-MAPPING = table_ok-IsTable 32 MAPPING_INDEX MAPPING_BLOCKS MAPPING_TAIL _ MAPPING-ok
 
-pub table_value-MAPPING : (c : ℕ) → c < 0x11_0000 → table_value 32 MAPPING_INDEX MAPPING_BLOCKS MAPPING_TAIL c ≡ number_of canonical_mapping mapping_stepped c
-table_value-MAPPING = table_value-Stepped 32 MAPPING_INDEX MAPPING_BLOCKS MAPPING_TAIL (λ c. number_of canonical_mapping mapping_stepped c) (number_stepped canonical_mapping mapping_stepped) MAPPING-ok
+pub table_value-MAPPING : (c : ℕ) → c < 0x11_0000 → table_value 32 MAPPING_INDEX MAPPING_BLOCKS MAPPING_TAIL c
+    ≡ number_of canonical_mapping mapping_stepped c
+table_value-MAPPING =
+    table_value-Stepped 32 MAPPING_INDEX MAPPING_BLOCKS MAPPING_TAIL
+    (λ c. number_of canonical_mapping mapping_stepped c) (number_stepped canonical_mapping mapping_stepped) MAPPING-ok
 
-pub groups-MAPPING : IsGroupsOf MAPPING_OFFSETS MAPPING_CHARS (table_value 32 MAPPING_INDEX MAPPING_BLOCKS MAPPING_TAIL) canonical_mapping
+pub groups-MAPPING : IsGroupsOf MAPPING_OFFSETS MAPPING_CHARS (table_value 32 MAPPING_INDEX MAPPING_BLOCKS MAPPING_TAIL)
+    canonical_mapping
 unfolding tables mapping_stepped
 groups-MAPPING = IsGroupsOf-Stepped _ _ _ canonical_mapping mapping_stepped table_value-MAPPING refl

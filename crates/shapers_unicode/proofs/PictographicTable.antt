@@ -9,15 +9,19 @@ use Rattle.ucd_table.proofs.RunsLemmas.{one_if}
 use Rattle.shapers_unicode.specs.Pictographic.{extended_pictographic}
 use Rattle.shapers_unicode.proofs.PictographicSteps.{number_stepped, pictographic_stepped}
 
-PICTOGRAPHIC-ok : table_ok 64 PICTOGRAPHIC_INDEX PICTOGRAPHIC_BLOCKS PICTOGRAPHIC_TAIL (runs_of (λ c. one_if (extended_pictographic c)) number_stepped) ≡ true
+PICTOGRAPHIC-ok : table_ok 64 PICTOGRAPHIC_INDEX PICTOGRAPHIC_BLOCKS PICTOGRAPHIC_TAIL
+    (runs_of (λ c. one_if (extended_pictographic c)) number_stepped) ≡ true
 unfolding tables table_cells pictographic_stepped
 PICTOGRAPHIC-ok = refl
 
 pub IsTable-PICTOGRAPHIC : IsTable 64 PICTOGRAPHIC_INDEX PICTOGRAPHIC_BLOCKS
 IsTable-PICTOGRAPHIC = table_ok-IsTable 64 PICTOGRAPHIC_INDEX PICTOGRAPHIC_BLOCKS PICTOGRAPHIC_TAIL _ PICTOGRAPHIC-ok
 
-pub table_value-PICTOGRAPHIC : (c : ℕ) → c < 0x11_0000 → table_value 64 PICTOGRAPHIC_INDEX PICTOGRAPHIC_BLOCKS PICTOGRAPHIC_TAIL c ≡ one_if (extended_pictographic c)
-table_value-PICTOGRAPHIC = table_value-Stepped 64 PICTOGRAPHIC_INDEX PICTOGRAPHIC_BLOCKS PICTOGRAPHIC_TAIL (λ c. one_if (extended_pictographic c)) number_stepped PICTOGRAPHIC-ok
+pub table_value-PICTOGRAPHIC : (c : ℕ) → c < 0x11_0000
+    → table_value 64 PICTOGRAPHIC_INDEX PICTOGRAPHIC_BLOCKS PICTOGRAPHIC_TAIL c ≡ one_if (extended_pictographic c)
+table_value-PICTOGRAPHIC =
+    table_value-Stepped 64 PICTOGRAPHIC_INDEX PICTOGRAPHIC_BLOCKS PICTOGRAPHIC_TAIL
+    (λ c. one_if (extended_pictographic c)) number_stepped PICTOGRAPHIC-ok
 
 -- the first and the last cell of each block, and of each range above
 PICTOGRAPHIC-cells : cells_hold (
@@ -37,6 +41,7 @@ PICTOGRAPHIC-cells : cells_hold (
     ∷ (0x1F5C0, 0) ∷ (0x1F5FF, 1) ∷ (0x1F640, 1) ∷ (0x1F67F, 0) ∷ (0x1F6C0, 1) ∷ (0x1F6FF, 1)
     ∷ (0x1F7C0, 0) ∷ (0x1F7FF, 1) ∷ (0x1F800, 0) ∷ (0x1F83F, 0) ∷ (0x1F840, 0) ∷ (0x1F87F, 0)
     ∷ (0x1F880, 0) ∷ (0x1F8BF, 1) ∷ (0x1F8C0, 0) ∷ (0x1F8FF, 1) ∷ (0x1F900, 0) ∷ (0x1F93F, 1)
-    ∷ (0x1F940, 1) ∷ (0x1F97F, 1) ∷ (0x1FA40, 0) ∷ (0x1FA7F, 1) ∷ (0x20000, 0) ∷ (0x10FFFF, 0) ∷ []) (runs_of (λ c. one_if (extended_pictographic c)) number_stepped) ≡ true
+    ∷ (0x1F940, 1) ∷ (0x1F97F, 1) ∷ (0x1FA40, 0) ∷ (0x1FA7F, 1) ∷ (0x20000, 0) ∷ (0x10FFFF, 0) ∷ [])
+    (runs_of (λ c. one_if (extended_pictographic c)) number_stepped) ≡ true
 unfolding tables table_cells pictographic_stepped
 PICTOGRAPHIC-cells = refl

@@ -50,7 +50,8 @@ all_are-true v [] h j lt = absurd (not-suc-le-zero lt)
 all_are-true v (w ∷ ws) h zero lt = eqb-true w v (and_parts (w == v) (all_are v ws) h).0
 all_are-true v (w ∷ ws) h (suc j) lt = all_are-true v ws (and_parts (w == v) (all_are v ws) h).1 j (le_of_suc-le-suc lt)
 
-uniform-each : (w : ℕ) (ws : List ℕ) (v : ℕ) → all_are w ws ≡ true → w ≡ v → (j : ℕ) → j < length (w ∷ ws) → slice_index (w ∷ ws) j ≡ v
+uniform-each : (w : ℕ) (ws : List ℕ) (v : ℕ) → all_are w ws ≡ true → w ≡ v → (j : ℕ) → j < length (w ∷ ws)
+    → slice_index (w ∷ ws) j ≡ v
 uniform-each w ws v all is zero lt = is
 uniform-each w ws v all is (suc j) lt = all_are-true w ws all j (le_of_suc-le-suc lt) ∙ is
 
@@ -69,7 +70,8 @@ get_or-uniform [] k = refl
 get_or-uniform (b ∷ bs) zero = refl
 get_or-uniform (b ∷ bs) (suc k) = get_or-uniform bs k
 
-lengths_ok-true : (size : ℕ) (bs : List (List ℕ)) → lengths_ok size bs ≡ true → (k : ℕ) → k < length bs → length (get_or bs k []) ≡ size
+lengths_ok-true : (size : ℕ) (bs : List (List ℕ)) → lengths_ok size bs ≡ true → (k : ℕ) → k < length bs
+    → length (get_or bs k []) ≡ size
 unfolding lengths_ok
 lengths_ok-true size [] h k lt = absurd (not-suc-le-zero lt)
 lengths_ok-true size (b ∷ bs) h zero lt = eqb-true _ _ (and_parts (length b == size) (lengths_ok size bs) h).0
@@ -95,13 +97,15 @@ module _ (size : ℕ) (blocks : List (List ℕ)) where
     values : (j : ℕ) → j < size → slice_index (get_or blocks k []) j ≡ step_value 0 ss (c + j)
 
   module _ (lengths : lengths_ok size blocks ≡ true) where
-    fits-true : (k c : ℕ) (ss : List (Step ℕ)) → k < length blocks → fits k (uniform (get_or blocks k [])) c ss ≡ true → (j : ℕ) → j < size → slice_index (get_or blocks k []) j ≡ step_value 0 ss (c + j)
+    fits-true : (k c : ℕ) (ss : List (Step ℕ)) → k < length blocks → fits k (uniform (get_or blocks k [])) c ss ≡ true
+        → (j : ℕ) → j < size → slice_index (get_or blocks k []) j ≡ step_value 0 ss (c + j)
     unfolding fits
     fits-true k c [] named h j lt =
         cells_ok-true (get_or blocks k []) c [] h j (omega (arith, lengths_ok-true size blocks lengths k named))
     fits-true k c (s ∷ ss) named h j lt =
         let long : length (get_or blocks k []) ≡ size = lengths_ok-true size blocks lengths k named in
-        cond_both (nat_le (c + size) s.0 && uniform (get_or blocks k []) == suc s.1) true (cells_ok (get_or blocks k []) c (s ∷ ss))
+        cond_both (nat_le (c + size) s.0 && uniform (get_or blocks k []) == suc s.1) true
+        (cells_ok (get_or blocks k []) c (s ∷ ss))
         (λ b. b ≡ true → slice_index (get_or blocks k []) j ≡ step_value 0 (s ∷ ss) (c + j))
         (λ both _.
         let parts = and_parts (nat_le (c + size) s.0) (uniform (get_or blocks k []) == suc s.1) both in
@@ -111,7 +115,8 @@ module _ (size : ℕ) (blocks : List (List ℕ)) where
         (λ _ each. cells_ok-true (get_or blocks k []) c (s ∷ ss) each j (omega arith))
         h
 
-    index_ok-true : (ks : List ℕ) (c : ℕ) (ss : List (Step ℕ)) → index_ok (map uniform blocks) ks c ss ≡ true → (i : ℕ) → i < length ks → Has (slice_index ks i) (c + i * size) ss
+    index_ok-true : (ks : List ℕ) (c : ℕ) (ss : List (Step ℕ)) → index_ok (map uniform blocks) ks c ss ≡ true → (i : ℕ)
+        → i < length ks → Has (slice_index ks i) (c + i * size) ss
     unfolding index_ok
     index_ok-true [] c ss h i lt = absurd (not-suc-le-zero lt)
     index_ok-true (k ∷ ks) c ss h zero lt =
@@ -130,7 +135,8 @@ module _ (size : ℕ) (blocks : List (List ℕ)) where
         })
     index_ok-true (k ∷ ks) c ss h (suc i) lt =
         let here = skip ss c in
-        let parts = and_parts (nat_lt k (length blocks) && fits k (get_or (map uniform blocks) k 0) c here) (index_ok (map uniform blocks) ks (c + size) here) h in
+        let parts = and_parts (nat_lt k (length blocks) && fits k (get_or (map uniform blocks) k 0) c here)
+        (index_ok (map uniform blocks) ks (c + size) here) h in
         let rest = index_ok-true ks (c + size) here parts.1 i (le_of_suc-le-suc lt) in
         let at : c + size + i * size ≡ c + suc i * size = omega (arith, suc-mul i size) in
         subst (λ x. Has (slice_index ks i) x ss) at
@@ -145,7 +151,8 @@ table_ok size index blocks tail ss =
     (nat_lt 0 size && lengths_ok size blocks)
     && (index_ok size blocks (map uniform blocks) index 0 ss && same_steps tail (skip ss (length index * size)))
 
-module _ (size : ℕ) (index : List ℕ) (blocks : List (List ℕ)) (tail ss : List (Step ℕ)) (ok : table_ok size index blocks tail ss ≡ true) where
+module _ (size : ℕ) (index : List ℕ) (blocks : List (List ℕ)) (tail ss : List (Step ℕ))
+    (ok : table_ok size index blocks tail ss ≡ true) where
   record Parts : Type 0 where
     some : 0 < size
     blocks_of : (i : ℕ) → i < length index → Has size blocks (slice_index index i) (0 + i * size) ss
@@ -166,7 +173,8 @@ module _ (size : ℕ) (index : List ℕ) (blocks : List (List ℕ)) (tail ss : L
   pub table_ok-IsTable : IsTable size index blocks
   table_ok-IsTable = record { some = parts.some; blocks_named = λ i lt. (parts.blocks_of i lt).named }
 
-  in_index : (c : ℕ) → c / size < length index → slice_index (get_or blocks (slice_index index (c / size)) []) (c % size) ≡ step_value 0 ss c
+  in_index : (c : ℕ) → c / size < length index
+      → slice_index (get_or blocks (slice_index index (c / size)) []) (c % size) ≡ step_value 0 ss c
   in_index c lt =
       let whole = div-add-mod' c size in
       let at : 0 + c / size * size + c % size ≡ c = omega arith in
@@ -185,17 +193,23 @@ module _ (size : ℕ) (index : List ℕ) (blocks : List (List ℕ)) (tail ss : L
       ]
 
 -- a table that passes the test against the runs of a function has its values
-pub table_value-Stepped : (size : ℕ) (index : List ℕ) (blocks : List (List ℕ)) (tail : List (Step ℕ)) (f : ℕ → ℕ) (s : Stepped f) → table_ok size index blocks tail (runs_of f s) ≡ true → (c : ℕ) → c < 0x11_0000 → table_value size index blocks tail c ≡ f c
+pub table_value-Stepped : (size : ℕ) (index : List ℕ) (blocks : List (List ℕ)) (tail : List (Step ℕ)) (f : ℕ
+    → ℕ) (s : Stepped f) → table_ok size index blocks tail (runs_of f s) ≡ true → (c : ℕ) → c < 0x11_0000
+    → table_value size index blocks tail c ≡ f c
 table_value-Stepped size index blocks tail f s ok c lt =
     table_ok-table_value size index blocks tail (runs_of f s) ok c ∙ step_value-runs_of f s c lt
 
 -- and everywhere, if the function has 0 past the end of Unicode
-pub table_value-everywhere : (size : ℕ) (index : List ℕ) (blocks : List (List ℕ)) (tail : List (Step ℕ)) (f : ℕ → ℕ) (s : Stepped f) → table_ok size index blocks tail (runs_of f s) ≡ true → s.default ≡ 0 → ends_by 0x11_0000 s.steps ≡ true → ends_by 0x11_0000 (runs_of f s) ≡ true → (c : ℕ) → table_value size index blocks tail c ≡ f c
+pub table_value-everywhere : (size : ℕ) (index : List ℕ) (blocks : List (List ℕ)) (tail : List (Step ℕ)) (f : ℕ
+    → ℕ) (s : Stepped f) → table_ok size index blocks tail (runs_of f s) ≡ true → s.default ≡ 0
+    → ends_by 0x11_0000 s.steps ≡ true → ends_by 0x11_0000 (runs_of f s) ≡ true → (c : ℕ)
+    → table_value size index blocks tail c ≡ f c
 table_value-everywhere size index blocks tail f s ok zero_by_default ends runs_end c =
     elim (cases_lt c 0x11_0000) [
       | inl within ↦ table_value-Stepped size index blocks tail f s ok c within
       | inr past ↦
-          let runs : Stepped (step_value 0 (runs_of f s)) = record { default = 0; steps = runs_of f s; gives = λ c. refl } in
+          let runs : Stepped (step_value 0 (runs_of f s)) =
+          record { default = 0; steps = runs_of f s; gives = λ c. refl } in
           table_ok-table_value size index blocks tail (runs_of f s) ok c
           ∙ Stepped-beyond (step_value 0 (runs_of f s)) runs runs_end c past
           ∙ sym (Stepped-beyond f s ends c past ∙ zero_by_default)

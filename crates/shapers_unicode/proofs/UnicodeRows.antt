@@ -30,59 +30,78 @@ use Rattle.shapers_unicode.specs.UseSyllabicRows.{use_syllabic_rows}
 use Rattle.shapers_unicode.specs.Vertical.{vertical_form, vertical_forms}
 
 -- A, a, 0, space, an unassigned code point, a surrogate, private use, both ends of CJK, the last
-categories : map general_category (0x41 ∷ 0x61 ∷ 0x30 ∷ 0x20 ∷ 0x378 ∷ 0xD800 ∷ 0xE000 ∷ 0x4E00 ∷ 0x9FFF ∷ 0x10FFFF ∷ []) ≡ general.Lu ∷ general.Ll ∷ general.Nd ∷ general.Zs ∷ general.Cn ∷ general.Cs ∷ general.Co ∷ general.Lo ∷ general.Lo ∷ general.Cn ∷ []
+categories : map general_category (0x41 ∷ 0x61 ∷ 0x30 ∷ 0x20 ∷ 0x378 ∷ 0xD800 ∷ 0xE000 ∷ 0x4E00 ∷ 0x9FFF ∷ 0x10FFFF
+    ∷ []) ≡ general.Lu ∷ general.Ll ∷ general.Nd ∷ general.Zs ∷ general.Cn ∷ general.Cs ∷ general.Co ∷ general.Lo
+    ∷ general.Lo ∷ general.Cn ∷ []
 unfolding tables general_category general_rows
 categories = refl
 
 -- alef, beh, tatweel, Syriac's alaph, dalath and rish, a mark, the joiner, the non-joiner, Phags-pa's
 -- superfixed letter RA, A
-joinings : map joining_type (0x627 ∷ 0x628 ∷ 0x640 ∷ 0x710 ∷ 0x715 ∷ 0x72A ∷ 0x64B ∷ 0x200D ∷ 0x200C ∷ 0xA872 ∷ 0x41 ∷ []) ≡ joins.R ∷ joins.D ∷ joins.D ∷ joins.GroupAlaph ∷ joins.GroupDalathRish ∷ joins.GroupDalathRish ∷ joins.T ∷ joins.D ∷ joins.U ∷ joins.L ∷ joins.U ∷ []
+joinings : map joining_type (0x627 ∷ 0x628 ∷ 0x640 ∷ 0x710 ∷ 0x715 ∷ 0x72A ∷ 0x64B ∷ 0x200D ∷ 0x200C ∷ 0xA872 ∷ 0x41
+    ∷ []) ≡ joins.R ∷ joins.D ∷ joins.D ∷ joins.GroupAlaph ∷ joins.GroupDalathRish ∷ joins.GroupDalathRish ∷ joins.T
+    ∷ joins.D ∷ joins.U ∷ joins.L ∷ joins.U ∷ []
 unfolding tables joining_type group_rows joining_rows
 joinings = refl
 
 -- sheva, hiriq, shadda, Telugu's length mark, Thai's SARA U and MAI EK, Tibetan's I and U, TSA -PHRU,
 -- PADMA, SAKOT, a grave accent, A
-classes : map modified_class (0x5B0 ∷ 0x5B4 ∷ 0x651 ∷ 0xC55 ∷ 0xE38 ∷ 0xE48 ∷ 0xF72 ∷ 0xF74 ∷ 0xF39 ∷ 0xFC6 ∷ 0x1A60 ∷ 0x300 ∷ 0x41 ∷ []) ≡ 22 ∷ 23 ∷ 27 ∷ 0 ∷ 3 ∷ 107 ∷ 132 ∷ 131 ∷ 127 ∷ 254 ∷ 254 ∷ 230 ∷ 0 ∷ []
+classes : map modified_class (0x5B0 ∷ 0x5B4 ∷ 0x651 ∷ 0xC55 ∷ 0xE38 ∷ 0xE48 ∷ 0xF72 ∷ 0xF74 ∷ 0xF39 ∷ 0xFC6 ∷ 0x1A60
+    ∷ 0x300 ∷ 0x41 ∷ []) ≡ 22 ∷ 23 ∷ 27 ∷ 0 ∷ 3 ∷ 107 ∷ 132 ∷ 131 ∷ 127 ∷ 254 ∷ 254 ∷ 230 ∷ 0 ∷ []
 unfolding tables modified_class class_rows changed_classes class_exceptions
 classes = refl
 
 -- soft hyphen, Hangul's filler, Mongolian's fourth selector, a reserved code point, tags
-ignorables : map default_ignorable (0xAD ∷ 0x115F ∷ 0x3164 ∷ 0x180F ∷ 0x2065 ∷ 0x1BCA0 ∷ 0xE0000 ∷ 0xE0FFF ∷ 0xE1000 ∷ 0x41 ∷ []) ≡ true ∷ false ∷ false ∷ true ∷ true ∷ false ∷ true ∷ true ∷ false ∷ false ∷ []
+ignorables : map default_ignorable (0xAD ∷ 0x115F ∷ 0x3164 ∷ 0x180F ∷ 0x2065 ∷ 0x1BCA0 ∷ 0xE0000 ∷ 0xE0FFF ∷ 0xE1000
+    ∷ 0x41 ∷ []) ≡ true ∷ false ∷ false ∷ true ∷ true ∷ false ∷ true ∷ true ∷ false ∷ false ∷ []
 unfolding tables default_ignorable ignorable_ranges drawn_ranges
 ignorables = refl
 
 -- the copyright sign and its neighbours, a heart, what stands before the regional indicators and the
 -- first and last of them, what stands before and behind the modifiers and the first and last of them,
 -- the last of all and its neighbour, a number sign (which is an emoji only with a keycap)
-pictographs : map extended_pictographic (0xA8 ∷ 0xA9 ∷ 0xAA ∷ 0x2764 ∷ 0x1F1E5 ∷ 0x1F1E6 ∷ 0x1F1FF ∷ 0x1F3FA ∷ 0x1F3FB ∷ 0x1F3FF ∷ 0x1F400 ∷ 0x1FFFD ∷ 0x1FFFE ∷ 0x23 ∷ []) ≡ false ∷ true ∷ false ∷ true ∷ true ∷ false ∷ false ∷ true ∷ false ∷ false ∷ true ∷ true ∷ false ∷ false ∷ []
+pictographs : map extended_pictographic (0xA8 ∷ 0xA9 ∷ 0xAA ∷ 0x2764 ∷ 0x1F1E5 ∷ 0x1F1E6 ∷ 0x1F1FF ∷ 0x1F3FA ∷ 0x1F3FB
+    ∷ 0x1F3FF ∷ 0x1F400 ∷ 0x1FFFD ∷ 0x1FFFE ∷ 0x23 ∷ []) ≡ false ∷ true ∷ false ∷ true ∷ true ∷ false ∷ false ∷ true
+    ∷ false ∷ false ∷ true ∷ true ∷ false ∷ false ∷ []
 unfolding tables extended_pictographic pictographic_ranges
 pictographs = refl
 
 -- Devanagari's KA, RA, virama, I, AA and candrabindu; superscript two; Kannada's and Telugu's matras;
 -- Oriya's candrabindu; Gurmukhi's udaat; Khmer's RO and E; Myanmar's NGA and E; the dotted circle; A
-indics : map indic_categories (0x915 ∷ 0x930 ∷ 0x94D ∷ 0x93F ∷ 0x93E ∷ 0x901 ∷ 0xB2 ∷ 0xCBE ∷ 0xCC3 ∷ 0xC41 ∷ 0xB01 ∷ 0xA51 ∷ 0x179A ∷ 0x17C1 ∷ 0x1004 ∷ 0x1031 ∷ 0x25CC ∷ 0x41 ∷ []) ≡ (1, 4) ∷ (15, 4) ∷ (4, 8) ∷ (7, 2) ∷ (7, 9) ∷ (8, 13) ∷ (57, 13) ∷ (7, 7) ∷ (7, 9) ∷ (7, 7) ∷ (8, 7) ∷ (7, 8) ∷ (15, 4) ∷ (22, 3) ∷ (15, 4) ∷ (22, 3) ∷ (11, 4) ∷ (0, 14) ∷ []
+indics : map indic_categories (0x915 ∷ 0x930 ∷ 0x94D ∷ 0x93F ∷ 0x93E ∷ 0x901 ∷ 0xB2 ∷ 0xCBE ∷ 0xCC3 ∷ 0xC41 ∷ 0xB01
+    ∷ 0xA51 ∷ 0x179A ∷ 0x17C1 ∷ 0x1004 ∷ 0x1031 ∷ 0x25CC ∷ 0x41 ∷ []) ≡ (1, 4) ∷ (15, 4) ∷ (4, 8) ∷ (7, 2) ∷ (7, 9)
+    ∷ (8, 13) ∷ (57, 13) ∷ (7, 7) ∷ (7, 9) ∷ (7, 7) ∷ (8, 7) ∷ (7, 8) ∷ (15, 4) ∷ (22, 3) ∷ (15, 4) ∷ (22, 3) ∷ (11, 4)
+    ∷ (0, 14) ∷ []
 unfolding tables indic_categories own_pairs indic_rows block_rows early_matras positional_rows syllabic_rows
 indics = refl
 
 -- Javanese's KA, pangkon, cakra and pengkal; sakot, al-lakuna, Batak's pangolat (a killer that
 -- reorders), the joiner and the non-joiner, the word joiner, a hieroglyph with its joiner, an Arabic
 -- letter (which has a shaper of its own), A, Tai Viet's vowel I
-universals : map universal_category (0xA98F ∷ 0xA9C0 ∷ 0xA9BF ∷ 0xA9BE ∷ 0x1A60 ∷ 0xDCA ∷ 0x1BF2 ∷ 0x200D ∷ 0x200C ∷ 0x2060 ∷ 0x13000 ∷ 0x13430 ∷ 0x628 ∷ 0x41 ∷ 0xAAB2 ∷ []) ≡ 1 ∷ 12 ∷ 28 ∷ 29 ∷ 48 ∷ 53 ∷ 56 ∷ 6 ∷ 14 ∷ 16 ∷ 49 ∷ 50 ∷ 0 ∷ 0 ∷ 34 ∷ []
-unfolding tables universal_category general_category general_rows default_ignorable drawn_ranges ignorable_ranges joining_type group_rows joining_rows other_script_ranges own_categories positional_changes positional_rows syllabic_changes syllabic_rows use_positional_rows use_syllabic_rows
+universals : map universal_category (0xA98F ∷ 0xA9C0 ∷ 0xA9BF ∷ 0xA9BE ∷ 0x1A60 ∷ 0xDCA ∷ 0x1BF2 ∷ 0x200D ∷ 0x200C
+    ∷ 0x2060 ∷ 0x13000 ∷ 0x13430 ∷ 0x628 ∷ 0x41 ∷ 0xAAB2 ∷ []) ≡ 1 ∷ 12 ∷ 28 ∷ 29 ∷ 48 ∷ 53 ∷ 56 ∷ 6 ∷ 14 ∷ 16 ∷ 49 ∷ 50
+    ∷ 0 ∷ 0 ∷ 34 ∷ []
+unfolding tables universal_category general_category general_rows default_ignorable drawn_ranges ignorable_ranges
+    joining_type group_rows joining_rows other_script_ranges own_categories positional_changes positional_rows
+    syllabic_changes syllabic_rows use_positional_rows use_syllabic_rows
 universals = refl
 
 -- A with ring, the angstrom sign, both ends of Hangul's syllables, one with a trailing jamo, A
-decompositions : map decomposed (0xC5 ∷ 0x212B ∷ 0xAC00 ∷ 0xAC01 ∷ 0xD7A3 ∷ 0xABFF ∷ 0x41 ∷ []) ≡ Some (0x41, 0x30A) ∷ Some (0xC5, 0) ∷ Some (0x1100, 0x1161) ∷ Some (0xAC00, 0x11A8) ∷ Some (0xD788, 0x11C2) ∷ None ∷ None ∷ []
+decompositions : map decomposed (0xC5 ∷ 0x212B ∷ 0xAC00 ∷ 0xAC01 ∷ 0xD7A3 ∷ 0xABFF ∷ 0x41 ∷ []) ≡ Some (0x41, 0x30A)
+    ∷ Some (0xC5, 0) ∷ Some (0x1100, 0x1161) ∷ Some (0xAC00, 0x11A8) ∷ Some (0xD788, 0x11C2) ∷ None ∷ None ∷ []
 unfolding tables decomposed mapping_rows
 decompositions = refl
 
 -- A with ring; Devanagari's QA, which is excluded; a non-starter; jamo to a syllable, its last, with
 -- and without a trailing one, and two that don't compose
-compositions : composed 0x41 0x30A ∷ composed 0x915 0x93C ∷ composed 0x308 0x301 ∷ composed 0x1100 0x1161 ∷ composed 0x1112 0x1175 ∷ composed 0xAC00 0x11A8 ∷ composed 0xAC00 0x11A7 ∷ composed 0xAC01 0x11A8 ∷ [] ≡ Some 0xC5 ∷ None ∷ None ∷ Some 0xAC00 ∷ Some 0xD788 ∷ Some 0xAC01 ∷ None ∷ None ∷ []
+compositions : composed 0x41 0x30A ∷ composed 0x915 0x93C ∷ composed 0x308 0x301 ∷ composed 0x1100 0x1161
+    ∷ composed 0x1112 0x1175 ∷ composed 0xAC00 0x11A8 ∷ composed 0xAC00 0x11A7 ∷ composed 0xAC01 0x11A8 ∷ []
+    ≡ Some 0xC5 ∷ None ∷ None ∷ Some 0xAC00 ∷ Some 0xD788 ∷ Some 0xAC01 ∷ None ∷ None ∷ []
 unfolding tables composed primary_composite mapping_rows exclusion_ranges
 compositions = refl
 
-mirrorings : map mirrored (0x28 ∷ 0x29 ∷ 0xAB ∷ 0xFF63 ∷ 0x41 ∷ []) ≡ Some 0x29 ∷ Some 0x28 ∷ Some 0xBB ∷ Some 0xFF62 ∷ None ∷ []
+mirrorings : map mirrored (0x28 ∷ 0x29 ∷ 0xAB ∷ 0xFF63 ∷ 0x41 ∷ []) ≡ Some 0x29 ∷ Some 0x28 ∷ Some 0xBB ∷ Some 0xFF62
+    ∷ None ∷ []
 unfolding tables mirrored mirrored_rows
 mirrorings = refl
 

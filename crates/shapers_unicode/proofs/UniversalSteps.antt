@@ -28,16 +28,20 @@ positional_stepped = of_rows at.NA positional_rows refl
 unfoldable pub use_syllabic_stepped : Stepped use_syllabic
 unfolding rises_from syllabic_changes use_syllabic_rows
 use_syllabic_stepped =
-    zip_stepped over (value_in None syllabic_changes) (λ c. over (value_in None use_syllabic_rows c) (value_in is.Other syllabic_rows c))
+    zip_stepped over (value_in None syllabic_changes)
+    (λ c. over (value_in None use_syllabic_rows c) (value_in is.Other syllabic_rows c))
     (of_rows None syllabic_changes refl)
-    (zip_stepped over (value_in None use_syllabic_rows) (value_in is.Other syllabic_rows) (of_rows None use_syllabic_rows refl) syllabic_stepped)
+    (zip_stepped over (value_in None use_syllabic_rows) (value_in is.Other syllabic_rows)
+    (of_rows None use_syllabic_rows refl) syllabic_stepped)
 
 unfoldable pub use_positional_stepped : Stepped use_positional
 unfolding rises_from positional_changes use_positional_rows
 use_positional_stepped =
-    zip_stepped over (value_in None positional_changes) (λ c. over (value_in None use_positional_rows c) (value_in at.NA positional_rows c))
+    zip_stepped over (value_in None positional_changes)
+    (λ c. over (value_in None use_positional_rows c) (value_in at.NA positional_rows c))
     (of_rows None positional_changes refl)
-    (zip_stepped over (value_in None use_positional_rows) (value_in at.NA positional_rows) (of_rows None use_positional_rows refl) positional_stepped)
+    (zip_stepped over (value_in None use_positional_rows) (value_in at.NA positional_rows)
+    (of_rows None use_positional_rows refl) positional_stepped)
 
 -- a property more, applied to what takes it
 abbrev with : {V W : Type 0} (f : ℕ → V → W) (g : ℕ → V) → Stepped f → Stepped g → Stepped (λ c. f c (g c))

@@ -11,16 +11,21 @@ use Rattle.shapers_unicode.proofs.IgnorableSteps.{ignorable_stepped, property_st
 use Rattle.shapers_unicode.proofs.JoiningSteps.{joining_stepped}
 use Rattle.shapers_unicode.proofs.UniversalSteps.{universal_stepped, syllabic_stepped, positional_stepped, use_syllabic_stepped, use_positional_stepped}
 
-UNIVERSAL-ok : table_ok 64 UNIVERSAL_INDEX UNIVERSAL_BLOCKS UNIVERSAL_TAIL (runs_of universal_category universal_stepped) ≡ true
-unfolding tables table_cells universal_stepped syllabic_stepped positional_stepped use_syllabic_stepped use_positional_stepped general_stepped joining_stepped ignorable_stepped property_stepped
+UNIVERSAL-ok : table_ok 64 UNIVERSAL_INDEX UNIVERSAL_BLOCKS UNIVERSAL_TAIL
+    (runs_of universal_category universal_stepped) ≡ true
+unfolding tables table_cells universal_stepped syllabic_stepped positional_stepped use_syllabic_stepped
+    use_positional_stepped general_stepped joining_stepped ignorable_stepped property_stepped
 UNIVERSAL-ok = refl
 
 pub IsTable-UNIVERSAL : IsTable 64 UNIVERSAL_INDEX UNIVERSAL_BLOCKS
 IsTable-UNIVERSAL = table_ok-IsTable 64 UNIVERSAL_INDEX UNIVERSAL_BLOCKS UNIVERSAL_TAIL _ UNIVERSAL-ok
 
-pub table_value-UNIVERSAL : (c : ℕ) → table_value 64 UNIVERSAL_INDEX UNIVERSAL_BLOCKS UNIVERSAL_TAIL c ≡ universal_category c
-unfolding tables universal_stepped syllabic_stepped positional_stepped use_syllabic_stepped use_positional_stepped general_stepped joining_stepped ignorable_stepped property_stepped
-table_value-UNIVERSAL = table_value-everywhere 64 UNIVERSAL_INDEX UNIVERSAL_BLOCKS UNIVERSAL_TAIL universal_category universal_stepped UNIVERSAL-ok refl refl refl
+pub table_value-UNIVERSAL : (c : ℕ) → table_value 64 UNIVERSAL_INDEX UNIVERSAL_BLOCKS UNIVERSAL_TAIL c
+    ≡ universal_category c
+unfolding tables universal_stepped syllabic_stepped positional_stepped use_syllabic_stepped use_positional_stepped
+    general_stepped joining_stepped ignorable_stepped property_stepped
+table_value-UNIVERSAL = table_value-everywhere 64 UNIVERSAL_INDEX UNIVERSAL_BLOCKS UNIVERSAL_TAIL universal_category
+    universal_stepped UNIVERSAL-ok refl refl refl
 
 -- the first and the last cell of each block, and of each range above
 UNIVERSAL-cells : cells_hold (
@@ -80,6 +85,8 @@ UNIVERSAL-cells : cells_hold (
     ∷ (0x1E140, 1) ∷ (0x1E17F, 0) ∷ (0x1E280, 0) ∷ (0x1E2BF, 0) ∷ (0x1E2C0, 1) ∷ (0x1E2FF, 0)
     ∷ (0x1E4C0, 0) ∷ (0x1E4FF, 0) ∷ (0x1E5C0, 0) ∷ (0x1E5FF, 0) ∷ (0x1E940, 1) ∷ (0x1E97F, 0)
     ∷ (0x20000, 0) ∷ (0xDFFFF, 0) ∷ (0xE0000, 16) ∷ (0xE00FF, 16) ∷ (0xE0100, 6) ∷ (0xE01EF, 6)
-    ∷ (0xE01F0, 16) ∷ (0xE0FFF, 16) ∷ (0xE1000, 0) ∷ (0x10FFFF, 0) ∷ []) (runs_of universal_category universal_stepped) ≡ true
-unfolding tables table_cells universal_stepped syllabic_stepped positional_stepped use_syllabic_stepped use_positional_stepped general_stepped joining_stepped ignorable_stepped property_stepped
+    ∷ (0xE01F0, 16) ∷ (0xE0FFF, 16) ∷ (0xE1000, 0) ∷ (0x10FFFF, 0) ∷ []) (runs_of universal_category universal_stepped)
+    ≡ true
+unfolding tables table_cells universal_stepped syllabic_stepped positional_stepped use_syllabic_stepped
+    use_positional_stepped general_stepped joining_stepped ignorable_stepped property_stepped
 UNIVERSAL-cells = refl

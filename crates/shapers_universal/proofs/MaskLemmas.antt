@@ -13,9 +13,19 @@ use Rattle.shapers_universal.specs.Proved.UniversalLists.{mapped_twice}
 use Rattle.shapers_universal.specs.UniversalMasks.{categorized, with_categories}
 
 -- the glyphs are still characters
-pub characters_stay : (universal : ℕ → ℕ) (gs : List hb_glyph_info_t) → AreCharacters gs → AreCharacters (map (categorized universal) gs)
-characters_stay universal gs h = all-mapped (λ g. IsScalar g.glyph_id) (λ g. IsScalar g.glyph_id) (categorized universal) gs (λ g k. k) h
+pub characters_stay : (universal : ℕ → ℕ) (gs : List hb_glyph_info_t) → AreCharacters gs
+    → AreCharacters (map (categorized universal) gs)
+characters_stay universal gs h =
+    all-mapped (λ g. IsScalar g.glyph_id) (λ g. IsScalar g.glyph_id) (categorized universal) gs (λ g k. k) h
 
 -- the text is the same
-pub text_stays : (tables : CharacterTables) (joining : ℕ → hb_arabic_joining_type_t) (general : ℕ → hb_unicode_general_category_t) (b : Buffer) → text_of joining general (with_categories tables b) ≡ text_of joining general b
-text_stays tables joining general b = rw (mapped_twice (λ (g : hb_glyph_info_t). g.glyph_id) (categorized tables.universal) b.glyphs, mapped_twice (λ (g : hb_glyph_info_t). resolved (joining g.glyph_id) g.general_category) (categorized tables.universal) b.glyphs) refl
+pub text_stays : (tables : CharacterTables) (joining : ℕ → hb_arabic_joining_type_t) (general : ℕ
+    → hb_unicode_general_category_t) (b : Buffer) → text_of joining general (with_categories tables b)
+    ≡ text_of joining general b
+text_stays tables joining general b =
+    rw (
+      mapped_twice (λ (g : hb_glyph_info_t). g.glyph_id) (categorized tables.universal) b.glyphs,
+      mapped_twice
+          (λ (g : hb_glyph_info_t). resolved (joining g.glyph_id) g.general_category) (categorized tables.universal) b.glyphs,
+    )
+    refl

@@ -13,14 +13,16 @@ use Rattle.shapers_base.specs.Masks.{has_bits}
 
 none_leads : (gs : List hb_glyph_info_t) → prefix_len (has_bits 0) gs ≡ 0
 none_leads [] = refl
-none_leads (g ∷ gs) = subst (λ (n : ℕ). (if not (n == 0) then 1 + prefix_len (has_bits 0) gs else 0) ≡ 0) (sym (and_zero_r g.mask)) refl
+none_leads (g ∷ gs) =
+    subst (λ (n : ℕ). (if not (n == 0) then 1 + prefix_len (has_bits 0) gs else 0) ≡ 0) (sym (and_zero_r g.mask)) refl
 
 syllable_stays : (gs : List hb_glyph_info_t) → rphf_recorded 0 gs ≡ gs
 syllable_stays gs = subst (λ (n : ℕ). first_recorded R (take n gs) ++ drop n gs ≡ gs) (sym (none_leads gs)) refl
 
 all_stay : (pieces : List (List hb_glyph_info_t)) → flat_map (rphf_recorded 0) pieces ≡ flat_map (λ piece. piece) pieces
 all_stay [] = refl
-all_stay (piece ∷ pieces) = ap (λ xs. xs ++ flat_map (rphf_recorded 0) pieces) (syllable_stays piece) ∙ ap (λ xs. piece ++ xs) (all_stay pieces)
+all_stay (piece ∷ pieces) = ap (λ xs. xs ++ flat_map (rphf_recorded 0) pieces) (syllable_stays piece)
+    ∙ ap (λ xs. piece ++ xs) (all_stay pieces)
 
 pub nothing_recorded : (b : Buffer) → with_rphf_recorded 0 b ≡ b
 nothing_recorded b = ap (λ gs. record b { glyphs = gs }) (all_stay (syllables b.glyphs) ∙ joined-syllables b.glyphs)

@@ -24,7 +24,19 @@ use Rattle.shapers_universal.specs.UniversalSyllables.{all_forms, form_masks, ma
 
 -- a glyph whose fields are all set
 abbrev full : hb_glyph_info_t
-full = record { glyph_id = 0x916; cluster = 5; mask = 0x3F; var = 0x7A; syllable = 0x24; category = 1; auxiliary = 3; general_category = Mn; modified_combining_class = 9; lig_comp = 2; marks = record { 0 = 31 } }
+full = record {
+  glyph_id = 0x916;
+  cluster = 5;
+  mask = 0x3F;
+  var = 0x7A;
+  syllable = 0x24;
+  category = 1;
+  auxiliary = 3;
+  general_category = Mn;
+  modified_combining_class = 9;
+  lig_comp = 2;
+  marks = record { 0 = 31 };
+}
 
 -- the masks of the four forms
 abbrev four : FormMasks
@@ -41,32 +53,40 @@ abbrev masks_in : FormMasks → List ℕ → List ℕ
 masks_in masks bytes = map (λ g. g.mask) (with_form_masks masks (map of_byte bytes))
 
 -- the form by its place in a run: a lone one, two, three, four
-runs : map (masks_in four) ((0x12 ∷ []) ∷ (0x12 ∷ 0x22 ∷ []) ∷ (0x12 ∷ 0x22 ∷ 0x32 ∷ []) ∷ (0x12 ∷ 0x22 ∷ 0x32 ∷ 0x42 ∷ []) ∷ []) ≡ (0x10 ∷ []) ∷ (0x20 ∷ 0x80 ∷ []) ∷ (0x20 ∷ 0x40 ∷ 0x80 ∷ []) ∷ (0x20 ∷ 0x40 ∷ 0x40 ∷ 0x80 ∷ []) ∷ []
+runs : map (masks_in four) ((0x12 ∷ []) ∷ (0x12 ∷ 0x22 ∷ []) ∷ (0x12 ∷ 0x22 ∷ 0x32 ∷ [])
+    ∷ (0x12 ∷ 0x22 ∷ 0x32 ∷ 0x42 ∷ []) ∷ []) ≡ (0x10 ∷ []) ∷ (0x20 ∷ 0x80 ∷ []) ∷ (0x20 ∷ 0x40 ∷ 0x80 ∷ [])
+    ∷ (0x20 ∷ 0x40 ∷ 0x40 ∷ 0x80 ∷ []) ∷ []
 runs = refl
 
 -- runs end before and begin behind kind 8, and its halves, cut after the second syllable
-broken_run : map (masks_in four) ((0x12 ∷ 0x22 ∷ 0x32 ∷ 0x48 ∷ 0x52 ∷ []) ∷ (0x12 ∷ 0x22 ∷ []) ∷ (0x32 ∷ 0x48 ∷ 0x52 ∷ []) ∷ []) ≡ (0x20 ∷ 0x40 ∷ 0x80 ∷ 0 ∷ 0x10 ∷ []) ∷ (0x20 ∷ 0x80 ∷ []) ∷ (0x10 ∷ 0 ∷ 0x10 ∷ []) ∷ []
+broken_run : map (masks_in four) ((0x12 ∷ 0x22 ∷ 0x32 ∷ 0x48 ∷ 0x52 ∷ []) ∷ (0x12 ∷ 0x22 ∷ [])
+    ∷ (0x32 ∷ 0x48 ∷ 0x52 ∷ []) ∷ []) ≡ (0x20 ∷ 0x40 ∷ 0x80 ∷ 0 ∷ 0x10 ∷ []) ∷ (0x20 ∷ 0x80 ∷ [])
+    ∷ (0x10 ∷ 0 ∷ 0x10 ∷ []) ∷ []
 broken_run = refl
 
 -- each kind alone: all join but 6 and 8
-kinds : masks_in four (0x10 ∷ 0x18 ∷ 0x21 ∷ 0x26 ∷ 0x33 ∷ 0x38 ∷ 0x44 ∷ 0x46 ∷ 0x55 ∷ 0x58 ∷ 0x67 ∷ 0x66 ∷ 0x79 ∷ []) ≡ 0x10 ∷ 0 ∷ 0x10 ∷ 0 ∷ 0x10 ∷ 0 ∷ 0x10 ∷ 0 ∷ 0x10 ∷ 0 ∷ 0x10 ∷ 0 ∷ 0x10 ∷ []
+kinds : masks_in four (0x10 ∷ 0x18 ∷ 0x21 ∷ 0x26 ∷ 0x33 ∷ 0x38 ∷ 0x44 ∷ 0x46 ∷ 0x55 ∷ 0x58 ∷ 0x67 ∷ 0x66 ∷ 0x79 ∷ [])
+    ≡ 0x10 ∷ 0 ∷ 0x10 ∷ 0 ∷ 0x10 ∷ 0 ∷ 0x10 ∷ 0 ∷ 0x10 ∷ 0 ∷ 0x10 ∷ 0 ∷ 0x10 ∷ []
 kinds = refl
 
 -- all glyphs of a syllable
-whole_syllables : masks_in four (0x12 ∷ 0x12 ∷ 0x22 ∷ 0x22 ∷ 0x22 ∷ 0x36 ∷ 0x41 ∷ []) ≡ 0x20 ∷ 0x20 ∷ 0x80 ∷ 0x80 ∷ 0x80 ∷ 0 ∷ 0x10 ∷ []
+whole_syllables : masks_in four (0x12 ∷ 0x12 ∷ 0x22 ∷ 0x22 ∷ 0x22 ∷ 0x36 ∷ 0x41 ∷ []) ≡ 0x20 ∷ 0x20 ∷ 0x80 ∷ 0x80 ∷ 0x80
+    ∷ 0 ∷ 0x10 ∷ []
 whole_syllables = refl
 
 -- without masks nothing changes; the bits of all forms go, other bits and fields stay
 without_masks : with_form_masks no_forms (full ∷ full ∷ []) ≡ full ∷ full ∷ []
 without_masks = refl
 
-bits_of_forms : with_form_masks (record no_forms { fina = 0x18 }) (full ∷ full ∷ []) ≡ record full { mask = 0x27 } ∷ record full { mask = 0x27 } ∷ []
+bits_of_forms : with_form_masks (record no_forms { fina = 0x18 }) (full ∷ full ∷ []) ≡ record full { mask = 0x27 }
+    ∷ record full { mask = 0x27 } ∷ []
 bits_of_forms = refl
 
 instead : with_instead 0xF0 0x20 (record full { mask = 0xFFFFFFFF }) ≡ record full { mask = 0xFFFFFF2F }
 instead = refl
 
-between : mask_between four false false ∷ mask_between four false true ∷ mask_between four true true ∷ mask_between four true false ∷ all_forms four ∷ [] ≡ 0x10 ∷ 0x20 ∷ 0x40 ∷ 0x80 ∷ 0xF0 ∷ []
+between : mask_between four false false ∷ mask_between four false true ∷ mask_between four true true
+    ∷ mask_between four true false ∷ all_forms four ∷ [] ≡ 0x10 ∷ 0x20 ∷ 0x40 ∷ 0x80 ∷ 0xF0 ∷ []
 between = refl
 
 -- the masks in a map: 0 where there is no feature, and where it holds for the whole text
@@ -74,7 +94,8 @@ abbrev feature : String → ℕ → feature_map_t
 feature tag mask = record { tag = record { 0 = codes tag }; mask = mask; stage = 0 }
 
 abbrev map_of : ℕ → List feature_map_t → Map
-map_of global features = record { features = features; stages = []; lookups = []; global = global; chosen = None; found = true }
+map_of global features =
+    record { features = features; stages = []; lookups = []; global = global; chosen = None; found = true }
 
 masks_of_map : form_masks (map_of 0x40 (feature "fina" 0x80 ∷ feature "isol" 0x10 ∷ feature "medi" 0x40 ∷ [])) ≡ record { isol = 0x10; init = 0; medi = 0; fina = 0x80 }
 masks_of_map = refl
@@ -83,13 +104,18 @@ masks_of_map = refl
 abbrev of_category : ℕ → hb_glyph_info_t
 of_category category = record default_glyph { category = category; syllable = 0x12; mask = 8 }
 
-rphf_masks : map (λ categories. map (λ g. g.mask) (with_rphf 0x100 (map of_category categories))) ((1 ∷ 1 ∷ 1 ∷ 1 ∷ []) ∷ (18 ∷ 1 ∷ 1 ∷ []) ∷ (1 ∷ 18 ∷ []) ∷ (1 ∷ []) ∷ (18 ∷ []) ∷ [] ∷ []) ≡ (0x108 ∷ 0x108 ∷ 0x108 ∷ 8 ∷ []) ∷ (0x108 ∷ 8 ∷ 8 ∷ []) ∷ (0x108 ∷ 0x108 ∷ []) ∷ (0x108 ∷ []) ∷ (0x108 ∷ []) ∷ [] ∷ []
+rphf_masks : map (λ categories. map (λ g. g.mask) (with_rphf 0x100 (map of_category categories)))
+    ((1 ∷ 1 ∷ 1 ∷ 1 ∷ []) ∷ (18 ∷ 1 ∷ 1 ∷ []) ∷ (1 ∷ 18 ∷ []) ∷ (1 ∷ []) ∷ (18 ∷ []) ∷ [] ∷ [])
+    ≡ (0x108 ∷ 0x108 ∷ 0x108 ∷ 8 ∷ []) ∷ (0x108 ∷ 8 ∷ 8 ∷ []) ∷ (0x108 ∷ 0x108 ∷ []) ∷ (0x108 ∷ []) ∷ (0x108 ∷ []) ∷ []
+    ∷ []
 rphf_masks = refl
 
-rphf_keeps : with_rphf 0x100 (full ∷ full ∷ full ∷ full ∷ []) ≡ record full { mask = 0x13F } ∷ record full { mask = 0x13F } ∷ record full { mask = 0x13F } ∷ full ∷ []
+rphf_keeps : with_rphf 0x100 (full ∷ full ∷ full ∷ full ∷ []) ≡ record full { mask = 0x13F }
+    ∷ record full { mask = 0x13F } ∷ record full { mask = 0x13F } ∷ full ∷ []
 rphf_keeps = refl
 
-rphf_on_ligature : with_rphf 0x100 (record full { category = 18 } ∷ full ∷ []) ≡ record full { category = 18; mask = 0x13F } ∷ full ∷ []
+rphf_on_ligature : with_rphf 0x100 (record full { category = 18 } ∷ full ∷ [])
+    ≡ record full { category = 18; mask = 0x13F } ∷ full ∷ []
 rphf_on_ligature = refl
 
 -- the whole set-up, where letters join and where they don't
@@ -109,7 +135,10 @@ abbrev two_spans : List Span
 two_spans = record { len = 4; kind = 2 } ∷ record { len = 1; kind = 7 } ∷ []
 
 abbrev set_up_masks : String → List (ℕ × ℕ)
-set_up_masks tag = map (λ g. (g.mask, g.syllable)) (syllables_set_up (Universal (universal_plan starts.AsCode breaks.AsCode (script tag) font)) font two_spans five).glyphs
+set_up_masks tag =
+    map (λ g. (g.mask, g.syllable))
+    (syllables_set_up (Universal (universal_plan starts.AsCode breaks.AsCode (script tag) font)) font two_spans
+    five).glyphs
 
 set_up : set_up_masks "Bali" ≡ (0x120, 0x12) ∷ (0x123, 0x12) ∷ (0x123, 0x12) ∷ (0x23, 0x12) ∷ (0x180, 0x27) ∷ []
 set_up = refl
@@ -117,12 +146,15 @@ set_up = refl
 set_up_joining : set_up_masks "Mong" ≡ (0x100, 0x12) ∷ (0x103, 0x12) ∷ (0x103, 0x12) ∷ (3, 0x12) ∷ (0x100, 0x27) ∷ []
 set_up_joining = refl
 
-set_up_broken : (syllables_set_up (Universal (universal_plan starts.AsCode breaks.AsCode None font)) font two_spans five).broken ≡ true
+set_up_broken : (syllables_set_up (Universal (universal_plan starts.AsCode breaks.AsCode None font)) font two_spans
+    five).broken ≡ true
 set_up_broken = refl
 
 -- the same by the bytes that the text has, with other serials, and its mark that stays
 abbrev by_bytes : String → List (ℕ × ℕ) → Buffer
-by_bytes tag rows = set_up_by_its_bytes (Universal (universal_plan starts.AsCode breaks.AsCode (script tag) font)) font (record (new_buffer 9) { glyphs = map (λ (row : ℕ × ℕ). record default_glyph { cluster = row.0; category = 1; syllable = row.1 }) rows })
+by_bytes tag rows = set_up_by_its_bytes (Universal (universal_plan starts.AsCode breaks.AsCode (script tag) font)) font
+    (record (new_buffer 9)
+    { glyphs = map (λ (row : ℕ × ℕ). record default_glyph { cluster = row.0; category = 1; syllable = row.1 }) rows })
 
 abbrev masks_by_bytes : String → List (ℕ × ℕ) → List (ℕ × ℕ)
 masks_by_bytes tag rows = map (λ g. (g.mask, g.syllable)) (by_bytes tag rows).glyphs
@@ -149,16 +181,25 @@ recorded pref rows =
 abbrev categories : Buffer → List ℕ
 categories b = map (λ g. g.category) b.glyphs
 
-record_rphf : map (λ rows. categories (recorded false rows)) (((0x100, 0) ∷ (0x100, 1) ∷ (0x100, 1) ∷ (0, 0) ∷ []) ∷ ((0, 0) ∷ (0x100, 1) ∷ []) ∷ ((0x101, 31) ∷ []) ∷ ((0x100, 30) ∷ (0, 1) ∷ []) ∷ []) ≡ (1 ∷ 18 ∷ 1 ∷ 1 ∷ []) ∷ (1 ∷ 1 ∷ []) ∷ (18 ∷ []) ∷ (1 ∷ 1 ∷ []) ∷ []
+record_rphf : map (λ rows. categories (recorded false rows)) (((0x100, 0) ∷ (0x100, 1) ∷ (0x100, 1) ∷ (0, 0) ∷ [])
+    ∷ ((0, 0) ∷ (0x100, 1) ∷ []) ∷ ((0x101, 31) ∷ []) ∷ ((0x100, 30) ∷ (0, 1) ∷ []) ∷ []) ≡ (1 ∷ 18 ∷ 1 ∷ 1 ∷ [])
+    ∷ (1 ∷ 1 ∷ []) ∷ (18 ∷ []) ∷ (1 ∷ 1 ∷ []) ∷ []
 record_rphf = refl
 
-record_pref : map (λ rows. categories (recorded true rows)) (((0x100, 0) ∷ (0x100, 1) ∷ (0, 1) ∷ []) ∷ ((0, 0) ∷ (0, 30) ∷ []) ∷ ((0, 31) ∷ []) ∷ []) ≡ (1 ∷ 22 ∷ 1 ∷ []) ∷ (1 ∷ 1 ∷ []) ∷ (22 ∷ []) ∷ []
+record_pref : map (λ rows. categories (recorded true rows)) (((0x100, 0) ∷ (0x100, 1) ∷ (0, 1) ∷ [])
+    ∷ ((0, 0) ∷ (0, 30) ∷ []) ∷ ((0, 31) ∷ []) ∷ []) ≡ (1 ∷ 22 ∷ 1 ∷ []) ∷ (1 ∷ 1 ∷ []) ∷ (22 ∷ []) ∷ []
 record_pref = refl
 
-without_mask : with_rphf_recorded 0 (record (new_buffer 9) { glyphs = full ∷ full ∷ [] }) ≡ record (new_buffer 9) { glyphs = full ∷ full ∷ [] }
+without_mask : with_rphf_recorded 0 (record (new_buffer 9) { glyphs = full ∷ full ∷ [] })
+    ≡ record (new_buffer 9) { glyphs = full ∷ full ∷ [] }
 without_mask = refl
 
-each_syllable : with_pref_recorded (record (new_buffer 9) { glyphs = full ∷ full ∷ record full { syllable = 0x34 } ∷ [] }) ≡ record (new_buffer 9) { glyphs = record full { category = 22 } ∷ full ∷ record full { syllable = 0x34; category = 22 } ∷ [] }
+each_syllable : with_pref_recorded
+    (record (new_buffer 9) { glyphs = full ∷ full ∷ record full { syllable = 0x34 } ∷ [] })
+    ≡ record (new_buffer 9) {
+      glyphs = record full { category = 22 } ∷ full
+          ∷ record full { syllable = 0x34; category = 22 } ∷ [];
+    }
 each_syllable = refl
 
 record_keeps : rphf_recorded 0x20 (full ∷ full ∷ []) ≡ record full { category = 18 } ∷ full ∷ []
@@ -185,7 +226,8 @@ joins c = if c == 0x180B then T else D
 abbrev mongolian : List ℕ → List ℕ → List ℕ
 mongolian before cs = forms_of (script "Mong") (text_of joins (λ c. Lo) (record (new_buffer 9) { glyphs = map (λ c. categorized (λ d. 1) (record default_glyph { glyph_id = c; general_category = Lo })) cs; before = before }))
 
-selectors : mongolian [] (0x1820 ∷ 0x180B ∷ 0x1820 ∷ []) ∷ mongolian (0x1820 ∷ []) (0x180B ∷ 0x1820 ∷ []) ∷ [] ≡ (6 ∷ 6 ∷ 1 ∷ []) ∷ (7 ∷ 1 ∷ []) ∷ []
+selectors : mongolian [] (0x1820 ∷ 0x180B ∷ 0x1820 ∷ []) ∷ mongolian (0x1820 ∷ []) (0x180B ∷ 0x1820 ∷ []) ∷ []
+    ≡ (6 ∷ 6 ∷ 1 ∷ []) ∷ (7 ∷ 1 ∷ []) ∷ []
 selectors = refl
 
 -- a glyph without the masks of forms; with a plan of Arabic it stays

@@ -34,7 +34,8 @@ use Rattle.shapers_universal.specs.UniversalSyllables.{all_forms, first_joins, f
 use Rattle.shapers_universal.specs.declared.ot_shaper_use.forms.FormMasks.{FormMasks}
 
 -- bits among those that are hidden don't show
-bit_hidden : (y bits i : ℕ) → bit_at y i ≤ bit_at bits i → bits < 2 ^ 32 → bit_at (bit_and y (0xFFFFFFFF - bits)) i ≡ bit_at 0 i
+bit_hidden : (y bits i : ℕ) → bit_at y i ≤ bit_at bits i → bits < 2 ^ 32 → bit_at (bit_and y (0xFFFFFFFF - bits)) i
+    ≡ bit_at 0 i
 bit_hidden y bits i among fits = elim (cases_lt i 32) [
   | inl low ↦
       let off : bit_at (0xFFFFFFFF - bits) i ≡ 1 - bit_at bits i = bit_at_not w32 bits i fits low in
@@ -54,35 +55,50 @@ hidden y bits among = elim (cases_lt bits (2 ^ 32)) [
 ]
 
 -- so for the mask of a form
-form_among : (masks : FormMasks) (before behind : Bool) (i : ℕ) → bit_at (mask_between masks before behind) i ≤ bit_at (all_forms masks) i
+form_among : (masks : FormMasks) (before behind : Bool) (i : ℕ) → bit_at (mask_between masks before behind) i
+    ≤ bit_at (all_forms masks) i
 form_among masks before behind i =
     let front = bit_at_or masks.isol masks.init i in
     let back = bit_at_or masks.medi masks.fina i in
     let both = bit_at_or (bit_or masks.isol masks.init) (bit_or masks.medi masks.fina) i in
     elim before as (λ a. bit_at (mask_between masks a behind) i ≤ bit_at (all_forms masks) i) [
-      | true ↦ elim behind as (λ b. bit_at (mask_between masks true b) i ≤ bit_at (all_forms masks) i) [ true ↦ omega arith | false ↦ omega arith ]
-      | false ↦ elim behind as (λ b. bit_at (mask_between masks false b) i ≤ bit_at (all_forms masks) i) [ true ↦ omega arith | false ↦ omega arith ]
+      | true ↦ elim behind as (λ b. bit_at (mask_between masks true b) i ≤ bit_at (all_forms masks) i)
+          [ true ↦ omega arith | false ↦ omega arith ]
+      | false ↦ elim behind as (λ b. bit_at (mask_between masks false b) i ≤ bit_at (all_forms masks) i)
+          [ true ↦ omega arith | false ↦ omega arith ]
     ]
 
-bits_left : (bits mask n : ℕ) → bit_and mask (0xFFFFFFFF - bits) ≡ 0 → bit_and (bit_or (bit_and n (0xFFFFFFFF - bits)) mask) (0xFFFFFFFF - bits) ≡ bit_and n (0xFFFFFFFF - bits)
+bits_left : (bits mask n : ℕ) → bit_and mask (0xFFFFFFFF - bits) ≡ 0
+    → bit_and (bit_or (bit_and n (0xFFFFFFFF - bits)) mask) (0xFFFFFFFF - bits) ≡ bit_and n (0xFFFFFFFF - bits)
 bits_left bits mask n apart =
     let k = 0xFFFFFFFF - bits in
     and_or_apart k (bit_and n k) mask apart
-    ∙ same_from_bits (bit_and (bit_and n k) k) (bit_and n k) (λ i. bit_at_and (bit_and n k) k i ∙ ap (λ b. min b (bit_at k i)) (bit_at_and n k i) ∙ omega arith ∙ sym (bit_at_and n k i))
+    ∙ same_from_bits (bit_and (bit_and n k) k) (bit_and n k) (λ i. bit_at_and (bit_and n k) k i
+    ∙ ap (λ b. min b (bit_at k i)) (bit_at_and n k i) ∙ omega arith ∙ sym (bit_at_and n k i))
 
 -- glyphs in their form don't show it
-formed_hidden : (m : Map) (before behind : Bool) (gs : List hb_glyph_info_t) → map (formless_for None m) (map (with_instead (all_forms (form_masks m)) (mask_between (form_masks m) before behind)) gs) ≡ map (formless_for None m) gs
+formed_hidden : (m : Map) (before behind : Bool) (gs : List hb_glyph_info_t)
+    → map (formless_for None m)
+    (map (with_instead (all_forms (form_masks m)) (mask_between (form_masks m) before behind)) gs)
+    ≡ map (formless_for None m) gs
 formed_hidden m before behind [] = refl
 formed_hidden m before behind (g ∷ gs) =
     let bits = all_forms (form_masks m) in
     let mask = mask_between (form_masks m) before behind in
-    ap (λ (k : ℕ). record g { mask = k } ∷ map (formless_for None m) (map (with_instead bits mask) gs)) (bits_left bits mask g.mask (hidden mask bits (form_among (form_masks m) before behind)))
+    ap (λ (k : ℕ). record g { mask = k } ∷ map (formless_for None m) (map (with_instead bits mask) gs))
+    (bits_left bits mask g.mask (hidden mask bits (form_among (form_masks m) before behind)))
     ∙ ap (λ l. formless_for None m g ∷ l) (formed_hidden m before behind gs)
 
-syllable_hidden : (m : Map) (before behind : Bool) (gs : List hb_glyph_info_t) → map (formless_for None m) (formed (form_masks m) before behind gs) ≡ map (formless_for None m) gs
-syllable_hidden m before behind gs = elim (joins_runs gs) as (λ b. map (formless_for None m) (if b then map (with_instead (all_forms (form_masks m)) (mask_between (form_masks m) before behind)) gs else gs) ≡ map (formless_for None m) gs) [ true ↦ formed_hidden m before behind gs | false ↦ refl ]
+syllable_hidden : (m : Map) (before behind : Bool) (gs : List hb_glyph_info_t)
+    → map (formless_for None m) (formed (form_masks m) before behind gs) ≡ map (formless_for None m) gs
+syllable_hidden m before behind gs =
+    elim (joins_runs gs) as (λ b. map (formless_for None m)
+    (if b then map (with_instead (all_forms (form_masks m)) (mask_between (form_masks m) before behind)) gs else gs)
+    ≡ map (formless_for None m) gs) [ true ↦ formed_hidden m before behind gs | false ↦ refl ]
 
-forms_hidden : (m : Map) (before : Bool) (syls : List (List hb_glyph_info_t)) → map (formless_for None m) (in_forms (form_masks m) before syls) ≡ map (formless_for None m) (flat_map (λ p. p) syls)
+forms_hidden : (m : Map) (before : Bool) (syls : List (List hb_glyph_info_t))
+    → map (formless_for None m) (in_forms (form_masks m) before syls)
+    ≡ map (formless_for None m) (flat_map (λ p. p) syls)
 forms_hidden m before [] = refl
 forms_hidden m before (syl ∷ syls) =
     let hide = formless_for None m in
@@ -93,49 +109,63 @@ forms_hidden m before (syl ∷ syls) =
     ∙ ap (λ l. map hide syl ++ l) (forms_hidden m rest syls)
     ∙ sym (map-append hide syl (flat_map (λ p. p) syls))
 
-masks_hidden : (arabic : Option arabic_shape_plan_t) (m : Map) (gs : List hb_glyph_info_t) → map (formless_for arabic m) (with_forms_for arabic m gs) ≡ map (formless_for arabic m) gs
+masks_hidden : (arabic : Option arabic_shape_plan_t) (m : Map) (gs : List hb_glyph_info_t)
+    → map (formless_for arabic m) (with_forms_for arabic m gs) ≡ map (formless_for arabic m) gs
 masks_hidden (Some p) m gs = refl
 masks_hidden None m gs =
     let hide = formless_for None m in
     let all = forms_hidden m false (syllables gs) ∙ ap (map hide) (joined-syllables gs) in
-    elim (all_forms (form_masks m) == 0) as (λ b. map hide (if b then gs else in_forms (form_masks m) false (syllables gs)) ≡ map hide gs) [ true ↦ refl | false ↦ all ]
+    elim (all_forms (form_masks m) == 0) as (λ b. map hide
+    (if b then gs else in_forms (form_masks m) false (syllables gs)) ≡ map hide gs) [ true ↦ refl | false ↦ all ]
 
 -- what is set on a syllable, masks of forms apart
 set_on : Option arabic_shape_plan_t → Map → ℕ → List hb_glyph_info_t → List hb_glyph_info_t
 set_on arabic m rphf gs = map (formless_for arabic m) (with_rphf rphf gs)
 
-map-flat : (f : hb_glyph_info_t → hb_glyph_info_t) (h : List hb_glyph_info_t → List hb_glyph_info_t) (pieces : List (List hb_glyph_info_t)) → map f (flat_map h pieces) ≡ flat_map (λ p. map f (h p)) pieces
+map-flat : (f : hb_glyph_info_t → hb_glyph_info_t) (h : List hb_glyph_info_t → List hb_glyph_info_t)
+    (pieces : List (List hb_glyph_info_t)) → map f (flat_map h pieces) ≡ flat_map (λ p. map f (h p)) pieces
 map-flat f h [] = refl
 map-flat f h (p ∷ pieces) = map-append f (h p) (flat_map h pieces) ∙ ap (λ l. map f (h p) ++ l) (map-flat f h pieces)
 
-set_on_each : (arabic : Option arabic_shape_plan_t) (m : Map) (rphf : ℕ) (gs : List hb_glyph_info_t) → map (formless_for arabic m) (with_forms_for arabic m (flat_map (with_rphf rphf) (syllables gs))) ≡ flat_map (set_on arabic m rphf) (syllables gs)
+set_on_each : (arabic : Option arabic_shape_plan_t) (m : Map) (rphf : ℕ) (gs : List hb_glyph_info_t)
+    → map (formless_for arabic m) (with_forms_for arabic m (flat_map (with_rphf rphf) (syllables gs)))
+    ≡ flat_map (set_on arabic m rphf) (syllables gs)
 unfolding set_on
-set_on_each arabic m rphf gs = masks_hidden arabic m (flat_map (with_rphf rphf) (syllables gs)) ∙ map-flat (formless_for arabic m) (with_rphf rphf) (syllables gs)
+set_on_each arabic m rphf gs = masks_hidden arabic m (flat_map (with_rphf rphf) (syllables gs))
+    ∙ map-flat (formless_for arabic m) (with_rphf rphf) (syllables gs)
 
 -- it keeps the bytes of syllables, and doesn't read serials
-formless_keeps : (arabic : Option arabic_shape_plan_t) (m : Map) (byte : ℕ) (gs : List hb_glyph_info_t) → All (λ g. g.syllable ≡ byte) gs → All (λ g. g.syllable ≡ byte) (map (formless_for arabic m) gs)
+formless_keeps : (arabic : Option arabic_shape_plan_t) (m : Map) (byte : ℕ) (gs : List hb_glyph_info_t)
+    → All (λ g. g.syllable ≡ byte) gs → All (λ g. g.syllable ≡ byte) (map (formless_for arabic m) gs)
 formless_keeps (Some p) m byte gs h = All-map (λ g. g.syllable ≡ byte) (formless_for (Some p) m) gs h
 formless_keeps None m byte gs h = All-map (λ g. g.syllable ≡ byte) (formless_for None m) gs h
 
-rphf_keeps : (rphf byte : ℕ) (gs : List hb_glyph_info_t) → All (λ g. g.syllable ≡ byte) gs → All (λ g. g.syllable ≡ byte) (with_rphf rphf gs)
+rphf_keeps : (rphf byte : ℕ) (gs : List hb_glyph_info_t) → All (λ g. g.syllable ≡ byte) gs
+    → All (λ g. g.syllable ≡ byte) (with_rphf rphf gs)
 rphf_keeps rphf byte gs h =
     let P : hb_glyph_info_t → Type 0 = λ g. g.syllable ≡ byte in
     let n = rphf_len gs in
-    All-append P (map (with_bits rphf) (take n gs)) (drop n gs) (All-map P (with_bits rphf) (take n gs) (All-take P n gs h)) (All-drop P n gs h)
+    All-append P (map (with_bits rphf) (take n gs)) (drop n gs)
+    (All-map P (with_bits rphf) (take n gs) (All-take P n gs h)) (All-drop P n gs h)
 
 length-rphf : (rphf : ℕ) (gs : List hb_glyph_info_t) → length (with_rphf rphf gs) ≡ length gs
 length-rphf rphf gs =
     let n = rphf_len gs in
-    length-append (map (with_bits rphf) (take n gs)) (drop n gs) ∙ ap (λ k. k + length (drop n gs)) (length-map (take n gs) (with_bits rphf)) ∙ sym (length-append (take n gs) (drop n gs)) ∙ ap length (take-append-drop n gs)
+    length-append (map (with_bits rphf) (take n gs)) (drop n gs)
+    ∙ ap (λ k. k + length (drop n gs)) (length-map (take n gs) (with_bits rphf))
+    ∙ sym (length-append (take n gs) (drop n gs)) ∙ ap length (take-append-drop n gs)
 
-set_on_keeps : (arabic : Option arabic_shape_plan_t) (m : Map) (rphf byte : ℕ) (gs : List hb_glyph_info_t) → OfByte byte gs → OfByte byte (set_on arabic m rphf gs)
+set_on_keeps : (arabic : Option arabic_shape_plan_t) (m : Map) (rphf byte : ℕ) (gs : List hb_glyph_info_t)
+    → OfByte byte gs → OfByte byte (set_on arabic m rphf gs)
 unfolding set_on
 set_on_keeps arabic m rphf byte gs h = record {
-  some = let n = length-map (with_rphf rphf gs) (formless_for arabic m) ∙ length-rphf rphf gs in subst (λ k. 0 < k) (sym n) h.some;
+  some = let n = length-map (with_rphf rphf gs) (formless_for arabic m)
+      ∙ length-rphf rphf gs in subst (λ k. 0 < k) (sym n) h.some;
   all = formless_keeps arabic m byte (with_rphf rphf gs) (rphf_keeps rphf byte gs h.all);
 }
 
-formless_same : (arabic : Option arabic_shape_plan_t) (m : Map) (gs : List hb_glyph_info_t) → map unnumbered (map (formless_for arabic m) gs) ≡ map (formless_for arabic m) (map unnumbered gs)
+formless_same : (arabic : Option arabic_shape_plan_t) (m : Map) (gs : List hb_glyph_info_t)
+    → map unnumbered (map (formless_for arabic m) gs) ≡ map (formless_for arabic m) (map unnumbered gs)
 formless_same arabic m [] = refl
 formless_same (Some p) m (g ∷ gs) = ap (λ l. unnumbered g ∷ l) (formless_same (Some p) m gs)
 formless_same None m (g ∷ gs) = ap (λ l. unnumbered (formless_for None m g) ∷ l) (formless_same None m gs)
@@ -144,22 +174,27 @@ len_same : (gs : List hb_glyph_info_t) → rphf_len (map unnumbered gs) ≡ rphf
 len_same [] = refl
 len_same (g ∷ gs) = ap (λ n. if g.category == R then 1 else min 3 (suc n)) (length-map gs unnumbered)
 
-rphf_same : (rphf : ℕ) (gs : List hb_glyph_info_t) → map unnumbered (with_rphf rphf gs) ≡ with_rphf rphf (map unnumbered gs)
+rphf_same : (rphf : ℕ) (gs : List hb_glyph_info_t) → map unnumbered (with_rphf rphf gs)
+    ≡ with_rphf rphf (map unnumbered gs)
 rphf_same rphf gs =
     let n = rphf_len gs in
     map-append unnumbered (map (with_bits rphf) (take n gs)) (drop n gs)
-    ∙ ap (λ l. l ++ map unnumbered (drop n gs)) (map-seen unnumbered (with_bits rphf) (λ g. refl) (take n gs) ∙ ap (map (with_bits rphf)) (sym (take-map unnumbered n gs)))
+    ∙ ap (λ l. l ++ map unnumbered (drop n gs)) (map-seen unnumbered (with_bits rphf) (λ g. refl) (take n gs)
+    ∙ ap (map (with_bits rphf)) (sym (take-map unnumbered n gs)))
     ∙ ap (λ l. map (with_bits rphf) (take n (map unnumbered gs)) ++ l) (sym (drop-map unnumbered n gs))
     ∙ ap (λ k. map (with_bits rphf) (take k (map unnumbered gs)) ++ drop k (map unnumbered gs)) (sym (len_same gs))
 
 set_on_same : (arabic : Option arabic_shape_plan_t) (m : Map) (rphf : ℕ) → KeepsSame (set_on arabic m rphf)
 unfolding set_on
 set_on_same arabic m rphf gs hs same =
-    let told : (xs : List hb_glyph_info_t) → map unnumbered (map (formless_for arabic m) (with_rphf rphf xs)) ≡ map (formless_for arabic m) (with_rphf rphf (map unnumbered xs)) = λ xs. formless_same arabic m (with_rphf rphf xs) ∙ ap (map (formless_for arabic m)) (rphf_same rphf xs) in
+    let told : (xs : List hb_glyph_info_t) → map unnumbered (map (formless_for arabic m) (with_rphf rphf xs))
+    ≡ map (formless_for arabic m) (with_rphf rphf (map unnumbered xs)) =
+    λ xs. formless_same arabic m (with_rphf rphf xs) ∙ ap (map (formless_for arabic m)) (rphf_same rphf xs) in
     told gs ∙ ap (λ xs. map (formless_for arabic m) (with_rphf rphf xs)) same ∙ sym (told hs)
 
 -- masks change no cluster
-clusters-formless : (arabic : Option arabic_shape_plan_t) (m : Map) (gs : List hb_glyph_info_t) → clusters (map (formless_for arabic m) gs) ≡ clusters gs
+clusters-formless : (arabic : Option arabic_shape_plan_t) (m : Map) (gs : List hb_glyph_info_t)
+    → clusters (map (formless_for arabic m) gs) ≡ clusters gs
 clusters-formless arabic m [] = refl
 clusters-formless (Some p) m (g ∷ gs) = ap (λ cs. g.cluster ∷ cs) (clusters-formless (Some p) m gs)
 clusters-formless None m (g ∷ gs) = ap (λ cs. g.cluster ∷ cs) (clusters-formless None m gs)
@@ -173,7 +208,9 @@ clusters-rphf rphf gs =
     ∙ sym (map-append cluster (take n gs) (drop n gs))
     ∙ ap clusters (take-append-drop n gs)
 
-clusters-flat : (f : List hb_glyph_info_t → List hb_glyph_info_t) → ((gs : List hb_glyph_info_t) → clusters (f gs) ≡ clusters gs) → (pieces : List (List hb_glyph_info_t)) → clusters (flat_map f pieces) ≡ clusters (flat_map (λ p. p) pieces)
+clusters-flat : (f : List hb_glyph_info_t → List hb_glyph_info_t)
+    → ((gs : List hb_glyph_info_t) → clusters (f gs) ≡ clusters gs) → (pieces : List (List hb_glyph_info_t))
+    → clusters (flat_map f pieces) ≡ clusters (flat_map (λ p. p) pieces)
 clusters-flat f same [] = refl
 clusters-flat f same (p ∷ pieces) =
     let cluster : hb_glyph_info_t → ℕ = λ g. g.cluster in
@@ -182,7 +219,8 @@ clusters-flat f same (p ∷ pieces) =
     ∙ ap (λ cs. clusters p ++ cs) (clusters-flat f same pieces)
     ∙ sym (map-append cluster p (flat_map (λ p. p) pieces))
 
-pub clusters-masks : (kept : PlanData) (m : Map) (gs : List hb_glyph_info_t) → clusters (with_syllable_masks kept m gs) ≡ clusters gs
+pub clusters-masks : (kept : PlanData) (m : Map) (gs : List hb_glyph_info_t) → clusters (with_syllable_masks kept m gs)
+    ≡ clusters gs
 clusters-masks kept m gs =
     let arabic = arabic_of kept in
     let f = with_rphf (rphf_of kept) in
@@ -193,7 +231,9 @@ clusters-masks kept m gs =
     ∙ clusters-flat f (clusters-rphf (rphf_of kept)) (syllables gs)
     ∙ ap clusters (joined-syllables gs)
 
-pub universal_set_up_cuts : (kept : PlanData) (m : Map) (spans : List Span) (old : Buffer) → All (λ span. span.kind ≤ 15) spans → UniversalSetUpCutsAtSpans kept m spans old (syllables_set_up kept m spans old)
+pub universal_set_up_cuts : (kept : PlanData) (m : Map) (spans : List Span) (old : Buffer)
+    → All (λ span. span.kind ≤ 15) spans
+    → UniversalSetUpCutsAtSpans kept m spans old (syllables_set_up kept m spans old)
 universal_set_up_cuts kept m spans old kinds ss ts gs hs whole text first second =
     let plain = spans_cut spans BROKEN_CLUSTER old kinds ss ts gs hs whole text first second in
     let f = set_on (arabic_of kept) m (rphf_of kept) in
@@ -201,11 +241,20 @@ universal_set_up_cuts kept m spans old kinds ss ts gs hs whole text first second
     let front = (spans_set_up ss BROKEN_CLUSTER (record old { glyphs = gs })).glyphs in
     let back = (spans_set_up ts BROKEN_CLUSTER (record old { glyphs = hs })).glyphs in
     let keeps = set_on_keeps (arabic_of kept) m (rphf_of kept) in
-    let ends : (xs : List hb_glyph_info_t) → SameEnds (flat_map f (syllables xs)) xs = λ xs. subst (SameEnds (flat_map f (syllables xs))) (joined-syllables xs) (ends-kept f keeps (syllables xs) (syllables_cut xs)) in
+    let ends : (xs : List hb_glyph_info_t) → SameEnds (flat_map f (syllables xs)) xs =
+    λ xs. subst (SameEnds (flat_map f (syllables xs))) (joined-syllables xs)
+    (ends-kept f keeps (syllables xs) (syllables_cut xs)) in
     record {
       behind = flat_map f (syllables plain.behind);
-      parts = told (spans_set_up spans BROKEN_CLUSTER old).glyphs ∙ ap (λ xs. flat_map f (syllables xs)) plain.parts ∙ ap (flat_map f) (syllables-append front plain.behind plain.border) ∙ flat_map-append f (syllables front) (syllables plain.behind) ∙ ap (λ l. l ++ flat_map f (syllables plain.behind)) (sym (told front));
-      renumbered = ap (map (map unnumbered)) (syllables-mapped f keeps plain.behind) ∙ pieces_same f (set_on_same (arabic_of kept) m (rphf_of kept)) (syllables plain.behind) (syllables back) plain.renumbered ∙ ap (map (map unnumbered)) (sym (ap syllables (told back) ∙ syllables-mapped f keeps back));
-      border = subst (λ l. MeetAtBorder l (flat_map f (syllables plain.behind))) (sym (told front)) (border_by (flat_map f (syllables front)) (flat_map f (syllables plain.behind)) front plain.behind (ends front) (ends plain.behind) plain.border);
+      parts = told (spans_set_up spans BROKEN_CLUSTER old).glyphs ∙ ap (λ xs. flat_map f (syllables xs)) plain.parts
+          ∙ ap (flat_map f) (syllables-append front plain.behind plain.border)
+          ∙ flat_map-append f (syllables front) (syllables plain.behind)
+          ∙ ap (λ l. l ++ flat_map f (syllables plain.behind)) (sym (told front));
+      renumbered = ap (map (map unnumbered)) (syllables-mapped f keeps plain.behind)
+          ∙ pieces_same f (set_on_same (arabic_of kept) m (rphf_of kept)) (syllables plain.behind) (syllables back)
+          plain.renumbered ∙ ap (map (map unnumbered)) (sym (ap syllables (told back) ∙ syllables-mapped f keeps back));
+      border = subst (λ l. MeetAtBorder l (flat_map f (syllables plain.behind))) (sym (told front))
+          (border_by (flat_map f (syllables front)) (flat_map f (syllables plain.behind)) front plain.behind
+          (ends front) (ends plain.behind) plain.border);
       broken = plain.broken;
     }

@@ -15,7 +15,8 @@ use Rattle.shapers_universal.specs.UniversalSyllables.{all_forms, first_joins, f
 use Rattle.shapers_universal.specs.declared.ot_shaper_use.forms.FormMasks.{FormMasks}
 
 -- masks of forms off the flags are so together
-pub forms_off : (masks : FormMasks) → masks.isol % 8 ≡ 0 → masks.init % 8 ≡ 0 → masks.medi % 8 ≡ 0 → masks.fina % 8 ≡ 0 → all_forms masks % 8 ≡ 0
+pub forms_off : (masks : FormMasks) → masks.isol % 8 ≡ 0 → masks.init % 8 ≡ 0 → masks.medi % 8 ≡ 0 → masks.fina % 8 ≡ 0
+    → all_forms masks % 8 ≡ 0
 forms_off masks a b c d =
     let back = flags-or masks.medi masks.fina d ∙ c in
     flags-or _ _ back ∙ flags-or masks.isol masks.init b ∙ a
@@ -28,13 +29,16 @@ left_flags a bits off fits =
     let twice : a % 8 % 8 ≡ a % 8 = omega arith in
     and_mod a k 3 ∙ ap (bit_and (a % 8)) low ∙ and_mask (a % 8) 3 ∙ twice
 
-instead_added : (bits mask : ℕ) (g : hb_glyph_info_t) → bits % 8 ≡ 0 → bits ≤ 0xFFFFFFFF → FlagsAdded g (with_instead bits mask g)
+instead_added : (bits mask : ℕ) (g : hb_glyph_info_t) → bits % 8 ≡ 0 → bits ≤ 0xFFFFFFFF
+    → FlagsAdded g (with_instead bits mask g)
 instead_added bits mask g off fits =
     let h : hb_glyph_info_t = record g { mask = bit_and g.mask (0xFFFFFFFF - bits) } in
-    added_on g h (with_bits mask h) (record { same = refl; kept = flags_kept g h (left_flags g.mask bits off fits) }) (bits_added mask h)
+    added_on g h (with_bits mask h) (record { same = refl; kept = flags_kept g h (left_flags g.mask bits off fits) })
+    (bits_added mask h)
 
 -- syllables in their forms
-formed_added : (masks : FormMasks) (before behind : Bool) → all_forms masks % 8 ≡ 0 → all_forms masks ≤ 0xFFFFFFFF → (gs : List hb_glyph_info_t) → OnlyFlagsAdded gs (formed masks before behind gs)
+formed_added : (masks : FormMasks) (before behind : Bool) → all_forms masks % 8 ≡ 0 → all_forms masks ≤ 0xFFFFFFFF
+    → (gs : List hb_glyph_info_t) → OnlyFlagsAdded gs (formed masks before behind gs)
 formed_added masks before behind off fits gs =
     let bits = all_forms masks in
     let mask = mask_between masks before behind in
@@ -43,21 +47,28 @@ formed_added masks before behind off fits gs =
       | false ↦ same_added gs
     ]
 
-forms_added : (masks : FormMasks) (before : Bool) → all_forms masks % 8 ≡ 0 → all_forms masks ≤ 0xFFFFFFFF → (syls : List (List hb_glyph_info_t)) → OnlyFlagsAdded (flat_map (λ syl. syl) syls) (in_forms masks before syls)
+forms_added : (masks : FormMasks) (before : Bool) → all_forms masks % 8 ≡ 0 → all_forms masks ≤ 0xFFFFFFFF
+    → (syls : List (List hb_glyph_info_t)) → OnlyFlagsAdded (flat_map (λ syl. syl) syls) (in_forms masks before syls)
 forms_added masks before off fits [] = tt
 forms_added masks before off fits (syl ∷ syls) =
-    all_append FlagsAdded syl (formed masks before (first_joins syls) syl) (flat_map (λ s. s) syls) (in_forms masks (joins_runs syl) syls)
+    all_append FlagsAdded syl (formed masks before (first_joins syls) syl) (flat_map (λ s. s) syls)
+    (in_forms masks (joins_runs syl) syls)
     (formed_added masks before (first_joins syls) off fits syl) (forms_added masks (joins_runs syl) off fits syls)
 
-pub in_forms_added : (masks : FormMasks) → all_forms masks % 8 ≡ 0 → all_forms masks ≤ 0xFFFFFFFF → (gs : List hb_glyph_info_t) → OnlyFlagsAdded gs (in_forms masks false (syllables gs))
-in_forms_added masks off fits gs = subst (λ xs. OnlyFlagsAdded xs (in_forms masks false (syllables gs))) (joined-syllables gs) (forms_added masks false off fits (syllables gs))
+pub in_forms_added : (masks : FormMasks) → all_forms masks % 8 ≡ 0 → all_forms masks ≤ 0xFFFFFFFF
+    → (gs : List hb_glyph_info_t) → OnlyFlagsAdded gs (in_forms masks false (syllables gs))
+in_forms_added masks off fits gs =
+    subst (λ xs. OnlyFlagsAdded xs (in_forms masks false (syllables gs))) (joined-syllables gs)
+    (forms_added masks false off fits (syllables gs))
 
 -- the mask of rphf
 rphf_syllable_added : (mask : ℕ) (gs : List hb_glyph_info_t) → OnlyFlagsAdded gs (with_rphf mask gs)
 rphf_syllable_added mask gs =
     let n = rphf_len gs in
     subst (λ xs. OnlyFlagsAdded xs (map (with_bits mask) (take n gs) ++ drop n gs)) (take-append-drop n gs)
-    (all_append FlagsAdded (take n gs) (map (with_bits mask) (take n gs)) (drop n gs) (drop n gs) (changed_added (with_bits mask) (bits_added mask) (take n gs)) (same_added (drop n gs)))
+    (all_append FlagsAdded (take n gs) (map (with_bits mask) (take n gs)) (drop n gs) (drop n gs)
+    (changed_added (with_bits mask) (bits_added mask) (take n gs)) (same_added (drop n gs)))
 
-pub rphf_mask_added : (mask : ℕ) (gs : List hb_glyph_info_t) → OnlyFlagsAdded gs (flat_map (with_rphf mask) (syllables gs))
+pub rphf_mask_added : (mask : ℕ) (gs : List hb_glyph_info_t)
+    → OnlyFlagsAdded gs (flat_map (with_rphf mask) (syllables gs))
 rphf_mask_added mask gs = by_syllables (with_rphf mask) (rphf_syllable_added mask) gs

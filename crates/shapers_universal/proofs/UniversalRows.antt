@@ -13,7 +13,9 @@ use Rattle.shapers_universal.specs.Universal.{goes_front, is_universal_halant, r
 -- glyphs of one syllable of kind 2 by their categories, numbered from 0 in clusters of their own
 abbrev from_place : ℕ → List ℕ → List hb_glyph_info_t
 from_place i [] = []
-from_place i (category ∷ categories) = record default_glyph { glyph_id = i; cluster = i; mask = 0x101; syllable = 0x12; category = category } ∷ from_place (suc i) categories
+from_place i (category ∷ categories) =
+    record default_glyph { glyph_id = i; cluster = i; mask = 0x101; syllable = 0x12; category = category }
+    ∷ from_place (suc i) categories
 
 abbrev syl : List ℕ → List hb_glyph_info_t
 syl categories = from_place 0 categories
@@ -32,21 +34,35 @@ abbrev stepped : List ℕ → List ℕ
 stepped categories = numbers (run_steps MonotoneGraphemes (universal_steps (syl categories)) (syl categories))
 
 -- R B VAbv; B VPre H B VPre VPre; R B B VAbv; R B H; R VAbv; R alone; R B; nothing
-order_rows : map ordered ((18 ∷ 1 ∷ 33 ∷ []) ∷ (1 ∷ 22 ∷ 12 ∷ 1 ∷ 22 ∷ 22 ∷ []) ∷ (18 ∷ 1 ∷ 1 ∷ 33 ∷ []) ∷ (18 ∷ 1 ∷ 12 ∷ []) ∷ (18 ∷ 33 ∷ []) ∷ (18 ∷ []) ∷ (18 ∷ 1 ∷ []) ∷ [] ∷ []) ≡ (1 ∷ 0 ∷ 2 ∷ []) ∷ (1 ∷ 0 ∷ 2 ∷ 5 ∷ 4 ∷ 3 ∷ []) ∷ (1 ∷ 2 ∷ 0 ∷ 3 ∷ []) ∷ (1 ∷ 0 ∷ 2 ∷ []) ∷ (0 ∷ 1 ∷ []) ∷ (0 ∷ []) ∷ (1 ∷ 0 ∷ []) ∷ [] ∷ []
+order_rows : map ordered ((18 ∷ 1 ∷ 33 ∷ []) ∷ (1 ∷ 22 ∷ 12 ∷ 1 ∷ 22 ∷ 22 ∷ []) ∷ (18 ∷ 1 ∷ 1 ∷ 33 ∷ [])
+    ∷ (18 ∷ 1 ∷ 12 ∷ []) ∷ (18 ∷ 33 ∷ []) ∷ (18 ∷ []) ∷ (18 ∷ 1 ∷ []) ∷ [] ∷ []) ≡ (1 ∷ 0 ∷ 2 ∷ [])
+    ∷ (1 ∷ 0 ∷ 2 ∷ 5 ∷ 4 ∷ 3 ∷ []) ∷ (1 ∷ 2 ∷ 0 ∷ 3 ∷ []) ∷ (1 ∷ 0 ∷ 2 ∷ []) ∷ (0 ∷ 1 ∷ []) ∷ (0 ∷ []) ∷ (1 ∷ 0 ∷ [])
+    ∷ [] ∷ []
 order_rows = refl
 
-steps_rows : map stepped ((18 ∷ 1 ∷ 33 ∷ []) ∷ (1 ∷ 22 ∷ 12 ∷ 1 ∷ 22 ∷ 22 ∷ []) ∷ (18 ∷ 1 ∷ 1 ∷ 33 ∷ []) ∷ (18 ∷ 1 ∷ 12 ∷ []) ∷ (18 ∷ 33 ∷ []) ∷ (18 ∷ []) ∷ (18 ∷ 1 ∷ []) ∷ [] ∷ []) ≡ (1 ∷ 0 ∷ 2 ∷ []) ∷ (1 ∷ 0 ∷ 2 ∷ 5 ∷ 4 ∷ 3 ∷ []) ∷ (1 ∷ 2 ∷ 0 ∷ 3 ∷ []) ∷ (1 ∷ 0 ∷ 2 ∷ []) ∷ (0 ∷ 1 ∷ []) ∷ (0 ∷ []) ∷ (1 ∷ 0 ∷ []) ∷ [] ∷ []
+steps_rows : map stepped ((18 ∷ 1 ∷ 33 ∷ []) ∷ (1 ∷ 22 ∷ 12 ∷ 1 ∷ 22 ∷ 22 ∷ []) ∷ (18 ∷ 1 ∷ 1 ∷ 33 ∷ [])
+    ∷ (18 ∷ 1 ∷ 12 ∷ []) ∷ (18 ∷ 33 ∷ []) ∷ (18 ∷ []) ∷ (18 ∷ 1 ∷ []) ∷ [] ∷ []) ≡ (1 ∷ 0 ∷ 2 ∷ [])
+    ∷ (1 ∷ 0 ∷ 2 ∷ 5 ∷ 4 ∷ 3 ∷ []) ∷ (1 ∷ 2 ∷ 0 ∷ 3 ∷ []) ∷ (1 ∷ 0 ∷ 2 ∷ []) ∷ (0 ∷ 1 ∷ []) ∷ (0 ∷ []) ∷ (1 ∷ 0 ∷ [])
+    ∷ [] ∷ []
 steps_rows = refl
 
-cluster_rows : map in_clusters ((18 ∷ 1 ∷ 33 ∷ []) ∷ (1 ∷ 22 ∷ 12 ∷ 1 ∷ 22 ∷ 22 ∷ []) ∷ (18 ∷ 1 ∷ 1 ∷ 33 ∷ []) ∷ (18 ∷ 1 ∷ 12 ∷ []) ∷ (18 ∷ 33 ∷ []) ∷ []) ≡ (0 ∷ 0 ∷ 2 ∷ []) ∷ (0 ∷ 0 ∷ 2 ∷ 3 ∷ 3 ∷ 3 ∷ []) ∷ (0 ∷ 0 ∷ 0 ∷ 3 ∷ []) ∷ (0 ∷ 0 ∷ 2 ∷ []) ∷ (0 ∷ 1 ∷ []) ∷ []
+cluster_rows : map in_clusters ((18 ∷ 1 ∷ 33 ∷ []) ∷ (1 ∷ 22 ∷ 12 ∷ 1 ∷ 22 ∷ 22 ∷ []) ∷ (18 ∷ 1 ∷ 1 ∷ 33 ∷ [])
+    ∷ (18 ∷ 1 ∷ 12 ∷ []) ∷ (18 ∷ 33 ∷ []) ∷ []) ≡ (0 ∷ 0 ∷ 2 ∷ []) ∷ (0 ∷ 0 ∷ 2 ∷ 3 ∷ 3 ∷ 3 ∷ []) ∷ (0 ∷ 0 ∷ 0 ∷ 3 ∷ [])
+    ∷ (0 ∷ 0 ∷ 2 ∷ []) ∷ (0 ∷ 1 ∷ []) ∷ []
 cluster_rows = refl
 
--- a reph moves behind VMPre in no case; a reph and glyphs before the base: B comes behind what goes to the front, then the reph
-reph_and_front : map ordered ((18 ∷ 1 ∷ 23 ∷ 1 ∷ 22 ∷ []) ∷ (18 ∷ 22 ∷ []) ∷ (18 ∷ 18 ∷ 1 ∷ []) ∷ (1 ∷ 18 ∷ 1 ∷ []) ∷ (22 ∷ 1 ∷ 22 ∷ 12 ∷ 44 ∷ 53 ∷ 23 ∷ []) ∷ (1 ∷ 12 ∷ 22 ∷ 1 ∷ 12 ∷ []) ∷ []) ≡ (4 ∷ 2 ∷ 1 ∷ 0 ∷ 3 ∷ []) ∷ (1 ∷ 0 ∷ []) ∷ (1 ∷ 2 ∷ 0 ∷ []) ∷ (0 ∷ 1 ∷ 2 ∷ []) ∷ (2 ∷ 0 ∷ 1 ∷ 3 ∷ 4 ∷ 5 ∷ 6 ∷ []) ∷ (0 ∷ 1 ∷ 2 ∷ 3 ∷ 4 ∷ []) ∷ []
+-- a reph moves behind VMPre in no case; a reph and glyphs before the base: B comes behind what goes
+-- to the front, then the reph
+reph_and_front : map ordered ((18 ∷ 1 ∷ 23 ∷ 1 ∷ 22 ∷ []) ∷ (18 ∷ 22 ∷ []) ∷ (18 ∷ 18 ∷ 1 ∷ []) ∷ (1 ∷ 18 ∷ 1 ∷ [])
+    ∷ (22 ∷ 1 ∷ 22 ∷ 12 ∷ 44 ∷ 53 ∷ 23 ∷ []) ∷ (1 ∷ 12 ∷ 22 ∷ 1 ∷ 12 ∷ []) ∷ []) ≡ (4 ∷ 2 ∷ 1 ∷ 0 ∷ 3 ∷ [])
+    ∷ (1 ∷ 0 ∷ []) ∷ (1 ∷ 2 ∷ 0 ∷ []) ∷ (0 ∷ 1 ∷ 2 ∷ []) ∷ (2 ∷ 0 ∷ 1 ∷ 3 ∷ 4 ∷ 5 ∷ 6 ∷ []) ∷ (0 ∷ 1 ∷ 2 ∷ 3 ∷ 4 ∷ [])
+    ∷ []
 reph_and_front = refl
 
 -- which kinds are reordered, each of them and one above
-kinds : map (λ k. is_reordered_in_universal (record default_glyph { syllable = k } ∷ [])) (0x10 ∷ 0x11 ∷ 0x12 ∷ 0x13 ∷ 0x14 ∷ 0x15 ∷ 0x16 ∷ 0x17 ∷ 0x18 ∷ 0x19 ∷ 0x1F ∷ []) ≡ true ∷ true ∷ true ∷ false ∷ false ∷ false ∷ false ∷ true ∷ false ∷ false ∷ false ∷ []
+kinds : map (λ k. is_reordered_in_universal (record default_glyph { syllable = k } ∷ []))
+    (0x10 ∷ 0x11 ∷ 0x12 ∷ 0x13 ∷ 0x14 ∷ 0x15 ∷ 0x16 ∷ 0x17 ∷ 0x18 ∷ 0x19 ∷ 0x1F ∷ []) ≡ true ∷ true ∷ true ∷ false
+    ∷ false ∷ false ∷ false ∷ true ∷ false ∷ false ∷ false ∷ []
 kinds = refl
 
 abbrev of_kind_9 : hb_glyph_info_t → hb_glyph_info_t
@@ -60,7 +76,20 @@ other_kind_steps = refl
 
 -- glyphs with all fields set: R B VPre, of which none changes
 abbrev full : ℕ → ℕ → hb_glyph_info_t
-full category comp = record { glyph_id = 7; cluster = 5; mask = 0x1003; var = 0x7A; syllable = 0x22; category = category; auxiliary = 3; general_category = Mn; modified_combining_class = 9; lig_comp = comp; marks = record { 0 = 31 } }
+full category comp =
+    record {
+      glyph_id = 7;
+      cluster = 5;
+      mask = 0x1003;
+      var = 0x7A;
+      syllable = 0x22;
+      category = category;
+      auxiliary = 3;
+      general_category = Mn;
+      modified_combining_class = 9;
+      lig_comp = comp;
+      marks = record { 0 = 31 };
+    }
 
 fields_stay : universal_order (full 18 2 ∷ full 1 3 ∷ full 22 0 ∷ []) ≡ full 22 0 ∷ full 1 3 ∷ full 18 2 ∷ []
 fields_stay = refl
@@ -72,7 +101,8 @@ of_category category = record default_glyph { category = category }
 abbrev that_pass : (hb_glyph_info_t → Bool) → List ℕ
 that_pass test = filter (λ category. test (of_category category)) (range_with_len 0 57)
 
-not_passed : that_pass (λ g. not (reph_passes g)) ≡ 12 ∷ 22 ∷ 23 ∷ 24 ∷ 25 ∷ 26 ∷ 27 ∷ 28 ∷ 29 ∷ 30 ∷ 33 ∷ 34 ∷ 35 ∷ 37 ∷ 38 ∷ 39 ∷ 44 ∷ 45 ∷ 46 ∷ 47 ∷ 53 ∷ []
+not_passed : that_pass (λ g. not (reph_passes g)) ≡ 12 ∷ 22 ∷ 23 ∷ 24 ∷ 25 ∷ 26 ∷ 27 ∷ 28 ∷ 29 ∷ 30 ∷ 33 ∷ 34 ∷ 35 ∷ 37
+    ∷ 38 ∷ 39 ∷ 44 ∷ 45 ∷ 46 ∷ 47 ∷ 53 ∷ []
 not_passed = refl
 
 halants : that_pass is_universal_halant ≡ 12 ∷ 44 ∷ 53 ∷ []
@@ -86,20 +116,25 @@ changing : that_pass may_reorder ≡ 18 ∷ 22 ∷ 23 ∷ []
 changing = refl
 
 -- a ligature is no halant; of several glyphs for one the first alone goes to the front
-ligatures : map (λ category. is_universal_halant (record (of_category category) { marks = record { 0 = 2 } })) (12 ∷ 44 ∷ 53 ∷ []) ≡ false ∷ false ∷ false ∷ []
+ligatures : map (λ category. is_universal_halant (record (of_category category) { marks = record { 0 = 2 } }))
+    (12 ∷ 44 ∷ 53 ∷ []) ≡ false ∷ false ∷ false ∷ []
 ligatures = refl
 
-other_marks : map (λ marks. is_universal_halant (record (of_category 12) { marks = record { 0 = marks } })) (0 ∷ 1 ∷ 2 ∷ 4 ∷ 8 ∷ 16 ∷ 29 ∷ 31 ∷ []) ≡ true ∷ true ∷ false ∷ true ∷ true ∷ true ∷ true ∷ false ∷ []
+other_marks : map (λ marks. is_universal_halant (record (of_category 12) { marks = record { 0 = marks } }))
+    (0 ∷ 1 ∷ 2 ∷ 4 ∷ 8 ∷ 16 ∷ 29 ∷ 31 ∷ []) ≡ true ∷ true ∷ false ∷ true ∷ true ∷ true ∷ true ∷ false ∷ []
 other_marks = refl
 
 -- a ligature of what stands after the base ends what a reph passes, one of a halant doesn't
-ligatures_passed : map (λ category. reph_passes (record (of_category category) { marks = record { 0 = 2 } })) (22 ∷ 33 ∷ 12 ∷ 1 ∷ []) ≡ false ∷ false ∷ true ∷ true ∷ []
+ligatures_passed : map (λ category. reph_passes (record (of_category category) { marks = record { 0 = 2 } }))
+    (22 ∷ 33 ∷ 12 ∷ 1 ∷ []) ≡ false ∷ false ∷ true ∷ true ∷ []
 ligatures_passed = refl
 
-components : map (λ comp. goes_front (record (of_category 22) { lig_comp = comp })) (0 ∷ 1 ∷ 15 ∷ []) ≡ true ∷ false ∷ false ∷ []
+components : map (λ comp. goes_front (record (of_category 22) { lig_comp = comp })) (0 ∷ 1 ∷ 15 ∷ [])
+    ≡ true ∷ false ∷ false ∷ []
 components = refl
 
-changing_components : map (λ comp. may_reorder (record (of_category 22) { lig_comp = comp })) (0 ∷ 1 ∷ 15 ∷ []) ≡ true ∷ false ∷ false ∷ []
+changing_components : map (λ comp. may_reorder (record (of_category 22) { lig_comp = comp })) (0 ∷ 1 ∷ 15 ∷ [])
+    ≡ true ∷ false ∷ false ∷ []
 changing_components = refl
 
 changing_reph : may_reorder (record (of_category 18) { lig_comp = 1 }) ≡ true

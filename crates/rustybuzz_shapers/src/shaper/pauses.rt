@@ -1,6 +1,6 @@
 //! The pauses behind one dispatcher.
-ghost use Rattle.std.specs.Prelude.{◌≡◌, ◌==◌, ◌≤◌, [], All, IfOk, OnOk, OnErr, false, is_some, not};
-ghost use Rattle.rustybuzz_shapers.specs.Pauses.{PauseFits, PauseKeeps, PauseStays, Paused, RefusesPause, pause_circles, may_change};
+ghost use Rattle.std.specs.Prelude.{◌≡◌, ◌==◌, ◌≤◌, [], All, IfOk, OnOk, OnErr, false, is_some, not, true};
+ghost use Rattle.rustybuzz_shapers.specs.Pauses.{PauseFits, PauseKeeps, PauseStays, Paused, RefusesPause, is_syllabic, pause_circles, may_change};
 ghost use Rattle.shapers_stretch.specs.Recorded.{has_stch};
 ghost use Rattle.shapers_universal.specs.PlanData.{rphf_of};
 
@@ -30,6 +30,7 @@ use std::mem;
 ///
 /// `SpansDontCover` of a pause that sets syllables; `UnknownSyllable`, `TooLong` and `Memory`
 /// of one that reorders. Nothing has changed then.
+#[inline]
 pub fn run_pause<F: hb_font_t>(
     pause: Pause,
     plan: &hb_ot_shape_plan_t,
@@ -40,6 +41,51 @@ pub fn run_pause<F: hb_font_t>(
     requires without_positions { buffer.old.positions ≡ [] }
     requires kinds { All (λ span. span.kind ≤ 15) spans.now }
     requires data { PauseFits pause plan.now }
+    ensures answer { let circles = pause_circles pause plan.now (F.font face.now) buffer.old in
+        IfOk result (λ answer. answer ≡ is_some circles) }
+    ensures ok { let font = F.font face.now in
+        OnOk result (Paused pause plan.now font spans.now buffer.old buffer.new) }
+    ensures laws { let font = F.font face.now in
+        OnOk result (PauseKeeps pause plan.now font spans.now buffer.old buffer.new) }
+    ensures refusal { RefusesPause pause (F.font face.now) spans.now buffer.old result }
+    ensures err { OnErr result (buffer.new ≡ buffer.old) }
+{
+    match pause {
+        // (each is one loop, so it isn't behind the frame that the others need)
+        Pause::RecordStch => ot_shaper_arabic_stretch::record_stch(plan, buffer),
+        Pause::RecordRphf => ot_shaper_use::record_rphf(plan, buffer),
+        Pause::RecordPref => ot_shaper_use::record_pref(buffer),
+        Pause::SyllabicClearVar => clear_syllables(buffer),
+        Pause::ClearSubstitutionFlags => clear_substitution_flags(buffer),
+        Pause::ArabicFallbackShape => {}
+        Pause::SetupSyllablesIndic
+        | Pause::SetupSyllablesKhmer
+        | Pause::SetupSyllablesMyanmar
+        | Pause::SetupSyllablesUse
+        | Pause::InitialReordering
+        | Pause::ReorderKhmer
+        | Pause::ReorderMyanmar
+        | Pause::ReorderUse
+        | Pause::FinalReordering => {
+            return run_syllabic_pause(pause, plan, face, spans, buffer);
+        }
+    }
+    Ok(false)
+}
+
+// Runs a pause that sets up or reorders syllables.
+#[inline(never)]
+fn run_syllabic_pause<F: hb_font_t>(
+    pause: Pause,
+    plan: &hb_ot_shape_plan_t,
+    face: &F,
+    spans: &[Span],
+    buffer: &mut hb_buffer_t,
+) -> Result<bool, ShaperError>
+    requires without_positions { buffer.old.positions ≡ [] }
+    requires kinds { All (λ span. span.kind ≤ 15) spans.now }
+    requires data { PauseFits pause plan.now }
+    requires syllabic { is_syllabic pause ≡ true }
     ensures answer { let circles = pause_circles pause plan.now (F.font face.now) buffer.old in
         IfOk result (λ answer. answer ≡ is_some circles) }
     ensures ok { let font = F.font face.now in
@@ -72,12 +118,12 @@ pub fn run_pause<F: hb_font_t>(
         Pause::ReorderMyanmar => return ot_shaper_myanmar::reorder_myanmar(face, buffer),
         Pause::ReorderUse => return ot_shaper_use::reorder_use(face, buffer),
         Pause::FinalReordering => ot_shaper_indic_final::final_reordering(plan, face, buffer),
-        Pause::RecordStch => ot_shaper_arabic_stretch::record_stch(plan, buffer),
-        Pause::RecordRphf => ot_shaper_use::record_rphf(plan, buffer),
-        Pause::RecordPref => ot_shaper_use::record_pref(buffer),
-        Pause::SyllabicClearVar => clear_syllables(buffer),
-        Pause::ClearSubstitutionFlags => clear_substitution_flags(buffer),
-        Pause::ArabicFallbackShape => {}
+        Pause::RecordStch
+        | Pause::RecordRphf
+        | Pause::RecordPref
+        | Pause::SyllabicClearVar
+        | Pause::ClearSubstitutionFlags
+        | Pause::ArabicFallbackShape => unreachable!("the pause sets up or reorders no syllables"),
     }
     Ok(false)
 }

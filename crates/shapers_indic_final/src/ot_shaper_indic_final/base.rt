@@ -151,7 +151,9 @@ fn is_unformed(glyph: &hb_glyph_info_t) -> bool
     !(glyph.marks.is_substituted() && is_formed(glyph))
 }
 
-// The base by `pref`, which gets the base's position, if there is an unformed glyph.
+// The base by `pref`, which gets the base's position, if there is an unformed glyph. The initial
+// reordering took that letter for one that is drawn before the base. Of a font without such a form
+// it is a letter like others, and what comes behind its halants is the base.
 #[inline]
 fn set_pref_base(pref: u32, base: usize, glyphs: &mut [hb_glyph_info_t]) -> Option<usize>
     requires in_range { base ≤ length glyphs.old }
@@ -207,7 +209,8 @@ fn set_base(glyphs: &mut [hb_glyph_info_t])
     }
 }
 
-// What stands before the base, where the base's position is one after the base's.
+// What stands before the base, where the base's position is one after the base's: the base itself
+// is part of a ligature, or lost its position, and this glyph is drawn behind it.
 #[inline]
 fn stepped_back(base: usize, glyphs: &[hb_glyph_info_t]) -> usize
     ensures place { result ≡ stepped_back base glyphs.now }
@@ -238,7 +241,8 @@ fn settled_base(base: usize, glyphs: &[hb_glyph_info_t]) -> usize
     before_halants(before_joiner(base, glyphs), glyphs)
 }
 
-// From the end back over a ZWJ there.
+// From the end back over a ZWJ there: a syllable whose consonants are all half forms, so that none
+// has the base's position, ends with the joiner that wanted the last of them.
 #[inline]
 fn before_joiner(base: usize, glyphs: &[hb_glyph_info_t]) -> usize
     requires in_range { base ≤ length glyphs.now }
@@ -299,6 +303,9 @@ fn may_be_settled(glyph: &hb_glyph_info_t) -> bool
 }
 
 // The base by links, in Malayalam; the last glyphs of links that become it get the base's position.
+// A consonant behind a halant for which the font has no below-base form is drawn in full, and left
+// matras go before the last such consonant. One with a post-base form is drawn behind its base, and
+// never is the base, formed or not.
 #[inline]
 fn set_links(script: Option<Script>, base: usize, glyphs: &mut [hb_glyph_info_t]) -> usize
     requires in_range { base ≤ length glyphs.old }

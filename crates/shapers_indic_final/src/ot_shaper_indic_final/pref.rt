@@ -1,5 +1,7 @@
 //! Where a glyph formed by `pref` goes. (OpenType, development of Indic scripts: "Reorder
-//! pre-base-reordering consonants".)
+//! pre-base-reordering consonants".) A font may have the feature for a letter and form nothing of
+//! it in some contexts, so that only what was formed moves; by which feature it was isn't looked
+//! at.
 ghost use Rattle.std.specs.Prelude.{◌≡◌, ◌<◌, ◌≤◌, ◌+◌, length, suc};
 ghost use Rattle.std.specs.Option.{IfSome, option_map_or};
 ghost use Rattle.shapers_indic.specs.Glyphs.{greatest_place, passes};
@@ -59,7 +61,8 @@ pub(super) fn pref_target(script: Option<Script>, base: usize, glyphs: &[hb_glyp
     }
 }
 
-// The place behind the nearest vowel sign or halant before the base; the base without half forms.
+// The place behind the nearest vowel sign or halant before the base, as for a left matra; the base
+// itself without half forms, whatever chillus stand before it.
 #[inline]
 fn place_before_base(script: Option<Script>, base: usize, glyphs: &[hb_glyph_info_t]) -> usize
     requires in_range { base < length glyphs.now }

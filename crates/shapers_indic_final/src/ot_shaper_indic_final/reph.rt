@@ -26,6 +26,8 @@ pub(super) fn opens_with_reph(glyphs: &[hb_glyph_info_t]) -> bool
 }
 
 // Whether a glyph is a reph that moves: a formed one, or a character of its own that is not formed.
+// Ra and a halant are a reph only in a font that forms one of them. A font that forms a ligature of
+// the character itself draws it where it is, and wants no reordering.
 #[inline]
 fn is_moving_reph(glyph: &hb_glyph_info_t) -> bool
     ensures { result ≡ is_moving_reph glyph.now }
@@ -33,7 +35,9 @@ fn is_moving_reph(glyph: &hb_glyph_info_t) -> bool
     glyph.auxiliary == POS_RA_TO_BECOME_REPH && (glyph.category == OT_Repha) != is_formed(glyph)
 }
 
-// Where the reph goes: behind the first halant before the base, else by the script.
+// Where the reph goes: behind the first halant before the base, else by the script. A halant that
+// is left there belongs to a letter that the font draws in full, and the reph is drawn over that
+// letter.
 #[inline]
 pub(super) fn reph_target(position: RephPosition, base: usize, glyphs: &[hb_glyph_info_t]) -> usize
     requires some { 0 < length glyphs.now }
@@ -92,7 +96,8 @@ fn with_joiner(base: usize, glyphs: &[hb_glyph_info_t], halant: usize) -> usize
     }
 }
 
-// Where the reph goes without a halant before the base.
+// Where the reph goes without a halant before the base: behind what the font made of the main
+// consonant, as in Malayalam; behind its below-base forms, too, as in Bengali; else behind all.
 #[inline]
 fn behind_base(position: RephPosition, base: usize, glyphs: &[hb_glyph_info_t]) -> usize
     requires some { 0 < length glyphs.now }
@@ -142,7 +147,9 @@ fn is_with_sub(glyph: &hb_glyph_info_t) -> bool
 }
 
 // The last glyph that is no sign; where it is a halant, less the vowel signs between the base and
-// it.
+// it. So the reph of 0930 094D 0915 094B 094D goes before the halant and can join the vowel sign,
+// which Uniscribe doesn't do. Behind a consonant with a halant and no vowel sign it goes to the
+// end.
 #[inline]
 fn at_end(base: usize, glyphs: &[hb_glyph_info_t]) -> usize
     requires { 0 < length glyphs.now }

@@ -1,4 +1,7 @@
-//! Viramas that lookups put in for several glyphs and then took apart become halants again.
+//! Viramas that lookups put in for several glyphs and then took apart become halants again. The
+//! steps behind look for halants; a font may form a letter and its virama in one stage and part
+//! them in a later one, and the parts then have the category of the first character, which is no
+//! halant.
 ghost use Rattle.std.specs.Prelude.{◌≡◌, ◌≤◌, length, map};
 ghost use Rattle.shapers_buffer.specs.Clusters.{with_stretch};
 ghost use Rattle.shapers_indic_final.specs.FinalGlyphs.{is_lost_virama, recovered};

@@ -1,5 +1,6 @@
 //! The opening of a syllable: a left matra gets the mask of `init` at the start of a word, and
-//! inside a word a break before it is unsafe.
+//! inside a word a break before it is unsafe: Bengali's 09C7 has a form of its own at the start, in
+//! which a piece of text that begins there would be drawn.
 ghost use Rattle.std.specs.Prelude.{◌≡◌, ◌<◌, ◌≤◌, length};
 ghost use Rattle.shapers_indic_final.specs.FinalWordStart.{before_place, continues_word, word_goes_on, opened};
 

@@ -30,7 +30,8 @@ use Rattle.shapers_base.specs.Map.{Map}
 
 -- the step of Kannada
 pub joiner_laws : (script : Option Script) → ReorderLaws (with_joiner_first script) (λ gs. joiner_step script gs ∷ [])
-joiner_laws script = laws_by_step (with_joiner_first script) (joiner_step script) (joiner_fits script) (joiner_permutes script)
+joiner_laws script =
+    laws_by_step (with_joiner_first script) (joiner_step script) (joiner_fits script) (joiner_permutes script)
     (λ gs. sym (pick-map (λ g. plain (carried g)) (joiner_step script gs).places gs))
 
 -- the step of the older specification's H, with all positions
@@ -41,12 +42,17 @@ abbrev pub halant_step_of : Rules → Option Script → List hb_glyph_info_t →
 halant_step_of r script gs = halant_step r script (base_place r gs) (with_base_positions r gs)
 
 pub length-with_base : (r : Rules) (gs : List hb_glyph_info_t) → length (with_base_positions r gs) ≡ length gs
-length-with_base r gs = length-same carried (with_base_positions r gs) gs (hidden-by_base carried carried_hides_positions (base_place r gs) (has_indic_reph r gs) gs)
+length-with_base r gs =
+    length-same carried (with_base_positions r gs) gs
+    (hidden-by_base carried carried_hides_positions (base_place r gs) (has_indic_reph r gs) gs)
 
-pub halant_laws : (r : Rules) (script : Option Script) → ReorderLaws (halant_order r script) (λ gs. halant_step_of r script gs ∷ [])
+pub halant_laws : (r : Rules) (script : Option Script)
+    → ReorderLaws (halant_order r script) (λ gs. halant_step_of r script gs ∷ [])
 halant_laws r script = laws_by_step (halant_order r script) (halant_step_of r script)
-    (λ gs. subst (λ n. FitsStep n (halant_step_of r script gs)) (length-with_base r gs) (halant_fits r script (base_place r gs) (with_base_positions r gs)))
-    (λ gs. subst (λ n. Permutes n (halant_step_of r script gs)) (length-with_base r gs) (halant_permutes r script (base_place r gs) (with_base_positions r gs)))
+    (λ gs. subst (λ n. FitsStep n (halant_step_of r script gs)) (length-with_base r gs)
+    (halant_fits r script (base_place r gs) (with_base_positions r gs)))
+    (λ gs. subst (λ n. Permutes n (halant_step_of r script gs)) (length-with_base r gs)
+    (halant_permutes r script (base_place r gs) (with_base_positions r gs)))
     (λ gs.
     let base = base_place r gs in
     let places = (halant_step_of r script gs).places in
@@ -60,10 +66,12 @@ halant_laws r script = laws_by_step (halant_order r script) (halant_step_of r sc
 abbrev pub masked_order : Rules → Option Script → List hb_glyph_info_t → List hb_glyph_info_t
 masked_order r script gs = masked_in_order r script (in_indic_order gs)
 
-pub order_laws : (r : Rules) (script : Option Script) → ReorderLaws (masked_order r script) (λ gs. indic_order_step r gs ∷ [])
+pub order_laws : (r : Rules) (script : Option Script)
+    → ReorderLaws (masked_order r script) (λ gs. indic_order_step r gs ∷ [])
 order_laws r script = laws_by_step (masked_order r script) (indic_order_step r) (order_fits r) ordered_permutes
     (λ gs.
-    hidden-with_initial_masks (λ g. plain (carried g)) r (seen_hides_masks (bits_of r HALF)) script (ordered_base (in_indic_order gs)) (in_indic_order gs)
+    hidden-with_initial_masks (λ g. plain (carried g)) r (seen_hides_masks (bits_of r HALF)) script
+    (ordered_base (in_indic_order gs)) (in_indic_order gs)
     ∙ sym (pick-map (λ g. plain (carried g)) (indic_ordered_places gs) gs))
 
 -- all steps, and where the syllable is reordered
@@ -72,15 +80,22 @@ all_three r script gs = masked_order r script (halant_order r script (with_joine
 
 pub three_laws : (r : Rules) (script : Option Script) → ReorderLaws (all_three r script) (steps_of_reordered r script)
 three_laws r script =
-    laws_then (with_joiner_first script) (λ gs. masked_order r script (halant_order r script gs)) (λ gs. joiner_step script gs ∷ []) (λ gs. halant_step_of r script gs ∷ (indic_order_step r (halant_order r script gs) ∷ []))
+    laws_then (with_joiner_first script) (λ gs. masked_order r script (halant_order r script gs))
+    (λ gs. joiner_step script gs ∷ []) (λ gs. halant_step_of r script gs
+    ∷ (indic_order_step r (halant_order r script gs) ∷ []))
     (joiner_laws script)
-    (laws_then (halant_order r script) (masked_order r script) (λ gs. halant_step_of r script gs ∷ []) (λ gs. indic_order_step r gs ∷ []) (halant_laws r script) (order_laws r script))
+    (laws_then (halant_order r script) (masked_order r script) (λ gs. halant_step_of r script gs ∷ [])
+    (λ gs. indic_order_step r gs ∷ []) (halant_laws r script) (order_laws r script))
 
 pub initial_laws : InitialReorderLaws
-initial_laws r script = laws_where is_reordered_in_indic (all_three r script) (steps_of_reordered r script) (three_laws r script)
+initial_laws r script =
+    laws_where is_reordered_in_indic (all_three r script) (steps_of_reordered r script) (three_laws r script)
 
 -- the whole text after the pause
-pub initial_text_reordered : (font : Font) (m : Map) (p : indic_shape_plan_t) (old new : Buffer) → InitiallyReordered font m p old new → TextReordered (initial_steps (initial_rules font m p) old.script) (with_positions_and_circles font m p old) new
+pub initial_text_reordered : (font : Font) (m : Map) (p : indic_shape_plan_t) (old new : Buffer)
+    → InitiallyReordered font m p old new
+    → TextReordered (initial_steps (initial_rules font m p) old.script) (with_positions_and_circles font m p old) new
 initial_text_reordered font m p old new done =
     let r = initial_rules font m p in
-    text_reordered (initial_order r old.script) (initial_steps r old.script) (with_positions_and_circles font m p old) new (initial_laws r old.script) done
+    text_reordered (initial_order r old.script) (initial_steps r old.script) (with_positions_and_circles font m p old)
+    new (initial_laws r old.script) done

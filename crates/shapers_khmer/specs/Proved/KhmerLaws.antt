@@ -31,7 +31,9 @@ pub order_within : (moves : List Move) (n : ℕ) → AllByRecursion (λ p. p < n
 order_within moves n =
     let P : ℕ → Type 0 = λ p. p < n in
     let places = range_with_len 0 n in
-    recursion_from_All P (moved_all moves places) (All-permutation P places (moved_all moves places) (permuted-moved_all moves places) (All-from_recursion P places (all-range P 0 n (λ p x y. omega arith))))
+    recursion_from_All P (moved_all moves places)
+    (All-permutation P places (moved_all moves places) (permuted-moved_all moves places)
+    (All-from_recursion P places (all-range P 0 n (λ p x y. omega arith))))
 
 pub length-order : (moves : List Move) (n : ℕ) → length (moved_all moves (range_with_len 0 n)) ≡ n
 length-order moves n = length-moved_all moves (range_with_len 0 n) ∙ length-range_with_len 0 n
@@ -40,10 +42,19 @@ length-order moves n = length-moved_all moves (range_with_len 0 n) ∙ length-ra
 pub khmer_ends : (gs : List hb_glyph_info_t) → EndWithin (length gs) (map merged_by_move (khmer_moves gs))
 khmer_ends [] = tt
 khmer_ends (g ∷ []) = tt
-khmer_ends (g ∷ (h ∷ gs)) = cases_end (g.category ∷ []) h.category (categories_of gs) 0 (length (g ∷ (h ∷ gs))) (omega arith) (omega (arith, length-categories gs))
+khmer_ends (g ∷ (h ∷ gs)) =
+    cases_end (g.category ∷ []) h.category (categories_of gs) 0 (length (g ∷ (h ∷ gs))) (omega arith)
+    (omega (arith, length-categories gs))
 
 -- moves go only inside what merges first
-pub merged_moves : (moves : List Move) (n : ℕ) → EndWithin n (map merged_by_move moves) → MovesMerged n (record { merged_first = map merged_by_move moves; places = moved_all moves (range_with_len 0 n); merged_then = [] })
+pub merged_moves : (moves : List Move) (n : ℕ) → EndWithin n (map merged_by_move moves)
+    → MovesMerged n
+    (record {
+      merged_first = map merged_by_move moves;
+      places = moved_all moves (range_with_len 0 n);
+      merged_then =
+          [];
+    })
 merged_moves moves n ends = record {
   fits = record {
     as_many = length-order moves n;
@@ -71,7 +82,9 @@ khmer_permutes gs = elim (cases_Bool (is_reordered_in_khmer gs)) [
 ]
 
 -- masks don't show to a view that hides them
-hidden-masked_for : {X : Type 0} (f : hb_glyph_info_t → X) → ((m : ℕ) (g : hb_glyph_info_t) → f (with_mask m g) ≡ f g) → (r : KhmerOrder) (move : Move) (order : List ℕ) (gs : List hb_glyph_info_t) → EndWithin (length gs) (merged_by_move move ∷ []) → map f (masked_for r move order gs) ≡ map f gs
+hidden-masked_for : {X : Type 0} (f : hb_glyph_info_t → X) → ((m : ℕ) (g : hb_glyph_info_t) → f (with_mask m g) ≡ f g)
+    → (r : KhmerOrder) (move : Move) (order : List ℕ) (gs : List hb_glyph_info_t)
+    → EndWithin (length gs) (merged_by_move move ∷ []) → map f (masked_for r move order gs) ≡ map f gs
 hidden-masked_for f hides r (Vowel over) order gs ends = refl
 hidden-masked_for f hides r (Pair over) order gs ends =
     let coeng = get_or order over 0 in
@@ -83,35 +96,47 @@ hidden-masked_for f hides r (Pair over) order gs ends =
     ∙ hidden-masked f r.pref ro (ro + 1) first (hides r.pref) (omega arith)
     ∙ hidden-masked f r.pref coeng (coeng + 1) gs (hides r.pref) (omega arith)
 
-pub length-masked_for : (r : KhmerOrder) (move : Move) (order : List ℕ) (gs : List hb_glyph_info_t) → EndWithin (length gs) (merged_by_move move ∷ []) → length (masked_for r move order gs) ≡ length gs
+pub length-masked_for : (r : KhmerOrder) (move : Move) (order : List ℕ) (gs : List hb_glyph_info_t)
+    → EndWithin (length gs) (merged_by_move move ∷ []) → length (masked_for r move order gs) ≡ length gs
 length-masked_for r move order gs ends =
-    sym (length-categories (masked_for r move order gs)) ∙ ap length (hidden-masked_for (λ g. g.category) (λ m g. refl) r move order gs ends) ∙ length-categories gs
+    sym (length-categories (masked_for r move order gs))
+    ∙ ap length (hidden-masked_for (λ g. g.category) (λ m g. refl) r move order gs ends) ∙ length-categories gs
 
-pub hidden-masked_all : {X : Type 0} (f : hb_glyph_info_t → X) → ((m : ℕ) (g : hb_glyph_info_t) → f (with_mask m g) ≡ f g) → (r : KhmerOrder) (moves : List Move) (order : List ℕ) (gs : List hb_glyph_info_t) → EndWithin (length gs) (map merged_by_move moves) → map f (masked_all r moves order gs) ≡ map f gs
+pub hidden-masked_all : {X : Type 0} (f : hb_glyph_info_t → X)
+    → ((m : ℕ) (g : hb_glyph_info_t) → f (with_mask m g) ≡ f g)
+    → (r : KhmerOrder) (moves : List Move) (order : List ℕ) (gs : List hb_glyph_info_t)
+    → EndWithin (length gs) (map merged_by_move moves) → map f (masked_all r moves order gs) ≡ map f gs
 hidden-masked_all f hides r [] order gs ends = refl
 hidden-masked_all f hides r (move ∷ moves) order gs ends =
     let next = masked_for r move order gs in
     let one : EndWithin (length gs) (merged_by_move move ∷ []) = (ends.0, tt) in
-    hidden-masked_all f hides r moves (moved move order) next (subst (λ n. EndWithin n (map merged_by_move moves)) (sym (length-masked_for r move order gs one)) ends.1)
+    hidden-masked_all f hides r moves (moved move order) next
+    (subst (λ n. EndWithin n (map merged_by_move moves)) (sym (length-masked_for r move order gs one)) ends.1)
     ∙ hidden-masked_for f hides r move order gs one
 
-pub carried_khmer_masked : (r : KhmerOrder) (gs : List hb_glyph_info_t) → is_reordered_in_khmer gs ≡ true → map carried (khmer_masked r gs) ≡ map carried gs
+pub carried_khmer_masked : (r : KhmerOrder) (gs : List hb_glyph_info_t) → is_reordered_in_khmer gs ≡ true
+    → map carried (khmer_masked r gs) ≡ map carried gs
 carried_khmer_masked r [] on = absurd (true≢false (sym on))
 carried_khmer_masked r (g ∷ gs) on =
     let all = g ∷ gs in
     let first = masked r.others 1 (length all) all in
     let len : length first ≡ length all = length-masked r.others 1 (length all) all (omega arith) in
-    hidden-masked_all carried carried-with_mask r (khmer_moves all) (range_with_len 0 (length all)) first (subst (λ n. EndWithin n (map merged_by_move (khmer_moves all))) (sym len) (khmer_ends all))
+    hidden-masked_all carried carried-with_mask r (khmer_moves all) (range_with_len 0 (length all)) first
+    (subst (λ n. EndWithin n (map merged_by_move (khmer_moves all))) (sym len) (khmer_ends all))
     ∙ carried-masked r.others 1 (length all) all (omega arith)
 
 -- what a syllable becomes is what its step picks
-pub khmer_agrees : (r : KhmerOrder) (gs : List hb_glyph_info_t) → seen carried (khmer_order r gs) ≡ pick (old_places (length gs) (khmer_step gs ∷ [])) (seen carried gs)
-khmer_agrees r gs = agrees_by_places (khmer_step gs) gs (khmer_order r gs) (khmer_fits gs) (elim (cases_Bool (is_reordered_in_khmer gs)) [
-  | inl on ↦ rw on (let same : map carried (khmer_masked r gs) ≡ map carried gs = carried_khmer_masked r gs on in
-      sym (pick-map (λ g. plain (carried g)) (khmer_places gs) (khmer_masked r gs)) ∙ ap (pick (khmer_places gs)) (seen-same carried (khmer_masked r gs) gs same))
-  | inr off ↦ rw off (sym (pick-all (length gs) (seen carried gs) (length-map gs (λ g. plain (carried g)))))
-])
+pub khmer_agrees : (r : KhmerOrder) (gs : List hb_glyph_info_t) → seen carried (khmer_order r gs)
+    ≡ pick (old_places (length gs) (khmer_step gs ∷ [])) (seen carried gs)
+khmer_agrees r gs =
+    agrees_by_places (khmer_step gs) gs (khmer_order r gs) (khmer_fits gs) (elim (cases_Bool (is_reordered_in_khmer gs)) [
+      | inl on ↦ rw on (let same : map carried (khmer_masked r gs) ≡ map carried gs = carried_khmer_masked r gs on in
+          sym (pick-map (λ g. plain (carried g)) (khmer_places gs) (khmer_masked r gs))
+          ∙ ap (pick (khmer_places gs)) (seen-same carried (khmer_masked r gs) gs same))
+      | inr off ↦ rw off (sym (pick-all (length gs) (seen carried gs) (length-map gs (λ g. plain (carried g)))))
+    ])
 
 -- what a pause asks of the order
 pub khmer_laws : (r : KhmerOrder) → ReorderLaws (khmer_order r) khmer_steps
-khmer_laws r = record { fits = λ gs. (khmer_fits gs, tt); permutes = λ gs. (khmer_permutes gs, tt); agrees = khmer_agrees r }
+khmer_laws r =
+    record { fits = λ gs. (khmer_fits gs, tt); permutes = λ gs. (khmer_permutes gs, tt); agrees = khmer_agrees r }

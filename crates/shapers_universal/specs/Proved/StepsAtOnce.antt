@@ -18,7 +18,8 @@ use Rattle.shapers_clusters.proofs.Neighbours.{length-joined_all}
 use Rattle.shapers_clusters.proofs.Picks.{AllZip-pick, pick-map}
 
 -- glyphs that fall from the same ones to the same clusters are the same
-same_fall : (zs xs ys : List hb_glyph_info_t) → AllZip FallsTo zs xs → AllZip FallsTo zs ys → clusters xs ≡ clusters ys → xs ≡ ys
+same_fall : (zs xs ys : List hb_glyph_info_t) → AllZip FallsTo zs xs → AllZip FallsTo zs ys → clusters xs ≡ clusters ys
+    → xs ≡ ys
 same_fall [] [] [] h i same = refl
 same_fall (z ∷ zs) (x ∷ xs) (y ∷ ys) h i same =
     let first : x.cluster ≡ y.cluster = ap (λ cs. get_or cs 0 0) same in
@@ -30,7 +31,10 @@ same_fall [] [] (y ∷ ys) h i same = absurd i
 same_fall (z ∷ zs) [] ys h i same = absurd h
 same_fall (z ∷ zs) (x ∷ xs) [] h i same = absurd i
 
-moved_clusters : (level : BufferClusterLevel) → merges level ≡ true → (steps : List Step) (cs : List ℕ) → AllByRecursion (MovesMerged (length cs)) steps → pick (old_places (length cs) steps) (joined_all level (all_first steps) cs) ≡ joined_all level (all_first steps) cs
+moved_clusters : (level : BufferClusterLevel) → merges level ≡ true → (steps : List Step) (cs : List ℕ)
+    → AllByRecursion (MovesMerged (length cs)) steps
+    → pick (old_places (length cs) steps) (joined_all level (all_first steps) cs)
+    ≡ joined_all level (all_first steps) cs
 moved_clusters level m steps cs f =
     let n = length cs in
     let olds = old_places n steps in
@@ -40,10 +44,13 @@ moved_clusters level m steps cs f =
     let within = within-old_places n steps in
     clusters_stay js olds (many ∙ sym k) (subst (λ j. AllByRecursion (λ p. p < j) olds) (sym k) within)
     (λ p l.
-    let share = subst (λ xs. ShareCluster xs p (get_or olds p 0)) (joined-merged_steps level m steps cs f) (share-moved level m steps cs f p (omega arith)) in
+    let share = subst (λ xs. ShareCluster xs p (get_or olds p 0)) (joined-merged_steps level m steps cs f)
+    (share-moved level m steps cs f p (omega arith)) in
     share (get_or olds p 0) (omega arith) (omega arith))
 
-pub run_at_once : (level : BufferClusterLevel) (steps : List Step) (gs : List hb_glyph_info_t) → AllByRecursion (MovesMerged (length gs)) steps → run_steps level steps gs ≡ pick (old_places (length gs) steps) (merge_all level (all_first steps) gs)
+pub run_at_once : (level : BufferClusterLevel) (steps : List Step) (gs : List hb_glyph_info_t)
+    → AllByRecursion (MovesMerged (length gs)) steps
+    → run_steps level steps gs ≡ pick (old_places (length gs) steps) (merge_all level (all_first steps) gs)
 run_at_once level steps gs f =
     let n = length gs in
     let olds = old_places n steps in
@@ -54,10 +61,16 @@ run_at_once level steps gs f =
           let size : length cs ≡ n = length-map gs (λ g. g.cluster) in
           let g = subst (λ k. AllByRecursion (MovesMerged k) steps) (sym size) f in
           let x = (falls-run_steps level steps gs (merged_fits n steps f)).1 in
-          let y = AllZip-pick FallsTo olds gs ms (merge_all-falls level (all_first steps) gs (end_within-all_first n steps f)) in
-          let first : clusters (run_steps level steps gs) ≡ joined_all level (all_first steps) cs = clusters-run_steps level steps gs ∙ joined-merged_steps level on steps cs g in
+          let y = AllZip-pick FallsTo olds gs ms
+          (merge_all-falls level (all_first steps) gs (end_within-all_first n steps f)) in
+          let first : clusters (run_steps level steps gs) ≡ joined_all level (all_first steps) cs =
+          clusters-run_steps level steps gs ∙ joined-merged_steps level on steps cs g in
           let second : clusters (pick olds ms) ≡ joined_all level (all_first steps) cs =
-          sym (pick-map (λ (g : hb_glyph_info_t). g.cluster) olds ms) ∙ ap (pick olds) (clusters-merge_all level (all_first steps) gs) ∙ ap (λ k. pick (old_places k steps) (joined_all level (all_first steps) cs)) (sym size) ∙ moved_clusters level on steps cs g in
+          sym (pick-map (λ (g : hb_glyph_info_t). g.cluster) olds ms)
+          ∙ ap (pick olds) (clusters-merge_all level (all_first steps) gs)
+          ∙ ap (λ k. pick (old_places k steps) (joined_all level (all_first steps) cs)) (sym size)
+          ∙ moved_clusters level on steps cs g in
           same_fall (pick olds gs) (run_steps level steps gs) (pick olds ms) x y (first ∙ sym second)
-      | inr off ↦ run_steps-unmerged level off steps gs ∙ ap (pick olds) (sym (merge_all-unmerged level off (all_first steps) gs))
+      | inr off ↦ run_steps-unmerged level off steps gs
+          ∙ ap (pick olds) (sym (merge_all-unmerged level off (all_first steps) gs))
     ]

@@ -24,39 +24,53 @@ use Rattle.shapers_universal.specs.Proved.UniversalLists.{cut_after-concat, filt
 use Rattle.shapers_universal.specs.Proved.UniversalSteps.{all_pieces, piece_fits, pieces_sum, reph_run-within, universal_fits, universal_permutes}
 
 -- what the step of the reph picks
-pub reph_picks : (h : hb_glyph_info_t → hb_glyph_info_t) (gs : List hb_glyph_info_t) → pick (universal_reph_step gs).places (map h gs) ≡ map h (reph_moved gs)
-reph_picks h gs = pick-map h (universal_reph_step gs).places gs ∙ ap (map h) (pick-first_behind (reph_run gs) gs (reph_run-within gs))
+pub reph_picks : (h : hb_glyph_info_t → hb_glyph_info_t) (gs : List hb_glyph_info_t)
+    → pick (universal_reph_step gs).places (map h gs) ≡ map h (reph_moved gs)
+reph_picks h gs = pick-map h (universal_reph_step gs).places gs
+    ∙ ap (map h) (pick-first_behind (reph_run gs) gs (reph_run-within gs))
 
 -- and that of a piece
-front_told : (gs : List hb_glyph_info_t) (p : ℕ) (x : hb_glyph_info_t) → slice_get gs p ≡ Some x → goes_front_at gs p ≡ goes_front x
+front_told : (gs : List hb_glyph_info_t) (p : ℕ) (x : hb_glyph_info_t) → slice_get gs p ≡ Some x
+    → goes_front_at gs p ≡ goes_front x
 front_told gs p x h = ap (λ o. option_map_or goes_front o false) h
 
 pub piece_picks : (gs : List hb_glyph_info_t) → pick (piece_step gs).places gs ≡ reversed_first goes_front gs
 piece_picks gs = pick-reversed_first (goes_front_at gs) goes_front gs (front_told gs)
 
 -- the steps of pieces reorder each for itself
-along_pieces : {Y : Type 0} (f : hb_glyph_info_t → Y) (ps : List (List hb_glyph_info_t)) → reordered_along (piece_steps ps) (map f (flat_map (λ piece. piece) ps)) ≡ map f (flat_map (reversed_first goes_front) ps)
+along_pieces : {Y : Type 0} (f : hb_glyph_info_t → Y) (ps : List (List hb_glyph_info_t))
+    → reordered_along (piece_steps ps) (map f (flat_map (λ piece. piece) ps))
+    ≡ map f (flat_map (reversed_first goes_front) ps)
 along_pieces f [] = refl
 along_pieces f (piece ∷ ps) =
     let n = length piece in
     let rest = flat_map (λ p. p) ps in
     let split : map f (piece ++ rest) ≡ map f piece ++ map f rest = map-append f piece rest in
-    let first : take n (map f (piece ++ rest)) ≡ map f piece = ap (take n) split ∙ take_at (map f piece) (map f rest) n (length-map piece f) in
-    let others : drop n (map f (piece ++ rest)) ≡ map f rest = ap (drop n) split ∙ drop_at (map f piece) (map f rest) n (length-map piece f) in
-    ap (λ ys. pick (old_places n (piece_step piece ∷ [])) ys ++ reordered_along (piece_steps ps) (drop n (map f (piece ++ rest)))) first
-    ∙ ap (λ qs. pick qs (map f piece) ++ reordered_along (piece_steps ps) (drop n (map f (piece ++ rest)))) (old_places_one n (piece_step piece) (piece_fits piece))
-    ∙ ap (λ ys. ys ++ reordered_along (piece_steps ps) (drop n (map f (piece ++ rest)))) (pick-map f (piece_step piece).places piece ∙ ap (map f) (piece_picks piece))
-    ∙ ap (λ ys. map f (reversed_first goes_front piece) ++ ys) (ap (reordered_along (piece_steps ps)) others ∙ along_pieces f ps)
+    let first : take n (map f (piece ++ rest)) ≡ map f piece = ap (take n) split
+    ∙ take_at (map f piece) (map f rest) n (length-map piece f) in
+    let others : drop n (map f (piece ++ rest)) ≡ map f rest = ap (drop n) split
+    ∙ drop_at (map f piece) (map f rest) n (length-map piece f) in
+    ap (λ ys. pick (old_places n (piece_step piece ∷ [])) ys
+    ++ reordered_along (piece_steps ps) (drop n (map f (piece ++ rest)))) first
+    ∙ ap (λ qs. pick qs (map f piece) ++ reordered_along (piece_steps ps) (drop n (map f (piece ++ rest))))
+    (old_places_one n (piece_step piece) (piece_fits piece))
+    ∙ ap (λ ys. ys ++ reordered_along (piece_steps ps) (drop n (map f (piece ++ rest))))
+    (pick-map f (piece_step piece).places piece ∙ ap (map f) (piece_picks piece))
+    ∙ ap (λ ys. map f (reversed_first goes_front piece) ++ ys) (ap (reordered_along (piece_steps ps)) others
+    ∙ along_pieces f ps)
     ∙ sym (map-append f (reversed_first goes_front piece) (flat_map (reversed_first goes_front) ps))
 
 -- the steps of a syllable that is reordered, over what h makes of its glyphs
-steps_lead : (h : hb_glyph_info_t → hb_glyph_info_t) (gs : List hb_glyph_info_t) → order_view (run_steps Characters (universal_reph_step gs ∷ steps_along (length gs) 0 (piece_steps (pieces gs))) (map h gs)) ≡ order_view (map h (flat_map (reversed_first goes_front) (pieces gs)))
+steps_lead : (h : hb_glyph_info_t → hb_glyph_info_t) (gs : List hb_glyph_info_t)
+    → order_view (run_steps Characters (universal_reph_step gs ∷ steps_along (length gs) 0 (piece_steps (pieces gs)))
+    (map h gs)) ≡ order_view (map h (flat_map (reversed_first goes_front) (pieces gs)))
 steps_lead h gs =
     let ps = pieces gs in
     let zs = map h (reph_moved gs) in
     let long : length zs ≡ length gs = length-map (reph_moved gs) h ∙ length-first_behind (reph_run gs) gs in
     let fit = all_pieces FitsStep piece_fits ps in
-    let whole : zs ≡ map h (flat_map (λ piece. piece) ps) = ap (map h) (sym (cut_after-concat is_universal_halant (reph_moved gs))) in
+    let whole : zs ≡ map h (flat_map (λ piece. piece) ps) =
+    ap (map h) (sym (cut_after-concat is_universal_halant (reph_moved gs))) in
     ap (λ ys. order_view (run_steps Characters (steps_along (length gs) 0 (piece_steps ps)) ys)) (reph_picks h gs)
     ∙ ap (λ n. order_view (run_steps Characters (steps_along n 0 (piece_steps ps)) zs)) (sym long)
     ∙ order_view-along Characters 0 (piece_steps ps) zs (omega (arith, pieces_sum gs)) fit
@@ -66,11 +80,16 @@ steps_lead h gs =
     ∙ sym (mapped_twice plain h (flat_map (reversed_first goes_front) ps))
 
 -- what all steps pick, through what h makes of the glyphs
-pub picked_order : (h : hb_glyph_info_t → hb_glyph_info_t) (gs : List hb_glyph_info_t) → pick (old_places (length gs) (universal_steps gs)) (order_view (map h gs)) ≡ order_view (map h (universal_order gs))
+pub picked_order : (h : hb_glyph_info_t → hb_glyph_info_t) (gs : List hb_glyph_info_t)
+    → pick (old_places (length gs) (universal_steps gs)) (order_view (map h gs))
+    ≡ order_view (map h (universal_order gs))
 picked_order h gs =
     let n = length gs in
     let long : length (map h gs) ≡ length gs = length-map gs h in
-    elim (is_reordered_in_universal gs) as (λ b. pick (old_places n (if b then universal_reph_step gs ∷ steps_along n 0 (piece_steps (pieces gs)) else [])) (order_view (map h gs)) ≡ order_view (map h (if b then flat_map (reversed_first goes_front) (pieces gs) else gs))) [
+    elim (is_reordered_in_universal gs) as (λ b. pick
+    (old_places n (if b then universal_reph_step gs ∷ steps_along n 0 (piece_steps (pieces gs)) else []))
+    (order_view (map h gs))
+    ≡ order_view (map h (if b then flat_map (reversed_first goes_front) (pieces gs) else gs))) [
       | true ↦
           let steps = universal_reph_step gs ∷ steps_along n 0 (piece_steps (pieces gs)) in
           ap (λ k. pick (old_places k steps) (order_view (map h gs))) (sym long)
@@ -79,7 +98,8 @@ picked_order h gs =
       | false ↦ pick-all n (order_view (map h gs)) (length-map (map h gs) plain ∙ long)
     ]
 
-pub universal_agrees : (gs : List hb_glyph_info_t) → seen carried (universal_order gs) ≡ pick (old_places (length gs) (universal_steps gs)) (seen carried gs)
+pub universal_agrees : (gs : List hb_glyph_info_t) → seen carried (universal_order gs)
+    ≡ pick (old_places (length gs) (universal_steps gs)) (seen carried gs)
 universal_agrees gs =
     sym (mapped_twice plain carried (universal_order gs))
     ∙ sym (picked_order carried gs)
@@ -94,30 +114,48 @@ reph_run-seen : (v : View) (gs : List hb_glyph_info_t) → reph_run (seen_by v g
 reph_run-seen v [] = refl
 reph_run-seen v (g ∷ gs) = ap (λ k. if nat_eq g.category 18 then suc k else 0) (prefix_len-map reph_passes (shown v) gs)
 
-is_reordered-seen : (v : View) → KeepsKinds v → (gs : List hb_glyph_info_t) → is_reordered_in_universal (seen_by v gs) ≡ is_reordered_in_universal gs
+is_reordered-seen : (v : View) → KeepsKinds v → (gs : List hb_glyph_info_t) → is_reordered_in_universal (seen_by v gs)
+    ≡ is_reordered_in_universal gs
 is_reordered-seen v kinds [] = refl
-is_reordered-seen v kinds (g ∷ gs) = ap (λ k. list_any (λ category. category == k) (0 ∷ (1 ∷ (2 ∷ (7 ∷ []))))) (kinds g.syllable)
+is_reordered-seen v kinds (g ∷ gs) =
+    ap (λ k. list_any (λ category. category == k) (0 ∷ (1 ∷ (2 ∷ (7 ∷ []))))) (kinds g.syllable)
 
 reph_moved-seen : (v : View) (gs : List hb_glyph_info_t) → reph_moved (seen_by v gs) ≡ seen_by v (reph_moved gs)
-reph_moved-seen v gs = ap (λ k. first_behind k (seen_by v gs)) (reph_run-seen v gs) ∙ first_behind-map (shown v) (reph_run gs) gs
+reph_moved-seen v gs = ap (λ k. first_behind k (seen_by v gs)) (reph_run-seen v gs)
+    ∙ first_behind-map (shown v) (reph_run gs) gs
 
-pub pieces_cut-seen : (v : View) (gs : List hb_glyph_info_t) → cut_after is_universal_halant (seen_by v gs) ≡ map (seen_by v) (cut_after is_universal_halant gs)
+pub pieces_cut-seen : (v : View) (gs : List hb_glyph_info_t) → cut_after is_universal_halant (seen_by v gs)
+    ≡ map (seen_by v) (cut_after is_universal_halant gs)
 pieces_cut-seen v gs = cut_after-map is_universal_halant (shown v) gs
 
 pieces-seen : (v : View) (gs : List hb_glyph_info_t) → pieces (seen_by v gs) ≡ map (seen_by v) (pieces gs)
 pieces-seen v gs = ap (cut_after is_universal_halant) (reph_moved-seen v gs) ∙ pieces_cut-seen v (reph_moved gs)
 
-at_seen : (v : View) (o : Option hb_glyph_info_t) → option_map_or goes_front (option_map (shown v) o) false ≡ option_map_or goes_front o false
+at_seen : (v : View) (o : Option hb_glyph_info_t) → option_map_or goes_front (option_map (shown v) o) false
+    ≡ option_map_or goes_front o false
 at_seen v None = refl
 at_seen v (Some g) = refl
 
-pub goes_front_at-seen : (v : View) (gs : List hb_glyph_info_t) (i : ℕ) → goes_front_at (seen_by v gs) i ≡ goes_front_at gs i
-goes_front_at-seen v gs i = ap (λ o. option_map_or goes_front o false) (slice_get-map (shown v) gs i) ∙ at_seen v (slice_get gs i)
+pub goes_front_at-seen : (v : View) (gs : List hb_glyph_info_t) (i : ℕ) → goes_front_at (seen_by v gs) i
+    ≡ goes_front_at gs i
+goes_front_at-seen v gs i = ap (λ o. option_map_or goes_front o false) (slice_get-map (shown v) gs i)
+    ∙ at_seen v (slice_get gs i)
 
 pub piece_step-seen : (v : View) (gs : List hb_glyph_info_t) → piece_step (seen_by v gs) ≡ piece_step gs
 piece_step-seen v gs =
-    let step : List ℕ → (ℕ → Bool) → Step = λ ps t. record { merged_first = map (λ i. (0, suc i)) (filter t ps); places = reversed_first t ps; merged_then = [] } in
-    let made : List ℕ → List ℕ → List ℕ → Step = λ yes no ps. record { merged_first = map (λ i. (0, suc i)) yes; places = reverse yes ++ no; merged_then = [] } in
+    let step : List ℕ → (ℕ → Bool) → Step =
+    λ ps t. record {
+      merged_first = map (λ i. (0, suc i)) (filter t ps);
+      places = reversed_first t ps;
+      merged_then = [];
+    } in
+    let made : List ℕ → List ℕ → List ℕ → Step =
+    λ yes no ps. record {
+      merged_first = map (λ i. (0, suc i)) yes;
+      places = reverse yes ++ no;
+      merged_then =
+          [];
+    } in
     let t = goes_front_at (seen_by v gs) in
     let u = goes_front_at gs in
     let ps = places_within gs in
@@ -133,46 +171,56 @@ piece_steps-seen v (piece ∷ ps) =
     ∙ ap (λ s. (length piece, s ∷ []) ∷ piece_steps (map (seen_by v) ps)) (piece_step-seen v piece)
     ∙ ap (λ qs. (length piece, piece_step piece ∷ []) ∷ qs) (piece_steps-seen v ps)
 
-pub reph_step-seen : (v : View) (gs : List hb_glyph_info_t) → universal_reph_step (seen_by v gs) ≡ universal_reph_step gs
+pub reph_step-seen : (v : View) (gs : List hb_glyph_info_t) → universal_reph_step (seen_by v gs)
+    ≡ universal_reph_step gs
 reph_step-seen v gs =
-    let step : ℕ → ℕ → Step = λ k n. record { merged_first = (0, k) ∷ []; places = first_behind k (range_with_len 0 n); merged_then = [] } in
+    let step : ℕ → ℕ → Step =
+    λ k n. record {
+      merged_first = (0, k) ∷ [];
+      places = first_behind k (range_with_len 0 n);
+      merged_then =
+          [];
+    } in
     ap (λ k. step k (length (seen_by v gs))) (reph_run-seen v gs) ∙ ap (step (reph_run gs)) (length-map gs (shown v))
 
-pub universal_steps-seen : (v : View) → KeepsKinds v → (gs : List hb_glyph_info_t) → universal_steps (seen_by v gs) ≡ universal_steps gs
+pub universal_steps-seen : (v : View) → KeepsKinds v → (gs : List hb_glyph_info_t) → universal_steps (seen_by v gs)
+    ≡ universal_steps gs
 universal_steps-seen v kinds gs =
-    let made : Bool → Step → ℕ → List (ℕ × List Step) → List Step = λ b reph n ps. if b then reph ∷ steps_along n 0 ps else [] in
-    ap (λ b. made b (universal_reph_step (seen_by v gs)) (length (seen_by v gs)) (piece_steps (pieces (seen_by v gs)))) (is_reordered-seen v kinds gs)
-    ∙ ap (λ s. made (is_reordered_in_universal gs) s (length (seen_by v gs)) (piece_steps (pieces (seen_by v gs)))) (reph_step-seen v gs)
-    ∙ ap (λ n. made (is_reordered_in_universal gs) (universal_reph_step gs) n (piece_steps (pieces (seen_by v gs)))) (length-map gs (shown v))
-    ∙ ap (λ ps. made (is_reordered_in_universal gs) (universal_reph_step gs) (length gs) ps) (ap piece_steps (pieces-seen v gs) ∙ piece_steps-seen v (pieces gs))
+    let made : Bool → Step → ℕ → List (ℕ × List Step) → List Step =
+    λ b reph n ps. if b then reph ∷ steps_along n 0 ps else [] in
+    ap (λ b. made b (universal_reph_step (seen_by v gs)) (length (seen_by v gs)) (piece_steps (pieces (seen_by v gs))))
+    (is_reordered-seen v kinds gs)
+    ∙ ap (λ s. made (is_reordered_in_universal gs) s (length (seen_by v gs)) (piece_steps (pieces (seen_by v gs))))
+    (reph_step-seen v gs)
+    ∙ ap (λ n. made (is_reordered_in_universal gs) (universal_reph_step gs) n (piece_steps (pieces (seen_by v gs))))
+    (length-map gs (shown v))
+    ∙ ap (λ ps. made (is_reordered_in_universal gs) (universal_reph_step gs) (length gs) ps)
+    (ap piece_steps (pieces-seen v gs) ∙ piece_steps-seen v (pieces gs))
 
-ordered-seen : (v : View) (ps : List (List hb_glyph_info_t)) → flat_map (reversed_first goes_front) (map (seen_by v) ps) ≡ seen_by v (flat_map (reversed_first goes_front) ps)
+ordered-seen : (v : View) (ps : List (List hb_glyph_info_t)) → flat_map (reversed_first goes_front) (map (seen_by v) ps)
+    ≡ seen_by v (flat_map (reversed_first goes_front) ps)
 ordered-seen v [] = refl
 ordered-seen v (piece ∷ ps) =
-    ap (λ ys. ys ++ flat_map (reversed_first goes_front) (map (seen_by v) ps)) (reversed_first-map goes_front (shown v) piece)
+    ap (λ ys. ys ++ flat_map (reversed_first goes_front) (map (seen_by v) ps))
+    (reversed_first-map goes_front (shown v) piece)
     ∙ ap (λ ys. seen_by v (reversed_first goes_front piece) ++ ys) (ordered-seen v ps)
     ∙ sym (map-append (shown v) (reversed_first goes_front piece) (flat_map (reversed_first goes_front) ps))
 
-pub universal_order-seen : (v : View) → KeepsKinds v → (gs : List hb_glyph_info_t) → universal_order (seen_by v gs) ≡ seen_by v (universal_order gs)
+pub universal_order-seen : (v : View) → KeepsKinds v → (gs : List hb_glyph_info_t) → universal_order (seen_by v gs)
+    ≡ seen_by v (universal_order gs)
 universal_order-seen v kinds gs =
-    ap (λ b. if b then flat_map (reversed_first goes_front) (pieces (seen_by v gs)) else seen_by v gs) (is_reordered-seen v kinds gs)
-    ∙ elim (is_reordered_in_universal gs) as (λ b. (if b then flat_map (reversed_first goes_front) (pieces (seen_by v gs)) else seen_by v gs) ≡ seen_by v (if b then flat_map (reversed_first goes_front) (pieces gs) else gs)) [
+    ap (λ b. if b then flat_map (reversed_first goes_front) (pieces (seen_by v gs)) else seen_by v gs)
+    (is_reordered-seen v kinds gs)
+    ∙ elim (is_reordered_in_universal gs) as (λ b.
+    (if b then flat_map (reversed_first goes_front) (pieces (seen_by v gs)) else seen_by v gs)
+    ≡ seen_by v (if b then flat_map (reversed_first goes_front) (pieces gs) else gs)) [
       | true ↦ ap (flat_map (reversed_first goes_front)) (pieces-seen v gs) ∙ ordered-seen v (pieces gs)
       | false ↦ refl
     ]
 
--- so the order view
-pub goes_front_at-view : (gs : List hb_glyph_info_t) (i : ℕ) → goes_front_at (order_view gs) i ≡ goes_front_at gs i
-goes_front_at-view gs i = goes_front_at-seen plain_view gs i
-
-pub pieces_cut-view : (gs : List hb_glyph_info_t) → cut_after is_universal_halant (order_view gs) ≡ map order_view (cut_after is_universal_halant gs)
-pieces_cut-view gs = pieces_cut-seen plain_view gs
-
-pub piece_steps-view : (ps : List (List hb_glyph_info_t)) → piece_steps (map order_view ps) ≡ piece_steps ps
-piece_steps-view ps = piece_steps-seen plain_view ps
-
 pub universal_steps-view : (gs : List hb_glyph_info_t) → universal_steps (order_view gs) ≡ universal_steps gs
 universal_steps-view gs = universal_steps-seen plain_view (λ b. refl) gs
 
-pub universal_order-view : (gs : List hb_glyph_info_t) → universal_order (order_view gs) ≡ order_view (universal_order gs)
+pub universal_order-view : (gs : List hb_glyph_info_t) → universal_order (order_view gs)
+    ≡ order_view (universal_order gs)
 universal_order-view gs = universal_order-seen plain_view (λ b. refl) gs

@@ -5,13 +5,21 @@ use Rattle.shapers_hangul.proofs.HangulSpelling.{on_spelled, on_units}
 use Rattle.shapers_hangul.proofs.ot_shaper_hangul.preprocess_text.Goals as goal
 
 pub returns-clause-clusters : goal.returns-clause-clusters
-returns-clause-clusters g c = on_rewritten c.rewrite.result (g.F.hb_font_t.font c.args.face.now) c.args.buffer.now c.rewrite.new.buffer c.rewrite.ensures.ok
+returns-clause-clusters g c =
+    on_rewritten c.rewrite.result (g.F.hb_font_t.font c.args.face.now) c.args.buffer.now c.rewrite.new.buffer
+    c.rewrite.ensures.ok
 
 pub returns-clause-spelling : goal.returns-clause-spelling
-returns-clause-spelling g c = on_spelled c.rewrite.result (g.F.hb_font_t.font c.args.face.now) c.args.buffer.now c.rewrite.new.buffer c.rewrite.ensures.ok
+returns-clause-spelling g c =
+    on_spelled c.rewrite.result (g.F.hb_font_t.font c.args.face.now) c.args.buffer.now c.rewrite.new.buffer
+    c.rewrite.ensures.ok
 
 pub returns-clause-flags : goal.returns-clause-flags
-returns-clause-flags g c = on_flags c.rewrite.result (g.F.hb_font_t.font c.args.face.now) c.args.buffer.now c.rewrite.new.buffer c.rewrite.ensures.ok
+returns-clause-flags g c =
+    on_flags c.rewrite.result (g.F.hb_font_t.font c.args.face.now) c.args.buffer.now c.rewrite.new.buffer
+    c.rewrite.ensures.ok
 
 pub returns-clause-units : goal.returns-clause-units
-returns-clause-units g c = on_units c.rewrite.result (g.F.hb_font_t.font c.args.face.now) c.args.buffer.now c.rewrite.new.buffer c.rewrite.ensures.ok
+returns-clause-units g c =
+    on_units c.rewrite.result (g.F.hb_font_t.font c.args.face.now) c.args.buffer.now c.rewrite.new.buffer
+    c.rewrite.ensures.ok

@@ -11,4 +11,5 @@ pub returns-clause-flags : goal.returns-clause-flags
 returns-clause-flags c =
     let masks = c.in-Hangul.data.mask_array in
     let gs = c.args.buffer.now.glyphs in
-    subst (λ (b : Buffer). OnlyFlagsAdded gs b.glyphs) (sym c.change_each.ensures) (stretch_added 0 c.len.result (with_numbered_mask masks) (jamo_mask_added masks) gs (omega arith))
+    subst (λ (b : Buffer). OnlyFlagsAdded gs b.glyphs) (sym c.change_each.ensures)
+    (stretch_added 0 c.len.result (with_numbered_mask masks) (jamo_mask_added masks) gs (omega arith))

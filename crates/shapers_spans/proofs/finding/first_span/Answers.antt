@@ -19,7 +19,15 @@ loop-n-init g c =
       begun = g.M.Machine.begun c.args.machine.now;
       turned = g.M.Machine.turned c.args.machine.now;
     } in
-    let t : Task = record { ways = w; gs = c.args.glyphs.now; len = c.args.joiners.now.end - c.args.start; stuck = c.args.joiners.now.stuck; watch = c.args.count.now } in
+    let t : Task =
+    record {
+      ways = w;
+      gs = c.args.glyphs.now;
+      len = c.args.joiners.now.end
+          - c.args.start;
+      stuck = c.args.joiners.now.stuck;
+      watch = c.args.count.now;
+    } in
     let ready : Ready t = record {
       nothing = c.start-state.ensures.passes;
       some = c.requires.some;
@@ -29,7 +37,8 @@ loop-n-init g c =
     } in
     record {
       state = c.start-state.ensures.state;
-      walking = walking_start t c.start-state.result _ ready c.start-state.ensures.first c.next_read.ensures.place c.other.ensures.kind c.start-state.ensures.alive c.start-state.ensures.rank;
+      walking = walking_start t c.start-state.result _ ready c.start-state.ensures.first c.next_read.ensures.place
+          c.other.ensures.kind c.start-state.ensures.alive c.start-state.ensures.rank;
     }
 
 pub loop-n-preserved-in-Some : goal.loop-n-preserved-in-Some
@@ -45,7 +54,15 @@ loop-n-preserved-in-Some g c =
       begun = g.M.Machine.begun c.args.machine.now;
       turned = g.M.Machine.turned c.args.machine.now;
     } in
-    let t : Task = record { ways = w; gs = c.args.glyphs.now; len = c.args.joiners.now.end - c.args.start; stuck = c.args.joiners.now.stuck; watch = c.args.count.now } in
+    let t : Task =
+    record {
+      ways = w;
+      gs = c.args.glyphs.now;
+      len = c.args.joiners.now.end
+          - c.args.start;
+      stuck = c.args.joiners.now.stuck;
+      watch = c.args.count.now;
+    } in
     let ready : Ready t = record {
       nothing = c.start-state.ensures.passes;
       some = c.requires.some;
@@ -53,7 +70,8 @@ loop-n-preserved-in-Some g c =
       calm = subst (λ q. w.waits q ≡ false) c.start-state.ensures.first c.start-state.ensures.waits;
       knows = c.requires.joined;
     } in
-    let leads : Leads w c.loop-n.state (get_or c.args.glyphs.now c.loop-n.n default_glyph).category c.next-state.result = record {
+    let leads : Leads w c.loop-n.state (get_or c.args.glyphs.now c.loop-n.n default_glyph).category c.next-state.result
+    = record {
       step = c.next-state.ensures.ends;
       falls = c.next-state.ensures.falls;
       low = c.next-state.ensures.rank;
@@ -73,7 +91,8 @@ loop-n-preserved-in-Some g c =
     } in
     record {
       state = c.next-state.ensures.state;
-      walking = walking_some t c.loop-n.n c.loop-n.state c.next-state.result c.next_read-n.result c.in-Some.kind c.loop-n.span _ (c.loop-n.joiners.end - c.args.start) c.loop-n.joiners.stuck c.loop-n.count c.read.new.self
+      walking = walking_some t c.loop-n.n c.loop-n.state c.next-state.result c.next_read-n.result c.in-Some.kind
+          c.loop-n.span _ (c.loop-n.joiners.end - c.args.start) c.loop-n.joiners.stuck c.loop-n.count c.read.new.self
           ready c.loop-n.invariant.walking one_more step (sym c.kind.ensures ∙ c.in-Some.is) refl refl;
     }
 
@@ -90,7 +109,15 @@ loop-n-preserved g c =
       begun = g.M.Machine.begun c.args.machine.now;
       turned = g.M.Machine.turned c.args.machine.now;
     } in
-    let t : Task = record { ways = w; gs = c.args.glyphs.now; len = c.args.joiners.now.end - c.args.start; stuck = c.args.joiners.now.stuck; watch = c.args.count.now } in
+    let t : Task =
+    record {
+      ways = w;
+      gs = c.args.glyphs.now;
+      len = c.args.joiners.now.end
+          - c.args.start;
+      stuck = c.args.joiners.now.stuck;
+      watch = c.args.count.now;
+    } in
     let ready : Ready t = record {
       nothing = c.start-state.ensures.passes;
       some = c.requires.some;
@@ -98,7 +125,8 @@ loop-n-preserved g c =
       calm = subst (λ q. w.waits q ≡ false) c.start-state.ensures.first c.start-state.ensures.waits;
       knows = c.requires.joined;
     } in
-    let leads : Leads w c.loop-n.state (get_or c.args.glyphs.now c.loop-n.n default_glyph).category c.next-state.result = record {
+    let leads : Leads w c.loop-n.state (get_or c.args.glyphs.now c.loop-n.n default_glyph).category c.next-state.result
+    = record {
       step = c.next-state.ensures.ends;
       falls = c.next-state.ensures.falls;
       low = c.next-state.ensures.rank;
@@ -118,10 +146,21 @@ loop-n-preserved g c =
     } in
     record {
       state = c.next-state.ensures.state;
-      walking = walking_on t c.loop-n.n c.loop-n.state c.next-state.result c.next_read-n.result c.in-Some-behind_joiners.place c.loop-n.span (c.loop-n.joiners.end - c.args.start) c.loop-n.joiners.stuck (c.behind_joiners.new.joiners.end - c.args.start) c.behind_joiners.new.joiners.stuck c.loop-n.count c.read.new.self
-          ready c.loop-n.invariant.walking one_more step (sym c.kind.ensures ∙ c.in-None.is) c.behind_joiners.ensures.waits c.behind_joiners.ensures.stays
-          (⊎_elim (λ h. inl (h.0, h.1, ap (λ (j : Joiners). j.end - c.args.start) h.2, ap (λ (j : Joiners). j.stuck) h.2))
-          (λ h. inr (h.0, h.1, h.2, h.3, λ le e. h.4 (let is = c.next_read-n.ensures.place in omega (arith, le, is)) e)) c.in-Some-behind_joiners.ensures.goes);
+      walking = walking_on t c.loop-n.n c.loop-n.state c.next-state.result c.next_read-n.result
+          c.in-Some-behind_joiners.place c.loop-n.span (c.loop-n.joiners.end - c.args.start) c.loop-n.joiners.stuck
+          (c.behind_joiners.new.joiners.end - c.args.start) c.behind_joiners.new.joiners.stuck c.loop-n.count
+          c.read.new.self
+          ready c.loop-n.invariant.walking one_more step (sym c.kind.ensures ∙ c.in-None.is)
+          c.behind_joiners.ensures.waits c.behind_joiners.ensures.stays
+          (⊎_elim (λ h. inl (
+            h.0,
+            h.1,
+            ap (λ (j : Joiners). j.end - c.args.start) h.2,
+            ap (λ (j : Joiners). j.stuck)
+                h.2,
+          ))
+          (λ h. inr (h.0, h.1, h.2, h.3, λ le e. h.4 (let is = c.next_read-n.ensures.place in omega (arith, le, is)) e))
+          c.in-Some-behind_joiners.ensures.goes);
     }
 
 pub returns-then-is_dead-clause-opens : goal.returns-then-is_dead-clause-opens
@@ -137,7 +176,15 @@ returns-then-is_dead-clause-opens g c =
       begun = g.M.Machine.begun c.args.machine.now;
       turned = g.M.Machine.turned c.args.machine.now;
     } in
-    let t : Task = record { ways = w; gs = c.args.glyphs.now; len = c.args.joiners.now.end - c.args.start; stuck = c.args.joiners.now.stuck; watch = c.args.count.now } in
+    let t : Task =
+    record {
+      ways = w;
+      gs = c.args.glyphs.now;
+      len = c.args.joiners.now.end
+          - c.args.start;
+      stuck = c.args.joiners.now.stuck;
+      watch = c.args.count.now;
+    } in
     let ready : Ready t = record {
       nothing = c.start-state.ensures.passes;
       some = c.requires.some;
@@ -145,7 +192,8 @@ returns-then-is_dead-clause-opens g c =
       calm = subst (λ q. w.waits q ≡ false) c.start-state.ensures.first c.start-state.ensures.waits;
       knows = c.requires.joined;
     } in
-    let leads : Leads w c.loop-n.state (get_or c.args.glyphs.now c.loop-n.n default_glyph).category c.next-state.result = record {
+    let leads : Leads w c.loop-n.state (get_or c.args.glyphs.now c.loop-n.n default_glyph).category c.next-state.result
+    = record {
       step = c.next-state.ensures.ends;
       falls = c.next-state.ensures.falls;
       low = c.next-state.ensures.rank;
@@ -156,9 +204,13 @@ returns-then-is_dead-clause-opens g c =
       waiting = c.next-state.ensures.waits;
     } in
     let one_more = noted c.loop-n.count c.read.new.self c.loop-n.n c.read.ensures in
-    let kinds : (u : List ℕ) → IsKind w.grammar u (w.ends w.first u) = (λ u. subst (λ q. IsKind w.grammar u (w.ends q u)) c.start-state.ensures.first (c.start-state.ensures.kinds u)) in
-    (walking_dead t c.loop-n.n c.loop-n.state c.next-state.result c.loop-n.span (c.loop-n.joiners.end - c.args.start) c.loop-n.joiners.stuck c.loop-n.count c.read.new.self
-    ready kinds c.loop-n.invariant.walking one_more c.loop-n-test.true leads (c.is_dead.ensures.dead (search (rules, c.if-is_dead.true)))).opens
+    let kinds : (u : List ℕ) → IsKind w.grammar u (w.ends w.first u) =
+    (λ u. subst (λ q. IsKind w.grammar u (w.ends q u)) c.start-state.ensures.first
+    (c.start-state.ensures.kinds u)) in
+    (walking_dead t c.loop-n.n c.loop-n.state c.next-state.result c.loop-n.span (c.loop-n.joiners.end - c.args.start)
+    c.loop-n.joiners.stuck c.loop-n.count c.read.new.self
+    ready kinds c.loop-n.invariant.walking one_more c.loop-n-test.true leads
+    (c.is_dead.ensures.dead (search (rules, c.if-is_dead.true)))).opens
 
 pub returns-then-is_dead-clause-joined : goal.returns-then-is_dead-clause-joined
 returns-then-is_dead-clause-joined g c =
@@ -173,7 +225,15 @@ returns-then-is_dead-clause-joined g c =
       begun = g.M.Machine.begun c.args.machine.now;
       turned = g.M.Machine.turned c.args.machine.now;
     } in
-    let t : Task = record { ways = w; gs = c.args.glyphs.now; len = c.args.joiners.now.end - c.args.start; stuck = c.args.joiners.now.stuck; watch = c.args.count.now } in
+    let t : Task =
+    record {
+      ways = w;
+      gs = c.args.glyphs.now;
+      len = c.args.joiners.now.end
+          - c.args.start;
+      stuck = c.args.joiners.now.stuck;
+      watch = c.args.count.now;
+    } in
     let ready : Ready t = record {
       nothing = c.start-state.ensures.passes;
       some = c.requires.some;
@@ -181,7 +241,8 @@ returns-then-is_dead-clause-joined g c =
       calm = subst (λ q. w.waits q ≡ false) c.start-state.ensures.first c.start-state.ensures.waits;
       knows = c.requires.joined;
     } in
-    let leads : Leads w c.loop-n.state (get_or c.args.glyphs.now c.loop-n.n default_glyph).category c.next-state.result = record {
+    let leads : Leads w c.loop-n.state (get_or c.args.glyphs.now c.loop-n.n default_glyph).category c.next-state.result
+    = record {
       step = c.next-state.ensures.ends;
       falls = c.next-state.ensures.falls;
       low = c.next-state.ensures.rank;
@@ -192,9 +253,13 @@ returns-then-is_dead-clause-joined g c =
       waiting = c.next-state.ensures.waits;
     } in
     let one_more = noted c.loop-n.count c.read.new.self c.loop-n.n c.read.ensures in
-    let kinds : (u : List ℕ) → IsKind w.grammar u (w.ends w.first u) = (λ u. subst (λ q. IsKind w.grammar u (w.ends q u)) c.start-state.ensures.first (c.start-state.ensures.kinds u)) in
-    (walking_dead t c.loop-n.n c.loop-n.state c.next-state.result c.loop-n.span (c.loop-n.joiners.end - c.args.start) c.loop-n.joiners.stuck c.loop-n.count c.read.new.self
-    ready kinds c.loop-n.invariant.walking one_more c.loop-n-test.true leads (c.is_dead.ensures.dead (search (rules, c.if-is_dead.true)))).known
+    let kinds : (u : List ℕ) → IsKind w.grammar u (w.ends w.first u) =
+    (λ u. subst (λ q. IsKind w.grammar u (w.ends q u)) c.start-state.ensures.first
+    (c.start-state.ensures.kinds u)) in
+    (walking_dead t c.loop-n.n c.loop-n.state c.next-state.result c.loop-n.span (c.loop-n.joiners.end - c.args.start)
+    c.loop-n.joiners.stuck c.loop-n.count c.read.new.self
+    ready kinds c.loop-n.invariant.walking one_more c.loop-n-test.true leads
+    (c.is_dead.ensures.dead (search (rules, c.if-is_dead.true)))).known
 
 pub returns-then-is_dead-clause-counted : goal.returns-then-is_dead-clause-counted
 returns-then-is_dead-clause-counted g c =
@@ -209,7 +274,15 @@ returns-then-is_dead-clause-counted g c =
       begun = g.M.Machine.begun c.args.machine.now;
       turned = g.M.Machine.turned c.args.machine.now;
     } in
-    let t : Task = record { ways = w; gs = c.args.glyphs.now; len = c.args.joiners.now.end - c.args.start; stuck = c.args.joiners.now.stuck; watch = c.args.count.now } in
+    let t : Task =
+    record {
+      ways = w;
+      gs = c.args.glyphs.now;
+      len = c.args.joiners.now.end
+          - c.args.start;
+      stuck = c.args.joiners.now.stuck;
+      watch = c.args.count.now;
+    } in
     let ready : Ready t = record {
       nothing = c.start-state.ensures.passes;
       some = c.requires.some;
@@ -217,7 +290,8 @@ returns-then-is_dead-clause-counted g c =
       calm = subst (λ q. w.waits q ≡ false) c.start-state.ensures.first c.start-state.ensures.waits;
       knows = c.requires.joined;
     } in
-    let leads : Leads w c.loop-n.state (get_or c.args.glyphs.now c.loop-n.n default_glyph).category c.next-state.result = record {
+    let leads : Leads w c.loop-n.state (get_or c.args.glyphs.now c.loop-n.n default_glyph).category c.next-state.result
+    = record {
       step = c.next-state.ensures.ends;
       falls = c.next-state.ensures.falls;
       low = c.next-state.ensures.rank;
@@ -228,9 +302,13 @@ returns-then-is_dead-clause-counted g c =
       waiting = c.next-state.ensures.waits;
     } in
     let one_more = noted c.loop-n.count c.read.new.self c.loop-n.n c.read.ensures in
-    let kinds : (u : List ℕ) → IsKind w.grammar u (w.ends w.first u) = (λ u. subst (λ q. IsKind w.grammar u (w.ends q u)) c.start-state.ensures.first (c.start-state.ensures.kinds u)) in
-    (walking_dead t c.loop-n.n c.loop-n.state c.next-state.result c.loop-n.span (c.loop-n.joiners.end - c.args.start) c.loop-n.joiners.stuck c.loop-n.count c.read.new.self
-    ready kinds c.loop-n.invariant.walking one_more c.loop-n-test.true leads (c.is_dead.ensures.dead (search (rules, c.if-is_dead.true)))).counted
+    let kinds : (u : List ℕ) → IsKind w.grammar u (w.ends w.first u) =
+    (λ u. subst (λ q. IsKind w.grammar u (w.ends q u)) c.start-state.ensures.first
+    (c.start-state.ensures.kinds u)) in
+    (walking_dead t c.loop-n.n c.loop-n.state c.next-state.result c.loop-n.span (c.loop-n.joiners.end - c.args.start)
+    c.loop-n.joiners.stuck c.loop-n.count c.read.new.self
+    ready kinds c.loop-n.invariant.walking one_more c.loop-n-test.true leads
+    (c.is_dead.ensures.dead (search (rules, c.if-is_dead.true)))).counted
 
 pub returns-in-None-behind_joiners-clause-opens : goal.returns-in-None-behind_joiners-clause-opens
 returns-in-None-behind_joiners-clause-opens g c =
@@ -245,7 +323,15 @@ returns-in-None-behind_joiners-clause-opens g c =
       begun = g.M.Machine.begun c.args.machine.now;
       turned = g.M.Machine.turned c.args.machine.now;
     } in
-    let t : Task = record { ways = w; gs = c.args.glyphs.now; len = c.args.joiners.now.end - c.args.start; stuck = c.args.joiners.now.stuck; watch = c.args.count.now } in
+    let t : Task =
+    record {
+      ways = w;
+      gs = c.args.glyphs.now;
+      len = c.args.joiners.now.end
+          - c.args.start;
+      stuck = c.args.joiners.now.stuck;
+      watch = c.args.count.now;
+    } in
     let ready : Ready t = record {
       nothing = c.start-state.ensures.passes;
       some = c.requires.some;
@@ -253,7 +339,8 @@ returns-in-None-behind_joiners-clause-opens g c =
       calm = subst (λ q. w.waits q ≡ false) c.start-state.ensures.first c.start-state.ensures.waits;
       knows = c.requires.joined;
     } in
-    let leads : Leads w c.loop-n.state (get_or c.args.glyphs.now c.loop-n.n default_glyph).category c.next-state.result = record {
+    let leads : Leads w c.loop-n.state (get_or c.args.glyphs.now c.loop-n.n default_glyph).category c.next-state.result
+    = record {
       step = c.next-state.ensures.ends;
       falls = c.next-state.ensures.falls;
       low = c.next-state.ensures.rank;
@@ -271,11 +358,15 @@ returns-in-None-behind_joiners-clause-opens g c =
       leads = leads;
       alive = c.is_dead.ensures.alive c.if-is_dead.false;
     } in
-    let kinds : (u : List ℕ) → IsKind w.grammar u (w.ends w.first u) = (λ u. subst (λ q. IsKind w.grammar u (w.ends q u)) c.start-state.ensures.first (c.start-state.ensures.kinds u)) in
+    let kinds : (u : List ℕ) → IsKind w.grammar u (w.ends w.first u) =
+    (λ u. subst (λ q. IsKind w.grammar u (w.ends q u)) c.start-state.ensures.first
+    (c.start-state.ensures.kinds u)) in
     let stops = c.in-None-behind_joiners.ensures.stops in
     (subst (λ (j : Joiners). Walked t c.loop-n.span (j.end - c.args.start) j.stuck c.read.new.self) (sym stops.3)
-    (walking_stuck t c.loop-n.n c.loop-n.state c.next-state.result c.next_read-n.result c.loop-n.span (c.loop-n.joiners.end - c.args.start) c.loop-n.joiners.stuck c.loop-n.count c.read.new.self
-    ready kinds c.loop-n.invariant.walking one_more step (sym c.kind.ensures ∙ c.in-None.is) (c.behind_joiners.ensures.stays stops.0) (let le = stops.1 in omega (arith, le)) stops.2)).opens
+    (walking_stuck t c.loop-n.n c.loop-n.state c.next-state.result c.next_read-n.result c.loop-n.span
+    (c.loop-n.joiners.end - c.args.start) c.loop-n.joiners.stuck c.loop-n.count c.read.new.self
+    ready kinds c.loop-n.invariant.walking one_more step (sym c.kind.ensures ∙ c.in-None.is)
+    (c.behind_joiners.ensures.stays stops.0) (let le = stops.1 in omega (arith, le)) stops.2)).opens
 
 pub returns-in-None-behind_joiners-clause-joined : goal.returns-in-None-behind_joiners-clause-joined
 returns-in-None-behind_joiners-clause-joined g c =
@@ -290,7 +381,15 @@ returns-in-None-behind_joiners-clause-joined g c =
       begun = g.M.Machine.begun c.args.machine.now;
       turned = g.M.Machine.turned c.args.machine.now;
     } in
-    let t : Task = record { ways = w; gs = c.args.glyphs.now; len = c.args.joiners.now.end - c.args.start; stuck = c.args.joiners.now.stuck; watch = c.args.count.now } in
+    let t : Task =
+    record {
+      ways = w;
+      gs = c.args.glyphs.now;
+      len = c.args.joiners.now.end
+          - c.args.start;
+      stuck = c.args.joiners.now.stuck;
+      watch = c.args.count.now;
+    } in
     let ready : Ready t = record {
       nothing = c.start-state.ensures.passes;
       some = c.requires.some;
@@ -298,7 +397,8 @@ returns-in-None-behind_joiners-clause-joined g c =
       calm = subst (λ q. w.waits q ≡ false) c.start-state.ensures.first c.start-state.ensures.waits;
       knows = c.requires.joined;
     } in
-    let leads : Leads w c.loop-n.state (get_or c.args.glyphs.now c.loop-n.n default_glyph).category c.next-state.result = record {
+    let leads : Leads w c.loop-n.state (get_or c.args.glyphs.now c.loop-n.n default_glyph).category c.next-state.result
+    = record {
       step = c.next-state.ensures.ends;
       falls = c.next-state.ensures.falls;
       low = c.next-state.ensures.rank;
@@ -316,11 +416,15 @@ returns-in-None-behind_joiners-clause-joined g c =
       leads = leads;
       alive = c.is_dead.ensures.alive c.if-is_dead.false;
     } in
-    let kinds : (u : List ℕ) → IsKind w.grammar u (w.ends w.first u) = (λ u. subst (λ q. IsKind w.grammar u (w.ends q u)) c.start-state.ensures.first (c.start-state.ensures.kinds u)) in
+    let kinds : (u : List ℕ) → IsKind w.grammar u (w.ends w.first u) =
+    (λ u. subst (λ q. IsKind w.grammar u (w.ends q u)) c.start-state.ensures.first
+    (c.start-state.ensures.kinds u)) in
     let stops = c.in-None-behind_joiners.ensures.stops in
     (subst (λ (j : Joiners). Walked t c.loop-n.span (j.end - c.args.start) j.stuck c.read.new.self) (sym stops.3)
-    (walking_stuck t c.loop-n.n c.loop-n.state c.next-state.result c.next_read-n.result c.loop-n.span (c.loop-n.joiners.end - c.args.start) c.loop-n.joiners.stuck c.loop-n.count c.read.new.self
-    ready kinds c.loop-n.invariant.walking one_more step (sym c.kind.ensures ∙ c.in-None.is) (c.behind_joiners.ensures.stays stops.0) (let le = stops.1 in omega (arith, le)) stops.2)).known
+    (walking_stuck t c.loop-n.n c.loop-n.state c.next-state.result c.next_read-n.result c.loop-n.span
+    (c.loop-n.joiners.end - c.args.start) c.loop-n.joiners.stuck c.loop-n.count c.read.new.self
+    ready kinds c.loop-n.invariant.walking one_more step (sym c.kind.ensures ∙ c.in-None.is)
+    (c.behind_joiners.ensures.stays stops.0) (let le = stops.1 in omega (arith, le)) stops.2)).known
 
 pub returns-in-None-behind_joiners-clause-counted : goal.returns-in-None-behind_joiners-clause-counted
 returns-in-None-behind_joiners-clause-counted g c =
@@ -335,7 +439,15 @@ returns-in-None-behind_joiners-clause-counted g c =
       begun = g.M.Machine.begun c.args.machine.now;
       turned = g.M.Machine.turned c.args.machine.now;
     } in
-    let t : Task = record { ways = w; gs = c.args.glyphs.now; len = c.args.joiners.now.end - c.args.start; stuck = c.args.joiners.now.stuck; watch = c.args.count.now } in
+    let t : Task =
+    record {
+      ways = w;
+      gs = c.args.glyphs.now;
+      len = c.args.joiners.now.end
+          - c.args.start;
+      stuck = c.args.joiners.now.stuck;
+      watch = c.args.count.now;
+    } in
     let ready : Ready t = record {
       nothing = c.start-state.ensures.passes;
       some = c.requires.some;
@@ -343,7 +455,8 @@ returns-in-None-behind_joiners-clause-counted g c =
       calm = subst (λ q. w.waits q ≡ false) c.start-state.ensures.first c.start-state.ensures.waits;
       knows = c.requires.joined;
     } in
-    let leads : Leads w c.loop-n.state (get_or c.args.glyphs.now c.loop-n.n default_glyph).category c.next-state.result = record {
+    let leads : Leads w c.loop-n.state (get_or c.args.glyphs.now c.loop-n.n default_glyph).category c.next-state.result
+    = record {
       step = c.next-state.ensures.ends;
       falls = c.next-state.ensures.falls;
       low = c.next-state.ensures.rank;
@@ -361,11 +474,15 @@ returns-in-None-behind_joiners-clause-counted g c =
       leads = leads;
       alive = c.is_dead.ensures.alive c.if-is_dead.false;
     } in
-    let kinds : (u : List ℕ) → IsKind w.grammar u (w.ends w.first u) = (λ u. subst (λ q. IsKind w.grammar u (w.ends q u)) c.start-state.ensures.first (c.start-state.ensures.kinds u)) in
+    let kinds : (u : List ℕ) → IsKind w.grammar u (w.ends w.first u) =
+    (λ u. subst (λ q. IsKind w.grammar u (w.ends q u)) c.start-state.ensures.first
+    (c.start-state.ensures.kinds u)) in
     let stops = c.in-None-behind_joiners.ensures.stops in
     (subst (λ (j : Joiners). Walked t c.loop-n.span (j.end - c.args.start) j.stuck c.read.new.self) (sym stops.3)
-    (walking_stuck t c.loop-n.n c.loop-n.state c.next-state.result c.next_read-n.result c.loop-n.span (c.loop-n.joiners.end - c.args.start) c.loop-n.joiners.stuck c.loop-n.count c.read.new.self
-    ready kinds c.loop-n.invariant.walking one_more step (sym c.kind.ensures ∙ c.in-None.is) (c.behind_joiners.ensures.stays stops.0) (let le = stops.1 in omega (arith, le)) stops.2)).counted
+    (walking_stuck t c.loop-n.n c.loop-n.state c.next-state.result c.next_read-n.result c.loop-n.span
+    (c.loop-n.joiners.end - c.args.start) c.loop-n.joiners.stuck c.loop-n.count c.read.new.self
+    ready kinds c.loop-n.invariant.walking one_more step (sym c.kind.ensures ∙ c.in-None.is)
+    (c.behind_joiners.ensures.stays stops.0) (let le = stops.1 in omega (arith, le)) stops.2)).counted
 
 pub returns-clause-opens : goal.returns-clause-opens
 returns-clause-opens g c =
@@ -380,7 +497,15 @@ returns-clause-opens g c =
       begun = g.M.Machine.begun c.args.machine.now;
       turned = g.M.Machine.turned c.args.machine.now;
     } in
-    let t : Task = record { ways = w; gs = c.args.glyphs.now; len = c.args.joiners.now.end - c.args.start; stuck = c.args.joiners.now.stuck; watch = c.args.count.now } in
+    let t : Task =
+    record {
+      ways = w;
+      gs = c.args.glyphs.now;
+      len = c.args.joiners.now.end
+          - c.args.start;
+      stuck = c.args.joiners.now.stuck;
+      watch = c.args.count.now;
+    } in
     let ready : Ready t = record {
       nothing = c.start-state.ensures.passes;
       some = c.requires.some;
@@ -388,8 +513,11 @@ returns-clause-opens g c =
       calm = subst (λ q. w.waits q ≡ false) c.start-state.ensures.first c.start-state.ensures.waits;
       knows = c.requires.joined;
     } in
-    let kinds : (u : List ℕ) → IsKind w.grammar u (w.ends w.first u) = (λ u. subst (λ q. IsKind w.grammar u (w.ends q u)) c.start-state.ensures.first (c.start-state.ensures.kinds u)) in
-    (walking_all t c.loop-n.n c.loop-n.state c.loop-n.span (c.loop-n.joiners.end - c.args.start) c.loop-n.joiners.stuck c.loop-n.count
+    let kinds : (u : List ℕ) → IsKind w.grammar u (w.ends w.first u) =
+    (λ u. subst (λ q. IsKind w.grammar u (w.ends q u)) c.start-state.ensures.first
+    (c.start-state.ensures.kinds u)) in
+    (walking_all t c.loop-n.n c.loop-n.state c.loop-n.span (c.loop-n.joiners.end - c.args.start) c.loop-n.joiners.stuck
+    c.loop-n.count
     ready kinds c.loop-n.invariant.walking c.loop-n-test.false).opens
 
 pub returns-clause-joined : goal.returns-clause-joined
@@ -405,7 +533,15 @@ returns-clause-joined g c =
       begun = g.M.Machine.begun c.args.machine.now;
       turned = g.M.Machine.turned c.args.machine.now;
     } in
-    let t : Task = record { ways = w; gs = c.args.glyphs.now; len = c.args.joiners.now.end - c.args.start; stuck = c.args.joiners.now.stuck; watch = c.args.count.now } in
+    let t : Task =
+    record {
+      ways = w;
+      gs = c.args.glyphs.now;
+      len = c.args.joiners.now.end
+          - c.args.start;
+      stuck = c.args.joiners.now.stuck;
+      watch = c.args.count.now;
+    } in
     let ready : Ready t = record {
       nothing = c.start-state.ensures.passes;
       some = c.requires.some;
@@ -413,8 +549,11 @@ returns-clause-joined g c =
       calm = subst (λ q. w.waits q ≡ false) c.start-state.ensures.first c.start-state.ensures.waits;
       knows = c.requires.joined;
     } in
-    let kinds : (u : List ℕ) → IsKind w.grammar u (w.ends w.first u) = (λ u. subst (λ q. IsKind w.grammar u (w.ends q u)) c.start-state.ensures.first (c.start-state.ensures.kinds u)) in
-    (walking_all t c.loop-n.n c.loop-n.state c.loop-n.span (c.loop-n.joiners.end - c.args.start) c.loop-n.joiners.stuck c.loop-n.count
+    let kinds : (u : List ℕ) → IsKind w.grammar u (w.ends w.first u) =
+    (λ u. subst (λ q. IsKind w.grammar u (w.ends q u)) c.start-state.ensures.first
+    (c.start-state.ensures.kinds u)) in
+    (walking_all t c.loop-n.n c.loop-n.state c.loop-n.span (c.loop-n.joiners.end - c.args.start) c.loop-n.joiners.stuck
+    c.loop-n.count
     ready kinds c.loop-n.invariant.walking c.loop-n-test.false).known
 
 pub returns-clause-counted : goal.returns-clause-counted
@@ -430,7 +569,15 @@ returns-clause-counted g c =
       begun = g.M.Machine.begun c.args.machine.now;
       turned = g.M.Machine.turned c.args.machine.now;
     } in
-    let t : Task = record { ways = w; gs = c.args.glyphs.now; len = c.args.joiners.now.end - c.args.start; stuck = c.args.joiners.now.stuck; watch = c.args.count.now } in
+    let t : Task =
+    record {
+      ways = w;
+      gs = c.args.glyphs.now;
+      len = c.args.joiners.now.end
+          - c.args.start;
+      stuck = c.args.joiners.now.stuck;
+      watch = c.args.count.now;
+    } in
     let ready : Ready t = record {
       nothing = c.start-state.ensures.passes;
       some = c.requires.some;
@@ -438,9 +585,13 @@ returns-clause-counted g c =
       calm = subst (λ q. w.waits q ≡ false) c.start-state.ensures.first c.start-state.ensures.waits;
       knows = c.requires.joined;
     } in
-    let kinds : (u : List ℕ) → IsKind w.grammar u (w.ends w.first u) = (λ u. subst (λ q. IsKind w.grammar u (w.ends q u)) c.start-state.ensures.first (c.start-state.ensures.kinds u)) in
-    (walking_all t c.loop-n.n c.loop-n.state c.loop-n.span (c.loop-n.joiners.end - c.args.start) c.loop-n.joiners.stuck c.loop-n.count
+    let kinds : (u : List ℕ) → IsKind w.grammar u (w.ends w.first u) =
+    (λ u. subst (λ q. IsKind w.grammar u (w.ends q u)) c.start-state.ensures.first
+    (c.start-state.ensures.kinds u)) in
+    (walking_all t c.loop-n.n c.loop-n.state c.loop-n.span (c.loop-n.joiners.end - c.args.start) c.loop-n.joiners.stuck
+    c.loop-n.count
     ready kinds c.loop-n.invariant.walking c.loop-n-test.false).counted
 
 pub returns-clause-within : goal.returns-clause-within
-returns-clause-within g c = opens_within (g.M.Machine.grammar c.args.machine.now) c.args.glyphs.now c.loop-n.span (returns-clause-opens g c)
+returns-clause-within g c =
+    opens_within (g.M.Machine.grammar c.args.machine.now) c.args.glyphs.now c.loop-n.span (returns-clause-opens g c)

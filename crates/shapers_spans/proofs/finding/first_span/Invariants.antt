@@ -15,7 +15,14 @@ invariant-loop-n g l =
       begun = g.M.Machine.begun l.machine;
       turned = g.M.Machine.turned l.machine;
     } in
-    let t : Task = record { ways = w; gs = l.glyphs; len = l.initial.joiners.end - l.start; stuck = l.initial.joiners.stuck; watch = l.initial.count } in
+    let t : Task =
+    record {
+      ways = w;
+      gs = l.glyphs;
+      len = l.initial.joiners.end - l.start;
+      stuck = l.initial.joiners.stuck;
+      watch = l.initial.count;
+    } in
     record {
       state : g.M.Machine.is_state l.machine l.state;
       walking : Walking t l.n l.state l.span (l.joiners.end - l.start) l.joiners.stuck l.count;

@@ -9,5 +9,6 @@ pub loop-place-preserved : goal.loop-place-preserved
 loop-place-preserved c =
     let gs = c.args.glyphs.now in
     let b : c.opens_passed.result ≡ true = search (rules, c.if-not-opens_passed.false) in
-    let h : opens_passed (drop c.loop-place.place gs) ≡ true = ap opens_passed (sym (take_rest gs c.loop-place.place)) ∙ sym c.opens_passed.ensures ∙ b in
+    let h : opens_passed (drop c.loop-place.place gs) ≡ true = ap opens_passed (sym (take_rest gs c.loop-place.place))
+    ∙ sym c.opens_passed.ensures ∙ b in
     c.loop-place.invariant ∙ reach-step opens_passed gs default_glyph c.loop-place.place c.loop-place-test.true h

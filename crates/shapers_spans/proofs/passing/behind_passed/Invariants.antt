@@ -4,4 +4,5 @@ use Rattle.shapers_spans.specs.Passing.{opens_passed}
 use Rattle.shapers_spans.proofs.passing.behind_passed.Given as goal
 
 abbrev pub invariant-loop-place : goal.invariant-loop-place
-invariant-loop-place l = l.n + reach_of opens_passed (drop l.n l.glyphs) 0 ≡ l.place + reach_of opens_passed (drop l.place l.glyphs) 0
+invariant-loop-place l = l.n + reach_of opens_passed (drop l.n l.glyphs) 0
+    ≡ l.place + reach_of opens_passed (drop l.place l.glyphs) 0

@@ -10,13 +10,21 @@ use Rattle.shapers_spans.proofs.spans.spans_into_counted.Goals as goal
 pub loop-start-init : goal.loop-start-init
 loop-start-init g c =
     let grammar = g.M.Machine.grammar c.args.machine.now in
-    let f = found_start (g.M.Machine.grammar c.args.machine.now) c.args.glyphs.now c.next_read-start.result c.push_lead.new.spans.items c.next_read-start.ensures.end
-    (let h = c.other.ensures.fits in let e = c.other.ensures.kind in omega (arith, h, e)) (let e = c.next_read-start.ensures.place in omega (arith, e))
-    (let e : c.push_lead.new.spans.items ≡ _ = c.in_ok-push_lead.ensures.ok in e ∙ ap (λ k. lead_spans c.next_read-start.result k) c.other.ensures.kind) in
+    let f = found_start (g.M.Machine.grammar c.args.machine.now) c.args.glyphs.now c.next_read-start.result
+    c.push_lead.new.spans.items c.next_read-start.ensures.end
+    (let h = c.other.ensures.fits in let e = c.other.ensures.kind in omega (arith, h, e))
+    (let e = c.next_read-start.ensures.place in omega (arith, e))
+    (let e : c.push_lead.new.spans.items ≡ _ = c.in_ok-push_lead.ensures.ok in e
+    ∙ ap (λ k. lead_spans c.next_read-start.result k) c.other.ensures.kind) in
     record {
       found = f;
-      joined = knows_none grammar.passes (g.M.Machine.is_joiner c.args.machine.now) (g.M.Machine.ends c.args.machine.now) (drop c.next_read-start.result c.args.glyphs.now) (c.none-joiners.result.end - c.next_read-start.result) c.none-joiners.result.stuck f.read (let e = c.none-joiners.ensures in omega (arith, e));
-      counted = watched_none grammar.passes (g.M.Machine.turned c.args.machine.now) (drop c.next_read-start.result c.args.glyphs.now) (c.none-joiners.result.end - c.next_read-start.result) c.none-joiners.result.stuck c.pass.new.self.reads c.pass.new.self refl;
+      joined = knows_none grammar.passes (g.M.Machine.is_joiner c.args.machine.now)
+          (g.M.Machine.ends c.args.machine.now) (drop c.next_read-start.result c.args.glyphs.now)
+          (c.none-joiners.result.end - c.next_read-start.result) c.none-joiners.result.stuck f.read
+          (let e = c.none-joiners.ensures in omega (arith, e));
+      counted = watched_none grammar.passes (g.M.Machine.turned c.args.machine.now)
+          (drop c.next_read-start.result c.args.glyphs.now) (c.none-joiners.result.end - c.next_read-start.result)
+          c.none-joiners.result.stuck c.pass.new.self.reads c.pass.new.self refl;
     }
 
 pub loop-start-preserved : goal.loop-start-preserved
@@ -40,18 +48,26 @@ loop-start-preserved g c =
       found = found_next grammar gs start span c.loop-start.spans.items c.push.new.self.items i.found
           (sliced (λ xs. OpensWith grammar xs span) gs start x.opens) x.some
           (sliced (λ (xs : List hb_glyph_info_t). span.len ≤ length xs) gs start x.within) x.kind
-          (sliced (λ (xs : List hb_glyph_info_t). grammar.passes (drop span.len xs) ≡ false) gs start x.read) (search rules);
+          (sliced (λ (xs : List hb_glyph_info_t). grammar.passes (drop span.len xs) ≡ false) gs start x.read)
+          (search rules);
       joined = subst (λ n. KnowsJoiners grammar.passes joins ends (drop (start + span.len) gs) n new.stuck) less
           (subst (λ xs. KnowsJoiners grammar.passes joins ends xs (new.end - start - span.len) new.stuck) on
-          (sliced (λ (xs : List hb_glyph_info_t). KnowsJoiners grammar.passes joins ends (drop span.len xs) (new.end - start - span.len) new.stuck) gs start x.joined));
-      counted = subst (λ (w : Watch). IsWatched grammar.passes turned (drop (start + span.len) gs) (new.end - (start + span.len)) new.stuck before w) (sym c.pass-in-loop-start.ensures)
+          (sliced (λ (xs : List hb_glyph_info_t). KnowsJoiners grammar.passes joins ends (drop span.len xs)
+          (new.end - start - span.len) new.stuck) gs start x.joined));
+      counted = subst (λ (w : Watch). IsWatched grammar.passes turned (drop (start + span.len) gs)
+          (new.end - (start + span.len)) new.stuck before w) (sym c.pass-in-loop-start.ensures)
           (subst (λ n. IsWatched grammar.passes turned (drop (start + span.len) gs) n new.stuck before left) less
           (subst (λ xs. IsWatched grammar.passes turned xs (new.end - start - span.len) new.stuck before left) on
-          (sliced (λ (xs : List hb_glyph_info_t). IsWatched grammar.passes turned xs (old.end - start) old.stuck before c.loop-start.count → IsWatched grammar.passes turned (drop span.len xs) (new.end - start - span.len) new.stuck before left) gs start (x.counted before) i.counted)));
+          (sliced (λ (xs : List hb_glyph_info_t). IsWatched grammar.passes turned xs (old.end - start) old.stuck before
+          c.loop-start.count
+          → IsWatched grammar.passes turned (drop span.len xs) (new.end - start - span.len) new.stuck before left)
+          gs start (x.counted before) i.counted)));
     }
 
 pub returns-clause-spans : goal.returns-clause-spans
-returns-clause-spans g c = found_all (g.M.Machine.grammar c.args.machine.now) c.args.glyphs.now c.loop-start.start c.loop-start.spans.items c.loop-start.invariant.found c.loop-start-test.false
+returns-clause-spans g c =
+    found_all (g.M.Machine.grammar c.args.machine.now) c.args.glyphs.now c.loop-start.start c.loop-start.spans.items
+    c.loop-start.invariant.found c.loop-start-test.false
 
 pub returns-clause-counted : goal.returns-clause-counted
 returns-clause-counted g c =

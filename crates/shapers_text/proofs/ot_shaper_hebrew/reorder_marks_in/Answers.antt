@@ -10,7 +10,8 @@ returns-clause-step c =
     let i = c.in-Some.i in
     let found : Some i ≡ second_of_triple c.args.start c.args.end gs = c.in-Some.ensures.first in
     let inside : i + 1 < length gs = omega (arith, c.in-Some.ensures.within) in
-    c.merge_and_swap.ensures ∙ sym (run-swap_step c.args.level gs i inside) ∙ mark_step_is c.args.level c.args.start c.args.end gs (Some i) found
+    c.merge_and_swap.ensures ∙ sym (run-swap_step c.args.level gs i inside)
+    ∙ mark_step_is c.args.level c.args.start c.args.end gs (Some i) found
 
 pub returns-in_default-clause-step : goal.returns-in_default-clause-step
 returns-in_default-clause-step c =

@@ -11,7 +11,9 @@ use Rattle.shapers_text.proofs.ot_shaper_thai.preprocess_text.Goals as goal
 pub returns-then-wants_forms-clause-clusters : goal.returns-then-wants_forms-clause-clusters
 returns-then-wants_forms-clause-clusters g c =
     let b = c.args.buffer.now in
-    shaped_in_two (has_nominal (g.F.hb_font_t.font c.args.face.now)) b.level b.glyphs _ _ (ap (λ (x : Buffer). x.glyphs) c.in_ok-rewrite_sara_am.ensures.ok) (ap (λ (x : Buffer). x.glyphs) c.do_pua_shaping.ensures)
+    shaped_in_two (has_nominal (g.F.hb_font_t.font c.args.face.now)) b.level b.glyphs _ _
+    (ap (λ (x : Buffer). x.glyphs) c.in_ok-rewrite_sara_am.ensures.ok)
+    (ap (λ (x : Buffer). x.glyphs) c.do_pua_shaping.ensures)
 
 pub returns-else-wants_forms-clause-clusters : goal.returns-else-wants_forms-clause-clusters
 returns-else-wants_forms-clause-clusters g c =
@@ -21,17 +23,23 @@ returns-else-wants_forms-clause-clusters g c =
 pub returns-then-wants_forms-clause-kept : goal.returns-then-wants_forms-clause-kept
 returns-then-wants_forms-clause-kept g c =
     let b = c.args.buffer.now in
-    shaped_kept (asks_for_forms c.args.plan.now) c.if-wants_forms.ensures (has_nominal (g.F.hb_font_t.font c.args.face.now)) b.level b.glyphs _ _ (ap (λ (x : Buffer). x.glyphs) c.in_ok-rewrite_sara_am.ensures.ok) (ap (λ (x : Buffer). x.glyphs) c.do_pua_shaping.ensures)
+    shaped_kept (asks_for_forms c.args.plan.now) c.if-wants_forms.ensures
+    (has_nominal (g.F.hb_font_t.font c.args.face.now)) b.level b.glyphs _ _
+    (ap (λ (x : Buffer). x.glyphs) c.in_ok-rewrite_sara_am.ensures.ok)
+    (ap (λ (x : Buffer). x.glyphs) c.do_pua_shaping.ensures)
 
 pub returns-else-wants_forms-clause-kept : goal.returns-else-wants_forms-clause-kept
 returns-else-wants_forms-clause-kept g c =
     let b = c.args.buffer.now in
-    plain_kept (asks_for_forms c.args.plan.now) c.if-wants_forms.ensures b.level b.glyphs _ (ap (λ (x : Buffer). x.glyphs) c.in_ok-rewrite_sara_am.ensures.ok)
+    plain_kept (asks_for_forms c.args.plan.now) c.if-wants_forms.ensures b.level b.glyphs _
+    (ap (λ (x : Buffer). x.glyphs) c.in_ok-rewrite_sara_am.ensures.ok)
 
 pub returns-then-wants_forms-clause-flags : goal.returns-then-wants_forms-clause-flags
 returns-then-wants_forms-clause-flags g c =
     let b = c.args.buffer.now in
-    shaped_flags (has_nominal (g.F.hb_font_t.font c.args.face.now)) b.level b.glyphs _ _ (ap (λ (x : Buffer). x.glyphs) c.in_ok-rewrite_sara_am.ensures.ok) (ap (λ (x : Buffer). x.glyphs) c.do_pua_shaping.ensures)
+    shaped_flags (has_nominal (g.F.hb_font_t.font c.args.face.now)) b.level b.glyphs _ _
+    (ap (λ (x : Buffer). x.glyphs) c.in_ok-rewrite_sara_am.ensures.ok)
+    (ap (λ (x : Buffer). x.glyphs) c.do_pua_shaping.ensures)
 
 pub returns-else-wants_forms-clause-flags : goal.returns-else-wants_forms-clause-flags
 returns-else-wants_forms-clause-flags g c =

@@ -9,7 +9,8 @@ number_of-number-requires c = (lit< tt, IsTable-COMPOSITION)
 
 pub string_of-requires : goal.string_of-requires
 string_of-requires c =
-    subst (HasGroup COMPOSITION_OFFSETS COMPOSITION_CHARS) (sym c.number_of-number.ensures) (groups-COMPOSITION.has c.args.c (omega arith))
+    subst (HasGroup COMPOSITION_OFFSETS COMPOSITION_CHARS) (sym c.number_of-number.ensures)
+    (groups-COMPOSITION.has c.args.c (omega arith))
 
 pub returns : goal.returns
 returns c =

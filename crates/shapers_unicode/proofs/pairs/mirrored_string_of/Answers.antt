@@ -9,7 +9,8 @@ number_of-number-requires c = (lit< tt, IsTable-MIRRORED)
 
 pub string_of-requires : goal.string_of-requires
 string_of-requires c =
-    subst (HasGroup MIRRORED_OFFSETS MIRRORED_CHARS) (sym c.number_of-number.ensures) (groups-MIRRORED.has c.args.c (omega arith))
+    subst (HasGroup MIRRORED_OFFSETS MIRRORED_CHARS) (sym c.number_of-number.ensures)
+    (groups-MIRRORED.has c.args.c (omega arith))
 
 pub returns : goal.returns
 returns c =

@@ -9,4 +9,5 @@ value_of-requires c = (lit< tt, IsTable-IGNORABLE)
 
 pub returns : goal.returns
 returns c =
-    ap (λ n. n == 1) (c.value_of.ensures ∙ table_value-IGNORABLE c.args.c (omega arith)) ∙ is_one (default_ignorable c.args.c)
+    ap (λ n. n == 1) (c.value_of.ensures ∙ table_value-IGNORABLE c.args.c (omega arith))
+    ∙ is_one (default_ignorable c.args.c)

@@ -9,4 +9,5 @@ value_of-requires c = (lit< tt, IsTable-PICTOGRAPHIC)
 
 pub returns : goal.returns
 returns c =
-    ap (λ n. n == 1) (c.value_of.ensures ∙ table_value-PICTOGRAPHIC c.args.c (omega arith)) ∙ is_one (extended_pictographic c.args.c)
+    ap (λ n. n == 1) (c.value_of.ensures ∙ table_value-PICTOGRAPHIC c.args.c (omega arith))
+    ∙ is_one (extended_pictographic c.args.c)

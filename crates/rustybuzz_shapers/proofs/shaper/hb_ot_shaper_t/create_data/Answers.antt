@@ -12,4 +12,6 @@ pub returns-in-Khmer-clause-off_flags : goal.returns-in-Khmer-clause-off_flags
 returns-in-Khmer-clause-off_flags c =
     let P : ℕ → Type 0 = λ mask. mask % 8 ≡ 0 in
     let is = c.create_data-in-Khmer.ensures.masks in
-    subst MasksOffFlags (sym is) (recursion_from_All P (khmer_masks c.args.plan.now.ot_map) (subst (λ (kept : PlanData). All P (masks_kept kept)) is c.create_data-in-Khmer.ensures.off_flags))
+    subst MasksOffFlags (sym is)
+    (recursion_from_All P (khmer_masks c.args.plan.now.ot_map)
+    (subst (λ (kept : PlanData). All P (masks_kept kept)) is c.create_data-in-Khmer.ensures.off_flags))

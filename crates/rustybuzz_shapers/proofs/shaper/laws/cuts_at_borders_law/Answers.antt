@@ -14,4 +14,6 @@ pub returns-clause-initial : goal.returns-clause-initial
 returns-clause-initial c = indic_is_cut c.initial_cuts_between_spans.ensures
 
 pub returns-clause-both : goal.returns-clause-both
-returns-clause-both c = indic_is_cut_after_both c.initial_reorder_laws.ensures.by_font c.order_by_font_reads_no_serials.ensures c.final_cuts_between_spans.ensures
+returns-clause-both c =
+    indic_is_cut_after_both c.initial_reorder_laws.ensures.by_font c.order_by_font_reads_no_serials.ensures
+    c.final_cuts_between_spans.ensures

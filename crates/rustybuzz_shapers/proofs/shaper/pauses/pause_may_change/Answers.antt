@@ -7,4 +7,5 @@ use Rattle.rustybuzz_shapers.proofs.shaper.pauses.pause_may_change.Goals as goal
 
 pub returns-in-RecordRphf-clause-stays : goal.returns-in-RecordRphf-clause-stays
 returns-in-RecordRphf-clause-stays c none =
-    stays c.args.pause c.args.plan.now (ap (λ (p : Pause). may_change p c.args.plan.now) c.in-RecordRphf.is ∙ sym c.has_rphf_mask.ensures ∙ none)
+    stays c.args.pause c.args.plan.now (ap (λ (p : Pause). may_change p c.args.plan.now) c.in-RecordRphf.is
+    ∙ sym c.has_rphf_mask.ensures ∙ none)

@@ -22,20 +22,24 @@ loop-i-preserved c =
       | then-form-ne-NONE w ↦
           let f = (get_or gs l.i default_glyph).auxiliary in
           record {
-            forms = ap (map (λ (g : hb_glyph_info_t). g.auxiliary)) w.glyphs-is ∙ form-keeps l.last f (l.i + 1) gs w.flag_form.new.glyphs more w.flag_form.ensures ∙ l.invariant.forms;
+            forms = ap (map (λ (g : hb_glyph_info_t). g.auxiliary)) w.glyphs-is
+                ∙ form-keeps l.last f (l.i + 1) gs w.flag_form.new.glyphs more w.flag_form.ensures ∙ l.invariant.forms;
             rest = λ concat tatweel.
                 ap (λ last. flags_called concat tatweel (form_calls_along last (l.i + 1) left) hs) w.last-is
                 ∙ ap (flags_called concat tatweel (form_calls_along (Some l.i) (l.i + 1) left)) w.glyphs-is
-                ∙ forms-some concat tatweel l.last l.i f first gs w.flag_form.new.glyphs h l.invariant.forms refl w.if-form-ne-NONE.true w.flag_form.ensures
+                ∙ forms-some concat tatweel l.last l.i f first gs w.flag_form.new.glyphs h l.invariant.forms refl
+                w.if-form-ne-NONE.true w.flag_form.ensures
                 ∙ l.invariant.rest concat tatweel;
-            within = subst (λ last. IsWithin last (l.i + 1)) (sym w.last-is) (let low : l.i < l.i + 1 = omega arith in low);
+            within = subst (λ last. IsWithin last (l.i + 1)) (sym w.last-is)
+                (let low : l.i < l.i + 1 = omega arith in low);
           }
       | else-form-ne-NONE w ↦ record {
         forms = ap (map (λ (g : hb_glyph_info_t). g.auxiliary)) w.glyphs-is ∙ l.invariant.forms;
         rest = λ concat tatweel.
             ap (λ last. flags_called concat tatweel (form_calls_along last (l.i + 1) left) hs) w.last-is
             ∙ ap (flags_called concat tatweel (form_calls_along l.last (l.i + 1) left)) w.glyphs-is
-            ∙ ap (λ calls. flags_called concat tatweel calls gs) (forms-none l.last l.i first gs h l.invariant.forms w.if-form-ne-NONE.false)
+            ∙ ap (λ calls. flags_called concat tatweel calls gs)
+            (forms-none l.last l.i first gs h l.invariant.forms w.if-form-ne-NONE.false)
             ∙ l.invariant.rest concat tatweel;
         within = subst (λ last. IsWithin last (l.i + 1)) (sym w.last-is) more;
       }

@@ -7,6 +7,8 @@ use Rattle.shapers_arabic.proofs.ot_shaper_arabic.breaks.flag_forms.Given as goa
 abbrev pub invariant-loop-i : goal.invariant-loop-i
 invariant-loop-i l = record {
   forms : written l.glyphs ≡ written l.initial.glyphs;
-  rest : (concat tatweel : Bool) → flags_called concat tatweel (form_calls_along l.last l.i (drop l.i (written l.initial.glyphs))) l.glyphs ≡ flags_called concat tatweel (form_calls_along None 0 (written l.initial.glyphs)) l.initial.glyphs;
+  rest : (concat tatweel : Bool)
+      → flags_called concat tatweel (form_calls_along l.last l.i (drop l.i (written l.initial.glyphs))) l.glyphs
+      ≡ flags_called concat tatweel (form_calls_along None 0 (written l.initial.glyphs)) l.initial.glyphs;
   within : IsWithin l.last l.i;
 }

@@ -18,12 +18,16 @@ loop-i-preserved c =
     let h : l.i < length gs = omega (arith, l.auto.glyphs, c.loop-i-test.true) in
     elim c.if-form-glyphs.branch [
       | then-form-glyphs w ↦
-          let called : Called (copied_call l.i form own) gs w.unsafe_to_break_in.new.glyphs = call-made l.i form own gs w.unsafe_to_break_in.new.glyphs w.if-form-glyphs.true (λ concat tatweel. w.unsafe_to_break_in.ensures) in
+          let called : Called (copied_call l.i form own) gs w.unsafe_to_break_in.new.glyphs =
+          call-made l.i form own gs w.unsafe_to_break_in.new.glyphs w.if-form-glyphs.true
+          (λ concat tatweel. w.unsafe_to_break_in.ensures) in
           record {
-            places = ap (map place_of) w.glyphs-is ∙ copied-keeps l.i form own gs w.unsafe_to_break_in.new.glyphs called ∙ l.invariant.places;
+            places = ap (map place_of) w.glyphs-is ∙ copied-keeps l.i form own gs w.unsafe_to_break_in.new.glyphs called
+                ∙ l.invariant.places;
             rest = λ concat tatweel.
                 ap (flags_called concat tatweel (copied_calls (Some form) (l.i + 1) left)) w.glyphs-is
-                ∙ copied-left concat tatweel l.previous l.i form first gs w.unsafe_to_break_in.new.glyphs h l.invariant.places c.form_behind-form.ensures called
+                ∙ copied-left concat tatweel l.previous l.i form first gs w.unsafe_to_break_in.new.glyphs h
+                l.invariant.places c.form_behind-form.ensures called
                 ∙ l.invariant.rest concat tatweel;
             first = λ none. absurd (omega arith);
           }
@@ -33,7 +37,8 @@ loop-i-preserved c =
             places = ap (map place_of) w.glyphs-is ∙ l.invariant.places;
             rest = λ concat tatweel.
                 ap (flags_called concat tatweel (copied_calls (Some form) (l.i + 1) left)) w.glyphs-is
-                ∙ copied-left concat tatweel l.previous l.i form first gs gs h l.invariant.places c.form_behind-form.ensures called
+                ∙ copied-left concat tatweel l.previous l.i form first gs gs h l.invariant.places
+                c.form_behind-form.ensures called
                 ∙ l.invariant.rest concat tatweel;
             first = λ none. absurd (omega arith);
           }

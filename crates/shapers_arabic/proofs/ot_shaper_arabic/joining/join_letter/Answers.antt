@@ -12,5 +12,7 @@ pub set_form-requires : goal.set_form-requires
 set_form-requires c =
     let old = c.args.glyphs.now in
     let mid = c.give_last.new.glyphs in
-    let long : length mid ≡ length old = sym (length-map mid (λ g. g.auxiliary)) ∙ ap length c.give_last.ensures.forms ∙ length-given c.args.letters.now.last c.transition_of.result.now.0 (map (λ g. g.auxiliary) old) ∙ length-map old (λ g. g.auxiliary) in
+    let long : length mid ≡ length old = sym (length-map mid (λ g. g.auxiliary)) ∙ ap length c.give_last.ensures.forms
+    ∙ length-given c.args.letters.now.last c.transition_of.result.now.0 (map (λ g. g.auxiliary) old)
+    ∙ length-map old (λ g. g.auxiliary) in
     omega (arith, long)

@@ -14,7 +14,10 @@ loop-i-init g c =
     record {
       text = refl;
       walked = λ before e. record {
-        walked = walk-start before (stored_types (g.T.Tables.tables c.args.tables.now).joining gs) c.args.state (map (λ g2. g2.auxiliary) gs) e (length-map gs (λ g2. g2.auxiliary) ∙ sym (length-map gs (λ g2. resolved ((g.T.Tables.tables c.args.tables.now).joining g2.glyph_id) g2.general_category)));
+        walked = walk-start before (stored_types (g.T.Tables.tables c.args.tables.now).joining gs) c.args.state
+            (map (λ g2. g2.auxiliary) gs) e (length-map gs (λ g2. g2.auxiliary)
+            ∙ sym (length-map gs (λ g2. resolved ((g.T.Tables.tables c.args.tables.now).joining g2.glyph_id)
+            g2.general_category)));
         flagged = refl;
       };
       counted = omega arith;
@@ -33,7 +36,14 @@ loop-i-preserved g c =
     let joining = (g.T.Tables.tables c.args.tables.now).joining in
     record {
       text = c.join_place.ensures.text ∙ l.invariant.text;
-      walked = λ before e. c.join_place.ensures.walked before (stored_types joining gs) gs (omega (arith, length-map gs (λ g2. resolved (joining g2.glyph_id) g2.general_category), length-same_text gs l.glyphs l.invariant.text)) (type-at joining gs l.glyphs l.i default_glyph (omega arith) l.invariant.text ∙ sym c.stored_type-joining_type.ensures.type_is) (l.invariant.walked before e);
+      walked = λ before e. c.join_place.ensures.walked before (stored_types joining gs) gs
+          (omega (
+            arith,
+            length-map gs (λ g2. resolved (joining g2.glyph_id) g2.general_category),
+            length-same_text gs
+                l.glyphs l.invariant.text,
+          )) (type-at joining gs l.glyphs l.i default_glyph (omega arith) l.invariant.text
+          ∙ sym c.stored_type-joining_type.ensures.type_is) (l.invariant.walked before e);
       counted = omega arith;
       within = c.join_place.ensures.within;
     }

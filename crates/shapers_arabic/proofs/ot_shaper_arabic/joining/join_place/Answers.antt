@@ -8,7 +8,8 @@ use Rattle.shapers_arabic.proofs.JoiningWalk.{walk-transparent, walk-letter, wal
 use Rattle.shapers_arabic.proofs.ot_shaper_arabic.joining.join_place.Goals as goal
 
 pub returns-in-T-clause-text : goal.returns-in-T-clause-text
-returns-in-T-clause-text c = same-text c.args.flags [] c.args.glyphs.now c.set_form.new.glyphs tt c.set_form.ensures.others
+returns-in-T-clause-text c = same-text c.args.flags
+    [] c.args.glyphs.now c.set_form.new.glyphs tt c.set_form.ensures.others
 
 pub returns-in-T-clause-walked : goal.returns-in-T-clause-walked
 returns-in-T-clause-walked c = λ before types first h at w.
@@ -18,8 +19,11 @@ returns-in-T-clause-walked c = λ before types first h at w.
     let fs = map (λ g. g.auxiliary) gs in
     let is = ap is_transparent c.in-T.is in
     record {
-      walked = walked-at before types (c.args.i + 1) letters.state letters.state letters.last letters.last _ _ (walk-transparent before types c.args.i letters.state letters.last fs c.args.joining_type h at is w.walked) refl refl c.set_form.ensures.forms;
-      flagged = flagged-transparent c.args.flags before types first gs hs c.args.i c.args.joining_type h at is w.flagged c.set_form.ensures.others;
+      walked = walked-at before types (c.args.i + 1) letters.state letters.state letters.last letters.last _ _
+          (walk-transparent before types c.args.i letters.state letters.last fs c.args.joining_type h at is w.walked)
+          refl refl c.set_form.ensures.forms;
+      flagged = flagged-transparent c.args.flags before types first gs hs c.args.i c.args.joining_type h at is w.flagged
+          c.set_form.ensures.others;
     }
 
 pub returns-in_default : goal.returns-in_default
@@ -34,10 +38,16 @@ returns-in_default c =
     let letter : is_transparent t ≡ false = not-transparent c.args.joining_type c.in_default.not-T in
     let calls = step_flags letters.last letters.state (i + 1) (cell letters.state t).0 (joins_back (Some t)) in
     record {
-      text = same-text c.args.flags calls gs hs (step-in_order letters.last letters.state (i + 1) (cell letters.state t).0 (joins_back (Some t)) (within-more letters.last i c.requires.within)) c.join_letter.ensures.flagged;
+      text = same-text c.args.flags calls gs hs
+          (step-in_order letters.last letters.state (i + 1) (cell letters.state t).0 (joins_back (Some t))
+          (within-more letters.last i c.requires.within)) c.join_letter.ensures.flagged;
       walked = λ before types first h at w. record {
-        walked = walked-at before types (i + 1) (cell letters.state t).2 new.state (Some i) new.last _ _ (walk-letter before types i letters.state letters.last fs t h at letter w.walked) c.join_letter.ensures.state c.join_letter.ensures.last c.join_letter.ensures.forms;
-        flagged = flagged-letter c.args.flags before types first gs hs i letters.state letters.last t h at letter w.walked.last_is w.flagged c.join_letter.ensures.flagged;
+        walked = walked-at before types (i + 1) (cell letters.state t).2 new.state (Some i) new.last _ _
+            (walk-letter before types i letters.state letters.last fs t h at letter w.walked)
+            c.join_letter.ensures.state c.join_letter.ensures.last c.join_letter.ensures.forms;
+        flagged = flagged-letter c.args.flags before types first gs hs i letters.state letters.last t h at letter
+            w.walked.last_is w.flagged c.join_letter.ensures.flagged;
       };
-      within = subst (λ last. IsWithin last (i + 1)) (sym c.join_letter.ensures.last) (let low : i < i + 1 = omega arith in low);
+      within = subst (λ last. IsWithin last (i + 1)) (sym c.join_letter.ensures.last)
+          (let low : i < i + 1 = omega arith in low);
     }

@@ -8,4 +8,7 @@ pub returns : goal.returns
 returns c =
     let p = c.args.parts in
     let marks = c.args.marks.now in
-    two_moves (split_marks marks) marks c.bring_last.new.marks c.bring_last-2.new.marks p.low p.modifiers_below p.middle p.modifiers_above (ap (λ q. q.low) c.requires) (ap (λ q. q.modifiers_below) c.requires) (ap (λ q. q.middle) c.requires) (ap (λ q. q.modifiers_above) c.requires) (sym (split-joined marks)) c.bring_last.ensures c.bring_last-2.ensures
+    two_moves (split_marks marks) marks c.bring_last.new.marks c.bring_last-2.new.marks p.low p.modifiers_below p.middle
+    p.modifiers_above (ap (λ q. q.low) c.requires) (ap (λ q. q.modifiers_below) c.requires)
+    (ap (λ q. q.middle) c.requires) (ap (λ q. q.modifiers_above) c.requires) (sym (split-joined marks))
+    c.bring_last.ensures c.bring_last-2.ensures

@@ -12,12 +12,15 @@ returns-clause-order c =
     let s = c.args.start in
     let e = c.args.end in
     let level_is = c.cluster_level-level.ensures in
-    ap order_view (c.walk.ensures.walked ∙ ap (λ level. marks_reordered s e (marks_merged level s e b.glyphs)) level_is) ∙ marks_view b.level s e b.glyphs
+    ap order_view (c.walk.ensures.walked ∙ ap (λ level. marks_reordered s e (marks_merged level s e b.glyphs)) level_is)
+    ∙ marks_view b.level s e b.glyphs
 
 pub returns-clause-laws : goal.returns-clause-laws
 returns-clause-laws c =
     let b = c.args.buffer.now in
     let s = c.args.start in
     let e = c.args.end in
-    let is = c.walk.ensures.walked ∙ ap (λ level. marks_reordered s e (marks_merged level s e b.glyphs)) c.cluster_level-level.ensures in
-    subst (ReorderedHold without_class b.level (text_step s e b.glyphs ∷ []) b.glyphs) (sym is) (mark_laws b.level s e b.glyphs c.requires.in_order c.requires.in_range)
+    let is = c.walk.ensures.walked
+    ∙ ap (λ level. marks_reordered s e (marks_merged level s e b.glyphs)) c.cluster_level-level.ensures in
+    subst (ReorderedHold without_class b.level (text_step s e b.glyphs ∷ []) b.glyphs) (sym is)
+    (mark_laws b.level s e b.glyphs c.requires.in_order c.requires.in_range)

@@ -4,4 +4,6 @@ use Rattle.shapers_arabic.proofs.MarkLists.{unmodified}
 use Rattle.shapers_arabic.proofs.ot_shaper_arabic.marks.reorder_marks_in.Goals as goal
 
 pub returns-then-not-has_modifier-clause-marks : goal.returns-then-not-has_modifier-clause-marks
-returns-then-not-has_modifier-clause-marks c = sym (unmodified c.args.level c.args.start c.args.end c.args.glyphs.now c.requires.in_order (sym c.has_modifier.ensures ∙ c.if-not-has_modifier.true))
+returns-then-not-has_modifier-clause-marks c =
+    sym (unmodified c.args.level c.args.start c.args.end c.args.glyphs.now c.requires.in_order
+    (sym c.has_modifier.ensures ∙ c.if-not-has_modifier.true))

@@ -6,6 +6,7 @@ use Rattle.shapers_arabic.proofs.ot_shaper_arabic.masks.add_masks.Given as goal
 
 abbrev pub invariant-loop-glyph : goal.invariant-loop-glyph
 invariant-loop-glyph l = record {
-  same : take l.glyph-index l.glyphs ++ map (with_numbered_mask l.masks) (drop l.glyph-index l.glyphs) ≡ map (with_numbered_mask l.masks) l.initial.glyphs;
+  same : take l.glyph-index l.glyphs ++ map (with_numbered_mask l.masks) (drop l.glyph-index l.glyphs)
+      ≡ map (with_numbered_mask l.masks) l.initial.glyphs;
   below : HaveMasks (drop l.glyph-index l.glyphs);
 }

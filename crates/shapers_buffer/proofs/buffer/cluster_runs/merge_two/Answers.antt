@@ -14,6 +14,8 @@ returns-then-s-run-clause-merged c =
     elim c.if-e-run.branch [
       | then-e-run w ↦
           ap (λ r. with_run r gs) w.result-is
-          ∙ merged_inside_run run.start run.end run.cluster c.args.s c.args.e gs c.if-run-s.true (omega (arith, c.requires.two)) w.if-e-run.true c.reaching-run.ensures.fits.in_range ∙ same
-      | else-e-run w ↦ ap (λ r. with_run r gs) w.result-is ∙ w.grown.ensures.merged c.args.s c.if-run-s.true c.if-s-run.true ∙ same
+          ∙ merged_inside_run run.start run.end run.cluster c.args.s c.args.e gs c.if-run-s.true
+          (omega (arith, c.requires.two)) w.if-e-run.true c.reaching-run.ensures.fits.in_range ∙ same
+      | else-e-run w ↦ ap (λ r. with_run r gs) w.result-is
+          ∙ w.grown.ensures.merged c.args.s c.if-run-s.true c.if-s-run.true ∙ same
     ]

@@ -12,7 +12,8 @@ returns c =
     let p = c.args.place in
     let b = the_view c.self.inside in
     let gs = c.deref.result.now in
-    let same : length gs ≡ length c.args.self.now.glyphs = ap length c.deref.ensures.value ∙ ap (λ (b : Buffer). length b.glyphs) c.self.view_is in
+    let same : length gs ≡ length c.args.self.now.glyphs = ap length c.deref.ensures.value
+    ∙ ap (λ (b : Buffer). length b.glyphs) c.self.view_is in
     let asked = length-take-le (i + 1) gs (omega (arith, same, c.requires)) in
     let written : without_last_zeros (slice_set places i p) ≡ with_place i p b.places =
     set-without_last_zeros places i p (omega (arith, asked, c.open_places.ensures.opened))

@@ -7,7 +7,9 @@ pub returns-clause-changed : goal.returns-clause-changed
 returns-clause-changed g c =
     let left = c.change.new.arg2 in
     let items = c.self.inside.pos.items in
-    let back : take c.self.inside.pos.len (left ++ drop (length left) items) ≡ left = take_at left (drop (length left) items) c.self.inside.pos.len (omega (arith, c.change.auto.arg2, c.deref_mut.ensures.len)) in
+    let back : take c.self.inside.pos.len (left ++ drop (length left) items) ≡ left =
+    take_at left (drop (length left) items) c.self.inside.pos.len
+    (omega (arith, c.change.auto.arg2, c.deref_mut.ensures.len)) in
     record {
       shown = c.deref_mut.result;
       shows = c.deref_mut.ensures.value ∙ ap (λ (b : Buffer). b.positions) c.self.view_is;

@@ -13,10 +13,13 @@ loop-i-preserved c =
     let span = get_or c.args.spans.now c.loop-i.i none in
     let rest = drop (c.loop-i.i + 1) c.args.spans.now in
     let more = drop_more c.args.spans.now c.loop-i.i none c.loop-i-test.true in
-    let total : sum_by (λ (s : Span). s.len) (drop c.loop-i.i c.args.spans.now) ≡ span.len + sum_by (λ (s : Span). s.len) rest = rw more (sum_by-cons (λ (s : Span). s.len) span rest) in
+    let total : sum_by (λ (s : Span). s.len) (drop c.loop-i.i c.args.spans.now)
+    ≡ span.len + sum_by (λ (s : Span). s.len) rest = rw more (sum_by-cons (λ (s : Span). s.len) span rest) in
     let room : c.loop-i.start + span.len ≤ length c.loop-i.glyphs = omega arith in
-    let step = bytes_next c.loop-i.glyphs c.loop-i.start span.len (span_byte c.loop-i.i span) (span_bytes (suc c.loop-i.i) rest) room in
-    let next : span_bytes (c.loop-i.i + 1) rest ≡ span_bytes (suc c.loop-i.i) rest = ap (λ n. span_bytes n rest) (add-one c.loop-i.i) in
+    let step = bytes_next c.loop-i.glyphs c.loop-i.start span.len (span_byte c.loop-i.i span)
+    (span_bytes (suc c.loop-i.i) rest) room in
+    let next : span_bytes (c.loop-i.i + 1) rest ≡ span_bytes (suc c.loop-i.i) rest =
+    ap (λ n. span_bytes n rest) (add-one c.loop-i.i) in
     record {
       written = rw (c.set_syllable_in.ensures, next) (step ∙ rw more at c.loop-i.invariant.written);
       room = omega arith;

@@ -9,5 +9,8 @@ pub returns-then-not-follows : goal.returns-then-not-follows
 returns-then-not-follows g c =
     let font = g.F.hb_font_t.font c.args.face.now in
     let us = characters c.args.glyphs.now in
-    let free : is_v (get_or us 1 0) || (is_t (get_or us 1 0) || is_tone (get_or us 1 0)) ≡ false = ap (λ v. is_v v || (is_t v || is_tone v)) (sym c.character_at-v.ensures) ∙ sym c.follows.ensures ∙ c.if-not-follows.true in
-    lone_first font c.args.circles us c.lone_unit.result free (c.lone_unit.ensures ∙ ap (lone_unit font c.args.circles) c.character_at-u.ensures)
+    let free : is_v (get_or us 1 0) || (is_t (get_or us 1 0) || is_tone (get_or us 1 0)) ≡ false =
+    ap (λ v. is_v v || (is_t v || is_tone v)) (sym c.character_at-v.ensures) ∙ sym c.follows.ensures
+    ∙ c.if-not-follows.true in
+    lone_first font c.args.circles us c.lone_unit.result free (c.lone_unit.ensures
+    ∙ ap (lone_unit font c.args.circles) c.character_at-u.ensures)

@@ -12,4 +12,5 @@ loop-place-preserved g c =
     let gs = c.args.glyphs.now in
     let place = c.loop-place.place in
     let item = first_item font circles (characters (drop place gs)) in
-    kept_next font circles gs place item c.loop-place-test.true refl (sym c.stays_at.ensures ∙ c.if-not-stays_at.false) c.loop-place.invariant
+    kept_next font circles gs place item c.loop-place-test.true refl (sym c.stays_at.ensures ∙ c.if-not-stays_at.false)
+    c.loop-place.invariant

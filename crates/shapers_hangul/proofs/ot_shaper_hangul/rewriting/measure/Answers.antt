@@ -11,7 +11,14 @@ use Rattle.shapers_hangul.proofs.ot_shaper_hangul.rewriting.measure.Goals as goa
 pub returns-then-room-output_len-clause-length : goal.returns-then-room-output_len-clause-length
 returns-then-room-output_len-clause-length g c =
     let l = c.loop-place in
-    omega (arith, length_next (g.F.hb_font_t.font c.args.face.now) c.args.circles c.args.glyphs.now l.place c.item_at-item.result c.loop-place-test.true c.item_at-item.ensures.item c.item_at-item.ensures.in_rest, l.invariant.room_left, c.if-room-output_len.true, c.output_len.ensures)
+    omega (
+      arith,
+      length_next (g.F.hb_font_t.font c.args.face.now) c.args.circles c.args.glyphs.now l.place
+          c.item_at-item.result c.loop-place-test.true c.item_at-item.ensures.item c.item_at-item.ensures.in_rest,
+      l.invariant.room_left,
+      c.if-room-output_len.true,
+      c.output_len.ensures,
+    )
 
 pub loop-place-preserved : goal.loop-place-preserved
 loop-place-preserved g c =
@@ -20,14 +27,26 @@ loop-place-preserved g c =
     let gs = c.args.glyphs.now in
     let item = c.item_at-item.result in
     let circles = c.args.circles in
-    let step = length_next font circles gs l.place item c.loop-place-test.true c.item_at-item.ensures.item c.item_at-item.ensures.in_rest in
+    let step = length_next font circles gs l.place item c.loop-place-test.true c.item_at-item.ensures.item
+    c.item_at-item.ensures.in_rest in
     let on : l.place + item_len item ≡ l.place + c.len-place.result = ap (λ n. l.place + n) (sym c.len-place.ensures) in
     record {
       within = omega (arith, c.item_at-item.ensures.within, c.len-place.ensures);
-      room_left = omega (arith, step, ap (λ p. length (outputs glyph_copies (items_at font circles (characters gs) p) gs)) on, l.invariant.room_left, c.if-room-output_len.false, c.output_len.ensures, c.output_len-room.ensures);
+      room_left = omega (
+        arith,
+        step,
+        ap (λ p. length (outputs glyph_copies (items_at font circles (characters gs) p) gs)) on,
+        l.invariant.room_left,
+        c.if-room-output_len.false,
+        c.output_len.ensures,
+        c.output_len-room.ensures,
+      );
       recorded = λ whole.
-          subst (λ p. c.add.new.self.items.items ++ rewritten_items (items_at font circles (characters gs) p) ≡ rewritten_items (items_at font circles (characters gs) c.args.kept)) on
-          (recording_next font circles gs l.cut.items.items c.add.new.self.items.items _ l.place item c.loop-place-test.true c.item_at-item.ensures.item (l.invariant.recorded (c.add.ensures.whole whole)) (c.add.ensures.added whole));
+          subst (λ p. c.add.new.self.items.items ++ rewritten_items (items_at font circles (characters gs) p)
+          ≡ rewritten_items (items_at font circles (characters gs) c.args.kept)) on
+          (recording_next font circles gs l.cut.items.items c.add.new.self.items.items _ l.place item
+          c.loop-place-test.true c.item_at-item.ensures.item (l.invariant.recorded (c.add.ensures.whole whole))
+          (c.add.ensures.added whole));
     }
 
 pub returns-then-room-eq0-clause-length : goal.returns-then-room-eq0-clause-length
@@ -37,8 +56,14 @@ returns-then-room-eq0-clause-length g c =
     let gs = c.args.glyphs.now in
     let circles = c.args.circles in
     let stays : is_kept (first_item font circles (characters (drop l.place gs))) ≡ true =
-    subst (λ (xs : List hb_glyph_info_t). is_kept (first_item font circles (characters xs)) ≡ true) c.rest_from.ensures (c.stays_alone.ensures c.if-stays_alone.true) in
-    omega (arith, length_staying font circles gs l.place c.loop-place-test.true stays, l.invariant.room_left, c.if-room-eq0.true)
+    subst (λ (xs : List hb_glyph_info_t). is_kept (first_item font circles (characters xs)) ≡ true) c.rest_from.ensures
+    (c.stays_alone.ensures c.if-stays_alone.true) in
+    omega (
+      arith,
+      length_staying font circles gs l.place c.loop-place-test.true stays,
+      l.invariant.room_left,
+      c.if-room-eq0.true,
+    )
 
 pub loop-place-preserved-then-stays_alone : goal.loop-place-preserved-then-stays_alone
 loop-place-preserved-then-stays_alone g c =
@@ -47,9 +72,16 @@ loop-place-preserved-then-stays_alone g c =
     let gs = c.args.glyphs.now in
     let circles = c.args.circles in
     let stays : is_kept (first_item font circles (characters (drop l.place gs))) ≡ true =
-    subst (λ (xs : List hb_glyph_info_t). is_kept (first_item font circles (characters xs)) ≡ true) c.rest_from.ensures (c.stays_alone.ensures c.if-stays_alone.true) in
+    subst (λ (xs : List hb_glyph_info_t). is_kept (first_item font circles (characters xs)) ≡ true) c.rest_from.ensures
+    (c.stays_alone.ensures c.if-stays_alone.true) in
     record {
       within = omega (arith, c.loop-place-test.true);
-      room_left = omega (arith, length_staying font circles gs l.place c.loop-place-test.true stays, l.invariant.room_left, c.if-room-eq0.false);
-      recorded = λ whole. recording_staying font circles gs l.cut.items.items _ l.place c.loop-place-test.true stays (l.invariant.recorded whole);
+      room_left = omega (
+        arith,
+        length_staying font circles gs l.place c.loop-place-test.true stays,
+        l.invariant.room_left,
+        c.if-room-eq0.false,
+      );
+      recorded = λ whole. recording_staying font circles gs l.cut.items.items _ l.place c.loop-place-test.true stays
+          (l.invariant.recorded whole);
     }

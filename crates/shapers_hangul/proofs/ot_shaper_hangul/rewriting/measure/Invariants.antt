@@ -10,8 +10,10 @@ invariant-loop-place g l =
     let cut = items_at (g.F.hb_font_t.font l.face) l.circles (characters l.glyphs) in
     record {
       within : l.place ≤ length l.glyphs;
-      room_left : l.kept + length (outputs glyph_copies (cut l.kept) l.glyphs) + l.room ≡ length (outputs glyph_copies (cut l.place) l.glyphs) + l.limit;
-      recorded : l.cut.is_whole ≡ true → l.cut.items.items ++ rewritten_items (cut l.place) ≡ rewritten_items (cut l.kept);
+      room_left : l.kept + length (outputs glyph_copies (cut l.kept) l.glyphs) + l.room
+          ≡ length (outputs glyph_copies (cut l.place) l.glyphs) + l.limit;
+      recorded : l.cut.is_whole ≡ true → l.cut.items.items ++ rewritten_items (cut l.place)
+          ≡ rewritten_items (cut l.kept);
     }
 
 abbrev pub decreases-loop-place : goal.decreases-loop-place

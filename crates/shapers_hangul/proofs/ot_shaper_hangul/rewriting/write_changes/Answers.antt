@@ -8,7 +8,9 @@ use Rattle.shapers_hangul.proofs.Walks.{default_item}
 use Rattle.shapers_hangul.proofs.ot_shaper_hangul.rewriting.write_changes.Goals as goal
 
 pub write_change-requires-clause-within : goal.write_change-requires-clause-within
-write_change-requires-clause-within c = turn-at (length c.args.glyphs.now) 0 c.args.cut.now c.loop-entry.entry-index default_item (search rules) c.requires.in_turn
+write_change-requires-clause-within c =
+    turn-at (length c.args.glyphs.now) 0 c.args.cut.now c.loop-entry.entry-index default_item (search rules)
+    c.requires.in_turn
 
 pub write_change-requires-clause-room : goal.write_change-requires-clause-room
 write_change-requires-clause-room c =
@@ -16,10 +18,22 @@ write_change-requires-clause-room c =
     let gs = c.args.glyphs.now in
     let cut = c.args.cut.now in
     let inside : l.entry-index < length cut = search rules in
-    omega (arith, next_output l.place cut gs l.entry-index default_item inside, room_left l.list.items (changed_from l.place (drop l.entry-index cut) gs) c.args.list.now.items (changed_from 0 cut gs) (vec_capacity c.args.list.now) (vec_capacity l.list) l.invariant.walk c.requires.room l.invariant.capacity)
+    omega (
+      arith,
+      next_output l.place cut gs l.entry-index default_item inside,
+      room_left l.list.items
+          (changed_from l.place (drop l.entry-index cut) gs) c.args.list.now.items (changed_from 0 cut gs)
+          (vec_capacity c.args.list.now) (vec_capacity l.list) l.invariant.walk c.requires.room l.invariant.capacity,
+    )
 
 pub overflow_add-place : goal.overflow_add-place
-overflow_add-place c = omega (arith, c.len.ensures, turn-at (length c.args.glyphs.now) 0 c.args.cut.now c.loop-entry.entry-index default_item (search rules) c.requires.in_turn)
+overflow_add-place c =
+    omega (
+      arith,
+      c.len.ensures,
+      turn-at (length c.args.glyphs.now) 0 c.args.cut.now c.loop-entry.entry-index
+          default_item (search rules) c.requires.in_turn,
+    )
 
 pub unwrap-requires : goal.unwrap-requires
 unwrap-requires c =
@@ -27,4 +41,12 @@ unwrap-requires c =
     let gs = c.args.glyphs.now in
     let cut = c.args.cut.now in
     let none : drop l.entry-index cut ≡ [] = drop_all l.entry-index cut (search rules) in
-    c.extend_from_slice.ensures.succeeds (omega (arith, ap length c.rest_from.ensures, ap (λ xs. length (changed_from l.place xs gs)) none, room_left l.list.items (changed_from l.place (drop l.entry-index cut) gs) c.args.list.now.items (changed_from 0 cut gs) (vec_capacity c.args.list.now) (vec_capacity l.list) l.invariant.walk c.requires.room l.invariant.capacity))
+    c.extend_from_slice.ensures.succeeds
+    (omega (
+      arith,
+      ap length c.rest_from.ensures,
+      ap (λ xs. length (changed_from l.place xs gs)) none,
+      room_left
+          l.list.items (changed_from l.place (drop l.entry-index cut) gs) c.args.list.now.items (changed_from 0 cut gs)
+          (vec_capacity c.args.list.now) (vec_capacity l.list) l.invariant.walk c.requires.room l.invariant.capacity,
+    ))

@@ -7,6 +7,7 @@ use Rattle.shapers_hangul.proofs.ot_shaper_hangul.rewriting.write_changes.Given 
 abbrev pub invariant-loop-entry : goal.invariant-loop-entry
 invariant-loop-entry l = record {
   in_turn : InTurn (length l.glyphs) l.place (drop l.entry-index l.cut);
-  walk : l.list.items ++ changed_from l.place (drop l.entry-index l.cut) l.glyphs ≡ l.initial.list.items ++ changed_from 0 l.cut l.glyphs;
+  walk : l.list.items ++ changed_from l.place (drop l.entry-index l.cut) l.glyphs ≡ l.initial.list.items
+      ++ changed_from 0 l.cut l.glyphs;
   capacity : vec_capacity l.initial.list ≤ vec_capacity l.list;
 }

@@ -10,6 +10,11 @@ loop-i-preserved-then-halant c =
     let l = c.loop-i in
     let old = c.args.glyphs.now in
     let s = subst (λ h. Linking c.args.base l.i h l.last old l.glyphs) c.if-halant.true l.invariant in
-    let next = linking_end c.args.base l.i l.last default_glyph old l.glyphs (omega (arith, c.loop-i-test.true, l.invariant.as_many)) (sym c.is_joiner.ensures ∙ c.if-is_joiner.false) s in
-    let given = subst (λ g. Linking c.args.base (l.i + 1) false (cond (is_unformed_below (get_or l.glyphs l.i default_glyph)) l.i l.last) old (slice_set l.glyphs l.i g)) (sym c.set_link-last.ensures.glyph) next in
-    subst (λ k. Linking c.args.base (l.i + 1) false k old (slice_set l.glyphs l.i c.set_link-last.new.glyph)) (sym c.set_link-last.ensures.base) given
+    let next = linking_end c.args.base l.i l.last default_glyph old l.glyphs
+    (omega (arith, c.loop-i-test.true, l.invariant.as_many)) (sym c.is_joiner.ensures ∙ c.if-is_joiner.false)
+    s in
+    let given = subst (λ g. Linking c.args.base (l.i + 1) false
+    (cond (is_unformed_below (get_or l.glyphs l.i default_glyph)) l.i l.last) old (slice_set l.glyphs l.i g))
+    (sym c.set_link-last.ensures.glyph) next in
+    subst (λ k. Linking c.args.base (l.i + 1) false k old (slice_set l.glyphs l.i c.set_link-last.new.glyph))
+    (sym c.set_link-last.ensures.base) given

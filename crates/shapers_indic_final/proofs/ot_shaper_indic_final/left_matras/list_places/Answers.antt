@@ -22,8 +22,11 @@ loop-j-preserved c =
     let read : c.is_listed.result ≡ t l.j = c.is_listed.ensures ∙ ap (λ gs. is_listed a.gone a.s a.top gs l.j) same in
     elim c.if-is_listed.branch [
       | then-is_listed w ↦
-          let left = left_here t l.j a.e l.at whole end a.buffer.now l.buffer c.loop-j-test.true (sym read ∙ w.if-is_listed.true) l.invariant in
-          rw w.at-is (left_one l.j _ l.at whole end a.buffer.now l.buffer c.if-is_listed.buffer left (w.buffer-is ∙ w.set_place.ensures))
+          let left = left_here t l.j a.e l.at whole end a.buffer.now l.buffer c.loop-j-test.true (sym read
+          ∙ w.if-is_listed.true) l.invariant in
+          rw w.at-is (left_one l.j _ l.at whole end a.buffer.now l.buffer c.if-is_listed.buffer left (w.buffer-is
+          ∙ w.set_place.ensures))
       | else-is_listed w ↦
-          rw (w.at-is, w.buffer-is) (left_not t l.j a.e l.at whole end a.buffer.now l.buffer c.loop-j-test.true (sym read ∙ w.if-is_listed.false) l.invariant)
+          rw (w.at-is, w.buffer-is) (left_not t l.j a.e l.at whole end a.buffer.now l.buffer c.loop-j-test.true
+          (sym read ∙ w.if-is_listed.false) l.invariant)
     ]

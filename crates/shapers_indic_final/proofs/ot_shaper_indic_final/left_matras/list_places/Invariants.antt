@@ -10,4 +10,5 @@ abbrev pub invariant-loop-j : goal.invariant-loop-j
 invariant-loop-j l =
     let t = is_listed l.gone l.s l.top l.fn.buffer.glyphs in
     let all = filter t (places l.s l.e) in
-    Left (filter t (places l.j l.e)) l.at (with_listed l.fn.at all l.fn.buffer.places) (l.fn.at + length all) l.fn.buffer l.buffer
+    Left (filter t (places l.j l.e)) l.at (with_listed l.fn.at all l.fn.buffer.places) (l.fn.at + length all)
+    l.fn.buffer l.buffer

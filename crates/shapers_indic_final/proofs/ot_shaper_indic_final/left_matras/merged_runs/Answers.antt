@@ -16,15 +16,24 @@ loop-i-preserved-then-is_left c =
     let l = c.loop-i in
     let r = c.requires in
     let w = c.with_matra-runs in
-    let lies = lies_on (a.s + (l.i - 1)) (a.s + a.top) (a.s + a.p) (a.s + a.b) l.runs w.result a.glyphs.now w.ensures.merged w.ensures.end l.invariant.1.lies in
-    (omega (arith, l.invariant.0), walk_yes a.s l.i (l.i - 1) a.top a.p a.b l.runs w.result a.glyphs.now (omega (arith, c.loop-i-test.true)) l.invariant.0 r.behind r.before r.in_range (sym c.is_left.ensures ∙ c.if-is_left.true) w.ensures.merged w.ensures.end lies l.invariant.1)
+    let lies = lies_on (a.s + (l.i - 1)) (a.s + a.top) (a.s + a.p) (a.s + a.b) l.runs w.result a.glyphs.now
+    w.ensures.merged w.ensures.end l.invariant.1.lies in (
+      omega (arith, l.invariant.0),
+      walk_yes a.s l.i (l.i - 1) a.top a.p a.b l.runs w.result a.glyphs.now
+          (omega (arith, c.loop-i-test.true)) l.invariant.0 r.behind r.before r.in_range (sym c.is_left.ensures
+          ∙ c.if-is_left.true) w.ensures.merged w.ensures.end lies l.invariant.1,
+    )
 
 pub loop-i-preserved : goal.loop-i-preserved
 loop-i-preserved c =
     let a = c.args in
     let l = c.loop-i in
-    let r = c.requires in
-    (omega (arith, l.invariant.0), walk_no a.s l.i (l.i - 1) a.top a.p a.b l.runs a.glyphs.now (omega (arith, c.loop-i-test.true)) l.invariant.0 r.behind r.before r.in_range (sym c.is_left.ensures ∙ c.if-is_left.false) l.invariant.1)
+    let r = c.requires in (
+      omega (arith, l.invariant.0),
+      walk_no a.s l.i (l.i - 1) a.top a.p a.b l.runs a.glyphs.now
+          (omega (arith, c.loop-i-test.true)) l.invariant.0 r.behind r.before r.in_range (sym c.is_left.ensures
+          ∙ c.if-is_left.false) l.invariant.1,
+    )
 
 pub returns-clause-parted : goal.returns-clause-parted
 returns-clause-parted c =

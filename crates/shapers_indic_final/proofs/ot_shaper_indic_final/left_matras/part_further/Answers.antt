@@ -15,8 +15,10 @@ pub returns-then-not-has_left-clause-glyphs : goal.returns-then-not-has_left-cla
 returns-then-not-has_left-clause-glyphs c = λ e base_in within.
     let a = c.args in
     let r = c.requires in
-    let none = ap (λ gs. list_any is_left (stretch_of a.s (a.s + a.top) gs)) (sym c.glyphs.ensures) ∙ sym c.has_left.ensures ∙ c.if-not-has_left.true in
-    not_stepped a.buffer.now a.s e a.top (a.p - 1) a.b (no_lefts a.s e a.top a.buffer.now.glyphs (omega (arith, r.behind, r.before, base_in)) within none)
+    let none = ap (λ gs. list_any is_left (stretch_of a.s (a.s + a.top) gs)) (sym c.glyphs.ensures)
+    ∙ sym c.has_left.ensures ∙ c.if-not-has_left.true in
+    not_stepped a.buffer.now a.s e a.top (a.p - 1) a.b
+    (no_lefts a.s e a.top a.buffer.now.glyphs (omega (arith, r.behind, r.before, base_in)) within none)
 
 pub overflow_sub-at : goal.overflow_sub-at
 overflow_sub-at c =
@@ -25,9 +27,18 @@ overflow_sub-at c =
     let w = c.merged_runs-runs in
     let gs = a.buffer.now.glyphs in
     let same = c.glyphs-2.ensures in
-    let lies : Lies (a.s + a.p) (a.s + a.b) w.result gs = record { start = w.ensures.start; from = w.ensures.from; end = omega (arith, w.ensures.end, ap length same) } in
-    let many = c.len_staying-len.ensures ∙ ap (λ xs. length (filter (has_stayed a.s (a.s + a.top) xs) (places w.result.start (a.s + a.p)))) c.glyphs-3.ensures in
-    (parted_written a.buffer.now.level a.s (a.s + a.top) (a.s + a.p) (a.s + a.b) c.move_matras-at.result c.len_staying-len.result w.result gs (omega arith) (omega (arith, r.before)) lies c.move_matras-at.ensures.at many).0
+    let lies : Lies (a.s + a.p) (a.s + a.b) w.result gs =
+    record {
+      start = w.ensures.start;
+      from = w.ensures.from;
+      end = omega (arith, w.ensures.end, ap length same);
+    } in
+    let many = c.len_staying-len.ensures
+    ∙ ap (λ xs. length (filter (has_stayed a.s (a.s + a.top) xs) (places w.result.start (a.s + a.p))))
+    c.glyphs-3.ensures in
+    (parted_written a.buffer.now.level a.s (a.s + a.top) (a.s + a.p) (a.s + a.b) c.move_matras-at.result
+    c.len_staying-len.result w.result gs (omega arith) (omega (arith, r.before)) lies c.move_matras-at.ensures.at
+    many).0
 
 pub put-requires-clause-in_range : goal.put-requires-clause-in_range
 put-requires-clause-in_range c =
@@ -36,10 +47,20 @@ put-requires-clause-in_range c =
     let w = c.merged_runs-runs in
     let gs = a.buffer.now.glyphs in
     let same = c.glyphs-2.ensures in
-    let lies : Lies (a.s + a.p) (a.s + a.b) w.result gs = record { start = w.ensures.start; from = w.ensures.from; end = omega (arith, w.ensures.end, ap length same) } in
-    let many = c.len_staying-len.ensures ∙ ap (λ xs. length (filter (has_stayed a.s (a.s + a.top) xs) (places w.result.start (a.s + a.p)))) c.glyphs-3.ensures in
-    let two = parted_written a.buffer.now.level a.s (a.s + a.top) (a.s + a.p) (a.s + a.b) c.move_matras-at.result c.len_staying-len.result w.result gs (omega arith) (omega (arith, r.before)) lies c.move_matras-at.ensures.at many in
-    let long = ap (λ (b : Buffer). length b.glyphs) c.move_matras-at.ensures.moved ∙ moved_long a.s (a.s + a.top) (a.s + a.p) (a.s + a.b) w.result gs (omega (arith, r.before)) lies in
+    let lies : Lies (a.s + a.p) (a.s + a.b) w.result gs =
+    record {
+      start = w.ensures.start;
+      from = w.ensures.from;
+      end = omega (arith, w.ensures.end, ap length same);
+    } in
+    let many = c.len_staying-len.ensures
+    ∙ ap (λ xs. length (filter (has_stayed a.s (a.s + a.top) xs) (places w.result.start (a.s + a.p))))
+    c.glyphs-3.ensures in
+    let two = parted_written a.buffer.now.level a.s (a.s + a.top) (a.s + a.p) (a.s + a.b) c.move_matras-at.result
+    c.len_staying-len.result w.result gs (omega arith) (omega (arith, r.before)) lies
+    c.move_matras-at.ensures.at many in
+    let long = ap (λ (b : Buffer). length b.glyphs) c.move_matras-at.ensures.moved
+    ∙ moved_long a.s (a.s + a.top) (a.s + a.p) (a.s + a.b) w.result gs (omega (arith, r.before)) lies in
     omega (arith, two.1, long, w.ensures.end, ap length same)
 
 pub put-requires-2-clause-in_order : goal.put-requires-2-clause-in_order
@@ -49,9 +70,18 @@ put-requires-2-clause-in_order c =
     let w = c.merged_runs-runs in
     let gs = a.buffer.now.glyphs in
     let same = c.glyphs-2.ensures in
-    let lies : Lies (a.s + a.p) (a.s + a.b) w.result gs = record { start = w.ensures.start; from = w.ensures.from; end = omega (arith, w.ensures.end, ap length same) } in
-    let many = c.len_staying-len.ensures ∙ ap (λ xs. length (filter (has_stayed a.s (a.s + a.top) xs) (places w.result.start (a.s + a.p)))) c.glyphs-3.ensures in
-    (parted_written a.buffer.now.level a.s (a.s + a.top) (a.s + a.p) (a.s + a.b) c.move_matras-at.result c.len_staying-len.result w.result gs (omega arith) (omega (arith, r.before)) lies c.move_matras-at.ensures.at many).1
+    let lies : Lies (a.s + a.p) (a.s + a.b) w.result gs =
+    record {
+      start = w.ensures.start;
+      from = w.ensures.from;
+      end = omega (arith, w.ensures.end, ap length same);
+    } in
+    let many = c.len_staying-len.ensures
+    ∙ ap (λ xs. length (filter (has_stayed a.s (a.s + a.top) xs) (places w.result.start (a.s + a.p))))
+    c.glyphs-3.ensures in
+    (parted_written a.buffer.now.level a.s (a.s + a.top) (a.s + a.p) (a.s + a.b) c.move_matras-at.result
+    c.len_staying-len.result w.result gs (omega arith) (omega (arith, r.before)) lies c.move_matras-at.ensures.at
+    many).1
 
 pub put-requires-2-clause-in_range : goal.put-requires-2-clause-in_range
 put-requires-2-clause-in_range c =
@@ -60,12 +90,21 @@ put-requires-2-clause-in_range c =
     let w = c.merged_runs-runs in
     let gs = a.buffer.now.glyphs in
     let same = c.glyphs-2.ensures in
-    let lies : Lies (a.s + a.p) (a.s + a.b) w.result gs = record { start = w.ensures.start; from = w.ensures.from; end = omega (arith, w.ensures.end, ap length same) } in
-    let many = c.len_staying-len.ensures ∙ ap (λ xs. length (filter (has_stayed a.s (a.s + a.top) xs) (places w.result.start (a.s + a.p)))) c.glyphs-3.ensures in
+    let lies : Lies (a.s + a.p) (a.s + a.b) w.result gs =
+    record {
+      start = w.ensures.start;
+      from = w.ensures.from;
+      end = omega (arith, w.ensures.end, ap length same);
+    } in
+    let many = c.len_staying-len.ensures
+    ∙ ap (λ xs. length (filter (has_stayed a.s (a.s + a.top) xs) (places w.result.start (a.s + a.p))))
+    c.glyphs-3.ensures in
     let mid = c.move_matras-at.new.buffer in
     let at = c.move_matras-at.result in
-    let long = ap (λ (b : Buffer). length b.glyphs) c.move_matras-at.ensures.moved ∙ moved_long a.s (a.s + a.top) (a.s + a.p) (a.s + a.b) w.result gs (omega (arith, r.before)) lies in
-    let put = ap (λ (b : Buffer). length b.glyphs) c.put.ensures ∙ length-put_in mid.level w.result.before (at - c.len_staying-len.result) at mid.glyphs (omega arith) in
+    let long = ap (λ (b : Buffer). length b.glyphs) c.move_matras-at.ensures.moved
+    ∙ moved_long a.s (a.s + a.top) (a.s + a.p) (a.s + a.b) w.result gs (omega (arith, r.before)) lies in
+    let put = ap (λ (b : Buffer). length b.glyphs) c.put.ensures
+    ∙ length-put_in mid.level w.result.before (at - c.len_staying-len.result) at mid.glyphs (omega arith) in
     omega (arith, put, long, w.ensures.end, ap length same)
 
 pub returns-clause-glyphs : goal.returns-clause-glyphs
@@ -75,10 +114,22 @@ returns-clause-glyphs c = λ e base_in within.
     let w = c.merged_runs-runs in
     let gs = a.buffer.now.glyphs in
     let same = c.glyphs-2.ensures in
-    let lies : Lies (a.s + a.p) (a.s + a.b) w.result gs = record { start = w.ensures.start; from = w.ensures.from; end = omega (arith, w.ensures.end, ap length same) } in
-    let many = c.len_staying-len.ensures ∙ ap (λ xs. length (filter (has_stayed a.s (a.s + a.top) xs) (places w.result.start (a.s + a.p)))) c.glyphs-3.ensures in
-    let written = written_there a.buffer.now c.move_matras-at.new.buffer c.put.new.buffer c.put-2.new.buffer a.s (a.s + a.top) (a.s + a.p) (a.s + a.b) c.move_matras-at.result c.len_staying-len.result w.result (omega arith) (omega (arith, r.before)) lies c.move_matras-at.ensures.moved c.move_matras-at.ensures.at many c.put.ensures c.put-2.ensures in
-    let parted = found a.buffer.now.level a.s e a.top a.p a.b w.result c.glyphs-2.result.now gs same (w.ensures.parted a.buffer.now.level e base_in (omega (arith, within, ap length same)) (one_there a.buffer.now.level (a.s + a.p) (a.s + a.b) c.glyphs-2.result.now gs same r.one)) in
+    let lies : Lies (a.s + a.p) (a.s + a.b) w.result gs =
+    record {
+      start = w.ensures.start;
+      from = w.ensures.from;
+      end = omega (arith, w.ensures.end, ap length same);
+    } in
+    let many = c.len_staying-len.ensures
+    ∙ ap (λ xs. length (filter (has_stayed a.s (a.s + a.top) xs) (places w.result.start (a.s + a.p))))
+    c.glyphs-3.ensures in
+    let written = written_there a.buffer.now c.move_matras-at.new.buffer c.put.new.buffer c.put-2.new.buffer a.s
+    (a.s + a.top) (a.s + a.p) (a.s + a.b) c.move_matras-at.result c.len_staying-len.result w.result
+    (omega arith) (omega (arith, r.before)) lies c.move_matras-at.ensures.moved c.move_matras-at.ensures.at many
+    c.put.ensures c.put-2.ensures in
+    let parted = found a.buffer.now.level a.s e a.top a.p a.b w.result c.glyphs-2.result.now gs same
+    (w.ensures.parted a.buffer.now.level e base_in (omega (arith, within, ap length same))
+    (one_there a.buffer.now.level (a.s + a.p) (a.s + a.b) c.glyphs-2.result.now gs same r.one)) in
     as_steps a.buffer.now c.put-2.new.buffer a.s e a.top a.p a.b w.result written parted
 
 pub returns-clause-same_length : goal.returns-clause-same_length
@@ -88,7 +139,18 @@ returns-clause-same_length c =
     let w = c.merged_runs-runs in
     let gs = a.buffer.now.glyphs in
     let same = c.glyphs-2.ensures in
-    let lies : Lies (a.s + a.p) (a.s + a.b) w.result gs = record { start = w.ensures.start; from = w.ensures.from; end = omega (arith, w.ensures.end, ap length same) } in
-    let many = c.len_staying-len.ensures ∙ ap (λ xs. length (filter (has_stayed a.s (a.s + a.top) xs) (places w.result.start (a.s + a.p)))) c.glyphs-3.ensures in
-    let written = written_there a.buffer.now c.move_matras-at.new.buffer c.put.new.buffer c.put-2.new.buffer a.s (a.s + a.top) (a.s + a.p) (a.s + a.b) c.move_matras-at.result c.len_staying-len.result w.result (omega arith) (omega (arith, r.before)) lies c.move_matras-at.ensures.moved c.move_matras-at.ensures.at many c.put.ensures c.put-2.ensures in
-    written_long a.buffer.now c.put-2.new.buffer a.s (a.s + a.top) (a.s + a.p) (a.s + a.b) w.result (omega (arith, r.before)) lies written
+    let lies : Lies (a.s + a.p) (a.s + a.b) w.result gs =
+    record {
+      start = w.ensures.start;
+      from = w.ensures.from;
+      end = omega (arith, w.ensures.end, ap length same);
+    } in
+    let many = c.len_staying-len.ensures
+    ∙ ap (λ xs. length (filter (has_stayed a.s (a.s + a.top) xs) (places w.result.start (a.s + a.p))))
+    c.glyphs-3.ensures in
+    let written = written_there a.buffer.now c.move_matras-at.new.buffer c.put.new.buffer c.put-2.new.buffer a.s
+    (a.s + a.top) (a.s + a.p) (a.s + a.b) c.move_matras-at.result c.len_staying-len.result w.result
+    (omega arith) (omega (arith, r.before)) lies c.move_matras-at.ensures.moved c.move_matras-at.ensures.at many
+    c.put.ensures c.put-2.ensures in
+    written_long a.buffer.now c.put-2.new.buffer a.s (a.s + a.top) (a.s + a.p) (a.s + a.b) w.result
+    (omega (arith, r.before)) lies written

@@ -5,4 +5,5 @@ use Rattle.shapers_indic_final.proofs.FinalPlacing.{lefts_from}
 use Rattle.shapers_indic_final.proofs.ot_shaper_indic_final.left_matras.part_matras.Given as goal
 
 abbrev pub invariant-loop-i : goal.invariant-loop-i
-invariant-loop-i l = (l.i ≤ l.p) × ((l.buffer ≡ l.fn.buffer) × (lefts_from l.i l.p (stretch_of l.s l.e l.fn.buffer.glyphs) ≡ []))
+invariant-loop-i l =
+    (l.i ≤ l.p) × ((l.buffer ≡ l.fn.buffer) × (lefts_from l.i l.p (stretch_of l.s l.e l.fn.buffer.glyphs) ≡ []))

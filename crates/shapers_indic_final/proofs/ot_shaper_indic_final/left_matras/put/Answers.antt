@@ -12,4 +12,5 @@ returns-in-Characters c =
     let old = a.buffer.now in
     let level = sym c.cluster_level.ensures ∙ c.in-Characters.is in
     ap (λ gs. let y : Buffer = record old { glyphs = gs } in y)
-    (sym (ap (λ l. with_stretch a.s a.e (put l a.cluster) old.glyphs) level ∙ three_parts a.s a.e old.glyphs c.requires.in_order))
+    (sym (ap (λ l. with_stretch a.s a.e (put l a.cluster) old.glyphs) level
+    ∙ three_parts a.s a.e old.glyphs c.requires.in_order))

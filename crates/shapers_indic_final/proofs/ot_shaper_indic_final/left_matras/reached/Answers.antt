@@ -7,13 +7,15 @@ pub returns-then-not-is_passed : goal.returns-then-not-is_passed
 returns-then-not-is_passed c =
     let a = c.args in
     let l = c.loop-j in
-    reaches_here a.i a.top a.cluster a.start l.j a.glyphs.now (omega (arith, c.loop-j-test.true)) (omega (arith, l.invariant.0, c.requires)) l.invariant (sym c.is_passed.ensures ∙ c.if-not-is_passed.true)
+    reaches_here a.i a.top a.cluster a.start l.j a.glyphs.now (omega (arith, c.loop-j-test.true))
+    (omega (arith, l.invariant.0, c.requires)) l.invariant (sym c.is_passed.ensures ∙ c.if-not-is_passed.true)
 
 pub loop-j-preserved : goal.loop-j-preserved
 loop-j-preserved c =
     let a = c.args in
     let l = c.loop-j in
-    reaches_more a.i a.top a.cluster a.start (l.j - 1) l.j a.glyphs.now (omega (arith, c.loop-j-test.true)) (omega (arith, l.invariant.0, c.requires)) l.invariant (sym c.is_passed.ensures ∙ c.if-not-is_passed.false)
+    reaches_more a.i a.top a.cluster a.start (l.j - 1) l.j a.glyphs.now (omega (arith, c.loop-j-test.true))
+    (omega (arith, l.invariant.0, c.requires)) l.invariant (sym c.is_passed.ensures ∙ c.if-not-is_passed.false)
 
 pub returns : goal.returns
 returns c =

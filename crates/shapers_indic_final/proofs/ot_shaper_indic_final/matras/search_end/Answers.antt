@@ -7,14 +7,18 @@ use Rattle.shapers_indic_final.proofs.ot_shaper_indic_final.matras.search_end.Go
 pub returns-then-ends_search-clause-end : goal.returns-then-ends_search-clause-end
 returns-then-ends_search-clause-end c =
     let l = c.loop-i in
-    ap (λ o. unwrap_or o 0) (sym (greatest_stop (ends_search c.args.glyphs.now) 0 (l.i - 1) l.i (omega (arith, c.loop-i-test.true)) (omega arith) (sym c.ends_search.ensures ∙ c.if-ends_search.true)) ∙ l.invariant)
+    ap (λ o. unwrap_or o 0)
+    (sym (greatest_stop (ends_search c.args.glyphs.now) 0 (l.i - 1) l.i (omega (arith, c.loop-i-test.true))
+    (omega arith) (sym c.ends_search.ensures ∙ c.if-ends_search.true)) ∙ l.invariant)
 
 pub loop-i-preserved : goal.loop-i-preserved
 loop-i-preserved c =
     let l = c.loop-i in
-    greatest_step (ends_search c.args.glyphs.now) 0 (l.i - 1) l.i (omega (arith, c.loop-i-test.true)) (omega arith) (sym c.ends_search.ensures ∙ c.if-ends_search.false) ∙ l.invariant
+    greatest_step (ends_search c.args.glyphs.now) 0 (l.i - 1) l.i (omega (arith, c.loop-i-test.true)) (omega arith)
+    (sym c.ends_search.ensures ∙ c.if-ends_search.false) ∙ l.invariant
 
 pub returns-clause-end : goal.returns-clause-end
 returns-clause-end c =
     let l = c.loop-i in
-    ap (λ o. unwrap_or o 0) (sym (greatest_none (ends_search c.args.glyphs.now) 0 l.i (omega (arith, c.loop-i-test.false))) ∙ l.invariant)
+    ap (λ o. unwrap_or o 0)
+    (sym (greatest_none (ends_search c.args.glyphs.now) 0 l.i (omega (arith, c.loop-i-test.false))) ∙ l.invariant)

@@ -6,7 +6,9 @@ use Rattle.shapers_indic_final.proofs.ot_shaper_indic_final.moves.move_first_las
 
 pub apply-requires-clause-permutes : goal.apply-requires-clause-permutes
 apply-requires-clause-permutes c =
-    forward_permutes c.args.s (c.args.s + 1) (c.args.e - c.args.s - 1) c.args.s c.args.e c.args.buffer.now.places (omega arith) (omega arith) (omega (arith, c.requires.in_order))
+    forward_permutes c.args.s (c.args.s + 1) (c.args.e - c.args.s - 1) c.args.s c.args.e c.args.buffer.now.places
+    (omega arith) (omega arith) (omega (arith, c.requires.in_order))
 
 pub returns : goal.returns
-returns c = placed_first_last c.args.s c.args.e c.args.buffer.now c.apply.new.self c.requires.in_order c.requires.in_range c.apply.ensures
+returns c = placed_first_last c.args.s c.args.e c.args.buffer.now c.apply.new.self c.requires.in_order
+    c.requires.in_range c.apply.ensures

@@ -10,12 +10,17 @@ pub merge_clusters-requires-clause-in_range : goal.merge_clusters-requires-claus
 merge_clusters-requires-clause-in_range c =
     let a = c.args in
     let r = c.requires in
-    let long = ap (λ (b : Buffer). length b.glyphs) c.move_first_last.ensures ∙ length-moved (a.s + a.i) (a.s + a.j + 1) a.buffer.now.glyphs (omega (arith, r.before)) in
+    let long = ap (λ (b : Buffer). length b.glyphs) c.move_first_last.ensures
+    ∙ length-moved (a.s + a.i) (a.s + a.j + 1) a.buffer.now.glyphs (omega (arith, r.before)) in
     omega (arith, long, r.in_range)
 
 pub returns : goal.returns
 returns c = λ e order range.
     let a = c.args in
     let old = a.buffer.now in
-    moved_and_merged old c.move_first_last.new.buffer c.merge_clusters.new.self (λ level gs. merge level (a.s + a.j) (a.s + a.b) gs) (with_stretch (a.s + a.i) (a.s + a.j + 1) first_last old.glyphs) _ c.move_first_last.ensures c.merge_clusters.ensures
-    (matra_stepped old.level a.s e a.b a.i a.j old.glyphs c.requires.before (omega (arith, c.requires.base, order)) range)
+    moved_and_merged old c.move_first_last.new.buffer c.merge_clusters.new.self
+    (λ level gs. merge level (a.s + a.j) (a.s + a.b) gs)
+    (with_stretch (a.s + a.i) (a.s + a.j + 1) first_last old.glyphs) _ c.move_first_last.ensures
+    c.merge_clusters.ensures
+    (matra_stepped old.level a.s e a.b a.i a.j old.glyphs c.requires.before (omega (arith, c.requires.base, order))
+    range)

@@ -9,5 +9,7 @@ pub returns : goal.returns
 returns c = λ e order range.
     let a = c.args in
     let old = a.buffer.now in
-    merged_and_moved old c.merge_clusters.new.self c.move_last_first.new.buffer (with_stretch (a.s + a.j) (a.s + a.i + 1) last_goes_first) (merge old.level (a.s + a.j) (a.s + a.i + 1) old.glyphs) _ c.merge_clusters.ensures c.move_last_first.ensures
+    merged_and_moved old c.merge_clusters.new.self c.move_last_first.new.buffer
+    (with_stretch (a.s + a.j) (a.s + a.i + 1) last_goes_first)
+    (merge old.level (a.s + a.j) (a.s + a.i + 1) old.glyphs) _ c.merge_clusters.ensures c.move_last_first.ensures
     (pref_stepped old.level a.s e a.j a.i old.glyphs c.requires.before order range)

@@ -9,5 +9,7 @@ pub returns : goal.returns
 returns c = λ e order range.
     let a = c.args in
     let old = a.buffer.now in
-    merged_and_moved old c.merge_clusters.new.self c.move_first_last.new.buffer (with_stretch a.s (a.s + a.j + 1) first_last) (merge old.level a.s (a.s + a.j + 1) old.glyphs) _ c.merge_clusters.ensures c.move_first_last.ensures
+    merged_and_moved old c.merge_clusters.new.self c.move_first_last.new.buffer
+    (with_stretch a.s (a.s + a.j + 1) first_last) (merge old.level a.s (a.s + a.j + 1) old.glyphs) _
+    c.merge_clusters.ensures c.move_first_last.ensures
     (reph_stepped old.level a.s e a.j old.glyphs order range)

@@ -14,4 +14,7 @@ returns-in-Some-clause-glyphs c =
     let r = c.requires in
     let n = length-stretch a.s a.e old.glyphs r.in_range in
     let end = r.end in
-    stayed_in old c.merge_clusters.new.self a.s a.e a.base a.b c.in-Some.i r.in_order (omega (arith, n, end, r.in_order)) r.in_range end (ap (λ gs. least_place (passes is_left (stretch_of a.s a.e gs)) 0 a.base) (sym c.glyphs.ensures) ∙ sym c.first_left-first.ensures.place ∙ c.in-Some.is) c.merge_clusters.ensures
+    stayed_in old c.merge_clusters.new.self a.s a.e a.base a.b c.in-Some.i r.in_order
+    (omega (arith, n, end, r.in_order)) r.in_range end
+    (ap (λ gs. least_place (passes is_left (stretch_of a.s a.e gs)) 0 a.base) (sym c.glyphs.ensures)
+    ∙ sym c.first_left-first.ensures.place ∙ c.in-Some.is) c.merge_clusters.ensures

@@ -14,9 +14,14 @@ returns-clause-glyphs c =
     let part = stretch_of a.s a.e old.glyphs in
     let n = length-stretch a.s a.e old.glyphs c.requires.in_range in
     let inside : a.s + c.reph_target-target.result < a.e = omega (arith, n, c.reph_target-target.ensures.within) in
-    let opens = ap (λ gs. opens_with_reph (stretch_of a.s a.e gs)) (sym c.glyphs.ensures) ∙ sym c.opens_with_reph.ensures ∙ c.if-not-opens_with_reph.false in
-    one_step old c.move_reph.new.buffer a.s a.e (reph_steps a.position a.base part) (final_reph_step (a.e - a.s) c.reph_target-target.result)
-    (reph_only a.position a.base (a.e - a.s) c.reph_target-target.result part n opens (c.reph_target-target.ensures.target ∙ ap (λ gs. reph_target a.position a.base (stretch_of a.s a.e gs)) c.glyphs-2.ensures)) (c.move_reph.ensures a.e inside c.requires.in_range)
+    let opens = ap (λ gs. opens_with_reph (stretch_of a.s a.e gs)) (sym c.glyphs.ensures)
+    ∙ sym c.opens_with_reph.ensures ∙ c.if-not-opens_with_reph.false in
+    one_step old c.move_reph.new.buffer a.s a.e (reph_steps a.position a.base part)
+    (final_reph_step (a.e - a.s) c.reph_target-target.result)
+    (reph_only a.position a.base (a.e - a.s) c.reph_target-target.result part n opens
+    (c.reph_target-target.ensures.target
+    ∙ ap (λ gs. reph_target a.position a.base (stretch_of a.s a.e gs)) c.glyphs-2.ensures))
+    (c.move_reph.ensures a.e inside c.requires.in_range)
 
 pub returns-clause-same_length : goal.returns-clause-same_length
 returns-clause-same_length c =

@@ -29,7 +29,9 @@ returns-then-based-clause-reordered c =
       reph = c.place_reph-base.ensures.glyphs;
       next_is = c.place_reph-base.ensures.place;
     } in
-    final_syllable r script s e base next tries b0 b1 b2 b3 b4 b5 viewed calls (last_tried r script s e next tries b4 b5 viewed c.requires.in_order c.if-based.true c.place_pref.ensures.glyphs)
+    final_syllable r script s e base next tries b0 b1 b2 b3 b4 b5 viewed calls
+    (last_tried r script s e next tries b4 b5 viewed c.requires.in_order c.if-based.true
+    c.place_pref.ensures.glyphs)
 
 pub returns-else-based-clause-reordered : goal.returns-else-based-clause-reordered
 returns-else-based-clause-reordered c =
@@ -57,4 +59,5 @@ returns-else-based-clause-reordered c =
       reph = c.place_reph-base.ensures.glyphs;
       next_is = c.place_reph-base.ensures.place;
     } in
-    final_syllable r script s e base next tries b0 b1 b2 b3 b4 b4 viewed calls (last_none r script s e next tries b4 c.requires.in_order c.if-based.false)
+    final_syllable r script s e base next tries b0 b1 b2 b3 b4 b4 viewed calls
+    (last_none r script s e next tries b4 c.requires.in_order c.if-based.false)

@@ -11,16 +11,19 @@ returns-then-is_halant-clause-place c =
     let l = c.loop-i in
     let gs = c.args.glyphs.now in
     let there = passes_there is_indic_halant gs l.i default_glyph (omega (arith, c.loop-i-test.true, c.requires)) in
-    sym (least_stop (passes is_indic_halant gs) l.i c.args.base c.loop-i-test.true (there ∙ sym c.is_halant.ensures ∙ c.if-is_halant.true)) ∙ l.invariant
+    sym (least_stop (passes is_indic_halant gs) l.i c.args.base c.loop-i-test.true (there ∙ sym c.is_halant.ensures
+    ∙ c.if-is_halant.true)) ∙ l.invariant
 
 pub loop-i-preserved : goal.loop-i-preserved
 loop-i-preserved c =
     let l = c.loop-i in
     let gs = c.args.glyphs.now in
     let there = passes_there is_indic_halant gs l.i default_glyph (omega (arith, c.loop-i-test.true, c.requires)) in
-    least_step (passes is_indic_halant gs) l.i c.args.base c.loop-i-test.true (there ∙ sym c.is_halant.ensures ∙ c.if-is_halant.false) ∙ l.invariant
+    least_step (passes is_indic_halant gs) l.i c.args.base c.loop-i-test.true (there ∙ sym c.is_halant.ensures
+    ∙ c.if-is_halant.false) ∙ l.invariant
 
 pub returns-clause-place : goal.returns-clause-place
 returns-clause-place c =
     let l = c.loop-i in
-    sym (least_none (passes is_indic_halant c.args.glyphs.now) l.i c.args.base (omega (arith, c.loop-i-test.false))) ∙ l.invariant
+    sym (least_none (passes is_indic_halant c.args.glyphs.now) l.i c.args.base (omega (arith, c.loop-i-test.false)))
+    ∙ l.invariant

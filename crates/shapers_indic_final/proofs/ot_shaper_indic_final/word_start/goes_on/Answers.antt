@@ -5,4 +5,6 @@ use Rattle.shapers_indic_final.proofs.FinalWordStartCases.{before_there}
 use Rattle.shapers_indic_final.proofs.ot_shaper_indic_final.word_start.goes_on.Goals as goal
 
 pub returns : goal.returns
-returns c = c.continues_word.ensures ∙ sym (before_there (c.args.s - 1) c.args.s default_glyph c.args.glyphs.now (omega (arith, c.if-s-eq0.false)) (omega (arith, c.if-s-eq0.false, c.requires)))
+returns c = c.continues_word.ensures
+    ∙ sym (before_there (c.args.s - 1) c.args.s default_glyph c.args.glyphs.now (omega (arith, c.if-s-eq0.false))
+    (omega (arith, c.if-s-eq0.false, c.requires)))

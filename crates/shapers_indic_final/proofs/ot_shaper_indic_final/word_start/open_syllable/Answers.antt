@@ -13,24 +13,33 @@ pub returns-then-not-is_left : goal.returns-then-not-is_left
 returns-then-not-is_left c =
     let old = c.args.buffer.now in
     let s = c.args.s in
-    let left = sym (c.is_left.ensures ∙ ap (λ xs. is_left (get_or xs s default_glyph)) c.glyphs.ensures) ∙ c.if-not-is_left.true in
-    ap (λ (hs : List hb_glyph_info_t). let b : Buffer = record old { glyphs = hs } in b) (opened_other c.args.init s default_glyph old.glyphs c.requires left)
+    let left = sym (c.is_left.ensures ∙ ap (λ xs. is_left (get_or xs s default_glyph)) c.glyphs.ensures)
+    ∙ c.if-not-is_left.true in
+    ap (λ (hs : List hb_glyph_info_t). let b : Buffer = record old { glyphs = hs } in b)
+    (opened_other c.args.init s default_glyph old.glyphs c.requires left)
 
 pub returns-then-goes_on : goal.returns-then-goes_on
 returns-then-goes_on c =
     let old = c.args.buffer.now in
     let s = c.args.s in
-    let left = sym (c.is_left.ensures ∙ ap (λ xs. is_left (get_or xs s default_glyph)) c.glyphs.ensures) ∙ c.if-not-is_left.false in
-    let word = sym (c.goes_on.ensures ∙ ap (λ xs. word_goes_on (before_place s xs)) c.glyphs-2.ensures) ∙ c.if-goes_on.true in
+    let left = sym (c.is_left.ensures ∙ ap (λ xs. is_left (get_or xs s default_glyph)) c.glyphs.ensures)
+    ∙ c.if-not-is_left.false in
+    let word = sym (c.goes_on.ensures ∙ ap (λ xs. word_goes_on (before_place s xs)) c.glyphs-2.ensures)
+    ∙ c.if-goes_on.true in
     c.unsafe_to_break.ensures
-    ∙ ap (λ (k : ℕ). let b : Buffer = record old { glyphs = unsafe_inside k (s + 1) old.glyphs } in b) c.saturating_sub.ensures
-    ∙ ap (λ (hs : List hb_glyph_info_t). let b : Buffer = record old { glyphs = hs } in b) (opened_bound c.args.init s default_glyph old.glyphs c.requires left word)
+    ∙ ap (λ (k : ℕ). let b : Buffer = record old { glyphs = unsafe_inside k (s + 1) old.glyphs } in b)
+    c.saturating_sub.ensures
+    ∙ ap (λ (hs : List hb_glyph_info_t). let b : Buffer = record old { glyphs = hs } in b)
+    (opened_bound c.args.init s default_glyph old.glyphs c.requires left word)
 
 pub returns : goal.returns
 returns c =
     let old = c.args.buffer.now in
     let s = c.args.s in
-    let left = sym (c.is_left.ensures ∙ ap (λ xs. is_left (get_or xs s default_glyph)) c.glyphs.ensures) ∙ c.if-not-is_left.false in
-    let word = sym (c.goes_on.ensures ∙ ap (λ xs. word_goes_on (before_place s xs)) c.glyphs-2.ensures) ∙ c.if-goes_on.false in
+    let left = sym (c.is_left.ensures ∙ ap (λ xs. is_left (get_or xs s default_glyph)) c.glyphs.ensures)
+    ∙ c.if-not-is_left.false in
+    let word = sym (c.goes_on.ensures ∙ ap (λ xs. word_goes_on (before_place s xs)) c.glyphs-2.ensures)
+    ∙ c.if-goes_on.false in
     c.change_each.ensures
-    ∙ ap (λ (hs : List hb_glyph_info_t). let b : Buffer = record old { glyphs = hs } in b) (opened_init c.args.init s default_glyph old.glyphs c.requires left word)
+    ∙ ap (λ (hs : List hb_glyph_info_t). let b : Buffer = record old { glyphs = hs } in b)
+    (opened_init c.args.init s default_glyph old.glyphs c.requires left word)

@@ -11,7 +11,9 @@ pub returns-then-stops_search : goal.returns-then-stops_search
 returns-then-stops_search c =
     let l = c.loop-i in
     let e : l.i ≡ l.i - 1 + 1 = omega (arith, c.loop-i-test.true) in
-    stopped c.args.search c.args.lo (l.i - 1) l.below c.args.glyphs.now (omega (arith, c.loop-i-test.true)) (subst (λ k. Searching c.args.search c.args.lo k l.below c.args.glyphs.now) e l.invariant) (sym c.stops_search.ensures ∙ c.if-stops_search.true)
+    stopped c.args.search c.args.lo (l.i - 1) l.below c.args.glyphs.now (omega (arith, c.loop-i-test.true))
+    (subst (λ k. Searching c.args.search c.args.lo k l.below c.args.glyphs.now) e l.invariant)
+    (sym c.stops_search.ensures ∙ c.if-stops_search.true)
 
 pub returns-then-is_base : goal.returns-then-is_base
 returns-then-is_base c =
@@ -19,8 +21,10 @@ returns-then-is_base c =
     let gs = c.args.glyphs.now in
     let e : l.i ≡ l.i - 1 + 1 = omega (arith, c.loop-i-test.true) in
     let s = subst (λ k. Searching c.args.search c.args.lo k l.below gs) e l.invariant in
-    found c.args.search c.args.lo (l.i - 1) l.below gs (omega (arith, c.loop-i-test.true)) s (sym c.stops_search.ensures ∙ c.if-stops_search.false)
-    (base_there c.args.search gs (l.i - 1) l.below default_glyph (omega (arith, s.within)) s.below_seen ∙ sym c.is_base.ensures ∙ c.if-is_base.true)
+    found c.args.search c.args.lo (l.i - 1) l.below gs (omega (arith, c.loop-i-test.true)) s (sym c.stops_search.ensures
+    ∙ c.if-stops_search.false)
+    (base_there c.args.search gs (l.i - 1) l.below default_glyph (omega (arith, s.within)) s.below_seen
+    ∙ sym c.is_base.ensures ∙ c.if-is_base.true)
 
 pub loop-i-preserved-then-is_below : goal.loop-i-preserved-then-is_below
 loop-i-preserved-then-is_below c =
@@ -28,9 +32,12 @@ loop-i-preserved-then-is_below c =
     let gs = c.args.glyphs.now in
     let e : l.i ≡ l.i - 1 + 1 = omega (arith, c.loop-i-test.true) in
     let s = subst (λ k. Searching c.args.search c.args.lo k l.below gs) e l.invariant in
-    let here = below_there c.args.search gs (l.i - 1) default_glyph (omega (arith, s.within)) ∙ sym c.is_below.ensures ∙ c.if-is_below.true in
-    searching_next c.args.search c.args.lo (l.i - 1) l.below _ gs (omega (arith, c.loop-i-test.true)) s (sym c.stops_search.ensures ∙ c.if-stops_search.false)
-    (base_there c.args.search gs (l.i - 1) l.below default_glyph (omega (arith, s.within)) s.below_seen ∙ sym c.is_base.ensures ∙ c.if-is_base.false)
+    let here = below_there c.args.search gs (l.i - 1) default_glyph (omega (arith, s.within)) ∙ sym c.is_below.ensures
+    ∙ c.if-is_below.true in
+    searching_next c.args.search c.args.lo (l.i - 1) l.below _ gs (omega (arith, c.loop-i-test.true)) s
+    (sym c.stops_search.ensures ∙ c.if-stops_search.false)
+    (base_there c.args.search gs (l.i - 1) l.below default_glyph (omega (arith, s.within)) s.below_seen
+    ∙ sym c.is_base.ensures ∙ c.if-is_base.false)
     (c.if-is_below.true ∙ sym (ap (λ b. b || l.below) here))
 
 pub loop-i-preserved : goal.loop-i-preserved
@@ -39,13 +46,17 @@ loop-i-preserved c =
     let gs = c.args.glyphs.now in
     let e : l.i ≡ l.i - 1 + 1 = omega (arith, c.loop-i-test.true) in
     let s = subst (λ k. Searching c.args.search c.args.lo k l.below gs) e l.invariant in
-    let here = below_there c.args.search gs (l.i - 1) default_glyph (omega (arith, s.within)) ∙ sym c.is_below.ensures ∙ c.if-is_below.false in
-    searching_next c.args.search c.args.lo (l.i - 1) l.below _ gs (omega (arith, c.loop-i-test.true)) s (sym c.stops_search.ensures ∙ c.if-stops_search.false)
-    (base_there c.args.search gs (l.i - 1) l.below default_glyph (omega (arith, s.within)) s.below_seen ∙ sym c.is_base.ensures ∙ c.if-is_base.false)
+    let here = below_there c.args.search gs (l.i - 1) default_glyph (omega (arith, s.within)) ∙ sym c.is_below.ensures
+    ∙ c.if-is_below.false in
+    searching_next c.args.search c.args.lo (l.i - 1) l.below _ gs (omega (arith, c.loop-i-test.true)) s
+    (sym c.stops_search.ensures ∙ c.if-stops_search.false)
+    (base_there c.args.search gs (l.i - 1) l.below default_glyph (omega (arith, s.within)) s.below_seen
+    ∙ sym c.is_base.ensures ∙ c.if-is_base.false)
     (sym (ap (λ b. b || l.below) here))
 
 pub returns : goal.returns
 returns c =
     let l = c.loop-i in
     let e : l.i ≡ c.args.lo = omega (arith, l.invariant.from, c.loop-i-test.false) in
-    none_found c.args.search c.args.lo l.below c.args.glyphs.now (subst (λ k. Searching c.args.search c.args.lo k l.below c.args.glyphs.now) e l.invariant)
+    none_found c.args.search c.args.lo l.below c.args.glyphs.now
+    (subst (λ k. Searching c.args.search c.args.lo k l.below c.args.glyphs.now) e l.invariant)

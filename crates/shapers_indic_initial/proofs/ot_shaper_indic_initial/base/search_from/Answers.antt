@@ -6,13 +6,15 @@ use Rattle.shapers_indic_initial.proofs.ot_shaper_indic_initial.base.search_from
 pub returns-then-stops_search-clause-from : goal.returns-then-stops_search-clause-from
 returns-then-stops_search-clause-from c =
     let l = c.loop-i in
-    ends_behind c.args.lo (l.i - 1) l.i c.args.glyphs.now (omega (arith, c.loop-i-test.true)) (omega (arith, c.loop-i-test.true)) (sym c.stops_search.ensures ∙ c.if-stops_search.true) l.invariant.1
+    ends_behind c.args.lo (l.i - 1) l.i c.args.glyphs.now (omega (arith, c.loop-i-test.true))
+    (omega (arith, c.loop-i-test.true)) (sym c.stops_search.ensures ∙ c.if-stops_search.true) l.invariant.1
 
 pub loop-i-preserved : goal.loop-i-preserved
 loop-i-preserved c =
     let l = c.loop-i in (
       omega (arith, c.loop-i-test.true),
-      ends_further c.args.lo (l.i - 1) l.i c.args.glyphs.now (omega (arith, c.loop-i-test.true)) (omega (arith, c.loop-i-test.true)) (sym c.stops_search.ensures ∙ c.if-stops_search.false) l.invariant.1,
+      ends_further c.args.lo (l.i - 1) l.i c.args.glyphs.now (omega (arith, c.loop-i-test.true))
+          (omega (arith, c.loop-i-test.true)) (sym c.stops_search.ensures ∙ c.if-stops_search.false) l.invariant.1,
     )
 
 pub returns-clause-from : goal.returns-clause-from

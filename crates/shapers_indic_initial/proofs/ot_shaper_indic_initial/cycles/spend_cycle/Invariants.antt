@@ -8,5 +8,6 @@ abbrev pub invariant-loop : goal.invariant-loop
 invariant-loop l = record {
   from : l.start ≤ l.counter;
   others : l.buffer ≡ record l.fn.buffer { places = l.buffer.places };
-  passing : Passing (places_from l.start l.end l.fn.buffer.places) l.p (places_from l.start l.end l.buffer.places) l.q (l.end - l.counter) l.least l.greatest;
+  passing : Passing (places_from l.start l.end l.fn.buffer.places) l.p (places_from l.start l.end l.buffer.places) l.q
+      (l.end - l.counter) l.least l.greatest;
 }

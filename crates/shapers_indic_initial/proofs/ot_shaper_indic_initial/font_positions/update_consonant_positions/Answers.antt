@@ -13,4 +13,5 @@ returns-then-not-has_forms g c =
     let p = c.args.rules.now.plan.now in
     let b = c.args.buffer.now in
     let none = sym c.has_forms.ensures ∙ c.if-not-has_forms.true in
-    ap (λ (gs : List hb_glyph_info_t). let y : Buffer = record b { glyphs = gs } in y) (sym (without_any font m p (virama_glyph font p) b.glyphs none))
+    ap (λ (gs : List hb_glyph_info_t). let y : Buffer = record b { glyphs = gs } in y)
+    (sym (without_any font m p (virama_glyph font p) b.glyphs none))

@@ -11,4 +11,6 @@ pub loop-i-preserved : goal.loop-i-preserved
 loop-i-preserved c =
     let l = c.loop-i in
     let gs = c.args.glyphs.now in
-    sym (least_further (passes (has_category 4) gs) l.i (length gs) c.loop-i-test.true (passes_there (has_category 4) gs l.i default_glyph c.loop-i-test.true ∙ ne_eqb (get_or gs l.i default_glyph).category 4 c.if-glyphs-i-eq-OT_H.false)) ∙ l.invariant
+    sym (least_further (passes (has_category 4) gs) l.i (length gs) c.loop-i-test.true
+    (passes_there (has_category 4) gs l.i default_glyph c.loop-i-test.true
+    ∙ ne_eqb (get_or gs l.i default_glyph).category 4 c.if-glyphs-i-eq-OT_H.false)) ∙ l.invariant

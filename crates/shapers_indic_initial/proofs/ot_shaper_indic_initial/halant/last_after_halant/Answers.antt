@@ -14,7 +14,10 @@ returns-then-is_passed_by_halant-clause-place c =
     let P = passes (is_passed_by_halant c.args.script) gs in
     let from = c.args.halant + 1 in
     let e : l.i - 1 + 1 ≡ l.i = omega (arith, c.loop-i-test.true) in
-    sym (greatest_here P from (l.i - 1) (omega (arith, c.loop-i-test.true)) (passes_there (is_passed_by_halant c.args.script) gs (l.i - 1) default_glyph (omega (arith, c.loop-i-test.true, l.auto.i)) ∙ sym c.is_passed_by_halant.ensures ∙ c.if-is_passed_by_halant.true))
+    sym (greatest_here P from (l.i - 1) (omega (arith, c.loop-i-test.true))
+    (passes_there (is_passed_by_halant c.args.script) gs (l.i - 1) default_glyph
+    (omega (arith, c.loop-i-test.true, l.auto.i)) ∙ sym c.is_passed_by_halant.ensures
+    ∙ c.if-is_passed_by_halant.true))
     ∙ ap (greatest_place P from) e
     ∙ l.invariant
 
@@ -25,6 +28,9 @@ loop-i-preserved c =
     let P = passes (is_passed_by_halant c.args.script) gs in
     let from = c.args.halant + 1 in
     let e : l.i - 1 + 1 ≡ l.i = omega (arith, c.loop-i-test.true) in
-    sym (greatest_back P from (l.i - 1) (omega (arith, c.loop-i-test.true)) (passes_there (is_passed_by_halant c.args.script) gs (l.i - 1) default_glyph (omega (arith, c.loop-i-test.true, l.auto.i)) ∙ sym c.is_passed_by_halant.ensures ∙ c.if-is_passed_by_halant.false))
+    sym (greatest_back P from (l.i - 1) (omega (arith, c.loop-i-test.true))
+    (passes_there (is_passed_by_halant c.args.script) gs (l.i - 1) default_glyph
+    (omega (arith, c.loop-i-test.true, l.auto.i)) ∙ sym c.is_passed_by_halant.ensures
+    ∙ c.if-is_passed_by_halant.false))
     ∙ ap (greatest_place P from) e
     ∙ l.invariant

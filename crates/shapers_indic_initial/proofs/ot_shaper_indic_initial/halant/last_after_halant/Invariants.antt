@@ -5,4 +5,5 @@ use Rattle.shapers_indic_initial.specs.InitialPositions.{is_passed_by_halant}
 use Rattle.shapers_indic_initial.proofs.ot_shaper_indic_initial.halant.last_after_halant.Given as goal
 
 abbrev pub invariant-loop-i : goal.invariant-loop-i
-invariant-loop-i l = greatest_place (passes (is_passed_by_halant l.script) l.glyphs) (l.halant + 1) l.i ≡ greatest_place (passes (is_passed_by_halant l.script) l.glyphs) (l.halant + 1) (length l.glyphs)
+invariant-loop-i l = greatest_place (passes (is_passed_by_halant l.script) l.glyphs) (l.halant + 1) l.i
+    ≡ greatest_place (passes (is_passed_by_halant l.script) l.glyphs) (l.halant + 1) (length l.glyphs)

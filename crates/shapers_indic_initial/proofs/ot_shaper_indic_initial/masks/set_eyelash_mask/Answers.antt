@@ -13,7 +13,8 @@ returns-then-has_eyelash c = λ font m.
     let r = initial_rules font m c.args.plan.now in
     let gs = c.args.glyphs.now in
     c.set_eyelash_bits.ensures
-    ∙ ap (λ bits. map (λ t. if is_in_eyelash c.args.base gs t.0 then with_bits bits t.1 else t.1) (enumerate_from 0 gs)) c.bits_of.ensures
+    ∙ ap (λ bits. map (λ t. if is_in_eyelash c.args.base gs t.0 then with_bits bits t.1 else t.1) (enumerate_from 0 gs))
+    c.bits_of.ensures
     ∙ eyelash_is r c.args.script c.args.base gs true (sym c.if-has_eyelash.true ∙ c.has_eyelash.ensures font m)
 
 pub returns-else-has_eyelash : goal.returns-else-has_eyelash

@@ -13,18 +13,26 @@ use Rattle.shapers_syllabic.proofs.LinkedSyllables.{takes_any}
 use Rattle.shapers_indic_initial.proofs.ot_shaper_indic_initial.pause.initial_reordering.Goals as goal
 
 pub reorder_syllables-requires-clause-takes : goal.reorder_syllables-requires-clause-takes
-reorder_syllables-requires-clause-takes g c = takes_any (λ _. Unit {0}) (λ _. tt) c.update_consonant_positions.new.buffer.glyphs
+reorder_syllables-requires-clause-takes g c =
+    takes_any (λ _. Unit {0}) (λ _. tt) c.update_consonant_positions.new.buffer.glyphs
 
 pub returns-clause-linked : goal.returns-clause-linked
 returns-clause-linked g c =
-    linked_behind_circles (g.F.hb_font_t.font c.args.face.now) c.args.plan.now.ot_map (indic_in c.args.plan.now) c.indic_in.result.now c.args.buffer.now c.insert.new.buffer c.update_consonant_positions.new.buffer c.reorder_syllables.new.buffer
-    c.indic_in.ensures c.in_ok-circles.ensures.ok c.update_consonant_positions.ensures c.in_ok-reorder_syllables.ensures.linked
+    linked_behind_circles (g.F.hb_font_t.font c.args.face.now) c.args.plan.now.ot_map (indic_in c.args.plan.now)
+    c.indic_in.result.now c.args.buffer.now c.insert.new.buffer c.update_consonant_positions.new.buffer
+    c.reorder_syllables.new.buffer
+    c.indic_in.ensures c.in_ok-circles.ensures.ok c.update_consonant_positions.ensures
+    c.in_ok-reorder_syllables.ensures.linked
 
 pub returns-clause-ok : goal.returns-clause-ok
-returns-clause-ok g c = initially_linked (g.F.hb_font_t.font c.args.face.now) c.args.plan.now.ot_map (indic_in c.args.plan.now) c.args.buffer.now c.reorder_syllables.new.buffer (returns-clause-linked g c)
+returns-clause-ok g c =
+    initially_linked (g.F.hb_font_t.font c.args.face.now) c.args.plan.now.ot_map (indic_in c.args.plan.now)
+    c.args.buffer.now c.reorder_syllables.new.buffer (returns-clause-linked g c)
 
 pub returns-clause-syllables : goal.returns-clause-syllables
-returns-clause-syllables g c = paused_by_font (g.F.hb_font_t.font c.args.face.now) c.args.plan.now.ot_map (indic_in c.args.plan.now) c.args.buffer.now c.reorder_syllables.new.buffer (returns-clause-ok g c)
+returns-clause-syllables g c =
+    paused_by_font (g.F.hb_font_t.font c.args.face.now) c.args.plan.now.ot_map (indic_in c.args.plan.now)
+    c.args.buffer.now c.reorder_syllables.new.buffer (returns-clause-ok g c)
 
 pub returns-clause-cut : goal.returns-clause-cut
 returns-clause-cut g c =
@@ -32,7 +40,9 @@ returns-clause-cut g c =
     let m = c.args.plan.now.ot_map in
     let p = indic_in c.args.plan.now in
     let b = c.args.buffer.now in
-    cuts_at_borders (initial_circles font b) (order_by_font font m p b.script) (steps_by_font font m p b.script) b c.reorder_syllables.new.buffer (laws_by_font font m p (virama_glyph font p) b.script) (returns-clause-syllables g c)
+    cuts_at_borders (initial_circles font b) (order_by_font font m p b.script) (steps_by_font font m p b.script) b
+    c.reorder_syllables.new.buffer (laws_by_font font m p (virama_glyph font p) b.script)
+    (returns-clause-syllables g c)
 
 pub returns-clause-laws : goal.returns-clause-laws
 returns-clause-laws g c =
@@ -41,13 +51,18 @@ returns-clause-laws g c =
     let p = indic_in c.args.plan.now in
     let b = c.args.buffer.now in
     let opened : Buffer = record b { glyphs = circled (initial_circles font b) b.glyphs } in
-    text_reordered (order_by_font font m p b.script) (steps_by_font font m p b.script) opened c.reorder_syllables.new.buffer (laws_by_font font m p (virama_glyph font p) b.script) (returns-clause-syllables g c)
+    text_reordered (order_by_font font m p b.script) (steps_by_font font m p b.script) opened
+    c.reorder_syllables.new.buffer (laws_by_font font m p (virama_glyph font p) b.script)
+    (returns-clause-syllables g c)
 
 pub returns-clause-merged : goal.returns-clause-merged
-returns-clause-merged g c = initial_text_merges (g.F.hb_font_t.font c.args.face.now) c.args.plan.now.ot_map (indic_in c.args.plan.now) c.args.buffer.now c.reorder_syllables.new.buffer (returns-clause-ok g c)
+returns-clause-merged g c =
+    initial_text_merges (g.F.hb_font_t.font c.args.face.now) c.args.plan.now.ot_map (indic_in c.args.plan.now)
+    c.args.buffer.now c.reorder_syllables.new.buffer (returns-clause-ok g c)
 
 pub returns-clause-clusters : goal.returns-clause-clusters
 returns-clause-clusters g c =
     let b = c.args.buffer.now in
     let law = returns-clause-laws g c in
-    no_new_cluster (initial_circles (g.F.hb_font_t.font c.args.face.now) b) b.glyphs c.reorder_syllables.new.buffer.glyphs law.glyphs.in_clusters.old_clusters
+    no_new_cluster (initial_circles (g.F.hb_font_t.font c.args.face.now) b) b.glyphs
+    c.reorder_syllables.new.buffer.glyphs law.glyphs.in_clusters.old_clusters

@@ -8,4 +8,6 @@ pub loop-i-preserved : goal.loop-i-preserved
 loop-i-preserved c =
     let l = c.loop-i in
     let e : l.i ≡ l.i - 1 + 1 = omega (arith, c.loop-i-test.true) in
-    owning_next (l.i - 1) c.owned_position.result l.owner c.args.glyphs.now l.glyphs default_glyph (subst (λ k. Owning k l.owner c.args.glyphs.now l.glyphs) e l.invariant) (sym c.bounds.ensures ∙ c.if-bounds.false) c.owned_position.ensures
+    owning_next (l.i - 1) c.owned_position.result l.owner c.args.glyphs.now l.glyphs default_glyph
+    (subst (λ k. Owning k l.owner c.args.glyphs.now l.glyphs) e l.invariant) (sym c.bounds.ensures
+    ∙ c.if-bounds.false) c.owned_position.ensures

@@ -10,12 +10,15 @@ use Rattle.shapers_indic_initial.proofs.ot_shaper_indic_initial.preparing.prepar
 
 pub returns-clause-reordered : goal.returns-clause-reordered
 returns-clause-reordered g c =
-    let r = initial_rules (g.F.hb_font_t.font c.args.rules.now.face.now) c.args.rules.now.map.now c.args.rules.now.plan.now in
+    let r = initial_rules (g.F.hb_font_t.font c.args.rules.now.face.now) c.args.rules.now.map.now
+    c.args.rules.now.plan.now in
     let s = c.args.start in
     let e = c.args.end in
     let b4 = c.walk-2.new.self in
-    subst (λ script. SyllableReordered (positioned r script) (opening_steps r script) s e c.args.buffer.now b4) c.script-script.ensures
-    (syllable_opened r c.script-script.result s e c.find_base-base.result.place c.find_base-base.result.has_reph c.args.buffer.now c.put_joiner_first.new.buffer c.walk.new.self c.move_halant.new.buffer b4
+    subst (λ script. SyllableReordered (positioned r script) (opening_steps r script) s e c.args.buffer.now b4)
+    c.script-script.ensures
+    (syllable_opened r c.script-script.result s e c.find_base-base.result.place c.find_base-base.result.has_reph
+    c.args.buffer.now c.put_joiner_first.new.buffer c.walk.new.self c.move_halant.new.buffer b4
     c.requires.in_order c.requires.in_range
     c.put_joiner_first.ensures.same_length c.put_joiner_first.ensures.reordered
     (c.find_base-base.ensures.place ∙ ap (λ gs. base_place r (stretch_of s e gs)) c.glyphs.ensures)

@@ -7,11 +7,14 @@ use Rattle.shapers_indic_initial.proofs.ot_shaper_indic_initial.preparing.put_jo
 
 pub returns-then-joiner_comes_first-clause-reordered : goal.returns-then-joiner_comes_first-clause-reordered
 returns-then-joiner_comes_first-clause-reordered c =
-    joiner_moves c.args.script c.args.start c.args.end c.args.buffer.now c.merge_clusters.new.self c.move_to_end.new.buffer c.requires.in_order c.requires.in_range
-    (sym (ap (λ gs. joiner_comes_first c.args.script (stretch_of c.args.start c.args.end gs)) c.glyphs.ensures) ∙ sym c.joiner_comes_first.ensures ∙ c.if-joiner_comes_first.true)
+    joiner_moves c.args.script c.args.start c.args.end c.args.buffer.now c.merge_clusters.new.self
+    c.move_to_end.new.buffer c.requires.in_order c.requires.in_range
+    (sym (ap (λ gs. joiner_comes_first c.args.script (stretch_of c.args.start c.args.end gs)) c.glyphs.ensures)
+    ∙ sym c.joiner_comes_first.ensures ∙ c.if-joiner_comes_first.true)
     c.merge_clusters.ensures c.move_to_end.ensures.others c.move_to_end.ensures.moved
 
 pub returns-else-joiner_comes_first-clause-reordered : goal.returns-else-joiner_comes_first-clause-reordered
 returns-else-joiner_comes_first-clause-reordered c =
     joiner_stays_put c.args.script c.args.start c.args.end c.args.buffer.now c.requires.in_order c.requires.in_range
-    (sym (ap (λ gs. joiner_comes_first c.args.script (stretch_of c.args.start c.args.end gs)) c.glyphs.ensures) ∙ sym c.joiner_comes_first.ensures ∙ c.if-joiner_comes_first.false)
+    (sym (ap (λ gs. joiner_comes_first c.args.script (stretch_of c.args.start c.args.end gs)) c.glyphs.ensures)
+    ∙ sym c.joiner_comes_first.ensures ∙ c.if-joiner_comes_first.false)

@@ -11,4 +11,6 @@ loop-glyph-init c = ap (with_own_positions 4) (parts_behind c.args.glyphs.now)
 pub loop-glyph-preserved : goal.loop-glyph-preserved
 loop-glyph-preserved c =
     let l = c.loop-glyph in
-    own_next l.before l.part l.glyphs _ l.glyph-index default_glyph c.part_of-part.result c.own_position-before.result (omega (arith, c.loop-glyph.auto.glyphs, c.loop-glyph-test.true)) l.invariant c.part_of-part.ensures c.own_position-before.ensures
+    own_next l.before l.part l.glyphs _ l.glyph-index default_glyph c.part_of-part.result c.own_position-before.result
+    (omega (arith, c.loop-glyph.auto.glyphs, c.loop-glyph-test.true)) l.invariant c.part_of-part.ensures
+    c.own_position-before.ensures

@@ -5,4 +5,6 @@ use Rattle.shapers_myanmar.specs.MyanmarWalk.{behind_part}
 use Rattle.shapers_myanmar.proofs.ot_shaper_myanmar.positions.set_later.Given as goal
 
 abbrev pub invariant-loop-glyph : goal.invariant-loop-glyph
-invariant-loop-glyph l = take l.glyph-index l.glyphs ++ with_own_positions l.before (behind_part l.part (drop l.glyph-index l.glyphs)) ≡ with_own_positions 4 (parts_positioned l.initial.glyphs)
+invariant-loop-glyph l =
+    take l.glyph-index l.glyphs ++ with_own_positions l.before (behind_part l.part (drop l.glyph-index l.glyphs))
+    ≡ with_own_positions 4 (parts_positioned l.initial.glyphs)

@@ -22,10 +22,13 @@ returns-clause-parts g t c =
     let enough : c.is_enough.result ≡ short && has = c.is_enough.ensures ∙ ap (λ h. short && h) seen in
     let further : c.if-is_enough.further.items ≡ cond (short && has) [] (apart_in context short m a) =
     elim c.if-is_enough.branch [
-      | then-is_enough w ↦ rw w.further-is (w.new-further.ensures ∙ sym (ap (λ h. cond h [] (apart_in context short m a)) (sym enough ∙ w.if-is_enough.true)))
-      | else-is_enough w ↦ rw w.further-is (w.come_apart-further.ensures.parts ∙ sym (ap (λ h. cond h [] (apart_in context short m a)) (sym enough ∙ w.if-is_enough.false)))
+      | then-is_enough w ↦ rw w.further-is (w.new-further.ensures
+          ∙ sym (ap (λ h. cond h [] (apart_in context short m a)) (sym enough ∙ w.if-is_enough.true)))
+      | else-is_enough w ↦ rw w.further-is (w.come_apart-further.ensures.parts
+          ∙ sym (ap (λ h. cond h [] (apart_in context short m a)) (sym enough ∙ w.if-is_enough.false)))
     ] in
     c.then_come_off.ensures.off
     ∙ ap (then_come_off b)
-    (c.or_base.ensures.base ∙ ap (λ h. or_base_alone h a c.if-is_enough.further.items) seen ∙ ap (or_base_alone has a) further)
+    (c.or_base.ensures.base ∙ ap (λ h. or_base_alone h a c.if-is_enough.further.items) seen
+    ∙ ap (or_base_alone has a) further)
     ∙ sym (apart_further context short c.args.steps m c.args.c a b next some free)

@@ -14,7 +14,8 @@ returns-then-not-cluster_stays g c =
     let gs = c.args.glyphs.now in
     let l = c.loop-start in
     let n = c.cluster_len.result in
-    let is : n ≡ 1 + prefix_len is_mark_glyph (drop 1 (drop l.start gs)) = c.cluster_len.ensures.len ∙ ap (λ (xs : List hb_glyph_info_t). 1 + prefix_len is_mark_glyph (drop 1 xs)) c.rest_from.ensures in
+    let is : n ≡ 1 + prefix_len is_mark_glyph (drop 1 (drop l.start gs)) = c.cluster_len.ensures.len
+    ∙ ap (λ (xs : List hb_glyph_info_t). 1 + prefix_len is_mark_glyph (drop 1 xs)) c.rest_from.ensures in
     let behind = list_all (cluster_stays context) (mark_clusters (drop (l.start + n) gs)) in
     sym (ap (λ b. b && behind) (sym c.cluster_stays.ensures ∙ c.if-not-cluster_stays.true))
     ∙ sym (ap (list_all (cluster_stays context)) (next_groups is_mark_glyph gs l.start n c.loop-start-test.true is))
@@ -26,12 +27,20 @@ loop-start-preserved g c =
     let gs = c.args.glyphs.now in
     let l = c.loop-start in
     let n = c.cluster_len.result in
-    let is : n ≡ 1 + prefix_len is_mark_glyph (drop 1 (drop l.start gs)) = c.cluster_len.ensures.len ∙ ap (λ (xs : List hb_glyph_info_t). 1 + prefix_len is_mark_glyph (drop 1 xs)) c.rest_from.ensures in
+    let is : n ≡ 1 + prefix_len is_mark_glyph (drop 1 (drop l.start gs)) = c.cluster_len.ensures.len
+    ∙ ap (λ (xs : List hb_glyph_info_t). 1 + prefix_len is_mark_glyph (drop 1 xs)) c.rest_from.ensures in
     let behind = list_all (cluster_stays context) (mark_clusters (drop (l.start + n) gs)) in
     record {
       left =
           sym (ap (λ b. b && behind) (sym c.cluster_stays.ensures ∙ c.if-not-cluster_stays.false))
-          ∙ sym (ap (list_all (cluster_stays context)) (next_groups is_mark_glyph gs l.start n c.loop-start-test.true is))
+          ∙ sym (ap (list_all (cluster_stays context))
+          (next_groups is_mark_glyph gs l.start n c.loop-start-test.true is))
           ∙ l.invariant.left;
-      within = omega (arith, c.cluster_len.ensures.within, ap length c.rest_from.ensures, length-drop l.start gs, c.loop-start-test.true);
+      within = omega (
+        arith,
+        c.cluster_len.ensures.within,
+        ap length c.rest_from.ensures,
+        length-drop l.start gs,
+        c.loop-start-test.true,
+      );
     }

@@ -6,7 +6,8 @@ use Rattle.shapers_normal.proofs.ot_shape_normalize.decomposing.all_clusters_sta
 
 abbrev pub invariant-loop-start : goal.invariant-loop-start
 invariant-loop-start g l = record {
-  left : list_all (cluster_stays (g.C.NormalizeContext.context l.context)) (mark_clusters (drop l.start l.glyphs)) ≡ list_all (cluster_stays (g.C.NormalizeContext.context l.context)) (mark_clusters l.glyphs);
+  left : list_all (cluster_stays (g.C.NormalizeContext.context l.context)) (mark_clusters (drop l.start l.glyphs))
+      ≡ list_all (cluster_stays (g.C.NormalizeContext.context l.context)) (mark_clusters l.glyphs);
   within : l.start ≤ length l.glyphs;
 }
 

@@ -14,7 +14,8 @@ returns-in-None-clause-length g c =
     let gs = c.args.glyphs.now in
     let l = c.loop-start in
     let n = c.cluster_len.result in
-    let is : n ≡ 1 + prefix_len is_mark_glyph (drop 1 (drop l.start gs)) = c.cluster_len.ensures.len ∙ ap (λ (xs : List hb_glyph_info_t). 1 + prefix_len is_mark_glyph (drop 1 xs)) c.rest_from.ensures in
+    let is : n ≡ 1 + prefix_len is_mark_glyph (drop 1 (drop l.start gs)) = c.cluster_len.ensures.len
+    ∙ ap (λ (xs : List hb_glyph_info_t). 1 + prefix_len is_mark_glyph (drop 1 xs)) c.rest_from.ensures in
     let cluster = cluster_becomes context (take (l.start + n - l.start) (drop l.start gs)) in
     let behind = text_decomposed context (drop (l.start + n) gs) in
     let next = ap length (next_cluster context gs l.start n c.loop-start-test.true is) in
@@ -26,8 +27,16 @@ loop-start-preserved g c =
     let gs = c.args.glyphs.now in
     let l = c.loop-start in
     let n = c.cluster_len.result in
-    let is : n ≡ 1 + prefix_len is_mark_glyph (drop 1 (drop l.start gs)) = c.cluster_len.ensures.len ∙ ap (λ (xs : List hb_glyph_info_t). 1 + prefix_len is_mark_glyph (drop 1 xs)) c.rest_from.ensures in
-    let inside : l.start + n ≤ length gs = omega (arith, c.cluster_len.ensures.within, ap length c.rest_from.ensures, length-drop l.start gs, c.loop-start-test.true) in
+    let is : n ≡ 1 + prefix_len is_mark_glyph (drop 1 (drop l.start gs)) = c.cluster_len.ensures.len
+    ∙ ap (λ (xs : List hb_glyph_info_t). 1 + prefix_len is_mark_glyph (drop 1 xs)) c.rest_from.ensures in
+    let inside : l.start + n ≤ length gs =
+    omega (
+      arith,
+      c.cluster_len.ensures.within,
+      ap length c.rest_from.ensures,
+      length-drop l.start gs,
+      c.loop-start-test.true,
+    ) in
     let cluster = cluster_becomes context (take (l.start + n - l.start) (drop l.start gs)) in
     let behind = text_decomposed context (drop (l.start + n) gs) in
     let next = ap length (next_cluster context gs l.start n c.loop-start-test.true is) in

@@ -5,7 +5,8 @@ use Rattle.shapers_normal.proofs.ot_shape_normalize.decomposing.measure.Given as
 
 abbrev pub invariant-loop-start : goal.invariant-loop-start
 invariant-loop-start g l = record {
-  room : l.limit + length (text_decomposed (g.C.NormalizeContext.context l.context) (drop l.start l.glyphs)) ≡ l.room + length (text_decomposed (g.C.NormalizeContext.context l.context) l.glyphs);
+  room : l.limit + length (text_decomposed (g.C.NormalizeContext.context l.context) (drop l.start l.glyphs))
+      ≡ l.room + length (text_decomposed (g.C.NormalizeContext.context l.context) l.glyphs);
   few : l.room ≤ l.limit;
   within : l.start ≤ length l.glyphs;
 }

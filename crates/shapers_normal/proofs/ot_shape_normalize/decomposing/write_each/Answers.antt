@@ -16,5 +16,14 @@ write-requires g c =
     let all = flat_map text cluster in
     let i = l.glyph-index in
     let next = ap length (next_becomes text cluster i default_glyph c.loop-glyph-test.true) in
-    let room = room_for l.to.items (flat_map text (drop i cluster)) c.args.to.now.items all (vec_capacity c.args.to.now) (vec_capacity l.to) l.invariant.text c.requires.room l.invariant.capacity in
-    record { room = omega (arith, room, next, length-append (text (get_or cluster i default_glyph)) (flat_map text (drop (i + 1) cluster))) }
+    let room = room_for l.to.items (flat_map text (drop i cluster)) c.args.to.now.items all (vec_capacity c.args.to.now)
+    (vec_capacity l.to) l.invariant.text c.requires.room l.invariant.capacity in
+    record {
+      room = omega (
+        arith,
+        room,
+        next,
+        length-append (text (get_or cluster i default_glyph))
+            (flat_map text (drop (i + 1) cluster)),
+      );
+    }

@@ -7,6 +7,7 @@ use Rattle.shapers_normal.proofs.ot_shape_normalize.decomposing.write_each.Given
 
 abbrev pub invariant-loop-glyph : goal.invariant-loop-glyph
 invariant-loop-glyph g l = record {
-  text : l.to.items ++ flat_map (becomes (g.C.NormalizeContext.context l.context) l.way) (drop l.glyph-index l.glyphs) ≡ l.initial.to.items ++ flat_map (becomes (g.C.NormalizeContext.context l.context) l.way) l.glyphs;
+  text : l.to.items ++ flat_map (becomes (g.C.NormalizeContext.context l.context) l.way) (drop l.glyph-index l.glyphs)
+      ≡ l.initial.to.items ++ flat_map (becomes (g.C.NormalizeContext.context l.context) l.way) l.glyphs;
   capacity : vec_capacity l.initial.to ≤ vec_capacity l.to;
 }

@@ -12,5 +12,7 @@ put-requires g c =
     let parts = c.args.parts.now in
     let l = c.loop-c in
     let left = drop l.c-index parts in
-    let room = room_for l.to.items (map part left) c.args.to.now.items (map part parts) (vec_capacity c.args.to.now) (vec_capacity l.to) l.invariant.text (omega (arith, c.requires.room, length-map parts part)) l.invariant.capacity in
+    let room = room_for l.to.items (map part left) c.args.to.now.items (map part parts) (vec_capacity c.args.to.now)
+    (vec_capacity l.to) l.invariant.text (omega (arith, c.requires.room, length-map parts part))
+    l.invariant.capacity in
     omega (arith, room, length-map left part, length-drop l.c-index parts, c.loop-c-test.true)

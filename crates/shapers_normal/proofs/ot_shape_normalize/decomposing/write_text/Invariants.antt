@@ -6,7 +6,8 @@ use Rattle.shapers_normal.proofs.ot_shape_normalize.decomposing.write_text.Given
 
 abbrev pub invariant-loop-start : goal.invariant-loop-start
 invariant-loop-start g l = record {
-  text : l.to.items ++ text_decomposed (g.C.NormalizeContext.context l.context) (drop l.start l.glyphs) ≡ l.initial.to.items ++ text_decomposed (g.C.NormalizeContext.context l.context) l.glyphs;
+  text : l.to.items ++ text_decomposed (g.C.NormalizeContext.context l.context) (drop l.start l.glyphs)
+      ≡ l.initial.to.items ++ text_decomposed (g.C.NormalizeContext.context l.context) l.glyphs;
   capacity : vec_capacity l.initial.to ≤ vec_capacity l.to;
   within : l.start ≤ length l.glyphs;
 }

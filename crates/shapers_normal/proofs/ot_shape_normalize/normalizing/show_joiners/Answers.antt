@@ -13,11 +13,13 @@ pub loop-i-preserved : goal.loop-i-preserved
 loop-i-preserved c =
     let l = c.loop-i in
     let here = get_or l.glyphs l.i default_glyph in
-    showing_next c.args.glyphs.now l.glyphs (set l.glyphs l.i c.pass_over.result) l.i l.invariant (omega (arith, c.max-i-end.ensures))
+    showing_next c.args.glyphs.now l.glyphs (set l.glyphs l.i c.pass_over.result) l.i l.invariant
+    (omega (arith, c.max-i-end.ensures))
     (ap (set l.glyphs l.i)
     (c.pass_over.ensures
     ∙ ap (λ before. passes_over before c.class-behind.result here) c.class-before.ensures
-    ∙ ap (λ behind. passes_over (class_of (get_or l.glyphs (l.i - 1) default_glyph)) behind here) c.class-behind.ensures))
+    ∙ ap (λ behind. passes_over (class_of (get_or l.glyphs (l.i - 1) default_glyph)) behind here)
+    c.class-behind.ensures))
 
 pub returns : goal.returns
 returns c = showing_end c.args.glyphs.now c.loop-i.glyphs c.loop-i.i c.loop-i.invariant (omega arith)

@@ -15,8 +15,11 @@ returns-clause-next g c =
     let gs = c.merge_apart.new.glyphs in
     let drawn = c.args.drawn in
     let long : p.to ≤ length gs = omega (arith, c.merge_apart.auto.glyphs, c.requires.inside, c.requires.gap) in
-    let put = λ (xs : List hb_glyph_info_t). let w : StarterWalk = record { starter = s; place = p.to; glyphs = xs } in w in
+    let put = λ (xs : List hb_glyph_info_t). let w : StarterWalk =
+    record { starter = s; place = p.to; glyphs = xs } in w in
     ap put
     (apart-set p.to (p.from + 1) s gs c.set_character.new.glyph c.requires.starter (omega (arith, c.requires.gap)) long
-    ∙ ap (set _ s) (c.set_character.ensures ∙ ap (as_character context drawn.0 drawn.1.0) (sym (get_or-apart p.to (p.from + 1) s gs c.requires.starter long)))
+    ∙ ap (set _ s) (c.set_character.ensures
+    ∙ ap (as_character context drawn.0 drawn.1.0)
+    (sym (get_or-apart p.to (p.from + 1) s gs c.requires.starter long)))
     ∙ ap (λ xs. set xs s (as_character context drawn.0 drawn.1.0 (get_or xs s default_glyph))) c.merge_apart.ensures)

@@ -6,6 +6,7 @@ use Rattle.shapers_normal.proofs.ot_shape_normalize.variants.join_variants.Given
 
 abbrev pub invariant-loop-i : goal.invariant-loop-i
 invariant-loop-i g l = record {
-  text : l.glyphs ≡ fold (λ gs i. variant_joined (g.C.NormalizeContext.context l.context) l.level gs i) l.initial.glyphs (range_with_len 0 (l.i - 0));
+  text : l.glyphs ≡ fold (λ gs i. variant_joined (g.C.NormalizeContext.context l.context) l.level gs i) l.initial.glyphs
+      (range_with_len 0 (l.i - 0));
   same_length : length l.glyphs ≡ length l.initial.glyphs;
 }

@@ -13,7 +13,8 @@ returns-then-left-len-clause-none g c =
     let gs = c.args.cluster.now in
     let l = c.loop-start in
     let n = c.form_len.result in
-    let is : n ≡ 1 + prefix_len is_selector_glyph (drop 1 (drop l.start gs)) = c.form_len.ensures.len ∙ ap (λ (xs : List hb_glyph_info_t). 1 + prefix_len is_selector_glyph (drop 1 xs)) c.rest_from.ensures in
+    let is : n ≡ 1 + prefix_len is_selector_glyph (drop 1 (drop l.start gs)) = c.form_len.ensures.len
+    ∙ ap (λ (xs : List hb_glyph_info_t). 1 + prefix_len is_selector_glyph (drop 1 xs)) c.rest_from.ensures in
     let cluster = form_written context (take (l.start + n - l.start) (drop l.start gs)) in
     let behind = forms_written context (drop (l.start + n) gs) in
     let next = ap length (next_form context gs l.start n c.loop-start-test.true is) in
@@ -25,8 +26,16 @@ loop-start-preserved g c =
     let gs = c.args.cluster.now in
     let l = c.loop-start in
     let n = c.form_len.result in
-    let is : n ≡ 1 + prefix_len is_selector_glyph (drop 1 (drop l.start gs)) = c.form_len.ensures.len ∙ ap (λ (xs : List hb_glyph_info_t). 1 + prefix_len is_selector_glyph (drop 1 xs)) c.rest_from.ensures in
-    let inside : l.start + n ≤ length gs = omega (arith, c.form_len.ensures.within, ap length c.rest_from.ensures, length-drop l.start gs, c.loop-start-test.true) in
+    let is : n ≡ 1 + prefix_len is_selector_glyph (drop 1 (drop l.start gs)) = c.form_len.ensures.len
+    ∙ ap (λ (xs : List hb_glyph_info_t). 1 + prefix_len is_selector_glyph (drop 1 xs)) c.rest_from.ensures in
+    let inside : l.start + n ≤ length gs =
+    omega (
+      arith,
+      c.form_len.ensures.within,
+      ap length c.rest_from.ensures,
+      length-drop l.start gs,
+      c.loop-start-test.true,
+    ) in
     let cluster = form_written context (take (l.start + n - l.start) (drop l.start gs)) in
     let behind = forms_written context (drop (l.start + n) gs) in
     let next = ap length (next_form context gs l.start n c.loop-start-test.true is) in

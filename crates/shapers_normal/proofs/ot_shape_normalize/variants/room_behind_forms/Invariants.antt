@@ -5,7 +5,8 @@ use Rattle.shapers_normal.proofs.ot_shape_normalize.variants.room_behind_forms.G
 
 abbrev pub invariant-loop-start : goal.invariant-loop-start
 invariant-loop-start g l = record {
-  room : l.room + length (forms_written (g.C.NormalizeContext.context l.context) (drop l.start l.cluster)) ≡ l.left + length (forms_written (g.C.NormalizeContext.context l.context) l.cluster);
+  room : l.room + length (forms_written (g.C.NormalizeContext.context l.context) (drop l.start l.cluster))
+      ≡ l.left + length (forms_written (g.C.NormalizeContext.context l.context) l.cluster);
   few : l.left ≤ l.room;
   within : l.start ≤ length l.cluster;
 }

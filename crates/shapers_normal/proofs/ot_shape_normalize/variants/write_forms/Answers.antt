@@ -14,12 +14,22 @@ write_form-requires g c =
     let gs = c.args.cluster.now in
     let l = c.loop-start in
     let n = c.form_len.result in
-    let is : n ≡ 1 + prefix_len is_selector_glyph (drop 1 (drop l.start gs)) = c.form_len.ensures.len ∙ ap (λ (xs : List hb_glyph_info_t). 1 + prefix_len is_selector_glyph (drop 1 xs)) c.rest_from.ensures in
-    let inside : l.start + n ≤ length gs = omega (arith, c.form_len.ensures.within, ap length c.rest_from.ensures, length-drop l.start gs, c.loop-start-test.true) in
+    let is : n ≡ 1 + prefix_len is_selector_glyph (drop 1 (drop l.start gs)) = c.form_len.ensures.len
+    ∙ ap (λ (xs : List hb_glyph_info_t). 1 + prefix_len is_selector_glyph (drop 1 xs)) c.rest_from.ensures in
+    let inside : l.start + n ≤ length gs =
+    omega (
+      arith,
+      c.form_len.ensures.within,
+      ap length c.rest_from.ensures,
+      length-drop l.start gs,
+      c.loop-start-test.true,
+    ) in
     let cluster = form_written context (take (l.start + n - l.start) (drop l.start gs)) in
     let behind = forms_written context (drop (l.start + n) gs) in
     let next = ap length (next_form context gs l.start n c.loop-start-test.true is) in
-    let room = room_for l.to.items (forms_written context (drop l.start gs)) c.args.to.now.items (forms_written context gs) (vec_capacity c.args.to.now) (vec_capacity l.to) l.invariant.text c.requires.room l.invariant.capacity in
+    let room = room_for l.to.items (forms_written context (drop l.start gs)) c.args.to.now.items
+    (forms_written context gs) (vec_capacity c.args.to.now) (vec_capacity l.to) l.invariant.text c.requires.room
+    l.invariant.capacity in
     record { room = omega (arith, room, next, length-append cluster behind) }
 
 pub loop-start-preserved : goal.loop-start-preserved
@@ -28,14 +38,23 @@ loop-start-preserved g c =
     let gs = c.args.cluster.now in
     let l = c.loop-start in
     let n = c.form_len.result in
-    let is : n ≡ 1 + prefix_len is_selector_glyph (drop 1 (drop l.start gs)) = c.form_len.ensures.len ∙ ap (λ (xs : List hb_glyph_info_t). 1 + prefix_len is_selector_glyph (drop 1 xs)) c.rest_from.ensures in
-    let inside : l.start + n ≤ length gs = omega (arith, c.form_len.ensures.within, ap length c.rest_from.ensures, length-drop l.start gs, c.loop-start-test.true) in
+    let is : n ≡ 1 + prefix_len is_selector_glyph (drop 1 (drop l.start gs)) = c.form_len.ensures.len
+    ∙ ap (λ (xs : List hb_glyph_info_t). 1 + prefix_len is_selector_glyph (drop 1 xs)) c.rest_from.ensures in
+    let inside : l.start + n ≤ length gs =
+    omega (
+      arith,
+      c.form_len.ensures.within,
+      ap length c.rest_from.ensures,
+      length-drop l.start gs,
+      c.loop-start-test.true,
+    ) in
     let cluster = form_written context (take (l.start + n - l.start) (drop l.start gs)) in
     let behind = forms_written context (drop (l.start + n) gs) in
     record {
       text =
           ap (λ xs. xs ++ behind) c.write_form.ensures.added
-          ∙ added_next l.to.items cluster behind _ (forms_written context (drop l.start gs)) l.invariant.text (next_form context gs l.start n c.loop-start-test.true is);
+          ∙ added_next l.to.items cluster behind _ (forms_written context (drop l.start gs)) l.invariant.text
+          (next_form context gs l.start n c.loop-start-test.true is);
       capacity = omega (arith, l.invariant.capacity, c.write_form.ensures.capacity);
       within = inside;
     }

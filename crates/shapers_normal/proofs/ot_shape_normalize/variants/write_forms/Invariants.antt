@@ -6,7 +6,8 @@ use Rattle.shapers_normal.proofs.ot_shape_normalize.variants.write_forms.Given a
 
 abbrev pub invariant-loop-start : goal.invariant-loop-start
 invariant-loop-start g l = record {
-  text : l.to.items ++ forms_written (g.C.NormalizeContext.context l.context) (drop l.start l.cluster) ≡ l.initial.to.items ++ forms_written (g.C.NormalizeContext.context l.context) l.cluster;
+  text : l.to.items ++ forms_written (g.C.NormalizeContext.context l.context) (drop l.start l.cluster)
+      ≡ l.initial.to.items ++ forms_written (g.C.NormalizeContext.context l.context) l.cluster;
   capacity : vec_capacity l.initial.to ≤ vec_capacity l.to;
   within : l.start ≤ length l.cluster;
 }

@@ -12,5 +12,7 @@ put-requires g c =
     let gs = c.args.glyphs.now in
     let l = c.loop-glyph in
     let left = drop l.glyph-index gs in
-    let room = room_for l.to.items (map kept left) c.args.to.now.items (map kept gs) (vec_capacity c.args.to.now) (vec_capacity l.to) l.invariant.text (omega (arith, c.requires.room, length-map gs kept)) l.invariant.capacity in
+    let room = room_for l.to.items (map kept left) c.args.to.now.items (map kept gs) (vec_capacity c.args.to.now)
+    (vec_capacity l.to) l.invariant.text (omega (arith, c.requires.room, length-map gs kept))
+    l.invariant.capacity in
     omega (arith, room, length-map left kept, length-drop l.glyph-index gs, c.loop-glyph-test.true)

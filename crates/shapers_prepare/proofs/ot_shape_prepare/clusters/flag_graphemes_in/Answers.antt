@@ -14,11 +14,13 @@ loop-i-preserved c =
     let rest = drop (l.i + 1) (continuations all) in
     elim c.if-not-is_continuation.branch [
       | then-not-is_continuation w ↦
-          let ends = grapheme_ends l.start l.i l.glyphs all (omega arith) l.invariant.same (sym c.is_continuation.ensures ∙ w.if-not-is_continuation.true) in
+          let ends = grapheme_ends l.start l.i l.glyphs all (omega arith) l.invariant.same
+          (sym c.is_continuation.ensures ∙ w.if-not-is_continuation.true) in
           let flagged = w.glyphs-is ∙ w.unsafe_to_break_in.ensures in
           record {
             in_order = omega (arith, w.start-is);
-            same = ap continuations flagged ∙ continuations-flagged l.start l.i l.glyphs (omega (arith, l.invariant.in_order)) ∙ l.invariant.same;
+            same = ap continuations flagged
+                ∙ continuations-flagged l.start l.i l.glyphs (omega (arith, l.invariant.in_order)) ∙ l.invariant.same;
             flagged =
                 ap (λ s. unsafe_all (graphemes_from s (l.i + 1) rest) next.glyphs) w.start-is
                 ∙ ap (unsafe_all (graphemes_from l.i (l.i + 1) rest)) flagged
@@ -26,7 +28,9 @@ loop-i-preserved c =
                 ∙ l.invariant.flagged;
           }
       | else-not-is_continuation w ↦
-          let goes_on = grapheme_goes_on l.start l.i l.glyphs all (omega arith) l.invariant.same (sym c.is_continuation.ensures ∙ w.if-not-is_continuation.false) in
+          let goes_on =
+          grapheme_goes_on l.start l.i l.glyphs all (omega arith) l.invariant.same
+          (sym c.is_continuation.ensures ∙ w.if-not-is_continuation.false) in
           record {
             in_order = omega (arith, w.start-is, l.invariant.in_order);
             same = ap continuations w.glyphs-is ∙ l.invariant.same;

@@ -17,29 +17,42 @@ loop-i-preserved c =
     elim c.if-not-is_continuation.branch [
       | then-not-is_continuation w ↦
           let m = w.merge_run_in-run in
-          let ends = grapheme_ends l.start l.i l.glyphs all (omega arith) l.invariant.same (sym c.is_continuation.ensures ∙ w.if-not-is_continuation.true) in
+          let ends = grapheme_ends l.start l.i l.glyphs all (omega arith) l.invariant.same
+          (sym c.is_continuation.ensures ∙ w.if-not-is_continuation.true) in
           record {
-            fits = subst (λ run. RunFits run next.glyphs) (sym w.run-is) (subst (RunFits m.result) (sym w.glyphs-is) m.ensures.fits);
+            fits = subst (λ run. RunFits run next.glyphs) (sym w.run-is)
+                (subst (RunFits m.result) (sym w.glyphs-is) m.ensures.fits);
             in_order = omega (arith, w.start-is);
-            same = ap continuations w.glyphs-is ∙ continuations-merged c.args.level l.start l.i l.run m.result l.glyphs m.new.glyphs l.invariant.fits.in_order m.ensures.fits.in_order m.ensures.merged ∙ l.invariant.same;
+            same = ap continuations w.glyphs-is
+                ∙ continuations-merged c.args.level l.start l.i l.run m.result l.glyphs m.new.glyphs
+                l.invariant.fits.in_order m.ensures.fits.in_order m.ensures.merged ∙ l.invariant.same;
             merged =
-                ap (λ s. merge_all c.args.level (graphemes_from s (l.i + 1) rest) (with_run next.run next.glyphs)) w.start-is
-                ∙ ap (λ run. merge_all c.args.level (graphemes_from l.i (l.i + 1) rest) (with_run run next.glyphs)) w.run-is
-                ∙ ap (λ gs. merge_all c.args.level (graphemes_from l.i (l.i + 1) rest) (with_run m.result gs)) w.glyphs-is
+                ap (λ s. merge_all c.args.level (graphemes_from s (l.i + 1) rest) (with_run next.run next.glyphs))
+                w.start-is
+                ∙ ap (λ run. merge_all c.args.level (graphemes_from l.i (l.i + 1) rest) (with_run run next.glyphs))
+                w.run-is
+                ∙ ap (λ gs. merge_all c.args.level (graphemes_from l.i (l.i + 1) rest) (with_run m.result gs))
+                w.glyphs-is
                 ∙ ap (merge_all c.args.level (graphemes_from l.i (l.i + 1) rest)) m.ensures.merged
                 ∙ ap (λ sts. merge_all c.args.level sts (with_run l.run l.glyphs)) (sym ends)
                 ∙ l.invariant.merged;
           }
       | else-not-is_continuation w ↦
-          let goes_on = grapheme_goes_on l.start l.i l.glyphs all (omega arith) l.invariant.same (sym c.is_continuation.ensures ∙ w.if-not-is_continuation.false) in
+          let goes_on =
+          grapheme_goes_on l.start l.i l.glyphs all (omega arith) l.invariant.same
+          (sym c.is_continuation.ensures ∙ w.if-not-is_continuation.false) in
           record {
-            fits = subst (λ run. RunFits run next.glyphs) (sym w.run-is) (subst (RunFits l.run) (sym w.glyphs-is) l.invariant.fits);
+            fits = subst (λ run. RunFits run next.glyphs) (sym w.run-is)
+                (subst (RunFits l.run) (sym w.glyphs-is) l.invariant.fits);
             in_order = omega (arith, w.start-is, l.invariant.in_order);
             same = ap continuations w.glyphs-is ∙ l.invariant.same;
             merged =
-                ap (λ s. merge_all c.args.level (graphemes_from s (l.i + 1) rest) (with_run next.run next.glyphs)) w.start-is
-                ∙ ap (λ run. merge_all c.args.level (graphemes_from l.start (l.i + 1) rest) (with_run run next.glyphs)) w.run-is
-                ∙ ap (λ gs. merge_all c.args.level (graphemes_from l.start (l.i + 1) rest) (with_run l.run gs)) w.glyphs-is
+                ap (λ s. merge_all c.args.level (graphemes_from s (l.i + 1) rest) (with_run next.run next.glyphs))
+                w.start-is
+                ∙ ap (λ run. merge_all c.args.level (graphemes_from l.start (l.i + 1) rest) (with_run run next.glyphs))
+                w.run-is
+                ∙ ap (λ gs. merge_all c.args.level (graphemes_from l.start (l.i + 1) rest) (with_run l.run gs))
+                w.glyphs-is
                 ∙ ap (λ sts. merge_all c.args.level sts (with_run l.run l.glyphs)) (sym goes_on)
                 ∙ l.invariant.merged;
           }
@@ -56,5 +69,6 @@ returns c =
     c.write_run_in.ensures
     ∙ c.merge_run_in-run-2.ensures.merged
     ∙ ap (λ e. merge_all level ((l.start, e) ∷ []) whole) end
-    ∙ ap (λ sts. merge_all level sts whole) (sym (last_grapheme l.start l.i l.glyphs all (omega (arith, end)) l.invariant.same))
+    ∙ ap (λ sts. merge_all level sts whole)
+    (sym (last_grapheme l.start l.i l.glyphs all (omega (arith, end)) l.invariant.same))
     ∙ l.invariant.merged

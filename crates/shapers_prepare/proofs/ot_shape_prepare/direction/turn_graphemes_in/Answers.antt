@@ -25,25 +25,33 @@ loop-i-preserved c =
     let next = c.if-not-is_continuation in
     let inside : l.i < length all = omega (arith, l.auto.glyphs) in
     let read : is_continuation (get_or all l.i default_glyph).marks ≡ c.is_continuation.result =
-    ap (λ g. is_continuation g.marks) (sym (read_behind all l.glyphs l.start l.i (omega (arith, l.invariant.in_order)) l.invariant.turned.behind)) ∙ sym c.is_continuation.ensures in
+    ap (λ g. is_continuation g.marks)
+    (sym (read_behind all l.glyphs l.start l.i (omega (arith, l.invariant.in_order)) l.invariant.turned.behind))
+    ∙ sym c.is_continuation.ensures in
     elim c.if-not-is_continuation.branch [
       | then-not-is_continuation w ↦
           let ends = grapheme_ends l.start l.i all all inside refl (read ∙ w.if-not-is_continuation.true) in
-          let turned = turned_next all l.glyphs w.turn_stretch.new.glyphs l.start l.i (graphemes_from l.i (l.i + 1) (drop (l.i + 1) (continuations all))) (omega (arith, l.invariant.in_order)) (omega (arith, inside, l.auto.glyphs))
+          let turned = turned_next all l.glyphs w.turn_stretch.new.glyphs l.start l.i
+          (graphemes_from l.i (l.i + 1) (drop (l.i + 1) (continuations all)))
+          (omega (arith, l.invariant.in_order)) (omega (arith, inside, l.auto.glyphs))
           (subst (Turned all l.glyphs l.start) ends l.invariant.turned) w.turn_stretch.ensures in
           record {
             in_order = omega (arith, w.start-is);
             turned =
-                subst (λ gs. Turned all gs next.start (graphemes_from next.start (l.i + 1) (drop (l.i + 1) (continuations all)))) (sym w.glyphs-is)
-                (subst (λ s. Turned all w.turn_stretch.new.glyphs s (graphemes_from s (l.i + 1) (drop (l.i + 1) (continuations all)))) (sym w.start-is) turned);
+                subst (λ gs. Turned all gs next.start
+                (graphemes_from next.start (l.i + 1) (drop (l.i + 1) (continuations all)))) (sym w.glyphs-is)
+                (subst (λ s. Turned all w.turn_stretch.new.glyphs s
+                (graphemes_from s (l.i + 1) (drop (l.i + 1) (continuations all)))) (sym w.start-is) turned);
           }
       | else-not-is_continuation w ↦
           let goes_on = grapheme_goes_on l.start l.i all all inside refl (read ∙ w.if-not-is_continuation.false) in
           record {
             in_order = omega (arith, w.start-is, l.invariant.in_order);
             turned =
-                subst (λ gs. Turned all gs next.start (graphemes_from next.start (l.i + 1) (drop (l.i + 1) (continuations all)))) (sym w.glyphs-is)
-                (subst (λ s. Turned all l.glyphs s (graphemes_from s (l.i + 1) (drop (l.i + 1) (continuations all)))) (sym w.start-is)
+                subst (λ gs. Turned all gs next.start
+                (graphemes_from next.start (l.i + 1) (drop (l.i + 1) (continuations all)))) (sym w.glyphs-is)
+                (subst (λ s. Turned all l.glyphs s (graphemes_from s (l.i + 1) (drop (l.i + 1) (continuations all))))
+                (sym w.start-is)
                 (subst (Turned all l.glyphs l.start) goes_on l.invariant.turned));
           }
     ]
@@ -56,6 +64,9 @@ returns c =
     let end : length l.glyphs ≡ l.i = omega (arith, c.loop-i-test.false, l.auto.i-end, some, l.auto.glyphs) in
     let last = last_grapheme l.start l.i all all (omega (arith, end, l.auto.glyphs)) refl in
     let ends : Turned all l.glyphs l.start ((l.start, length l.glyphs) ∷ []) =
-    subst (λ e. Turned all l.glyphs l.start ((l.start, e) ∷ [])) (sym end) (subst (Turned all l.glyphs l.start) last l.invariant.turned) in
-    c.reverse.ensures.after ∙ turned_all all c.turn_stretch-2.new.glyphs (length l.glyphs) (omega (arith, c.turn_stretch-2.auto.glyphs))
-    (turned_next all l.glyphs c.turn_stretch-2.new.glyphs l.start (length l.glyphs) [] (omega (arith, end, l.invariant.in_order)) (omega arith) ends c.turn_stretch-2.ensures)
+    subst (λ e. Turned all l.glyphs l.start ((l.start, e) ∷ [])) (sym end)
+    (subst (Turned all l.glyphs l.start) last l.invariant.turned) in
+    c.reverse.ensures.after
+    ∙ turned_all all c.turn_stretch-2.new.glyphs (length l.glyphs) (omega (arith, c.turn_stretch-2.auto.glyphs))
+    (turned_next all l.glyphs c.turn_stretch-2.new.glyphs l.start (length l.glyphs)
+    [] (omega (arith, end, l.invariant.in_order)) (omega arith) ends c.turn_stretch-2.ensures)

@@ -7,4 +7,5 @@ use Rattle.shapers_prepare.proofs.ot_shape_prepare.properties.set_properties_in.
 abbrev pub invariant-loop-glyph : goal.invariant-loop-glyph
 invariant-loop-glyph g l =
     let p = g.U.UnicodeProperties.properties l.unicode in
-    take l.glyph-index l.glyphs ++ set_behind p l.before (drop l.glyph-index l.glyphs) ≡ properties_set p l.initial.glyphs
+    take l.glyph-index l.glyphs ++ set_behind p l.before (drop l.glyph-index l.glyphs)
+    ≡ properties_set p l.initial.glyphs

@@ -16,4 +16,15 @@ write_with_circle-requires c =
     let rest = vowels_parted_from s l.left (drop l.i gs) in
     let behind = vowels_parted_from s (left_behind s l.left g (drop (l.i + 1) gs)) (drop (l.i + 1) gs) in
     let next = parted_next s l.left gs l.i (omega arith) in
-    omega (arith, ap length l.invariant.text, length-append l.to.items rest, length-append c.args.to.now.items (vowels_parted_from s 0 gs), ap length next, length-append (circle ++ g ∷ []) behind, length_push circle g, l.invariant.capacity, c.requires.room)
+    omega (
+      arith,
+      ap length l.invariant.text,
+      length-append l.to.items rest,
+      length-append c.args.to.now.items
+          (vowels_parted_from s 0 gs),
+      ap length next,
+      length-append (circle ++ g ∷ []) behind,
+      length_push circle g,
+      l.invariant.capacity,
+      c.requires.room,
+    )

@@ -6,6 +6,7 @@ use Rattle.shapers_prepare.proofs.ot_shape_prepare.vowels.write_parted.Given as 
 
 abbrev pub invariant-loop-i : goal.invariant-loop-i
 invariant-loop-i l = record {
-  text : l.to.items ++ vowels_parted_from l.script l.left (drop l.i l.glyphs) ≡ l.initial.to.items ++ vowels_parted_from l.script 0 l.glyphs;
+  text : l.to.items ++ vowels_parted_from l.script l.left (drop l.i l.glyphs) ≡ l.initial.to.items
+      ++ vowels_parted_from l.script 0 l.glyphs;
   capacity : vec_capacity l.initial.to ≤ vec_capacity l.to;
 }

@@ -5,7 +5,8 @@ use Rattle.shapers_spans.proofs.indic.IndicMachine.next_read.Goals as goal
 
 pub returns-clause-place : goal.returns-clause-place
 unfolding indic_grammar
-returns-clause-place c = sym (ap (λ k. c.args.n + k) (reach-none (drop c.args.n c.args._glyphs.now)) ∙ add-zero c.args.n)
+returns-clause-place c =
+    sym (ap (λ k. c.args.n + k) (reach-none (drop c.args.n c.args._glyphs.now)) ∙ add-zero c.args.n)
 
 pub returns-clause-end : goal.returns-clause-end
 unfolding indic_grammar

@@ -14,7 +14,8 @@ returns-clause-waits c = universal_turn-waits c.args.state c.requires
 
 pub returns-clause-stays : goal.returns-clause-stays
 unfolding universal_turning
-returns-clause-stays c u k j w = universal_stays c.args.state c.requires (is-true (has_turn universal_turning c.args.state) u) k j w
+returns-clause-stays c u k j w =
+    universal_stays c.args.state c.requires (is-true (has_turn universal_turning c.args.state) u) k j w
   where
     is-true : (b : Bool) → IsTrue b → b ≡ true
     is-true b i = search rules

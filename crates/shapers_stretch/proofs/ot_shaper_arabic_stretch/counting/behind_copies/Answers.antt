@@ -17,10 +17,17 @@ returns-then-ends_fit c =
     let same = to_z-of_z w64 c.moved-behind.result fits in
     let pen = to_z-of_z w64 c.args.pen c.ranges.pen in
     let step = to_z-of_z w64 c.args.step c.ranges.step in
-    let product : c.product.result ≡ pos c.args.count *ℤ c.args.step = c.product.ensures.value ∙ ap (λ x. pos c.args.count *ℤ x) step in
-    let at : c.moved-behind.result ≡ pen_behind rtl c.args.pen (pos c.args.count *ℤ c.args.step) = c.moved-behind.ensures.value ∙ ap (λ x. pen_behind rtl x (to_z w64 (of_z w64 c.product.result))) pen ∙ ap (pen_behind rtl c.args.pen) (to_z-of_z w64 c.product.result fits_product ∙ product) in
-    let both : c.ends_fit.result ≡ (fits_i32 (stands_at rtl c.args.pen c.args.step) && fits_i32 (last_at rtl c.moved-behind.result c.args.step)) = c.ends_fit.ensures ∙ three_same (λ p b s. fits_i32 (stands_at rtl p s) && fits_i32 (last_at rtl b s)) pen same step in
-    let walked = copies_walked rtl c.args.pen c.args.step c.moved-behind.result c.args.count (omega arith) at (sym both ∙ c.if-ends_fit.true) c.requires.low c.requires.high in
+    let product : c.product.result ≡ pos c.args.count *ℤ c.args.step = c.product.ensures.value
+    ∙ ap (λ x. pos c.args.count *ℤ x) step in
+    let at : c.moved-behind.result ≡ pen_behind rtl c.args.pen (pos c.args.count *ℤ c.args.step) =
+    c.moved-behind.ensures.value ∙ ap (λ x. pen_behind rtl x (to_z w64 (of_z w64 c.product.result))) pen
+    ∙ ap (pen_behind rtl c.args.pen) (to_z-of_z w64 c.product.result fits_product ∙ product) in
+    let both : c.ends_fit.result
+    ≡ (fits_i32 (stands_at rtl c.args.pen c.args.step)
+    && fits_i32 (last_at rtl c.moved-behind.result c.args.step)) = c.ends_fit.ensures
+    ∙ three_same (λ p b s. fits_i32 (stands_at rtl p s) && fits_i32 (last_at rtl b s)) pen same step in
+    let walked = copies_walked rtl c.args.pen c.args.step c.moved-behind.result c.args.count (omega arith) at (sym both
+    ∙ c.if-ends_fit.true) c.requires.low c.requires.high in
     subst (λ x. WalksPen rtl c.args.pen (replicate c.args.count c.args.step) (Some x)) (sym same) walked
 
 pub returns-else-ends_fit : goal.returns-else-ends_fit
@@ -31,7 +38,14 @@ returns-else-ends_fit c =
     let same = to_z-of_z w64 c.moved-behind.result fits in
     let pen = to_z-of_z w64 c.args.pen c.ranges.pen in
     let step = to_z-of_z w64 c.args.step c.ranges.step in
-    let product : c.product.result ≡ pos c.args.count *ℤ c.args.step = c.product.ensures.value ∙ ap (λ x. pos c.args.count *ℤ x) step in
-    let at : c.moved-behind.result ≡ pen_behind rtl c.args.pen (pos c.args.count *ℤ c.args.step) = c.moved-behind.ensures.value ∙ ap (λ x. pen_behind rtl x (to_z w64 (of_z w64 c.product.result))) pen ∙ ap (pen_behind rtl c.args.pen) (to_z-of_z w64 c.product.result fits_product ∙ product) in
-    let both : c.ends_fit.result ≡ (fits_i32 (stands_at rtl c.args.pen c.args.step) && fits_i32 (last_at rtl c.moved-behind.result c.args.step)) = c.ends_fit.ensures ∙ three_same (λ p b s. fits_i32 (stands_at rtl p s) && fits_i32 (last_at rtl b s)) pen same step in
-    copies_stopped rtl c.args.pen c.args.step c.moved-behind.result c.args.count (omega arith) at (sym both ∙ c.if-ends_fit.false)
+    let product : c.product.result ≡ pos c.args.count *ℤ c.args.step = c.product.ensures.value
+    ∙ ap (λ x. pos c.args.count *ℤ x) step in
+    let at : c.moved-behind.result ≡ pen_behind rtl c.args.pen (pos c.args.count *ℤ c.args.step) =
+    c.moved-behind.ensures.value ∙ ap (λ x. pen_behind rtl x (to_z w64 (of_z w64 c.product.result))) pen
+    ∙ ap (pen_behind rtl c.args.pen) (to_z-of_z w64 c.product.result fits_product ∙ product) in
+    let both : c.ends_fit.result
+    ≡ (fits_i32 (stands_at rtl c.args.pen c.args.step)
+    && fits_i32 (last_at rtl c.moved-behind.result c.args.step)) = c.ends_fit.ensures
+    ∙ three_same (λ p b s. fits_i32 (stands_at rtl p s) && fits_i32 (last_at rtl b s)) pen same step in
+    copies_stopped rtl c.args.pen c.args.step c.moved-behind.result c.args.count (omega arith) at (sym both
+    ∙ c.if-ends_fit.false)

@@ -16,11 +16,16 @@ returns-then-fits_i32 c =
     let step = to_z-of_z w64 c.args.step c.ranges.step in
     let fits_first : FitsSigned w64 c.first_offset.result = record { sfits = c.first_offset.type_inv } in
     let fits_behind : FitsSigned w64 c.moved.result = record { sfits = c.moved.type_inv } in
-    let first : c.first_offset.result ≡ stands_at rtl c.args.pen c.args.step = c.first_offset.ensures ∙ two_same (stands_at rtl) pen step in
-    let behind : c.moved.result ≡ pen_behind rtl c.args.pen c.args.step = c.moved.ensures.value ∙ two_same (pen_behind rtl) pen step in
-    let test : c.fits_i32.result ≡ fits_i32 (stands_at rtl c.args.pen c.args.step) = c.fits_i32.ensures.value ∙ ap fits_i32 (to_z-of_z w64 c.first_offset.result fits_first ∙ first) in
-    let walked = copy_walked rtl c.args.pen c.args.step c.moved.result behind (sym test ∙ c.if-fits_i32.true) c.requires.low c.requires.high in
-    subst (λ x. WalksPen rtl c.args.pen (c.args.step ∷ []) (Some x)) (sym (to_z-of_z w64 c.moved.result fits_behind)) walked
+    let first : c.first_offset.result ≡ stands_at rtl c.args.pen c.args.step = c.first_offset.ensures
+    ∙ two_same (stands_at rtl) pen step in
+    let behind : c.moved.result ≡ pen_behind rtl c.args.pen c.args.step = c.moved.ensures.value
+    ∙ two_same (pen_behind rtl) pen step in
+    let test : c.fits_i32.result ≡ fits_i32 (stands_at rtl c.args.pen c.args.step) = c.fits_i32.ensures.value
+    ∙ ap fits_i32 (to_z-of_z w64 c.first_offset.result fits_first ∙ first) in
+    let walked = copy_walked rtl c.args.pen c.args.step c.moved.result behind (sym test ∙ c.if-fits_i32.true)
+    c.requires.low c.requires.high in
+    subst (λ x. WalksPen rtl c.args.pen (c.args.step ∷ []) (Some x)) (sym (to_z-of_z w64 c.moved.result fits_behind))
+    walked
 
 pub returns-else-fits_i32 : goal.returns-else-fits_i32
 returns-else-fits_i32 c =
@@ -28,6 +33,8 @@ returns-else-fits_i32 c =
     let pen = to_z-of_z w64 c.args.pen c.ranges.pen in
     let step = to_z-of_z w64 c.args.step c.ranges.step in
     let fits_first : FitsSigned w64 c.first_offset.result = record { sfits = c.first_offset.type_inv } in
-    let first : c.first_offset.result ≡ stands_at rtl c.args.pen c.args.step = c.first_offset.ensures ∙ two_same (stands_at rtl) pen step in
-    let test : c.fits_i32.result ≡ fits_i32 (stands_at rtl c.args.pen c.args.step) = c.fits_i32.ensures.value ∙ ap fits_i32 (to_z-of_z w64 c.first_offset.result fits_first ∙ first) in
+    let first : c.first_offset.result ≡ stands_at rtl c.args.pen c.args.step = c.first_offset.ensures
+    ∙ two_same (stands_at rtl) pen step in
+    let test : c.fits_i32.result ≡ fits_i32 (stands_at rtl c.args.pen c.args.step) = c.fits_i32.ensures.value
+    ∙ ap fits_i32 (to_z-of_z w64 c.first_offset.result fits_first ∙ first) in
     copy_stopped rtl c.args.pen c.args.step (sym test ∙ c.if-fits_i32.false)

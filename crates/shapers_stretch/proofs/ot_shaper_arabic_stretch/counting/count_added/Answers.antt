@@ -7,23 +7,54 @@ use Rattle.shapers_stretch.proofs.ot_shaper_arabic_stretch.counting.count_added.
 
 pub loop-end-init : goal.loop-end-init
 loop-end-init g c =
-    let how : Laying = record { font = g.F.hb_font_t.font c.args.face.now; choice = c.args.choice; right_to_left = c.args.right_to_left } in
-    record { within = omega arith; counted = counted_start how c.args.glyphs.now c.args.positions.now c.requires.both; few = omega arith }
+    let how : Laying =
+    record {
+      font = g.F.hb_font_t.font c.args.face.now;
+      choice = c.args.choice;
+      right_to_left =
+          c.args.right_to_left;
+    } in
+    record {
+      within = omega arith;
+      counted = counted_start how c.args.glyphs.now c.args.positions.now c.requires.both;
+      few = omega arith;
+    }
 
 pub returns-in_err-last : goal.returns-in_err-last
 returns-in_err-last g c =
-    let how : Laying = record { font = g.F.hb_font_t.font c.args.face.now; choice = c.args.choice; right_to_left = c.args.right_to_left } in
+    let how : Laying =
+    record {
+      font = g.F.hb_font_t.font c.args.face.now;
+      choice = c.args.choice;
+      right_to_left =
+          c.args.right_to_left;
+    } in
     let gs = c.args.glyphs.now in
     let ps = c.args.positions.now in
-    let lost : overflows how (zip gs ps) ≡ true = overflows_before how gs ps c.loop-end.end c.loop-end.added c.loop-end.invariant.counted c.in_err-last.ensures in
+    let lost : overflows how (zip gs ps) ≡ true =
+    overflows_before how gs ps c.loop-end.end c.loop-end.added c.loop-end.invariant.counted
+    c.in_err-last.ensures in
     subst (CountsAdded how (zip gs ps)) (sym c.from_residual.ensures) lost
 
 pub loop-end-preserved : goal.loop-end-preserved
 loop-end-preserved g c =
-    let how : Laying = record { font = g.F.hb_font_t.font c.args.face.now; choice = c.args.choice; right_to_left = c.args.right_to_left } in
+    let how : Laying =
+    record {
+      font = g.F.hb_font_t.font c.args.face.now;
+      choice = c.args.choice;
+      right_to_left =
+          c.args.right_to_left;
+    } in
     let gs = c.args.glyphs.now in
     let ps = c.args.positions.now in
     let last = c.in_ok-last.last in
-    let counted : IsCounted how (zip gs ps) last.start (c.loop-end.added + last.added) = counted_more how gs ps c.loop-end.end c.loop-end.added last.start last.added c.loop-end.invariant.counted c.in_ok-last.ensures.0 in
+    let counted : IsCounted how (zip gs ps) last.start (c.loop-end.added + last.added) =
+    counted_more how gs ps c.loop-end.end c.loop-end.added last.start last.added c.loop-end.invariant.counted
+    c.in_ok-last.ensures.0 in
     let upto = length-take-le c.loop-end.end gs c.loop-end.invariant.within in
-    record { within = omega (arith, c.in_ok-last.ensures.1); counted = counted; few = omega (arith, c.in_ok-last.ensures.1, c.in_ok-last.ensures.2) }
+    record {
+      within = omega (arith, c.in_ok-last.ensures.1);
+      counted = counted;
+      few = omega
+          (arith, c.in_ok-last.ensures.1, c.in_ok-last.ensures.2);
+    }

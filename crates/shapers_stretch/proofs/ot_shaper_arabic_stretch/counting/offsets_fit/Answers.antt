@@ -21,7 +21,9 @@ loop-left-preserved g c =
     record {
       within = omega arith;
       pen = subst IsNumber (sym same_behind) c.in-Some.ensures.2;
-      same = ap (λ p. offsets_fit rtl p (run_moves font lay (take i tiles))) same_behind ∙ fits_next font lay rtl pen behind tiles i default_glyph (omega arith) c.in-Some.ensures ∙ ap (λ n. offsets_fit rtl pen (run_moves font lay (take n tiles))) at ∙ c.loop-left.invariant.same;
+      same = ap (λ p. offsets_fit rtl p (run_moves font lay (take i tiles))) same_behind
+          ∙ fits_next font lay rtl pen behind tiles i default_glyph (omega arith) c.in-Some.ensures
+          ∙ ap (λ n. offsets_fit rtl pen (run_moves font lay (take n tiles))) at ∙ c.loop-left.invariant.same;
     }
 
 pub returns-in-None : goal.returns-in-None
@@ -33,4 +35,5 @@ returns-in-None g c =
     let pen = to_z w64 c.loop-left.pen-bits in
     let i : ℕ = c.loop-left.left - 1 in
     let at : i + 1 ≡ c.loop-left.left = omega arith in
-    sym (fits_not font lay rtl pen tiles i default_glyph (omega arith) c.in-None.ensures) ∙ ap (λ n. offsets_fit rtl pen (run_moves font lay (take n tiles))) at ∙ c.loop-left.invariant.same
+    sym (fits_not font lay rtl pen tiles i default_glyph (omega arith) c.in-None.ensures)
+    ∙ ap (λ n. offsets_fit rtl pen (run_moves font lay (take n tiles))) at ∙ c.loop-left.invariant.same

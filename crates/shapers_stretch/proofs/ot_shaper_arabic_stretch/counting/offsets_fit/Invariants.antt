@@ -9,7 +9,8 @@ invariant-loop-left g l =
     record {
       within : l.left ≤ length l.tiles;
       pen : IsNumber l.pen;
-      same : offsets_fit l.right_to_left l.pen (run_moves font l.lay (take l.left l.tiles)) ≡ offsets_fit l.right_to_left l.lay.start (run_moves font l.lay l.tiles);
+      same : offsets_fit l.right_to_left l.pen (run_moves font l.lay (take l.left l.tiles))
+          ≡ offsets_fit l.right_to_left l.lay.start (run_moves font l.lay l.tiles);
     }
 
 abbrev pub decreases-loop-left : goal.decreases-loop-left

@@ -20,8 +20,11 @@ pub overflow_add-repeaters : goal.overflow_add-repeaters
 overflow_add-repeaters g c =
     let steps = c.in-Some.ensures.steps in
     let inv = c.loop-piece.invariant in
-    let count : c.measure_short-run.result.repeaters ≡ length (repeating c.in-Some.piece.now) = ap (λ (z : Run). z.repeaters) c.measure_short-run.ensures in
-    let counted = kept_piece_counted repeats _ (chunks_rest c.loop-piece.piece-iterator) c.in-Some.piece.now (chunks_rest c.next.new.self) c.loop-piece.repeaters c.measure_short-run.result.repeaters steps.1.0 inv.7 count in
+    let count : c.measure_short-run.result.repeaters ≡ length (repeating c.in-Some.piece.now) =
+    ap (λ (z : Run). z.repeaters) c.measure_short-run.ensures in
+    let counted = kept_piece_counted repeats _ (chunks_rest c.loop-piece.piece-iterator) c.in-Some.piece.now
+    (chunks_rest c.next.new.self) c.loop-piece.repeaters c.measure_short-run.result.repeaters steps.1.0 inv.7
+    count in
     let few : length (repeating c.args.tiles.now) ≤ length c.args.tiles.now = length_kept repeats c.args.tiles.now in
     let fits : length c.args.tiles.now ≤ 18446744073709551615 = omega arith in
     omega (arith, counted, few, fits)
@@ -50,13 +53,24 @@ loop-piece-preserved g c =
     let long = ap length steps.1.0 ∙ length-append piece rest in
     let less : length rest < length old = omega (arith, long, steps.1.1, steps.1.2, inv.2) in
     let most : all ≤ 18446744073709551615 = omega arith in
-    let bounds : PieceBounds all (length rest) (first +ℤ more) = piece_bounds all (length old) (length rest) first more most less inv.3 (subst (FitsSigned w64) (sym short) fits_part) inv.8 inv.9 in
-    let bounds_2 : PieceBounds all (length rest) (second +ℤ more_2) = piece_bounds all (length old) (length rest) second more_2 most less inv.3 (subst (FitsSigned w64) (sym short_2) fits_part_2) inv.10 inv.11 in
-    let same : to_z w128 (of_z w128 (first +ℤ to_z w128 (of_z w128 more))) ≡ first +ℤ more = ap (λ x. to_z w128 (of_z w128 (first +ℤ x))) (to_z-of_z w128 more fits_more) ∙ to_z-of_z w128 (first +ℤ more) bounds.fits in
-    let same_2 : to_z w128 (of_z w128 (second +ℤ to_z w128 (of_z w128 more_2))) ≡ second +ℤ more_2 = ap (λ x. to_z w128 (of_z w128 (second +ℤ x))) (to_z-of_z w128 more_2 fits_more_2) ∙ to_z-of_z w128 (second +ℤ more_2) bounds_2.fits in
-    let summed = kept_piece_summed (width_of font) (λ g. not (repeats g)) _ old piece rest first more steps.1.0 inv.5 (short ∙ ap (λ (z : Run). z.fixed) is) in
-    let summed_2 = kept_piece_summed (width_of font) repeats _ old piece rest second more_2 steps.1.0 inv.6 (short_2 ∙ ap (λ (z : Run). z.repeating) is) in
-    let counted = kept_piece_counted repeats _ old piece rest c.loop-piece.repeaters part.repeaters steps.1.0 inv.7 (ap (λ (z : Run). z.repeaters) is) in (
+    let bounds : PieceBounds all (length rest) (first +ℤ more) =
+    piece_bounds all (length old) (length rest) first more most less inv.3
+    (subst (FitsSigned w64) (sym short) fits_part) inv.8 inv.9 in
+    let bounds_2 : PieceBounds all (length rest) (second +ℤ more_2) =
+    piece_bounds all (length old) (length rest) second more_2 most less inv.3
+    (subst (FitsSigned w64) (sym short_2) fits_part_2) inv.10 inv.11 in
+    let same : to_z w128 (of_z w128 (first +ℤ to_z w128 (of_z w128 more))) ≡ first +ℤ more =
+    ap (λ x. to_z w128 (of_z w128 (first +ℤ x))) (to_z-of_z w128 more fits_more)
+    ∙ to_z-of_z w128 (first +ℤ more) bounds.fits in
+    let same_2 : to_z w128 (of_z w128 (second +ℤ to_z w128 (of_z w128 more_2))) ≡ second +ℤ more_2 =
+    ap (λ x. to_z w128 (of_z w128 (second +ℤ x))) (to_z-of_z w128 more_2 fits_more_2)
+    ∙ to_z-of_z w128 (second +ℤ more_2) bounds_2.fits in
+    let summed = kept_piece_summed (width_of font) (λ g. not (repeats g)) _ old piece rest first more steps.1.0 inv.5
+    (short ∙ ap (λ (z : Run). z.fixed) is) in
+    let summed_2 = kept_piece_summed (width_of font) repeats _ old piece rest second more_2 steps.1.0 inv.6 (short_2
+    ∙ ap (λ (z : Run). z.repeating) is) in
+    let counted = kept_piece_counted repeats _ old piece rest c.loop-piece.repeaters part.repeaters steps.1.0 inv.7
+    (ap (λ (z : Run). z.repeaters) is) in (
       search rules,
       tt,
       steps.0 ∙ inv.2,
@@ -75,8 +89,11 @@ pub returns-in_err-narrowed-3 : goal.returns-in_err-narrowed-3
 returns-in_err-narrowed-3 g c =
     let font = g.F.hb_font_t.font c.args.face.now in
     let z = measured font c.args.word.now c.args.tiles.now in
-    let done : to_z w128 c.loop-piece.repeating-bits ≡ z.repeating = kept_summed (width_of font) repeats _ (chunks_rest c.loop-piece.piece-iterator) (to_z w128 c.loop-piece.repeating-bits) c.in-None.ensures.steps.1.0 c.loop-piece.invariant.6 in
-    subst (MeasuresRun z) (sym c.from_residual-in_err-narrowed-3.ensures) (repeating_apart z (ap fits_i32 (sym done) ∙ c.in_err-narrowed-3.ensures))
+    let done : to_z w128 c.loop-piece.repeating-bits ≡ z.repeating =
+    kept_summed (width_of font) repeats _ (chunks_rest c.loop-piece.piece-iterator)
+    (to_z w128 c.loop-piece.repeating-bits) c.in-None.ensures.steps.1.0 c.loop-piece.invariant.6 in
+    subst (MeasuresRun z) (sym c.from_residual-in_err-narrowed-3.ensures)
+    (repeating_apart z (ap fits_i32 (sym done) ∙ c.in_err-narrowed-3.ensures))
 
 pub returns : goal.returns
 returns g c =
@@ -88,7 +105,11 @@ returns g c =
     let fits_2 : FitsSigned w64 c.in_ok-narrowed-2.field-0 = search rules in
     let fits_3 : FitsSigned w64 c.in_ok-narrowed-3.field-0 = search rules in
     let fits_word : FitsSigned w128 c.total_advance-word.result = record { sfits = c.total_advance-word.type_inv } in
-    let word = to_z-of_z w64 c.in_ok-narrowed.field-0 fits ∙ c.in_ok-narrowed.ensures ∙ to_z-of_z w128 c.total_advance-word.result fits_word ∙ c.total_advance-word.ensures in
-    let first = to_z-of_z w64 c.in_ok-narrowed-2.field-0 fits_2 ∙ c.in_ok-narrowed-2.ensures ∙ kept_summed (width_of font) (λ g. not (repeats g)) _ rest (to_z w128 c.loop-piece.fixed-bits) none inv.5 in
-    let second = to_z-of_z w64 c.in_ok-narrowed-3.field-0 fits_3 ∙ c.in_ok-narrowed-3.ensures ∙ kept_summed (width_of font) repeats _ rest (to_z w128 c.loop-piece.repeating-bits) none inv.6 in
+    let word = to_z-of_z w64 c.in_ok-narrowed.field-0 fits ∙ c.in_ok-narrowed.ensures
+    ∙ to_z-of_z w128 c.total_advance-word.result fits_word ∙ c.total_advance-word.ensures in
+    let first = to_z-of_z w64 c.in_ok-narrowed-2.field-0 fits_2 ∙ c.in_ok-narrowed-2.ensures
+    ∙ kept_summed (width_of font) (λ g. not (repeats g)) _ rest (to_z w128 c.loop-piece.fixed-bits) none
+    inv.5 in
+    let second = to_z-of_z w64 c.in_ok-narrowed-3.field-0 fits_3 ∙ c.in_ok-narrowed-3.ensures
+    ∙ kept_summed (width_of font) repeats _ rest (to_z w128 c.loop-piece.repeating-bits) none inv.6 in
     same_run _ _ _ _ _ _ _ _ word first second (kept_counted repeats _ rest c.loop-piece.repeaters none inv.7)

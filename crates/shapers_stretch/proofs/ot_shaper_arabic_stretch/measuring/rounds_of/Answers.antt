@@ -9,7 +9,8 @@ use Rattle.shapers_stretch.proofs.ot_shaper_arabic_stretch.measuring.rounds_of.G
 pub returns-then-left-reach-clause-added : goal.returns-then-left-reach-clause-added
 returns-then-left-reach-clause-added c = elim c.then-left-reach.branch [
   | then-left-reach-via-then-left-reach w ↦
-      let full : (left c.args.run -ℤ reach c.args.run (fitting c.args.run)) ≤ℤ pos 0 = omega (arith, ints, rest_at c.args.run c.fitting-fitting.result c.fitting-fitting.ensures.value) in
+      let full : (left c.args.run -ℤ reach c.args.run (fitting c.args.run)) ≤ℤ pos 0 =
+      omega (arith, ints, rest_at c.args.run c.fitting-fitting.result c.fitting-fitting.ensures.value) in
       omega (arith, added_full c.args.run full)
   | then-left-reach-via-else-left-reach+then-run-eq0 w ↦ omega (arith, added_none c.args.run (omega arith))
 ]
@@ -17,7 +18,8 @@ returns-then-left-reach-clause-added c = elim c.then-left-reach.branch [
 pub returns-then-left-reach-clause-squeezes : goal.returns-then-left-reach-clause-squeezes
 returns-then-left-reach-clause-squeezes c = elim c.then-left-reach.branch [
   | then-left-reach-via-then-left-reach w ↦
-      let full : (left c.args.run -ℤ reach c.args.run (fitting c.args.run)) ≤ℤ pos 0 = omega (arith, ints, rest_at c.args.run c.fitting-fitting.result c.fitting-fitting.ensures.value) in
+      let full : (left c.args.run -ℤ reach c.args.run (fitting c.args.run)) ≤ℤ pos 0 =
+      omega (arith, ints, rest_at c.args.run c.fitting-fitting.result c.fitting-fitting.ensures.value) in
       sym (squeezes_full c.args.run full)
   | then-left-reach-via-else-left-reach+then-run-eq0 w ↦
       let none : c.args.run.repeaters ≡ 0 = omega arith in
@@ -26,14 +28,17 @@ returns-then-left-reach-clause-squeezes c = elim c.then-left-reach.branch [
 
 pub returns-clause-added : goal.returns-clause-added
 returns-clause-added c =
-    let above : pos 0 <ℤ (left c.args.run -ℤ reach c.args.run (fitting c.args.run)) = omega (arith, ints, rest_at c.args.run c.fitting-fitting.result c.fitting-fitting.ensures.value) in
+    let above : pos 0 <ℤ (left c.args.run -ℤ reach c.args.run (fitting c.args.run)) =
+    omega (arith, ints, rest_at c.args.run c.fitting-fitting.result c.fitting-fitting.ensures.value) in
     omega (arith, added_yes c.args.run above (omega arith))
 
 pub returns-clause-squeezes : goal.returns-clause-squeezes
 returns-clause-squeezes c =
-    let above : pos 0 <ℤ (left c.args.run -ℤ reach c.args.run (fitting c.args.run)) = omega (arith, ints, rest_at c.args.run c.fitting-fitting.result c.fitting-fitting.ensures.value) in
+    let above : pos 0 <ℤ (left c.args.run -ℤ reach c.args.run (fitting c.args.run)) =
+    omega (arith, ints, rest_at c.args.run c.fitting-fitting.result c.fitting-fitting.ensures.value) in
     let some : 0 < c.args.run.repeaters = omega arith in
     let at : c.fitting-fitting.result + 1 ≡ times_added c.args.run = omega (arith, added_yes c.args.run above some) in
-    let over : c.excess.result ≡ excess c.args.run = c.excess.ensures ∙ ap (λ n. reach c.args.run n -ℤ left c.args.run) at in
+    let over : c.excess.result ≡ excess c.args.run = c.excess.ensures
+    ∙ ap (λ n. reach c.args.run n -ℤ left c.args.run) at in
     let fits : FitsSigned w64 c.excess.result = record { sfits = c.excess.type_inv } in
     ap (λ x. int_lt (pos 0) x) (to_z-of_z w64 c.excess.result fits ∙ over) ∙ sym (squeezes_short c.args.run above some)

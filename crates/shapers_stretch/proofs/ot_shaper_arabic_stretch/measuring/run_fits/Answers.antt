@@ -6,4 +6,5 @@ pub returns-then-fits_i32-3-clause-value : goal.returns-then-fits_i32-3-clause-v
 returns-then-fits_i32-3-clause-value c = search rules
 
 pub returns-then-fits_i32-3-clause-fits : goal.returns-then-fits_i32-3-clause-fits
-returns-then-fits_i32-3-clause-fits c = λ t. run_fits_from c.args.run (subst IsTrue (returns-then-fits_i32-3-clause-value c) t)
+returns-then-fits_i32-3-clause-fits c =
+    λ t. run_fits_from c.args.run (subst IsTrue (returns-then-fits_i32-3-clause-value c) t)

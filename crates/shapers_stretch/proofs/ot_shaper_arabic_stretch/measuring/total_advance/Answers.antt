@@ -20,9 +20,14 @@ loop-piece-preserved c =
     let short : more ≡ c.short_advance.result = c.from-sum.ensures ∙ to_z-of_z w64 c.short_advance.result fits_short in
     let long = ap length steps.1.0 ∙ length-append c.in-Some.piece.now rest in
     let less : length rest < length old = omega (arith, long, steps.1.1, steps.1.2, inv.2) in
-    let bounds : PieceBounds all (length rest) (sum +ℤ more) = piece_bounds all (length old) (length rest) sum more (omega arith) less inv.3 (subst (FitsSigned w64) (sym short) fits_short) inv.5 inv.6 in
-    let same : to_z w128 (of_z w128 (sum +ℤ to_z w128 (of_z w128 more))) ≡ sum +ℤ more = ap (λ x. to_z w128 (of_z w128 (sum +ℤ x))) (to_z-of_z w128 more fits_from) ∙ to_z-of_z w128 (sum +ℤ more) bounds.fits in
-    let summed = piece_summed (λ p. p.x_advance) _ old c.in-Some.piece.now rest sum more steps.1.0 inv.4 (short ∙ c.short_advance.ensures) in (
+    let bounds : PieceBounds all (length rest) (sum +ℤ more) =
+    piece_bounds all (length old) (length rest) sum more (omega arith) less inv.3
+    (subst (FitsSigned w64) (sym short) fits_short) inv.5 inv.6 in
+    let same : to_z w128 (of_z w128 (sum +ℤ to_z w128 (of_z w128 more))) ≡ sum +ℤ more =
+    ap (λ x. to_z w128 (of_z w128 (sum +ℤ x))) (to_z-of_z w128 more fits_from)
+    ∙ to_z-of_z w128 (sum +ℤ more) bounds.fits in
+    let summed = piece_summed (λ p. p.x_advance) _ old c.in-Some.piece.now rest sum more steps.1.0 inv.4 (short
+    ∙ c.short_advance.ensures) in (
       search rules,
       tt,
       steps.0 ∙ inv.2,

@@ -10,26 +10,39 @@ pub walk_positioned-requires : goal.walk_positioned-requires
 walk_positioned-requires g c =
     let how = laying_by (g.F.hb_font_t.font c.args.face.now) c.args.choice c.args.right_to_left in
     let b = c.args.buffer.now in
-    let counted : CountsAdded how (cells b) (Some c.in-Some.added) = counted_in b how c.glyphs-glyphs.result.now c.positions-positions.result.now (Some c.in-Some.added) c.glyphs-glyphs.ensures c.positions-positions.ensures c.in-Some.ensures in
-    has_room_in b c.make_room.new.buffer how c.in-Some.added c.len-len.result c.in-Ok.ensures.ok c.len-len.ensures.length c.requires.positions c.requires.numbers counted
+    let counted : CountsAdded how (cells b) (Some c.in-Some.added) =
+    counted_in b how c.glyphs-glyphs.result.now c.positions-positions.result.now (Some c.in-Some.added)
+    c.glyphs-glyphs.ensures c.positions-positions.ensures c.in-Some.ensures in
+    has_room_in b c.make_room.new.buffer how c.in-Some.added c.len-len.result c.in-Ok.ensures.ok
+    c.len-len.ensures.length c.requires.positions c.requires.numbers counted
 
 pub returns-in-Ok-clause-ok : goal.returns-in-Ok-clause-ok
 returns-in-Ok-clause-ok g c =
     let how = laying_by (g.F.hb_font_t.font c.args.face.now) c.args.choice c.args.right_to_left in
     let b = c.args.buffer.now in
-    let counted : CountsAdded how (cells b) (Some c.in-Some.added) = counted_in b how c.glyphs-glyphs.result.now c.positions-positions.result.now (Some c.in-Some.added) c.glyphs-glyphs.ensures c.positions-positions.ensures c.in-Some.ensures in
-    stretched_in b c.make_room.new.buffer how c.in-Some.added c.len-len.result c.walk_positioned.new.self c.in-Ok.ensures.ok c.len-len.ensures.length c.requires.positions counted c.walk_positioned.ensures.walked c.walk_positioned.ensures.others
+    let counted : CountsAdded how (cells b) (Some c.in-Some.added) =
+    counted_in b how c.glyphs-glyphs.result.now c.positions-positions.result.now (Some c.in-Some.added)
+    c.glyphs-glyphs.ensures c.positions-positions.ensures c.in-Some.ensures in
+    stretched_in b c.make_room.new.buffer how c.in-Some.added c.len-len.result c.walk_positioned.new.self
+    c.in-Ok.ensures.ok c.len-len.ensures.length c.requires.positions counted c.walk_positioned.ensures.walked
+    c.walk_positioned.ensures.others
 
 pub returns-in-Ok-clause-refusal : goal.returns-in-Ok-clause-refusal
 returns-in-Ok-clause-refusal g c =
     let how = laying_by (g.F.hb_font_t.font c.args.face.now) c.args.choice c.args.right_to_left in
     let b = c.args.buffer.now in
-    let counted : CountsAdded how (cells b) (Some c.in-Some.added) = counted_in b how c.glyphs-glyphs.result.now c.positions-positions.result.now (Some c.in-Some.added) c.glyphs-glyphs.ensures c.positions-positions.ensures c.in-Some.ensures in
-    refuses_counted how (cells b) c.in-Some.added (length b.glyphs) b.max_len _ counted (length-zipped b.glyphs b.positions (sym c.requires.positions)) c.in-Ok.ensures.length
+    let counted : CountsAdded how (cells b) (Some c.in-Some.added) =
+    counted_in b how c.glyphs-glyphs.result.now c.positions-positions.result.now (Some c.in-Some.added)
+    c.glyphs-glyphs.ensures c.positions-positions.ensures c.in-Some.ensures in
+    refuses_counted how (cells b) c.in-Some.added (length b.glyphs) b.max_len _ counted
+    (length-zipped b.glyphs b.positions (sym c.requires.positions)) c.in-Ok.ensures.length
 
 pub returns-in-Err-clause-refusal : goal.returns-in-Err-clause-refusal
 returns-in-Err-clause-refusal g c =
     let how = laying_by (g.F.hb_font_t.font c.args.face.now) c.args.choice c.args.right_to_left in
     let b = c.args.buffer.now in
-    let counted : CountsAdded how (cells b) (Some c.in-Some.added) = counted_in b how c.glyphs-glyphs.result.now c.positions-positions.result.now (Some c.in-Some.added) c.glyphs-glyphs.ensures c.positions-positions.ensures c.in-Some.ensures in
-    refuses_counted how (cells b) c.in-Some.added (length b.glyphs) b.max_len _ counted (length-zipped b.glyphs b.positions (sym c.requires.positions)) c.in-Err.ensures.length
+    let counted : CountsAdded how (cells b) (Some c.in-Some.added) =
+    counted_in b how c.glyphs-glyphs.result.now c.positions-positions.result.now (Some c.in-Some.added)
+    c.glyphs-glyphs.ensures c.positions-positions.ensures c.in-Some.ensures in
+    refuses_counted how (cells b) c.in-Some.added (length b.glyphs) b.max_len _ counted
+    (length-zipped b.glyphs b.positions (sym c.requires.positions)) c.in-Err.ensures.length

@@ -8,5 +8,6 @@ use Rattle.shapers_stretch.proofs.ot_shaper_arabic_stretch.recording.record_stch
 abbrev pub invariant-loop-glyph : goal.invariant-loop-glyph
 invariant-loop-glyph l = record {
   glyphs : take l.glyph-index l.glyphs ++ map recorded (drop l.glyph-index l.glyphs) ≡ map recorded l.initial.glyphs;
-  found : (l.has_stch || list_any (λ g. is_multiplied g.marks) (drop l.glyph-index l.glyphs)) ≡ list_any (λ g. is_multiplied g.marks) l.initial.glyphs;
+  found : (l.has_stch || list_any (λ g. is_multiplied g.marks) (drop l.glyph-index l.glyphs))
+      ≡ list_any (λ g. is_multiplied g.marks) l.initial.glyphs;
 }

@@ -14,5 +14,6 @@ invariant-loop l =
       same_length : length l.glyphs ≡ length l.initial.glyphs;
       near : IsNumber l.pen.at;
       can : CanLay l.right_to_left (replicate (l.count - l.counter) copy) l.pen l.glyphs l.positions;
-      lays : Lays l.right_to_left (replicate l.counter copy) l.initial.pen l.pen (zip l.initial.glyphs l.initial.positions) (zip l.glyphs l.positions);
+      lays : Lays l.right_to_left (replicate l.counter copy) l.initial.pen l.pen
+          (zip l.initial.glyphs l.initial.positions) (zip l.glyphs l.positions);
     }

@@ -13,6 +13,10 @@ returns-clause-lays c =
     let fits_at : FitsSigned w64 c.moved.result = record { sfits = c.moved.type_inv } in
     let at = to_z-of_z w64 c.args.pen.at (near_fits c.args.pen.at c.requires.near) in
     let step = to_z-of_z w64 c.args.step c.ranges.step in
-    let there = ap (λ a. stands_at c.args.right_to_left a (to_z w64 (of_z w64 c.args.step))) at ∙ ap (stands_at c.args.right_to_left c.args.pen.at) step in
-    let behind = ap (λ a. pen_behind c.args.right_to_left a (to_z w64 (of_z w64 c.args.step))) at ∙ ap (pen_behind c.args.right_to_left c.args.pen.at) step in
-    one_laid c.args.right_to_left copy c.args.pen c.args.glyphs.now c.args.positions.now _ _ c.requires.can (to_z-of_z w64 c.moved.result fits_at ∙ c.moved.ensures.value ∙ behind) (to_z-of_z w32 c.offset_of.result fits_offset ∙ c.offset_of.ensures ∙ there)
+    let there = ap (λ a. stands_at c.args.right_to_left a (to_z w64 (of_z w64 c.args.step))) at
+    ∙ ap (stands_at c.args.right_to_left c.args.pen.at) step in
+    let behind = ap (λ a. pen_behind c.args.right_to_left a (to_z w64 (of_z w64 c.args.step))) at
+    ∙ ap (pen_behind c.args.right_to_left c.args.pen.at) step in
+    one_laid c.args.right_to_left copy c.args.pen c.args.glyphs.now c.args.positions.now _ _ c.requires.can
+    (to_z-of_z w64 c.moved.result fits_at ∙ c.moved.ensures.value ∙ behind)
+    (to_z-of_z w32 c.offset_of.result fits_offset ∙ c.offset_of.ensures ∙ there)

@@ -12,12 +12,14 @@ loop-start-preserved c =
     let e = s + c.first_syllable_len.result in
     let gs = c.loop-start.glyphs in
     let hs = c.unsafe_to_break_in.new.glyphs in
-    let is : e ≡ s + first_syllable_len (drop s gs) = ap (λ n. s + n) (c.first_syllable_len.ensures.len ∙ ap first_syllable_len (take_rest gs s)) in
+    let is : e ≡ s + first_syllable_len (drop s gs) =
+    ap (λ n. s + n) (c.first_syllable_len.ensures.len ∙ ap first_syllable_len (take_rest gs s)) in
     let rest : length (take (length gs - s) (drop s gs)) ≡ length (drop s gs) = ap length (take_rest gs s) in
     let within : e ≤ length gs = omega (arith, length-drop s gs, c.first_syllable_len.ensures.within) in
     let as_long : length hs ≡ length gs = c.unsafe_to_break_in.auto.glyphs in
     record {
-      done = change_next (flagged 3) s e gs hs c.loop-start-test.true is within c.unsafe_to_break_in.ensures as_long ∙ c.loop-start.invariant.done;
+      done = change_next (flagged 3) s e gs hs c.loop-start-test.true is within c.unsafe_to_break_in.ensures as_long
+          ∙ c.loop-start.invariant.done;
       inside = omega arith;
       as_long = as_long ∙ c.loop-start.invariant.as_long;
     }

@@ -12,4 +12,5 @@ returns c =
     let byte = in_syllable c.args.byte in
     c.set_up_each.ensures
     ∙ sym (map-map (with_bits_off 3 c.least_cluster-least.result) byte gs)
-    ∙ ap (λ n. map (with_bits_off 3 n) (map byte gs)) (c.least_cluster-least.ensures ∙ ap least (sym (map-map (λ g. g.cluster) byte gs)))
+    ∙ ap (λ n. map (with_bits_off 3 n) (map byte gs)) (c.least_cluster-least.ensures
+    ∙ ap least (sym (map-map (λ g. g.cluster) byte gs)))

@@ -17,9 +17,12 @@ loop-i-preserved c =
     let rest = drop (i + 1) spans in
     let more = drop_more spans i none c.loop-i-test.true in
     let kind : Span → Type 0 = λ s. s.kind ≤ 15 in
-    let kinds : All kind (span ∷ rest) = All-same kind (span ∷ rest) (drop i spans) (sym more) (All-drop kind i spans c.requires.kinds) in
-    let covers : spans_cover (length (drop c.loop-i.start gs)) (span ∷ rest) ≡ true = ap (spans_cover (length (drop c.loop-i.start gs))) (sym more) ∙ c.loop-i.invariant.covered in
-    let step = set_up_next i span rest gs c.loop-i.start (c.loop-i.start + span.len) (omega arith) c.loop-i.invariant.inside kinds covers in
+    let kinds : All kind (span ∷ rest) =
+    All-same kind (span ∷ rest) (drop i spans) (sym more) (All-drop kind i spans c.requires.kinds) in
+    let covers : spans_cover (length (drop c.loop-i.start gs)) (span ∷ rest) ≡ true =
+    ap (spans_cover (length (drop c.loop-i.start gs))) (sym more) ∙ c.loop-i.invariant.covered in
+    let step = set_up_next i span rest gs c.loop-i.start (c.loop-i.start + span.len) (omega arith)
+    c.loop-i.invariant.inside kinds covers in
     let next : span_bytes (i + 1) rest ≡ span_bytes (suc i) rest = ap (λ n. span_bytes n rest) (add-one i) in
     rw c.set_up_span_in.ensures (record {
       done = rw next (step.done ∙ rw more at c.loop-i.invariant.done);

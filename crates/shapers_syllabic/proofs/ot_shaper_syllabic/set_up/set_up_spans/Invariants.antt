@@ -5,7 +5,9 @@ use Rattle.shapers_syllabic.proofs.ot_shaper_syllabic.set_up.set_up_spans.Given 
 
 abbrev pub invariant-loop-i : goal.invariant-loop-i
 invariant-loop-i l = record {
-  done : take l.start l.glyphs ++ unsafe_syllables (with_bytes (drop l.start l.glyphs) (span_bytes l.i (drop l.i l.spans))) ≡ unsafe_spans l.spans l.initial.glyphs;
+  done : take l.start l.glyphs
+      ++ unsafe_syllables (with_bytes (drop l.start l.glyphs) (span_bytes l.i (drop l.i l.spans)))
+      ≡ unsafe_spans l.spans l.initial.glyphs;
   covered : spans_cover (length (drop l.start l.glyphs)) (drop l.i l.spans) ≡ true;
   inside : l.start ≤ length l.glyphs;
 }

@@ -4,4 +4,6 @@ use Rattle.shapers_clusters.proofs.Flagging.{unsafe_few}
 use Rattle.shapers_text.proofs.ot_shaper_thai.forms.flag_marks.Goals as goal
 
 pub returns-else-end-base-gt2 : goal.returns-else-end-base-gt2
-returns-else-end-base-gt2 c = sym (unsafe_few c.args.base (c.args.end - 1) c.args.glyphs.now c.requires.in_order (omega (arith, c.if-end-base-gt2.false)))
+returns-else-end-base-gt2 c =
+    sym (unsafe_few c.args.base (c.args.end - 1) c.args.glyphs.now c.requires.in_order
+    (omega (arith, c.if-end-base-gt2.false)))

@@ -16,7 +16,9 @@ loop-i-preserved g c =
     let start = c.args.glyphs.now in
     let now = c.loop-i.glyphs in
     let long = walking_length has start now l.i l.base l.invariant in
-    walking_next has start now c.pass-base.new.glyphs l.i _ l.base c.pass-base.result (omega arith) l.invariant (sym (get_or-map (λ x. x.glyph_id) now l.i _ 0 (omega arith))) c.pass-base.ensures.glyphs c.pass-base.ensures.base
+    walking_next has start now c.pass-base.new.glyphs l.i _ l.base c.pass-base.result (omega arith) l.invariant
+    (sym (get_or-map (λ x. x.glyph_id) now l.i _ 0 (omega arith))) c.pass-base.ensures.glyphs
+    c.pass-base.ensures.base
 
 pub returns : goal.returns
 returns g c =

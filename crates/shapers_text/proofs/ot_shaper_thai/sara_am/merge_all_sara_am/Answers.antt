@@ -22,16 +22,20 @@ loop-i-preserved c =
     let sts = stretch_of_sara_am level l.i (above_marks_before l.glyphs l.i) in
     let long = merging_length level start l.glyphs l.run c.args.len l.i l.invariant.fits l.invariant.merging in
     let read = sym (get_or-map (λ x. x.glyph_id) l.glyphs l.i default_glyph 0 (omega (arith, long, c.requires))) in
-    let turn = λ (after : List hb_glyph_info_t). merging_turn level start l.glyphs after l.run c.args.len l.i u c.requires c.loop-i-test.true l.invariant.fits l.invariant.merging read in
+    let turn = λ (after : List hb_glyph_info_t). merging_turn level start l.glyphs after l.run c.args.len l.i u
+    c.requires c.loop-i-test.true l.invariant.fits l.invariant.merging read in
     elim c.if-is_sara_am.branch [
       | then-is_sara_am w ↦ record {
-        fits = subst (λ run. RunFits run next.glyphs) (sym w.run-is) (subst (RunFits w.merge_sara_am-run.result) (sym w.glyphs-is) w.merge_sara_am-run.ensures.fits);
+        fits = subst (λ run. RunFits run next.glyphs) (sym w.run-is)
+            (subst (RunFits w.merge_sara_am-run.result) (sym w.glyphs-is) w.merge_sara_am-run.ensures.fits);
         merging = turn (with_run next.run next.glyphs)
-            (ap (λ run. with_run run next.glyphs) w.run-is ∙ ap (with_run w.merge_sara_am-run.result) w.glyphs-is ∙ w.merge_sara_am-run.ensures.merged
+            (ap (λ run. with_run run next.glyphs) w.run-is ∙ ap (with_run w.merge_sara_am-run.result) w.glyphs-is
+            ∙ w.merge_sara_am-run.ensures.merged
             ∙ ap (λ b. merge_all level (cond b sts []) whole) (sym w.if-is_sara_am.true ∙ c.is_sara_am.ensures));
       }
       | else-is_sara_am w ↦ record {
-        fits = subst (λ run. RunFits run next.glyphs) (sym w.run-is) (subst (RunFits l.run) (sym w.glyphs-is) l.invariant.fits);
+        fits = subst (λ run. RunFits run next.glyphs) (sym w.run-is)
+            (subst (RunFits l.run) (sym w.glyphs-is) l.invariant.fits);
         merging = turn (with_run next.run next.glyphs)
             (ap (λ run. with_run run next.glyphs) w.run-is ∙ ap (with_run l.run) w.glyphs-is
             ∙ ap (λ b. merge_all level (cond b sts []) whole) (sym w.if-is_sara_am.false ∙ c.is_sara_am.ensures));

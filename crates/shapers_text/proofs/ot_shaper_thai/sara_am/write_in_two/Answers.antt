@@ -12,9 +12,11 @@ loop-unwritten-init c = written_none c.args.glyphs.now c.args.len c.requires.in_
 pub loop-unwritten-preserved : goal.loop-unwritten-preserved
 loop-unwritten-preserved c =
     let n = c.write_last.new in
-    subst (λ (whole : List hb_glyph_info_t). Written whole n.glyphs n.self.end None n.self.place) c.loop-unwritten.invariant.joined c.write_last.ensures.written
+    subst (λ (whole : List hb_glyph_info_t). Written whole n.glyphs n.self.end None n.self.place)
+    c.loop-unwritten.invariant.joined c.write_last.ensures.written
 
 pub returns : goal.returns
 returns c =
     let l = c.loop-unwritten in
-    written_all (glyphs_in_two (take c.args.len c.args.glyphs.now)) l.glyphs l.unwritten.end l.unwritten.place l.invariant c.loop-unwritten-test.false
+    written_all (glyphs_in_two (take c.args.len c.args.glyphs.now)) l.glyphs l.unwritten.end l.unwritten.place
+    l.invariant c.loop-unwritten-test.false

@@ -17,9 +17,16 @@ returns-in-Some-clause-masks g c =
     let new = c.setup_masks_inner.new.buffer in
     let auxiliaries = map (λ h. h.auxiliary) new.glyphs in
     let masks = c.in-Some.arabic_plan.mask_array in
-    let equation = c.setup_masks_inner.ensures.joined ∙ ap (buffer_joined c.in-Some.arabic_plan.break_flags masks script t.joining t.general) c.set_categories.ensures in
-    let cut = subst (λ b. CutsAsHalves script t.joining t.general b new) c.set_categories.ensures c.setup_masks_inner.ensures.cut in
-    rw (c.in-Universal.is, c.in-Some.is) (equation, subst (λ text. HoldsCut script text auxiliaries) (text_stays t t.joining t.general c.args.buffer.now) cut)
+    let equation = c.setup_masks_inner.ensures.joined
+    ∙ ap (buffer_joined c.in-Some.arabic_plan.break_flags masks script t.joining t.general)
+    c.set_categories.ensures in
+    let cut = subst (λ b. CutsAsHalves script t.joining t.general b new) c.set_categories.ensures
+    c.setup_masks_inner.ensures.cut in
+    rw (c.in-Universal.is, c.in-Some.is) (
+      equation,
+      subst (λ text. HoldsCut script text auxiliaries) (text_stays t t.joining t.general c.args.buffer.now)
+          cut,
+    )
 
 pub returns-in-Some-clause-breaks : goal.returns-in-Some-clause-breaks
 returns-in-Some-clause-breaks g c =
@@ -28,7 +35,10 @@ returns-in-Some-clause-breaks g c =
     let new = c.setup_masks_inner.new.buffer in
     let masks = c.in-Some.arabic_plan.mask_array in
     let breaks = c.in-Some.arabic_plan.break_flags in
-    let clear = subst (λ b. BreaksWhereClear breaks masks script t.joining t.general b new) c.set_categories.ensures c.setup_masks_inner.ensures.breaks in
-    let needless = subst (λ b. NoneNeedless breaks masks script t.joining t.general b new) c.set_categories.ensures c.setup_masks_inner.ensures.needless in
-    let first = subst (λ b. FirstKeepsAsFlagged breaks masks script t.joining t.general b new) c.set_categories.ensures c.setup_masks_inner.ensures.first in
+    let clear = subst (λ b. BreaksWhereClear breaks masks script t.joining t.general b new) c.set_categories.ensures
+    c.setup_masks_inner.ensures.breaks in
+    let needless = subst (λ b. NoneNeedless breaks masks script t.joining t.general b new) c.set_categories.ensures
+    c.setup_masks_inner.ensures.needless in
+    let first = subst (λ b. FirstKeepsAsFlagged breaks masks script t.joining t.general b new) c.set_categories.ensures
+    c.setup_masks_inner.ensures.first in
     rw (c.in-Universal.is, c.in-Some.is) (clear, needless, first)

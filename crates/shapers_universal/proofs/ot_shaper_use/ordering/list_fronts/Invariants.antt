@@ -11,7 +11,8 @@ invariant-loop-i l =
     let t = goes_front_at l.initial.buffer.glyphs in
     let all = reverse (filter t (range_with_len l.behind (l.e - l.behind))) in
     record {
-      left : Left (reverse (filter t (range_with_len l.behind (l.i - l.behind)))) l.at (with_listed l.fn.s all l.initial.buffer.places) (l.fn.s + length all) l.initial.buffer l.buffer;
+      left : Left (reverse (filter t (range_with_len l.behind (l.i - l.behind)))) l.at
+          (with_listed l.fn.s all l.initial.buffer.places) (l.fn.s + length all) l.initial.buffer l.buffer;
       from : l.behind ≤ l.i;
       within : l.i ≤ l.e;
       room : l.at + (l.i - l.behind) ≤ l.e;

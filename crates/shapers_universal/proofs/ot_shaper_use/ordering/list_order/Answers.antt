@@ -19,11 +19,25 @@ returns c =
     let gs = b0.glyphs in
     let b1 = c.list_piece.new.buffer in
     let end = behind + c.piece_len.result in
-    let len : c.piece_len.result ≡ first_piece_len is_universal_halant (stretch_of behind e gs) = c.piece_len.ensures.len ∙ ap (λ xs. first_piece_len is_universal_halant (stretch_of behind e xs)) c.glyphs.ensures in
-    let within : end ≤ e = omega (arith, c.piece_len.ensures.within, ap (λ xs. length (stretch_of behind e xs)) c.glyphs.ensures, length-stretch behind e gs c.requires.in_range, c.requires.inside) in
-    let first = order_first s behind e end gs (omega (arith, c.requires.reph)) c.requires.inside c.requires.in_order c.requires.in_range (calm_places s e behind gs (omega (arith, c.requires.in_order)) c.requires.in_range c.requires.reph) (ap (λ k. behind + k) len) in
+    let len : c.piece_len.result ≡ first_piece_len is_universal_halant (stretch_of behind e gs) =
+    c.piece_len.ensures.len
+    ∙ ap (λ xs. first_piece_len is_universal_halant (stretch_of behind e xs)) c.glyphs.ensures in
+    let within : end ≤ e =
+    omega (
+      arith,
+      c.piece_len.ensures.within,
+      ap (λ xs. length (stretch_of behind e xs)) c.glyphs.ensures,
+      length-stretch behind e gs c.requires.in_range,
+      c.requires.inside,
+    ) in
+    let first = order_first s behind e end gs (omega (arith, c.requires.reph)) c.requires.inside c.requires.in_order
+    c.requires.in_range (calm_places s e behind gs (omega (arith, c.requires.in_order)) c.requires.in_range
+    c.requires.reph) (ap (λ k. behind + k) len) in
     let long = length-piece s behind end gs (omega (arith, c.requires.reph)) (omega arith) in
     let same = ap (λ b. b.glyphs) c.list_piece.ensures in
-    listed_twice s (piece_places s behind end gs) (syllable_places_in_order end end e gs) end b0 b1 c.list_pieces.new.buffer c.list_piece.ensures (omega (arith, long, c.requires.reph))
-    (c.list_pieces.ensures ∙ ap (λ xs. (let r : Buffer = record b1 { places = with_listed end (syllable_places_in_order end end e xs) b1.places } in r)) same)
+    listed_twice s (piece_places s behind end gs) (syllable_places_in_order end end e gs) end b0 b1
+    c.list_pieces.new.buffer c.list_piece.ensures (omega (arith, long, c.requires.reph))
+    (c.list_pieces.ensures
+    ∙ ap (λ xs. (let r : Buffer = record b1
+    { places = with_listed end (syllable_places_in_order end end e xs) b1.places } in r)) same)
     ∙ ap (λ order. (let r : Buffer = record b0 { places = with_listed s order b0.places } in r)) (sym first)

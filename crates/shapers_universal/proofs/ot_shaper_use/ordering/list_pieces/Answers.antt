@@ -12,7 +12,12 @@ use Rattle.shapers_universal.specs.Proved.UniversalPlaces.{calm_nothing, length-
 use Rattle.shapers_universal.proofs.ot_shaper_use.ordering.list_pieces.Goals as goal
 
 pub loop-start-init : goal.loop-start-init
-loop-start-init c = record { left = left_starts (syllable_places_in_order c.args.s c.args.s c.args.e c.args.buffer.now.glyphs) c.args.s c.args.buffer.now; inside = c.requires.in_order }
+loop-start-init c =
+    record {
+      left = left_starts (syllable_places_in_order c.args.s c.args.s c.args.e c.args.buffer.now.glyphs) c.args.s
+          c.args.buffer.now;
+      inside = c.requires.in_order;
+    }
 
 pub loop-start-preserved : goal.loop-start-preserved
 loop-start-preserved c =
@@ -23,18 +28,32 @@ loop-start-preserved c =
     let same = same_when_placed b0 l.buffer l.invariant.left.others in
     let end = l.start + c.piece_len.result in
     let read = c.glyphs.ensures ∙ same in
-    let len : c.piece_len.result ≡ first_piece_len is_universal_halant (stretch_of l.start e gs) = c.piece_len.ensures.len ∙ ap (λ xs. first_piece_len is_universal_halant (stretch_of l.start e xs)) read in
+    let len : c.piece_len.result ≡ first_piece_len is_universal_halant (stretch_of l.start e gs) =
+    c.piece_len.ensures.len ∙ ap (λ xs. first_piece_len is_universal_halant (stretch_of l.start e xs)) read in
     let size : length (stretch_of l.start e gs) ≡ e - l.start = length-stretch l.start e gs c.requires.in_range in
-    let within : end ≤ e = omega (arith, c.piece_len.ensures.within, ap (λ xs. length (stretch_of l.start e xs)) read, c.loop-start-test.true) in
-    let first = order_first l.start l.start e end gs (omega arith) l.invariant.inside c.loop-start-test.true c.requires.in_range (calm_nothing l.start gs) (ap (λ k. l.start + k) len) in
+    let within : end ≤ e =
+    omega (
+      arith,
+      c.piece_len.ensures.within,
+      ap (λ xs. length (stretch_of l.start e xs)) read,
+      c.loop-start-test.true,
+    ) in
+    let first = order_first l.start l.start e end gs (omega arith) l.invariant.inside c.loop-start-test.true
+    c.requires.in_range (calm_nothing l.start gs) (ap (λ k. l.start + k) len) in
     let long = length-piece l.start l.start end gs (omega arith) (omega arith) in
     record {
-      left = left_part (piece_places l.start l.start end gs) (syllable_places_in_order end end e gs) l.start end _ _ b0 l.buffer c.list_piece.new.buffer (left_as _ _ l.start _ _ b0 l.buffer first l.invariant.left)
-          (c.list_piece.ensures ∙ ap (λ xs. (let r : Buffer = record l.buffer { places = with_listed l.start (piece_places l.start l.start end xs) l.buffer.places } in r)) same) (omega (arith, long));
+      left = left_part (piece_places l.start l.start end gs) (syllable_places_in_order end end e gs) l.start end _ _ b0
+          l.buffer c.list_piece.new.buffer (left_as _ _ l.start _ _ b0 l.buffer first l.invariant.left)
+          (c.list_piece.ensures
+          ∙ ap (λ xs. (let r : Buffer = record l.buffer
+          { places = with_listed l.start (piece_places l.start l.start end xs) l.buffer.places } in r)) same)
+          (omega (arith, long));
       inside = within;
     }
 
 pub returns : goal.returns
 returns c =
     let l = c.loop-start in
-    (left_ends _ l.start _ _ c.args.buffer.now l.buffer (order_none l.start c.args.e c.args.buffer.now.glyphs (omega (arith, c.loop-start-test.false))) l.invariant.left).0
+    (left_ends _ l.start _ _ c.args.buffer.now l.buffer
+    (order_none l.start c.args.e c.args.buffer.now.glyphs (omega (arith, c.loop-start-test.false)))
+    l.invariant.left).0

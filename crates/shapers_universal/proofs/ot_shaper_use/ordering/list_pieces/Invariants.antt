@@ -10,7 +10,8 @@ invariant-loop-start l =
     let gs = l.initial.buffer.glyphs in
     let all = syllable_places_in_order l.s l.s l.e gs in
     record {
-      left : Left (syllable_places_in_order l.start l.start l.e gs) l.start (with_listed l.s all l.initial.buffer.places) (l.s + length all) l.initial.buffer l.buffer;
+      left : Left (syllable_places_in_order l.start l.start l.e gs) l.start
+          (with_listed l.s all l.initial.buffer.places) (l.s + length all) l.initial.buffer l.buffer;
       inside : l.start ≤ l.e;
     }
 

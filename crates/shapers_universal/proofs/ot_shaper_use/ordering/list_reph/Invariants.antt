@@ -10,7 +10,8 @@ abbrev pub invariant-loop-i : goal.invariant-loop-i
 invariant-loop-i l =
     let all = first_last (range_with_len l.s (l.behind - l.s)) in
     record {
-      left : Left (range_with_len l.i (l.behind - l.i) ++ l.s ∷ []) l.at (with_listed l.fn.at all l.initial.buffer.places) (l.fn.at + length all) l.initial.buffer l.buffer;
+      left : Left (range_with_len l.i (l.behind - l.i) ++ l.s ∷ []) l.at
+          (with_listed l.fn.at all l.initial.buffer.places) (l.fn.at + length all) l.initial.buffer l.buffer;
       from : suc l.s ≤ l.i;
       within : l.i ≤ l.behind;
     }

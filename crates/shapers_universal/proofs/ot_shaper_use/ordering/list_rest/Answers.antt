@@ -15,9 +15,12 @@ set_place-requires c =
     let gs = c.args.buffer.now.glyphs in
     let t = stays_at gs in
     let same = same_when_placed c.args.buffer.now l.buffer l.invariant.others in
-    let stays : t l.i ≡ true = ap not (goes_front_is gs l.i ∙ sym (ap (λ xs. goes_front (at xs l.i)) (c.glyphs.ensures ∙ same)) ∙ sym c.goes_front.ensures ∙ c.if-not-goes_front.true) in
+    let stays : t l.i ≡ true =
+    ap not (goes_front_is gs l.i ∙ sym (ap (λ xs. goes_front (at xs l.i)) (c.glyphs.ensures ∙ same))
+    ∙ sym c.goes_front.ensures ∙ c.if-not-goes_front.true) in
     let rest = filter t (range_with_len (l.i + 1) (c.args.e - (l.i + 1))) in
-    let left = left_as _ (l.i ∷ rest) l.at _ _ c.args.buffer.now l.buffer (rest_next t l.i c.args.e c.loop-i-test.true ∙ ap (λ b. if b then l.i ∷ rest else rest) stays) l.invariant in
+    let left = left_as _ (l.i ∷ rest) l.at _ _ c.args.buffer.now l.buffer (rest_next t l.i c.args.e c.loop-i-test.true
+    ∙ ap (λ b. if b then l.i ∷ rest else rest) stays) l.invariant in
     omega (arith, left.counted, c.requires.room, c.requires.in_range, ap length same)
 
 pub loop-i-preserved : goal.loop-i-preserved
@@ -27,14 +30,19 @@ loop-i-preserved c =
     let t = stays_at gs in
     let same = same_when_placed c.args.buffer.now l.buffer l.invariant.others in
     let rest = filter t (range_with_len (l.i + 1) (c.args.e - (l.i + 1))) in
-    let read = goes_front_is gs l.i ∙ sym (ap (λ xs. goes_front (at xs l.i)) (c.glyphs.ensures ∙ same)) ∙ sym c.goes_front.ensures in
+    let read = goes_front_is gs l.i ∙ sym (ap (λ xs. goes_front (at xs l.i)) (c.glyphs.ensures ∙ same))
+    ∙ sym c.goes_front.ensures in
     elim c.if-not-goes_front.branch [
       | then-not-goes_front w ↦
           let stays : t l.i ≡ true = ap not (read ∙ w.if-not-goes_front.true) in
-          let left = left_as _ (l.i ∷ rest) l.at _ _ c.args.buffer.now l.buffer (rest_next t l.i c.args.e c.loop-i-test.true ∙ ap (λ b. if b then l.i ∷ rest else rest) stays) l.invariant in
-          rw w.at-is (left_one l.i rest l.at _ _ c.args.buffer.now l.buffer c.if-not-goes_front.buffer left (w.buffer-is ∙ w.set_place.ensures))
+          let left = left_as _ (l.i ∷ rest) l.at _ _ c.args.buffer.now l.buffer
+          (rest_next t l.i c.args.e c.loop-i-test.true ∙ ap (λ b. if b then l.i ∷ rest else rest) stays)
+          l.invariant in
+          rw w.at-is (left_one l.i rest l.at _ _ c.args.buffer.now l.buffer c.if-not-goes_front.buffer left (w.buffer-is
+          ∙ w.set_place.ensures))
       | else-not-goes_front w ↦
           let goes : t l.i ≡ false = ap not (read ∙ w.if-not-goes_front.false) in
-          let left = left_as _ rest l.at _ _ c.args.buffer.now l.buffer (rest_next t l.i c.args.e c.loop-i-test.true ∙ ap (λ b. if b then l.i ∷ rest else rest) goes) l.invariant in
+          let left = left_as _ rest l.at _ _ c.args.buffer.now l.buffer (rest_next t l.i c.args.e c.loop-i-test.true
+          ∙ ap (λ b. if b then l.i ∷ rest else rest) goes) l.invariant in
           rw (w.at-is, w.buffer-is) left
     ]

@@ -21,7 +21,8 @@ returns-then-is_halant-clause-start c =
     let gs = c.args.glyphs.now in
     sym (l.invariant.so
     ∙ start_back s l.end gs c.loop-end-test.true (omega (arith, l.invariant.within, c.requires.in_range))
-    ∙ ap (λ b. if b then l.end - 1 else start_from s s (stretch_of s (l.end - 1 - 1) gs)) (sym c.is_halant.ensures ∙ c.if-is_halant.true))
+    ∙ ap (λ b. if b then l.end - 1 else start_from s s (stretch_of s (l.end - 1 - 1) gs)) (sym c.is_halant.ensures
+    ∙ c.if-is_halant.true))
 
 pub loop-end-preserved : goal.loop-end-preserved
 loop-end-preserved c =
@@ -31,7 +32,8 @@ loop-end-preserved c =
     record {
       so = l.invariant.so
           ∙ start_back s l.end gs c.loop-end-test.true (omega (arith, l.invariant.within, c.requires.in_range))
-          ∙ ap (λ b. if b then l.end - 1 else start_from s s (stretch_of s (l.end - 1 - 1) gs)) (sym c.is_halant.ensures ∙ c.if-is_halant.false);
+          ∙ ap (λ b. if b then l.end - 1 else start_from s s (stretch_of s (l.end - 1 - 1) gs)) (sym c.is_halant.ensures
+          ∙ c.if-is_halant.false);
       from = omega (arith, c.loop-end-test.true);
       within = omega (arith, l.invariant.within);
     }

@@ -15,14 +15,20 @@ returns-else-some_go_front c =
     let e = c.args.e in
     let a = c.in-Some.start in
     let z = c.in-Some.behind in
-    let none = fronts_from-none a z (stretch_of z e c.glyphs.result.now) (ap (λ xs. list_any goes_front (stretch_of z e xs)) (c.glyphs.ensures ∙ sym c.glyphs-in-Some.ensures) ∙ sym c.some_go_front.ensures ∙ c.if-some_go_front.false) in
-    one_reordered s e a z c.args.buffer.now c.move_to_front.new.buffer c.requires.in_order c.requires.in_range c.requires.kind c.requires.no_reph
-    (ap (λ xs. fronts_from s s (stretch_of s e xs)) (sym c.glyphs.ensures) ∙ c.in-Some.ensures.first ∙ ap (λ ps. (a, z) ∷ ps) none)
+    let none = fronts_from-none a z (stretch_of z e c.glyphs.result.now)
+    (ap (λ xs. list_any goes_front (stretch_of z e xs)) (c.glyphs.ensures ∙ sym c.glyphs-in-Some.ensures)
+    ∙ sym c.some_go_front.ensures ∙ c.if-some_go_front.false) in
+    one_reordered s e a z c.args.buffer.now c.move_to_front.new.buffer c.requires.in_order c.requires.in_range
+    c.requires.kind c.requires.no_reph
+    (ap (λ xs. fronts_from s s (stretch_of s e xs)) (sym c.glyphs.ensures) ∙ c.in-Some.ensures.first
+    ∙ ap (λ ps. (a, z) ∷ ps) none)
     c.move_to_front.ensures
 
 pub returns-in_default : goal.returns-in_default
 returns-in_default c =
     let s = c.args.s in
     let e = c.args.e in
-    let none = none_from s s (stretch_of s e c.args.buffer.now.glyphs) (ap (λ xs. fronts_from s s (stretch_of s e xs)) (sym c.glyphs.ensures) ∙ c.in_default.ensures.first) in
-    still_reordered s e c.args.buffer.now c.requires.in_order c.requires.in_range (rw (c.requires.kind, c.requires.no_reph, none) refl)
+    let none = none_from s s (stretch_of s e c.args.buffer.now.glyphs)
+    (ap (λ xs. fronts_from s s (stretch_of s e xs)) (sym c.glyphs.ensures) ∙ c.in_default.ensures.first) in
+    still_reordered s e c.args.buffer.now c.requires.in_order c.requires.in_range
+    (rw (c.requires.kind, c.requires.no_reph, none) refl)

@@ -10,8 +10,17 @@ apply-requires-clause-in_range c =
     let s = c.args.s in
     let e = c.args.e in
     let behind = s + c.reph_run.result in
-    let parts : Parts s e behind c.args.buffer.now c.list_order.new.buffer c.merge_clusters.new.self c.merge_fronts.new.buffer = record { in_order = c.requires.in_order; in_range = c.requires.in_range; listed = c.list_order.ensures; joined = c.merge_clusters.ensures; merged = c.merge_fronts.ensures } in
-    let made = parts_make s e behind c.args.buffer.now c.list_order.new.buffer c.merge_clusters.new.self c.merge_fronts.new.buffer parts in
+    let parts : Parts s e behind c.args.buffer.now c.list_order.new.buffer c.merge_clusters.new.self
+    c.merge_fronts.new.buffer =
+    record {
+      in_order = c.requires.in_order;
+      in_range = c.requires.in_range;
+      listed = c.list_order.ensures;
+      joined = c.merge_clusters.ensures;
+      merged = c.merge_fronts.ensures;
+    } in
+    let made = parts_make s e behind c.args.buffer.now c.list_order.new.buffer c.merge_clusters.new.self
+    c.merge_fronts.new.buffer parts in
     omega (arith, made.as_long, c.requires.in_range)
 
 pub apply-requires-clause-permutes : goal.apply-requires-clause-permutes
@@ -19,8 +28,17 @@ apply-requires-clause-permutes c =
     let s = c.args.s in
     let e = c.args.e in
     let behind = s + c.reph_run.result in
-    let parts : Parts s e behind c.args.buffer.now c.list_order.new.buffer c.merge_clusters.new.self c.merge_fronts.new.buffer = record { in_order = c.requires.in_order; in_range = c.requires.in_range; listed = c.list_order.ensures; joined = c.merge_clusters.ensures; merged = c.merge_fronts.ensures } in
-    let made = parts_make s e behind c.args.buffer.now c.list_order.new.buffer c.merge_clusters.new.self c.merge_fronts.new.buffer parts in
+    let parts : Parts s e behind c.args.buffer.now c.list_order.new.buffer c.merge_clusters.new.self
+    c.merge_fronts.new.buffer =
+    record {
+      in_order = c.requires.in_order;
+      in_range = c.requires.in_range;
+      listed = c.list_order.ensures;
+      joined = c.merge_clusters.ensures;
+      merged = c.merge_fronts.ensures;
+    } in
+    let made = parts_make s e behind c.args.buffer.now c.list_order.new.buffer c.merge_clusters.new.self
+    c.merge_fronts.new.buffer parts in
     parts_permute s e behind c.args.buffer.now c.merge_fronts.new.buffer made
 
 pub returns : goal.returns
@@ -28,7 +46,18 @@ returns c =
     let s = c.args.s in
     let e = c.args.e in
     let behind = s + c.reph_run.result in
-    let parts : Parts s e behind c.args.buffer.now c.list_order.new.buffer c.merge_clusters.new.self c.merge_fronts.new.buffer = record { in_order = c.requires.in_order; in_range = c.requires.in_range; listed = c.list_order.ensures; joined = c.merge_clusters.ensures; merged = c.merge_fronts.ensures } in
-    let made = parts_make s e behind c.args.buffer.now c.list_order.new.buffer c.merge_clusters.new.self c.merge_fronts.new.buffer parts in
-    let run : behind ≡ s + reph_run (stretch_of s e c.args.buffer.now.glyphs) = ap (λ k. s + k) (c.reph_run.ensures.len ∙ ap (λ xs. reph_run (stretch_of s e xs)) c.glyphs.ensures) in
-    parts_reordered s e behind c.args.buffer.now c.merge_fronts.new.buffer c.apply.new.self c.requires.in_order c.requires.in_range c.requires.kind run made c.apply.ensures
+    let parts : Parts s e behind c.args.buffer.now c.list_order.new.buffer c.merge_clusters.new.self
+    c.merge_fronts.new.buffer =
+    record {
+      in_order = c.requires.in_order;
+      in_range = c.requires.in_range;
+      listed = c.list_order.ensures;
+      joined = c.merge_clusters.ensures;
+      merged = c.merge_fronts.ensures;
+    } in
+    let made = parts_make s e behind c.args.buffer.now c.list_order.new.buffer c.merge_clusters.new.self
+    c.merge_fronts.new.buffer parts in
+    let run : behind ≡ s + reph_run (stretch_of s e c.args.buffer.now.glyphs) =
+    ap (λ k. s + k) (c.reph_run.ensures.len ∙ ap (λ xs. reph_run (stretch_of s e xs)) c.glyphs.ensures) in
+    parts_reordered s e behind c.args.buffer.now c.merge_fronts.new.buffer c.apply.new.self c.requires.in_order
+    c.requires.in_range c.requires.kind run made c.apply.ensures

@@ -8,7 +8,11 @@ use Rattle.shapers_universal.specs.Proved.UniversalSteps.{universal_moves}
 use Rattle.shapers_universal.proofs.ot_shaper_use.reordering.reorder_use.Goals as goal
 
 pub reorder_pause-requires-clause-takes : goal.reorder_pause-requires-clause-takes
-reorder_pause-requires-clause-takes g c = takes_any (λ _. Unit {0}) (λ _. tt) (circled (script_circles universal_circles (g.F.hb_font_t.font c.args.face.now) c.args.buffer.now) c.args.buffer.now.glyphs)
+reorder_pause-requires-clause-takes g c =
+    takes_any (λ _. Unit {0}) (λ _. tt)
+    (circled (script_circles universal_circles (g.F.hb_font_t.font c.args.face.now) c.args.buffer.now)
+    c.args.buffer.now.glyphs)
 
 pub returns-clause-laws : goal.returns-clause-laws
-returns-clause-laws g c = on_ok_weaker c.reorder_pause.result (λ laws. laws.merged universal_moves) c.reorder_pause.ensures.laws
+returns-clause-laws g c =
+    on_ok_weaker c.reorder_pause.result (λ laws. laws.merged universal_moves) c.reorder_pause.ensures.laws

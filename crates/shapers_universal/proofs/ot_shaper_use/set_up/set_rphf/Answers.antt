@@ -10,7 +10,8 @@ use Rattle.shapers_universal.proofs.ot_shaper_use.set_up.set_rphf.Goals as goal
 pub returns-then-mask-eq0-clause-masks : goal.returns-then-mask-eq0-clause-masks
 returns-then-mask-eq0-clause-masks c =
     let b = c.args.buffer.now in
-    ap (λ (gs : List hb_glyph_info_t). let z : Buffer = record b { glyphs = gs } in z) (no_mask c.args.mask b.glyphs c.if-mask-eq0.true)
+    ap (λ (gs : List hb_glyph_info_t). let z : Buffer = record b { glyphs = gs } in z)
+    (no_mask c.args.mask b.glyphs c.if-mask-eq0.true)
 
 pub returns-then-mask-eq0-clause-flags : goal.returns-then-mask-eq0-clause-flags
 returns-then-mask-eq0-clause-flags c = same_added c.args.buffer.now.glyphs

@@ -17,13 +17,17 @@ returns-clause-cut c =
     let spans = c.args.spans.now in
     let old = c.args.buffer.now in
     let masked : Buffer → Buffer = λ b. record b { glyphs = with_syllable_masks kept m b.glyphs } in
-    subst (UniversalSetUpCutsAtSpans kept m spans old) (sym (c.set_masks.ensures.masks ∙ ap masked c.in_ok-set_up_syllables.ensures.ok)) (universal_set_up_cuts kept m spans old c.requires.kinds)
+    subst (UniversalSetUpCutsAtSpans kept m spans old)
+    (sym (c.set_masks.ensures.masks ∙ ap masked c.in_ok-set_up_syllables.ensures.ok))
+    (universal_set_up_cuts kept m spans old c.requires.kinds)
 
 -- masks change no cluster
 pub returns-clause-clusters : goal.returns-clause-clusters
 returns-clause-clusters c =
     let mid = c.set_up_syllables.new.buffer in
-    ap (λ (b : Buffer). clusters b.glyphs) c.set_masks.ensures.masks ∙ clusters-masks c.args.plan.now.plan_data c.args.plan.now.ot_map mid.glyphs ∙ c.in_ok-set_up_syllables.ensures.clusters
+    ap (λ (b : Buffer). clusters b.glyphs) c.set_masks.ensures.masks
+    ∙ clusters-masks c.args.plan.now.plan_data c.args.plan.now.ot_map mid.glyphs
+    ∙ c.in_ok-set_up_syllables.ensures.clusters
 
 -- the spans only add flags, and so do the masks
 pub returns-clause-flags : goal.returns-clause-flags
@@ -31,4 +35,6 @@ returns-clause-flags c =
     let old = c.args.buffer.now in
     let mid = c.set_up_syllables.new.buffer in
     let new = c.set_masks.new.buffer in
-    all_added_on old.glyphs mid.glyphs new.glyphs (set_up_added c.args.spans.now BROKEN_CLUSTER old mid c.in_ok-set_up_syllables.ensures.ok) c.set_masks.ensures.flags
+    all_added_on old.glyphs mid.glyphs new.glyphs
+    (set_up_added c.args.spans.now BROKEN_CLUSTER old mid c.in_ok-set_up_syllables.ensures.ok)
+    c.set_masks.ensures.flags

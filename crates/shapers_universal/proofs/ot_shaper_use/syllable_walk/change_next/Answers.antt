@@ -6,7 +6,8 @@ use Rattle.shapers_universal.proofs.SyllableWalks.{changed_first, next_is_first,
 use Rattle.shapers_universal.proofs.ot_shaper_use.syllable_walk.change_next.Goals as goal
 
 pub returns-then-eq : goal.returns-then-eq
-returns-then-eq g c rest = passed_next (g.C.FrontChange.changed c.args.change.now) c.args.passed c.args.glyph.now rest (sym c.eq.ensures ∙ c.if-eq.true)
+returns-then-eq g c rest = passed_next (g.C.FrontChange.changed c.args.change.now) c.args.passed c.args.glyph.now rest
+    (sym c.eq.ensures ∙ c.if-eq.true)
 
 pub returns : goal.returns
 returns g c rest =

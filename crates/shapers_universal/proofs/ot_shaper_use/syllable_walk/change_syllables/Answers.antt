@@ -11,12 +11,14 @@ loop-start-preserved g c =
     let e = s + c.first_syllable_len.result in
     let gs = c.loop-start.glyphs in
     let hs = c.change_stretch.new.glyphs in
-    let is : e ≡ s + first_syllable_len (drop s gs) = ap (λ n. s + n) (c.first_syllable_len.ensures.len ∙ ap first_syllable_len (take_rest gs s)) in
+    let is : e ≡ s + first_syllable_len (drop s gs) =
+    ap (λ n. s + n) (c.first_syllable_len.ensures.len ∙ ap first_syllable_len (take_rest gs s)) in
     let rest : length (take (length gs - s) (drop s gs)) ≡ length (drop s gs) = ap length (take_rest gs s) in
     let within : e ≤ length gs = omega (arith, length-drop s gs, c.first_syllable_len.ensures.within) in
     let as_long : length hs ≡ length gs = c.change_stretch.auto.glyphs in
     record {
-      done = change_next _ s e gs hs c.loop-start-test.true is within c.change_stretch.ensures as_long ∙ c.loop-start.invariant.done;
+      done = change_next _ s e gs hs c.loop-start-test.true is within c.change_stretch.ensures as_long
+          ∙ c.loop-start.invariant.done;
       inside = omega arith;
       as_long = as_long ∙ c.loop-start.invariant.as_long;
     }

@@ -6,7 +6,8 @@ use Rattle.shapers_universal.proofs.ot_shaper_use.syllable_walk.change_syllables
 
 abbrev pub invariant-loop-start : goal.invariant-loop-start
 invariant-loop-start g l = record {
-  done : take l.start l.glyphs ++ flat_map (g.C.SyllableChange.changed l.change) (syllables (drop l.start l.glyphs)) ≡ flat_map (g.C.SyllableChange.changed l.change) (syllables l.initial.glyphs);
+  done : take l.start l.glyphs ++ flat_map (g.C.SyllableChange.changed l.change) (syllables (drop l.start l.glyphs))
+      ≡ flat_map (g.C.SyllableChange.changed l.change) (syllables l.initial.glyphs);
   inside : l.start ≤ length l.glyphs;
   as_long : length l.glyphs ≡ length l.initial.glyphs;
 }

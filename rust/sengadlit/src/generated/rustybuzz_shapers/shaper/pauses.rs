@@ -50,7 +50,40 @@ use core::mem;
 /// - `PauseFits`, `PauseKeeps`, `Paused`, `RefusesPause`, `pause_circles`: `crates/rustybuzz_shapers/specs/Pauses.antt`
 ///
 /// </details>
+#[inline]
 pub fn run_pause<F: Font>(
+    pause: Pause,
+    plan: &Plan,
+    face: &F,
+    spans: &[Span],
+    buffer: &mut Buffer,
+) -> Result<bool, ShaperError> {
+    match pause {
+        // (each is one loop, so it isn't behind the frame that the others need)
+        Pause::RecordStch => ot_shaper_arabic_stretch::record_stch(plan, buffer),
+        Pause::RecordRphf => ot_shaper_use::record_rphf(plan, buffer),
+        Pause::RecordPref => ot_shaper_use::record_pref(buffer),
+        Pause::SyllabicClearVar => clear_syllables(buffer),
+        Pause::ClearSubstitutionFlags => clear_substitution_flags(buffer),
+        Pause::ArabicFallbackShape => {}
+        Pause::SetupSyllablesIndic
+        | Pause::SetupSyllablesKhmer
+        | Pause::SetupSyllablesMyanmar
+        | Pause::SetupSyllablesUse
+        | Pause::InitialReordering
+        | Pause::ReorderKhmer
+        | Pause::ReorderMyanmar
+        | Pause::ReorderUse
+        | Pause::FinalReordering => {
+            return run_syllabic_pause(pause, plan, face, spans, buffer);
+        }
+    }
+    Ok(false)
+}
+
+// Runs a pause that sets up or reorders syllables.
+#[inline(never)]
+fn run_syllabic_pause<F: Font>(
     pause: Pause,
     plan: &Plan,
     face: &F,
@@ -80,12 +113,12 @@ pub fn run_pause<F: Font>(
         Pause::ReorderMyanmar => return ot_shaper_myanmar::reorder_myanmar(face, buffer),
         Pause::ReorderUse => return ot_shaper_use::reorder_use(face, buffer),
         Pause::FinalReordering => ot_shaper_indic_final::final_reordering(plan, face, buffer),
-        Pause::RecordStch => ot_shaper_arabic_stretch::record_stch(plan, buffer),
-        Pause::RecordRphf => ot_shaper_use::record_rphf(plan, buffer),
-        Pause::RecordPref => ot_shaper_use::record_pref(buffer),
-        Pause::SyllabicClearVar => clear_syllables(buffer),
-        Pause::ClearSubstitutionFlags => clear_substitution_flags(buffer),
-        Pause::ArabicFallbackShape => {}
+        Pause::RecordStch
+        | Pause::RecordRphf
+        | Pause::RecordPref
+        | Pause::SyllabicClearVar
+        | Pause::ClearSubstitutionFlags
+        | Pause::ArabicFallbackShape => unreachable!("the pause sets up or reorders no syllables"),
     }
     Ok(false)
 }

@@ -49,7 +49,11 @@ pub(super) fn first_left(base: usize, glyphs: &[GlyphInfo]) -> Option<usize> {
     None
 }
 
-// The place that left matras go to, the start if they stay.
+// The place that left matras go to, the start if they stay. They were put in front of all half
+// forms, and are drawn behind those that the font left as letters with a halant. Malayalam and
+// Tamil have none: what `half` forms there are chillus and ligatures with a virama, and a left
+// matra goes behind them, directly before the base. Of a syllable whose base is lost the last glyph
+// counts as one.
 #[inline]
 pub(super) fn matra_target(script: Option<Script>, base: usize, glyphs: &[GlyphInfo]) -> usize {
     let before = if base == glyphs.len() {
@@ -65,7 +69,8 @@ pub(super) fn matra_target(script: Option<Script>, base: usize, glyphs: &[GlyphI
 }
 
 // The halant that left matras go behind: the nearest from a place leftwards, if nothing ends the
-// search before it; else the start.
+// search before it; else the start. A halant with the position of a left matra came to the front
+// with one, and says nothing of the consonants.
 #[inline]
 fn nearest_halant(p: usize, glyphs: &[GlyphInfo]) -> usize {
     let end = search_end(p, glyphs);
@@ -83,7 +88,10 @@ fn search_end(p: usize, glyphs: &[GlyphInfo]) -> usize {
     0
 }
 
-// Whether the glyph at place `i` ends the search for a halant.
+// Whether the glyph at place `i` ends the search for a halant. One before a ZWJ doesn't: the
+// specification has left matras go behind a joiner, but Uniscribe leaves them where they are, so
+// that 091F 094D 200D 092F 093F begins with the vowel sign. In 091F 094D 200C 092F 093F it stands
+// in the middle; no ZWNJ need be looked for, since behind a halant it ends the syllable.
 #[inline]
 fn ends_search(glyphs: &[GlyphInfo], i: usize) -> bool {
     is_matra_or_halant(&glyphs[i])

@@ -1,7 +1,9 @@
 // Generated from crates/shapers_indic_final/src/ot_shaper_indic_final/pref.rt by rust/erase; edit the source.
 
 //! Where a glyph formed by `pref` goes. (OpenType, development of Indic scripts: "Reorder
-//! pre-base-reordering consonants".)
+//! pre-base-reordering consonants".) A font may have the feature for a letter and form nothing of
+//! it in some contexts, so that only what was formed moves; by which feature it was isn't looked
+//! at.
 
 use super::glyphs::{has_mask, is_formed, is_halant, is_matra_or_halant};
 use super::rules::has_no_half_forms;
@@ -41,7 +43,8 @@ pub(super) fn pref_target(script: Option<Script>, base: usize, glyphs: &[GlyphIn
     }
 }
 
-// The place behind the nearest vowel sign or halant before the base; the base without half forms.
+// The place behind the nearest vowel sign or halant before the base, as for a left matra; the base
+// itself without half forms, whatever chillus stand before it.
 #[inline]
 fn place_before_base(script: Option<Script>, base: usize, glyphs: &[GlyphInfo]) -> usize {
     if has_no_half_forms(script) {

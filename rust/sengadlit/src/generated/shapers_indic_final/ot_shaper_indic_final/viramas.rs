@@ -1,6 +1,9 @@
 // Generated from crates/shapers_indic_final/src/ot_shaper_indic_final/viramas.rt by rust/erase; edit the source.
 
-//! Viramas that lookups put in for several glyphs and then took apart become halants again.
+//! Viramas that lookups put in for several glyphs and then took apart become halants again. The
+//! steps behind look for halants; a font may form a letter and its virama in one stage and part
+//! them in a later one, and the parts then have the category of the first character, which is no
+//! halant.
 
 use crate::generated::shapers_base::buffer::{Buffer, GlyphChange, GlyphInfo};
 use crate::generated::shapers_base::font::GlyphId;

@@ -1,7 +1,8 @@
 // Generated from crates/shapers_indic_final/src/ot_shaper_indic_final/word_start.rt by rust/erase; edit the source.
 
 //! The opening of a syllable: a left matra gets the mask of `init` at the start of a word, and
-//! inside a word a break before it is unsafe.
+//! inside a word a break before it is unsafe: Bengali's 09C7 has a form of its own at the start, in
+//! which a piece of text that begins there would be drawn.
 
 use super::matras::is_left;
 use crate::generated::shapers_base::buffer::{Buffer, GeneralCategory, GlyphChange, GlyphInfo};

@@ -13,9 +13,16 @@ finish_forms-requires g c =
     let hs = c.join.new.glyphs in
     let done = c.join.ensures.joined before.0 after.0 before.1 after.1 in
     let same = joined-characters w.flags before.0 (stored_types joining gs) after.0 gs hs done.flagged in
-    have-masks c.flag_breaks.new.glyphs before.0 (stored_types joining gs) after.0 (forms-kept w.breaks w.script (text_between before.0 joining gs after.0) hs c.flag_breaks.new.glyphs same done.forms_are c.flag_breaks.ensures)
+    have-masks c.flag_breaks.new.glyphs before.0 (stored_types joining gs) after.0
+    (forms-kept w.breaks w.script (text_between before.0 joining gs after.0) hs c.flag_breaks.new.glyphs same
+    done.forms_are c.flag_breaks.ensures)
 
 pub returns : goal.returns
 returns g c =
-    let w = c.args.self.now in
-    (joins-all w.breaks w.masks.now w.flags w.script (g.T.Tables.tables w.tables.now).joining w.before w.after c.args.glyphs.now c.join.new.glyphs c.flag_breaks.new.glyphs c.finish_forms.new.glyphs c.join.ensures.joined c.flag_breaks.ensures c.finish_forms.ensures, c.join.ensures.counted, refl)
+    let w = c.args.self.now in (
+      joins-all w.breaks w.masks.now w.flags w.script (g.T.Tables.tables w.tables.now).joining w.before w.after
+          c.args.glyphs.now c.join.new.glyphs c.flag_breaks.new.glyphs c.finish_forms.new.glyphs c.join.ensures.joined
+          c.flag_breaks.ensures c.finish_forms.ensures,
+      c.join.ensures.counted,
+      refl,
+    )

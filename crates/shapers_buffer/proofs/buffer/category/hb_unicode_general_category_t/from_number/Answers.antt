@@ -6,7 +6,10 @@ use Rattle.shapers_buffer.specs.declared.buffer.category.hb_unicode_general_cate
 use Rattle.shapers_buffer.proofs.buffer.category.hb_unicode_general_category_t.from_number.Goals as goal
 
 -- what `get` and `copied` read is what the list has there
-copied_is_slice_get : {X : Type 0} (xs : List X) (n : ℕ) (r : Option (Bor X)) → IfSome r (λ x. x.now ≡ get_or xs n x.now) → MatchOption r (length xs ≤ n) (λ x. (n < length xs) × HoldsAt (λ y. x.now ≡ y) xs n) → option_copied r ≡ slice_get xs n
+copied_is_slice_get : {X : Type 0} (xs : List X) (n : ℕ) (r : Option (Bor X))
+    → IfSome r (λ x. x.now ≡ get_or xs n x.now)
+    → MatchOption r (length xs ≤ n) (λ x. (n < length xs) × HoldsAt (λ y. x.now ≡ y) xs n)
+    → option_copied r ≡ slice_get xs n
 copied_is_slice_get xs n None _ past = sym (slice_get_past xs n past)
 copied_is_slice_get xs n (Some x) same (within, _) = sym (slice_get_read xs (length xs) n x.now refl within same)
 

@@ -14,5 +14,6 @@ returns-then-kept-consonant-clause-position g c =
     let v = c.args.self.now.virama in
     let i = c.from-slot.result % 32 in
     let within : i < length c.args.known.now = search (rules, arith) in
-    All-get_or (IsKnown font m p v) c.args.known.now i (record { consonant = record { 0 = 0 }; position = 0 }) within c.requires
+    All-get_or (IsKnown font m p v) c.args.known.now i (record { consonant = record { 0 = 0 }; position = 0 }) within
+    c.requires
     ∙ ap (λ n. consonant_position font m p v (let q : GlyphId = record { 0 = n } in q)) c.if-kept-consonant.true

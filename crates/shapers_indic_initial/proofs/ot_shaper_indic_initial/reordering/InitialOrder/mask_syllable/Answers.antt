@@ -9,8 +9,11 @@ use Rattle.shapers_indic_initial.proofs.ot_shaper_indic_initial.reordering.Initi
 
 pub returns : goal.returns
 returns g c =
-    let r = initial_rules (g.F.hb_font_t.font c.args.self.now.rules.now.face.now) c.args.self.now.rules.now.map.now c.args.self.now.rules.now.plan.now in
+    let r = initial_rules (g.F.hb_font_t.font c.args.self.now.rules.now.face.now) c.args.self.now.rules.now.map.now
+    c.args.self.now.rules.now.plan.now in
     let b = c.args.buffer.now in
-    syllable_masked r b.script c.args.start c.args.end b c.walk.new.self c.requires.in_order (omega (arith, c.walk.ensures.walked.1))
+    syllable_masked r b.script c.args.start c.args.end b c.walk.new.self c.requires.in_order
+    (omega (arith, c.walk.ensures.walked.1))
     (ap but_places c.walk.ensures.others)
-    (c.walk.ensures.walked.0 ∙ ap (λ script. with_stretch c.args.start c.args.end (masked_in_order r script) b.glyphs) c.script.ensures)
+    (c.walk.ensures.walked.0 ∙ ap (λ script. with_stretch c.args.start c.args.end (masked_in_order r script) b.glyphs)
+    c.script.ensures)

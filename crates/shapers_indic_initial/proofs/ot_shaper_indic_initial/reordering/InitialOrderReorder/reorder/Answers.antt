@@ -23,10 +23,12 @@ returns-then-is_reordered-clause-related g c =
     let script2 : b2.script ≡ b1.script = ap (λ b. b.script) c.prepare_for_order.ensures.reordered.others in
     let script3 : b3.script ≡ b2.script = ap (λ b. b.script) order.others in
     initial_syllable r b1.script s e b1 b2 b3 b4 c.requires.in_order c.requires.in_range
-    (ap (λ gs. is_reordered_in_indic (stretch_of s e gs)) (sym c.glyphs-2.ensures) ∙ sym c.is_reordered.ensures ∙ c.if-is_reordered.true)
+    (ap (λ gs. is_reordered_in_indic (stretch_of s e gs)) (sym c.glyphs-2.ensures) ∙ sym c.is_reordered.ensures
+    ∙ c.if-is_reordered.true)
     c.prepare_for_order.ensures.reordered
     order
-    (subst (λ script. SyllableReordered (masked_in_order r script) (λ _. []) s e b3 b4) (script3 ∙ script2) c.mask_syllable.ensures)
+    (subst (λ script. SyllableReordered (masked_in_order r script) (λ _. []) s e b3 b4) (script3 ∙ script2)
+    c.mask_syllable.ensures)
 
 pub returns-else-is_reordered-clause-related : goal.returns-else-is_reordered-clause-related
 returns-else-is_reordered-clause-related g c =
@@ -36,7 +38,8 @@ returns-else-is_reordered-clause-related g c =
     let e = c.args.end in
     let b = c.args.buffer.now in
     other_syllable r b.script s e b c.requires.in_order
-    (ap (λ gs. is_reordered_in_indic (stretch_of s e gs)) (sym c.glyphs-2.ensures) ∙ sym c.is_reordered.ensures ∙ c.if-is_reordered.false)
+    (ap (λ gs. is_reordered_in_indic (stretch_of s e gs)) (sym c.glyphs-2.ensures) ∙ sym c.is_reordered.ensures
+    ∙ c.if-is_reordered.false)
 
 pub returns-then-is_plain_consonant-clause-related : goal.returns-then-is_plain_consonant-clause-related
 returns-then-is_plain_consonant-clause-related g c =
@@ -46,4 +49,5 @@ returns-then-is_plain_consonant-clause-related g c =
     let e = c.args.end in
     let b = c.args.buffer.now in
     plain_here r b.script s e b c.requires.in_order c.requires.in_range
-    (ap (λ gs. is_plain_consonant (stretch_of s e gs)) (sym c.glyphs.ensures) ∙ sym c.is_plain_consonant.ensures ∙ c.if-is_plain_consonant.true)
+    (ap (λ gs. is_plain_consonant (stretch_of s e gs)) (sym c.glyphs.ensures) ∙ sym c.is_plain_consonant.ensures
+    ∙ c.if-is_plain_consonant.true)

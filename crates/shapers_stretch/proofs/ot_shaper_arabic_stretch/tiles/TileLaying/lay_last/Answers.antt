@@ -5,63 +5,82 @@ use Rattle.shapers_stretch.proofs.ot_shaper_arabic_stretch.tiles.TileLaying.lay_
 
 pub lay_run-place-requires-clause-run : goal.lay_run-place-requires-clause-run
 lay_run-place-requires-clause-run g c =
-    let how = laying_by (g.F.hb_font_t.font c.args.self.now.face.now) c.args.self.now.choice c.args.self.now.right_to_left in
+    let how = laying_by (g.F.hb_font_t.font c.args.self.now.face.now) c.args.self.now.choice
+    c.args.self.now.right_to_left in
     let p = c.last_part-part.result in
     let e = c.last_part-part.ensures in
     let u = c.args.unlaid in
-    let l = part_unlaid how c.args.glyphs.now c.args.positions.now p.start p.word p.tiles u.end u.place c.requires.some c.requires.unlaid e.tiles e.word e.start in
+    let l = part_unlaid how c.args.glyphs.now c.args.positions.now p.start p.word p.tiles u.end u.place c.requires.some
+    c.requires.unlaid e.tiles e.word e.start in
     let some : p.tiles < u.end = omega (arith, l.tiles_fit, c.if-part-unlaid.false) in
     part_can how c.args.glyphs.now c.args.positions.now p.start p.word p.tiles u.end u.place some c.requires.unlaid l
 
 pub returns-then-part-unlaid-clause-laid : goal.returns-then-part-unlaid-clause-laid
 returns-then-part-unlaid-clause-laid g c =
-    let how = laying_by (g.F.hb_font_t.font c.args.self.now.face.now) c.args.self.now.choice c.args.self.now.right_to_left in
+    let how = laying_by (g.F.hb_font_t.font c.args.self.now.face.now) c.args.self.now.choice
+    c.args.self.now.right_to_left in
     let p = c.last_part-part.result in
     let e = c.last_part-part.ensures in
     let u = c.args.unlaid in
     let n = c.move_up.new in
-    let l = part_unlaid how c.args.glyphs.now c.args.positions.now p.start p.word p.tiles u.end u.place c.requires.some c.requires.unlaid e.tiles e.word e.start in
-    part_moved how c.args.glyphs.now n.glyphs c.args.positions.now n.positions p.start p.word p.tiles u.end u.place c.if-part-unlaid.true c.requires.unlaid l c.move_up.ensures.same_length c.move_up.ensures.both c.move_up.ensures.kept c.move_up.ensures.up
+    let l = part_unlaid how c.args.glyphs.now c.args.positions.now p.start p.word p.tiles u.end u.place c.requires.some
+    c.requires.unlaid e.tiles e.word e.start in
+    part_moved how c.args.glyphs.now n.glyphs c.args.positions.now n.positions p.start p.word p.tiles u.end u.place
+    c.if-part-unlaid.true c.requires.unlaid l c.move_up.ensures.same_length c.move_up.ensures.both
+    c.move_up.ensures.kept c.move_up.ensures.up
 
 pub returns-then-part-unlaid-clause-shorter : goal.returns-then-part-unlaid-clause-shorter
 returns-then-part-unlaid-clause-shorter g c =
-    let how = laying_by (g.F.hb_font_t.font c.args.self.now.face.now) c.args.self.now.choice c.args.self.now.right_to_left in
+    let how = laying_by (g.F.hb_font_t.font c.args.self.now.face.now) c.args.self.now.choice
+    c.args.self.now.right_to_left in
     let p = c.last_part-part.result in
     let e = c.last_part-part.ensures in
     let u = c.args.unlaid in
-    (part_unlaid how c.args.glyphs.now c.args.positions.now p.start p.word p.tiles u.end u.place c.requires.some c.requires.unlaid e.tiles e.word e.start).less
+    (part_unlaid how c.args.glyphs.now c.args.positions.now p.start p.word p.tiles u.end u.place c.requires.some
+    c.requires.unlaid e.tiles e.word e.start).less
 
 pub move_up-requires-2-clause-ahead : goal.move_up-requires-2-clause-ahead
 move_up-requires-2-clause-ahead g c =
-    let how = laying_by (g.F.hb_font_t.font c.args.self.now.face.now) c.args.self.now.choice c.args.self.now.right_to_left in
+    let how = laying_by (g.F.hb_font_t.font c.args.self.now.face.now) c.args.self.now.choice
+    c.args.self.now.right_to_left in
     let p = c.last_part-part.result in
     let e = c.last_part-part.ensures in
     let u = c.args.unlaid in
-    let l = part_unlaid how c.args.glyphs.now c.args.positions.now p.start p.word p.tiles u.end u.place c.requires.some c.requires.unlaid e.tiles e.word e.start in
+    let l = part_unlaid how c.args.glyphs.now c.args.positions.now p.start p.word p.tiles u.end u.place c.requires.some
+    c.requires.unlaid e.tiles e.word e.start in
     let some : p.tiles < u.end = omega (arith, l.tiles_fit, c.if-part-unlaid.false) in
-    let can = part_can how c.args.glyphs.now c.args.positions.now p.start p.word p.tiles u.end u.place some c.requires.unlaid l in
+    let can = part_can how c.args.glyphs.now c.args.positions.now p.start p.word p.tiles u.end u.place some
+    c.requires.unlaid l in
     omega (arith, can.room, c.lay_run-place.ensures.place)
 
 pub overflow_sub-result-3 : goal.overflow_sub-result-3
 overflow_sub-result-3 g c =
-    let how = laying_by (g.F.hb_font_t.font c.args.self.now.face.now) c.args.self.now.choice c.args.self.now.right_to_left in
+    let how = laying_by (g.F.hb_font_t.font c.args.self.now.face.now) c.args.self.now.choice
+    c.args.self.now.right_to_left in
     let p = c.last_part-part.result in
     let e = c.last_part-part.ensures in
     let u = c.args.unlaid in
-    let l = part_unlaid how c.args.glyphs.now c.args.positions.now p.start p.word p.tiles u.end u.place c.requires.some c.requires.unlaid e.tiles e.word e.start in
+    let l = part_unlaid how c.args.glyphs.now c.args.positions.now p.start p.word p.tiles u.end u.place c.requires.some
+    c.requires.unlaid e.tiles e.word e.start in
     let some : p.tiles < u.end = omega (arith, l.tiles_fit, c.if-part-unlaid.false) in
-    let can = part_can how c.args.glyphs.now c.args.positions.now p.start p.word p.tiles u.end u.place some c.requires.unlaid l in
+    let can = part_can how c.args.glyphs.now c.args.positions.now p.start p.word p.tiles u.end u.place some
+    c.requires.unlaid l in
     omega (arith, can.room, c.lay_run-place.ensures.place)
 
 pub returns-clause-laid : goal.returns-clause-laid
 returns-clause-laid g c =
-    let how = laying_by (g.F.hb_font_t.font c.args.self.now.face.now) c.args.self.now.choice c.args.self.now.right_to_left in
+    let how = laying_by (g.F.hb_font_t.font c.args.self.now.face.now) c.args.self.now.choice
+    c.args.self.now.right_to_left in
     let p = c.last_part-part.result in
     let e = c.last_part-part.ensures in
     let u = c.args.unlaid in
     let r = c.lay_run-place.ensures in
     let h = c.lay_run-place.new in
     let n = c.move_up-2.new in
-    let l = part_unlaid how c.args.glyphs.now c.args.positions.now p.start p.word p.tiles u.end u.place c.requires.some c.requires.unlaid e.tiles e.word e.start in
+    let l = part_unlaid how c.args.glyphs.now c.args.positions.now p.start p.word p.tiles u.end u.place c.requires.some
+    c.requires.unlaid e.tiles e.word e.start in
     let some : p.tiles < u.end = omega (arith, l.tiles_fit, c.if-part-unlaid.false) in
-    part_laid how c.args.glyphs.now h.glyphs n.glyphs c.args.positions.now h.positions n.positions p.start p.word p.tiles u.end u.place c.lay_run-place.result some c.requires.unlaid l r.same_length c.move_up-2.ensures.same_length c.move_up-2.ensures.both r.flagged r.laid r.place c.move_up-2.ensures.kept c.move_up-2.ensures.up
+    part_laid how c.args.glyphs.now h.glyphs n.glyphs c.args.positions.now h.positions n.positions p.start p.word
+    p.tiles u.end u.place c.lay_run-place.result some c.requires.unlaid l r.same_length
+    c.move_up-2.ensures.same_length c.move_up-2.ensures.both r.flagged r.laid r.place c.move_up-2.ensures.kept
+    c.move_up-2.ensures.up

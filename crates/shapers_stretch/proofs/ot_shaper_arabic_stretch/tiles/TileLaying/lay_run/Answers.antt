@@ -12,19 +12,32 @@ use Rattle.shapers_stretch.proofs.RunLaying.{copies_same, lay_is, lay_some, meas
 use Rattle.shapers_stretch.proofs.ot_shaper_arabic_stretch.tiles.TileLaying.lay_run.Goals as goal
 
 pub lay_of_run-found-requires : goal.lay_of_run-found-requires
-lay_of_run-found-requires g c = all_stretch (λ g. g.glyph_id ≤ 65535) c.args.part.tiles c.args.unlaid.end c.args.glyphs.now c.requires.run.glyph_numbers
+lay_of_run-found-requires g c =
+    all_stretch (λ g. g.glyph_id ≤ 65535) c.args.part.tiles c.args.unlaid.end c.args.glyphs.now
+    c.requires.run.glyph_numbers
 
 pub lay_tiles-requires-clause-overlap_low : goal.lay_tiles-requires-clause-overlap_low
-lay_tiles-requires-clause-overlap_low g c = (lay_is c.args.self.now.choice c.args.self.now.right_to_left (measured_slices (g.F.hb_font_t.font c.args.self.now.face.now) c.args.part.word c.args.part.tiles c.args.unlaid.end c.args.glyphs.now c.args.positions.now) c.in-Some.lay (sym c.lay_of_run-found.ensures ∙ c.in-Some.is)).low
+lay_tiles-requires-clause-overlap_low g c =
+    (lay_is c.args.self.now.choice c.args.self.now.right_to_left
+    (measured_slices (g.F.hb_font_t.font c.args.self.now.face.now) c.args.part.word c.args.part.tiles c.args.unlaid.end
+    c.args.glyphs.now c.args.positions.now) c.in-Some.lay (sym c.lay_of_run-found.ensures ∙ c.in-Some.is)).low
 
 pub lay_tiles-requires-clause-overlap_high : goal.lay_tiles-requires-clause-overlap_high
-lay_tiles-requires-clause-overlap_high g c = (lay_is c.args.self.now.choice c.args.self.now.right_to_left (measured_slices (g.F.hb_font_t.font c.args.self.now.face.now) c.args.part.word c.args.part.tiles c.args.unlaid.end c.args.glyphs.now c.args.positions.now) c.in-Some.lay (sym c.lay_of_run-found.ensures ∙ c.in-Some.is)).high
+lay_tiles-requires-clause-overlap_high g c =
+    (lay_is c.args.self.now.choice c.args.self.now.right_to_left
+    (measured_slices (g.F.hb_font_t.font c.args.self.now.face.now) c.args.part.word c.args.part.tiles c.args.unlaid.end
+    c.args.glyphs.now c.args.positions.now) c.in-Some.lay (sym c.lay_of_run-found.ensures ∙ c.in-Some.is)).high
 
 pub lay_tiles-requires-clause-near : goal.lay_tiles-requires-clause-near
-lay_tiles-requires-clause-near g c = start_read_near c.args.self.now.choice c.args.self.now.right_to_left (measured_slices (g.F.hb_font_t.font c.args.self.now.face.now) c.args.part.word c.args.part.tiles c.args.unlaid.end c.args.glyphs.now c.args.positions.now) c.in-Some.lay (sym c.lay_of_run-found.ensures ∙ c.in-Some.is)
+lay_tiles-requires-clause-near g c =
+    start_read_near c.args.self.now.choice c.args.self.now.right_to_left
+    (measured_slices (g.F.hb_font_t.font c.args.self.now.face.now) c.args.part.word c.args.part.tiles c.args.unlaid.end
+    c.args.glyphs.now c.args.positions.now) c.in-Some.lay (sym c.lay_of_run-found.ensures ∙ c.in-Some.is)
 
 pub lay_tiles-requires-clause-numbers : goal.lay_tiles-requires-clause-numbers
-lay_tiles-requires-clause-numbers g c = numbers_stay (λ n. n ≤ 65535) c.args.part.word c.args.unlaid.end c.args.glyphs.now c.unsafe_to_break_in.new.glyphs (omega (arith, c.requires.word, c.requires.run.order)) c.unsafe_to_break_in.ensures c.requires.run.glyph_numbers
+lay_tiles-requires-clause-numbers g c =
+    numbers_stay (λ n. n ≤ 65535) c.args.part.word c.args.unlaid.end c.args.glyphs.now c.unsafe_to_break_in.new.glyphs
+    (omega (arith, c.requires.word, c.requires.run.order)) c.unsafe_to_break_in.ensures c.requires.run.glyph_numbers
 
 pub lay_tiles-requires-clause-can : goal.lay_tiles-requires-clause-can
 lay_tiles-requires-clause-can g c =
@@ -38,13 +51,30 @@ lay_tiles-requires-clause-can g c =
     let tiles = stretch_of p.tiles u.end old in
     let z = measured font (positions_of word) (glyphs_of tiles) in
     let within : u.end ≤ length c.args.glyphs.now = omega (arith, r.ahead, r.within) in
-    let is : (measured_slices (g.F.hb_font_t.font c.args.self.now.face.now) c.args.part.word c.args.part.tiles c.args.unlaid.end c.args.glyphs.now c.args.positions.now) ≡ z = measured_is font p.word p.tiles u.end c.args.glyphs.now c.args.positions.now r.order within r.both in
-    let flags = flags_made p.word p.tiles u.end c.args.glyphs.now c.unsafe_to_break_in.new.glyphs c.args.positions.now c.requires.word r.order within r.both c.unsafe_to_break_in.ensures in
-    let from = start_is c.args.self.now.choice c.args.self.now.right_to_left (measured_slices (g.F.hb_font_t.font c.args.self.now.face.now) c.args.part.word c.args.part.tiles c.args.unlaid.end c.args.glyphs.now c.args.positions.now) c.in-Some.lay (sym c.lay_of_run-found.ensures ∙ c.in-Some.is) ∙ ap (start c.args.self.now.choice c.args.self.now.right_to_left) is in
+    let is : (measured_slices (g.F.hb_font_t.font c.args.self.now.face.now) c.args.part.word c.args.part.tiles
+    c.args.unlaid.end c.args.glyphs.now c.args.positions.now)
+    ≡ z = measured_is font p.word p.tiles u.end c.args.glyphs.now c.args.positions.now r.order within r.both in
+    let flags = flags_made p.word p.tiles u.end c.args.glyphs.now c.unsafe_to_break_in.new.glyphs c.args.positions.now
+    c.requires.word r.order within r.both c.unsafe_to_break_in.ensures in
+    let from = start_is c.args.self.now.choice c.args.self.now.right_to_left
+    (measured_slices (g.F.hb_font_t.font c.args.self.now.face.now) c.args.part.word c.args.part.tiles
+    c.args.unlaid.end c.args.glyphs.now c.args.positions.now) c.in-Some.lay (sym c.lay_of_run-found.ensures
+    ∙ c.in-Some.is) ∙ ap (start c.args.self.now.choice c.args.self.now.right_to_left) is in
     let cs = stretch_of p.tiles u.end (zip c.unsafe_to_break_in.new.glyphs c.args.positions.now) in
-    let same : run_copies font c.in-Some.lay cs ≡ copies font (measured_slices (g.F.hb_font_t.font c.args.self.now.face.now) c.args.part.word c.args.part.tiles c.args.unlaid.end c.args.glyphs.now c.args.positions.now) cs = copies_same font (measured_slices (g.F.hb_font_t.font c.args.self.now.face.now) c.args.part.word c.args.part.tiles c.args.unlaid.end c.args.glyphs.now c.args.positions.now) c.in-Some.lay cs (lay_is c.args.self.now.choice c.args.self.now.right_to_left (measured_slices (g.F.hb_font_t.font c.args.self.now.face.now) c.args.part.word c.args.part.tiles c.args.unlaid.end c.args.glyphs.now c.args.positions.now) c.in-Some.lay (sym c.lay_of_run-found.ensures ∙ c.in-Some.is)) in
-    subst (λ run. CanLay c.args.self.now.right_to_left run (record { at = to_z w64 (of_z w64 c.in-Some.lay.start); place = u.place }) c.unsafe_to_break_in.new.glyphs c.args.positions.now) (sym (same ∙ ap (λ run. copies font run cs) is))
-    (run_can how word tiles cs p.tiles u.end u.place c.args.glyphs.now c.unsafe_to_break_in.new.glyphs c.args.positions.now _ r flags.tiles flags.same_length from)
+    let same : run_copies font c.in-Some.lay cs
+    ≡ copies font (measured_slices (g.F.hb_font_t.font c.args.self.now.face.now) c.args.part.word
+    c.args.part.tiles c.args.unlaid.end c.args.glyphs.now c.args.positions.now) cs = copies_same font
+    (measured_slices (g.F.hb_font_t.font c.args.self.now.face.now) c.args.part.word c.args.part.tiles
+    c.args.unlaid.end c.args.glyphs.now c.args.positions.now) c.in-Some.lay cs
+    (lay_is c.args.self.now.choice c.args.self.now.right_to_left
+    (measured_slices (g.F.hb_font_t.font c.args.self.now.face.now) c.args.part.word c.args.part.tiles
+    c.args.unlaid.end c.args.glyphs.now c.args.positions.now) c.in-Some.lay (sym c.lay_of_run-found.ensures
+    ∙ c.in-Some.is)) in
+    subst (λ run. CanLay c.args.self.now.right_to_left run
+    (record { at = to_z w64 (of_z w64 c.in-Some.lay.start); place = u.place }) c.unsafe_to_break_in.new.glyphs
+    c.args.positions.now) (sym (same ∙ ap (λ run. copies font run cs) is))
+    (run_can how word tiles cs p.tiles u.end u.place c.args.glyphs.now c.unsafe_to_break_in.new.glyphs
+    c.args.positions.now _ r flags.tiles flags.same_length from)
 
 pub lay_tiles-requires-clause-room : goal.lay_tiles-requires-clause-room
 lay_tiles-requires-clause-room g c =
@@ -58,11 +88,23 @@ lay_tiles-requires-clause-room g c =
     let tiles = stretch_of p.tiles u.end old in
     let z = measured font (positions_of word) (glyphs_of tiles) in
     let within : u.end ≤ length c.args.glyphs.now = omega (arith, r.ahead, r.within) in
-    let is : (measured_slices (g.F.hb_font_t.font c.args.self.now.face.now) c.args.part.word c.args.part.tiles c.args.unlaid.end c.args.glyphs.now c.args.positions.now) ≡ z = measured_is font p.word p.tiles u.end c.args.glyphs.now c.args.positions.now r.order within r.both in
-    let flags = flags_made p.word p.tiles u.end c.args.glyphs.now c.unsafe_to_break_in.new.glyphs c.args.positions.now c.requires.word r.order within r.both c.unsafe_to_break_in.ensures in
+    let is : (measured_slices (g.F.hb_font_t.font c.args.self.now.face.now) c.args.part.word c.args.part.tiles
+    c.args.unlaid.end c.args.glyphs.now c.args.positions.now)
+    ≡ z = measured_is font p.word p.tiles u.end c.args.glyphs.now c.args.positions.now r.order within r.both in
+    let flags = flags_made p.word p.tiles u.end c.args.glyphs.now c.unsafe_to_break_in.new.glyphs c.args.positions.now
+    c.requires.word r.order within r.both c.unsafe_to_break_in.ensures in
     let cs = stretch_of p.tiles u.end (zip c.unsafe_to_break_in.new.glyphs c.args.positions.now) in
-    let same : run_copies font c.in-Some.lay cs ≡ copies font (measured_slices (g.F.hb_font_t.font c.args.self.now.face.now) c.args.part.word c.args.part.tiles c.args.unlaid.end c.args.glyphs.now c.args.positions.now) cs = copies_same font (measured_slices (g.F.hb_font_t.font c.args.self.now.face.now) c.args.part.word c.args.part.tiles c.args.unlaid.end c.args.glyphs.now c.args.positions.now) c.in-Some.lay cs (lay_is c.args.self.now.choice c.args.self.now.right_to_left (measured_slices (g.F.hb_font_t.font c.args.self.now.face.now) c.args.part.word c.args.part.tiles c.args.unlaid.end c.args.glyphs.now c.args.positions.now) c.in-Some.lay (sym c.lay_of_run-found.ensures ∙ c.in-Some.is)) in
-    subst (λ run. p.tiles + length run ≤ u.place) (sym (same ∙ ap (λ run. copies font run cs) is)) (run_room how word tiles cs p.tiles u.end u.place c.args.glyphs.now c.args.positions.now r flags.tiles)
+    let same : run_copies font c.in-Some.lay cs
+    ≡ copies font (measured_slices (g.F.hb_font_t.font c.args.self.now.face.now) c.args.part.word
+    c.args.part.tiles c.args.unlaid.end c.args.glyphs.now c.args.positions.now) cs = copies_same font
+    (measured_slices (g.F.hb_font_t.font c.args.self.now.face.now) c.args.part.word c.args.part.tiles
+    c.args.unlaid.end c.args.glyphs.now c.args.positions.now) c.in-Some.lay cs
+    (lay_is c.args.self.now.choice c.args.self.now.right_to_left
+    (measured_slices (g.F.hb_font_t.font c.args.self.now.face.now) c.args.part.word c.args.part.tiles
+    c.args.unlaid.end c.args.glyphs.now c.args.positions.now) c.in-Some.lay (sym c.lay_of_run-found.ensures
+    ∙ c.in-Some.is)) in
+    subst (λ run. p.tiles + length run ≤ u.place) (sym (same ∙ ap (λ run. copies font run cs) is))
+    (run_room how word tiles cs p.tiles u.end u.place c.args.glyphs.now c.args.positions.now r flags.tiles)
 
 pub unreachable-requires : goal.unreachable-requires
 unreachable-requires g c =
@@ -76,7 +118,9 @@ unreachable-requires g c =
     let z = measured font (positions_of word) (glyphs_of tiles) in
     let within : u.end ≤ length c.args.glyphs.now = omega (arith, r.ahead, r.within) in
     let is = measured_is font p.word p.tiles u.end c.args.glyphs.now c.args.positions.now r.order within r.both in
-    lay_some c.args.self.now.choice c.args.self.now.right_to_left z _ r.fits (ap (lay_if_fits c.args.self.now.choice c.args.self.now.right_to_left) (sym is) ∙ sym c.lay_of_run-found.ensures ∙ c.in-None.is)
+    lay_some c.args.self.now.choice c.args.self.now.right_to_left z _ r.fits
+    (ap (lay_if_fits c.args.self.now.choice c.args.self.now.right_to_left) (sym is) ∙ sym c.lay_of_run-found.ensures
+    ∙ c.in-None.is)
 
 pub returns-clause-flagged : goal.returns-clause-flagged
 returns-clause-flagged g c =
@@ -90,13 +134,28 @@ returns-clause-flagged g c =
     let tiles = stretch_of p.tiles u.end old in
     let z = measured font (positions_of word) (glyphs_of tiles) in
     let within : u.end ≤ length c.args.glyphs.now = omega (arith, r.ahead, r.within) in
-    let is : (measured_slices (g.F.hb_font_t.font c.args.self.now.face.now) c.args.part.word c.args.part.tiles c.args.unlaid.end c.args.glyphs.now c.args.positions.now) ≡ z = measured_is font p.word p.tiles u.end c.args.glyphs.now c.args.positions.now r.order within r.both in
-    let flags = flags_made p.word p.tiles u.end c.args.glyphs.now c.unsafe_to_break_in.new.glyphs c.args.positions.now c.requires.word r.order within r.both c.unsafe_to_break_in.ensures in
+    let is : (measured_slices (g.F.hb_font_t.font c.args.self.now.face.now) c.args.part.word c.args.part.tiles
+    c.args.unlaid.end c.args.glyphs.now c.args.positions.now)
+    ≡ z = measured_is font p.word p.tiles u.end c.args.glyphs.now c.args.positions.now r.order within r.both in
+    let flags = flags_made p.word p.tiles u.end c.args.glyphs.now c.unsafe_to_break_in.new.glyphs c.args.positions.now
+    c.requires.word r.order within r.both c.unsafe_to_break_in.ensures in
     let cs = stretch_of p.tiles u.end (zip c.unsafe_to_break_in.new.glyphs c.args.positions.now) in
-    let same : run_copies font c.in-Some.lay cs ≡ copies font (measured_slices (g.F.hb_font_t.font c.args.self.now.face.now) c.args.part.word c.args.part.tiles c.args.unlaid.end c.args.glyphs.now c.args.positions.now) cs = copies_same font (measured_slices (g.F.hb_font_t.font c.args.self.now.face.now) c.args.part.word c.args.part.tiles c.args.unlaid.end c.args.glyphs.now c.args.positions.now) c.in-Some.lay cs (lay_is c.args.self.now.choice c.args.self.now.right_to_left (measured_slices (g.F.hb_font_t.font c.args.self.now.face.now) c.args.part.word c.args.part.tiles c.args.unlaid.end c.args.glyphs.now c.args.positions.now) c.in-Some.lay (sym c.lay_of_run-found.ensures ∙ c.in-Some.is)) in
-    let room = subst (λ run. p.tiles + length run ≤ u.place) (sym (same ∙ ap (λ run. copies font run cs) is)) (run_room how word tiles cs p.tiles u.end u.place c.args.glyphs.now c.args.positions.now r flags.tiles) in
+    let same : run_copies font c.in-Some.lay cs
+    ≡ copies font (measured_slices (g.F.hb_font_t.font c.args.self.now.face.now) c.args.part.word
+    c.args.part.tiles c.args.unlaid.end c.args.glyphs.now c.args.positions.now) cs = copies_same font
+    (measured_slices (g.F.hb_font_t.font c.args.self.now.face.now) c.args.part.word c.args.part.tiles
+    c.args.unlaid.end c.args.glyphs.now c.args.positions.now) c.in-Some.lay cs
+    (lay_is c.args.self.now.choice c.args.self.now.right_to_left
+    (measured_slices (g.F.hb_font_t.font c.args.self.now.face.now) c.args.part.word c.args.part.tiles
+    c.args.unlaid.end c.args.glyphs.now c.args.positions.now) c.in-Some.lay (sym c.lay_of_run-found.ensures
+    ∙ c.in-Some.is)) in
+    let room = subst (λ run. p.tiles + length run ≤ u.place) (sym (same ∙ ap (λ run. copies font run cs) is))
+    (run_room how word tiles cs p.tiles u.end u.place c.args.glyphs.now c.args.positions.now r flags.tiles) in
     let n = c.lay_tiles.new in
-    run_front c.args.self.now.right_to_left p.tiles (record { at = to_z w64 (of_z w64 c.in-Some.lay.start); place = u.place }) c.lay_tiles.result (run_copies font c.in-Some.lay cs) _ (zip c.unsafe_to_break_in.new.glyphs c.args.positions.now) (zip n.glyphs n.positions) c.lay_tiles.ensures.lays room flags.front
+    run_front c.args.self.now.right_to_left p.tiles
+    (record { at = to_z w64 (of_z w64 c.in-Some.lay.start); place = u.place }) c.lay_tiles.result
+    (run_copies font c.in-Some.lay cs) _ (zip c.unsafe_to_break_in.new.glyphs c.args.positions.now)
+    (zip n.glyphs n.positions) c.lay_tiles.ensures.lays room flags.front
 
 pub returns-clause-laid : goal.returns-clause-laid
 returns-clause-laid g c =
@@ -110,15 +169,32 @@ returns-clause-laid g c =
     let tiles = stretch_of p.tiles u.end old in
     let z = measured font (positions_of word) (glyphs_of tiles) in
     let within : u.end ≤ length c.args.glyphs.now = omega (arith, r.ahead, r.within) in
-    let is : (measured_slices (g.F.hb_font_t.font c.args.self.now.face.now) c.args.part.word c.args.part.tiles c.args.unlaid.end c.args.glyphs.now c.args.positions.now) ≡ z = measured_is font p.word p.tiles u.end c.args.glyphs.now c.args.positions.now r.order within r.both in
-    let flags = flags_made p.word p.tiles u.end c.args.glyphs.now c.unsafe_to_break_in.new.glyphs c.args.positions.now c.requires.word r.order within r.both c.unsafe_to_break_in.ensures in
-    let from = start_is c.args.self.now.choice c.args.self.now.right_to_left (measured_slices (g.F.hb_font_t.font c.args.self.now.face.now) c.args.part.word c.args.part.tiles c.args.unlaid.end c.args.glyphs.now c.args.positions.now) c.in-Some.lay (sym c.lay_of_run-found.ensures ∙ c.in-Some.is) ∙ ap (start c.args.self.now.choice c.args.self.now.right_to_left) is in
+    let is : (measured_slices (g.F.hb_font_t.font c.args.self.now.face.now) c.args.part.word c.args.part.tiles
+    c.args.unlaid.end c.args.glyphs.now c.args.positions.now)
+    ≡ z = measured_is font p.word p.tiles u.end c.args.glyphs.now c.args.positions.now r.order within r.both in
+    let flags = flags_made p.word p.tiles u.end c.args.glyphs.now c.unsafe_to_break_in.new.glyphs c.args.positions.now
+    c.requires.word r.order within r.both c.unsafe_to_break_in.ensures in
+    let from = start_is c.args.self.now.choice c.args.self.now.right_to_left
+    (measured_slices (g.F.hb_font_t.font c.args.self.now.face.now) c.args.part.word c.args.part.tiles
+    c.args.unlaid.end c.args.glyphs.now c.args.positions.now) c.in-Some.lay (sym c.lay_of_run-found.ensures
+    ∙ c.in-Some.is) ∙ ap (start c.args.self.now.choice c.args.self.now.right_to_left) is in
     let mid = zip c.unsafe_to_break_in.new.glyphs c.args.positions.now in
     let cs = stretch_of p.tiles u.end mid in
     let n = c.lay_tiles.new in
-    let same : run_copies font c.in-Some.lay cs ≡ copies font (measured_slices (g.F.hb_font_t.font c.args.self.now.face.now) c.args.part.word c.args.part.tiles c.args.unlaid.end c.args.glyphs.now c.args.positions.now) cs = copies_same font (measured_slices (g.F.hb_font_t.font c.args.self.now.face.now) c.args.part.word c.args.part.tiles c.args.unlaid.end c.args.glyphs.now c.args.positions.now) c.in-Some.lay cs (lay_is c.args.self.now.choice c.args.self.now.right_to_left (measured_slices (g.F.hb_font_t.font c.args.self.now.face.now) c.args.part.word c.args.part.tiles c.args.unlaid.end c.args.glyphs.now c.args.positions.now) c.in-Some.lay (sym c.lay_of_run-found.ensures ∙ c.in-Some.is)) in
-    let lays = subst (λ run. Lays c.args.self.now.right_to_left run (record { at = to_z w64 (of_z w64 c.in-Some.lay.start); place = u.place }) c.lay_tiles.result mid (zip n.glyphs n.positions)) (same ∙ ap (λ run. copies font run cs) is) c.lay_tiles.ensures.lays in
-    run_laid how word tiles cs _ u.place c.lay_tiles.result old mid (zip n.glyphs n.positions) flags.tiles from (flags.behind u.place r.ahead) lays
+    let same : run_copies font c.in-Some.lay cs
+    ≡ copies font (measured_slices (g.F.hb_font_t.font c.args.self.now.face.now) c.args.part.word
+    c.args.part.tiles c.args.unlaid.end c.args.glyphs.now c.args.positions.now) cs = copies_same font
+    (measured_slices (g.F.hb_font_t.font c.args.self.now.face.now) c.args.part.word c.args.part.tiles
+    c.args.unlaid.end c.args.glyphs.now c.args.positions.now) c.in-Some.lay cs
+    (lay_is c.args.self.now.choice c.args.self.now.right_to_left
+    (measured_slices (g.F.hb_font_t.font c.args.self.now.face.now) c.args.part.word c.args.part.tiles
+    c.args.unlaid.end c.args.glyphs.now c.args.positions.now) c.in-Some.lay (sym c.lay_of_run-found.ensures
+    ∙ c.in-Some.is)) in
+    let lays = subst (λ run. Lays c.args.self.now.right_to_left run
+    (record { at = to_z w64 (of_z w64 c.in-Some.lay.start); place = u.place }) c.lay_tiles.result mid
+    (zip n.glyphs n.positions)) (same ∙ ap (λ run. copies font run cs) is) c.lay_tiles.ensures.lays in
+    run_laid how word tiles cs _ u.place c.lay_tiles.result old mid (zip n.glyphs n.positions) flags.tiles from
+    (flags.behind u.place r.ahead) lays
 
 pub returns-clause-place : goal.returns-clause-place
 returns-clause-place g c =
@@ -132,11 +208,24 @@ returns-clause-place g c =
     let tiles = stretch_of p.tiles u.end old in
     let z = measured font (positions_of word) (glyphs_of tiles) in
     let within : u.end ≤ length c.args.glyphs.now = omega (arith, r.ahead, r.within) in
-    let is : (measured_slices (g.F.hb_font_t.font c.args.self.now.face.now) c.args.part.word c.args.part.tiles c.args.unlaid.end c.args.glyphs.now c.args.positions.now) ≡ z = measured_is font p.word p.tiles u.end c.args.glyphs.now c.args.positions.now r.order within r.both in
-    let flags = flags_made p.word p.tiles u.end c.args.glyphs.now c.unsafe_to_break_in.new.glyphs c.args.positions.now c.requires.word r.order within r.both c.unsafe_to_break_in.ensures in
+    let is : (measured_slices (g.F.hb_font_t.font c.args.self.now.face.now) c.args.part.word c.args.part.tiles
+    c.args.unlaid.end c.args.glyphs.now c.args.positions.now)
+    ≡ z = measured_is font p.word p.tiles u.end c.args.glyphs.now c.args.positions.now r.order within r.both in
+    let flags = flags_made p.word p.tiles u.end c.args.glyphs.now c.unsafe_to_break_in.new.glyphs c.args.positions.now
+    c.requires.word r.order within r.both c.unsafe_to_break_in.ensures in
     let mid = zip c.unsafe_to_break_in.new.glyphs c.args.positions.now in
     let cs = stretch_of p.tiles u.end mid in
     let n = c.lay_tiles.new in
-    let same : run_copies font c.in-Some.lay cs ≡ copies font (measured_slices (g.F.hb_font_t.font c.args.self.now.face.now) c.args.part.word c.args.part.tiles c.args.unlaid.end c.args.glyphs.now c.args.positions.now) cs = copies_same font (measured_slices (g.F.hb_font_t.font c.args.self.now.face.now) c.args.part.word c.args.part.tiles c.args.unlaid.end c.args.glyphs.now c.args.positions.now) c.in-Some.lay cs (lay_is c.args.self.now.choice c.args.self.now.right_to_left (measured_slices (g.F.hb_font_t.font c.args.self.now.face.now) c.args.part.word c.args.part.tiles c.args.unlaid.end c.args.glyphs.now c.args.positions.now) c.in-Some.lay (sym c.lay_of_run-found.ensures ∙ c.in-Some.is)) in
-    let lays = subst (λ run. Lays c.args.self.now.right_to_left run (record { at = to_z w64 (of_z w64 c.in-Some.lay.start); place = u.place }) c.lay_tiles.result mid (zip n.glyphs n.positions)) (same ∙ ap (λ run. copies font run cs) is) c.lay_tiles.ensures.lays in
+    let same : run_copies font c.in-Some.lay cs
+    ≡ copies font (measured_slices (g.F.hb_font_t.font c.args.self.now.face.now) c.args.part.word
+    c.args.part.tiles c.args.unlaid.end c.args.glyphs.now c.args.positions.now) cs = copies_same font
+    (measured_slices (g.F.hb_font_t.font c.args.self.now.face.now) c.args.part.word c.args.part.tiles
+    c.args.unlaid.end c.args.glyphs.now c.args.positions.now) c.in-Some.lay cs
+    (lay_is c.args.self.now.choice c.args.self.now.right_to_left
+    (measured_slices (g.F.hb_font_t.font c.args.self.now.face.now) c.args.part.word c.args.part.tiles
+    c.args.unlaid.end c.args.glyphs.now c.args.positions.now) c.in-Some.lay (sym c.lay_of_run-found.ensures
+    ∙ c.in-Some.is)) in
+    let lays = subst (λ run. Lays c.args.self.now.right_to_left run
+    (record { at = to_z w64 (of_z w64 c.in-Some.lay.start); place = u.place }) c.lay_tiles.result mid
+    (zip n.glyphs n.positions)) (same ∙ ap (λ run. copies font run cs) is) c.lay_tiles.ensures.lays in
     run_place how word tiles cs _ u.place c.lay_tiles.result mid (zip n.glyphs n.positions) flags.tiles lays

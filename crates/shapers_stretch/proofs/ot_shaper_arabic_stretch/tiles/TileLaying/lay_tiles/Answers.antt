@@ -10,20 +10,26 @@ loop-i-init g c =
     record {
       same_length = refl;
       near = r.near;
-      walk = tiles_start a.self.now.right_to_left (g.F.hb_font_t.font a.self.now.face.now) a.lay a.tiles.start a.tiles.end a.pen a.glyphs.now a.positions.now r.in_order (omega (arith, r.ahead, r.can.within)) r.can.both r.can r.room;
+      walk = tiles_start a.self.now.right_to_left (g.F.hb_font_t.font a.self.now.face.now) a.lay a.tiles.start
+          a.tiles.end a.pen a.glyphs.now a.positions.now r.in_order (omega (arith, r.ahead, r.can.within)) r.can.both
+          r.can r.room;
     }
 
 pub lay_tile-pen-requires-clause-number : goal.lay_tile-pen-requires-clause-number
 lay_tile-pen-requires-clause-number g c =
     let a = c.args in
     let l = c.loop-i in
-    tile_number a.self.now.right_to_left (g.F.hb_font_t.font a.self.now.face.now) a.lay a.tiles.start a.tiles.end l.i a.pen l.pen a.glyphs.now l.glyphs a.positions.now l.positions _ (record { x_advance = pos 0; y_advance = pos 0; x_offset = pos 0; y_offset = pos 0 }) c.loop-i-test.true l.invariant.walk c.requires.can.both c.requires.numbers
+    tile_number a.self.now.right_to_left (g.F.hb_font_t.font a.self.now.face.now) a.lay a.tiles.start a.tiles.end l.i
+    a.pen l.pen a.glyphs.now l.glyphs a.positions.now l.positions _
+    (record { x_advance = pos 0; y_advance = pos 0; x_offset = pos 0; y_offset = pos 0 }) c.loop-i-test.true
+    l.invariant.walk c.requires.can.both c.requires.numbers
 
 pub lay_tile-pen-requires-clause-can : goal.lay_tile-pen-requires-clause-can
 lay_tile-pen-requires-clause-can g c =
     let a = c.args in
     let l = c.loop-i in
-    tile_can a.self.now.right_to_left (g.F.hb_font_t.font a.self.now.face.now) a.lay a.tiles.start a.tiles.end l.i a.pen l.pen (zip a.glyphs.now a.positions.now) l.glyphs l.positions _ _ c.loop-i-test.true l.invariant.walk
+    tile_can a.self.now.right_to_left (g.F.hb_font_t.font a.self.now.face.now) a.lay a.tiles.start a.tiles.end l.i a.pen
+    l.pen (zip a.glyphs.now a.positions.now) l.glyphs l.positions _ _ c.loop-i-test.true l.invariant.walk
 
 pub loop-i-preserved : goal.loop-i-preserved
 loop-i-preserved g c =
@@ -34,5 +40,7 @@ loop-i-preserved g c =
     record {
       same_length = e.same_length ∙ l.invariant.same_length;
       near = e.near;
-      walk = tile_next a.self.now.right_to_left (g.F.hb_font_t.font a.self.now.face.now) a.lay a.tiles.start a.tiles.end l.i a.pen l.pen c.lay_tile-pen.result (zip a.glyphs.now a.positions.now) l.glyphs n.glyphs l.positions n.positions _ _ c.loop-i-test.true l.invariant.walk e.lays e.same_length e.both;
+      walk = tile_next a.self.now.right_to_left (g.F.hb_font_t.font a.self.now.face.now) a.lay a.tiles.start a.tiles.end
+          l.i a.pen l.pen c.lay_tile-pen.result (zip a.glyphs.now a.positions.now) l.glyphs n.glyphs l.positions
+          n.positions _ _ c.loop-i-test.true l.invariant.walk e.lays e.same_length e.both;
     }

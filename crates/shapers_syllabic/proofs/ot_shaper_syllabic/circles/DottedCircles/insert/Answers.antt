@@ -16,7 +16,8 @@ returns-then-count-eq0-clause-length c =
 pub returns-in_err-grow-clause-length : goal.returns-in_err-grow-clause-length
 returns-in_err-grow-clause-length c =
     let counted = c.count-count.ensures ∙ ap (count_of_kind c.args.self.now.broken_kind) c.glyphs.ensures in
-    let size : length (with_circles c.args.self.now c.args.buffer.now.glyphs) ≡ length c.args.buffer.now.glyphs + c.count-count.result = omega (arith, length-with_circles c.args.self.now c.args.buffer.now.glyphs) in
+    let size : length (with_circles c.args.self.now c.args.buffer.now.glyphs) ≡ length c.args.buffer.now.glyphs
+    + c.count-count.result = omega (arith, length-with_circles c.args.self.now c.args.buffer.now.glyphs) in
     rw size (search rules)
 
 pub returns-in_err-grow-clause-free : goal.returns-in_err-grow-clause-free

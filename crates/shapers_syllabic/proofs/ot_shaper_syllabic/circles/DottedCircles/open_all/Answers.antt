@@ -9,7 +9,8 @@ pub returns : goal.returns
 returns c =
     let gs = c.loop-left.glyphs in
     let read = c.loop-left.read in
-    let none : count_of_kind c.args.self.now.broken_kind (take read gs) ≡ 0 = omega (arith, c.loop-left.invariant.room) in
+    let none : count_of_kind c.args.self.now.broken_kind (take read gs) ≡ 0 =
+    omega (arith, c.loop-left.invariant.room) in
     let here : read + c.loop-left.left ≡ read = omega arith in
     sym (take-append-drop read gs)
     ∙ ap (λ l. l ++ drop read gs) (sym (with_circles-none c.args.self.now (take read gs) none))

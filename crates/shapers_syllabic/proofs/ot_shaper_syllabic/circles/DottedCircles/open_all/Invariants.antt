@@ -7,7 +7,8 @@ abbrev pub invariant-loop-left : goal.invariant-loop-left
 invariant-loop-left l = record {
   room : l.left ≡ count_of_kind l.self.broken_kind (take l.read l.glyphs);
   within : l.read + l.left ≤ length l.glyphs;
-  text : with_circles l.self (take l.read l.glyphs) ++ drop (l.read + l.left) l.glyphs ≡ with_circles l.self (take l.len l.initial.glyphs);
+  text : with_circles l.self (take l.read l.glyphs) ++ drop (l.read + l.left) l.glyphs
+      ≡ with_circles l.self (take l.len l.initial.glyphs);
 }
 
 abbrev pub decreases-loop-left : goal.decreases-loop-left

@@ -4,7 +4,8 @@ use Rattle.shapers_syllabic.proofs.ot_shaper_syllabic.circles.DottedCircles.open
 
 pub returns : goal.returns
 returns c =
-    is_opened c.args.self.now c.args.read c.args.left c.last_broken-broken.result.start c.last_broken-broken.result.end c.args.glyphs.now c.move_up.new.glyphs c.open.new.glyphs (record {
+    is_opened c.args.self.now c.args.read c.args.left c.last_broken-broken.result.start c.last_broken-broken.result.end
+    c.args.glyphs.now c.move_up.new.glyphs c.open.new.glyphs (record {
       some = c.requires.some;
       within = c.requires.in_range;
       room = c.requires.room;

@@ -9,5 +9,7 @@ pub returns-in_ok-insert-in-Some-clause-erased : goal.returns-in_ok-insert-in-So
 returns-in_ok-insert-in-Some-clause-erased g c =
     let old = c.args.buffer.now in
     let rule = c.in-Some.circles in
-    subst (λ circles. CirclesErased circles old.glyphs c.insert.new.buffer.glyphs) (sym c.in-Some.is ∙ c.circles_for.ensures)
-    (subst (λ (b : Buffer). CirclesErased (Some rule) old.glyphs b.glyphs) (sym c.in_ok-insert-in-Some.ensures.ok) (circles_can_be_erased rule old.glyphs))
+    subst (λ circles. CirclesErased circles old.glyphs c.insert.new.buffer.glyphs) (sym c.in-Some.is
+    ∙ c.circles_for.ensures)
+    (subst (λ (b : Buffer). CirclesErased (Some rule) old.glyphs b.glyphs) (sym c.in_ok-insert-in-Some.ensures.ok)
+    (circles_can_be_erased rule old.glyphs))

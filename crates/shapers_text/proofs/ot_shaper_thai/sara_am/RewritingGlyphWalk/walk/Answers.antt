@@ -7,4 +7,5 @@ use Rattle.shapers_text.proofs.ot_shaper_thai.sara_am.RewritingGlyphWalk.walk.Go
 pub write_in_two-requires-clause-room : goal.write_in_two-requires-clause-room
 write_in_two-requires-clause-room c =
     let w = c.args.self.now in
-    (subst (HasRoomForSaraAms w.len) (sym c.merge_all_sara_am.ensures) (room_stays w.level w.len c.args.glyphs.now c.requires)).1
+    (subst (HasRoomForSaraAms w.len) (sym c.merge_all_sara_am.ensures)
+    (room_stays w.level w.len c.args.glyphs.now c.requires)).1

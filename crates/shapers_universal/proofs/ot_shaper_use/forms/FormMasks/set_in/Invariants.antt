@@ -6,7 +6,8 @@ use Rattle.shapers_universal.proofs.ot_shaper_use.forms.FormMasks.set_in.Given a
 
 abbrev pub invariant-loop-start : goal.invariant-loop-start
 invariant-loop-start l = record {
-  done : take l.start l.glyphs ++ in_forms l.self l.before (syllables (drop l.start l.glyphs)) ≡ in_forms l.self false (syllables l.initial.glyphs);
+  done : take l.start l.glyphs ++ in_forms l.self l.before (syllables (drop l.start l.glyphs))
+      ≡ in_forms l.self false (syllables l.initial.glyphs);
   inside : l.start ≤ length l.glyphs;
   as_long : length l.glyphs ≡ length l.initial.glyphs;
 }

@@ -13,4 +13,6 @@ returns-else-is_reordered-clause-related c =
     let e = c.args.end in
     let zs = stretch_of s e c.args.buffer.now.glyphs in
     still_reordered s e c.args.buffer.now c.requires.in_order c.requires.in_range
-    (ap (λ k. k && (has_universal_reph zs || list_any goes_front zs)) (ap (λ gs. is_reordered_in_universal (stretch_of s e gs)) (sym c.glyphs.ensures) ∙ sym c.is_reordered.ensures ∙ c.if-is_reordered.false))
+    (ap (λ k. k && (has_universal_reph zs || list_any goes_front zs))
+    (ap (λ gs. is_reordered_in_universal (stretch_of s e gs)) (sym c.glyphs.ensures) ∙ sym c.is_reordered.ensures
+    ∙ c.if-is_reordered.false))

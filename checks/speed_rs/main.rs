@@ -1,0 +1,164 @@
+//! Ten calls of the crate on made texts, each text of a hundred characters; `checks/speed` counts what runs within `counted`.
+//! For each call a line tells its name, the glyphs, and a sum of what it left.
+
+use std::hint::black_box;
+
+use sengadlit::font::NominalOnly;
+use sengadlit::spans::setup_syllables_found;
+use sengadlit::unicode::UnicodeTables;
+use sengadlit::{Buffer, FeatureMap, GlyphId, Pause, Plan, Script, Shaper, Tag, run_pause, script};
+
+/// A call: its name, the shaper and script, what the text repeats, the pauses before, and the hook or pause that is counted.
+type Case = (&'static str, Shaper, Script, &'static str, &'static [Pause], Counted);
+
+#[derive(Clone, Copy)]
+enum Counted {
+    PreprocessText,
+    SetupMasks,
+    SetupSyllables(Pause),
+    Pause(Pause),
+}
+
+const CASES: [Case; 10] = [
+    ("Thai, SARA AM", Shaper::Thai, script::THAI, "\u{E01}\u{E48}\u{E33}\u{E19}", &[], Counted::PreprocessText),
+    ("Hangul, jamo", Shaper::Hangul, script::HANGUL, "\u{1112}\u{1161}\u{11AB}", &[], Counted::PreprocessText),
+    (
+        "joining, Arabic",
+        Shaper::Arabic,
+        script::ARABIC,
+        "\u{627}\u{644}\u{639}\u{631}\u{628} ",
+        &[],
+        Counted::SetupMasks,
+    ),
+    (
+        "syllables, Devanagari",
+        Shaper::Indic,
+        script::DEVANAGARI,
+        "\u{928}\u{92E}\u{938}\u{94D}\u{924}\u{947} ",
+        &[],
+        Counted::SetupSyllables(Pause::SetupSyllablesIndic),
+    ),
+    (
+        "initial, Devanagari",
+        Shaper::Indic,
+        script::DEVANAGARI,
+        "\u{939}\u{93F}\u{928}\u{94D}\u{926}\u{940} ",
+        &[Pause::SetupSyllablesIndic],
+        Counted::Pause(Pause::InitialReordering),
+    ),
+    (
+        "final, Devanagari",
+        Shaper::Indic,
+        script::DEVANAGARI,
+        "\u{939}\u{93F}\u{928}\u{94D}\u{926}\u{940} ",
+        &[Pause::SetupSyllablesIndic, Pause::InitialReordering],
+        Counted::Pause(Pause::FinalReordering),
+    ),
+    (
+        "order, Khmer",
+        Shaper::Khmer,
+        script::KHMER,
+        "\u{1780}\u{17C1}\u{1781}\u{17D2}\u{179A}\u{1798} ",
+        &[Pause::SetupSyllablesKhmer],
+        Counted::Pause(Pause::ReorderKhmer),
+    ),
+    (
+        "order, Myanmar",
+        Shaper::Myanmar,
+        script::MYANMAR,
+        "\u{1019}\u{103C}\u{1031}\u{1000}\u{102C} ",
+        &[Pause::SetupSyllablesMyanmar],
+        Counted::Pause(Pause::ReorderMyanmar),
+    ),
+    (
+        "order, Javanese",
+        Shaper::Universal,
+        Script(*b"Java"),
+        "\u{A98F}\u{A9BA}\u{A9A4}\u{A9C0}\u{A9A0} ",
+        &[Pause::SetupSyllablesUse],
+        Counted::Pause(Pause::ReorderUse),
+    ),
+    (
+        "clearing, Javanese",
+        Shaper::Universal,
+        Script(*b"Java"),
+        "\u{A98F}\u{A9BA}\u{A9A4}\u{A9C0}\u{A9A0} ",
+        &[Pause::SetupSyllablesUse],
+        Counted::Pause(Pause::SyllabicClearVar),
+    ),
+];
+
+/// The features that have masks, as a font with all of them has.
+const FEATURES: [&[u8; 4]; 16] = [
+    b"isol", b"fina", b"fin2", b"fin3", b"medi", b"med2", b"init", b"rphf", b"half", b"pref", b"blwf", b"abvf",
+    b"pstf", b"cfar", b"ljmo", b"vjmo",
+];
+
+fn plan(shaper: Shaper, script: Script) -> Plan {
+    let features: Vec<_> =
+        FEATURES.iter().zip(3..).map(|(tag, bit)| FeatureMap::new(Tag(**tag), 1 << bit, 0)).collect();
+    Plan::builder()
+        .script(script)
+        .features(&features)
+        .found_script(true)
+        .build_for(shaper)
+        .expect("masks touch no flag")
+}
+
+/// Makes the call that is counted.
+#[inline(never)]
+fn counted(how: Counted, shaper: Shaper, plan: &Plan, buffer: &mut Buffer) {
+    call(how, shaper, plan, buffer);
+}
+
+#[inline(never)]
+fn call(how: Counted, shaper: Shaper, plan: &Plan, buffer: &mut Buffer) {
+    let font = NominalOnly(|c| u16::try_from(c).ok().map(GlyphId));
+    match how {
+        Counted::PreprocessText => {
+            shaper.preprocess_text(plan, &font, buffer).expect("there is memory");
+        }
+        Counted::SetupMasks => {
+            shaper.setup_masks(plan, &font, &UnicodeTables, buffer);
+        }
+        Counted::SetupSyllables(pause) => {
+            setup_syllables_found(pause, plan, buffer);
+        }
+        Counted::Pause(pause) => {
+            run_pause(pause, plan, &font, &[], buffer).expect("there is memory");
+        }
+    }
+}
+
+/// What was counted so far is dumped.
+#[inline(never)]
+fn case_ends() {
+    black_box(());
+}
+
+fn main() {
+    for (name, shaper, script, unit, before, how) in CASES {
+        let plan = plan(shaper, script);
+        let text: String = unit.chars().cycle().take(100).collect();
+        let mut buffer = Buffer::from_text(&text, &UnicodeTables).expect("there is memory");
+        buffer.set_script(Some(script));
+        if !matches!(how, Counted::PreprocessText | Counted::SetupMasks) {
+            call(Counted::SetupMasks, shaper, &plan, &mut buffer);
+        }
+        for &pause in before {
+            let how = match pause {
+                Pause::SetupSyllablesIndic
+                | Pause::SetupSyllablesKhmer
+                | Pause::SetupSyllablesMyanmar
+                | Pause::SetupSyllablesUse => Counted::SetupSyllables(pause),
+                _ => Counted::Pause(pause),
+            };
+            call(how, shaper, &plan, &mut buffer);
+        }
+        counted(how, shaper, &plan, &mut buffer);
+        case_ends();
+        let left = buffer.glyphs().iter().zip(1..);
+        let sum: u64 = left.map(|(glyph, place)| place * u64::from(glyph.glyph_id ^ glyph.mask ^ glyph.cluster)).sum();
+        println!("{name}|{}|{sum}", buffer.len());
+    }
+}
