@@ -4,7 +4,7 @@ use Rattle.shapers_buffer.specs.declared.buffer.category.hb_unicode_general_cate
 use Rattle.shapers_buffer.specs.declared.buffer.flags.BufferFlags.{BufferFlags}
 use Rattle.shapers_buffer.specs.declared.buffer.glyph.hb_glyph_info_t.{hb_glyph_info_t}
 use Rattle.shapers_buffer.specs.Glyph.{clusters, default_glyph}
-use Rattle.shapers_position.specs.ClusterFlags.{cluster_groups, flags_kept, flags_of, flags_propagated, joins_settled, with_flags}
+use Rattle.shapers_position.specs.ClusterFlags.{cluster_groups, flags_wanted, flags_of, flags_propagated, joins_settled, with_flags}
 
 abbrev wanting : ℕ → BufferFlags
 wanting bits = record { 0 = bits }
@@ -24,26 +24,26 @@ settled : map joins_settled sets ≡ 0 ∷ 1 ∷ 2 ∷ 3 ∷ 7 ∷ 1 ∷ 7 ∷ 3
 settled = refl
 
 -- what a buffer keeps that wants neither flag: all but unsafe to concatenate
-kept_plain : map (flags_kept (wanting 0)) sets ≡ 0 ∷ 1 ∷ 0 ∷ 1 ∷ 4 ∷ 5 ∷ 4 ∷ 5 ∷ []
+kept_plain : map (flags_wanted (wanting 0)) sets ≡ 0 ∷ 1 ∷ 0 ∷ 1 ∷ 4 ∷ 5 ∷ 4 ∷ 5 ∷ []
 kept_plain = refl
 
 -- one that wants unsafe to concatenate: all
-kept_concat : map (flags_kept (wanting 0x40)) sets ≡ sets
+kept_concat : map (flags_wanted (wanting 0x40)) sets ≡ sets
 kept_concat = refl
 
 -- one that wants tatweels
-kept_tatweel : map (flags_kept (wanting 0x80)) sets ≡ 0 ∷ 1 ∷ 0 ∷ 1 ∷ 5 ∷ 1 ∷ 5 ∷ 1 ∷ []
+kept_tatweel : map (flags_wanted (wanting 0x80)) sets ≡ 0 ∷ 1 ∷ 0 ∷ 1 ∷ 5 ∷ 1 ∷ 5 ∷ 1 ∷ []
 kept_tatweel = refl
 
 -- one that wants both
-kept_both : map (flags_kept (wanting 0xC0)) sets ≡ 0 ∷ 1 ∷ 2 ∷ 3 ∷ 7 ∷ 1 ∷ 7 ∷ 3 ∷ []
+kept_both : map (flags_wanted (wanting 0xC0)) sets ≡ 0 ∷ 1 ∷ 2 ∷ 3 ∷ 7 ∷ 1 ∷ 7 ∷ 3 ∷ []
 kept_both = refl
 
 -- other flags of the buffer say nothing
-kept_others : map (flags_kept (wanting 0xFFFFFF3F)) sets ≡ 0 ∷ 1 ∷ 0 ∷ 1 ∷ 4 ∷ 5 ∷ 4 ∷ 5 ∷ []
+kept_others : map (flags_wanted (wanting 0xFFFFFF3F)) sets ≡ 0 ∷ 1 ∷ 0 ∷ 1 ∷ 4 ∷ 5 ∷ 4 ∷ 5 ∷ []
 kept_others = refl
 
-kept_all : map (flags_kept (wanting 0xFFFFFFFF)) sets ≡ 0 ∷ 1 ∷ 2 ∷ 3 ∷ 7 ∷ 1 ∷ 7 ∷ 3 ∷ []
+kept_all : map (flags_wanted (wanting 0xFFFFFFFF)) sets ≡ 0 ∷ 1 ∷ 2 ∷ 3 ∷ 7 ∷ 1 ∷ 7 ∷ 3 ∷ []
 kept_all = refl
 
 -- the flags of several glyphs; features, from bit 8 on, are none

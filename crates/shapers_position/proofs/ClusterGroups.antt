@@ -6,7 +6,7 @@ use Rattle.std.proofs.lemmas.List.{append_assoc, drop-drop, drop_at, length-appe
 use Rattle.shapers_buffer.specs.declared.buffer.flags.BufferFlags.{BufferFlags}
 use Rattle.shapers_buffer.specs.declared.buffer.glyph.hb_glyph_info_t.{hb_glyph_info_t}
 use Rattle.shapers_buffer.specs.Clusters.{first_cluster, has_cluster, with_stretch}
-use Rattle.shapers_position.specs.ClusterFlags.{cluster_groups, flags_propagated, flags_shared, with_first}
+use Rattle.shapers_position.specs.ClusterFlags.{cluster_groups, flags_propagated, flags_shared, group_with_first}
 
 -- the first group is the longest run of the first cluster
 pub opens_with_group : (g : hb_glyph_info_t) (gs : List hb_glyph_info_t) →
@@ -31,7 +31,7 @@ opens_with_group g (h ∷ hs) =
           ∙ sym (ap (λ n. (g ∷ take n (h ∷ hs)) ∷ cluster_groups (drop n (h ∷ hs))) next)
       | false ↦ λ e. ap (λ cs. (g ∷ []) ∷ cs) (sym behind)
     ] in
-    ap (with_first g) behind ∙ by (has_cluster c h) refl
+    ap (group_with_first g) behind ∙ by (has_cluster c h) refl
 
 groups_open : (gs : List hb_glyph_info_t) (n : ℕ) → 0 < length gs →
     n ≡ 1 + prefix_len (has_cluster (first_cluster gs)) (drop 1 gs) → cluster_groups gs ≡ take n gs ∷

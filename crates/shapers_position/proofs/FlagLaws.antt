@@ -14,7 +14,7 @@ use Rattle.shapers_buffer.specs.Clusters.{has_cluster}
 use Rattle.shapers_buffer.specs.Glyph.{clusters}
 use Rattle.shapers_buffer.proofs.MappedLists.{map-hidden, prefix_len-map}
 use Rattle.shapers_clusters.specs.Breaks.{IsClear, greater, is_unsafe}
-use Rattle.shapers_position.specs.ClusterFlags.{flags_kept, flags_of, flags_propagated, flags_shared, with_flags}
+use Rattle.shapers_position.specs.ClusterFlags.{flags_wanted, flags_of, flags_propagated, flags_shared, with_flags}
 use Rattle.shapers_position.proofs.ClusterGroups.{opens_with_group}
 use Rattle.shapers_position.proofs.FlagSets.{flags_put, flags_small, flags_unsafe, kept_again, kept_small, kept_unsafe, put_twice, unsafe_flags, unsafe_put}
 use Rattle.std.specs.List.{flat_map}
@@ -25,7 +25,7 @@ more g gs = prefix_len (has_cluster g.cluster) gs
 
 -- the flags that the group that opens a text gets
 abbrev pub opening_flags : BufferFlags → hb_glyph_info_t → List hb_glyph_info_t → ℕ
-opening_flags wanted g gs = flags_kept wanted (flags_of (g ∷ take (more g gs) gs))
+opening_flags wanted g gs = flags_wanted wanted (flags_of (g ∷ take (more g gs) gs))
 
 pub opening_small : (wanted : BufferFlags) (g : hb_glyph_info_t) (gs : List hb_glyph_info_t) →
     opening_flags wanted g gs < 8
@@ -135,8 +135,8 @@ again wanted unasked gs =
     let lasts : drop (more s (front ++ rest)) (front ++ rest) ≡ rest =
     ap (λ n. drop n (front ++ rest)) (more_same wanted g gs) ∙ drop_at front rest k long in
     let flags : opening_flags wanted s (front ++ rest) ≡ j =
-    ap (λ xs. flags_kept wanted (flags_of (s ∷ xs))) firsts
-    ∙ ap (flags_kept wanted) (flags_of_shared j g (take k gs) small)
+    ap (λ xs. flags_wanted wanted (flags_of (s ∷ xs))) firsts
+    ∙ ap (flags_wanted wanted) (flags_of_shared j g (take k gs) small)
     ∙ kept_again wanted unasked (flags_of (g ∷ take k gs)) (flags_small (g ∷ take k gs)) in
     ap (flags_propagated wanted) (opens wanted g gs)
     ∙ opens wanted s (front ++ rest)

@@ -13,7 +13,7 @@ use Rattle.shapers_clusters.specs.Breaks.{is_unsafe}
 use Rattle.shapers_clusters.specs.Flags.{bit_at}
 use Rattle.shapers_clusters.proofs.FlagCalls.{without_flags-or}
 use Rattle.shapers_clusters.proofs.Merging.{without_flags-twice}
-use Rattle.shapers_position.specs.ClusterFlags.{flags_kept, flags_of, joins_settled, with_flags}
+use Rattle.shapers_position.specs.ClusterFlags.{flags_wanted, flags_of, joins_settled, with_flags}
 
 -- what holds of each set of flags
 pub eight : (P : ℕ → Type 0) → P 0 → P 1 → P 2 → P 3 → P 4 → P 5 → P 6 → P 7 → (f : ℕ) → f < 8 → P f
@@ -66,20 +66,20 @@ one_by true f small = eight (λ f. unsafe_flags (kept_by true true f)
 one_by false f small = eight (λ f. unsafe_flags (kept_by true false f)
     ≡ (bit_at 0 (kept_by true false f) == 1)) refl refl refl refl refl refl refl refl f small
 
-pub kept_small : (wanted : BufferFlags) (f : ℕ) → f < 8 → flags_kept wanted f < 8
+pub kept_small : (wanted : BufferFlags) (f : ℕ) → f < 8 → flags_wanted wanted f < 8
 kept_small wanted f small = small_by (has_flag flags_tatweel wanted) (has_flag flags_concat wanted) f small
 
 pub kept_again : (wanted : BufferFlags) → has_flag flags_tatweel wanted ≡ false → (f : ℕ) → f < 8 →
-    flags_kept wanted (flags_kept wanted f) ≡ flags_kept wanted f
+    flags_wanted wanted (flags_wanted wanted f) ≡ flags_wanted wanted f
 kept_again wanted unasked f small =
     let c = has_flag flags_concat wanted in
     ap (λ t. kept_by t c (kept_by t c f)) unasked ∙ again_by c f small ∙ sym (ap (λ t. kept_by t c f) unasked)
 
-pub kept_unsafe : (wanted : BufferFlags) (f : ℕ) → f < 8 → unsafe_flags (flags_kept wanted f) ≡ unsafe_flags f
+pub kept_unsafe : (wanted : BufferFlags) (f : ℕ) → f < 8 → unsafe_flags (flags_wanted wanted f) ≡ unsafe_flags f
 kept_unsafe wanted f small = unsafe_by (has_flag flags_tatweel wanted) (has_flag flags_concat wanted) f small
 
 pub kept_one : (wanted : BufferFlags) → has_flag flags_tatweel wanted ≡ true → (f : ℕ) → f < 8 →
-    unsafe_flags (flags_kept wanted f) ≡ (bit_at 0 (flags_kept wanted f) == 1)
+    unsafe_flags (flags_wanted wanted f) ≡ (bit_at 0 (flags_wanted wanted f) == 1)
 kept_one wanted asked f small =
     let c = has_flag flags_concat wanted in
     ap (λ t. unsafe_flags (kept_by t c f)) asked ∙ one_by c f small
@@ -108,10 +108,10 @@ or_by a small =
     ≡ (unsafe_flags 7 || unsafe_flags b)) refl refl refl refl refl refl refl refl b l)
     a small
 
-low : (m : ℕ) → m % 8 < 8
-low m = omega arith
+low_bits : (m : ℕ) → m % 8 < 8
+low_bits m = omega arith
 
--- the flags of a mask are its low bits
+-- the flags of a mask are its low_bits bits
 pub one_low : (m : ℕ) → bit_at 0 (m % 8) ≡ bit_at 0 m
 one_low m = omega arith
 
@@ -128,10 +128,10 @@ gathered : (a : ℕ) (gs : List hb_glyph_info_t) → a < 8 →
 gathered a [] small = (small, sym (or-false (unsafe_flags a)))
 gathered a (g ∷ gs) small =
     let b = bit_or a (g.mask % 8) in
-    let rest = gathered b gs (or_lt 3 a (g.mask % 8) small (low g.mask)) in (
+    let rest = gathered b gs (or_lt 3 a (g.mask % 8) small (low_bits g.mask)) in (
       rest.0,
       rest.1
-          ∙ ap (λ x. x || list_any is_unsafe gs) (or_by a small (g.mask % 8) (low g.mask)
+          ∙ ap (λ x. x || list_any is_unsafe gs) (or_by a small (g.mask % 8) (low_bits g.mask)
           ∙ ap (λ x. unsafe_flags a || x) (unsafe_low g.mask))
           ∙ or_assoc (unsafe_flags a) (is_unsafe g) (list_any is_unsafe gs),
     )

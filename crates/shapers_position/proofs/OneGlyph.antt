@@ -29,15 +29,15 @@ abbrev BeginsElsewhere : ℕ → List hb_glyph_info_t → Type 0
 BeginsElsewhere c [] = Unit {0}
 BeginsElsewhere c (g ∷ gs) = g.cluster ≡ c → ⊥
 
-behind_run : (c : ℕ) (gs : List hb_glyph_info_t) → BeginsElsewhere c (drop (prefix_len (has_cluster c) gs) gs)
-behind_run c [] = tt
-behind_run c (g ∷ gs) =
+behind_group : (c : ℕ) (gs : List hb_glyph_info_t) → BeginsElsewhere c (drop (prefix_len (has_cluster c) gs) gs)
+behind_group c [] = tt
+behind_group c (g ∷ gs) =
     let k = prefix_len (has_cluster c) gs in
     let one : 1 + k ≡ suc k = omega arith in
     let by : (b : Bool) → has_cluster c g ≡ b → BeginsElsewhere c (drop (cond b (1 + k) 0) (g ∷ gs)) = λ b.
     elim b as (λ b. has_cluster c g ≡ b → BeginsElsewhere c (drop (cond b (1 + k) 0) (g ∷ gs))) [
       | true ↦ λ e. (let P : ℕ → Type 0 = λ n. BeginsElsewhere c (drop n (g ∷ gs)) in subst P (sym one)
-          (behind_run c gs))
+          (behind_group c gs))
       | false ↦ λ e. eqb-false g.cluster c e
     ] in
     by (has_cluster c g) refl
@@ -63,7 +63,7 @@ alike wanted gs =
     let P : List hb_glyph_info_t → Type 0 = Alike in
     subst P (sym (opens wanted g gs))
     (alike_group j g.cluster g (take k gs) (flags_propagated wanted (drop k gs)) (opening_small wanted g gs) refl
-    (run_is g.cluster gs) (elsewhere_still wanted g.cluster (drop k gs) (behind_run g.cluster gs)) last))
+    (run_is g.cluster gs) (elsewhere_still wanted g.cluster (drop k gs) (behind_group g.cluster gs)) last))
     (length gs) gs (omega arith)
 
 alike_at : (gs : List hb_glyph_info_t) → Alike gs → (p : ℕ) → suc p < length gs →

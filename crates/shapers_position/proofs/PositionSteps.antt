@@ -6,7 +6,7 @@ use Rattle.std.proofs.lemmas.List.{append_assoc, drop-set-lt, drop_more, take_mo
 use Rattle.shapers_buffer.specs.declared.buffer.glyph.GlyphPosition.{GlyphPosition}
 use Rattle.shapers_buffer.specs.declared.buffer.glyph.hb_glyph_info_t.{hb_glyph_info_t}
 use Rattle.shapers_buffer.specs.Glyph.{default_glyph, default_position}
-use Rattle.shapers_position.specs.Ignorables.{is_default_ignorable, is_kept, positions_kept}
+use Rattle.shapers_position.specs.Ignorables.{is_default_ignorable, stays_in_text, positions_kept}
 use Rattle.shapers_position.specs.Widths.{positions_changed}
 
 -- a text without positions keeps none
@@ -34,7 +34,7 @@ kept_next : (gs : List hb_glyph_info_t) (ps : List GlyphPosition) (i : ℕ) (b :
 kept_next gs ps i b inside same is =
     let g = get_or gs i default_glyph in
     let p = get_or ps i default_position in
-    let cells = filter (λ (c : hb_glyph_info_t × GlyphPosition). is_kept c.0)
+    let cells = filter (λ (c : hb_glyph_info_t × GlyphPosition). stays_in_text c.0)
     (zip (drop (i + 1) gs) (drop (i + 1) ps)) in
     ap (λ xs. positions_kept xs (drop i ps)) (drop_more gs i default_glyph inside)
     ∙ ap (positions_kept (g ∷ drop (i + 1) gs)) (drop_more ps i default_position (omega arith))

@@ -23,8 +23,8 @@ use Rattle.shapers_clusters.proofs.Halves.{Each}
 use Rattle.shapers_clusters.proofs.Merging.{order_view-merge, without_flags-twice}
 use Rattle.shapers_normal.proofs.Beside.{all_of, each-append, each-merge, each_of}
 use Rattle.shapers_normal.proofs.Pairs.{Cross, Pairs, each_as, from_pairs, pairs-append, pairs-cross, pairs-first, pairs-last, to_pairs}
-use Rattle.shapers_position.specs.Ignorables.{covering, drawn_by, goes_on, in_place_of, is_default_ignorable, is_kept, positions_kept, removed, removed_behind}
-use Rattle.shapers_position.specs.Laws.{DrawnLaw, PositionsLaw, RemovalLaw, numbered}
+use Rattle.shapers_position.specs.Ignorables.{covering, drawn_by, goes_on, in_place_of, is_default_ignorable, stays_in_text, positions_kept, removed, removed_behind}
+use Rattle.shapers_position.specs.Laws.{DrawnLaw, PositionsLaw, RemovalLaw, with_glyph_id}
 
 -- a list in what stands before its last run, and that
 run_apart : {X : Type 0} (test : X → Bool) (xs : List X) → before_last_run test xs ++ last_run test xs ≡ xs
@@ -59,12 +59,12 @@ view_goes true gone gs = refl
 view_goes false gone gs = view_covering gone gs
 
 view_removed : (kept gs : List hb_glyph_info_t) → order_view (removed_behind kept gs)
-    ≡ order_view kept ++ filter is_kept (order_view gs)
+    ≡ order_view kept ++ filter stays_in_text (order_view gs)
 view_removed kept [] = sym (append-nil (order_view kept))
 view_removed kept (g ∷ gs) =
     let after = cond (goes_on g.cluster gs) kept (covering g kept) in
     let here = order_view kept in
-    let rest = filter is_kept (order_view gs) in
+    let rest = filter stays_in_text (order_view gs) in
     elim (is_default_ignorable g) as (λ b. order_view
     (cond b (removed_behind after gs) (removed_behind (kept ++ g ∷ []) gs))
     ≡ here ++ cond (not b) (plain g ∷ rest) rest) [
@@ -74,11 +74,11 @@ view_removed kept (g ∷ gs) =
     ]
 
 -- the view of those that stay is of those of the view that do
-filter_view : (gs : List hb_glyph_info_t) → filter is_kept (order_view gs) ≡ order_view (filter is_kept gs)
+filter_view : (gs : List hb_glyph_info_t) → filter stays_in_text (order_view gs) ≡ order_view (filter stays_in_text gs)
 filter_view [] = refl
 filter_view (g ∷ gs) =
-    elim (is_kept g) as (λ b. cond b (plain g ∷ filter is_kept (order_view gs)) (filter is_kept (order_view gs))
-    ≡ order_view (cond b (g ∷ filter is_kept gs) (filter is_kept gs))) [
+    elim (stays_in_text g) as (λ b. cond b (plain g ∷ filter stays_in_text (order_view gs)) (filter stays_in_text (order_view gs))
+    ≡ order_view (cond b (g ∷ filter stays_in_text gs) (filter stays_in_text gs))) [
       | true ↦ ap (λ xs. plain g ∷ xs) (filter_view gs)
       | false ↦ filter_view gs
     ]
@@ -215,15 +215,15 @@ short_merge level e gs short =
 -- ---- positions, and glyphs that are drawn by another one
 
 as_many : (gs : List hb_glyph_info_t) (ps : List GlyphPosition) → length ps ≡ length gs →
-    length (positions_kept gs ps) ≡ length (filter is_kept gs)
+    length (positions_kept gs ps) ≡ length (filter stays_in_text gs)
 as_many [] ps same = refl
 as_many (g ∷ gs) [] same = absurd (omega arith)
 as_many (g ∷ gs) (p ∷ ps) same =
-    let cells = filter (λ (c : hb_glyph_info_t × GlyphPosition). is_kept c.0) (zip gs ps) in
+    let cells = filter (λ (c : hb_glyph_info_t × GlyphPosition). stays_in_text c.0) (zip gs ps) in
     let one : hb_glyph_info_t × GlyphPosition → GlyphPosition = λ c. c.1 in
-    elim (is_kept g)
+    elim (stays_in_text g)
     as (λ b. length (map one (cond b ((g, p) ∷ cells) cells))
-    ≡ length (cond b (g ∷ filter is_kept gs) (filter is_kept gs))) [
+    ≡ length (cond b (g ∷ filter stays_in_text gs) (filter stays_in_text gs))) [
       | true ↦ ap suc (as_many gs ps (omega arith))
       | false ↦ as_many gs ps (omega arith)
     ]
@@ -231,14 +231,14 @@ as_many (g ∷ gs) (p ∷ ps) same =
 by_length : (gs hs : List hb_glyph_info_t) → order_view gs ≡ order_view hs → length hs ≡ length gs
 by_length gs hs same = sym (sym (length-map gs plain) ∙ ap length same ∙ length-map hs plain)
 
-drawn_number : (glyph : GlyphId) (n : ℕ) (g : hb_glyph_info_t) → numbered n (drawn_by glyph g) ≡ numbered n g
+drawn_number : (glyph : GlyphId) (n : ℕ) (g : hb_glyph_info_t) → with_glyph_id n (drawn_by glyph g) ≡ with_glyph_id n g
 drawn_number glyph n g =
     elim (is_default_ignorable g)
-    as (λ b. numbered n (cond b (let r : hb_glyph_info_t = record g { glyph_id = glyph.0 } in r) g) ≡ numbered n g)
+    as (λ b. with_glyph_id n (cond b (let r : hb_glyph_info_t = record g { glyph_id = glyph.0 } in r) g) ≡ with_glyph_id n g)
     [ true ↦ refl | false ↦ refl ]
 
 pub drawn_keep : DrawnLaw
-drawn_keep glyph n gs = map-hidden (numbered n) (drawn_by glyph) (drawn_number glyph n) gs
+drawn_keep glyph n gs = map-hidden (with_glyph_id n) (drawn_by glyph) (drawn_number glyph n) gs
 
 pub changed_by_glyphs : PositionsLaw
 changed_by_glyphs f gs ps same =
@@ -275,10 +275,10 @@ ignorables_are_removed level gs =
     let e = opening_end gs in
     let ms = merge level 0 e gs in
     let P : ℕ → Type 0 = Contains (clusters gs) in
-    let view = view_removed [] ms ∙ ap (filter is_kept) (order_view-merge level 0 e gs) ∙ filter_view gs in
+    let view = view_removed [] ms ∙ ap (filter stays_in_text) (order_view-merge level 0 e gs) ∙ filter_view gs in
     record {
       same_view = view;
-      paired = λ ps same. as_many gs ps same ∙ by_length (removed level gs) (filter is_kept gs) view;
+      paired = λ ps same. as_many gs ps same ∙ by_length (removed level gs) (filter stays_in_text gs) view;
       old_clusters = all_of P (removed level gs) (each_removed P [] ms tt
           (each-merge P level 0 e gs (omega arith) (each_of P gs (All-contains_itself (clusters gs)))));
       monotone = monotone_removed level gs;

@@ -8,12 +8,12 @@ use Rattle.shapers_buffer.specs.declared.buffer.level.BufferClusterLevel.{Buffer
 use Rattle.shapers_buffer.specs.Clusters.{merge}
 use Rattle.shapers_clusters.proofs.Merging.{order_view-merge}
 use Rattle.shapers_buffer.specs.Glyph.{default_glyph, order_view, plain}
-use Rattle.shapers_position.specs.Ignorables.{covering, goes_on, is_default_ignorable, is_kept, removed_behind}
+use Rattle.shapers_position.specs.Ignorables.{covering, goes_on, is_default_ignorable, stays_in_text, removed_behind}
 
 -- what lies behind a front that is written anew
-behind : {X : Type 0} (xs ys : List X) (k i : ℕ) → k ≤ i → length ys ≡ k →
+behind_front : {X : Type 0} (xs ys : List X) (k i : ℕ) → k ≤ i → length ys ≡ k →
     drop (i + 1) (ys ++ drop k xs) ≡ drop (i + 1) xs
-behind xs ys k i few long =
+behind_front xs ys k i few long =
     let there : i + 1 - k + k ≡ i + 1 = omega arith in
     let from : k + (i + 1 - k) ≡ i + 1 = omega arith in
     ap (λ n. drop n (ys ++ drop k xs)) (sym there)
@@ -30,11 +30,11 @@ by false = refl
 
 pub count_next : (gs : List hb_glyph_info_t) (i : ℕ) (b : Bool) → i < length gs →
     is_default_ignorable (get_or gs i default_glyph) ≡ b →
-    count_by is_kept (drop i gs) ≡ cond {A = ℕ} b 0 1 + count_by is_kept (drop (i + 1) gs)
+    count_by stays_in_text (drop i gs) ≡ cond {A = ℕ} b 0 1 + count_by stays_in_text (drop (i + 1) gs)
 count_next gs i b inside is =
-    ap (count_by is_kept) (drop_more gs i default_glyph inside)
-    ∙ sum_by-cons (λ (g : hb_glyph_info_t). cond {A = ℕ} (is_kept g) 1 0) (get_or gs i default_glyph) (drop (i + 1) gs)
-    ∙ ap (λ n. n + count_by is_kept (drop (i + 1) gs)) (ap (λ c. cond {A = ℕ} (not c) 1 0) is ∙ by b)
+    ap (count_by stays_in_text) (drop_more gs i default_glyph inside)
+    ∙ sum_by-cons (λ (g : hb_glyph_info_t). cond {A = ℕ} (stays_in_text g) 1 0) (get_or gs i default_glyph) (drop (i + 1) gs)
+    ∙ ap (λ n. n + count_by stays_in_text (drop (i + 1) gs)) (ap (λ c. cond {A = ℕ} (not c) 1 0) is ∙ by b)
 
 -- ---- a glyph that stays
 
@@ -52,9 +52,9 @@ stays_rest gs k i g few inside at is =
 
 pub stays_count : (gs : List hb_glyph_info_t) (k i : ℕ) (g : hb_glyph_info_t) → k ≤ i → i < length gs →
     get_or gs i default_glyph ≡ g → is_default_ignorable g ≡ false →
-    k + 1 + count_by is_kept (drop (i + 1) (set gs k g)) ≡ k + count_by is_kept (drop i gs)
+    k + 1 + count_by stays_in_text (drop (i + 1) (set gs k g)) ≡ k + count_by stays_in_text (drop i gs)
 stays_count gs k i g few inside at is =
-    let same = ap (count_by is_kept) (drop-set-lt (i + 1) gs k g (omega arith)) in
+    let same = ap (count_by stays_in_text) (drop-set-lt (i + 1) gs k g (omega arith)) in
     let one = count_next gs i false inside (ap is_default_ignorable at ∙ is) in
     omega (arith, same, one)
 
@@ -80,7 +80,7 @@ goes_rest gs k i g inside at is on = goes_by gs k i g true inside at is on
 
 pub goes_count : (gs : List hb_glyph_info_t) (k i : ℕ) (g : hb_glyph_info_t) → i < length gs →
     get_or gs i default_glyph ≡ g → is_default_ignorable g ≡ true →
-    k + count_by is_kept (drop (i + 1) gs) ≡ k + count_by is_kept (drop i gs)
+    k + count_by stays_in_text (drop (i + 1) gs) ≡ k + count_by stays_in_text (drop i gs)
 goes_count gs k i g inside at is =
     let none = count_next gs i true inside (ap is_default_ignorable at ∙ is) in
     omega (arith, none)
@@ -93,25 +93,25 @@ pub covered_rest : (gs new : List hb_glyph_info_t) (k i : ℕ) (g : hb_glyph_inf
     ≡ removed_behind (take k gs) (drop i gs)
 covered_rest gs new k i g few inside at is on covers long =
     ap (λ xs. removed_behind xs (drop (i + 1) (new ++ drop k gs))) (take_at new (drop k gs) k long ∙ covers)
-    ∙ ap (removed_behind (covering g (take k gs))) (behind gs new k i few long)
+    ∙ ap (removed_behind (covering g (take k gs))) (behind_front gs new k i few long)
     ∙ goes_by gs k i g false inside at is on
 
 pub covered_count : (gs new : List hb_glyph_info_t) (k i : ℕ) (g : hb_glyph_info_t) → k ≤ i → i < length gs →
     get_or gs i default_glyph ≡ g → is_default_ignorable g ≡ true → length new ≡ k →
-    k + count_by is_kept (drop (i + 1) (new ++ drop k gs)) ≡ k + count_by is_kept (drop i gs)
+    k + count_by stays_in_text (drop (i + 1) (new ++ drop k gs)) ≡ k + count_by stays_in_text (drop i gs)
 covered_count gs new k i g few inside at is long =
-    ap (λ xs. k + count_by is_kept xs) (behind gs new k i few long) ∙ goes_count gs k i g inside at is
+    ap (λ xs. k + count_by stays_in_text xs) (behind_front gs new k i few long) ∙ goes_count gs k i g inside at is
 
 -- ---- the glyphs that open a text merged
 
-count_view : (gs : List hb_glyph_info_t) → count_by is_kept (order_view gs) ≡ count_by is_kept gs
+count_view : (gs : List hb_glyph_info_t) → count_by stays_in_text (order_view gs) ≡ count_by stays_in_text gs
 count_view [] = refl
 count_view (g ∷ gs) =
-    let one : hb_glyph_info_t → ℕ = λ g. cond {A = ℕ} (is_kept g) 1 0 in
+    let one : hb_glyph_info_t → ℕ = λ g. cond {A = ℕ} (stays_in_text g) 1 0 in
     sum_by-cons one (plain g) (order_view gs) ∙ ap (λ n. one g + n) (count_view gs) ∙ sym (sum_by-cons one g gs)
 
 -- as many stay
 pub count_merged : (level : BufferClusterLevel) (s e : ℕ) (gs : List hb_glyph_info_t) →
-    count_by is_kept (merge level s e gs) ≡ count_by is_kept gs
+    count_by stays_in_text (merge level s e gs) ≡ count_by stays_in_text gs
 count_merged level s e gs = sym (count_view (merge level s e gs))
-    ∙ ap (count_by is_kept) (order_view-merge level s e gs) ∙ count_view gs
+    ∙ ap (count_by stays_in_text) (order_view-merge level s e gs) ∙ count_view gs

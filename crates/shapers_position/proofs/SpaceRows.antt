@@ -6,7 +6,7 @@ use Rattle.shapers_buffer.specs.declared.buffer.category.hb_unicode_general_cate
 use Rattle.shapers_buffer.specs.declared.buffer.glyph.GlyphPosition.{GlyphPosition}
 use Rattle.shapers_buffer.specs.declared.buffer.glyph.hb_glyph_info_t.{hb_glyph_info_t}
 use Rattle.shapers_buffer.specs.Glyph.{default_glyph}
-use Rattle.shapers_position.specs.Spaces.{digits, is_space_glyph, part_of_em, space_placed, space_width, stops}
+use Rattle.shapers_position.specs.Spaces.{digits, is_space_glyph, part_of_em, space_placed, space_width, full_stops}
 
 -- a font that has these characters, each ten units wider than its number
 abbrev font : List ℕ → Font
@@ -52,7 +52,7 @@ halves = refl
 digit_rows : digits ≡ 48 ∷ 49 ∷ 50 ∷ 51 ∷ 52 ∷ 53 ∷ 54 ∷ 55 ∷ 56 ∷ 57 ∷ []
 digit_rows = refl
 
-stop_rows : stops ≡ 46 ∷ 44 ∷ []
+stop_rows : full_stops ≡ 46 ∷ 44 ∷ []
 stop_rows = refl
 
 -- a space by its category, unless a lookup put it in for several

@@ -7,7 +7,7 @@ use Rattle.shapers_buffer.specs.declared.buffer.level.Direction.TheVariants.{Inv
 use Rattle.shapers_buffer.specs.Glyph.{default_glyph}
 use Rattle.shapers_position.specs.declared.ot_shape_position.ignorables.DefaultIgnorables.TheVariants.{Hide, Preserve, Remove}
 use Rattle.shapers_position.specs.Ignorables.{ignorables_for, ignorables_zeroed, is_default_ignorable, without_extent}
-use Rattle.shapers_position.specs.Widths.{advanced, glyph_of, hung_back, marks_zeroed, nearest, without_advance}
+use Rattle.shapers_position.specs.Widths.{advanced, glyph_of, hung_back, marks_zeroed, nearest_of_32_bits, without_advance}
 
 -- a font whose glyphs are as wide as their numbers
 abbrev font : Font
@@ -44,7 +44,7 @@ back : hung_back (spot (pos 500) (neg_ℤ (pos 20)) (pos 3) (pos 4))
 back = refl
 
 -- offsets stop at the bounds of 32 bits
-bounds : map nearest (pos 2147483646 ∷ pos 2147483647 ∷ pos 2147483648 ∷ neg_ℤ (pos 2147483647) ∷
+bounds : map nearest_of_32_bits (pos 2147483646 ∷ pos 2147483647 ∷ pos 2147483648 ∷ neg_ℤ (pos 2147483647) ∷
     neg_ℤ (pos 2147483648) ∷ neg_ℤ (pos 2147483649) ∷ []) ≡ pos 2147483646 ∷ pos 2147483647 ∷ pos 2147483647 ∷
     neg_ℤ (pos 2147483647) ∷ neg_ℤ (pos 2147483648) ∷ neg_ℤ (pos 2147483648) ∷ []
 bounds = refl

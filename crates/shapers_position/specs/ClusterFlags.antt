@@ -9,17 +9,17 @@ use Rattle.shapers_buffer.specs.Clusters.{has_cluster}
 use Rattle.shapers_buffer.specs.Glyph.{without_flags}
 
 -- groups with a glyph in front of them: in the first group, if that is of its cluster
-abbrev pub with_first : hb_glyph_info_t → List (List hb_glyph_info_t) →
+abbrev pub group_with_first : hb_glyph_info_t → List (List hb_glyph_info_t) →
     List (List hb_glyph_info_t)
-with_first g ((h ∷ group) ∷ groups) =
+group_with_first g ((h ∷ group) ∷ groups) =
     if has_cluster g.cluster h then (g ∷ h ∷ group) ∷ groups
     else (g ∷ []) ∷ (h ∷ group) ∷ groups
-with_first g groups = (g ∷ []) ∷ groups
+group_with_first g groups = (g ∷ []) ∷ groups
 
 -- the list cut between neighbours of different clusters
 abbrev pub cluster_groups : List hb_glyph_info_t → List (List hb_glyph_info_t)
 cluster_groups [] = []
-cluster_groups (g ∷ gs) = with_first g (cluster_groups gs)
+cluster_groups (g ∷ gs) = group_with_first g (cluster_groups gs)
 
 -- the flags that one of these glyphs has
 abbrev pub flags_of : List hb_glyph_info_t → ℕ
@@ -33,8 +33,8 @@ joins_settled flags =
     else if bit_and flags 4 == 4 then bit_or flags 3 else flags
 
 -- the flags of a cluster that a buffer with these flags of its own keeps
-abbrev pub flags_kept : BufferFlags → ℕ → ℕ
-flags_kept wanted flags =
+abbrev pub flags_wanted : BufferFlags → ℕ → ℕ
+flags_wanted wanted flags =
     let settled = if has_flag flags_tatweel wanted then joins_settled flags else flags in
     if has_flag flags_concat wanted then settled else bit_and settled 5
 
@@ -44,7 +44,7 @@ with_flags flags g = record g { mask = bit_or (without_flags g.mask) flags }
 
 -- the glyphs of a cluster, each with the flags of all
 abbrev pub flags_shared : BufferFlags → List hb_glyph_info_t → List hb_glyph_info_t
-flags_shared wanted gs = map (with_flags (flags_kept wanted (flags_of gs))) gs
+flags_shared wanted gs = map (with_flags (flags_wanted wanted (flags_of gs))) gs
 
 -- a text, each cluster for itself
 abbrev pub flags_propagated : BufferFlags → List hb_glyph_info_t → List hb_glyph_info_t

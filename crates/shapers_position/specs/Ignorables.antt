@@ -17,7 +17,7 @@ use Rattle.shapers_position.specs.declared.ot_shape_position.ignorables.DefaultI
 use Rattle.shapers_position.specs.declared.ot_shape_position.ignorables.DefaultIgnorables.TheVariants.{Hide, Preserve, Remove}
 use Rattle.shapers_position.specs.Widths.{positions_changed, without_advance}
 
--- what HarfBuzz's flags of a buffer ask for: bit 4 to preserve, else bit 8 to remove
+-- what HarfBuzz's flags of a buffer request: bit 4 to preserve, else bit 8 to remove
 abbrev pub ignorables_for : ℕ → DefaultIgnorables
 ignorables_for bits =
     if bit_and bits 4 == 4 then Preserve else if bit_and bits 8 == 8 then Remove else Hide
@@ -27,8 +27,8 @@ abbrev pub is_default_ignorable : hb_glyph_info_t → Bool
 is_default_ignorable g = is_ignorable g.marks && not (is_substituted g.marks)
 
 -- the others
-abbrev pub is_kept : hb_glyph_info_t → Bool
-is_kept g = not (is_default_ignorable g)
+abbrev pub stays_in_text : hb_glyph_info_t → Bool
+stays_in_text g = not (is_default_ignorable g)
 
 -- a glyph without an advance, and without an offset along the line
 abbrev pub without_extent : Bool → GlyphPosition → GlyphPosition
@@ -93,7 +93,7 @@ removed level gs =
 
 -- the positions of the glyphs that stay
 abbrev pub positions_kept : List hb_glyph_info_t → List GlyphPosition → List GlyphPosition
-positions_kept gs ps = map (λ c. c.1) (filter (λ c. is_kept c.0) (zip gs ps))
+positions_kept gs ps = map (λ c. c.1) (filter (λ c. stays_in_text c.0) (zip gs ps))
 
 abbrev pub ignorables_removed : Buffer → Buffer
 ignorables_removed b = record b {

@@ -13,7 +13,7 @@ use Rattle.shapers_clusters.specs.Breaks.{IsClear, is_unsafe}
 use Rattle.shapers_clusters.specs.Cuts.{IsFalling, IsMonotone, IsRising}
 use Rattle.shapers_clusters.specs.Flags.{bit_at}
 use Rattle.shapers_position.specs.ClusterFlags.{flags_propagated}
-use Rattle.shapers_position.specs.Ignorables.{drawn_by, is_default_ignorable, is_kept, positions_kept, removed}
+use Rattle.shapers_position.specs.Ignorables.{drawn_by, is_default_ignorable, stays_in_text, positions_kept, removed}
 use Rattle.shapers_position.specs.Widths.{positions_changed}
 
 -- the glyph flags of each glyph
@@ -21,8 +21,8 @@ abbrev pub glyph_flags : List hb_glyph_info_t → List ℕ
 glyph_flags gs = map (λ g. g.mask % 8) gs
 
 -- the glyph with this number
-abbrev pub numbered : ℕ → hb_glyph_info_t → hb_glyph_info_t
-numbered n g = record g { glyph_id = n }
+abbrev pub with_glyph_id : ℕ → hb_glyph_info_t → hb_glyph_info_t
+with_glyph_id n g = record g { glyph_id = n }
 
 -- What sharing the flags makes of the glyphs gs: ms. Nothing but glyph flags changes. Neighbours of
 -- one cluster have the same flags. A second time changes nothing, unless tatweels are wanted: one
@@ -74,13 +74,13 @@ PositionsLaw = (f : hb_glyph_info_t → GlyphPosition → GlyphPosition)
 -- A glyph that is drawn by another one keeps all but its number.
 abbrev pub DrawnLaw : Type 0
 DrawnLaw = (glyph : GlyphId) (n : ℕ) (gs : List hb_glyph_info_t) →
-    map (numbered n) (map (drawn_by glyph) gs) ≡ map (numbered n) gs
+    map (with_glyph_id n) (map (drawn_by glyph) gs) ≡ map (with_glyph_id n) gs
 
 -- What taking the ignorable glyphs out of gs leaves: ms. The others stay in their order, with all
 -- but cluster and glyph flags, and with their positions. Every cluster is one that was there.
 -- Clusters that rise, or fall, still do. Without an ignorable glyph nothing changes.
 pub record IgnorablesAreRemoved (gs ms : List hb_glyph_info_t) : Type 0 where
-  pub same_view : order_view ms ≡ order_view (filter is_kept gs)
+  pub same_view : order_view ms ≡ order_view (filter stays_in_text gs)
   pub paired : (ps : List GlyphPosition) → length ps ≡ length gs →
       length (positions_kept gs ps) ≡ length ms
   pub old_clusters : All (Contains (clusters gs)) (clusters ms)

@@ -20,8 +20,8 @@ abbrev pub digits : List ℕ
 digits =
     0x30 ∷ 0x31 ∷ 0x32 ∷ 0x33 ∷ 0x34 ∷ 0x35 ∷ 0x36 ∷ 0x37 ∷ 0x38 ∷ 0x39 ∷ []
 
-abbrev pub stops : List ℕ
-stops = 0x2E ∷ 0x2C ∷ []
+abbrev pub full_stops : List ℕ
+full_stops = 0x2E ∷ 0x2C ∷ []
 
 -- kinds that are a part of an em: the number says which
 abbrev pub is_part_of_em : ℕ → Bool
@@ -39,7 +39,7 @@ space_width font em kind advance =
     if is_part_of_em kind then part_of_em em kind
     else if kind == 17 then pos (em * 4 / 18)
     else if kind == 19 then first_advance font digits advance
-    else if kind == 20 then first_advance font stops advance
+    else if kind == 20 then first_advance font full_stops advance
     else if kind == 21 then int_div advance (pos 2) else advance
 
 -- a space that no lookup put in for several glyphs

@@ -26,14 +26,14 @@ abbrev pub without_advance : GlyphPosition → GlyphPosition
 without_advance p = record p { x_advance = pos 0; y_advance = pos 0 }
 
 -- the number of 32 bits that is nearest
-abbrev pub nearest : ℤ → ℤ
-nearest z = saturate_to_bits 31 z
+abbrev pub nearest_of_32_bits : ℤ → ℤ
+nearest_of_32_bits z = saturate_to_bits 31 z
 
 -- a glyph drawn where the pen will be behind it, and its advance less
 abbrev pub hung_back : GlyphPosition → GlyphPosition
 hung_back p = record p {
-  x_offset = nearest (p.x_offset -ℤ p.x_advance);
-  y_offset = nearest (p.y_offset -ℤ p.y_advance);
+  x_offset = nearest_of_32_bits (p.x_offset -ℤ p.x_advance);
+  y_offset = nearest_of_32_bits (p.y_offset -ℤ p.y_advance);
 }
 
 -- the position of a glyph, which doesn't move the pen if it is a mark

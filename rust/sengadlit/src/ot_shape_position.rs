@@ -13,7 +13,8 @@
 //! ```
 //! use sengadlit::font::NominalOnly;
 //! use sengadlit::ot_shape_position::{DefaultIgnorables, hide_default_ignorables};
-//! use sengadlit::{Buffer, GlyphInfo, flags::GlyphMarks};
+//! use sengadlit::buffer::GlyphMarks;
+//! use sengadlit::{Buffer, GlyphInfo};
 //!
 //! // a letter, and a joiner behind it that no lookup used, in a font without a space
 //! let joiner = GlyphInfo {

@@ -8,8 +8,8 @@ use shapers_base::font::{GlyphId, hb_font_t};
 use std::alloc::Global;
 
 /// Gives each glyph a position of its own: its horizontal advance in the font, and no offset. What
-/// positions there were are gone. A font has no glyph of a number above 65535, nor of that one: all
-/// these are asked for as that one.
+/// positions there were are gone. A font has no glyph of a number above 65535, nor of that one:
+/// every greater number is queried as that one.
 ///
 /// Advances are horizontal in every direction of text, as `hb_font_t` knows no others; for a
 /// vertical text the caller sets them. (HarfBuzz's `hb_ot_position_default`.)

@@ -1,9 +1,8 @@
 //! The glyph flags of whole clusters.
 ghost use Rattle.std.specs.Prelude.{◌≡◌, ◌<◌, ◌≤◌, ◌+◌, drop, length, map};
 ghost use Rattle.std.specs.List.{prefix_len};
-ghost use Rattle.shapers_buffer.specs.Buffer.{flags_concat, flags_tatweel, has_flag};
 ghost use Rattle.shapers_buffer.specs.Clusters.{first_cluster, has_cluster, with_stretch};
-ghost use Rattle.shapers_position.specs.ClusterFlags.{flags_kept, flags_of, flags_propagated, flags_shared, joins_settled, with_flags};
+ghost use Rattle.shapers_position.specs.ClusterFlags.{flags_wanted, flags_of, flags_propagated, flags_shared, joins_settled, with_flags};
 
 use bitflags::Flags;
 use glyph_flag::{SAFE_TO_INSERT_TATWEEL, UNSAFE_TO_BREAK, UNSAFE_TO_CONCAT};
@@ -100,7 +99,7 @@ fn share_flags_from(wanted: BufferFlags, glyphs: &mut [hb_glyph_info_t], s: usiz
 fn share_flags(wanted: BufferFlags, cluster: &mut [hb_glyph_info_t])
     ensures { cluster.new ≡ flags_shared wanted cluster.old }
 {
-    let flags = flags_kept(wanted, flags_of(cluster));
+    let flags = flags_wanted(wanted, flags_of(cluster));
     set_flags(cluster, flags);
 }
 
@@ -118,8 +117,8 @@ fn flags_of(cluster: &[hb_glyph_info_t]) -> u32
 
 // The flags of a cluster that the buffer wants.
 #[inline]
-fn flags_kept(wanted: BufferFlags, flags: u32) -> u32
-    ensures { result ≡ flags_kept wanted flags }
+fn flags_wanted(wanted: BufferFlags, flags: u32) -> u32
+    ensures { result ≡ flags_wanted wanted flags }
 {
     let settled = if wanted.contains(BufferFlags::PRODUCE_SAFE_TO_INSERT_TATWEEL) {
         joins_settled(flags)

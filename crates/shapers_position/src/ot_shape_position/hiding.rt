@@ -3,7 +3,7 @@ ghost use Rattle.std.specs.Prelude.{◌≡◌, ◌<◌, ◌≤◌, ◌+◌, [], 
 ghost use Rattle.std.specs.List.{prefix_len, suffix_len};
 ghost use Rattle.std.specs.Option.{option_or};
 ghost use Rattle.shapers_buffer.specs.Clusters.{has_cluster, merge};
-ghost use Rattle.shapers_position.specs.Ignorables.{covering, drawn_by, goes_on, ignorables_hidden, ignorables_removed, in_place_of, is_default_ignorable, is_kept, positions_kept, removed_behind};
+ghost use Rattle.shapers_position.specs.Ignorables.{covering, drawn_by, goes_on, ignorables_hidden, ignorables_removed, in_place_of, is_default_ignorable, stays_in_text, positions_kept, removed_behind};
 
 use super::ignorables::{DefaultIgnorables, is_default_ignorable};
 use shapers_base::buffer::{
@@ -78,7 +78,7 @@ fn remove_ignorables(buffer: &mut hb_buffer_t)
 
 // How many glyphs stay.
 fn count_kept(glyphs: &[hb_glyph_info_t]) -> usize
-    ensures count { result ≡ count_by is_kept glyphs.now }
+    ensures count { result ≡ count_by stays_in_text glyphs.now }
     ensures within { result ≤ length glyphs.now }
 {
     glyphs
@@ -93,12 +93,12 @@ struct PositionRemoval {}
 
 impl PositionedWalk for PositionRemoval {
     ghost use Rattle.std.specs.Prelude.{◌≡◌, count_by, length, take};
-    ghost use Rattle.shapers_position.specs.Ignorables.{is_kept, positions_kept};
+    ghost use Rattle.shapers_position.specs.Ignorables.{stays_in_text, positions_kept};
 
     ghost can_walk = { λ w gs ps. length ps ≡ length gs };
 
     ghost walks = { λ w gs ps hs qs.
-        (hs ≡ gs) × (take (count_by is_kept gs) qs ≡ positions_kept gs ps) };
+        (hs ≡ gs) × (take (count_by stays_in_text gs) qs ≡ positions_kept gs ps) };
 
     #[inline]
     fn walk(&self, glyphs: &mut [hb_glyph_info_t], positions: &mut [GlyphPosition]) {
@@ -109,7 +109,7 @@ impl PositionedWalk for PositionRemoval {
 // Brings the positions of the glyphs that stay to the front.
 fn remove_positions(glyphs: &[hb_glyph_info_t], positions: &mut [GlyphPosition])
     requires { length positions.old ≡ length glyphs.now }
-    ensures { take (count_by is_kept glyphs.now) positions.new
+    ensures { take (count_by stays_in_text glyphs.now) positions.new
         ≡ positions_kept glyphs.now positions.old }
 {
     let mut kept = 0;
@@ -129,11 +129,11 @@ struct GlyphRemoval {
 
 impl GlyphWalk for GlyphRemoval {
     ghost use Rattle.std.specs.Prelude.{⊤, ◌≡◌, count_by, take};
-    ghost use Rattle.shapers_position.specs.Ignorables.{is_kept, removed};
+    ghost use Rattle.shapers_position.specs.Ignorables.{stays_in_text, removed};
 
     ghost can_walk = { λ w gs. ⊤ };
 
-    ghost walks = { λ v w gs hs. take (count_by is_kept gs) hs ≡ removed v.level gs };
+    ghost walks = { λ v w gs hs. take (count_by stays_in_text gs) hs ≡ removed v.level gs };
 
     #[inline]
     fn walk(&mut self, glyphs: &mut [hb_glyph_info_t]) {
@@ -166,7 +166,7 @@ fn opening_len(glyphs: &[hb_glyph_info_t]) -> usize
 
 // Brings the glyphs that stay to the front.
 fn remove_glyphs(glyphs: &mut [hb_glyph_info_t])
-    ensures { take (count_by is_kept glyphs.old) glyphs.new ≡ removed_behind [] glyphs.old }
+    ensures { take (count_by stays_in_text glyphs.old) glyphs.new ≡ removed_behind [] glyphs.old }
 {
     let mut kept = 0;
     for i in 0..glyphs.len() {
@@ -182,8 +182,8 @@ fn keep_or_remove(glyphs: &mut [hb_glyph_info_t], kept: usize, i: usize) -> usiz
     requires inside { i < length glyphs.old }
     ensures rest { removed_behind (take result glyphs.new) (drop (i + 1) glyphs.new)
         ≡ removed_behind (take kept glyphs.old) (drop i glyphs.old) }
-    ensures count { result + count_by is_kept (drop (i + 1) glyphs.new)
-        ≡ kept + count_by is_kept (drop i glyphs.old) }
+    ensures count { result + count_by stays_in_text (drop (i + 1) glyphs.new)
+        ≡ kept + count_by stays_in_text (drop i glyphs.old) }
     ensures few { result ≤ i + 1 }
 {
     let glyph = glyphs[i];

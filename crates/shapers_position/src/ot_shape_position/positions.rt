@@ -1,5 +1,5 @@
 //! Changes of positions, each by its glyph.
-ghost use Rattle.std.specs.Prelude.{◌≡◌, ◌≤◌, length};
+ghost use Rattle.std.specs.Prelude.{◌≡◌, length};
 ghost use Rattle.shapers_position.specs.Widths.{positions_changed};
 
 use shapers_base::buffer::{GlyphPosition, PositionedWalk, hb_buffer_t, hb_glyph_info_t};

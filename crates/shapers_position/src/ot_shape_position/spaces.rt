@@ -1,7 +1,7 @@
 //! The widths of spaces that the font lacks.
 ghost use Rattle.std.specs.Prelude.{◌≡◌, ◌<◌, ◌*◌, ◌/◌, ℕ, pos};
 ghost use Rattle.shapers_normal.specs.Decomposition.{is_space_separator};
-ghost use Rattle.shapers_position.specs.Spaces.{digits, first_advance, is_space_glyph, part_of_em, space_placed, space_width, stops};
+ghost use Rattle.shapers_position.specs.Spaces.{first_advance, is_space_glyph, part_of_em, space_placed, space_width};
 ghost use Rattle.shapers_position.specs.Widths.{positions_changed};
 
 use super::positions::{PositionChange, change_positions};

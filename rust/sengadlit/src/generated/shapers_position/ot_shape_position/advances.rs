@@ -9,8 +9,8 @@ use crate::generated::shapers_base::font::{Font, GlyphId};
 use crate::support::alloc::Global;
 
 /// Gives each glyph a position of its own: its horizontal advance in the font, and no offset. What
-/// positions there were are gone. A font has no glyph of a number above 65535, nor of that one: all
-/// these are asked for as that one.
+/// positions there were are gone. A font has no glyph of a number above 65535, nor of that one:
+/// every greater number is queried as that one.
 ///
 /// Advances are horizontal in every direction of text, as `Font` knows no others; for a
 /// vertical text the caller sets them. (HarfBuzz's `hb_ot_position_default`.)

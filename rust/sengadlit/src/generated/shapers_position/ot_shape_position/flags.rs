@@ -83,7 +83,7 @@ fn share_flags_from(wanted: BufferFlags, glyphs: &mut [GlyphInfo], s: usize, e: 
 // Gives the glyphs of a cluster the same flags.
 #[inline]
 fn share_flags(wanted: BufferFlags, cluster: &mut [GlyphInfo]) {
-    let flags = flags_kept(wanted, flags_of(cluster));
+    let flags = flags_wanted(wanted, flags_of(cluster));
     set_flags(cluster, flags);
 }
 
@@ -99,7 +99,7 @@ fn flags_of(cluster: &[GlyphInfo]) -> u32 {
 
 // The flags of a cluster that the buffer wants.
 #[inline]
-fn flags_kept(wanted: BufferFlags, flags: u32) -> u32 {
+fn flags_wanted(wanted: BufferFlags, flags: u32) -> u32 {
     let settled = if wanted.contains(BufferFlags::PRODUCE_SAFE_TO_INSERT_TATWEEL) {
         joins_settled(flags)
     } else {

@@ -21,7 +21,7 @@ const HARFBUZZ_PRESERVE: u32 = 4;
 const HARFBUZZ_REMOVE: u32 = 8;
 
 impl DefaultIgnorables {
-    /// What HarfBuzz's flags of a buffer (`hb_buffer_flags_t`) ask for, by bits 0x4 to preserve and
+    /// What HarfBuzz's flags of a buffer (`hb_buffer_flags_t`) request, by bits 0x4 to preserve and
     /// 0x8 to remove: where both are set, to preserve.
     ///
     /// <details><summary>Contract</summary>

@@ -2,7 +2,7 @@
 use Rattle.std.proofs.Common.{◌∙◌, ◌+◌, [], ap, length, min, sym, take}
 use Rattle.std.specs.Prelude.{count_by}
 use Rattle.std.specs.List.{prefix_len}
-use Rattle.shapers_position.specs.Ignorables.{is_default_ignorable, is_kept, removed_behind}
+use Rattle.shapers_position.specs.Ignorables.{is_default_ignorable, stays_in_text, removed_behind}
 use Rattle.shapers_position.proofs.RemovalSteps.{count_merged}
 use Rattle.shapers_position.proofs.ot_shape_position.hiding.GlyphRemovalGlyphWalk.walk.Goals as goal
 
@@ -12,6 +12,6 @@ returns c =
     let level = c.args.self.now.level in
     let e = min (prefix_len is_default_ignorable gs + 1) (length gs) in
     ap (λ n. take n c.remove_glyphs.new.glyphs) (sym (count_merged level 0 e gs))
-    ∙ ap (λ gs. take (count_by is_kept gs) c.remove_glyphs.new.glyphs) (sym c.merge_opening.ensures)
+    ∙ ap (λ gs. take (count_by stays_in_text gs) c.remove_glyphs.new.glyphs) (sym c.merge_opening.ensures)
     ∙ c.remove_glyphs.ensures
     ∙ ap (removed_behind []) c.merge_opening.ensures
