@@ -2,10 +2,13 @@
 //! pieces, each by itself, is what they make of the whole. docs/BREAKS.md has the laws.
 
 use sengadlit::alloc::Global;
-use sengadlit::buffer::{BufferFlags, GeneralCategory};
+use sengadlit::buffer::{BufferFlags, Direction, GeneralCategory};
 use sengadlit::categories::{indic, khmer, myanmar, universal};
 use sengadlit::font::NominalOnly;
 use sengadlit::map::FeatureMap;
+use sengadlit::ot_shaper_arabic::arabic_action_t::{
+    ISOL, NONE, STRETCHING_FIXED, STRETCHING_REPEATING,
+};
 use sengadlit::{
     Buffer, BufferClusterLevel, Font, GlyphId, GlyphInfo, GlyphPosition, Pause, Plan, Script,
     Shaper, Span, Tag, run_pause, script,
@@ -278,6 +281,20 @@ fn myanmar_breaks_at_every_clear_place() {
     assert!(counts.clear > 1000 && counts.flagged > 1000, "{counts:?}");
 }
 
+/// Makes a base of a second repha that opens a span: no syllable of the grammar opens with two.
+fn part_rephas(spans: &[Span], glyphs: &mut [GlyphInfo]) {
+    let mut rest = glyphs;
+    for span in spans {
+        let (syllable, behind) = rest.split_at_mut(span.len);
+        if let [first, second, ..] = syllable {
+            if first.category == universal::R && second.category == universal::R {
+                second.category = universal::B;
+            }
+        }
+        rest = behind;
+    }
+}
+
 #[test]
 fn universal_breaks_at_every_clear_place_but_for_masks_of_forms() {
     use universal::{
@@ -294,16 +311,7 @@ fn universal_breaks_at_every_clear_place_but_for_masks_of_forms() {
     for _ in 0..texts() {
         let mut glyphs = random_glyphs(&mut numbers, &categories, &[0]);
         let spans = random_spans(&mut numbers, glyphs.len(), 9);
-        // no syllable of the grammar opens with two rephas
-        let mut start = 0;
-        for span in &spans {
-            if let [first, second, ..] = &mut glyphs[start..start + span.len] {
-                if first.category == R && second.category == R {
-                    second.category = B;
-                }
-            }
-            start += span.len;
-        }
+        part_rephas(&spans, &mut glyphs);
         let buffer = buffer_of(&mut numbers, &glyphs);
         let pauses = Pauses {
             pauses: &[Pause::SetupSyllablesUse, Pause::ReorderUse],
@@ -409,33 +417,26 @@ fn is_monotone(glyphs: &[GlyphInfo]) -> bool {
 /// Indic's scripts: their specifications differ in the base, the reph and the left matra.
 const INDIC: [&[u8; 4]; 6] = [b"Deva", b"Beng", b"Mlym", b"Taml", b"Telu", b"Orya"];
 
-fn indic_breaks(pauses: &[Pause], seed: u64) {
-    use indic::{C, CM, CS, H, M, N, PLACEHOLDER, RS, Ra, Repha, SM, V, ZWJ, ZWNJ};
-    let categories = [
-        C,
-        C,
-        C,
-        CM,
-        CS,
-        H,
-        H,
-        H,
-        M,
-        M,
-        N,
-        PLACEHOLDER,
-        RS,
-        Ra,
-        Ra,
-        Repha,
-        SM,
-        V,
-        ZWJ,
-        ZWNJ,
-    ];
+/// A plan of one of these scripts, each of whose features has a lookup.
+fn indic_plan(numbers: &mut Numbers) -> Plan {
     let tags = features(&[b"rphf", b"pref", b"blwf", b"pstf", b"init", b"half"]);
     let stages: Vec<_> = (0..tags.len()).map(|stage| stage..stage + 1).collect();
     let lookups: Vec<u16> = (0..tags.len() as u16).collect();
+    let plan = Plan::builder()
+        .script(Script(*numbers.one_of(&INDIC)))
+        .features(&tags)
+        .stages(&stages)
+        .lookups(&lookups)
+        .chosen_script(numbers.one_of(&[None, Some(Tag(*b"dev2")), Some(Tag(*b"dev3"))]));
+    plan.build_for(Shaper::Indic).unwrap()
+}
+
+/// Breaks texts behind the pauses, where their clusters rise or fall then.
+fn indic_breaks(pauses: &[Pause], seed: u64) {
+    use indic::{C, CM, CS, H, M, N, PLACEHOLDER as GB, RS, Ra, Repha, SM, V, ZWJ, ZWNJ};
+    let categories = [
+        C, C, C, CM, CS, H, H, H, M, M, N, GB, RS, Ra, Ra, Repha, SM, V, ZWJ, ZWNJ,
+    ];
     let mut counts = Counts::default();
     let mut numbers = Numbers::new(seed);
     for _ in 0..texts() {
@@ -443,19 +444,12 @@ fn indic_breaks(pauses: &[Pause], seed: u64) {
         let spans = random_spans(&mut numbers, glyphs.len(), 6);
         indic_clusters(&mut numbers, &spans, &mut glyphs);
         let buffer = buffer_of(&mut numbers, &glyphs);
-        let plan = Plan::builder()
-            .script(Script(*numbers.one_of(&INDIC)))
-            .features(&tags)
-            .stages(&stages)
-            .lookups(&lookups)
-            .chosen_script(numbers.one_of(&[None, Some(Tag(*b"dev2")), Some(Tag(*b"dev3"))]));
-        let plan = plan.build_for(Shaper::Indic).unwrap();
-        let font = indic_font(&mut numbers);
+        let plan = indic_plan(&mut numbers);
         let pauses = Pauses {
             pauses,
             plan: &plan,
-            font: &font,
-            hidden: plan.ot_map.one_mask(Tag(*b"init")),
+            font: &indic_font(&mut numbers),
+            hidden: plan.ot_map.get_1_mask(Tag(*b"init")),
         };
         let mut whole = buffer.copy().unwrap();
         pauses.run(&spans, &mut whole);
@@ -463,7 +457,6 @@ fn indic_breaks(pauses: &[Pause], seed: u64) {
             pauses.break_text(&spans, &buffer, &mut counts);
         }
     }
-    eprintln!("{counts:?}");
     assert!(counts.clear > 1000 && counts.flagged > 1000, "{counts:?}");
 }
 
@@ -482,7 +475,7 @@ fn indic_breaks_after_both_reorderings() {
     indic_breaks(&pauses, 5);
 }
 
-/// A Thai text, and whether what is behind a glyph is a mark of its cluster.
+/// A Thai text; where marks join, each is in the cluster of the glyph before it.
 fn thai_text(numbers: &mut Numbers, marks_join: bool) -> Vec<GlyphInfo> {
     const MARKS: [u32; 9] = [
         0x0E31, 0x0E34, 0x0E38, 0x0E3A, 0x0E47, 0x0E48, 0x0E4D, 0x0E4E, 0x0EC8,
@@ -524,24 +517,9 @@ fn thai_breaks_where_clusters_meet_behind_sara_am() {
     let mut counts = Counts::default();
     for _ in 0..texts() {
         let glyphs = thai_text(&mut numbers, false);
-        let mut buffer = buffer_of(&mut numbers, &glyphs);
-        // each border of clusters is clear
-        let flagged = numbers.once_in(2);
-        if flagged {
-            for place in 0..buffer.len() {
-                let glyph = GlyphInfo {
-                    mask: 7,
-                    ..buffer.glyphs()[place]
-                };
-                buffer.set(place, glyph);
-            }
-        }
+        let buffer = buffer_of(&mut numbers, &glyphs);
         let hook = |buffer: &mut Buffer| {
             Shaper::Thai.preprocess_text(&plan, &font, buffer).unwrap();
-            for place in 0..buffer.len() {
-                let glyph = buffer.glyphs()[place];
-                buffer.set(place, GlyphInfo { mask: 0, ..glyph });
-            }
         };
         break_text(&buffer, &mut counts, hook);
     }
@@ -585,34 +563,36 @@ fn is_thai_mark(c: u32) -> bool {
     matches!(c, 0x0E31 | 0x0E34..=0x0E3A | 0x0E47..=0x0E4E)
 }
 
-#[test]
-fn hangul_breaks_by_graphemes_where_tones_share_the_cluster_before_them() {
+/// A text of Hangul, each tone in the cluster of the glyph before it.
+fn hangul_text(numbers: &mut Numbers) -> Vec<GlyphInfo> {
     const CHARACTERS: [u32; 16] = [
         0x1100, 0x1101, 0x115F, 0xA960, 0x1161, 0x1162, 0x1160, 0xD7B0, 0x11A8, 0x11A9, 0x11C3,
         0xD7CB, 0xAC00, 0xAC01, 0xAC1C, 0x41,
     ];
+    let count = numbers.below(10);
+    let mut glyphs: Vec<GlyphInfo> = Vec::new();
+    for mut cluster in monotone_clusters(numbers, count) {
+        let mut glyph_id = numbers.one_of(&CHARACTERS);
+        if numbers.once_in(4) {
+            glyph_id = numbers.one_of(&[0x302E, 0x302F]);
+            cluster = glyphs.last().map_or(cluster, |last| last.cluster);
+        }
+        glyphs.push(GlyphInfo {
+            glyph_id,
+            cluster,
+            ..GlyphInfo::DEFAULT
+        });
+    }
+    glyphs
+}
+
+#[test]
+fn hangul_breaks_by_graphemes_where_tones_share_the_cluster_before_them() {
     let plan = plan_of(Shaper::Hangul, Script(*b"Hang"), &[]);
     let mut numbers = Numbers::new(8);
     let mut counts = Counts::default();
     for _ in 0..texts() {
-        let count = numbers.below(10);
-        let mut glyphs: Vec<GlyphInfo> = Vec::new();
-        for mut cluster in monotone_clusters(&mut numbers, count) {
-            let is_tone = numbers.once_in(4);
-            if let (true, Some(last)) = (is_tone, glyphs.last()) {
-                cluster = last.cluster;
-            }
-            let glyph_id = if is_tone {
-                0x302E + numbers.below(2) as u32
-            } else {
-                numbers.one_of(&CHARACTERS)
-            };
-            glyphs.push(GlyphInfo {
-                glyph_id,
-                cluster,
-                ..GlyphInfo::DEFAULT
-            });
-        }
+        let glyphs = hangul_text(&mut numbers);
         if !is_monotone(&glyphs) {
             continue;
         }
@@ -621,83 +601,88 @@ fn hangul_breaks_by_graphemes_where_tones_share_the_cluster_before_them() {
         buffer.set_flags(BufferFlags(numbers.one_of(&[0, 0x10])));
         let font = hangul_font(&mut numbers);
         let hook = |buffer: &mut Buffer| {
-            Shaper::Hangul
-                .preprocess_text(&plan, &font, buffer)
-                .unwrap();
+            let done = Shaper::Hangul.preprocess_text(&plan, &font, buffer);
+            done.unwrap();
         };
         break_text(&buffer, &mut counts, hook);
     }
     assert!(counts.clear > 1000, "{counts:?}");
 }
 
-/// Marks of these classes behind a letter and before one: a run that is ordered by class.
-fn break_marks(shaper: Shaper, classes: &[u8], seed: u64) {
+/// A text with a run of marks of these classes, in order; the run is in one cluster, or flagged.
+fn marked_text(numbers: &mut Numbers, classes: &[u8]) -> (Buffer, Range<usize>) {
+    let start = numbers.below(4);
+    let end = start + numbers.below(6);
+    let count = end + numbers.below(4);
+    let mut of_run: Vec<u8> = (start..end).map(|_| numbers.one_of(classes)).collect();
+    of_run.sort_unstable();
+    let classes = vec![0; start]
+        .into_iter()
+        .chain(of_run)
+        .chain(vec![0; count - end]);
+    let clusters = monotone_clusters(numbers, count);
+    let mut glyphs: Vec<_> = clusters
+        .into_iter()
+        .zip(classes)
+        .map(|(cluster, class)| GlyphInfo {
+            glyph_id: numbers.one_of(&[0x0654, 0x0655, 0x0658, 0x06DC, 0x05B7, 0x41]),
+            cluster,
+            modified_combining_class: class,
+            ..GlyphInfo::DEFAULT
+        })
+        .collect();
+    let is_one = numbers.once_in(2);
+    if let (true, Some(first)) = (
+        is_one,
+        glyphs[start..end].first().map(|glyph| glyph.cluster),
+    ) {
+        glyphs[start..end]
+            .iter_mut()
+            .for_each(|glyph| glyph.cluster = first);
+    }
+    let mut buffer = buffer_of(numbers, &glyphs);
+    if !is_one {
+        buffer.unsafe_to_break(start, end);
+    }
+    (buffer, start..end)
+}
+
+/// Breaks a text at each clear place behind the order of its marks, of which each half has its part.
+fn break_run(shaper: Shaper, buffer: &Buffer, run: &Range<usize>, counts: &mut Counts) {
     let plan = plan_of(shaper, script::HEBREW, &[]);
+    let order = |buffer: &mut Buffer, run: Range<usize>| {
+        let there = shaper.reorder_marks(&plan, buffer, run.start, run.end);
+        assert_eq!(there, Some(()));
+    };
+    let mut whole = buffer.copy().unwrap();
+    order(&mut whole, run.clone());
+    for place in 1..whole.len() {
+        if !is_clear(whole.glyphs(), place) {
+            continue;
+        }
+        counts.clear += 1;
+        let mut front = piece(buffer, 0..place);
+        let mut back = piece(buffer, place..buffer.len());
+        order(&mut front, run.start.min(place)..run.end.min(place));
+        order(
+            &mut back,
+            run.start.max(place) - place..run.end.max(place) - place,
+        );
+        assert!(
+            is_joined(&whole, &front, &back, 0),
+            "{:x?} with {run:?} at {place}",
+            buffer.glyphs()
+        );
+    }
+}
+
+fn break_marks(shaper: Shaper, classes: &[u8], seed: u64) {
     let mut numbers = Numbers::new(seed);
     let mut counts = Counts::default();
     for _ in 0..texts() {
-        let front = numbers.below(4);
-        let inside = numbers.below(6);
-        let count = front + inside + numbers.below(4);
-        let run = front..front + inside;
-        let mut of_run: Vec<u8> = run.clone().map(|_| numbers.one_of(classes)).collect();
-        of_run.sort_unstable();
-        let is_one = numbers.once_in(2);
-        let mut glyphs: Vec<GlyphInfo> = Vec::new();
-        for (place, mut cluster) in monotone_clusters(&mut numbers, count)
-            .into_iter()
-            .enumerate()
-        {
-            let mark = of_run
-                .get(place.wrapping_sub(front))
-                .filter(|_| run.contains(&place));
-            if let (true, true, Some(last)) =
-                (is_one, place > front && mark.is_some(), glyphs.last())
-            {
-                cluster = last.cluster;
-            }
-            let glyph_id = numbers.one_of(&[0x0654, 0x0655, 0x0658, 0x06DC, 0x05B7, 0x41]);
-            let modified_combining_class = mark.copied().unwrap_or(0);
-            glyphs.push(GlyphInfo {
-                glyph_id,
-                cluster,
-                modified_combining_class,
-                ..GlyphInfo::DEFAULT
-            });
-        }
-        if !is_monotone(&glyphs) {
-            continue;
-        }
-        let mut buffer = buffer_of(&mut numbers, &glyphs);
-        if !is_one {
-            buffer.unsafe_to_break(run.start, run.end);
-        }
-        let mut whole = buffer.copy().unwrap();
-        shaper
-            .reorder_marks(&plan, &mut whole, run.start, run.end)
-            .unwrap();
-        let glyphs = whole.glyphs();
-        for place in 1..whole.len() {
-            if !is_clear(glyphs, place) {
-                counts.flagged += usize::from(glyphs[place - 1].cluster != glyphs[place].cluster);
-                continue;
-            }
-            counts.clear += 1;
-            let mut first = piece(&buffer, 0..place);
-            let mut back = piece(&buffer, place..buffer.len());
-            let in_first = run.start.min(place)..run.end.min(place);
-            let in_back = run.start.max(place) - place..run.end.max(place) - place;
-            shaper
-                .reorder_marks(&plan, &mut first, in_first.start, in_first.end)
-                .unwrap();
-            shaper
-                .reorder_marks(&plan, &mut back, in_back.start, in_back.end)
-                .unwrap();
-            assert!(
-                is_joined(&whole, &first, &back, 0),
-                "{:x?} with {run:?} at {place}",
-                buffer.glyphs()
-            );
+        let (buffer, run) = marked_text(&mut numbers, classes);
+        if is_monotone(buffer.glyphs()) {
+            break_run(shaper, &buffer, &run, &mut counts);
         }
     }
     assert!(counts.clear > 1000, "{counts:?}");
@@ -713,49 +698,48 @@ fn marks_of_arabic_break_at_every_clear_place() {
     break_marks(Shaper::Arabic, &[22, 26, 27, 220, 230, 230], 10);
 }
 
+/// A text with tiles of stretched marks among letters and spaces, with positions.
+fn stretched_text(numbers: &mut Numbers) -> Buffer {
+    const ACTIONS: [u8; 4] = [ISOL, NONE, STRETCHING_FIXED, STRETCHING_REPEATING];
+    const CATEGORIES: [GeneralCategory; 3] = [
+        GeneralCategory::Lo,
+        GeneralCategory::Mn,
+        GeneralCategory::Zs,
+    ];
+    let count = numbers.below(12);
+    let clusters = monotone_clusters(numbers, count);
+    let glyph = |cluster| GlyphInfo {
+        glyph_id: numbers.below(6) as u32,
+        cluster,
+        auxiliary: numbers.one_of(&ACTIONS),
+        general_category: numbers.one_of(&CATEGORIES),
+        ..GlyphInfo::DEFAULT
+    };
+    let glyphs: Vec<_> = clusters.into_iter().map(glyph).collect();
+    let position = |glyph: &GlyphInfo| GlyphPosition {
+        x_advance: 1 + glyph.glyph_id as i32 * numbers.below(4) as i32,
+        ..GlyphPosition::ZERO
+    };
+    let positions: Vec<_> = glyphs.iter().map(position).collect();
+    let mut buffer = buffer_of(numbers, &glyphs);
+    buffer.set_max_len(4096);
+    buffer.set_positions(positions.into());
+    buffer.set_has_stch(true);
+    buffer.set_direction(numbers.one_of(&[Direction::LeftToRight, Direction::RightToLeft]));
+    buffer
+}
+
 #[test]
 fn stretched_marks_break_at_every_clear_place_with_positions() {
-    use sengadlit::buffer::Direction;
-    use sengadlit::ot_shaper_arabic::arabic_action_t::{
-        ISOL, NONE, STRETCHING_FIXED, STRETCHING_REPEATING,
-    };
-    let tags = features(&[b"stch"]);
-    let plan = plan_of(Shaper::Arabic, script::SYRIAC, &tags);
+    let plan = plan_of(Shaper::Arabic, script::SYRIAC, &features(&[b"stch"]));
+    let font = wide_font();
     let mut numbers = Numbers::new(11);
     let mut counts = Counts::default();
     for _ in 0..texts() {
-        let count = numbers.below(12);
-        let clusters = monotone_clusters(&mut numbers, count);
-        let glyphs: Vec<GlyphInfo> = clusters
-            .into_iter()
-            .map(|cluster| GlyphInfo {
-                glyph_id: numbers.below(6) as u32,
-                cluster,
-                auxiliary: numbers.one_of(&[ISOL, NONE, STRETCHING_FIXED, STRETCHING_REPEATING]),
-                general_category: numbers.one_of(&[
-                    GeneralCategory::Lo,
-                    GeneralCategory::Mn,
-                    GeneralCategory::Zs,
-                ]),
-                ..GlyphInfo::DEFAULT
-            })
-            .collect();
-        let mut buffer = buffer_of(&mut numbers, &glyphs);
-        buffer.set_max_len(4096);
-        let positions: Vec<_> = glyphs
-            .iter()
-            .map(|glyph| GlyphPosition {
-                x_advance: 1 + glyph.glyph_id as i32 * numbers.below(4) as i32,
-                ..GlyphPosition::ZERO
-            })
-            .collect();
-        buffer.set_positions(positions.into());
-        buffer.set_has_stch(true);
-        buffer.set_direction(numbers.one_of(&[Direction::LeftToRight, Direction::RightToLeft]));
+        let buffer = stretched_text(&mut numbers);
         let hook = |buffer: &mut Buffer| {
-            Shaper::Arabic
-                .postprocess_glyphs(&plan, &wide_font(), buffer)
-                .unwrap();
+            let done = Shaper::Arabic.postprocess_glyphs(&plan, &font, buffer);
+            done.unwrap();
         };
         break_text(&buffer, &mut counts, hook);
     }
