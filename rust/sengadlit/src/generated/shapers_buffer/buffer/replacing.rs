@@ -38,6 +38,10 @@ impl Buffer {
     ///
     /// [`TooLong`] and [`Memory`]; nothing has changed then.
     ///
+    /// # Panics
+    ///
+    /// Where the rewriting does. Where the buffer has positions, they are no longer one per glyph.
+    ///
     /// <details><summary>Contract</summary>
     ///
     /// # Contract

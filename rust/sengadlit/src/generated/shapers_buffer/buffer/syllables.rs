@@ -69,6 +69,11 @@ impl Buffer {
     ///
     /// [`SpansDontCover`]; nothing has changed then.
     ///
+    /// # Panics
+    ///
+    /// May panic where the kind of a span is above 15, in a build with overflow checks; in another one the syllable's byte is
+    /// of another kind.
+    ///
     /// <details><summary>Contract</summary>
     ///
     /// # Contract
