@@ -449,7 +449,7 @@ fn indic_breaks(pauses: &[Pause], seed: u64) {
             pauses,
             plan: &plan,
             font: &indic_font(&mut numbers),
-            hidden: plan.ot_map.get_1_mask(Tag(*b"init")),
+            hidden: plan.ot_map.one_mask(Tag(*b"init")),
         };
         let mut whole = buffer.copy().unwrap();
         pauses.run(&spans, &mut whole);
