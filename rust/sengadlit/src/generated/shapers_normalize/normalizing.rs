@@ -31,7 +31,8 @@ pub struct NormalizeSettings {
 /// # Errors
 ///
 /// `TooLong` where the text taken apart is longer than the buffer may be, and `Memory`; nothing
-/// has changed then. (HarfBuzz's normalizer; Unicode Standard Annex 15.)
+/// has changed then. A text of which nothing comes apart takes no memory. (HarfBuzz's normalizer;
+/// Unicode Standard Annex 15.)
 ///
 /// <details><summary>Contract</summary>
 ///
@@ -50,11 +51,19 @@ pub struct NormalizeSettings {
 ///     settings.now.draws_selectors in
 ///     RefusesLength buffer.old.max_len
 ///     (length (first_round context buffer.old.level buffer.old.glyphs)) result }
+/// ensures memory { let context = shaper_context shaper plan.now (F.font font.now) (F.variants font.now)
+///     (T.tables tables.now) (T.texts tables.now) settings.now.invisible_glyph
+///     settings.now.draws_selectors in
+///     is_whole context buffer.old.glyphs ≡ true → IsOk result }
+/// ensures in_place { let context = shaper_context shaper plan.now (F.font font.now) (F.variants font.now)
+///     (T.tables tables.now) (T.texts tables.now) settings.now.invisible_glyph
+///     settings.now.draws_selectors in
+///     stays_together context buffer.old.glyphs ≡ true → IsOk result }
 /// ensures err { OnErr result (buffer.new ≡ buffer.old) }
 /// ```
 ///
 /// - `RefusesLength`: `crates/shapers_buffer/specs/Refusals.antt`
-/// - `first_round`: `crates/shapers_normal/specs/Decomposition.antt`
+/// - `first_round`, `is_whole`, `stays_together`: `crates/shapers_normal/specs/Decomposition.antt`
 /// - `normalized`: `crates/shapers_normal/specs/Normalization.antt`
 /// - `shaper_context`: `crates/shapers_normalize/specs/ByShaper.antt`
 ///
