@@ -1,7 +1,7 @@
 //! Normalization of a text for a shaper.
-ghost use Rattle.std.specs.Prelude.{◌≡◌, [], length, OnOk, OnErr};
+ghost use Rattle.std.specs.Prelude.{◌≡◌, [], length, IsOk, OnOk, OnErr, true};
 ghost use Rattle.shapers_buffer.specs.Refusals.{RefusesLength};
-ghost use Rattle.shapers_normal.specs.Decomposition.{first_round};
+ghost use Rattle.shapers_normal.specs.Decomposition.{first_round, is_whole, stays_together};
 ghost use Rattle.shapers_normal.specs.Normalization.{normalized};
 ghost use Rattle.shapers_normalize.specs.ByShaper.{shaper_context};
 
@@ -34,7 +34,8 @@ pub struct NormalizeSettings {
 /// # Errors
 ///
 /// `TooLong` where the text taken apart is longer than the buffer may be, and `Memory`; nothing
-/// has changed then. (HarfBuzz's normalizer; Unicode Standard Annex 15.)
+/// has changed then. A text of which nothing comes apart takes no memory. (HarfBuzz's normalizer;
+/// Unicode Standard Annex 15.)
 pub fn ot_shape_normalize<F: NormalizeFont, T: NormalizeTables>(
     shaper: Option<hb_ot_shaper_t>,
     plan: &hb_ot_shape_plan_t,
@@ -55,6 +56,14 @@ pub fn ot_shape_normalize<F: NormalizeFont, T: NormalizeTables>(
         settings.now.draws_selectors in
         RefusesLength buffer.old.max_len
         (length (first_round context buffer.old.level buffer.old.glyphs)) result }
+    ensures memory { let context = shaper_context shaper plan.now (F.font font.now) (F.variants font.now)
+        (T.tables tables.now) (T.texts tables.now) settings.now.invisible_glyph
+        settings.now.draws_selectors in
+        is_whole context buffer.old.glyphs ≡ true → IsOk result }
+    ensures in_place { let context = shaper_context shaper plan.now (F.font font.now) (F.variants font.now)
+        (T.tables tables.now) (T.texts tables.now) settings.now.invisible_glyph
+        settings.now.draws_selectors in
+        stays_together context buffer.old.glyphs ≡ true → IsOk result }
     ensures err { OnErr result (buffer.new ≡ buffer.old) }
 {
     let context = ShaperContext {

@@ -1,8 +1,8 @@
 //! The three rounds, one after another.
-ghost use Rattle.std.specs.Prelude.{◌≡◌, ◌≤◌, [], length, take, if◌then◌else◌, OnOk, OnErr};
+ghost use Rattle.std.specs.Prelude.{◌≡◌, ◌≤◌, [], length, take, if◌then◌else◌, IsOk, OnOk, OnErr, true};
 ghost use Rattle.std.specs.List.{list_any};
 ghost use Rattle.shapers_buffer.specs.Refusals.{RefusesLength};
-ghost use Rattle.shapers_normal.specs.Decomposition.{first_round};
+ghost use Rattle.shapers_normal.specs.Decomposition.{first_round, is_whole, stays_together};
 ghost use Rattle.shapers_normal.specs.Normalization.{composes, has_rounds, joiners_shown, later_rounds, normalized, passes_over};
 ghost use Rattle.shapers_normal.specs.Sorting.{is_mark_glyph, marks_ordered};
 
@@ -31,7 +31,8 @@ pub enum Rounds {
 /// Normalizes a text without positions, whose glyphs are characters with their properties: takes
 /// them apart, orders the marks, and composes what the font has. `var` is then the number of each
 /// character's glyph. Refuses where the text taken apart is longer than the buffer may be, and then
-/// nothing has changed. (Unicode Standard Annex 15; HarfBuzz's order of rounds.)
+/// nothing has changed. A text of which nothing comes apart takes no memory. (Unicode Standard Annex
+/// 15; HarfBuzz's order of rounds.)
 pub fn normalize<C: NormalizeContext>(
     context: &C,
     rounds: Rounds,
@@ -43,6 +44,8 @@ pub fn normalize<C: NormalizeContext>(
         OnOk result (buffer.new ≡ record buffer.old { glyphs = text }) }
     ensures length { let text = first_round (C.context context.now) buffer.old.level buffer.old.glyphs in
         RefusesLength buffer.old.max_len (length text) result }
+    ensures memory { is_whole (C.context context.now) buffer.old.glyphs ≡ true → IsOk result }
+    ensures in_place { stays_together (C.context context.now) buffer.old.glyphs ≡ true → IsOk result }
     ensures err { OnErr result (buffer.new ≡ buffer.old) }
 {
     let runs = has_rounds(rounds, buffer.glyphs());

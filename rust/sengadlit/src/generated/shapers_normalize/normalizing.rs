@@ -11,7 +11,7 @@ use crate::generated::shapers_normalize::context::ShaperContext;
 use crate::generated::shapers_normalize::tables::{NormalizeFont, NormalizeTables};
 
 /// The caller's settings.
-#[derive(Clone, Copy, Debug, PartialEq, Eq, Default, Hash)]
+#[derive(Clone, Copy, Debug, PartialEq, Eq, Default)]
 pub struct NormalizeSettings {
     /// When marks are ordered and composed.
     pub rounds: Rounds,
@@ -25,17 +25,14 @@ pub struct NormalizeSettings {
 
 /// Normalizes a text without positions, whose glyphs are characters with their properties, for a
 /// shaper with its plan, a font and Unicode's tables: by the shaper's own `decompose`, `compose`
-/// and [`reorder_marks`], and where it lacks one by the tables. `var` is then the number of each
+/// and `reorder_marks`, and where it lacks one by the tables. `var` is then the number of each
 /// character's glyph. None stands for the shaper of a script that needs none.
 ///
 /// # Errors
 ///
-/// [`TooLong`] where the text taken apart is longer than the buffer may be, and [`Memory`]; nothing
-/// has changed then. (HarfBuzz's normalizer; Unicode Standard Annex 15.)
-///
-/// # Panics
-///
-/// Where the font or the tables do. May panic, or leave an unspecified text, where the buffer has positions.
+/// `TooLong` where the text taken apart is longer than the buffer may be, and `Memory`; nothing
+/// has changed then. A text of which nothing comes apart takes no memory. (HarfBuzz's normalizer;
+/// Unicode Standard Annex 15.)
 ///
 /// <details><summary>Contract</summary>
 ///
@@ -54,19 +51,23 @@ pub struct NormalizeSettings {
 ///     settings.now.draws_selectors in
 ///     RefusesLength buffer.old.max_len
 ///     (length (first_round context buffer.old.level buffer.old.glyphs)) result }
+/// ensures memory { let context = shaper_context shaper plan.now (F.font font.now) (F.variants font.now)
+///     (T.tables tables.now) (T.texts tables.now) settings.now.invisible_glyph
+///     settings.now.draws_selectors in
+///     is_whole context buffer.old.glyphs ≡ true → IsOk result }
+/// ensures in_place { let context = shaper_context shaper plan.now (F.font font.now) (F.variants font.now)
+///     (T.tables tables.now) (T.texts tables.now) settings.now.invisible_glyph
+///     settings.now.draws_selectors in
+///     stays_together context buffer.old.glyphs ≡ true → IsOk result }
 /// ensures err { OnErr result (buffer.new ≡ buffer.old) }
 /// ```
 ///
 /// - `RefusesLength`: `crates/shapers_buffer/specs/Refusals.antt`
-/// - `first_round`: `crates/shapers_normal/specs/Decomposition.antt`
+/// - `first_round`, `is_whole`, `stays_together`: `crates/shapers_normal/specs/Decomposition.antt`
 /// - `normalized`: `crates/shapers_normal/specs/Normalization.antt`
 /// - `shaper_context`: `crates/shapers_normalize/specs/ByShaper.antt`
 ///
 /// </details>
-///
-/// [`Memory`]: crate::ShaperError::Memory
-/// [`TooLong`]: crate::ShaperError::TooLong
-/// [`reorder_marks`]: crate::Shaper::reorder_marks
 pub fn ot_shape_normalize<F: NormalizeFont, T: NormalizeTables>(
     shaper: Option<Shaper>,
     plan: &Plan,

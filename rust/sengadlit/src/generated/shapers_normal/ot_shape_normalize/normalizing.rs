@@ -27,7 +27,8 @@ pub enum Rounds {
 /// Normalizes a text without positions, whose glyphs are characters with their properties: takes
 /// them apart, orders the marks, and composes what the font has. `var` is then the number of each
 /// character's glyph. Refuses where the text taken apart is longer than the buffer may be, and then
-/// nothing has changed. (Unicode Standard Annex 15; HarfBuzz's order of rounds.)
+/// nothing has changed. A text of which nothing comes apart takes no memory. (Unicode Standard Annex
+/// 15; HarfBuzz's order of rounds.)
 ///
 /// # Errors
 ///
@@ -48,11 +49,13 @@ pub enum Rounds {
 ///     OnOk result (buffer.new ≡ record buffer.old { glyphs = text }) }
 /// ensures length { let text = first_round (C.context context.now) buffer.old.level buffer.old.glyphs in
 ///     RefusesLength buffer.old.max_len (length text) result }
+/// ensures memory { is_whole (C.context context.now) buffer.old.glyphs ≡ true → IsOk result }
+/// ensures in_place { stays_together (C.context context.now) buffer.old.glyphs ≡ true → IsOk result }
 /// ensures err { OnErr result (buffer.new ≡ buffer.old) }
 /// ```
 ///
 /// - `RefusesLength`: `crates/shapers_buffer/specs/Refusals.antt`
-/// - `first_round`: `crates/shapers_normal/specs/Decomposition.antt`
+/// - `first_round`, `is_whole`, `stays_together`: `crates/shapers_normal/specs/Decomposition.antt`
 /// - `normalized`: `crates/shapers_normal/specs/Normalization.antt`
 ///
 /// </details>
