@@ -134,14 +134,14 @@ last context w f s b r a =
 
 -- ---- a mark that is taken in
 
-drawn_by : (c : ℕ) (o : Option GlyphId) (drawn : ℕ × GlyphId) → option_map (λ glyph. (c, glyph)) o ≡ Some drawn
+drawn_as : (c : ℕ) (o : Option GlyphId) (drawn : ℕ × GlyphId) → option_map (λ glyph. (c, glyph)) o ≡ Some drawn
     → c ≡ drawn.0
-drawn_by c None drawn e = absurd (none-some drawn e)
-drawn_by c (Some glyph) drawn e = ap (λ (o : Option (ℕ × GlyphId)). option_map_or (λ p. p.0) o c) e
+drawn_as c None drawn e = absurd (none-some drawn e)
+drawn_as c (Some glyph) drawn e = ap (λ (o : Option (ℕ × GlyphId)). option_map_or (λ p. p.0) o c) e
 
 drawn_of : (context : Context) (o : Option ℕ) (drawn : ℕ × GlyphId) → if_drawn context o ≡ Some drawn → o ≡ Some drawn.0
 drawn_of context None drawn e = absurd (none-some drawn e)
-drawn_of context (Some c) drawn e = ap Some (drawn_by c (context.nominal c) drawn e)
+drawn_of context (Some c) drawn e = ap Some (drawn_as c (context.nominal c) drawn e)
 
 -- what has come of both, and that nothing keeps the mark from the starter
 made_of : (context : Context) (o : Option ℕ) (drawn : ℕ × GlyphId) (b : Bool)
