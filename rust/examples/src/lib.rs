@@ -1,9 +1,7 @@
-//! Real fonts, shaped with `sengadlit`: a small GSUB and GPOS over read-fonts, positions, and
-//! outlines.
+//! Real fonts, shaped with `sengadlit`: a small GSUB and GPOS over read-fonts, and outlines.
 #![forbid(unsafe_code)]
 
 pub mod arguments;
-pub mod driver;
 pub mod features;
 pub mod font;
 pub mod lookups;
@@ -13,5 +11,18 @@ pub mod run;
 pub mod scripts;
 pub mod svg;
 
-pub use driver::shape;
 pub use font::OpenType;
+
+use sengadlit::ot_shape::ShapeSettings;
+use sengadlit::ot_shape_normalize::{NormalizeSettings, Rounds};
+use sengadlit::ot_shape_position::DefaultIgnorables;
+
+/// How a text is shaped as HarfBuzz shapes it.
+pub const SETTINGS: ShapeSettings = ShapeSettings {
+    normalize: NormalizeSettings {
+        rounds: Rounds::AsCode,
+        invisible_glyph: None,
+        draws_selectors: false,
+    },
+    ignorables: DefaultIgnorables::Hide,
+};

@@ -43,30 +43,18 @@ impl Lookups for Layout<'_> {
         *buffer = text;
         Ok(())
     }
+
+    fn position(&self, lookup: &StageLookup, buffer: &mut Buffer) -> Result<(), ShaperError> {
+        Pass::new(self, TableIndex::GPOS, *lookup, buffer).run()
+    }
+
+    fn finish_positions(&self, buffer: &mut Buffer) {
+        gpos::finish_offsets(buffer);
+    }
 }
 
 impl GlyphClasses for Layout<'_> {
     fn is_mark(&self, glyph: &GlyphInfo) -> bool {
         Notes::of(glyph).is_mark()
-    }
-}
-
-impl Layout<'_> {
-    /// Applies one lookup of GPOS.
-    ///
-    /// # Errors
-    ///
-    /// None: nothing gets longer.
-    pub fn position_all(
-        &self,
-        lookup: &StageLookup,
-        buffer: &mut Buffer,
-    ) -> Result<(), ShaperError> {
-        Pass::new(self, TableIndex::GPOS, *lookup, buffer).run()
-    }
-
-    /// Moves what is attached to other glyphs, behind the last lookup of GPOS.
-    pub fn finish_positions(&self, buffer: &mut Buffer) {
-        gpos::finish_offsets(buffer);
     }
 }

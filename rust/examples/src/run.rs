@@ -1,10 +1,11 @@
 //! A text of one script, shaped: its clusters in the order of the text, and any part of it shaped
 //! again alone.
 
-use crate::driver::shape;
+use crate::SETTINGS;
 use crate::font::OpenType;
 use sengadlit::alloc::Global;
 use sengadlit::buffer::glyph_flag;
+use sengadlit::ot_shape::{ShapeSettings, shape};
 use sengadlit::ot_shape_normalize::{NormalizeSettings, Rounds};
 use sengadlit::ot_shape_plan::ShapePlan;
 use sengadlit::ot_shape_prepare::set_unicode_properties;
@@ -67,8 +68,10 @@ impl<'f, 'a> Shaping<'f, 'a> {
         buffer.set_script(Some(self.script));
         buffer.set_direction(self.direction);
         buffer.push_str(&text[part.clone()])?;
-        let settings = NormalizeSettings { rounds: Rounds::Always, ..Default::default() };
-        shape(&self.plan, &settings, self.font, &mut buffer)?;
+        let normalize = NormalizeSettings { rounds: Rounds::Always, ..SETTINGS.normalize };
+        let settings = ShapeSettings { normalize, ..SETTINGS };
+        let layout = &self.font.layout;
+        shape(&self.plan, &settings, self.font, &UnicodeTables, layout, &mut buffer)?;
         let glyphs: Glyphs =
             buffer.iter().copied().zip(buffer.positions().iter().copied()).collect();
         let mut clusters: Vec<Cluster> = glyphs

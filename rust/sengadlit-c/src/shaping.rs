@@ -11,14 +11,10 @@ use sengadlit::alloc::{Global, Vec as List};
 use sengadlit::buffer::{Buffer as Inner, Direction, ShaperError, Tag};
 use sengadlit::font::{FeaturesOnly, Font as AnswersFont, GlyphId};
 use sengadlit::map::TableIndex;
-use sengadlit::ot_shape;
-use sengadlit::ot_shape_normalize::{NormalizeFont, NormalizeSettings};
+use sengadlit::ot_shape::{self, ShapeSettings};
+use sengadlit::ot_shape_normalize::{NormalizeFont, NormalizeSettings, Rounds};
 use sengadlit::ot_shape_plan::{FontFeatures, ShapePlan as Plan, UserFeature as Wanted};
-use sengadlit::ot_shape_position::{
-    DefaultIgnorables, hide_default_ignorables, propagate_flags, set_advances, zero_mark_widths,
-    zero_width_default_ignorables,
-};
-use sengadlit::plan::ZeroWidthMarks;
+use sengadlit::ot_shape_position::DefaultIgnorables;
 use sengadlit::shaper::Shaper;
 use sengadlit::shaper::checked::CallError;
 use sengadlit::unicode::UnicodeTables;
@@ -181,6 +177,16 @@ pub fn settled(text: &Inner) -> Inner {
     empty
 }
 
+/// How a text is shaped as HarfBuzz shapes it.
+const SETTINGS: ShapeSettings = ShapeSettings {
+    normalize: NormalizeSettings {
+        rounds: Rounds::AsCode,
+        invisible_glyph: None,
+        draws_selectors: false,
+    },
+    ignorables: DefaultIgnorables::Hide,
+};
+
 /// `sengadlit_substitute_text`.
 pub fn substitute_text(
     plan: &ShapePlan,
@@ -194,7 +200,9 @@ pub fn substitute_text(
     let font = ShapedFont { font, lookups };
     buffer.are_characters()?;
     buffer.run(Takes::Numbers, |inner| {
-        substitute(plan, &font, lookups, inner)
+        let settings = &SETTINGS.normalize;
+        let done = ot_shape::substitute_text(plan, settings, &font, &UnicodeTables, lookups, inner);
+        done.map_err(of_call)
     })?;
     Ok(Status::Done)
 }
@@ -213,18 +221,8 @@ pub fn shape(
     let font = ShapedFont { font, lookups };
     buffer.are_characters()?;
     buffer.run_to_positions(Takes::Numbers, |inner| {
-        let direction = inner.direction();
-        substitute(plan, &font, lookups, inner)?;
-        set_advances(&font, inner)?;
-        position(plan, lookups, inner)?;
-        hide_default_ignorables(DefaultIgnorables::Hide, None, &font, inner);
-        if let Some(shaper) = plan.shaper() {
-            let done = shaper.checked_postprocess_glyphs(plan.plan(), &font, inner);
-            done.map_err(of_call)?;
-        }
-        propagate_flags(inner);
-        inner.set_direction(direction);
-        Ok(())
+        let done = ot_shape::shape(plan, &SETTINGS, &font, &UnicodeTables, lookups, inner);
+        done.map_err(of_call)
     })?;
     Ok(Status::Done)
 }
@@ -235,46 +233,4 @@ fn of_call(error: CallError) -> Error {
         CallError::Refused(refusal) => refusal.into(),
         CallError::Condition(condition) => unreachable!("{condition:?} isn't met"),
     }
-}
-
-// From characters to the glyphs behind the last stage of lookups.
-fn substitute(
-    plan: &Plan,
-    font: &ShapedFont<'_>,
-    lookups: &AskedLookups<'_>,
-    text: &mut Inner,
-) -> Result<(), Error> {
-    let settings = NormalizeSettings::default();
-    let done = ot_shape::substitute_text(plan, &settings, font, &UnicodeTables, lookups, text);
-    done.map_err(of_call)
-}
-
-// The lookups of GPOS, and marks without a width before or behind them, which without GPOS hang over the glyph before them. The
-// glyphs are then in the order in which they are drawn.
-fn position(plan: &Plan, lookups: &AskedLookups<'_>, text: &mut Inner) -> Result<(), ShaperError> {
-    let runs_backward = matches!(
-        text.direction(),
-        Direction::RightToLeft | Direction::BottomToTop
-    );
-    let when = plan
-        .shaper()
-        .map_or(ZeroWidthMarks::GDEF_LATE, Shaper::zero_width_marks);
-    let hang = !plan.applies_gpos() && !runs_backward;
-    if when == ZeroWidthMarks::GDEF_EARLY {
-        zero_mark_widths(lookups, hang, text);
-    }
-    if plan.applies_gpos() {
-        for lookup in plan.positioning() {
-            lookups.position(lookup, text)?;
-        }
-    }
-    if when == ZeroWidthMarks::GDEF_LATE {
-        zero_mark_widths(lookups, hang, text);
-    }
-    zero_width_default_ignorables(DefaultIgnorables::Hide, text);
-    lookups.finish_positions(text)?;
-    if runs_backward {
-        text.reverse();
-    }
-    Ok(())
 }

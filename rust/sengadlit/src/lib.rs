@@ -59,7 +59,7 @@
 //!    visual order by then: a text from right to left is reversed.
 //!
 //! [`Buffer::clear`] makes the buffer ready for another text. With the feature `text`, `ot_shape` takes
-//! a text through all of these steps up to the last of a caller's lookups, in at most 15 lines.
+//! a text through all of these steps, with a caller's lookups, in at most 15 lines.
 //!
 //! A Khmer word between steps 4 and 5:
 //!

@@ -9,12 +9,13 @@
 
 use sengadlit::alloc::Global;
 use sengadlit::buffer::glyph_flag;
-use sengadlit::ot_shape_normalize::NormalizeSettings;
+use sengadlit::ot_shape::shape;
 use sengadlit::ot_shape_plan::ShapePlan;
+use sengadlit::unicode::UnicodeTables;
 use sengadlit::{Buffer, GlyphInfo, GlyphPosition, Script};
 use sengadlit_examples::arguments::Arguments;
 use sengadlit_examples::svg::{BLACK, Drawing};
-use sengadlit_examples::{OpenType, shape};
+use sengadlit_examples::{OpenType, SETTINGS};
 use std::error::Error;
 use std::fmt::Write as _;
 use std::fs;
@@ -62,7 +63,7 @@ fn shaped(
     buffer.set_script(Some(script));
     buffer.set_direction(plan.direction());
     buffer.push_str(text)?;
-    shape(plan, &NormalizeSettings::default(), font, &mut buffer)?;
+    shape(plan, &SETTINGS, font, &UnicodeTables, &font.layout, &mut buffer)?;
     Ok(buffer)
 }
 

@@ -193,30 +193,6 @@ impl<'a> AskedLookups<'a> {
         })
     }
 
-    /// Applies a lookup of GPOS to a text with positions.
-    pub fn position(&self, lookup: &StageLookup, text: &mut Inner) -> Result<(), ShaperError> {
-        let Some(position) = self.funcs.position else {
-            return Ok(());
-        };
-        let lookup = Lookup::from(*lookup);
-        // SAFETY: a callback of C, with what it is given.
-        self.lend(text, true, |lent| unsafe {
-            position(self.user_data, &lookup, lent)
-        })
-    }
-
-    /// Moves what lookups have attached.
-    pub fn finish_positions(&self, text: &mut Inner) -> Result<(), ShaperError> {
-        let Some(finish) = self.funcs.finish_positions else {
-            return Ok(());
-        };
-        self.lend(text, true, |lent| {
-            // SAFETY: a callback of C, with what it is given.
-            unsafe { finish(self.user_data, lent) };
-            1
-        })
-    }
-
     /// The glyph of a character with a variation selector, if the font has one.
     pub fn variation_glyph(&self, character: u32, selector: u32) -> Option<GlyphId> {
         let variation = self.funcs.variation_glyph?;
@@ -280,6 +256,29 @@ impl AnswersLookups for AskedLookups<'_> {
         self.lend(buffer, false, |lent| unsafe {
             substitute(self.user_data, &lookup, lent)
         })
+    }
+
+    fn position(&self, lookup: &StageLookup, buffer: &mut Inner) -> Result<(), ShaperError> {
+        let Some(position) = self.funcs.position else {
+            return Ok(());
+        };
+        let lookup = Lookup::from(*lookup);
+        // SAFETY: a callback of C, with what it is given.
+        self.lend(buffer, true, |lent| unsafe {
+            position(self.user_data, &lookup, lent)
+        })
+    }
+
+    fn finish_positions(&self, buffer: &mut Inner) {
+        let Some(finish) = self.funcs.finish_positions else {
+            return;
+        };
+        // (it tells of no refusal, and the text has the length that it had)
+        let _ = self.lend(buffer, true, |lent| {
+            // SAFETY: a callback of C, with what it is given.
+            unsafe { finish(self.user_data, lent) };
+            1
+        });
     }
 }
 

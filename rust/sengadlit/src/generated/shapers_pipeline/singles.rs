@@ -5,6 +5,7 @@
 use crate::generated::shapers_base::buffer::{Buffer, GlyphChange, GlyphInfo, ShaperError};
 use crate::generated::shapers_pipeline::lookups::Lookups;
 use crate::generated::shapers_plan::ot_map::StageLookup;
+use crate::generated::shapers_position::ot_shape_position::GlyphClasses;
 
 /// An entry of a single substitution.
 #[derive(Clone, Copy, Debug, PartialEq, Eq, Hash)]
@@ -26,6 +27,13 @@ pub struct SingleLookups<'a> {
     pub singles: &'a [Single],
 }
 
+impl<'a> GlyphClasses for SingleLookups<'a> {
+    #[inline]
+    fn is_mark(&self, _glyph: &GlyphInfo) -> bool {
+        false
+    }
+}
+
 impl<'a> Lookups for SingleLookups<'a> {
     #[inline]
     fn note(&self, _glyph: &GlyphInfo) -> u32 {
@@ -41,6 +49,12 @@ impl<'a> Lookups for SingleLookups<'a> {
         buffer.change_each(0, end, &change);
         Ok(())
     }
+
+    fn position(&self, _lookup: &StageLookup, _buffer: &mut Buffer) -> Result<(), ShaperError> {
+        Ok(())
+    }
+
+    fn finish_positions(&self, _buffer: &mut Buffer) {}
 }
 
 // A lookup of one glyph.
