@@ -6,6 +6,9 @@ mod HookResults
 mod LookupRows
 mod MaskRows
 mod Pausing
+pub mod Placing
+mod PositionClusters
+mod PositionedRows
 mod PreparedClusters
 mod PreparedRows
 mod StageClusters

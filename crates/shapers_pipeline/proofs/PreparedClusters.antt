@@ -1,5 +1,5 @@
 -- Each step before the lookups keeps the clusters of a text.
-use Rattle.std.proofs.Common.{◌≡◌, ◌∙◌, ℕ, zero, suc, ◌+◌, ◌-◌, ◌≤◌, ◌==◌, ◌||◌, Bool, true, false, not, List, [], ◌∷◌, ◌++◌, length, map, fold, refl, sym, ap, subst, arith}
+use Rattle.std.proofs.Common.{◌≡◌, ◌∙◌, ℕ, zero, suc, ◌+◌, ◌-◌, ◌≤◌, ◌==◌, ◌||◌, Bool, true, false, not, List, [], ◌∷◌, ◌++◌, length, map, refl, sym, ap, subst, arith}
 use Rattle.std.specs.Prelude.{◌&&◌, bit_and, bit_or, get_or, nat_le, nat_lt, Option, None, Some, if◌then◌else◌}
 use Rattle.std.specs.Int.{bit_not, w32}
 use Rattle.std.specs.Option.{option_map_or}
@@ -15,7 +15,6 @@ use Rattle.shapers_buffer.specs.Glyph.{characters, clusters, default_glyph}
 use Rattle.shapers_buffer.specs.GlyphFlags.{unsafe_inside, unsafe_to_concat_in, with_bits}
 use Rattle.shapers_buffer.specs.Lists.{each_after}
 use Rattle.shapers_buffer.specs.declared.buffer.glyph.hb_glyph_info_t.{hb_glyph_info_t}
-use Rattle.shapers_buffer.specs.declared.buffer.level.BufferClusterLevel.{BufferClusterLevel}
 use Rattle.shapers_buffer.specs.declared.buffer.level.Direction.{Direction}
 use Rattle.shapers_buffer.specs.declared.buffer.tag.Script.{Script}
 use Rattle.shapers_clusters.proofs.FlagCalls.{map-unsafe_inside, map-unsafe_to_concat_in, map-with_stretch}
@@ -23,13 +22,12 @@ use Rattle.shapers_clusters.proofs.Halves.{Each}
 use Rattle.shapers_hangul.specs.Hangul.{allows_circles, rewritten}
 use Rattle.shapers_hangul.proofs.HangulClusters.{rewritten_holds}
 use Rattle.shapers_normal.specs.Laws.{MakesNoCluster, NormalizesMonotone}
-use Rattle.shapers_normal.specs.Normalization.{normalized}
 use Rattle.shapers_normal.proofs.Pairs.{Pairs}
 use Rattle.shapers_normalize.specs.Laws.{ShapersOrderAlone, ShapersOrderMonotone}
 use Rattle.shapers_plan.specs.declared.ot_shape_plan.DriverMasks.{DriverMasks}
 use Rattle.shapers_plan.specs.declared.ot_shape_plan.user.UserRange.{UserRange}
 use Rattle.shapers_prepare.specs.CharacterProperties.{CharacterProperties}
-use Rattle.shapers_prepare.specs.FirstCircle.{behind_circle, first_circle, wants_first_circle, with_first_circle}
+use Rattle.shapers_prepare.specs.FirstCircle.{behind_circle, first_circle, wants_first_circle}
 use Rattle.shapers_prepare.specs.GlyphProperties.{properties_set, with_properties_behind}
 use Rattle.shapers_prepare.specs.GraphemeLaws.{GraphemesCover, NoGraphemeSplits}
 use Rattle.shapers_prepare.specs.Graphemes.{clusters_formed}
@@ -50,7 +48,7 @@ use Rattle.rustybuzz_shapers.specs.Monotone.{HangulStaysMonotone, ThaiStaysMonot
 use Rattle.rustybuzz_shapers.specs.declared.shaper.hb_ot_shaper_t.{hb_ot_shaper_t}
 use Rattle.rustybuzz_shapers.specs.declared.shaper.hb_ot_shaper_t.TheVariants.{Arabic, Hangul, Hebrew, Indic, Khmer, Myanmar, MyanmarZawgyi, Thai, Universal}
 use Rattle.rustybuzz_shapers.proofs.Monotone.{same_clusters}
-use Rattle.shapers_pipeline.specs.ClusterLaws.{NoneMade, PreparationKeepsClusters, StayMonotone}
+use Rattle.shapers_pipeline.specs.ClusterLaws.{PreparationKeepsClusters}
 use Rattle.shapers_pipeline.specs.Fractions.{decimals_before, decimals_behind, fraction_around, fraction_marked, fractions_around, fractions_set, has_fractions, is_fraction_slash, slash_alone, slash_masks}
 use Rattle.shapers_pipeline.specs.Lookups.{text_noted, with_note}
 use Rattle.shapers_pipeline.specs.Masks.{as_glyph, with_feature, with_features, with_mask_alone}
@@ -58,7 +56,7 @@ use Rattle.shapers_pipeline.specs.Prepared.{Preparation, context_of, normalized_
 use Rattle.shapers_pipeline.specs.ShaperSteps.{masks_set_by, masks_set_for, preprocessed_by, preprocessed_for, universal_masks_set}
 use Rattle.shapers_pipeline.specs.declared.fractions.SlashMasks.{SlashMasks}
 use Rattle.shapers_pipeline.proofs.ClustersKept.{Kept, clusters-map, itself, kept_by, kept_sorted, kept_then, same}
-use Rattle.shapers_pipeline.proofs.TurnedGraphemes.{formed, in_other_direction}
+use Rattle.shapers_pipeline.proofs.TurnedGraphemes.{clusters_form, in_other_direction}
 
 -- a buffer whose glyphs became others, at the same level
 pub record Keeps (old new : Buffer) : Type 0 where
@@ -92,8 +90,8 @@ circle_kept m p [] = itself m []
 circle_kept m p (g ∷ gs) =
     kept_by m (g ∷ gs) (first_circle p g ∷ (g ∷ gs)) (λ P own. (own.0, own)) (λ R self own. ((self g.cluster, own.0), own))
 
-opened : (p : Preparation) (b : Buffer) → Keeps b (text_opened p b)
-opened p b =
+circle_opens : (p : Preparation) (b : Buffer) → Keeps b (text_opened p b)
+circle_opens p b =
     let t = text_begun p b in
     after b t (text_opened p b) (begun p b) (record {
       level = refl;
@@ -112,7 +110,7 @@ directed_from cover splits b =
     let turned : Buffer = record t { direction = opposite_direction t.direction; glyphs = graphemes_turned (graphemes_whole t.level t.glyphs) } in
     elim (is_turned t.direction own) as (λ test. Keeps b (if test then turned else t)) [
       | true ↦ record { level = refl; glyphs = in_other_direction cover splits b.level b.glyphs }
-      | false ↦ record { level = refl; glyphs = formed b.level b.glyphs }
+      | false ↦ record { level = refl; glyphs = clusters_form b.level b.glyphs }
     ]
 
 -- ---- preprocessing
@@ -301,15 +299,15 @@ fractions p b = record { level = refl; glyphs = same (merges b.level) b.glyphs (
 
 -- ---- the shaper's masks
 
-mapped : (f : hb_glyph_info_t → hb_glyph_info_t) → ((g : hb_glyph_info_t) → (f g).cluster ≡ g.cluster) → (b : Buffer) → Keeps b (record b { glyphs = map f b.glyphs })
-mapped f keeps b = record { level = refl; glyphs = same (merges b.level) b.glyphs (map f b.glyphs) (clusters-map f keeps b.glyphs) }
+map_keeps : (f : hb_glyph_info_t → hb_glyph_info_t) → ((g : hb_glyph_info_t) → (f g).cluster ≡ g.cluster) → (b : Buffer) → Keeps b (record b { glyphs = map f b.glyphs })
+map_keeps f keeps b = record { level = refl; glyphs = same (merges b.level) b.glyphs (map f b.glyphs) (clusters-map f keeps b.glyphs) }
 
 universal_keeps : (kept : Option arabic_shape_plan_t) (script : Option Script) (tables : CharacterTables) (b : Buffer) → Keeps b (universal_masks_set kept script tables b)
-universal_keeps None script tables b = mapped (categorized tables.universal) (λ g. refl) b
+universal_keeps None script tables b = map_keeps (categorized tables.universal) (λ g. refl) b
 universal_keeps (Some p) script tables b =
     let t = with_categories tables b in
     let new = universal_masks_set (Some p) script tables b in
-    after b t new (mapped (categorized tables.universal) (λ g. refl) b) (record {
+    after b t new (map_keeps (categorized tables.universal) (λ g. refl) b) (record {
       level = refl;
       glyphs = same (merges t.level) t.glyphs new.glyphs (same_clusters t.glyphs new.glyphs (joined_added p.break_flags p.mask_array script tables.joining tables.general t new refl));
     })
@@ -324,10 +322,10 @@ masks_keep plan tables b Arabic =
       level = refl;
       glyphs = same (merges b.level) b.glyphs new.glyphs (same_clusters b.glyphs new.glyphs (joined_added (breaks_of plan.plan_data) (masks_of plan.plan_data) plan.script tables.joining tables.general b new refl));
     }
-masks_keep plan tables b Hangul = mapped (with_numbered_mask (masks_kept plan.plan_data)) (numbered_cluster (masks_kept plan.plan_data)) b
-masks_keep plan tables b Indic = mapped (with_category_and_position tables) (λ g. refl) b
-masks_keep plan tables b Khmer = mapped (with_category tables) (λ g. refl) b
-masks_keep plan tables b Myanmar = mapped (with_category tables) (λ g. refl) b
+masks_keep plan tables b Hangul = map_keeps (with_numbered_mask (masks_kept plan.plan_data)) (numbered_cluster (masks_kept plan.plan_data)) b
+masks_keep plan tables b Indic = map_keeps (with_category_and_position tables) (λ g. refl) b
+masks_keep plan tables b Khmer = map_keeps (with_category tables) (λ g. refl) b
+masks_keep plan tables b Myanmar = map_keeps (with_category tables) (λ g. refl) b
 masks_keep plan tables b Universal = universal_keeps (arabic_of plan.plan_data) plan.script tables b
 masks_keep plan tables b Hebrew = unchanged b
 masks_keep plan tables b MyanmarZawgyi = unchanged b
@@ -356,12 +354,12 @@ all_but_lookups laws p b =
     let f = text_in_fractions p b in
     let m = masks_set_for p.shaper p.plan p.tables f in
     let u : Buffer = record m { glyphs = map (with_features p.ranges) m.glyphs } in
-    after b o (text_prepared p b) (opened p b) (after o d (text_prepared p b) (directed_from laws.cover laws.whole o)
+    after b o (text_prepared p b) (circle_opens p b) (after o d (text_prepared p b) (directed_from laws.cover laws.whole o)
     (after d n (text_prepared p b) (normal laws p b.direction d) (after n f (text_prepared p b) (fractions p n)
-    (after f m (text_prepared p b) (masks_if p.shaper p.plan p.tables f) (after m u (text_prepared p b) (mapped (with_features p.ranges) (features_cluster p.ranges) m) (mapped as_glyph (λ g. refl) u))))))
+    (after f m (text_prepared p b) (masks_if p.shaper p.plan p.tables f) (after m u (text_prepared p b) (map_keeps (with_features p.ranges) (features_cluster p.ranges) m) (map_keeps as_glyph (λ g. refl) u))))))
 
 pub preparation_keeps : Laws → PreparationKeepsClusters
 preparation_keeps laws p noted b =
     let text = text_prepared p b in
-    let keeps = after b text (text_noted noted text) (all_but_lookups laws p b) (mapped (with_note noted) (λ g. refl) text) in
+    let keeps = after b text (text_noted noted text) (all_but_lookups laws p b) (map_keeps (with_note noted) (λ g. refl) text) in
     (record { level = keeps.level; old_clusters = keeps.glyphs.none }, keeps.glyphs.mono)

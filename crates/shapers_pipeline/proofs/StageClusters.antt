@@ -1,5 +1,5 @@
 -- Stages make no cluster, and keep them rising or falling where their pauses do.
-use Rattle.std.proofs.Common.{◌≡◌, ◌∙◌, ◌⊎◌, ℕ, Bool, true, false, List, [], ◌∷◌, refl, sym, ap, subst, inl, inr}
+use Rattle.std.proofs.Common.{◌≡◌, ◌∙◌, ℕ, true, List, [], ◌∷◌, refl, sym, ap, subst, inl, inr}
 use Rattle.std.specs.Prelude.{Option, None, Some}
 use Rattle.shapers_base.specs.Font.{Font}
 use Rattle.shapers_base.specs.declared.plan.hb_ot_shape_plan_t.{hb_ot_shape_plan_t}
@@ -8,12 +8,11 @@ use Rattle.shapers_buffer.specs.Buffer.{Buffer}
 use Rattle.shapers_buffer.specs.Clusters.{merges}
 use Rattle.shapers_buffer.specs.Glyph.{clusters}
 use Rattle.shapers_buffer.specs.declared.buffer.glyph.hb_glyph_info_t.{hb_glyph_info_t}
-use Rattle.shapers_buffer.specs.declared.buffer.syllables.Span.{Span}
 use Rattle.shapers_clusters.specs.Cuts.{IsMonotone}
 use Rattle.shapers_syllabic.specs.Circles.{circled}
 use Rattle.shapers_syllabic.specs.declared.ot_shaper_syllabic.circles.DottedCircles.{DottedCircles}
 use Rattle.rustybuzz_shapers.specs.Apart.{PausesMakeNoCluster}
-use Rattle.rustybuzz_shapers.specs.Monotone.{CirclesStayMonotone, PausesStayMonotone, StaysMonotone, reorders_indic}
+use Rattle.rustybuzz_shapers.specs.Monotone.{CirclesStayMonotone, PausesStayMonotone, StaysMonotone}
 use Rattle.rustybuzz_shapers.specs.Pauses.{pause_circles}
 use Rattle.shapers_plan.specs.declared.ot_map.lookups.Stage.{Stage}
 use Rattle.shapers_plan.specs.declared.ot_map.lookups.StageLookup.{StageLookup}
@@ -39,13 +38,13 @@ nothing P b none = record {
 unchanged : (P : Type 0) (old new : Buffer) → new ≡ old → old.positions ≡ [] → Run P old new
 unchanged P old new is none = subst (Run P old) (sym is) (nothing P old none)
 
-none_after : (a b c : Buffer) → NoneMade a b → NoneMade b c → NoneMade a c
+pub none_after : (a b c : Buffer) → NoneMade a b → NoneMade b c → NoneMade a c
 none_after a b c one two = record {
   level = two.level ∙ one.level;
   old_clusters = none_then a.glyphs b.glyphs c.glyphs one.old_clusters two.old_clusters;
 }
 
-sorted_after : (a b c : Buffer) → b.level ≡ a.level → StayMonotone a b → StayMonotone b c → StayMonotone a c
+pub sorted_after : (a b c : Buffer) → b.level ≡ a.level → StayMonotone a b → StayMonotone b c → StayMonotone a c
 sorted_after a b c level one two merging rises = two (ap merges level ∙ merging) (one merging rises)
 
 after : (P Q : Type 0) (a b c : Buffer) → Run P a b → Run Q b c → Run (P × Q) a c

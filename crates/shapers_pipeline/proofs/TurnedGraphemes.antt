@@ -1,5 +1,5 @@
 -- What forming clusters, and turning a text grapheme by grapheme, makes of its clusters.
-use Rattle.std.proofs.Common.{◌≡◌, ◌∙◌, ℕ, zero, suc, ◌+◌, ◌-◌, ◌<◌, ◌≤◌, Bool, true, false, List, [], ◌∷◌, ◌++◌, flat_map, length, map, take, drop, reverse, get_or, refl, sym, ap, subst, arith, ⊎_elim}
+use Rattle.std.proofs.Common.{◌≡◌, ◌∙◌, ℕ, suc, ◌+◌, ◌-◌, ◌<◌, ◌≤◌, Bool, true, false, List, [], ◌∷◌, ◌++◌, flat_map, length, map, take, drop, reverse, get_or, refl, sym, ap, subst, arith, ⊎_elim}
 use Rattle.std.specs.List.{All, AllByRecursion, Contains}
 use Rattle.std.proofs.lemmas.Bool.{cases_lt, false≢true}
 use Rattle.std.proofs.lemmas.Grind.{flat_map-append}
@@ -24,7 +24,7 @@ use Rattle.shapers_normal.proofs.Beside.{all_of, each-append, each-drop, each-ta
 use Rattle.shapers_prepare.specs.GraphemeLaws.{GraphemesCover, NoGraphemeSplits}
 use Rattle.shapers_prepare.specs.Graphemes.{clusters_formed, continuations, graphemes, graphemes_from}
 use Rattle.shapers_prepare.specs.NativeDirection.{graphemes_turned, graphemes_whole}
-use Rattle.shapers_pipeline.proofs.ClustersKept.{Kept, itself, kept_then, same, turned}
+use Rattle.shapers_pipeline.proofs.ClustersKept.{Kept, kept_then, same, turned}
 
 
 -- ---- graphemes as stretches: each ends within the text, and begins before it ends
@@ -47,10 +47,10 @@ rise : (gs : List hb_glyph_info_t) → AllByRecursion (λ st. st.0 ≤ st.1) (gr
 rise [] = tt
 rise (g ∷ gs) = rise_from 0 1 (continuations gs) (omega arith)
 
--- ---- merged, or flagged
+-- ---- graphemes_merge, or flagged
 
-merged : (level : BufferClusterLevel) (gs : List hb_glyph_info_t) → Kept (merges level) gs (merge_all level (graphemes gs) gs)
-merged level gs =
+graphemes_merge : (level : BufferClusterLevel) (gs : List hb_glyph_info_t) → Kept (merges level) gs (merge_all level (graphemes gs) gs)
+graphemes_merge level gs =
     let sts = graphemes gs in
     let cs = clusters gs in
     let P : ℕ → Type 0 = Contains cs in
@@ -63,10 +63,10 @@ merged level gs =
 flagged_same : (gs : List hb_glyph_info_t) → clusters (unsafe_all (graphemes gs) gs) ≡ clusters gs
 flagged_same gs = map-unsafe_all (λ g. g.cluster) (λ g. refl) (graphemes gs) gs (rise gs)
 
-pub formed : (level : BufferClusterLevel) (gs : List hb_glyph_info_t) → Kept (merges level) gs (clusters_formed level gs)
-formed MonotoneGraphemes gs = merged MonotoneGraphemes gs
-formed MonotoneCharacters gs = same true gs (unsafe_all (graphemes gs) gs) (flagged_same gs)
-formed Characters gs = same false gs (unsafe_all (graphemes gs) gs) (flagged_same gs)
+pub clusters_form : (level : BufferClusterLevel) (gs : List hb_glyph_info_t) → Kept (merges level) gs (clusters_formed level gs)
+clusters_form MonotoneGraphemes gs = graphemes_merge MonotoneGraphemes gs
+clusters_form MonotoneCharacters gs = same true gs (unsafe_all (graphemes gs) gs) (flagged_same gs)
+clusters_form Characters gs = same false gs (unsafe_all (graphemes gs) gs) (flagged_same gs)
 
 -- both levels that merge do so alike
 merged_alike : (sts : List (ℕ × ℕ)) (gs : List hb_glyph_info_t) → merge_all MonotoneCharacters sts gs ≡ merge_all MonotoneGraphemes sts gs
@@ -94,8 +94,8 @@ merged_whole splits gs p some inside is =
 abbrev OneFrom : List ℕ → ℕ → ℕ → Type 0
 OneFrom cs s i = (j : ℕ) → s ≤ j → j < i → get_or cs j 0 ≡ get_or cs s 0
 
-goes_on : (gs : List hb_glyph_info_t) → Whole gs → (s i : ℕ) (cs : List Bool) → s < i → drop i (continuations gs) ≡ true ∷ cs → OneFrom (clusters gs) s i → OneFrom (clusters gs) s (i + 1)
-goes_on gs whole s i cs order rest one j low high =
+one_goes_on : (gs : List hb_glyph_info_t) → Whole gs → (s i : ℕ) (cs : List Bool) → s < i → drop i (continuations gs) ≡ true ∷ cs → OneFrom (clusters gs) s i → OneFrom (clusters gs) s (i + 1)
+one_goes_on gs whole s i cs order rest one j low high =
     let f : hb_glyph_info_t → Bool = λ g. is_continuation g.marks in
     let within : i < length gs = omega (arith, ap length rest, length-drop i (continuations gs), length-map gs f) in
     let none : i + 0 ≡ i = omega arith in
@@ -109,7 +109,7 @@ goes_on gs whole s i cs order rest one j low high =
 ones_from : (gs : List hb_glyph_info_t) → Whole gs → (s i : ℕ) (cs : List Bool) → s < i → drop i (continuations gs) ≡ cs → OneFrom (clusters gs) s i → AllByRecursion (λ st. OneFrom (clusters gs) st.0 st.1) (graphemes_from s i cs)
 ones_from gs whole s i [] order rest one = (one, tt)
 ones_from gs whole s i (true ∷ cs) order rest one =
-    ones_from gs whole s (i + 1) cs (omega arith) (sym (drop-drop 1 i (continuations gs)) ∙ ap (drop 1) rest) (goes_on gs whole s i cs order rest one)
+    ones_from gs whole s (i + 1) cs (omega arith) (sym (drop-drop 1 i (continuations gs)) ∙ ap (drop 1) rest) (one_goes_on gs whole s i cs order rest one)
 ones_from gs whole s i (false ∷ cs) order rest one =
     (one, ones_from gs whole i (i + 1) cs (omega arith) (sym (drop-drop 1 i (continuations gs)) ∙ ap (drop 1) rest)
     (λ j low high. (let here : j ≡ i = omega (arith, low, high) in ap (λ n. get_or (clusters gs) n 0) here)))
@@ -184,12 +184,12 @@ pub in_other_direction : GraphemesCover → NoGraphemeSplits → (level : Buffer
     Kept (merges level) gs (graphemes_turned (graphemes_whole level (clusters_formed level gs)))
 in_other_direction cover splits MonotoneGraphemes gs =
     let text = merge_all MonotoneGraphemes (graphemes gs) gs in
-    kept_then true gs text (graphemes_turned text) (merged MonotoneGraphemes gs) (turned_kept cover true text (λ _. merged_whole splits gs))
+    kept_then true gs text (graphemes_turned text) (graphemes_merge MonotoneGraphemes gs) (turned_kept cover true text (λ _. merged_whole splits gs))
 in_other_direction cover splits MonotoneCharacters gs =
     let flags = unsafe_all (graphemes gs) gs in
     let text = merge_all MonotoneCharacters (graphemes flags) flags in
-    kept_then true gs text (graphemes_turned text) (kept_then true gs flags text (formed MonotoneCharacters gs) (merged MonotoneCharacters flags))
+    kept_then true gs text (graphemes_turned text) (kept_then true gs flags text (clusters_form MonotoneCharacters gs) (graphemes_merge MonotoneCharacters flags))
     (turned_kept cover true text (λ _. subst Whole (sym (merged_alike (graphemes flags) flags)) (merged_whole splits flags)))
 in_other_direction cover splits Characters gs =
     let flags = unsafe_all (graphemes gs) gs in
-    kept_then false gs flags (graphemes_turned flags) (formed Characters gs) (turned_kept cover false flags (λ never. absurd (false≢true never)))
+    kept_then false gs flags (graphemes_turned flags) (clusters_form Characters gs) (turned_kept cover false flags (λ never. absurd (false≢true never)))

@@ -2,8 +2,11 @@ pub mod ClusterLaws
 pub mod Fractions
 pub mod Lookups
 pub mod Masks
+pub mod Positioned
 pub mod Prepared
 pub mod Refusals
+pub mod ShapeLaws
+pub mod Shaped
 pub mod ShaperSteps
 pub mod SingleLaws
 pub mod Singles

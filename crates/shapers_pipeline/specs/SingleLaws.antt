@@ -1,5 +1,5 @@
 -- Single substitutions keep what a lookup is to keep: they change no cluster.
-use Rattle.std.proofs.Common.{◌≡◌, ◌∙◌, ℕ, ◌==◌, Bool, true, false, List, [], ◌∷◌, refl, sym, ap, subst}
+use Rattle.std.proofs.Common.{◌≡◌, ◌∙◌, ◌==◌, true, false, List, [], ◌∷◌, refl, sym, ap, subst}
 use Rattle.std.specs.Prelude.{bit_and, find, map, Option, None, Some, if◌then◌else◌}
 use Rattle.std.specs.List.{All, Contains}
 use Rattle.std.specs.Option.{option_map_or}
@@ -18,9 +18,9 @@ found_cluster : (g : hb_glyph_info_t) (o : Option Single) →
 found_cluster g None = refl
 found_cluster g (Some s) = refl
 
-one_cluster : (singles : List Single) (lookup : StageLookup) (g : hb_glyph_info_t) →
+single_cluster : (singles : List Single) (lookup : StageLookup) (g : hb_glyph_info_t) →
     (single_applied singles lookup g).cluster ≡ g.cluster
-one_cluster singles lookup g =
+single_cluster singles lookup g =
     let found = option_map_or (with_single g) (find (is_single_for lookup g) singles) g in
     elim (bit_and g.mask lookup.mask == 0) as (λ test.
     (if test then g else found).cluster ≡ g.cluster) [
@@ -32,7 +32,8 @@ all_clusters : (singles : List Single) (lookup : StageLookup) (gs : List hb_glyp
     clusters (map (single_applied singles lookup) gs) ≡ clusters gs
 all_clusters singles lookup [] = refl
 all_clusters singles lookup (g ∷ gs) =
-    ap (λ k. k ∷ clusters (map (single_applied singles lookup) gs)) (one_cluster singles lookup g)
+    let rest = clusters (map (single_applied singles lookup) gs) in
+    ap (λ k. k ∷ rest) (single_cluster singles lookup g)
     ∙ ap (λ ks. g.cluster ∷ ks) (all_clusters singles lookup gs)
 
 pub singles_keep : (singles : List Single) (lookup : StageLookup) (b : Buffer) →

@@ -1,6 +1,6 @@
 -- Single substitutions: one glyph for another, whatever stands beside it (OpenType, GSUB, lookup
 -- type 1).
-use Rattle.std.specs.Prelude.{ℕ, ◌==◌, bit_and, Bool, true, ◌&&◌, List, find, map, if◌then◌else◌}
+use Rattle.std.specs.Prelude.{◌==◌, bit_and, Bool, true, ◌&&◌, List, find, map, if◌then◌else◌}
 use Rattle.std.specs.Option.{option_map_or}
 use Rattle.shapers_buffer.specs.Buffer.{Buffer}
 use Rattle.shapers_buffer.specs.Marks.{SUBSTITUTED, set_mark}

@@ -1,18 +1,22 @@
 //! Laws of the whole: what becomes of a text's clusters.
 ghost use Rattle.shapers_pipeline.specs.ClusterLaws.{PreparationKeepsClusters, StagesKeepClusters};
+ghost use Rattle.shapers_pipeline.specs.ShapeLaws.{FinishKeepsClusters, ShapingKeepsClusters};
 
 use rustybuzz_shapers::shaper::{apart_law, monotone_law};
 use shapers_normal::ot_shape_normalize;
 use shapers_normalize::{orders_alone_law, orders_monotone_law};
+use shapers_position::ot_shape_position::{flags_law, removal_law};
 use shapers_prepare::ot_shape_prepare::graphemes_law;
 
-/// From a text's characters to the glyphs behind the last stage each cluster is one that the text
-/// had; and at the levels that merge, clusters that rise along the text, or fall, still do: before
-/// the lookups always, and behind the stages where each pause keeps them so. The reorderings of
-/// Indic don't for every text, nor does a circle behind two rephas.
+/// From a text's characters to its glyphs with positions each cluster is one that the text had; and
+/// at the levels that merge, clusters that rise along the text, or fall, still rise or fall: before
+/// the lookups and behind them always, and through the stages where each pause keeps them so. The
+/// reorderings of Indic don't for every text, nor does a circle behind two rephas.
 pub fn pipeline_clusters_law()
     ensures preparation { PreparationKeepsClusters }
     ensures stages { StagesKeepClusters }
+    ensures finish { FinishKeepsClusters }
+    ensures whole { ShapingKeepsClusters }
 {
     apart_law();
     monotone_law();
@@ -21,4 +25,6 @@ pub fn pipeline_clusters_law()
     orders_alone_law();
     orders_monotone_law();
     graphemes_law();
+    removal_law();
+    flags_law();
 }

@@ -1,34 +1,41 @@
 //! The lookups of a font, stage by stage, with what the shaper does behind each stage.
-ghost use Rattle.std.specs.Prelude.{ℕ, ◌≡◌, [], IfOk, IsOkUnless, OnErr, OnOk};
+ghost use Rattle.std.specs.Prelude.{ℕ, ◌≡◌, [], length, IfOk, IsOkUnless, OnErr, OnOk};
 ghost use Rattle.shapers_buffer.specs.declared.buffer.refusal.ShaperError.TheVariants.{Memory};
 ghost use Rattle.shapers_pipeline.specs.Lookups.{FoundSpans, StoppedIn, looked_up, text_noted};
 
 use shapers_base::buffer::{GlyphChange, ShaperError, Span, hb_buffer_t, hb_glyph_info_t};
 use shapers_base::plan::Pause;
 use shapers_plan::ot_map::StageLookup;
+use shapers_position::ot_shape_position::GlyphClasses;
 use shapers_spans::{Indic, Khmer, Myanmar, Universal, spans_of};
 use std::alloc::Global;
 use std::mem;
 
-/// The lookups of a font's GSUB. Each is a function of the text: the same text becomes the same.
-pub trait Lookups {
+/// The lookups of a font's GSUB and GPOS. Each is a function of the text: the same text becomes the
+/// same.
+pub trait Lookups: GlyphClasses {
     ghost use Rattle.shapers_buffer.specs.Buffer.{Buffer};
     ghost use Rattle.shapers_buffer.specs.declared.buffer.glyph.hb_glyph_info_t.{hb_glyph_info_t};
-    ghost use Rattle.shapers_pipeline.specs.Lookups.{LookupKeeps};
+    ghost use Rattle.shapers_pipeline.specs.Lookups.{LookupKeeps, PositionKeeps};
     ghost use Rattle.shapers_plan.specs.declared.ot_map.lookups.StageLookup.{StageLookup};
 
     /// What is kept beside a glyph.
     ghost noted: { Self → hb_glyph_info_t → ℕ };
 
-    /// What a lookup makes of a text.
+    /// What a lookup of GSUB makes of a text.
     ghost substituted: { Self → StageLookup → Buffer → Buffer };
 
-    /// What the lookups keep in `var` of a glyph, as its class, before the first of them. It is
-    /// asked for once a glyph, whose `var` is 0.
+    /// What one of GPOS makes of it, and what attachments do behind the last one.
+    ghost positioned: { Self → StageLookup → Buffer → Buffer };
+
+    ghost finished: { Self → Buffer → Buffer };
+
+    /// What the lookups keep in `var` of a glyph, as its class, before the first of them: it is
+    /// called once for each glyph, whose `var` is 0.
     fn note(&self, glyph: &hb_glyph_info_t) -> u32
         ensures { result ≡ noted self.now glyph.now };
 
-    /// Applies a lookup to a text of glyphs without positions. It reads and writes glyphs alone. Each
+    /// Applies a lookup of GSUB to a text of glyphs without positions. It reads and writes glyphs alone. Each
     /// cluster that it leaves is one that the text had, and at the levels that merge clusters that
     /// rise along the text, or fall, still do.
     ///
@@ -40,9 +47,32 @@ pub trait Lookups {
         ensures ok { OnOk result (buffer.new ≡ substituted self.now lookup.now buffer.old) }
         ensures err { OnErr result (buffer.new ≡ buffer.old) };
 
-    // What a lookup keeps of a text.
+    /// Applies a lookup of GPOS to a text of glyphs with positions. It writes these, `var` and glyph
+    /// flags alone.
+    ///
+    /// # Errors
+    ///
+    /// Why it couldn't; nothing has changed then.
+    fn position(&self, lookup: &StageLookup, buffer: &mut hb_buffer_t) -> Result<(), ShaperError>
+        requires { length buffer.old.positions ≡ length buffer.old.glyphs }
+        ensures ok { OnOk result (buffer.new ≡ positioned self.now lookup.now buffer.old) }
+        ensures err { OnErr result (buffer.new ≡ buffer.old) };
+
+    /// Moves the glyphs that lookups attached to others, behind the last lookup of GPOS. It writes
+    /// what a lookup of GPOS writes.
+    fn finish_positions(&self, buffer: &mut hb_buffer_t)
+        requires { length buffer.old.positions ≡ length buffer.old.glyphs }
+        ensures { buffer.new ≡ finished self.now buffer.old };
+
+    // What they keep of a text.
     ghost substituting_keeps: { (it : Self) (lookup : StageLookup) (b : Buffer) → b.positions ≡ [] →
         LookupKeeps b (substituted it lookup b) };
+
+    ghost positioning_keeps: { (it : Self) (lookup : StageLookup) (b : Buffer) →
+        length b.positions ≡ length b.glyphs → PositionKeeps b (positioned it lookup b) };
+
+    ghost finishing_keeps: { (it : Self) (b : Buffer) → length b.positions ≡ length b.glyphs →
+        PositionKeeps b (finished it b) };
 }
 
 // Notes beside each glyph what the lookups keep there.

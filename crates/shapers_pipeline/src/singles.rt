@@ -1,10 +1,11 @@
 //! Lookups that put single glyphs for others.
-ghost use Rattle.std.specs.Prelude.{◌≡◌, find, option_map};
+ghost use Rattle.std.specs.Prelude.{◌≡◌, find};
 ghost use Rattle.shapers_pipeline.specs.Singles.{is_single_for, single_applied};
 
 use crate::lookups::Lookups;
 use shapers_base::buffer::{GlyphChange, ShaperError, hb_buffer_t, hb_glyph_info_t};
 use shapers_plan::ot_map::StageLookup;
+use shapers_position::ot_shape_position::GlyphClasses;
 
 /// An entry of a single substitution.
 #[derive(Clone, Copy, Debug, PartialEq, Eq)]
@@ -26,13 +27,29 @@ pub struct SingleLookups<'a> {
     pub singles: &'a [Single],
 }
 
+impl<'a> GlyphClasses for SingleLookups<'a> {
+    ghost use Rattle.std.specs.Prelude.{false};
+
+    ghost marks = { λ it g. false };
+
+    #[inline]
+    fn is_mark(&self, _glyph: &hb_glyph_info_t) -> bool {
+        false
+    }
+}
+
 impl<'a> Lookups for SingleLookups<'a> {
+    ghost use Rattle.std.specs.Prelude.{refl};
     ghost use Rattle.shapers_pipeline.specs.Singles.{singles_applied};
     ghost use Rattle.shapers_pipeline.specs.SingleLaws.{singles_keep};
 
     ghost noted = { λ it g. 0 };
 
     ghost substituted = { λ it lookup b. singles_applied it.singles.now lookup b };
+
+    ghost positioned = { λ it lookup b. b };
+
+    ghost finished = { λ it b. b };
 
     #[inline]
     fn note(&self, _glyph: &hb_glyph_info_t) -> u32 {
@@ -53,7 +70,23 @@ impl<'a> Lookups for SingleLookups<'a> {
         Ok(())
     }
 
+    fn position(
+        &self,
+        _lookup: &StageLookup,
+        _buffer: &mut hb_buffer_t,
+    ) -> Result<(), ShaperError> {
+        Ok(())
+    }
+
+    fn finish_positions(&self, _buffer: &mut hb_buffer_t) {}
+
     ghost substituting_keeps = { λ it lookup b none. singles_keep it.singles.now lookup b };
+
+    ghost positioning_keeps = { λ it lookup b paired.
+        record { others = refl; glyphs = refl; positions = refl } };
+
+    ghost finishing_keeps = { λ it b paired.
+        record { others = refl; glyphs = refl; positions = refl } };
 }
 
 // A lookup of one glyph.

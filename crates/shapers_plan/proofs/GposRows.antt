@@ -1,7 +1,6 @@
 -- Whether GPOS is applied.
 use Prim.Native.String.{String}
 use Rattle.std.specs.Prelude.{◌≡◌, Bool, true, false, [], Option, None, Some, codes, refl}
-use Rattle.rustybuzz_shapers.specs.declared.shaper.hb_ot_shaper_t.{hb_ot_shaper_t}
 use Rattle.rustybuzz_shapers.specs.declared.shaper.hb_ot_shaper_t.TheVariants.{Arabic, Hebrew}
 use Rattle.shapers_base.specs.declared.map.TableIndex.TheVariants.{GPOS, GSUB}
 use Rattle.shapers_plan.specs.FontFeatures.{FontTables}

@@ -1,7 +1,7 @@
-//! From a text to glyphs, in the order of HarfBuzz's hb-ot-shape: [`prepare_text`] does all that
-//! comes before the font's lookups, and [`run_stages`] runs a caller's [`Lookups`], with what the
-//! shaper does behind each stage. [`substitute_text`] does both by a
-//! [`ShapePlan`](crate::ot_shape_plan::ShapePlan).
+//! From a text to glyphs with positions, in the order of HarfBuzz's hb-ot-shape, by a
+//! [`ShapePlan`](crate::ot_shape_plan::ShapePlan) and a caller's [`Lookups`]: [`shape`] does it all.
+//! [`prepare_text`] does what comes before the font's lookups, [`run_stages`] runs those of GSUB,
+//! with what the shaper does behind each stage, and [`substitute_text`] does both.
 //!
 //! ```
 //! use sengadlit::ot_shape::{TextPlan, prepare_text};
@@ -43,18 +43,20 @@
 //! ```
 
 pub use crate::generated::shapers_pipeline::{
-    Lookups, StagePlan, TextPlan, prepare_text, run_stages, substitute_text,
+    Lookups, ShapeSettings, Single, SingleLookups, StagePlan, TextPlan,
+    prepare_text, run_stages, shape, substitute_text,
 };
 
 #[cfg(test)]
 mod tests {
-    use super::{Lookups, substitute_text};
+    use super::{Lookups, ShapeSettings, Single, SingleLookups, shape, substitute_text};
     use crate::alloc::Global;
-    use crate::buffer::{Buffer, Direction, Script, ShaperError, Tag};
+    use crate::buffer::{Buffer, Direction, GlyphInfo, Script, ShaperError, Tag};
     use crate::font::{Font, GlyphId};
     use crate::map::TableIndex;
-    use crate::ot_shape_normalize::{NormalizeFont, NormalizeSettings};
+    use crate::ot_shape_normalize::{NormalizeFont, NormalizeSettings, Rounds};
     use crate::ot_shape_plan::{FontFeatures, ShapePlan, StageLookup};
+    use crate::ot_shape_position::{DefaultIgnorables, GlyphClasses};
     use crate::unicode::UnicodeTables;
     use std::vec::Vec;
 
@@ -68,7 +70,7 @@ mod tests {
         }
 
         fn glyph_h_advance(&self, _: GlyphId) -> i32 {
-            0
+            500
         }
 
         fn would_apply(&self, _: u16, _: &[GlyphId], _: bool) -> bool {
@@ -87,6 +89,10 @@ mod tests {
     }
 
     impl FontFeatures for Khmer {
+        fn has_table(&self, table: TableIndex) -> bool {
+            table == TableIndex::GSUB
+        }
+
         fn chosen_script(&self, _: TableIndex) -> Option<Tag> {
             Some(Tag(*b"khmr"))
         }
@@ -112,7 +118,23 @@ mod tests {
         }
     }
 
+    impl GlyphClasses for Khmer {
+        fn is_mark(&self, glyph: &GlyphInfo) -> bool {
+            glyph.var == 3
+        }
+    }
+
     impl Lookups for Khmer {
+        fn note(&self, glyph: &GlyphInfo) -> u32 {
+            if glyph.glyph_id == 0x17C6 { 3 } else { 1 }
+        }
+
+        fn position(&self, _: &StageLookup, _: &mut Buffer) -> Result<(), ShaperError> {
+            panic!("the font has no GPOS")
+        }
+
+        fn finish_positions(&self, _: &mut Buffer) {}
+
         fn substitute(&self, lookup: &StageLookup, text: &mut Buffer) -> Result<(), ShaperError> {
             assert_eq!(lookup.index, 7);
             text.with_glyphs_mut(|glyphs| {
@@ -139,5 +161,70 @@ mod tests {
         assert_eq!(glyphs, [0x17C3, 0x1782, 0x1785]);
         let clusters: Vec<u32> = text.glyphs().iter().map(|glyph| glyph.cluster).collect();
         assert_eq!(clusters, [0, 0, 6]);
+    }
+
+    const SETTINGS: ShapeSettings = ShapeSettings {
+        normalize: NormalizeSettings {
+            rounds: Rounds::AsCode,
+            invisible_glyph: None,
+            draws_selectors: false,
+        },
+        ignorables: DefaultIgnorables::Hide,
+    };
+
+    fn khmer_plan() -> ShapePlan {
+        let script = Some(Script(*b"Khmr"));
+        ShapePlan::new(Global, script, Direction::LeftToRight, &Khmer, &Khmer, &[]).unwrap()
+    }
+
+    fn khmer_text(text: &str) -> Buffer {
+        let mut buffer = Buffer::from(text);
+        buffer.set_script(Some(Script(*b"Khmr")));
+        buffer.set_direction(Direction::LeftToRight);
+        buffer
+    }
+
+    /// A joiner that no lookup took is a space without a width.
+    #[test]
+    fn glyphs_have_advances_and_what_isnt_drawn_has_none() {
+        let mut text = khmer_text("\u{1780}\u{200C}\u{1784}");
+        let single = |glyph, substitute| Single { lookup: 7, glyph, substitute };
+        let singles = [single(0x1780, 5), single(0x1784, 6)];
+        let lookups = SingleLookups { singles: &singles };
+        let plan = khmer_plan();
+        assert!(!plan.applies_gpos());
+        shape(&plan, &SETTINGS, &Khmer, &UnicodeTables, &lookups, &mut text).unwrap();
+        let glyphs: Vec<u32> = text.glyphs().iter().map(|glyph| glyph.glyph_id).collect();
+        assert_eq!(glyphs, [5, 0x20, 6]);
+        let advances: Vec<i32> = text.positions().iter().map(|at| at.x_advance).collect();
+        assert_eq!(advances, [500, 0, 500]);
+    }
+
+    /// `pres` gives NIKAHIT the next number; the note of it stays, and the shaper keeps its advance.
+    #[test]
+    fn notes_stay_beside_glyphs() {
+        let mut text = khmer_text("\u{1780}\u{17C6}");
+        shape(&khmer_plan(), &SETTINGS, &Khmer, &UnicodeTables, &Khmer, &mut text).unwrap();
+        let notes: Vec<(u32, u32)> =
+            text.glyphs().iter().map(|glyph| (glyph.glyph_id, glyph.var)).collect();
+        assert_eq!(notes, [(0x1781, 1), (0x17C7, 3)]);
+        let advances: Vec<i32> = text.positions().iter().map(|at| at.x_advance).collect();
+        assert_eq!(advances, [500, 500]);
+    }
+
+    /// The caller wants the text from left to right: it is drawn so, and the direction stays.
+    #[test]
+    fn the_direction_is_the_callers_again() {
+        let script = Some(Script(*b"Hebr"));
+        let direction = Direction::LeftToRight;
+        let plan = ShapePlan::new(Global, script, direction, &Khmer, &Khmer, &[]).unwrap();
+        let mut text = Buffer::from("\u{5D0}\u{5D1}");
+        text.set_script(script);
+        text.set_direction(direction);
+        let lookups = SingleLookups { singles: &[] };
+        shape(&plan, &SETTINGS, &Khmer, &UnicodeTables, &lookups, &mut text).unwrap();
+        let glyphs: Vec<u32> = text.glyphs().iter().map(|glyph| glyph.glyph_id).collect();
+        assert_eq!(glyphs, [0x5D0, 0x5D1]);
+        assert_eq!(text.direction(), direction);
     }
 }

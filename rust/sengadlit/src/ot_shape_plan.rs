@@ -16,6 +16,9 @@
 //! struct Ligatures;
 //!
 //! impl FontFeatures for Ligatures {
+//!     fn has_table(&self, table: TableIndex) -> bool {
+//!         table == TableIndex::GSUB
+//!     }
 //!     fn chosen_script(&self, _: TableIndex) -> Option<Tag> {
 //!         Some(Tag(*b"latn"))
 //!     }
@@ -70,6 +73,10 @@ mod tests {
     struct Khmer;
 
     impl FontFeatures for Khmer {
+        fn has_table(&self, table: TableIndex) -> bool {
+            table == TableIndex::GSUB
+        }
+
         fn chosen_script(&self, _: TableIndex) -> Option<Tag> {
             Some(Tag(*b"khmr"))
         }

@@ -53,7 +53,7 @@ fn slash_masks(direction: Direction, masks: &DriverMasks) -> SlashMasks {
 }
 
 #[inline]
-fn runs_forward(direction: Direction) -> bool {
+pub(crate) fn runs_forward(direction: Direction) -> bool {
     matches!(direction, Direction::LeftToRight | Direction::TopToBottom)
 }
 

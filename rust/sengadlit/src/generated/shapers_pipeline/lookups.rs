@@ -4,15 +4,34 @@
 
 use crate::support::prelude::*;
 
-use crate::generated::shapers_base::buffer::{Buffer, GlyphInfo, ShaperError, Span};
+use crate::generated::shapers_base::buffer::{Buffer, GlyphChange, GlyphInfo, ShaperError, Span};
 use crate::generated::shapers_base::plan::Pause;
 use crate::generated::shapers_plan::ot_map::StageLookup;
+use crate::generated::shapers_position::ot_shape_position::GlyphClasses;
 use crate::generated::shapers_spans::{Indic, Khmer, Myanmar, Universal, spans_of};
 use crate::support::alloc::Global;
+use core::mem;
 
-/// The lookups of a font's GSUB. Each is a function of the text: the same text becomes the same.
-pub trait Lookups {
-    /// Applies a lookup to a text of glyphs without positions.
+/// The lookups of a font's GSUB and GPOS. Each is a function of the text: the same text becomes the
+/// same.
+pub trait Lookups: GlyphClasses {
+    /// What the lookups keep in `var` of a glyph, as its class, before the first of them. It is
+    /// asked for once a glyph, whose `var` is 0.
+    ///
+    /// <details><summary>Contract</summary>
+    ///
+    /// # Contract
+    ///
+    /// ```text
+    /// ensures { result ≡ noted self.now glyph.now }
+    /// ```
+    ///
+    /// </details>
+    fn note(&self, glyph: &GlyphInfo) -> u32;
+
+    /// Applies a lookup of GSUB to a text of glyphs without positions. It reads and writes glyphs alone. Each
+    /// cluster that it leaves is one that the text had, and at the levels that merge clusters that
+    /// rise along the text, or fall, still do.
     ///
     /// # Errors
     ///
@@ -25,14 +44,68 @@ pub trait Lookups {
     /// ```text
     /// requires { buffer.old.positions ≡ [] }
     /// ensures ok { OnOk result (buffer.new ≡ substituted self.now lookup.now buffer.old) }
-    /// ensures keeps { OnOk result (LookupKeeps buffer.old buffer.new) }
     /// ensures err { OnErr result (buffer.new ≡ buffer.old) }
     /// ```
     ///
-    /// - `LookupKeeps`: `crates/shapers_pipeline/specs/Lookups.antt`
-    ///
     /// </details>
     fn substitute(&self, lookup: &StageLookup, buffer: &mut Buffer) -> Result<(), ShaperError>;
+
+    /// Applies a lookup of GPOS to a text of glyphs with positions. It writes these, `var` and glyph
+    /// flags alone.
+    ///
+    /// # Errors
+    ///
+    /// Why it couldn't; nothing has changed then.
+    ///
+    /// <details><summary>Contract</summary>
+    ///
+    /// # Contract
+    ///
+    /// ```text
+    /// requires { length buffer.old.positions ≡ length buffer.old.glyphs }
+    /// ensures ok { OnOk result (buffer.new ≡ positioned self.now lookup.now buffer.old) }
+    /// ensures err { OnErr result (buffer.new ≡ buffer.old) }
+    /// ```
+    ///
+    /// </details>
+    fn position(&self, lookup: &StageLookup, buffer: &mut Buffer) -> Result<(), ShaperError>;
+
+    /// Moves the glyphs that lookups attached to others, behind the last lookup of GPOS. It writes
+    /// what a lookup of GPOS writes.
+    ///
+    /// <details><summary>Contract</summary>
+    ///
+    /// # Contract
+    ///
+    /// ```text
+    /// requires { length buffer.old.positions ≡ length buffer.old.glyphs }
+    /// ensures { buffer.new ≡ finished self.now buffer.old }
+    /// ```
+    ///
+    /// </details>
+    fn finish_positions(&self, buffer: &mut Buffer);
+}
+
+// Notes beside each glyph what the lookups keep there.
+pub(crate) fn note_glyphs<L: Lookups>(lookups: &L, buffer: &mut Buffer) {
+    // (lookups that panic leave the empty buffer, and no text with some of its glyphs noted)
+    let empty = Buffer::new(buffer.alloc(), buffer.max_len());
+    let mut text = mem::replace(buffer, empty);
+    let end = text.len();
+    text.change_each(0, end, &Noting { lookups });
+    *buffer = text;
+}
+
+// The note beside one glyph.
+struct Noting<'a, L: Lookups> {
+    lookups: &'a L,
+}
+
+impl<'a, L: Lookups> GlyphChange for Noting<'a, L> {
+    #[inline]
+    fn change(&self, glyph: &mut GlyphInfo) {
+        glyph.var = self.lookups.note(glyph);
+    }
 }
 
 // Applies lookups, one after another.

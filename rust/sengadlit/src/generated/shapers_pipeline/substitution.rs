@@ -5,15 +5,15 @@
 use crate::generated::rustybuzz_shapers::shaper::checked::CallError;
 use crate::generated::shapers_base::buffer::Buffer;
 use crate::generated::shapers_normalize::{NormalizeFont, NormalizeSettings, NormalizeTables};
-use crate::generated::shapers_pipeline::lookups::Lookups;
+use crate::generated::shapers_pipeline::lookups::{Lookups, note_glyphs};
 use crate::generated::shapers_pipeline::plan::{StagePlan, TextPlan};
 use crate::generated::shapers_pipeline::prepare::prepare_text;
 use crate::generated::shapers_pipeline::stages::run_stages;
 use crate::generated::shapers_plan::ot_shape_plan::ShapePlan;
 use crate::generated::shapers_prepare::ot_shape_prepare::UnicodeProperties;
 
-/// Makes glyphs of a text's characters, and substitutes them: `prepare_text`, and then `run_stages`
-/// over the stages of the plan.
+/// Makes glyphs of a text's characters, and substitutes them: `prepare_text`, what the lookups keep
+/// beside each glyph, and then `run_stages` over the stages of the plan.
 ///
 /// # Errors
 ///
@@ -24,18 +24,23 @@ use crate::generated::shapers_prepare::ot_shape_prepare::UnicodeProperties;
 /// # Contract
 ///
 /// ```text
-/// ensures ok { let p = preparation_by plan.now settings.now (F.font font.now) (F.variants font.now)
-///     (T.properties tables.now) (T.tables tables.now) (T.texts tables.now) in
+/// ensures ok { let p = preparation_by plan.now settings.now (F.font font.now)
+///     (F.variants font.now) (T.properties tables.now) (T.tables tables.now)
+///     (T.texts tables.now) in
 ///     let r = substitution_by plan.now (F.font font.now) (L.substituted lookups.now) in
-///     OnOk result (StagesRun r plan.now.stages (text_prepared p buffer.old) buffer.new) }
-/// ensures err { let p = preparation_by plan.now settings.now (F.font font.now) (F.variants font.now)
-///     (T.properties tables.now) (T.tables tables.now) (T.texts tables.now) in
+///     let noted = text_noted (L.noted lookups.now) (text_prepared p buffer.old) in
+///     OnOk result (StagesRun r plan.now.stages noted buffer.new) }
+/// ensures err { let p = preparation_by plan.now settings.now (F.font font.now)
+///     (F.variants font.now) (T.properties tables.now) (T.tables tables.now)
+///     (T.texts tables.now) in
 ///     let r = substitution_by plan.now (F.font font.now) (L.substituted lookups.now) in
-///     let prepared = text_prepared p buffer.old in
+///     let noted = text_noted (L.noted lookups.now) (text_prepared p buffer.old) in
 ///     IfErr result (λ e. IsStopped p buffer.old buffer.new e
-///     ⊎ StagesStopped r plan.now.stages prepared buffer.new) }
+///     ⊎ StagesStopped r plan.now.stages noted buffer.new) }
+/// ensures positions { OnOk result (buffer.new.positions ≡ []) }
 /// ```
 ///
+/// - `text_noted`: `crates/shapers_pipeline/specs/Lookups.antt`
 /// - `text_prepared`: `crates/shapers_pipeline/specs/Prepared.antt`
 /// - `IsStopped`: `crates/shapers_pipeline/specs/Refusals.antt`
 /// - `StagesRun`, `StagesStopped`: `crates/shapers_pipeline/specs/Stages.antt`
@@ -57,6 +62,7 @@ pub fn substitute_text<F: NormalizeFont, T: NormalizeTables + UnicodeProperties,
         ranges: plan.ranges(),
     };
     prepare_text(&text, settings, font, tables, buffer)?;
+    note_glyphs(lookups, buffer);
     let stages = StagePlan {
         plan: plan.plan(),
         stages: plan.stages(),

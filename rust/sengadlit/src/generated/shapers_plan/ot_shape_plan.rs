@@ -12,7 +12,7 @@ use crate::generated::shapers_base::plan::Plan;
 use crate::generated::shapers_plan::ot_map::{CompiledMap, FontFeatures, Stage, StageLookup};
 use crate::support::alloc::Global;
 use collecting::{collect, text_shaper};
-use making::{driver_masks, hooks_plan, user_ranges};
+use making::{driver_masks, hooks_plan, takes_gpos, user_ranges};
 
 mod collecting;
 mod making;
@@ -43,6 +43,7 @@ pub struct ShapePlan {
     direction: Direction,
     substitutions: Vec<Stage>,
     lookups: Vec<StageLookup>,
+    applies_gpos: bool,
     positioning: Vec<StageLookup>,
     masks: DriverMasks,
     ranges: Vec<UserRange>,
@@ -90,6 +91,7 @@ impl ShapePlan {
             direction,
             substitutions: compiled.stages,
             lookups: compiled.lookups,
+            applies_gpos: takes_gpos(shaper, features),
             positioning: compiled.positioning,
             masks,
             ranges,
@@ -174,6 +176,22 @@ impl ShapePlan {
     #[inline]
     pub fn lookups(&self) -> &[StageLookup] {
         self.lookups.as_slice()
+    }
+
+    /// Whether GPOS is applied: the font has it, and the shaper takes the script chosen there.
+    ///
+    /// <details><summary>Contract</summary>
+    ///
+    /// # Contract
+    ///
+    /// ```text
+    /// ensures { result ≡ self.now.applies_gpos }
+    /// ```
+    ///
+    /// </details>
+    #[inline]
+    pub fn applies_gpos(&self) -> bool {
+        self.applies_gpos
     }
 
     /// The lookups of GPOS.

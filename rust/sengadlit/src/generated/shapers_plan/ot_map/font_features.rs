@@ -6,6 +6,19 @@ use crate::generated::shapers_base::map::TableIndex;
 /// The features of a font's GSUB and GPOS, in the script and language that the caller chose for the
 /// text. They are functions: the same question has the same result.
 pub trait FontFeatures {
+    /// Whether the font has the table.
+    ///
+    /// <details><summary>Contract</summary>
+    ///
+    /// # Contract
+    ///
+    /// ```text
+    /// ensures { result ≡ (tables self.now).there table }
+    /// ```
+    ///
+    /// </details>
+    fn has_table(&self, table: TableIndex) -> bool;
+
     /// The tag of the chosen script, or none where the table has no script to choose.
     ///
     /// <details><summary>Contract</summary>

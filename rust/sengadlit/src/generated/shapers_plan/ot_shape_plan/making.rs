@@ -8,9 +8,9 @@ use super::collecting::is_for_all;
 use super::{DriverMasks, UserFeature, UserRange};
 use crate::generated::rustybuzz_shapers::shaper::Shaper;
 use crate::generated::shapers_base::buffer::{Script, ShaperError, Tag};
-use crate::generated::shapers_base::map::Map;
+use crate::generated::shapers_base::map::{Map, TableIndex};
 use crate::generated::shapers_base::plan::Plan;
-use crate::generated::shapers_plan::ot_map::MappedFeature;
+use crate::generated::shapers_plan::ot_map::{FontFeatures, MappedFeature};
 use crate::support::alloc::Global;
 
 /// The masks of the features that the driver turns on.
@@ -32,6 +32,24 @@ pub(super) fn hooks_plan(shaper: Option<Shaper>, script: Option<Script>, map: Ma
     match shaper {
         Some(shaper) => shaper.with_data(plan),
         None => plan,
+    }
+}
+
+/// Whether GPOS is applied. Of a script that a shaper doesn't know there, it may place marks badly.
+pub(super) fn takes_gpos<L: FontFeatures>(shaper: Option<Shaper>, features: &L) -> bool {
+    features.has_table(TableIndex::GPOS)
+        && match shaper {
+            Some(shaper) => suits(shaper.gpos_tag(), features.chosen_script(TableIndex::GPOS)),
+            None => true,
+        }
+}
+
+// Whether a shaper that wants this script in GPOS, or any, takes the one that was chosen there.
+fn suits(wanted: Option<Tag>, chosen: Option<Tag>) -> bool {
+    match (wanted, chosen) {
+        (None, _) => true,
+        (Some(_), None) => false,
+        (Some(wanted), Some(tag)) => tag == wanted,
     }
 }
 
