@@ -15,8 +15,8 @@ use core::mem;
 /// The lookups of a font's GSUB and GPOS. Each is a function of the text: the same text becomes the
 /// same.
 pub trait Lookups: GlyphClasses {
-    /// What the lookups keep in `var` of a glyph, as its class, before the first of them. It is
-    /// asked for once a glyph, whose `var` is 0.
+    /// What the lookups keep in `var` of a glyph, as its class, before the first of them: it is
+    /// called once for each glyph, whose `var` is 0.
     ///
     /// <details><summary>Contract</summary>
     ///
