@@ -27,7 +27,8 @@ pub itself : (m : Bool) (gs : List hb_glyph_info_t) → Kept m gs gs
 itself m gs = same m gs gs refl
 
 pub none_then : (a b c : List hb_glyph_info_t) → NoNewCluster a b → NoNewCluster b c → NoNewCluster a c
-none_then a b c one two k d lt = All-contains (Contains (clusters a)) (clusters b) (get_or (clusters c) k d) one (two k d lt)
+none_then a b c one two k d lt = All-contains (Contains (clusters a)) (clusters b) (get_or (clusters c) k d) one
+    (two k d lt)
 
 pub kept_then : (m : Bool) (a b c : List hb_glyph_info_t) → Kept m a b → Kept m b c → Kept m a c
 kept_then m a b c one two = record {
@@ -44,44 +45,55 @@ either m false old x y one two = two
 pub kept_by : (m : Bool) (old new : List hb_glyph_info_t) → ((P : ℕ → Type 0) → Each P old → Each P new) →
     ((R : ℕ → ℕ → Type 0) → ((k : ℕ) → R k k) → Pairs R old → Pairs R new) → Kept m old new
 kept_by m old new each pairs = record {
-  none = all_of (Contains (clusters old)) new (each (Contains (clusters old)) (each_of (Contains (clusters old)) old (All-contains_itself (clusters old))));
+  none = all_of (Contains (clusters old)) new
+      (each (Contains (clusters old)) (each_of (Contains (clusters old)) old (All-contains_itself (clusters old))));
   mono = λ merging. mono_by old new pairs;
 }
 
-pub kept_sorted : (m : Bool) (old new : List hb_glyph_info_t) → NoNewCluster old new → (m ≡ true → StaysMonotone (clusters old) (clusters new)) → Kept m old new
+pub kept_sorted : (m : Bool) (old new : List hb_glyph_info_t) → NoNewCluster old new →
+    (m ≡ true → StaysMonotone (clusters old) (clusters new)) → Kept m old new
 kept_sorted m old new none stays = record {
   none = none;
   mono = λ merging. elim [ inl up ↦ inl ((stays merging).0 up) | inr down ↦ inr ((stays merging).1 down) ];
 }
 
 -- each glyph changed, but for its cluster
-pub clusters-map : (f : hb_glyph_info_t → hb_glyph_info_t) → ((g : hb_glyph_info_t) → (f g).cluster ≡ g.cluster) → (gs : List hb_glyph_info_t) → clusters (map f gs) ≡ clusters gs
+pub clusters-map : (f : hb_glyph_info_t → hb_glyph_info_t) → ((g : hb_glyph_info_t) → (f g).cluster ≡ g.cluster) →
+    (gs : List hb_glyph_info_t) → clusters (map f gs) ≡ clusters gs
 clusters-map f keeps [] = refl
-clusters-map f keeps (g ∷ gs) = ap (λ k. k ∷ clusters (map f gs)) (keeps g) ∙ ap (λ ks. g.cluster ∷ ks) (clusters-map f keeps gs)
+clusters-map f keeps (g ∷ gs) = ap (λ k. k ∷ clusters (map f gs)) (keeps g) ∙ ap (λ ks. g.cluster ∷ ks)
+    (clusters-map f keeps gs)
 
 -- ---- a text turned round
 
 abbrev flip : (ℕ → ℕ → Type 0) → ℕ → ℕ → Type 0
 flip R a b = R b a
 
-cross_one : (R : ℕ → ℕ → Type 0) (g : hb_glyph_info_t) (gs : List hb_glyph_info_t) → Each (R g.cluster) gs → Cross (flip R) gs (g ∷ [])
+cross_one : (R : ℕ → ℕ → Type 0) (g : hb_glyph_info_t) (gs : List hb_glyph_info_t) → Each (R g.cluster) gs → Cross
+    (flip R) gs (g ∷ [])
 cross_one R g gs own = each_as (R g.cluster) (λ k. Each (flip R k) (g ∷ [])) gs (λ k r. (r, tt)) own
 
 each-reversed : (P : ℕ → Type 0) (gs : List hb_glyph_info_t) → Each P gs → Each P (reverse gs)
 each-reversed P [] own = tt
-each-reversed P (g ∷ gs) own = subst (Each P) (sym (reverse-append (g ∷ []) gs)) (each-append P (reverse gs) (g ∷ []) (each-reversed P gs own.1) (own.0, tt))
+each-reversed P (g ∷ gs) own = subst (Each P) (sym (reverse-append (g ∷ []) gs))
+    (each-append P (reverse gs) (g ∷ []) (each-reversed P gs own.1) (own.0, tt))
 
 pairs-reversed : (R : ℕ → ℕ → Type 0) (gs : List hb_glyph_info_t) → Pairs R gs → Pairs (flip R) (reverse gs)
 pairs-reversed R [] own = tt
 pairs-reversed R (g ∷ gs) own =
     subst (Pairs (flip R)) (sym (reverse-append (g ∷ []) gs))
-    (pairs-append (flip R) (reverse gs) (g ∷ []) (pairs-reversed R gs own.1) (tt, tt) (cross_one R g (reverse gs) (each-reversed (R g.cluster) gs own.0)))
+    (pairs-append (flip R) (reverse gs) (g ∷ []) (pairs-reversed R gs own.1) (tt, tt)
+    (cross_one R g (reverse gs) (each-reversed (R g.cluster) gs own.0)))
 
 pub turned : (m : Bool) (gs : List hb_glyph_info_t) → Kept m gs (reverse gs)
 turned m gs = record {
-  none = all_of (Contains (clusters gs)) (reverse gs) (each-reversed (Contains (clusters gs)) gs (each_of (Contains (clusters gs)) gs (All-contains_itself (clusters gs))));
+  none = all_of (Contains (clusters gs)) (reverse gs)
+      (each-reversed (Contains (clusters gs)) gs
+      (each_of (Contains (clusters gs)) gs (All-contains_itself (clusters gs))));
   mono = λ merging. elim [
-    | inl up ↦ (let R : ℕ → ℕ → Type 0 = λ a b. a ≤ b in inr (from_pairs (flip R) (reverse gs) (pairs-reversed R gs (to_pairs R gs up))))
-    | inr down ↦ (let R : ℕ → ℕ → Type 0 = λ a b. b ≤ a in inl (from_pairs (flip R) (reverse gs) (pairs-reversed R gs (to_pairs R gs down))))
+    | inl up ↦ (let R : ℕ → ℕ → Type 0 = λ a b. a ≤ b in inr
+        (from_pairs (flip R) (reverse gs) (pairs-reversed R gs (to_pairs R gs up))))
+    | inr down ↦ (let R : ℕ → ℕ → Type 0 = λ a b. b ≤ a in inl
+        (from_pairs (flip R) (reverse gs) (pairs-reversed R gs (to_pairs R gs down))))
   ];
 }

@@ -17,19 +17,23 @@ abbrev pub Paired : Buffer → Type 0
 Paired b = length b.positions ≡ length b.glyphs
 
 pub same_length : (old new : Buffer) → PositionKeeps old new → length new.glyphs ≡ length old.glyphs
-same_length old new keeps = sym (length-map new.glyphs unplaced) ∙ ap length keeps.glyphs ∙ length-map old.glyphs unplaced
+same_length old new keeps = sym (length-map new.glyphs unplaced) ∙ ap length keeps.glyphs
+    ∙ length-map old.glyphs unplaced
 
 pub paired_stays : (old new : Buffer) → PositionKeeps old new → Paired old → Paired new
 paired_stays old new keeps pairs = keeps.positions ∙ pairs ∙ sym (same_length old new keeps)
 
-pub length-changed : (f : hb_glyph_info_t → GlyphPosition → GlyphPosition) (gs : List hb_glyph_info_t) (ps : List GlyphPosition) → length ps ≡ length gs → length (positions_changed f gs ps) ≡ length gs
+pub length-changed : (f : hb_glyph_info_t → GlyphPosition → GlyphPosition) (gs : List hb_glyph_info_t)
+    (ps : List GlyphPosition) → length ps ≡ length gs → length (positions_changed f gs ps) ≡ length gs
 length-changed f gs ps pairs = omega (arith, length-map (zip gs ps) (λ c. f c.0 c.1), length-zip gs ps, pairs)
 
-pub zeroed_pairs : (now : Bool) (is_mark : hb_glyph_info_t → Bool) (applies : Bool) (b : Buffer) → Paired b → Paired (marks_zeroed_if now is_mark applies b)
+pub zeroed_pairs : (now : Bool) (is_mark : hb_glyph_info_t → Bool) (applies : Bool) (b : Buffer) → Paired b → Paired
+    (marks_zeroed_if now is_mark applies b)
 zeroed_pairs true is_mark applies b pairs = length-changed _ b.glyphs b.positions pairs
 zeroed_pairs false is_mark applies b pairs = pairs
 
-pub ignorables_pairs : (wanted : DefaultIgnorables) (b : Buffer) → Paired b → Paired (record b { positions = ignorables_zeroed wanted b.direction b.glyphs b.positions })
+pub ignorables_pairs : (wanted : DefaultIgnorables) (b : Buffer) → Paired b → Paired
+    (record b { positions = ignorables_zeroed wanted b.direction b.glyphs b.positions })
 ignorables_pairs Hide b pairs = length-changed _ b.glyphs b.positions pairs
 ignorables_pairs Preserve b pairs = pairs
 ignorables_pairs Remove b pairs = pairs

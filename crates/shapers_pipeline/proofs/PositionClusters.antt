@@ -51,17 +51,20 @@ stays b = record { keeps = record { level = refl; glyphs = itself (merges b.leve
 
 -- ---- positions changed, each by its glyph
 
-changed : (f : hb_glyph_info_t → GlyphPosition → GlyphPosition) (b : Buffer) → Placed b (record b { positions = positions_changed f b.glyphs b.positions })
+changed : (f : hb_glyph_info_t → GlyphPosition → GlyphPosition) (b : Buffer) → Placed b
+    (record b { positions = positions_changed f b.glyphs b.positions })
 changed f b = record {
   keeps = record { level = refl; glyphs = itself (merges b.level) b.glyphs };
   paired = length-changed f b.glyphs b.positions;
 }
 
-zeroed_if : (now : Bool) (is_mark : hb_glyph_info_t → Bool) (applies : Bool) (b : Buffer) → Placed b (marks_zeroed_if now is_mark applies b)
+zeroed_if : (now : Bool) (is_mark : hb_glyph_info_t → Bool) (applies : Bool) (b : Buffer) → Placed b
+    (marks_zeroed_if now is_mark applies b)
 zeroed_if true is_mark applies b = changed (mark_zeroed is_mark (hangs_marks applies b.direction)) b
 zeroed_if false is_mark applies b = stays b
 
-ignorables_kept : (wanted : DefaultIgnorables) (b : Buffer) → Placed b (record b { positions = ignorables_zeroed wanted b.direction b.glyphs b.positions })
+ignorables_kept : (wanted : DefaultIgnorables) (b : Buffer) → Placed b
+    (record b { positions = ignorables_zeroed wanted b.direction b.glyphs b.positions })
 ignorables_kept Hide b = changed (ignorable_zeroed (is_horizontal b.direction)) b
 ignorables_kept Preserve b = stays b
 ignorables_kept Remove b = stays b
@@ -74,12 +77,15 @@ by_promise old new keeps =
       keeps = record {
         level = ap (λ b. b.level) keeps.others;
         glyphs = same (merges old.level) old.glyphs new.glyphs
-            (sym (clusters-map unplaced (λ g. refl) new.glyphs) ∙ ap clusters keeps.glyphs ∙ clusters-map unplaced (λ g. refl) old.glyphs);
+            (sym (clusters-map unplaced (λ g. refl) new.glyphs) ∙ ap clusters keeps.glyphs ∙ clusters-map unplaced
+            (λ g. refl) old.glyphs);
       };
       paired = paired_stays old new keeps;
     }
 
-looked : (f : StageLookup → Buffer → Buffer) → ((lookup : StageLookup) (b : Buffer) → Paired b → PositionKeeps b (f lookup b)) → (list : List StageLookup) (b : Buffer) → Paired b → Placed b (looked_up f list b)
+looked : (f : StageLookup → Buffer → Buffer) →
+    ((lookup : StageLookup) (b : Buffer) → Paired b → PositionKeeps b (f lookup b)) → (list : List StageLookup)
+    (b : Buffer) → Paired b → Placed b (looked_up f list b)
 looked f keeps [] b pairs = stays b
 looked f keeps (x ∷ xs) b pairs =
     let first = by_promise b (f x b) (keeps x b pairs) in
@@ -101,30 +107,42 @@ in_order b =
 -- ---- hidden glyphs
 
 drawn_cluster : (glyph : GlyphId) (g : hb_glyph_info_t) → (drawn_by glyph g).cluster ≡ g.cluster
-drawn_cluster glyph g = elim (is_default_ignorable g) as (λ test. (if test then (let r : hb_glyph_info_t = record g { glyph_id = glyph.0 } in r) else g).cluster ≡ g.cluster) [ true ↦ refl | false ↦ refl ]
+drawn_cluster glyph g = elim (is_default_ignorable g) as
+    (λ test. (if test then (let r : hb_glyph_info_t = record g { glyph_id = glyph.0 } in r) else g).cluster
+    ≡ g.cluster) [ true ↦ refl | false ↦ refl ]
 
-length-paired : (f : hb_glyph_info_t → Bool) (gs : List hb_glyph_info_t) (ps : List GlyphPosition) → length ps ≡ length gs → length (filter (λ c. f c.0) (zip gs ps)) ≡ length (filter f gs)
+length-paired : (f : hb_glyph_info_t → Bool) (gs : List hb_glyph_info_t) (ps : List GlyphPosition) → length ps
+    ≡ length gs → length (filter (λ c. f c.0) (zip gs ps)) ≡ length (filter f gs)
 length-paired f [] [] pairs = refl
 length-paired f [] (p ∷ ps) pairs = refl
 length-paired f (g ∷ gs) [] pairs = absurd (omega arith)
 length-paired f (g ∷ gs) (p ∷ ps) pairs =
     let rest = length-paired f gs ps (omega arith) in
-    elim (f g) as (λ test. length (cond test ((g, p) ∷ filter (λ c. f c.0) (zip gs ps)) (filter (λ c. f c.0) (zip gs ps))) ≡ length (cond test (g ∷ filter f gs) (filter f gs))) [ true ↦ ap suc rest | false ↦ rest ]
+    elim (f g) as (λ test. length (cond test ((g, p) ∷ filter (λ c. f c.0) (zip gs ps))
+    (filter (λ c. f c.0) (zip gs ps))) ≡ length
+    (cond test (g ∷ filter f gs) (filter f gs))) [ true ↦ ap suc rest | false ↦ rest ]
 
 ignorables_go : RemovalLaw → (b : Buffer) → Placed b (ignorables_removed b)
 ignorables_go law b =
     let r = law b.level b.glyphs in
     let stay : hb_glyph_info_t → Bool = λ g. not (is_default_ignorable g) in
     let left = removed b.level b.glyphs in
-    let long : length left ≡ length (filter stay b.glyphs) = sym (length-map left _) ∙ ap length r.same_view ∙ length-map (filter stay b.glyphs) _ in
+    let long : length left ≡ length (filter stay b.glyphs) = sym (length-map left _) ∙ ap length r.same_view
+    ∙ length-map (filter stay b.glyphs) _ in
     record {
       keeps = record { level = refl; glyphs = record { none = r.old_clusters; mono = λ merging. r.monotone } };
-      paired = λ pairs. length-map (filter (λ c. stay c.0) (zip b.glyphs b.positions)) (λ c. c.1) ∙ length-paired stay b.glyphs b.positions pairs ∙ sym long;
+      paired = λ pairs. length-map (filter (λ c. stay c.0) (zip b.glyphs b.positions)) (λ c. c.1)
+          ∙ length-paired stay b.glyphs b.positions pairs ∙ sym long;
     }
 
-hidden : RemovalLaw → (wanted : DefaultIgnorables) (glyph : Option GlyphId) (b : Buffer) → Placed b (ignorables_hidden wanted glyph b)
+hidden : RemovalLaw → (wanted : DefaultIgnorables) (glyph : Option GlyphId) (b : Buffer) → Placed b
+    (ignorables_hidden wanted glyph b)
 hidden law Hide (Some glyph) b = record {
-  keeps = record { level = refl; glyphs = same (merges b.level) b.glyphs (map (drawn_by glyph) b.glyphs) (clusters-map (drawn_by glyph) (drawn_cluster glyph) b.glyphs) };
+  keeps = record {
+    level = refl;
+    glyphs = same (merges b.level) b.glyphs (map (drawn_by glyph) b.glyphs)
+        (clusters-map (drawn_by glyph) (drawn_cluster glyph) b.glyphs);
+  };
   paired = λ pairs. pairs ∙ sym (length-map b.glyphs (drawn_by glyph));
 }
 hidden law Hide None b = ignorables_go law b
@@ -147,20 +165,29 @@ advanced_pairs p b = length-map b.glyphs (advanced p.font)
 begun : (p : Positioning) (b : Buffer) → Keeps b (text_advanced p b) × Paired (text_advanced p b)
 begun p b =
     let t : Buffer = record b { positions = map (advanced p.font) b.glyphs } in
-    let zeroed = zeroed_if (is_early (zeroing_of p.shaper)) p.is_mark p.applies_gpos t in
-    (after b t (text_advanced p b) (record { level = refl; glyphs = itself (merges b.level) b.glyphs }) zeroed.keeps, zeroed.paired (advanced_pairs p b))
+    let zeroed = zeroed_if (is_early (zeroing_of p.shaper)) p.is_mark p.applies_gpos t in (
+      after b t (text_advanced p b) (record {
+        level = refl;
+        glyphs = itself
+            (merges b.level) b.glyphs;
+      }) zeroed.keeps,
+      zeroed.paired (advanced_pairs p b),
+    )
 
-behind_gpos : (p : Positioning) → PositionsKeep p → (b : Buffer) → Paired b → Placed b (looked_up p.positioned (lookups_if p.applies_gpos p.list) b)
+behind_gpos : (p : Positioning) → PositionsKeep p → (b : Buffer) → Paired b → Placed b
+    (looked_up p.positioned (lookups_if p.applies_gpos p.list) b)
 behind_gpos p keeps b pairs = looked p.positioned keeps.looking_up (lookups_if p.applies_gpos p.list) b pairs
 
 narrowed : (p : Positioning) (b : Buffer) →
-    Placed b (let t = marks_zeroed_if (is_late (zeroing_of p.shaper)) p.is_mark p.applies_gpos b in let r : Buffer = record t { positions = ignorables_zeroed p.ignorables t.direction t.glyphs t.positions } in r)
+    Placed b (let t = marks_zeroed_if (is_late (zeroing_of p.shaper)) p.is_mark p.applies_gpos b in
+    let r : Buffer = record t { positions = ignorables_zeroed p.ignorables t.direction t.glyphs t.positions } in r)
 narrowed p b =
     let t = marks_zeroed_if (is_late (zeroing_of p.shaper)) p.is_mark p.applies_gpos b in
     let r : Buffer = record t { positions = ignorables_zeroed p.ignorables t.direction t.glyphs t.positions } in
     on b t r (zeroed_if (is_late (zeroing_of p.shaper)) p.is_mark p.applies_gpos b) (ignorables_kept p.ignorables t)
 
-text_placed : Laws → (p : Positioning) → PositionsKeep p → (b : Buffer) → Keeps b (text_positioned p b) × Paired (text_positioned p b)
+text_placed : Laws → (p : Positioning) → PositionsKeep p → (b : Buffer) → Keeps b (text_positioned p b) × Paired
+    (text_positioned p b)
 text_placed laws p keeps b =
     let a = text_advanced p b in
     let l = text_looked_up p b in
@@ -172,26 +199,34 @@ text_placed laws p keeps b =
     let looked = behind_gpos p keeps a pairs in
     let narrow = narrowed p l in
     let npairs : Paired n = narrow.paired (looked.paired pairs) in
-    let rest = on n f h (by_promise n f (keeps.finishing n npairs)) (on f o h (in_order f) (hidden laws.removal p.ignorables (option_or p.invisible (p.font.nominal 0x20)) o)) in
+    let rest = on n f h (by_promise n f (keeps.finishing n npairs))
+    (on f o h (in_order f) (hidden laws.removal p.ignorables (option_or p.invisible (p.font.nominal 0x20)) o)) in
     let all = on a l h looked (on l n h narrow rest) in
     (after b a h first all.keeps, all.paired pairs)
 
 -- ---- stretched marks
 
-stretched_level : (font : Font) (plan : hb_ot_shape_plan_t) (b : Buffer) → (marks_stretched font (start_of plan.plan_data) b).level ≡ b.level
-stretched_level font plan b = elim b.stch as (λ test. (if test then with_cells (stretched_cells font (start_of plan.plan_data) b) b else b).level ≡ b.level) [ true ↦ refl | false ↦ refl ]
+stretched_level : (font : Font) (plan : hb_ot_shape_plan_t) (b : Buffer) →
+    (marks_stretched font (start_of plan.plan_data) b).level ≡ b.level
+stretched_level font plan b = elim b.stch as
+    (λ test. (if test then with_cells (stretched_cells font (start_of plan.plan_data) b) b else b).level
+    ≡ b.level) [ true ↦ refl | false ↦ refl ]
 
-marks_stretch : Laws → (plan : hb_ot_shape_plan_t) (font : Font) (b : Buffer) → Paired b → Keeps b (marks_stretched font (start_of plan.plan_data) b)
+marks_stretch : Laws → (plan : hb_ot_shape_plan_t) (font : Font) (b : Buffer) → Paired b → Keeps b
+    (marks_stretched font (start_of plan.plan_data) b)
 marks_stretch laws plan font b pairs =
     let choice = start_of plan.plan_data in
     let new = marks_stretched font choice b in
-    let kept : PostprocessKeeps Arabic plan font b new = (on_copies (Ok true) font choice b new refl, on_widths (Ok true) font choice b new pairs refl) in
+    let kept : PostprocessKeeps Arabic plan font b new =
+    (on_copies (Ok true) font choice b new refl, on_widths (Ok true) font choice b new pairs refl) in
     record {
       level = stretched_level font plan b;
-      glyphs = kept_sorted (merges b.level) b.glyphs new.glyphs (laws.hooks.postprocessing Arabic plan font b new kept) (λ merging. laws.stretch Arabic plan font b new pairs refl);
+      glyphs = kept_sorted (merges b.level) b.glyphs new.glyphs (laws.hooks.postprocessing Arabic plan font b new kept)
+          (λ merging. laws.stretch Arabic plan font b new pairs refl);
     }
 
-by_shaper : Laws → (plan : hb_ot_shape_plan_t) (font : Font) (b : Buffer) → Paired b → (shaper : hb_ot_shaper_t) → Keeps b (postprocessed_by plan font b shaper)
+by_shaper : Laws → (plan : hb_ot_shape_plan_t) (font : Font) (b : Buffer) → Paired b → (shaper : hb_ot_shaper_t)
+    → Keeps b (postprocessed_by plan font b shaper)
 by_shaper laws plan font b pairs Arabic = marks_stretch laws plan font b pairs
 by_shaper laws plan font b pairs Hangul = (stays b).keeps
 by_shaper laws plan font b pairs Hebrew = (stays b).keeps
@@ -202,7 +237,8 @@ by_shaper laws plan font b pairs MyanmarZawgyi = (stays b).keeps
 by_shaper laws plan font b pairs Thai = (stays b).keeps
 by_shaper laws plan font b pairs Universal = (stays b).keeps
 
-by_shaper_if : Laws → (o : Option hb_ot_shaper_t) (plan : hb_ot_shape_plan_t) (font : Font) (b : Buffer) → Paired b → Keeps b (option_map_or (postprocessed_by plan font b) o b)
+by_shaper_if : Laws → (o : Option hb_ot_shaper_t) (plan : hb_ot_shape_plan_t) (font : Font) (b : Buffer) → Paired b
+    → Keeps b (option_map_or (postprocessed_by plan font b) o b)
 by_shaper_if laws None plan font b pairs = (stays b).keeps
 by_shaper_if laws (Some shaper) plan font b pairs = by_shaper laws plan font b pairs shaper
 
@@ -212,7 +248,11 @@ finish_keeps laws p direction b keeps =
     let u = text_postprocessed p b in
     let new = text_shaped p direction b in
     let (first, pairs) = text_placed laws p keeps b in
-    let flags : Keeps u new = record { level = refl; glyphs = same (merges u.level) u.glyphs new.glyphs (laws.flags u.flags u.glyphs).same_clusters } in
+    let flags : Keeps u new = record {
+      level = refl;
+      glyphs = same (merges u.level) u.glyphs new.glyphs
+          (laws.flags u.flags u.glyphs).same_clusters;
+    } in
     let all = after b u new (after b t u first (by_shaper_if laws p.shaper p.plan p.font t pairs)) flags in
     (record { level = all.level; old_clusters = all.glyphs.none }, all.glyphs.mono)
 
@@ -224,8 +264,8 @@ shaping_keeps preparation stages finish p noted r ss q direction old mid lookups
     let new = text_shaped q direction mid in
     let one = preparation p noted old in
     let two = stages r ss text mid lookups none run in
-    let three = finish q direction mid positions in
-    (
+    let three = finish q direction mid positions in (
       none_after old text new one.0 (none_after text mid new two.0 three.0),
-      λ sorts. sorted_after old text new one.0.level one.1 (sorted_after text mid new two.0.level (two.1 sorts) three.1),
+      λ sorts. sorted_after old text new one.0.level one.1
+          (sorted_after text mid new two.0.level (two.1 sorts) three.1),
     )

@@ -44,7 +44,15 @@ lookup n = record { index = n; mask = 1; auto_zwnj = true; auto_zwj = true; rand
 abbrev by : Option hb_ot_shaper_t → Bool → Positioning
 by shaper applies = record {
   shaper = shaper;
-  plan = new_plan None (record { features = []; stages = []; lookups = []; global = 0x80000000; chosen = None; found = false });
+  plan = new_plan None (record {
+    features = [];
+    stages = [];
+    lookups = [];
+    global = 0x80000000;
+    chosen = None;
+    found =
+        false;
+  });
   applies_gpos = applies;
   list = lookup 100 ∷ lookup 7 ∷ [];
   font = font;
@@ -59,7 +67,8 @@ by shaper applies = record {
 abbrev text : Direction → Buffer
 text direction = record (new_buffer 9) {
   glyphs =
-      record default_glyph { glyph_id = 10; cluster = 0; mask = 0x10 } ∷ record default_glyph { glyph_id = 20; cluster = 0; mask = 0x21 }
+      record default_glyph { glyph_id = 10; cluster = 0; mask = 0x10 } ∷ record default_glyph
+      { glyph_id = 20; cluster = 0; mask = 0x21 }
       ∷ record default_glyph { glyph_id = 30; cluster = 1; mask = 0x40; marks = record { 0 = 8 } } ∷ [];
   direction = direction;
 }
@@ -72,7 +81,8 @@ abbrev seen : Buffer → List (ℕ × (ℕ × ℕ))
 seen b = map (λ g. (g.glyph_id, (g.cluster, g.mask))) b.glyphs
 
 -- without GPOS the mark hangs, from left to right; the flag is spread, the direction the caller's
-plain : seen (text_shaped (by None false) BottomToTop (text LeftToRight)) ≡ (10, (0, 0x11)) ∷ (20, (0, 0x21)) ∷ (3, (1, 0x40)) ∷ []
+plain : seen (text_shaped (by None false) BottomToTop (text LeftToRight)) ≡ (10, (0, 0x11)) ∷ (20, (0, 0x21)) ∷
+    (3, (1, 0x40)) ∷ []
 plain = refl
 
 plain_positions : (text_shaped (by None false) BottomToTop (text LeftToRight)).positions
@@ -102,7 +112,8 @@ late : (text_shaped (by None true) LeftToRight mark_first).positions ≡ spot (p
 late = refl
 
 -- from right to left it is turned, and nothing hangs
-backward : seen (text_shaped (by None false) RightToLeft (text RightToLeft)) ≡ (3, (1, 0x40)) ∷ (20, (0, 0x21)) ∷ (10, (0, 0x11)) ∷ []
+backward : seen (text_shaped (by None false) RightToLeft (text RightToLeft)) ≡ (3, (1, 0x40)) ∷ (20, (0, 0x21)) ∷
+    (10, (0, 0x11)) ∷ []
 backward = refl
 
 backward_positions : (text_shaped (by None false) RightToLeft (text RightToLeft)).positions

@@ -66,12 +66,14 @@ pub record Keeps (old new : Buffer) : Type 0 where
 pub after : (a b c : Buffer) → Keeps a b → Keeps b c → Keeps a c
 after a b c one two = record {
   level = two.level ∙ one.level;
-  glyphs = kept_then (merges a.level) a.glyphs b.glyphs c.glyphs one.glyphs (subst (λ l. Kept (merges l) b.glyphs c.glyphs) one.level two.glyphs);
+  glyphs = kept_then (merges a.level) a.glyphs b.glyphs c.glyphs one.glyphs
+      (subst (λ l. Kept (merges l) b.glyphs c.glyphs) one.level two.glyphs);
 }
 
 -- ---- the features of the whole text, and the properties of its characters
 
-clusters-properties : (p : CharacterProperties) (before gs : List hb_glyph_info_t) → clusters (map (λ x. with_properties_behind p x.0 x.1) (each_after before gs)) ≡ clusters gs
+clusters-properties : (p : CharacterProperties) (before gs : List hb_glyph_info_t) → clusters
+    (map (λ x. with_properties_behind p x.0 x.1) (each_after before gs)) ≡ clusters gs
 clusters-properties p before [] = refl
 clusters-properties p before (g ∷ gs) = ap (λ ks. g.cluster ∷ ks) (clusters-properties p (before ++ g ∷ []) gs)
 
@@ -80,7 +82,9 @@ begun p b =
     let masked = map (with_mask_alone p.plan.ot_map.global) b.glyphs in
     record {
       level = refl;
-      glyphs = same (merges b.level) b.glyphs (properties_set p.properties masked) (clusters-properties p.properties [] masked ∙ clusters-map (with_mask_alone p.plan.ot_map.global) (λ g. refl) b.glyphs);
+      glyphs = same (merges b.level) b.glyphs (properties_set p.properties masked)
+          (clusters-properties p.properties [] masked ∙ clusters-map (with_mask_alone p.plan.ot_map.global)
+          (λ g. refl) b.glyphs);
     }
 
 -- ---- a circle in front
@@ -88,26 +92,33 @@ begun p b =
 circle_kept : (m : Bool) (p : CharacterProperties) (gs : List hb_glyph_info_t) → Kept m gs (behind_circle p gs)
 circle_kept m p [] = itself m []
 circle_kept m p (g ∷ gs) =
-    kept_by m (g ∷ gs) (first_circle p g ∷ (g ∷ gs)) (λ P own. (own.0, own)) (λ R self own. ((self g.cluster, own.0), own))
+    kept_by m (g ∷ gs) (first_circle p g ∷ (g ∷ gs)) (λ P own. (own.0, own))
+    (λ R self own. ((self g.cluster, own.0), own))
 
 circle_opens : (p : Preparation) (b : Buffer) → Keeps b (text_opened p b)
 circle_opens p b =
     let t = text_begun p b in
     after b t (text_opened p b) (begun p b) (record {
       level = refl;
-      glyphs = elim (wants_first_circle t && has_nominal p.font dotted_circle) as (λ test. Kept (merges t.level) t.glyphs (if test then behind_circle p.properties t.glyphs else t.glyphs)) [
-        | true ↦ circle_kept (merges t.level) p.properties t.glyphs
-        | false ↦ itself (merges t.level) t.glyphs
-      ];
+      glyphs = elim (wants_first_circle t && has_nominal p.font dotted_circle) as
+          (λ test. Kept (merges t.level) t.glyphs (if test then behind_circle p.properties t.glyphs else t.glyphs)) [
+            | true ↦ circle_kept (merges t.level) p.properties t.glyphs
+            | false ↦ itself (merges t.level) t.glyphs
+          ];
     })
 
 -- ---- graphemes, and the text's own direction
 
-directed_from : GraphemesCover → NoGraphemeSplits → (b : Buffer) → Keeps b (in_native_direction (record b { glyphs = clusters_formed b.level b.glyphs }))
+directed_from : GraphemesCover → NoGraphemeSplits → (b : Buffer) → Keeps b
+    (in_native_direction (record b { glyphs = clusters_formed b.level b.glyphs }))
 directed_from cover splits b =
     let t : Buffer = record b { glyphs = clusters_formed b.level b.glyphs } in
     let own = text_direction t.direction (native_direction t.script) t.glyphs in
-    let turned : Buffer = record t { direction = opposite_direction t.direction; glyphs = graphemes_turned (graphemes_whole t.level t.glyphs) } in
+    let turned : Buffer = record t {
+      direction = opposite_direction t.direction;
+      glyphs = graphemes_turned
+          (graphemes_whole t.level t.glyphs);
+    } in
     elim (is_turned t.direction own) as (λ test. Keeps b (if test then turned else t)) [
       | true ↦ record { level = refl; glyphs = in_other_direction cover splits b.level b.glyphs }
       | false ↦ record { level = refl; glyphs = clusters_form b.level b.glyphs }
@@ -115,7 +126,8 @@ directed_from cover splits b =
 
 -- ---- preprocessing
 
-thai_keeps : (plan : hb_ot_shape_plan_t) (font : Font) (b : Buffer) → PreprocessKeeps Thai plan font b (preprocessed_in_thai plan font b)
+thai_keeps : (plan : hb_ot_shape_plan_t) (font : Font) (b : Buffer) → PreprocessKeeps Thai plan font b
+    (preprocessed_in_thai plan font b)
 thai_keeps plan font b =
     let has = has_nominal font in
     let gs = b.glyphs in
@@ -124,57 +136,87 @@ thai_keeps plan font b =
     elim (asks_for_forms plan) as (λ forms.
     let new = preprocessed_text forms has b.level gs in
     ClustersInTwo b.level (characters gs) (clusters gs) (clusters new) × KeptInTwo forms gs new × FlagsInTwo gs new) [
-      | true ↦ (shaped_in_two has b.level gs plain shaped refl refl, kept_in_two true has b.level gs, shaped_flags has b.level gs plain shaped refl refl)
-      | false ↦ (plain_in_two b.level gs plain refl, kept_in_two false has b.level gs, plain_flags b.level gs plain refl)
+      | true ↦ (
+        shaped_in_two has b.level gs plain shaped refl refl,
+        kept_in_two true has b.level gs,
+        shaped_flags has
+            b.level gs plain shaped refl refl,
+      )
+      | false ↦ (
+        plain_in_two b.level gs plain refl,
+        kept_in_two false has b.level gs,
+        plain_flags b.level gs plain
+            refl,
+      )
     ]
 
 -- A walk that puts a circle before some glyphs, by a table of any kind X.
-record Parts {X : Type 0} (walk : X → ℕ → List hb_glyph_info_t → List hb_glyph_info_t) (left : X → ℕ → hb_glyph_info_t → List hb_glyph_info_t → ℕ)
+record Parts {X : Type 0} (walk : X → ℕ → List hb_glyph_info_t → List hb_glyph_info_t)
+    (left : X → ℕ → hb_glyph_info_t → List hb_glyph_info_t → ℕ)
     : Type 0 where
   nil : (s : X) (n : ℕ) → walk s n [] ≡ []
-  cons : (s : X) (n : ℕ) (g : hb_glyph_info_t) (gs : List hb_glyph_info_t) → walk s n (g ∷ gs) ≡ circle_before_last n g ++ g ∷ walk s (left s n g gs) gs
+  cons : (s : X) (n : ℕ) (g : hb_glyph_info_t) (gs : List hb_glyph_info_t) → walk s n (g ∷ gs) ≡ circle_before_last n g
+      ++ g ∷ walk s (left s n g gs) gs
 
-module _ {X : Type 0} (walk : X → ℕ → List hb_glyph_info_t → List hb_glyph_info_t) (left : X → ℕ → hb_glyph_info_t → List hb_glyph_info_t → ℕ) (parts : Parts walk left) where
+module _ {X : Type 0} (walk : X → ℕ → List hb_glyph_info_t → List hb_glyph_info_t)
+    (left : X → ℕ → hb_glyph_info_t → List hb_glyph_info_t → ℕ) (parts : Parts walk left) where
   each-parted : (P : ℕ → Type 0) (s : X) (n : ℕ) (gs : List hb_glyph_info_t) → Each P gs → Each P (walk s n gs)
   each-parted P s n [] own = subst (Each P) (sym (parts.nil s n)) tt
   each-parted P s n (g ∷ gs) own =
       let rest = walk s (left s n g gs) gs in
       let more = each-parted P s (left s n g gs) gs own.1 in
       subst (Each P) (sym (parts.cons s n g gs))
-      (elim (n == 1) as (λ test. Each P ((if test then vowel_circle g ∷ [] else []) ++ g ∷ rest)) [ true ↦ (own.0, (own.0, more)) | false ↦ (own.0, more) ])
+      (elim (n == 1) as (λ test. Each P ((if test then vowel_circle g ∷ [] else []) ++ g ∷ rest)) [
+        | true ↦
+            (own.0, (own.0, more))
+        | false ↦ (own.0, more)
+      ])
 
-  pairs-parted : (R : ℕ → ℕ → Type 0) → ((k : ℕ) → R k k) → (s : X) (n : ℕ) (gs : List hb_glyph_info_t) → Pairs R gs → Pairs R (walk s n gs)
+  pairs-parted : (R : ℕ → ℕ → Type 0) → ((k : ℕ) → R k k) → (s : X) (n : ℕ) (gs : List hb_glyph_info_t) → Pairs R gs
+      → Pairs R (walk s n gs)
   pairs-parted R self s n [] own = subst (Pairs R) (sym (parts.nil s n)) tt
   pairs-parted R self s n (g ∷ gs) own =
       let rest = walk s (left s n g gs) gs in
       let all = each-parted (R g.cluster) s (left s n g gs) gs own.0 in
       let more = pairs-parted R self s (left s n g gs) gs own.1 in
       subst (Pairs R) (sym (parts.cons s n g gs))
-      (elim (n == 1) as (λ test. Pairs R ((if test then vowel_circle g ∷ [] else []) ++ g ∷ rest)) [ true ↦ ((self g.cluster, all), (all, more)) | false ↦ (all, more) ])
+      (elim (n == 1) as (λ test. Pairs R ((if test then vowel_circle g ∷ [] else []) ++ g ∷ rest)) [
+        | true ↦
+            ((self g.cluster, all), (all, more))
+        | false ↦ (all, more)
+      ])
 
-  parted_by : (whole : Option X → List hb_glyph_info_t → List hb_glyph_info_t) → ((gs : List hb_glyph_info_t) → whole None gs ≡ gs) →
-      ((s : X) (gs : List hb_glyph_info_t) → whole (Some s) gs ≡ walk s 0 gs) → (m : Bool) (o : Option X) (gs : List hb_glyph_info_t) → Kept m gs (whole o gs)
+  parted_by : (whole : Option X → List hb_glyph_info_t → List hb_glyph_info_t) →
+      ((gs : List hb_glyph_info_t) → whole None gs ≡ gs) →
+      ((s : X) (gs : List hb_glyph_info_t) → whole (Some s) gs ≡ walk s 0 gs) → (m : Bool) (o : Option X)
+      (gs : List hb_glyph_info_t) → Kept m gs (whole o gs)
   parted_by whole without by m None gs = subst (Kept m gs) (sym (without gs)) (itself m gs)
-  parted_by whole without by m (Some s) gs = subst (Kept m gs) (sym (by s gs)) (kept_by m gs (walk s 0 gs) (λ P. each-parted P s 0 gs) (λ R self. pairs-parted R self s 0 gs))
+  parted_by whole without by m (Some s) gs = subst (Kept m gs) (sym (by s gs))
+      (kept_by m gs (walk s 0 gs) (λ P. each-parted P s 0 gs) (λ R self. pairs-parted R self s 0 gs))
 
 parted_kept : (m : Bool) (b : Buffer) → Kept m b.glyphs (vowels_parted b)
 parted_kept m b =
-    parted_by vowels_parted_from left_behind (record { nil = λ s n. refl; cons = λ s n g gs. refl }) vowels_parted_in (λ gs. refl) (λ s gs. refl) m (vowel_script_of b) b.glyphs
+    parted_by vowels_parted_from left_behind (record { nil = λ s n. refl; cons = λ s n g gs. refl }) vowels_parted_in
+    (λ gs. refl) (λ s gs. refl) m (vowel_script_of b) b.glyphs
 
 unchanged : (b : Buffer) → Keeps b b
 unchanged b = record { level = refl; glyphs = itself (merges b.level) b.glyphs }
 
-preprocessed_keeps : ThaiStaysMonotone → HangulStaysMonotone → (plan : hb_ot_shape_plan_t) (font : Font) (b : Buffer) (shaper : hb_ot_shaper_t) → Keeps b (preprocessed_by plan font b shaper)
+preprocessed_keeps : ThaiStaysMonotone → HangulStaysMonotone → (plan : hb_ot_shape_plan_t) (font : Font) (b : Buffer)
+    (shaper : hb_ot_shaper_t) → Keeps b (preprocessed_by plan font b shaper)
 preprocessed_keeps thai hangul plan font b Hangul = record {
   level = refl;
-  glyphs = kept_sorted (merges b.level) b.glyphs (rewritten font b).glyphs (rewritten_holds font (allows_circles b) b.level b.glyphs).in_clusters.made.old_clusters
+  glyphs = kept_sorted (merges b.level) b.glyphs (rewritten font b).glyphs
+      (rewritten_holds font (allows_circles b) b.level b.glyphs).in_clusters.made.old_clusters
       (λ merging. hangul plan font b (rewritten font b) merging refl);
 }
 preprocessed_keeps thai hangul plan font b Thai =
     let keeps = thai_keeps plan font b in
     record {
       level = refl;
-      glyphs = kept_sorted (merges b.level) b.glyphs (preprocessed_in_thai plan font b).glyphs keeps.0.made.old_clusters (λ merging. thai plan font b (preprocessed_in_thai plan font b) merging keeps);
+      glyphs = kept_sorted (merges b.level) b.glyphs
+          (preprocessed_in_thai plan font b).glyphs keeps.0.made.old_clusters
+          (λ merging. thai plan font b (preprocessed_in_thai plan font b) merging keeps);
     }
 preprocessed_keeps thai hangul plan font b Indic = record { level = refl; glyphs = parted_kept (merges b.level) b }
 preprocessed_keeps thai hangul plan font b Universal = record { level = refl; glyphs = parted_kept (merges b.level) b }
@@ -184,36 +226,49 @@ preprocessed_keeps thai hangul plan font b Khmer = unchanged b
 preprocessed_keeps thai hangul plan font b Myanmar = unchanged b
 preprocessed_keeps thai hangul plan font b MyanmarZawgyi = unchanged b
 
-preprocessed_if : ThaiStaysMonotone → HangulStaysMonotone → (shaper : Option hb_ot_shaper_t) (plan : hb_ot_shape_plan_t) (font : Font) (b : Buffer) → Keeps b (preprocessed_for shaper plan font b)
+preprocessed_if : ThaiStaysMonotone → HangulStaysMonotone → (shaper : Option hb_ot_shaper_t)
+    (plan : hb_ot_shape_plan_t) (font : Font) (b : Buffer) → Keeps b (preprocessed_for shaper plan font b)
 preprocessed_if thai hangul None plan font b = unchanged b
 preprocessed_if thai hangul (Some shaper) plan font b = preprocessed_keeps thai hangul plan font b shaper
 
 -- ---- rotation
 
-other_cluster : (g h : hb_glyph_info_t) (o : Option ℕ) → h.cluster ≡ g.cluster → (option_map_or (as_other_character g) o h).cluster ≡ g.cluster
+other_cluster : (g h : hb_glyph_info_t) (o : Option ℕ) → h.cluster ≡ g.cluster →
+    (option_map_or (as_other_character g) o h).cluster ≡ g.cluster
 other_cluster g h None is = is
 other_cluster g h (Some c) is = refl
 
-upright_cluster : (p : CharacterProperties) (font : Font) (g : hb_glyph_info_t) → (upright_glyph p font g).cluster ≡ g.cluster
+upright_cluster : (p : CharacterProperties) (font : Font) (g : hb_glyph_info_t) → (upright_glyph p font g).cluster
+    ≡ g.cluster
 upright_cluster p font g = other_cluster g g (which_font_has font (p.vertical g.glyph_id)) refl
 
-mirrored_cluster : (p : CharacterProperties) (font : Font) (backward : Bool) (mask : ℕ) (g : hb_glyph_info_t) → (if backward then mirrored_glyph p font mask g else g).cluster ≡ g.cluster
-mirrored_cluster p font true mask g = other_cluster g (with_bits mask g) (which_font_has font (p.mirroring g.glyph_id)) refl
+mirrored_cluster : (p : CharacterProperties) (font : Font) (backward : Bool) (mask : ℕ) (g : hb_glyph_info_t) →
+    (if backward then mirrored_glyph p font mask g else g).cluster ≡ g.cluster
+mirrored_cluster p font true mask g = other_cluster g (with_bits mask g)
+    (which_font_has font (p.mirroring g.glyph_id)) refl
 mirrored_cluster p font false mask g = refl
 
-rotated_cluster : (p : CharacterProperties) (font : Font) (r : CharRotation) (g : hb_glyph_info_t) → (rotated_glyph p font r g).cluster ≡ g.cluster
+rotated_cluster : (p : CharacterProperties) (font : Font) (r : CharRotation) (g : hb_glyph_info_t) →
+    (rotated_glyph p font r g).cluster ≡ g.cluster
 rotated_cluster p font r g =
     let one = if runs_backward r.direction then mirrored_glyph p font r.rtlm_mask g else g in
     let is = mirrored_cluster p font (runs_backward r.direction) r.rtlm_mask g in
-    elim (runs_vertically r.direction && not r.has_vert) as (λ test. (if test then upright_glyph p font one else one).cluster ≡ g.cluster) [ true ↦ upright_cluster p font one ∙ is | false ↦ is ]
+    elim (runs_vertically r.direction && not r.has_vert) as
+    (λ test. (if test then upright_glyph p font one else one).cluster ≡ g.cluster) [
+      | true ↦ upright_cluster p font one
+          ∙ is
+      | false ↦ is
+    ]
 
-rotated : ThaiStaysMonotone → HangulStaysMonotone → (p : Preparation) (direction : Direction) (b : Buffer) → Keeps b (rotated_from p direction b)
+rotated : ThaiStaysMonotone → HangulStaysMonotone → (p : Preparation) (direction : Direction) (b : Buffer) → Keeps b
+    (rotated_from p direction b)
 rotated thai hangul p direction b =
     let text = preprocessed_for p.shaper p.plan p.font b in
     let change = rotated_glyph p.properties p.font (rotation_to p.masks direction) in
     after b text (rotated_from p direction b) (preprocessed_if thai hangul p.shaper p.plan p.font b) (record {
       level = refl;
-      glyphs = same (merges text.level) text.glyphs (map change text.glyphs) (clusters-map change (rotated_cluster p.properties p.font (rotation_to p.masks direction)) text.glyphs);
+      glyphs = same (merges text.level) text.glyphs (map change text.glyphs)
+          (clusters-map change (rotated_cluster p.properties p.font (rotation_to p.masks direction)) text.glyphs);
     })
 
 -- ---- normalization
@@ -233,8 +288,10 @@ normal : Laws → (p : Preparation) (direction : Direction) (b : Buffer) → Kee
 normal laws p direction b =
     let t = rotated_from p direction b in
     let context = context_of p in
-    let alone = laws.alone p.shaper p.plan p.font p.variants p.tables p.texts p.settings.invisible_glyph p.settings.draws_selectors in
-    let ordered = laws.ordered p.shaper p.plan p.font p.variants p.tables p.texts p.settings.invisible_glyph p.settings.draws_selectors in
+    let alone = laws.alone p.shaper p.plan p.font p.variants p.tables p.texts p.settings.invisible_glyph
+    p.settings.draws_selectors in
+    let ordered = laws.ordered p.shaper p.plan p.font p.variants p.tables p.texts p.settings.invisible_glyph
+    p.settings.draws_selectors in
     after b t (normalized_from p direction b) (rotated laws.thai laws.hangul p direction b) (record {
       level = refl;
       glyphs = record {
@@ -245,22 +302,28 @@ normal laws p direction b =
 
 -- ---- fractions
 
-concat_clusters : (concat : Bool) (i : ℕ) (gs : List hb_glyph_info_t) → clusters (unsafe_to_concat_in concat i (i + 1) gs) ≡ clusters gs
+concat_clusters : (concat : Bool) (i : ℕ) (gs : List hb_glyph_info_t) → clusters
+    (unsafe_to_concat_in concat i (i + 1) gs) ≡ clusters gs
 concat_clusters concat i gs = map-unsafe_to_concat_in (λ g. g.cluster) (λ g. refl) concat i (i + 1) gs (omega arith)
 
-if_clusters : (test : Bool) (concat : Bool) (i : ℕ) (gs : List hb_glyph_info_t) → clusters (if test then unsafe_to_concat_in concat i (i + 1) gs else gs) ≡ clusters gs
+if_clusters : (test : Bool) (concat : Bool) (i : ℕ) (gs : List hb_glyph_info_t) → clusters
+    (if test then unsafe_to_concat_in concat i (i + 1) gs else gs) ≡ clusters gs
 if_clusters true concat i gs = concat_clusters concat i gs
 if_clusters false concat i gs = refl
 
-alone_clusters : (concat : Bool) (i before behind : ℕ) (gs : List hb_glyph_info_t) → clusters (slash_alone concat i before behind gs) ≡ clusters gs
+alone_clusters : (concat : Bool) (i before behind : ℕ) (gs : List hb_glyph_info_t) → clusters
+    (slash_alone concat i before behind gs) ≡ clusters gs
 alone_clusters concat i before behind gs =
     let left = if before == 0 then unsafe_to_concat_in concat i (i + 1) gs else gs in
     if_clusters (behind == 0) concat i left ∙ if_clusters (before == 0) concat i gs
 
-bits_clusters : (bits s e : ℕ) (gs : List hb_glyph_info_t) → s ≤ e → clusters (with_stretch s e (map (with_bits bits)) gs) ≡ clusters gs
-bits_clusters bits s e gs order = map-with_stretch (λ g. g.cluster) s e (map (with_bits bits)) gs order (λ xs. clusters-map (with_bits bits) (λ g. refl) xs)
+bits_clusters : (bits s e : ℕ) (gs : List hb_glyph_info_t) → s ≤ e → clusters
+    (with_stretch s e (map (with_bits bits)) gs) ≡ clusters gs
+bits_clusters bits s e gs order = map-with_stretch (λ g. g.cluster) s e (map (with_bits bits)) gs order
+    (λ xs. clusters-map (with_bits bits) (λ g. refl) xs)
 
-marked_clusters : (m : SlashMasks) (i before behind : ℕ) (gs : List hb_glyph_info_t) → clusters (fraction_marked m i before behind gs) ≡ clusters gs
+marked_clusters : (m : SlashMasks) (i before behind : ℕ) (gs : List hb_glyph_info_t) → clusters
+    (fraction_marked m i before behind gs) ≡ clusters gs
 marked_clusters m i before behind gs =
     let whole = unsafe_inside (i - before) (i + 1 + behind) gs in
     let first = with_stretch (i - before) i (map (with_bits m.before)) whole in
@@ -270,21 +333,27 @@ marked_clusters m i before behind gs =
     ∙ bits_clusters m.before (i - before) i whole (omega arith)
     ∙ map-unsafe_inside (λ g. g.cluster) (λ g. refl) (i - before) (i + 1 + behind) gs (omega arith)
 
-around_clusters : (m : SlashMasks) (concat : Bool) (i : ℕ) (gs : List hb_glyph_info_t) → clusters (fraction_around m concat i gs) ≡ clusters gs
+around_clusters : (m : SlashMasks) (concat : Bool) (i : ℕ) (gs : List hb_glyph_info_t) → clusters
+    (fraction_around m concat i gs) ≡ clusters gs
 around_clusters m concat i gs =
     let before = decimals_before i gs in
     let behind = decimals_behind i gs in
-    let made = if before == 0 || behind == 0 then slash_alone concat i before behind gs else fraction_marked m i before behind gs in
+    let made = if before == 0 || behind == 0 then slash_alone concat i before behind gs else fraction_marked m i before
+    behind gs in
     let inner : clusters made ≡ clusters gs =
-    elim (before == 0 || behind == 0) as (λ test. clusters (if test then slash_alone concat i before behind gs else fraction_marked m i before behind gs) ≡ clusters gs) [
+    elim (before == 0 || behind == 0) as (λ test. clusters
+    (if test then slash_alone concat i before behind gs else fraction_marked m i before behind gs) ≡ clusters gs) [
       | true ↦ alone_clusters concat i before behind gs
       | false ↦ marked_clusters m i before behind gs
     ] in
-    elim (not (is_fraction_slash (get_or gs i default_glyph))) as (λ test. clusters (if test then gs else made) ≡ clusters gs) [ true ↦ refl | false ↦ inner ]
+    elim (not (is_fraction_slash (get_or gs i default_glyph))) as
+    (λ test. clusters (if test then gs else made) ≡ clusters gs) [ true ↦ refl | false ↦ inner ]
 
-all_around_clusters : (m : SlashMasks) (concat : Bool) (n : ℕ) (gs : List hb_glyph_info_t) → clusters (fractions_around m concat n gs) ≡ clusters gs
+all_around_clusters : (m : SlashMasks) (concat : Bool) (n : ℕ) (gs : List hb_glyph_info_t) → clusters
+    (fractions_around m concat n gs) ≡ clusters gs
 all_around_clusters m concat zero gs = refl
-all_around_clusters m concat (suc n) gs = around_clusters m concat n (fractions_around m concat n gs) ∙ all_around_clusters m concat n gs
+all_around_clusters m concat (suc n) gs = around_clusters m concat n (fractions_around m concat n gs)
+    ∙ all_around_clusters m concat n gs
 
 fraction_clusters : (m : DriverMasks) (b : Buffer) → clusters (fractions_set m b) ≡ clusters b.glyphs
 fraction_clusters m b =
@@ -295,34 +364,50 @@ fraction_clusters m b =
     ]
 
 fractions : (p : Preparation) (b : Buffer) → Keeps b (record b { glyphs = fractions_set p.masks b })
-fractions p b = record { level = refl; glyphs = same (merges b.level) b.glyphs (fractions_set p.masks b) (fraction_clusters p.masks b) }
+fractions p b = record {
+  level = refl;
+  glyphs = same (merges b.level) b.glyphs (fractions_set p.masks b)
+      (fraction_clusters p.masks b);
+}
 
 -- ---- the shaper's masks
 
-map_keeps : (f : hb_glyph_info_t → hb_glyph_info_t) → ((g : hb_glyph_info_t) → (f g).cluster ≡ g.cluster) → (b : Buffer) → Keeps b (record b { glyphs = map f b.glyphs })
-map_keeps f keeps b = record { level = refl; glyphs = same (merges b.level) b.glyphs (map f b.glyphs) (clusters-map f keeps b.glyphs) }
+map_keeps : (f : hb_glyph_info_t → hb_glyph_info_t) → ((g : hb_glyph_info_t) → (f g).cluster ≡ g.cluster) →
+    (b : Buffer) → Keeps b (record b { glyphs = map f b.glyphs })
+map_keeps f keeps b = record {
+  level = refl;
+  glyphs = same (merges b.level) b.glyphs (map f b.glyphs)
+      (clusters-map f keeps b.glyphs);
+}
 
-universal_keeps : (kept : Option arabic_shape_plan_t) (script : Option Script) (tables : CharacterTables) (b : Buffer) → Keeps b (universal_masks_set kept script tables b)
+universal_keeps : (kept : Option arabic_shape_plan_t) (script : Option Script) (tables : CharacterTables) (b : Buffer)
+    → Keeps b (universal_masks_set kept script tables b)
 universal_keeps None script tables b = map_keeps (categorized tables.universal) (λ g. refl) b
 universal_keeps (Some p) script tables b =
     let t = with_categories tables b in
     let new = universal_masks_set (Some p) script tables b in
     after b t new (map_keeps (categorized tables.universal) (λ g. refl) b) (record {
       level = refl;
-      glyphs = same (merges t.level) t.glyphs new.glyphs (same_clusters t.glyphs new.glyphs (joined_added p.break_flags p.mask_array script tables.joining tables.general t new refl));
+      glyphs = same (merges t.level) t.glyphs new.glyphs
+          (same_clusters t.glyphs new.glyphs
+          (joined_added p.break_flags p.mask_array script tables.joining tables.general t new refl));
     })
 
 numbered_cluster : (masks : List ℕ) (g : hb_glyph_info_t) → (with_numbered_mask masks g).cluster ≡ g.cluster
 numbered_cluster masks g = refl
 
-masks_keep : (plan : hb_ot_shape_plan_t) (tables : CharacterTables) (b : Buffer) (shaper : hb_ot_shaper_t) → Keeps b (masks_set_by plan tables b shaper)
+masks_keep : (plan : hb_ot_shape_plan_t) (tables : CharacterTables) (b : Buffer) (shaper : hb_ot_shaper_t) → Keeps b
+    (masks_set_by plan tables b shaper)
 masks_keep plan tables b Arabic =
     let new = masks_set_by plan tables b Arabic in
     record {
       level = refl;
-      glyphs = same (merges b.level) b.glyphs new.glyphs (same_clusters b.glyphs new.glyphs (joined_added (breaks_of plan.plan_data) (masks_of plan.plan_data) plan.script tables.joining tables.general b new refl));
+      glyphs = same (merges b.level) b.glyphs new.glyphs
+          (same_clusters b.glyphs new.glyphs (joined_added (breaks_of plan.plan_data)
+          (masks_of plan.plan_data) plan.script tables.joining tables.general b new refl));
     }
-masks_keep plan tables b Hangul = map_keeps (with_numbered_mask (masks_kept plan.plan_data)) (numbered_cluster (masks_kept plan.plan_data)) b
+masks_keep plan tables b Hangul = map_keeps (with_numbered_mask (masks_kept plan.plan_data))
+    (numbered_cluster (masks_kept plan.plan_data)) b
 masks_keep plan tables b Indic = map_keeps (with_category_and_position tables) (λ g. refl) b
 masks_keep plan tables b Khmer = map_keeps (with_category tables) (λ g. refl) b
 masks_keep plan tables b Myanmar = map_keeps (with_category tables) (λ g. refl) b
@@ -331,7 +416,8 @@ masks_keep plan tables b Hebrew = unchanged b
 masks_keep plan tables b MyanmarZawgyi = unchanged b
 masks_keep plan tables b Thai = unchanged b
 
-masks_if : (shaper : Option hb_ot_shaper_t) (plan : hb_ot_shape_plan_t) (tables : CharacterTables) (b : Buffer) → Keeps b (masks_set_for shaper plan tables b)
+masks_if : (shaper : Option hb_ot_shaper_t) (plan : hb_ot_shape_plan_t) (tables : CharacterTables) (b : Buffer)
+    → Keeps b (masks_set_for shaper plan tables b)
 masks_if None plan tables b = unchanged b
 masks_if (Some shaper) plan tables b = masks_keep plan tables b shaper
 
@@ -339,7 +425,10 @@ masks_if (Some shaper) plan tables b = masks_keep plan tables b shaper
 
 feature_cluster : (g : hb_glyph_info_t) (f : UserRange) → (with_feature g f).cluster ≡ g.cluster
 feature_cluster g f = elim (nat_le f.start g.cluster && nat_lt g.cluster f.end) as (λ test. (if test
-    then (let r : hb_glyph_info_t = record g { mask = bit_or (bit_and g.mask (bit_not w32 f.mask)) (bit_and f.value f.mask) } in r)
+    then (let r : hb_glyph_info_t = record g {
+      mask = bit_or (bit_and g.mask (bit_not w32 f.mask))
+          (bit_and f.value f.mask);
+    } in r)
     else g).cluster ≡ g.cluster) [ true ↦ refl | false ↦ refl ]
 
 features_cluster : (fs : List UserRange) (g : hb_glyph_info_t) → (with_features fs g).cluster ≡ g.cluster
@@ -354,12 +443,16 @@ all_but_lookups laws p b =
     let f = text_in_fractions p b in
     let m = masks_set_for p.shaper p.plan p.tables f in
     let u : Buffer = record m { glyphs = map (with_features p.ranges) m.glyphs } in
-    after b o (text_prepared p b) (circle_opens p b) (after o d (text_prepared p b) (directed_from laws.cover laws.whole o)
+    after b o (text_prepared p b) (circle_opens p b)
+    (after o d (text_prepared p b) (directed_from laws.cover laws.whole o)
     (after d n (text_prepared p b) (normal laws p b.direction d) (after n f (text_prepared p b) (fractions p n)
-    (after f m (text_prepared p b) (masks_if p.shaper p.plan p.tables f) (after m u (text_prepared p b) (map_keeps (with_features p.ranges) (features_cluster p.ranges) m) (map_keeps as_glyph (λ g. refl) u))))))
+    (after f m (text_prepared p b) (masks_if p.shaper p.plan p.tables f)
+    (after m u (text_prepared p b) (map_keeps (with_features p.ranges) (features_cluster p.ranges) m)
+    (map_keeps as_glyph (λ g. refl) u))))))
 
 pub preparation_keeps : Laws → PreparationKeepsClusters
 preparation_keeps laws p noted b =
     let text = text_prepared p b in
-    let keeps = after b text (text_noted noted text) (all_but_lookups laws p b) (map_keeps (with_note noted) (λ g. refl) text) in
+    let keeps = after b text (text_noted noted text) (all_but_lookups laws p b)
+    (map_keeps (with_note noted) (λ g. refl) text) in
     (record { level = keeps.level; old_clusters = keeps.glyphs.none }, keeps.glyphs.mono)

@@ -56,7 +56,8 @@ after P Q a b c one two = record {
 
 -- ---- the lookups of a stage
 
-looked : (f : StageLookup → Buffer → Buffer) → LookupsKeep f → (list : List StageLookup) (b : Buffer) → b.positions ≡ [] → Run (Unit {0}) b (looked_up f list b)
+looked : (f : StageLookup → Buffer → Buffer) → LookupsKeep f → (list : List StageLookup) (b : Buffer) → b.positions
+    ≡ [] → Run (Unit {0}) b (looked_up f list b)
 looked f keeps [] b none = nothing (Unit {0}) b none
 looked f keeps (x ∷ xs) b none =
     let kept = keeps x b none in
@@ -81,28 +82,40 @@ mono_of : (cs js : List ℕ) → StaysMonotone cs js → IsMonotone cs → IsMon
 mono_of cs js stays (inl up) = inl (stays.0 up)
 mono_of cs js stays (inr down) = inr (stays.1 down)
 
-circles_sort : CirclesStayMonotone → (o : Option DottedCircles) (gs : List hb_glyph_info_t) → OpensWithOne o gs → IsMonotone (clusters gs) → IsMonotone (clusters (circled o gs))
+circles_sort : CirclesStayMonotone → (o : Option DottedCircles) (gs : List hb_glyph_info_t) → OpensWithOne o gs
+    → IsMonotone (clusters gs) → IsMonotone (clusters (circled o gs))
 circles_sort law None gs one rises = rises
-circles_sort law (Some rule) gs one rises = mono_of (clusters gs) (clusters (circled (Some rule) gs)) (law rule gs one) rises
+circles_sort law (Some rule) gs one rises = mono_of (clusters gs) (clusters (circled (Some rule) gs))
+    (law rule gs one) rises
 
-pause_sorts : Laws → (pause : Pause) (plan : hb_ot_shape_plan_t) (font : Font) (old new : Buffer) → PauseRun pause plan font old new → PauseSorts plan font pause old new → StayMonotone old new
+pause_sorts : Laws → (pause : Pause) (plan : hb_ot_shape_plan_t) (font : Font) (old new : Buffer)
+    → PauseRun pause plan font old new → PauseSorts plan font pause old new → StayMonotone old new
 pause_sorts laws pause plan font old new run (inr this) = this
 pause_sorts laws pause plan font old new run (inl by) = λ merging rises.
     let o = pause_circles pause plan font old in
     let opened = circled o old.glyphs in
-    mono_of (clusters opened) (clusters new.glyphs) (laws.sorted pause plan font run.spans old new by.0 merging run.kept) (circles_sort laws.circles o old.glyphs by.1 rises)
+    mono_of (clusters opened) (clusters new.glyphs)
+    (laws.sorted pause plan font run.spans old new by.0 merging run.kept)
+    (circles_sort laws.circles o old.glyphs by.1 rises)
 
-paused : Laws → (pause : Option Pause) (plan : hb_ot_shape_plan_t) (font : Font) (old new : Buffer) → PauseRunIf pause plan font old new → old.positions ≡ [] → Run (IfPaused (PauseSorts plan font) pause old new) old new
+paused : Laws → (pause : Option Pause) (plan : hb_ot_shape_plan_t) (font : Font) (old new : Buffer)
+    → PauseRunIf pause plan font old new → old.positions ≡ [] → Run
+    (IfPaused (PauseSorts plan font) pause old new) old new
 paused laws None plan font old new run none = unchanged (Unit {0}) old new run none
 paused laws (Some pause) plan font old new run none = record {
   positions = pause_positions pause plan font run.spans old new run.paused ∙ none;
-  made = record { level = pause_level pause plan font run.spans old new run.paused; old_clusters = laws.none pause plan font run.spans old new run.kept };
+  made = record {
+    level = pause_level pause plan font run.spans old new run.paused;
+    old_clusters = laws.none pause plan
+        font run.spans old new run.kept;
+  };
   sorted = pause_sorts laws pause plan font old new run;
 }
 
 -- ---- stages
 
-stage : Laws → (r : Substitution) (s : Stage) (old new : Buffer) → LookupsKeep r.substituted → old.positions ≡ [] → StageRun r s old new → Run (IfPaused (PauseSorts r.plan r.font) s.pause (stage_looked_up r s old) new) old new
+stage : Laws → (r : Substitution) (s : Stage) (old new : Buffer) → LookupsKeep r.substituted → old.positions ≡ []
+    → StageRun r s old new → Run (IfPaused (PauseSorts r.plan r.font) s.pause (stage_looked_up r s old) new) old new
 stage laws r s old new keeps none run =
     let mid = stage_looked_up r s old in
     let P = IfPaused (PauseSorts r.plan r.font) s.pause mid new in
@@ -110,12 +123,15 @@ stage laws r s old new keeps none run =
     let both = after (Unit {0}) P old mid new first (paused laws s.pause r.plan r.font mid new run first.positions) in
     record { positions = both.positions; made = both.made; sorted = λ p. both.sorted (tt, p) }
 
-stages : Laws → (r : Substitution) (ss : List Stage) (old new : Buffer) → LookupsKeep r.substituted → old.positions ≡ [] → (run : StagesRun r ss old new) → Run (AtPauses (PauseSorts r.plan r.font) r ss old new run) old new
+stages : Laws → (r : Substitution) (ss : List Stage) (old new : Buffer) → LookupsKeep r.substituted → old.positions
+    ≡ [] → (run : StagesRun r ss old new) → Run (AtPauses (PauseSorts r.plan r.font) r ss old new run) old new
 stages laws r [] old new keeps none run = unchanged (Unit {0}) old new run none
 stages laws r (s ∷ ss) old new keeps none run =
     let mid = run.0 in
     let first = stage laws r s old mid keeps none run.1.0 in
-    after (IfPaused (PauseSorts r.plan r.font) s.pause (stage_looked_up r s old) mid) (AtPauses (PauseSorts r.plan r.font) r ss mid new run.1.1) old mid new first (stages laws r ss mid new keeps first.positions run.1.1)
+    after (IfPaused (PauseSorts r.plan r.font) s.pause (stage_looked_up r s old) mid)
+    (AtPauses (PauseSorts r.plan r.font) r ss mid new run.1.1) old mid new first
+    (stages laws r ss mid new keeps first.positions run.1.1)
 
 pub stages_keep : Laws → StagesKeepClusters
 stages_keep laws r ss old new keeps none run =

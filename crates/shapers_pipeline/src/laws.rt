@@ -5,7 +5,7 @@ ghost use Rattle.shapers_pipeline.specs.ShapeLaws.{FinishKeepsClusters, ShapingK
 use rustybuzz_shapers::shaper::{apart_law, monotone_law};
 use shapers_normal::ot_shape_normalize;
 use shapers_normalize::{orders_alone_law, orders_monotone_law};
-use shapers_position::ot_shape_position::{flags_law, removal_law};
+use shapers_position::ot_shape_position::{flags_law, hiding_law};
 use shapers_prepare::ot_shape_prepare::graphemes_law;
 
 /// From a text's characters to its glyphs with positions each cluster is one that the text had; and
@@ -25,6 +25,6 @@ pub fn pipeline_clusters_law()
     orders_alone_law();
     orders_monotone_law();
     graphemes_law();
-    removal_law();
+    hiding_law();
     flags_law();
 }

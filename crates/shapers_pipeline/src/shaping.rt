@@ -47,7 +47,7 @@ pub fn shape<F: NormalizeFont, T: NormalizeTables + UnicodeProperties, L: Lookup
         (T.texts tables.now) in
         let r = substitution_by plan.now (F.font font.now) (L.substituted lookups.now) in
         let q = positioning_by plan.now settings.now (F.font font.now)
-            (L.marks lookups.now) (L.positioned lookups.now) (L.finished lookups.now) in
+        (L.marks lookups.now) (L.positioned lookups.now) (L.finished lookups.now) in
         let noted = text_noted (L.noted lookups.now) (text_prepared p buffer.old) in
         OnOk result ((mid : Buffer) × (StagesRun r plan.now.stages noted mid
         × (buffer.new ≡ text_shaped q buffer.old.direction mid))) }
@@ -56,7 +56,7 @@ pub fn shape<F: NormalizeFont, T: NormalizeTables + UnicodeProperties, L: Lookup
         (T.texts tables.now) in
         let r = substitution_by plan.now (F.font font.now) (L.substituted lookups.now) in
         let q = positioning_by plan.now settings.now (F.font font.now)
-            (L.marks lookups.now) (L.positioned lookups.now) (L.finished lookups.now) in
+        (L.marks lookups.now) (L.positioned lookups.now) (L.finished lookups.now) in
         let noted = text_noted (L.noted lookups.now) (text_prepared p buffer.old) in
         IfErr result (λ e. IsStopped p buffer.old buffer.new e
         ⊎ (StagesStopped r plan.now.stages noted buffer.new

@@ -115,13 +115,10 @@ impl<'a> GlyphChange for SingleChange<'a> {
 
 // The first entry of a lookup for a glyph.
 #[inline]
-fn single_for(
-    singles: &[Single],
-    lookup: &StageLookup,
-    glyph: &hb_glyph_info_t,
-) -> Option<Single>
+fn single_for(singles: &[Single], lookup: &StageLookup, glyph: &hb_glyph_info_t) -> Option<Single>
     ensures { result ≡ find (is_single_for lookup.now glyph.now) singles.now }
 {
     let mut entries = singles.iter().copied();
-    entries.find(|single| single.lookup == lookup.index && u32::from(single.glyph) == glyph.glyph_id)
+    entries.find(|single| single.lookup == lookup.index
+        && u32::from(single.glyph) == glyph.glyph_id)
 }

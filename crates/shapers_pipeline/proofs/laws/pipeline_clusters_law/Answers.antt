@@ -25,7 +25,7 @@ staged c = stages_keep (record {
 
 finished : goal.returns-clause-finish
 finished c = finish_keeps (record {
-  removal = c.removal_law.ensures;
+  removal = c.hiding_law.ensures.removed;
   flags = c.flags_law.ensures.shared;
   hooks = c.apart_law.ensures.hooks;
   stretch = c.monotone_law.ensures.stretch;

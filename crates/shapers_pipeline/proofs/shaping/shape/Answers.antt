@@ -11,14 +11,13 @@ returns-clause-ok g c =
     let q = positioning_by c.args.plan.now c.args.settings.now (g.F.hb_font_t.font c.args.font.now) (g.L.GlyphClasses.marks c.args.lookups.now)
     (g.L.Lookups.positioned c.args.lookups.now) (g.L.Lookups.finished c.args.lookups.now) in
     let mid = c.substitute_text.new.buffer in
-    let d = c.direction-direction.result in
-    (
+    let d = c.direction-direction.result in (
       mid,
       (
         c.in_ok-substitute_text.ensures.ok,
         c.set_direction.ensures
-        ∙ ap (λ (t : Buffer). let r : Buffer = record t { direction = d } in r) c.propagate_flags.ensures
-        ∙ ap (λ (t : Buffer). let r : Buffer = record t { glyphs = flags_propagated t.flags t.glyphs; direction = d } in r) c.in_ok-finish_text.ensures.ok
-        ∙ ap (λ w. let t = text_postprocessed q mid in let r : Buffer = record t { glyphs = flags_propagated t.flags t.glyphs; direction = w } in r) c.direction-direction.ensures,
+            ∙ ap (λ (t : Buffer). let r : Buffer = record t { direction = d } in r) c.propagate_flags.ensures
+            ∙ ap (λ (t : Buffer). let r : Buffer = record t { glyphs = flags_propagated t.flags t.glyphs; direction = d } in r) c.in_ok-finish_text.ensures.ok
+            ∙ ap (λ w. let t = text_postprocessed q mid in let r : Buffer = record t { glyphs = flags_propagated t.flags t.glyphs; direction = w } in r) c.direction-direction.ensures,
       ),
     )

@@ -11,7 +11,7 @@ use crate::generated::shapers_normalize::context::ShaperContext;
 use crate::generated::shapers_normalize::tables::{NormalizeFont, NormalizeTables};
 
 /// The caller's settings.
-#[derive(Clone, Copy, Debug, PartialEq, Eq, Default)]
+#[derive(Clone, Copy, Debug, PartialEq, Eq, Default, Hash)]
 pub struct NormalizeSettings {
     /// When marks are ordered and composed.
     pub rounds: Rounds,
@@ -25,14 +25,18 @@ pub struct NormalizeSettings {
 
 /// Normalizes a text without positions, whose glyphs are characters with their properties, for a
 /// shaper with its plan, a font and Unicode's tables: by the shaper's own `decompose`, `compose`
-/// and `reorder_marks`, and where it lacks one by the tables. `var` is then the number of each
+/// and [`reorder_marks`], and where it lacks one by the tables. `var` is then the number of each
 /// character's glyph. None stands for the shaper of a script that needs none.
 ///
 /// # Errors
 ///
-/// `TooLong` where the text taken apart is longer than the buffer may be, and `Memory`; nothing
+/// [`TooLong`] where the text taken apart is longer than the buffer may be, and [`Memory`]; nothing
 /// has changed then. A text of which nothing comes apart takes no memory. (HarfBuzz's normalizer;
 /// Unicode Standard Annex 15.)
+///
+/// # Panics
+///
+/// Where the font or the tables do. May panic, or leave an unspecified text, where the buffer has positions.
 ///
 /// <details><summary>Contract</summary>
 ///
@@ -68,6 +72,10 @@ pub struct NormalizeSettings {
 /// - `shaper_context`: `crates/shapers_normalize/specs/ByShaper.antt`
 ///
 /// </details>
+///
+/// [`Memory`]: crate::ShaperError::Memory
+/// [`TooLong`]: crate::ShaperError::TooLong
+/// [`reorder_marks`]: crate::Shaper::reorder_marks
 pub fn ot_shape_normalize<F: NormalizeFont, T: NormalizeTables>(
     shaper: Option<Shaper>,
     plan: &Plan,

@@ -6,7 +6,7 @@ use crate::generated::shapers_normalize::NormalizeSettings;
 use crate::generated::shapers_position::ot_shape_position::DefaultIgnorables;
 
 /// The caller's settings of `shape`.
-#[derive(Clone, Copy, Debug, PartialEq, Eq)]
+#[derive(Clone, Copy, Debug, PartialEq, Eq, Hash)]
 pub struct ShapeSettings {
     /// Those of normalization. The glyph for what isn't drawn stands for hidden glyphs, too.
     pub normalize: NormalizeSettings,

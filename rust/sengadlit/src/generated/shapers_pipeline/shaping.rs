@@ -23,7 +23,7 @@ use crate::generated::shapers_prepare::ot_shape_prepare::UnicodeProperties;
 ///
 /// # Errors
 ///
-/// Those of `substitute_text`; `Memory` for the positions, and nothing has changed then since the
+/// Those of `substitute_text`; [`Memory`] for the positions, and nothing has changed then since the
 /// last lookup of GSUB; the refusal of a lookup of GPOS, with the text as it was before that one;
 /// the condition `Glyphs` where a number above 65535 stands in a text whose marks may stretch, and
 /// the refusal of stretching them, and the text has all its positions then.
@@ -38,7 +38,11 @@ use crate::generated::shapers_prepare::ot_shape_prepare::UnicodeProperties;
 ///     (T.texts tables.now) in
 ///     let r = substitution_by plan.now (F.font font.now) (L.substituted lookups.now) in
 ///     let q = positioning_by plan.now settings.now (F.font font.now)
+/// <<<<<<< HEAD
 ///         (L.marks lookups.now) (L.positioned lookups.now) (L.finished lookups.now) in
+/// =======
+///     (L.marks lookups.now) (L.positioned lookups.now) (L.finished lookups.now) in
+/// >>>>>>> 72f63894086f87336794ff2f57ee9c4a3da82ef0
 ///     let noted = text_noted (L.noted lookups.now) (text_prepared p buffer.old) in
 ///     OnOk result ((mid : Buffer) × (StagesRun r plan.now.stages noted mid
 ///     × (buffer.new ≡ text_shaped q buffer.old.direction mid))) }
@@ -47,7 +51,11 @@ use crate::generated::shapers_prepare::ot_shape_prepare::UnicodeProperties;
 ///     (T.texts tables.now) in
 ///     let r = substitution_by plan.now (F.font font.now) (L.substituted lookups.now) in
 ///     let q = positioning_by plan.now settings.now (F.font font.now)
+/// <<<<<<< HEAD
 ///         (L.marks lookups.now) (L.positioned lookups.now) (L.finished lookups.now) in
+/// =======
+///     (L.marks lookups.now) (L.positioned lookups.now) (L.finished lookups.now) in
+/// >>>>>>> 72f63894086f87336794ff2f57ee9c4a3da82ef0
 ///     let noted = text_noted (L.noted lookups.now) (text_prepared p buffer.old) in
 ///     IfErr result (λ e. IsStopped p buffer.old buffer.new e
 ///     ⊎ (StagesStopped r plan.now.stages noted buffer.new
@@ -65,6 +73,8 @@ use crate::generated::shapers_prepare::ot_shape_prepare::UnicodeProperties;
 /// - `preparation_by`, `substitution_by`: `crates/shapers_pipeline/specs/Substituted.antt`
 ///
 /// </details>
+///
+/// [`Memory`]: crate::ShaperError::Memory
 pub fn shape<F: NormalizeFont, T: NormalizeTables + UnicodeProperties, L: Lookups>(
     plan: &ShapePlan,
     settings: &ShapeSettings,
