@@ -50,10 +50,7 @@ pub(super) fn takes_gpos<L: FontFeatures>(shaper: Option<hb_ot_shaper_t>, featur
 {
     features.has_table(TableIndex::GPOS)
         && match shaper {
-            Some(shaper) => suits(
-                shaper.gpos_tag(),
-                features.chosen_script(TableIndex::GPOS),
-            ),
+            Some(shaper) => suits(shaper.gpos_tag(), features.chosen_script(TableIndex::GPOS)),
             None => true,
         }
 }

@@ -38,11 +38,7 @@ use crate::generated::shapers_prepare::ot_shape_prepare::UnicodeProperties;
 ///     (T.texts tables.now) in
 ///     let r = substitution_by plan.now (F.font font.now) (L.substituted lookups.now) in
 ///     let q = positioning_by plan.now settings.now (F.font font.now)
-/// <<<<<<< HEAD
-///         (L.marks lookups.now) (L.positioned lookups.now) (L.finished lookups.now) in
-/// =======
 ///     (L.marks lookups.now) (L.positioned lookups.now) (L.finished lookups.now) in
-/// >>>>>>> 72f63894086f87336794ff2f57ee9c4a3da82ef0
 ///     let noted = text_noted (L.noted lookups.now) (text_prepared p buffer.old) in
 ///     OnOk result ((mid : Buffer) × (StagesRun r plan.now.stages noted mid
 ///     × (buffer.new ≡ text_shaped q buffer.old.direction mid))) }
@@ -51,11 +47,7 @@ use crate::generated::shapers_prepare::ot_shape_prepare::UnicodeProperties;
 ///     (T.texts tables.now) in
 ///     let r = substitution_by plan.now (F.font font.now) (L.substituted lookups.now) in
 ///     let q = positioning_by plan.now settings.now (F.font font.now)
-/// <<<<<<< HEAD
-///         (L.marks lookups.now) (L.positioned lookups.now) (L.finished lookups.now) in
-/// =======
 ///     (L.marks lookups.now) (L.positioned lookups.now) (L.finished lookups.now) in
-/// >>>>>>> 72f63894086f87336794ff2f57ee9c4a3da82ef0
 ///     let noted = text_noted (L.noted lookups.now) (text_prepared p buffer.old) in
 ///     IfErr result (λ e. IsStopped p buffer.old buffer.new e
 ///     ⊎ (StagesStopped r plan.now.stages noted buffer.new
