@@ -5,6 +5,7 @@ use crate::SETTINGS;
 use crate::font::OpenType;
 use sengadlit::alloc::Global;
 use sengadlit::buffer::glyph_flag;
+use sengadlit::editing::caret_stops;
 use sengadlit::ot_shape::{ShapeSettings, shape};
 use sengadlit::ot_shape_normalize::{NormalizeSettings, Rounds};
 use sengadlit::ot_shape_plan::ShapePlan;
@@ -72,22 +73,25 @@ impl<'f, 'a> Shaping<'f, 'a> {
         let settings = ShapeSettings { normalize, ..SETTINGS };
         let layout = &self.font.layout;
         shape(&self.plan, &settings, self.font, &UnicodeTables, layout, &mut buffer)?;
-        let glyphs: Glyphs =
-            buffer.iter().copied().zip(buffer.positions().iter().copied()).collect();
-        let mut clusters: Vec<Cluster> = glyphs
-            .chunk_by(|a, b| a.0.cluster == b.0.cluster)
-            .map(|glyphs| Cluster {
-                text: part.start + glyphs[0].0.cluster as usize..part.end,
-                glyphs: glyphs.to_vec(),
-                is_unsafe_to_break: glyphs[0].0.mask & glyph_flag::UNSAFE_TO_BREAK != 0,
+        // a caret stops where each cluster begins that no later glyph goes behind
+        let mut stops = sengadlit::alloc::Vec::new(Global);
+        caret_stops(buffer.glyphs(), self.direction, &mut stops)?;
+        let place = |stop: &u32| part.start + *stop as usize;
+        let ends = stops.iter().skip(1).map(place).chain([part.end]);
+        let mut clusters: Vec<Cluster> = stops
+            .iter()
+            .zip(ends)
+            .map(|(start, end)| Cluster {
+                text: place(start)..end,
+                glyphs: vec![],
+                is_unsafe_to_break: false,
                 is_shaped_again: false,
             })
             .collect();
-        if self.direction == Direction::RightToLeft {
-            clusters.reverse();
-        }
-        for next in 1..clusters.len() {
-            clusters[next - 1].text.end = clusters[next].text.start;
+        for (glyph, position) in buffer.iter().zip(buffer.positions().iter()) {
+            let cluster = &mut clusters[stops.partition_point(|stop| *stop <= glyph.cluster) - 1];
+            cluster.glyphs.push((*glyph, *position));
+            cluster.is_unsafe_to_break |= glyph.mask & glyph_flag::UNSAFE_TO_BREAK != 0;
         }
         Ok(clusters)
     }

@@ -68,7 +68,7 @@ impl Buffer {
         })
     }
 
-    /// Flags them unsafe to break.
+    /// Flags them: no line may be broken inside.
     pub fn unsafe_to_break(&mut self, start: usize, end: usize) -> Result<(), Error> {
         self.check_range(start, end)?;
         self.text.run(Takes::Numbers, |inner| {
