@@ -52,6 +52,7 @@ impl Plan {
     ///     fn feature_lookups(&self, table: TableIndex, tag: Tag) -> Option<&[u16]> {
     ///         (table == TableIndex::GSUB && tag == Tag(*b"pref")).then_some(&[4])
     ///     }
+    /// #   fn has_table(&self, table: TableIndex) -> bool { table == TableIndex::GSUB }
     /// #   fn chosen_script(&self, _: TableIndex) -> Option<Tag> { Some(Tag(*b"khmr")) }
     /// #   fn found_script(&self, _: TableIndex) -> bool { true }
     /// #   fn any_feature_lookups(&self, _: TableIndex, _: Tag) -> Option<&[u16]> { None }

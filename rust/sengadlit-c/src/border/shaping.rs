@@ -212,7 +212,7 @@ impl<'a> AskedLookups<'a> {
         with_positions: bool,
         callback: impl FnOnce(Pointer) -> Bool,
     ) -> Result<(), ShaperError> {
-        let max_length = text.max_len();
+        let (length, max_length) = (text.len(), text.max_len());
         let mut settled = shaping::settled(text);
         let pointer = {
             let mut lent = self.lent.borrow_mut();
@@ -227,7 +227,9 @@ impl<'a> AskedLookups<'a> {
         let taken = lent
             .buffer()
             .is_some_and(|buffer| buffer.take_back(&mut settled, with_positions));
-        assert!(taken, "a lookup left what is no text of glyphs");
+        // (a lookup of GPOS keeps the length, down to that of a single glyph)
+        let kept = !with_positions || settled.len() == length;
+        assert!(taken && kept, "a lookup left what is no text of glyphs");
         *text = settled;
         match is_done {
             0 => Err(ShaperError::Memory),
