@@ -122,7 +122,8 @@
 //! - `tables` (on by default): Unicode's tables, in the module `unicode` (135 KB), with
 //!   `Buffer::from_text`.
 //! - `text` (on by default, with `tables`): from a text to its glyphs, in the modules `ot_shape`,
-//!   `ot_shape_plan`, `ot_shape_prepare`, `ot_shape_normalize` and `ot_shape_position` (43 KB of code on x86-64).
+//!   `ot_shape_prepare`, `ot_shape_normalize` and `ot_shape_position` (43 KB of code on x86-64,
+//!   positions apart).
 //!
 //! [`collect_features`]: Shaper::collect_features
 //! [`override_features`]: Shaper::override_features
