@@ -434,7 +434,7 @@ fn compose<const S: usize>(context: &hb_ot_shape_normalize_context_t, a: Codepoi
         Shaper::Indic => ot_shaper_indic::compose(&Ucd, a, b),
         Shaper::Khmer => ot_shaper_khmer::compose(&Ucd, a, b),
         Shaper::Universal => ot_shaper_use::compose(&Ucd, a, b),
-        shaper => shaper.compose(plan_of(context.plan), &Ucd, a, b).flatten(),
+        shaper => shaper.compose(plan_of(context.plan), &Ucd, a, b).or_else(|| None),
     };
     composed.map(parts::codepoint)
 }

@@ -1,5 +1,5 @@
--- Hooks that a shaper lacks, computed: nothing changes, and the answer is None; and what preprocessing answers.
-use Rattle.std.specs.Prelude.{◌≡◌, ℕ, [], ◌∷◌, map, None, Some, false, refl}
+-- Hooks that a shaper lacks, computed: nothing changes, and the result says so; and what preprocessing answers.
+use Rattle.std.specs.Prelude.{◌≡◌, ℕ, [], ◌∷◌, map, None, Some, false, refl, true}
 use Rattle.shapers_buffer.specs.Buffer.{Buffer}
 use Rattle.shapers_base.specs.Font.{CharacterTables, Font}
 use Rattle.shapers_base.specs.declared.plan.hb_ot_shape_plan_t.{hb_ot_shape_plan_t}
@@ -11,7 +11,11 @@ use Rattle.shapers_base.specs.declared.plan.Preprocess.TheVariants.{CallerRunsVo
 use Rattle.shapers_stretch.specs.Recorded.{start_of}
 use Rattle.shapers_stretch.specs.Stretch.{marks_stretched}
 use Rattle.rustybuzz_shapers.specs.Hooks.{Composed, Decomposed, MarksReordered, MasksSet, Postprocessed, Preprocessed, data_created, preprocess_answer, with_created}
+use Rattle.rustybuzz_shapers.specs.Outcomes.{composition, decomposition, outcome}
 use Rattle.rustybuzz_shapers.specs.Standing.{Lacking}
+use Rattle.rustybuzz_shapers.specs.declared.shaper.outcomes.Composition.TheVariants as composed
+use Rattle.rustybuzz_shapers.specs.declared.shaper.outcomes.Decomposition.TheVariants as decomposed
+use Rattle.rustybuzz_shapers.specs.declared.shaper.outcomes.HookOutcome.TheVariants as hook
 use Rattle.rustybuzz_shapers.specs.declared.shaper.hb_ot_shaper_t.TheVariants.{Arabic, Hangul, Hebrew, Indic, Khmer, Myanmar, MyanmarZawgyi, Thai, Universal}
 
 -- a hook that is lacked changes nothing
@@ -66,17 +70,27 @@ marks_stretch : (plan : hb_ot_shape_plan_t) (font : Font) (b : Buffer)
     → Postprocessed Arabic plan font b (marks_stretched font (start_of plan.plan_data) b)
 marks_stretch plan font b = refl
 
+-- whether the hook ran; what it found, and that it found nothing
+outcomes : map outcome (true ∷ false ∷ []) ≡ hook.Done ∷ hook.NoHook ∷ []
+outcomes = refl
+
+compositions : map composition (Some 0xE4 ∷ None ∷ []) ≡ composed.Whole 0xE4 ∷ composed.Apart ∷ []
+compositions = refl
+
+decompositions : map decomposition (Some (0x61, 0x308) ∷ None ∷ []) ≡ decomposed.Parts 0x61 0x308 ∷ decomposed.Whole ∷ []
+decompositions = refl
+
 -- no two characters compose
-no_pair : (plan : hb_ot_shape_plan_t) (tables : CharacterTables) (x y : ℕ) → Composed Arabic plan tables x y None
-    × Composed Hangul plan tables x y None × Composed Myanmar plan tables x y None
-    × Composed MyanmarZawgyi plan tables x y None × Composed Thai plan tables x y None
+no_pair : (plan : hb_ot_shape_plan_t) (tables : CharacterTables) (x y : ℕ) → Composed Arabic plan tables x y composed.NoHook
+    × Composed Hangul plan tables x y composed.NoHook × Composed Myanmar plan tables x y composed.NoHook
+    × Composed MyanmarZawgyi plan tables x y composed.NoHook × Composed Thai plan tables x y composed.NoHook
 no_pair plan tables x y = (lacks, lacks, lacks, lacks, lacks)
 
 -- no character decomposes
-no_parts : (plan : hb_ot_shape_plan_t) (tables : CharacterTables) (x : ℕ) → Decomposed Arabic plan tables x None
-    × Decomposed Hangul plan tables x None × Decomposed Hebrew plan tables x None
-    × Decomposed Myanmar plan tables x None × Decomposed MyanmarZawgyi plan tables x None
-    × Decomposed Thai plan tables x None × Decomposed Universal plan tables x None
+no_parts : (plan : hb_ot_shape_plan_t) (tables : CharacterTables) (x : ℕ) → Decomposed Arabic plan tables x decomposed.NoHook
+    × Decomposed Hangul plan tables x decomposed.NoHook × Decomposed Hebrew plan tables x decomposed.NoHook
+    × Decomposed Myanmar plan tables x decomposed.NoHook × Decomposed MyanmarZawgyi plan tables x decomposed.NoHook
+    × Decomposed Thai plan tables x decomposed.NoHook × Decomposed Universal plan tables x decomposed.NoHook
 no_parts plan tables x = (lacks, lacks, lacks, lacks, lacks, lacks, lacks)
 
 -- masks stay

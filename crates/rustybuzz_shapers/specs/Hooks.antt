@@ -1,5 +1,5 @@
 -- What each hook does, of each shaper that has it. Of the others, which lack it by their
--- `has_hook`: nothing changes and the result is None.
+-- `has_hook`: nothing changes and the result says so.
 use Rattle.std.specs.Prelude.{ℕ, ◌+◌, ◌≤◌, ◌%◌, List, map, true, false, ◌≡◌, length, Option, None, Some, Result, IsOk}
 use Rattle.std.specs.List.{All, AllByRecursion, list_any}
 use Rattle.shapers_buffer.specs.Buffer.{Buffer}
@@ -37,7 +37,12 @@ use Rattle.shapers_text.specs.Hebrew.{composed_in_hebrew, hebrew_mark_step}
 use Rattle.shapers_text.specs.Thai.{is_sara_am, glyphs_in_two}
 use Rattle.shapers_text.specs.ThaiForms.{asks_for_forms, preprocessed_in_thai}
 use Rattle.shapers_text.specs.ThaiLaws.{ClustersInTwo, FlagsInTwo, KeptInTwo}
+use Rattle.rustybuzz_shapers.specs.Outcomes.{composition, decomposition}
 use Rattle.rustybuzz_shapers.specs.Standing.{Lacking, has_hook}
+use Rattle.rustybuzz_shapers.specs.declared.shaper.outcomes.Composition.{Composition}
+use Rattle.rustybuzz_shapers.specs.declared.shaper.outcomes.Composition.TheVariants as composed
+use Rattle.rustybuzz_shapers.specs.declared.shaper.outcomes.Decomposition.{Decomposition}
+use Rattle.rustybuzz_shapers.specs.declared.shaper.outcomes.Decomposition.TheVariants as decomposed
 use Rattle.rustybuzz_shapers.specs.declared.shaper.Hook.TheVariants.{PreprocessText, PostprocessGlyphs, Compose, Decompose, SetupMasks, ReorderMarks}
 use Rattle.rustybuzz_shapers.specs.declared.shaper.hb_ot_shaper_t.{hb_ot_shaper_t}
 use Rattle.rustybuzz_shapers.specs.declared.shaper.hb_ot_shaper_t.TheVariants.{Arabic, Hangul, Hebrew, Indic, Khmer, Myanmar, Thai, Universal}
@@ -159,20 +164,20 @@ RefusesPostprocess shaper plan font old r = Lacking (has_hook shaper Postprocess
 
 -- what two characters compose to
 abbrev pub Composed :
-    hb_ot_shaper_t → hb_ot_shape_plan_t → CharacterTables → ℕ → ℕ → Option (Option ℕ) → Type 0
+    hb_ot_shaper_t → hb_ot_shape_plan_t → CharacterTables → ℕ → ℕ → Composition → Type 0
 Composed Hebrew plan tables a b answer =
-    answer ≡ Some (composed_in_hebrew (tables.composed a b) plan.has_gpos_mark a b)
-Composed Indic plan tables a b answer = answer ≡ Some (composed_in_indic tables a b)
-Composed Khmer plan tables a b answer = answer ≡ Some (composed_behind tables a b)
-Composed Universal plan tables a b answer = answer ≡ Some (composed_behind tables a b)
-Composed shaper plan tables a b answer = Lacking (has_hook shaper Compose) (answer ≡ None)
+    answer ≡ composition (composed_in_hebrew (tables.composed a b) plan.has_gpos_mark a b)
+Composed Indic plan tables a b answer = answer ≡ composition (composed_in_indic tables a b)
+Composed Khmer plan tables a b answer = answer ≡ composition (composed_behind tables a b)
+Composed Universal plan tables a b answer = answer ≡ composition (composed_behind tables a b)
+Composed shaper plan tables a b answer = Lacking (has_hook shaper Compose) (answer ≡ composed.NoHook)
 
 -- what a character decomposes to
 abbrev pub Decomposed :
-    hb_ot_shaper_t → hb_ot_shape_plan_t → CharacterTables → ℕ → Option (Option (ℕ × ℕ)) → Type 0
-Decomposed Indic plan tables ab answer = answer ≡ Some (decomposed_in_indic tables ab)
-Decomposed Khmer plan tables ab answer = answer ≡ Some (decomposed_in_khmer tables ab)
-Decomposed shaper plan tables ab answer = Lacking (has_hook shaper Decompose) (answer ≡ None)
+    hb_ot_shaper_t → hb_ot_shape_plan_t → CharacterTables → ℕ → Decomposition → Type 0
+Decomposed Indic plan tables ab answer = answer ≡ decomposition (decomposed_in_indic tables ab)
+Decomposed Khmer plan tables ab answer = answer ≡ decomposition (decomposed_in_khmer tables ab)
+Decomposed shaper plan tables ab answer = Lacking (has_hook shaper Decompose) (answer ≡ decomposed.NoHook)
 
 -- the buffer before and after masks are set
 abbrev pub MasksSet :

@@ -1,14 +1,15 @@
 //! The shapers behind one enum, one method per hook. Where a shaper lacks a hook, its method
-//! returns None and changes nothing.
+//! tells so and changes nothing.
 ghost use Rattle.std.specs.Prelude.{◌≡◌, ◌≤◌, [], length, IfOk, IsOk, false, is_some, IsOkUnless, OnOk, OnErr};
 ghost use Rattle.std.specs.Option.{IfSome};
 ghost use Rattle.shapers_buffer.specs.declared.buffer.refusal.ShaperError.TheVariants.{Memory};
 ghost use Rattle.shapers_arabic.specs.Requests.{rclt};
 ghost use Rattle.shapers_clusters.specs.FlagLaw.{OnlyFlagsAdded};
 ghost use Rattle.rustybuzz_shapers.specs.Hooks.{Composed, Decomposed, GlyphsFit, MasksOffFlags, MasksSet, MarksFit, MarksKeep, MarksReordered, PlanFits, PostprocessFits, PostprocessKeeps, Postprocessed, Preprocessed, PreprocessKeeps, data_created, preprocess_answer, RefusesPostprocess, RefusesPreprocess};
+ghost use Rattle.rustybuzz_shapers.specs.Outcomes.{outcome};
 ghost use Rattle.rustybuzz_shapers.specs.Records.{asked, collected, normalizes, overridden, places_marks, wants_gpos_script, zeroes_marks};
 ghost use Rattle.rustybuzz_shapers.specs.Standing.{has_hook};
-ghost use Rattle.rustybuzz_shapers.specs.declared.shaper.Hook.TheVariants.{CollectFeatures, OverrideFeatures, CreateData, PreprocessText, PostprocessGlyphs, Compose, Decompose, SetupMasks, ReorderMarks};
+ghost use Rattle.rustybuzz_shapers.specs.declared.shaper.Hook.TheVariants.{CollectFeatures, OverrideFeatures, CreateData, PreprocessText, PostprocessGlyphs, SetupMasks, ReorderMarks};
 
 use shapers_base::buffer::{ShaperError, hb_buffer_t, hb_tag_t};
 use shapers_base::font::{Tables, hb_font_t};
@@ -17,6 +18,7 @@ use shapers_base::plan::{hb_ot_shape_plan_t, hb_ot_shape_planner_t};
 pub mod checked;
 mod conditions;
 mod laws;
+mod outcomes;
 mod pauses;
 
 pub use conditions::{has_positions, kinds_fit, lacks_positions, pause_fits};
@@ -24,6 +26,7 @@ pub use laws::{
     again_law, apart_law, breaks_law, cuts_at_borders_law, headline, lengths_law, monotone_law,
     stretches_cover_law, syllables_regrouped_law, text_cuts_law,
 };
+pub use outcomes::{Composition, Decomposition, HookOutcome};
 pub use pauses::{pause_may_change, run_pause};
 use shapers_arabic::ot_shaper_arabic;
 pub use shapers_base::plan::{NormalizationMode, Pause, PlanData, Preprocess, ZeroWidthMarks};
@@ -36,8 +39,8 @@ use shapers_text::{ot_shaper_hebrew, ot_shaper_thai};
 use shapers_universal::ot_shaper_use;
 use std::mem;
 
-/// A script shaper. Where it lacks a hook, a dash here, the method returns `None` and changes nothing;
-/// `has_hook` is this table. What runs between two stages of lookups is a [`Pause`].
+/// A script shaper. Where it lacks a hook, a dash here, the method returns `NoHook`, or `None`, and
+/// changes nothing; `has_hook` is this table. What runs between two stages of lookups is a [`Pause`].
 ///
 /// | hook | Arabic | Hangul | Hebrew | Indic | Khmer | Myanmar | Zawgyi | Thai | universal |
 /// |---|---|---|---|---|---|---|---|---|---|
@@ -235,9 +238,9 @@ impl hb_ot_shaper_t {
         self,
         face: &F,
         planner: &mut hb_ot_shape_planner_t,
-    ) -> Result<Option<()>, ShaperError>
+    ) -> Result<HookOutcome, ShaperError>
         ensures answer { let there = has_hook self CollectFeatures in
-            IfOk result (λ answer. is_some answer ≡ there) }
+            IfOk result (λ answer. answer ≡ outcome there) }
         ensures ok { let has_rclt = (F.font face.now).offers rclt in
             let list = collected self planner.old.script has_rclt in
             OnOk result (planner.new ≡ asked list planner.old) }
@@ -246,14 +249,15 @@ impl hb_ot_shaper_t {
         ensures absent { has_hook self CollectFeatures ≡ false → IsOk result }
     {
         match self {
-            Self::Arabic => Ok(Some(ot_shaper_arabic::collect_features(face, planner)?)),
-            Self::Hangul => Ok(Some(ot_shaper_hangul::collect_features(planner)?)),
-            Self::Indic => Ok(Some(ot_shaper_indic::collect_features(planner)?)),
-            Self::Khmer => Ok(Some(ot_shaper_khmer::collect_features(planner)?)),
-            Self::Myanmar => Ok(Some(ot_shaper_myanmar::collect_features(planner)?)),
-            Self::Universal => Ok(Some(ot_shaper_use::collect_features(planner)?)),
-            Self::Hebrew | Self::MyanmarZawgyi | Self::Thai => Ok(None),
+            Self::Arabic => ot_shaper_arabic::collect_features(face, planner)?,
+            Self::Hangul => ot_shaper_hangul::collect_features(planner)?,
+            Self::Indic => ot_shaper_indic::collect_features(planner)?,
+            Self::Khmer => ot_shaper_khmer::collect_features(planner)?,
+            Self::Myanmar => ot_shaper_myanmar::collect_features(planner)?,
+            Self::Universal => ot_shaper_use::collect_features(planner)?,
+            Self::Hebrew | Self::MyanmarZawgyi | Self::Thai => return Ok(HookOutcome::NoHook),
         }
+        Ok(HookOutcome::Done)
     }
 
     /// Requests what comes after the features of all shapers: all of it, or nothing where memory is
@@ -265,20 +269,21 @@ impl hb_ot_shaper_t {
     pub fn override_features(
         self,
         planner: &mut hb_ot_shape_planner_t,
-    ) -> Result<Option<()>, ShaperError>
+    ) -> Result<HookOutcome, ShaperError>
         ensures answer { let there = has_hook self OverrideFeatures in
-            IfOk result (λ answer. is_some answer ≡ there) }
+            IfOk result (λ answer. answer ≡ outcome there) }
         ensures ok { OnOk result (planner.new ≡ asked (overridden self) planner.old) }
         ensures refusal { IsOkUnless result Memory }
         ensures err { OnErr result (planner.new ≡ planner.old) }
         ensures absent { has_hook self OverrideFeatures ≡ false → IsOk result }
     {
         match self {
-            Self::Hangul => Ok(Some(ot_shaper_hangul::override_features(planner)?)),
-            Self::Indic => Ok(Some(ot_shaper_indic::override_features(planner)?)),
-            Self::Khmer => Ok(Some(ot_shaper_khmer::override_features(planner)?)),
-            _ => Ok(None),
+            Self::Hangul => ot_shaper_hangul::override_features(planner)?,
+            Self::Indic => ot_shaper_indic::override_features(planner)?,
+            Self::Khmer => ot_shaper_khmer::override_features(planner)?,
+            _ => return Ok(HookOutcome::NoHook),
         }
+        Ok(HookOutcome::Done)
     }
 
     /// What the shaper keeps in the plan. No mask in it touches a glyph flag bit.
@@ -353,11 +358,11 @@ impl hb_ot_shaper_t {
         plan: &hb_ot_shape_plan_t,
         face: &F,
         buffer: &mut hb_buffer_t,
-    ) -> Result<Option<()>, ShaperError>
+    ) -> Result<HookOutcome, ShaperError>
         requires with_positions { length buffer.old.positions ≡ length buffer.old.glyphs }
         requires fits { PostprocessFits self plan.now buffer.old.glyphs }
         ensures answer { let there = has_hook self PostprocessGlyphs in
-            IfOk result (λ answer. is_some answer ≡ there) }
+            IfOk result (λ answer. answer ≡ outcome there) }
         ensures ok { let font = F.font face.now in
             OnOk result (Postprocessed self plan.now font buffer.old buffer.new) }
         ensures laws { let font = F.font face.now in
@@ -370,7 +375,7 @@ impl hb_ot_shaper_t {
         match self {
             Self::Arabic => {
                 ot_shaper_arabic_stretch::postprocess_glyphs(plan, face, buffer)?;
-                Ok(Some(()))
+                Ok(HookOutcome::Done)
             }
             Self::Hangul
             | Self::Hebrew
@@ -379,7 +384,7 @@ impl hb_ot_shaper_t {
             | Self::Myanmar
             | Self::MyanmarZawgyi
             | Self::Thai
-            | Self::Universal => Ok(None),
+            | Self::Universal => Ok(HookOutcome::NoHook),
         }
     }
 
@@ -393,16 +398,17 @@ impl hb_ot_shaper_t {
         tables: &T,
         a: char,
         b: char,
-    ) -> Option<Option<char>>
+    ) -> Composition
         ensures pair { Composed self plan.now (T.tables tables.now) a b result }
-        ensures answer { is_some result ≡ has_hook self Compose }
     {
         match self {
-            Self::Hebrew => Some(ot_shaper_hebrew::compose(plan, tables, a, b)),
-            Self::Indic => Some(ot_shaper_indic::compose(tables, a, b)),
-            Self::Khmer => Some(ot_shaper_khmer::compose(tables, a, b)),
-            Self::Universal => Some(ot_shaper_use::compose(tables, a, b)),
-            Self::Arabic | Self::Hangul | Self::Myanmar | Self::MyanmarZawgyi | Self::Thai => None,
+            Self::Hebrew => Composition::of(ot_shaper_hebrew::compose(plan, tables, a, b)),
+            Self::Indic => Composition::of(ot_shaper_indic::compose(tables, a, b)),
+            Self::Khmer => Composition::of(ot_shaper_khmer::compose(tables, a, b)),
+            Self::Universal => Composition::of(ot_shaper_use::compose(tables, a, b)),
+            Self::Arabic | Self::Hangul | Self::Myanmar | Self::MyanmarZawgyi | Self::Thai => {
+                Composition::NoHook
+            }
         }
     }
 
@@ -414,20 +420,19 @@ impl hb_ot_shaper_t {
         _plan: &hb_ot_shape_plan_t,
         tables: &T,
         ab: char,
-    ) -> Option<Option<(char, char)>>
+    ) -> Decomposition
         ensures parts { Decomposed self _plan.now (T.tables tables.now) ab result }
-        ensures answer { is_some result ≡ has_hook self Decompose }
     {
         match self {
-            Self::Indic => Some(ot_shaper_indic::decompose(tables, ab)),
-            Self::Khmer => Some(ot_shaper_khmer::decompose(tables, ab)),
+            Self::Indic => Decomposition::of(ot_shaper_indic::decompose(tables, ab)),
+            Self::Khmer => Decomposition::of(ot_shaper_khmer::decompose(tables, ab)),
             Self::Arabic
             | Self::Hangul
             | Self::Hebrew
             | Self::Myanmar
             | Self::MyanmarZawgyi
             | Self::Thai
-            | Self::Universal => None,
+            | Self::Universal => Decomposition::NoHook,
         }
     }
 
@@ -442,16 +447,16 @@ impl hb_ot_shaper_t {
         _face: &F,
         tables: &T,
         buffer: &mut hb_buffer_t,
-    ) -> Option<()>
+    ) -> HookOutcome
         requires without_positions { buffer.old.positions ≡ [] }
         requires data { PlanFits self plan.now }
         requires glyphs { GlyphsFit self plan.now buffer.old.glyphs }
-        ensures answer { is_some result ≡ has_hook self SetupMasks }
+        ensures answer { result ≡ outcome (has_hook self SetupMasks) }
         ensures masks { MasksSet self plan.now (T.tables tables.now) buffer.old buffer.new }
         ensures flags { OnlyFlagsAdded buffer.old.glyphs buffer.new.glyphs }
     {
         match self {
-            Self::Hebrew | Self::MyanmarZawgyi | Self::Thai => return None,
+            Self::Hebrew | Self::MyanmarZawgyi | Self::Thai => return HookOutcome::NoHook,
             Self::Arabic | Self::Hangul => self.set_masks(plan, tables, buffer),
             Self::Indic | Self::Khmer | Self::Myanmar | Self::Universal => {
                 // (tables that panic leave the empty buffer, and no text with some categories)
@@ -461,7 +466,7 @@ impl hb_ot_shaper_t {
                 *buffer = text;
             }
         }
-        Some(())
+        HookOutcome::Done
     }
 
     // The masks of a shaper, where it sets any.
@@ -493,12 +498,12 @@ impl hb_ot_shaper_t {
         buffer: &mut hb_buffer_t,
         start: usize,
         end: usize,
-    ) -> Option<()>
+    ) -> HookOutcome
         requires without_positions { buffer.old.positions ≡ [] }
         requires in_order { start ≤ end }
         requires in_range { end ≤ length buffer.old.glyphs }
         requires few { MarksFit self start end }
-        ensures answer { is_some result ≡ has_hook self ReorderMarks }
+        ensures answer { result ≡ outcome (has_hook self ReorderMarks) }
         ensures marks { MarksReordered self start end buffer.old buffer.new }
         ensures laws { MarksKeep self start end buffer.old buffer.new }
     {
@@ -511,8 +516,8 @@ impl hb_ot_shaper_t {
             | Self::Myanmar
             | Self::MyanmarZawgyi
             | Self::Thai
-            | Self::Universal => return None,
+            | Self::Universal => return HookOutcome::NoHook,
         }
-        Some(())
+        HookOutcome::Done
     }
 }

@@ -10,7 +10,7 @@ use crate::plan::Plan;
 use crate::status::{Argument, Error, Status};
 use sengadlit::buffer::Span;
 use sengadlit::plan::{Pause, Preprocess};
-use sengadlit::shaper::{Shaper, pause_fits, run_pause as run};
+use sengadlit::shaper::{Composition, Decomposition, Shaper, pause_fits, run_pause as run};
 use sengadlit::spans::setup_syllables_found as set_up_found;
 
 /// The greatest kind of a syllable.
@@ -51,17 +51,15 @@ pub fn compose(
     tables: Option<&Tables<'_>>,
     a: u32,
     b: u32,
-) -> Result<Option<Option<u32>>, Error> {
+) -> Result<Composition, Error> {
     let asks = match plan.shaper {
         Shaper::Hebrew => TABLES_COMPOSE,
         Shaper::Indic | Shaper::Khmer | Shaper::Universal => TABLES_COMPOSE | TABLES_GENERAL,
         _ => 0,
     };
     let tables = AskedTables::of(tables, asks)?;
-    let composed = plan
-        .shaper
-        .compose(&plan.inner, &tables, character(a)?, character(b)?);
-    Ok(composed.map(|pair| pair.map(u32::from)))
+    let (a, b) = (character(a)?, character(b)?);
+    Ok(plan.shaper.compose(&plan.inner, &tables, a, b))
 }
 
 /// The two characters that one decomposes to.
@@ -69,14 +67,14 @@ pub fn decompose(
     plan: &Plan,
     tables: Option<&Tables<'_>>,
     ab: u32,
-) -> Result<Option<Option<(u32, u32)>>, Error> {
+) -> Result<Decomposition, Error> {
     let asks = match plan.shaper {
         Shaper::Indic | Shaper::Khmer => TABLES_DECOMPOSE,
         _ => 0,
     };
     let tables = AskedTables::of(tables, asks)?;
-    let parts = plan.shaper.decompose(&plan.inner, &tables, character(ab)?);
-    Ok(parts.map(|parts| parts.map(|(a, b)| (u32::from(a), u32::from(b)))))
+    let ab = character(ab)?;
+    Ok(plan.shaper.decompose(&plan.inner, &tables, ab))
 }
 
 fn character(number: u32) -> Result<char, Error> {
@@ -96,7 +94,7 @@ pub fn reorder_marks(
     let done = buffer.run(Takes::Numbers, |inner| {
         Ok(plan.shaper.reorder_marks(&plan.inner, inner, start, end))
     })?;
-    Ok(done_if(done.is_some()))
+    Ok(done_if(done.is_done()))
 }
 
 /// `sengadlit_setup_masks`.
@@ -125,7 +123,7 @@ pub fn setup_masks(
     let done = buffer.run(Takes::Numbers, |inner| {
         Ok(plan.shaper.setup_masks(&plan.inner, &font, &tables, inner))
     })?;
-    Ok(done_if(done.is_some()))
+    Ok(done_if(done.is_done()))
 }
 
 /// `sengadlit_run_pause`, and whether dotted circles were wanted.
@@ -210,5 +208,5 @@ pub fn postprocess_glyphs(
     let done = buffer.run_positioned(takes, |inner| {
         Ok(plan.shaper.postprocess_glyphs(&plan.inner, &font, inner)?)
     })?;
-    Ok(done_if(done.is_some()))
+    Ok(done_if(done.is_done()))
 }

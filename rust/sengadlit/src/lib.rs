@@ -34,8 +34,8 @@
 //!
 //! # The hooks in the order of a pipeline
 //!
-//! Each is a method of [`Shaper`]; one that the shaper lacks returns `None` and changes nothing, and
-//! [`Shaper::has_hook`] says which it has.
+//! Each is a method of [`Shaper`]; one that the shaper lacks returns `NoHook`, or `None`, and changes
+//! nothing, and [`Shaper::has_hook`] says which it has.
 //!
 //! 1. *Plan time*, once for a script and a font: [`collect_features`] and [`override_features`] fill
 //!    a [`Planner`] with features and pauses. From those that the font has, [`Plan::from_requests`]

@@ -1,9 +1,10 @@
 //! The shapers, one method per hook, and what runs between two stages of lookups.
 
 pub use crate::generated::rustybuzz_shapers::shaper::{
-    ARABIC_SHAPER, HANGUL_SHAPER, HEBREW_SHAPER, Hook, INDIC_SHAPER, KHMER_SHAPER, MYANMAR_SHAPER,
-    MYANMAR_ZAWGYI_SHAPER, Shaper, THAI_SHAPER, UNIVERSAL_SHAPER, has_positions, kinds_fit,
-    lacks_positions, pause_fits, pause_may_change, run_pause,
+    ARABIC_SHAPER, Composition, Decomposition, HANGUL_SHAPER, HEBREW_SHAPER, Hook, HookOutcome,
+    INDIC_SHAPER, KHMER_SHAPER, MYANMAR_SHAPER, MYANMAR_ZAWGYI_SHAPER, Shaper, THAI_SHAPER,
+    UNIVERSAL_SHAPER, has_positions, kinds_fit, lacks_positions, pause_fits, pause_may_change,
+    run_pause,
 };
 pub use crate::plan::{NormalizationMode, Pause, PlanData, Preprocess, ZeroWidthMarks};
 
@@ -52,6 +53,48 @@ impl Shaper {
         Shaper::Thai,
         Shaper::Universal,
     ];
+}
+
+impl HookOutcome {
+    /// Whether the shaper has the hook, which ran.
+    #[inline]
+    pub const fn is_done(self) -> bool {
+        matches!(self, HookOutcome::Done)
+    }
+}
+
+impl Composition {
+    /// The character, or none where the two stay apart; the tables say so where the shaper doesn't.
+    ///
+    /// ```
+    /// use sengadlit::{Plan, Shaper, unicode::{UnicodeTables, compose}};
+    ///
+    /// let plan = Plan::builder().build_for(Shaper::Thai)?;
+    /// let composed = Shaper::Thai.compose(&plan, &UnicodeTables, 'a', '\u{308}');
+    /// assert_eq!(composed.or_else(|| compose('a', '\u{308}')), Some('\u{E4}'));
+    /// # Ok::<(), Box<dyn std::error::Error>>(())
+    /// ```
+    #[inline]
+    pub fn or_else(self, by_tables: impl FnOnce() -> Option<char>) -> Option<char> {
+        match self {
+            Composition::Whole(whole) => Some(whole),
+            Composition::Apart => None,
+            Composition::NoHook => by_tables(),
+        }
+    }
+}
+
+impl Decomposition {
+    /// The parts, or none where the character stays whole; the tables say so where the shaper
+    /// doesn't.
+    #[inline]
+    pub fn or_else(self, by_tables: impl FnOnce() -> Option<(char, char)>) -> Option<(char, char)> {
+        match self {
+            Decomposition::Parts(a, b) => Some((a, b)),
+            Decomposition::Whole => None,
+            Decomposition::NoHook => by_tables(),
+        }
+    }
 }
 
 impl From<ScriptShaper> for Shaper {

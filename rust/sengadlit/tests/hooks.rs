@@ -140,7 +140,7 @@ fn shapers_request_features() {
         let overrides = shaper.override_features(&mut planner).unwrap();
         let is_without = [Shaper::Hebrew, Shaper::MyanmarZawgyi, Shaper::Thai].contains(&shaper);
         let has_overrides = [Shaper::Hangul, Shaper::Indic, Shaper::Khmer].contains(&shaper);
-        let present = [collects.is_some(), overrides.is_some()];
+        let present = [collects.is_done(), overrides.is_done()];
         assert_eq!(present, [!is_without, has_overrides], "{shaper:?}");
         let hooks = [Hook::CollectFeatures, Hook::OverrideFeatures];
         assert_eq!(hooks.map(|hook| shaper.has_hook(hook)), present);

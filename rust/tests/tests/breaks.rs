@@ -85,8 +85,8 @@ struct Text {
 impl Text {
     fn join(&self, buffer: &mut Buffer) {
         let font = NominalOnly(|_| None);
-        let there = self.shaper.setup_masks(&self.plan, &font, &Letters, buffer);
-        assert_eq!(there, Some(()));
+        let outcome = self.shaper.setup_masks(&self.plan, &font, &Letters, buffer);
+        assert!(outcome.is_done());
     }
 
     /// What joining makes of these places of the text by themselves.

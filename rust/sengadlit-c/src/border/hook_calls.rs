@@ -10,6 +10,7 @@ use crate::{hooks, numbers};
 use core::ffi::c_uint;
 use core::ptr::null;
 use sengadlit::buffer::Span;
+use sengadlit::shaper::{Composition, Decomposition};
 
 // Runs a hook.
 #[inline]
@@ -41,25 +42,13 @@ pub extern "C" fn sengadlit_preprocess_text(
     })
 }
 
-// What composition or decomposition returns; what it found is written by `write`.
+// What composition or decomposition returns.
 #[inline]
-fn ended<A>(
-    found: Result<Option<Option<A>>, Error>,
-    error: Out<'_, Error>,
-    write: impl FnOnce(A),
-) -> Status {
-    match found {
-        Ok(Some(Some(found))) => {
-            write(found);
-            Status::Done
-        }
-        Ok(Some(None)) => Status::NotFound,
-        Ok(None) => Status::Absent,
-        Err(why) => {
-            put(error, why);
-            why.status
-        }
-    }
+fn ended(found: Result<Status, Error>, error: Out<'_, Error>) -> Status {
+    found.unwrap_or_else(|why| {
+        put(error, why);
+        why.status
+    })
 }
 
 #[unsafe(no_mangle)]
@@ -76,10 +65,16 @@ pub extern "C" fn sengadlit_decompose(
         (None, _, _) => Err(Error::argument(Argument::Plan)),
         _ => Err(Error::argument(Argument::Result)),
     };
-    ended(found, error, |(first, second)| {
-        put(a, first);
-        put(b, second);
-    })
+    let written = found.map(|parts| match parts {
+        Decomposition::Parts(first, second) => {
+            put(a, u32::from(first));
+            put(b, u32::from(second));
+            Status::Done
+        }
+        Decomposition::Whole => Status::NotFound,
+        Decomposition::NoHook => Status::Absent,
+    });
+    ended(written, error)
 }
 
 #[unsafe(no_mangle)]
@@ -96,7 +91,15 @@ pub extern "C" fn sengadlit_compose(
         (None, _) => Err(Error::argument(Argument::Plan)),
         (_, None) => Err(Error::argument(Argument::Result)),
     };
-    ended(found, error, |composed| put(ab, composed))
+    let written = found.map(|composed| match composed {
+        Composition::Whole(whole) => {
+            put(ab, u32::from(whole));
+            Status::Done
+        }
+        Composition::Apart => Status::NotFound,
+        Composition::NoHook => Status::Absent,
+    });
+    ended(written, error)
 }
 
 #[unsafe(no_mangle)]

@@ -6,7 +6,7 @@ use sengadlit::buffer::{Buffer, GlyphInfo, ShaperError, Span};
 use sengadlit::font::{Font, Tables};
 use sengadlit::plan::{Pause, Plan, PlanData, Preprocess};
 use sengadlit::shaper::checked::{CallError, checked_run_pause};
-use sengadlit::shaper::{Shaper, run_pause};
+use sengadlit::shaper::{Composition, Decomposition, HookOutcome, Shaper, run_pause};
 
 /// A hook, or a pause, with its arguments.
 #[derive(Clone, Copy, Debug, PartialEq, Eq)]
@@ -88,12 +88,8 @@ impl Call {
             Call::Masks => done(shaper.setup_masks(plan, font, tables, buffer)),
             Call::Marks(start, end) => done(shaper.reorder_marks(plan, buffer, start, end)),
             Call::Postprocess => done(shaper.postprocess_glyphs(plan, font, buffer)?),
-            Call::Compose(a, b) => shaper
-                .compose(plan, tables, a, b)
-                .map_or(Returned::Absent, Returned::Character),
-            Call::Decompose(ab) => shaper
-                .decompose(plan, tables, ab)
-                .map_or(Returned::Absent, Returned::Characters),
+            Call::Compose(a, b) => composed(shaper.compose(plan, tables, a, b)),
+            Call::Decompose(ab) => decomposed(shaper.decompose(plan, tables, ab)),
             Call::Pause(pause) => Returned::Changed(run_pause(pause, plan, font, spans, buffer)?),
         })
     }
@@ -216,8 +212,27 @@ fn preprocessed(returned: Option<Preprocess>) -> Returned {
     }
 }
 
-fn done(returned: Option<()>) -> Returned {
-    returned.map_or(Returned::Absent, |()| Returned::Done)
+fn done(outcome: HookOutcome) -> Returned {
+    match outcome {
+        HookOutcome::Done => Returned::Done,
+        HookOutcome::NoHook => Returned::Absent,
+    }
+}
+
+fn composed(composition: Composition) -> Returned {
+    match composition {
+        Composition::Whole(whole) => Returned::Character(Some(whole)),
+        Composition::Apart => Returned::Character(None),
+        Composition::NoHook => Returned::Absent,
+    }
+}
+
+fn decomposed(decomposition: Decomposition) -> Returned {
+    match decomposition {
+        Decomposition::Parts(a, b) => Returned::Characters(Some((a, b))),
+        Decomposition::Whole => Returned::Characters(None),
+        Decomposition::NoHook => Returned::Absent,
+    }
 }
 
 fn random_char(numbers: &mut Numbers) -> char {

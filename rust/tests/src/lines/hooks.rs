@@ -5,7 +5,7 @@ use super::fields::{character, decimal};
 use super::session::Session;
 use crate::pieces::{breaks_at, is_clear, piece};
 use sengadlit::plan::Preprocess;
-use sengadlit::shaper::pause_fits;
+use sengadlit::shaper::{Composition, Decomposition, HookOutcome, pause_fits};
 use sengadlit::{Buffer, Pause, Plan, Shaper, run_pause};
 
 impl Session {
@@ -20,15 +20,19 @@ impl Session {
             Call::Postprocess => self.postprocess(shaper, &plan),
             Call::Marks(start, end) => self.marks(shaper, &plan, start, end),
             Call::Compose(a, b) => {
-                let composed = shaper.compose(&plan, &self.tables, a, b);
-                let parts = composed.map(|composed| composed.map(|c| vec![c]));
-                self.answer_characters(parts);
+                match shaper.compose(&plan, &self.tables, a, b) {
+                    Composition::Whole(whole) => self.answer_characters(&[whole]),
+                    Composition::Apart => self.answer("none"),
+                    Composition::NoHook => self.answer("absent"),
+                }
                 Ok(())
             }
             Call::Decompose(ab) => {
-                let parts = shaper.decompose(&plan, &self.tables, ab);
-                let parts = parts.map(|parts| parts.map(|(a, b)| vec![a, b]));
-                self.answer_characters(parts);
+                match shaper.decompose(&plan, &self.tables, ab) {
+                    Decomposition::Parts(a, b) => self.answer_characters(&[a, b]),
+                    Decomposition::Whole => self.answer("none"),
+                    Decomposition::NoHook => self.answer("absent"),
+                }
                 Ok(())
             }
             Call::Pause(pause) => self.pause(pause, &plan),
@@ -54,8 +58,8 @@ impl Session {
         if self.cuts.is_some() {
             self.break_text(shaper, plan);
         }
-        let returned = shaper.setup_masks(plan, &self.font, &self.tables, &mut self.buffer);
-        self.answer_if_absent(returned);
+        let outcome = shaper.setup_masks(plan, &self.font, &self.tables, &mut self.buffer);
+        self.answer_if_absent(outcome);
         Ok(())
     }
 
@@ -89,16 +93,16 @@ impl Session {
         self.check_no_positions()?;
         check(start <= end && end <= self.buffer.len())?;
         check(shaper.marks_fit(start, end))?;
-        let returned = shaper.reorder_marks(plan, &mut self.buffer, start, end);
-        self.answer_if_absent(returned);
+        let outcome = shaper.reorder_marks(plan, &mut self.buffer, start, end);
+        self.answer_if_absent(outcome);
         Ok(())
     }
 
     fn postprocess(&mut self, shaper: Shaper, plan: &Plan) -> Result<(), Fault> {
         check(self.buffer.positions_len() == self.buffer.len())?;
         check(shaper.postprocess_fits(plan, &self.buffer))?;
-        let returned = shaper.postprocess_glyphs(plan, &self.font, &mut self.buffer)?;
-        self.answer_if_absent(returned);
+        let outcome = shaper.postprocess_glyphs(plan, &self.font, &mut self.buffer)?;
+        self.answer_if_absent(outcome);
         Ok(())
     }
 
@@ -116,21 +120,15 @@ impl Session {
         check(self.buffer.positions_len() == 0)
     }
 
-    fn answer_if_absent(&mut self, returned: Option<()>) {
-        if returned.is_none() {
+    fn answer_if_absent(&mut self, outcome: HookOutcome) {
+        if !outcome.is_done() {
             self.answer("absent");
         }
     }
 
-    fn answer_characters(&mut self, returned: Option<Option<Vec<char>>>) {
-        match returned {
-            Some(Some(characters)) => {
-                let numbers = characters.iter().map(|c| format!("{:04x}", u32::from(*c)));
-                self.answer(&numbers.collect::<Vec<_>>().join(" "));
-            }
-            Some(None) => self.answer("none"),
-            None => self.answer("absent"),
-        }
+    fn answer_characters(&mut self, characters: &[char]) {
+        let numbers = characters.iter().map(|c| format!("{:04x}", u32::from(*c)));
+        self.answer(&numbers.collect::<Vec<_>>().join(" "));
     }
 }
 

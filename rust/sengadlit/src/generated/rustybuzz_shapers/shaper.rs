@@ -1,7 +1,7 @@
 // Generated from crates/rustybuzz_shapers/src/shaper.rt by rust/erase; edit the source.
 
 //! The shapers behind one enum, one method per hook. Where a shaper lacks a hook, its method
-//! returns None and changes nothing.
+//! tells so and changes nothing.
 
 use crate::generated::shapers_base::buffer::{Buffer, ShaperError, Tag};
 use crate::generated::shapers_base::font::{Font, Tables};
@@ -9,6 +9,7 @@ use crate::generated::shapers_base::plan::{Plan, Planner};
 
 pub mod checked;
 mod conditions;
+mod outcomes;
 mod pauses;
 
 use crate::generated::shapers_arabic::ot_shaper_arabic;
@@ -24,10 +25,11 @@ use crate::generated::shapers_text::{ot_shaper_hebrew, ot_shaper_thai};
 use crate::generated::shapers_universal::ot_shaper_use;
 pub use conditions::{has_positions, kinds_fit, lacks_positions, pause_fits};
 use core::mem;
+pub use outcomes::{Composition, Decomposition, HookOutcome};
 pub use pauses::{pause_may_change, run_pause};
 
-/// A script shaper. Where it lacks a hook, a dash here, the method returns `None` and changes nothing;
-/// [`has_hook`] is this table. What runs between two stages of lookups is a [`Pause`].
+/// A script shaper. Where it lacks a hook, a dash here, the method returns `NoHook`, or `None`, and
+/// changes nothing; [`has_hook`] is this table. What runs between two stages of lookups is a [`Pause`].
 ///
 /// | hook | Arabic | Hangul | Hebrew | Indic | Khmer | Myanmar | Zawgyi | Thai | universal |
 /// |---|---|---|---|---|---|---|---|---|---|
@@ -301,7 +303,7 @@ impl Shaper {
     ///
     /// ```text
     /// ensures answer { let there = has_hook self CollectFeatures in
-    ///     IfOk result (λ answer. is_some answer ≡ there) }
+    ///     IfOk result (λ answer. answer ≡ outcome there) }
     /// ensures ok { let has_rclt = (F.font face.now).offers rclt in
     ///     let list = collected self planner.old.script has_rclt in
     ///     OnOk result (planner.new ≡ asked list planner.old) }
@@ -310,6 +312,7 @@ impl Shaper {
     /// ensures absent { has_hook self CollectFeatures ≡ false → IsOk result }
     /// ```
     ///
+    /// - `outcome`: `crates/rustybuzz_shapers/specs/Outcomes.antt`
     /// - `asked`, `collected`: `crates/rustybuzz_shapers/specs/Records.antt`
     /// - `has_hook`: `crates/rustybuzz_shapers/specs/Standing.antt`
     /// - `rclt`: `crates/shapers_arabic/specs/Requests.antt`
@@ -321,16 +324,17 @@ impl Shaper {
         self,
         face: &F,
         planner: &mut Planner,
-    ) -> Result<Option<()>, ShaperError> {
+    ) -> Result<HookOutcome, ShaperError> {
         match self {
-            Self::Arabic => Ok(Some(ot_shaper_arabic::collect_features(face, planner)?)),
-            Self::Hangul => Ok(Some(ot_shaper_hangul::collect_features(planner)?)),
-            Self::Indic => Ok(Some(ot_shaper_indic::collect_features(planner)?)),
-            Self::Khmer => Ok(Some(ot_shaper_khmer::collect_features(planner)?)),
-            Self::Myanmar => Ok(Some(ot_shaper_myanmar::collect_features(planner)?)),
-            Self::Universal => Ok(Some(ot_shaper_use::collect_features(planner)?)),
-            Self::Hebrew | Self::MyanmarZawgyi | Self::Thai => Ok(None),
+            Self::Arabic => ot_shaper_arabic::collect_features(face, planner)?,
+            Self::Hangul => ot_shaper_hangul::collect_features(planner)?,
+            Self::Indic => ot_shaper_indic::collect_features(planner)?,
+            Self::Khmer => ot_shaper_khmer::collect_features(planner)?,
+            Self::Myanmar => ot_shaper_myanmar::collect_features(planner)?,
+            Self::Universal => ot_shaper_use::collect_features(planner)?,
+            Self::Hebrew | Self::MyanmarZawgyi | Self::Thai => return Ok(HookOutcome::NoHook),
         }
+        Ok(HookOutcome::Done)
     }
 
     /// Requests what comes after the features of all shapers: all of it, or nothing where memory is
@@ -346,26 +350,28 @@ impl Shaper {
     ///
     /// ```text
     /// ensures answer { let there = has_hook self OverrideFeatures in
-    ///     IfOk result (λ answer. is_some answer ≡ there) }
+    ///     IfOk result (λ answer. answer ≡ outcome there) }
     /// ensures ok { OnOk result (planner.new ≡ asked (overridden self) planner.old) }
     /// ensures refusal { IsOkUnless result Memory }
     /// ensures err { OnErr result (planner.new ≡ planner.old) }
     /// ensures absent { has_hook self OverrideFeatures ≡ false → IsOk result }
     /// ```
     ///
+    /// - `outcome`: `crates/rustybuzz_shapers/specs/Outcomes.antt`
     /// - `asked`, `overridden`: `crates/rustybuzz_shapers/specs/Records.antt`
     /// - `has_hook`: `crates/rustybuzz_shapers/specs/Standing.antt`
     ///
     /// </details>
     ///
     /// [`Memory`]: crate::ShaperError::Memory
-    pub fn override_features(self, planner: &mut Planner) -> Result<Option<()>, ShaperError> {
+    pub fn override_features(self, planner: &mut Planner) -> Result<HookOutcome, ShaperError> {
         match self {
-            Self::Hangul => Ok(Some(ot_shaper_hangul::override_features(planner)?)),
-            Self::Indic => Ok(Some(ot_shaper_indic::override_features(planner)?)),
-            Self::Khmer => Ok(Some(ot_shaper_khmer::override_features(planner)?)),
-            _ => Ok(None),
+            Self::Hangul => ot_shaper_hangul::override_features(planner)?,
+            Self::Indic => ot_shaper_indic::override_features(planner)?,
+            Self::Khmer => ot_shaper_khmer::override_features(planner)?,
+            _ => return Ok(HookOutcome::NoHook),
         }
+        Ok(HookOutcome::Done)
     }
 
     /// What the shaper keeps in the plan. No mask in it touches a glyph flag bit.
@@ -478,7 +484,7 @@ impl Shaper {
     /// requires with_positions { length buffer.old.positions ≡ length buffer.old.glyphs }
     /// requires fits { PostprocessFits self plan.now buffer.old.glyphs }
     /// ensures answer { let there = has_hook self PostprocessGlyphs in
-    ///     IfOk result (λ answer. is_some answer ≡ there) }
+    ///     IfOk result (λ answer. answer ≡ outcome there) }
     /// ensures ok { let font = F.font face.now in
     ///     OnOk result (Postprocessed self plan.now font buffer.old buffer.new) }
     /// ensures laws { let font = F.font face.now in
@@ -490,6 +496,7 @@ impl Shaper {
     /// ```
     ///
     /// - `PostprocessFits`, `PostprocessKeeps`, `Postprocessed`, `RefusesPostprocess`: `crates/rustybuzz_shapers/specs/Hooks.antt`
+    /// - `outcome`: `crates/rustybuzz_shapers/specs/Outcomes.antt`
     /// - `has_hook`: `crates/rustybuzz_shapers/specs/Standing.antt`
     /// - `glyphs_added`: `crates/rustybuzz_shapers/specs/Stretched.antt`
     ///
@@ -504,11 +511,11 @@ impl Shaper {
         plan: &Plan,
         face: &F,
         buffer: &mut Buffer,
-    ) -> Result<Option<()>, ShaperError> {
+    ) -> Result<HookOutcome, ShaperError> {
         match self {
             Self::Arabic => {
                 ot_shaper_arabic_stretch::postprocess_glyphs(plan, face, buffer)?;
-                Ok(Some(()))
+                Ok(HookOutcome::Done)
             }
             Self::Hangul
             | Self::Hebrew
@@ -517,7 +524,7 @@ impl Shaper {
             | Self::Myanmar
             | Self::MyanmarZawgyi
             | Self::Thai
-            | Self::Universal => Ok(None),
+            | Self::Universal => Ok(HookOutcome::NoHook),
         }
     }
 
@@ -531,27 +538,21 @@ impl Shaper {
     ///
     /// ```text
     /// ensures pair { Composed self plan.now (T.tables tables.now) a b result }
-    /// ensures answer { is_some result ≡ has_hook self Compose }
     /// ```
     ///
     /// - `Composed`: `crates/rustybuzz_shapers/specs/Hooks.antt`
-    /// - `has_hook`: `crates/rustybuzz_shapers/specs/Standing.antt`
     ///
     /// </details>
     #[inline]
-    pub fn compose<T: Tables>(
-        self,
-        plan: &Plan,
-        tables: &T,
-        a: char,
-        b: char,
-    ) -> Option<Option<char>> {
+    pub fn compose<T: Tables>(self, plan: &Plan, tables: &T, a: char, b: char) -> Composition {
         match self {
-            Self::Hebrew => Some(ot_shaper_hebrew::compose(plan, tables, a, b)),
-            Self::Indic => Some(ot_shaper_indic::compose(tables, a, b)),
-            Self::Khmer => Some(ot_shaper_khmer::compose(tables, a, b)),
-            Self::Universal => Some(ot_shaper_use::compose(tables, a, b)),
-            Self::Arabic | Self::Hangul | Self::Myanmar | Self::MyanmarZawgyi | Self::Thai => None,
+            Self::Hebrew => Composition::of(ot_shaper_hebrew::compose(plan, tables, a, b)),
+            Self::Indic => Composition::of(ot_shaper_indic::compose(tables, a, b)),
+            Self::Khmer => Composition::of(ot_shaper_khmer::compose(tables, a, b)),
+            Self::Universal => Composition::of(ot_shaper_use::compose(tables, a, b)),
+            Self::Arabic | Self::Hangul | Self::Myanmar | Self::MyanmarZawgyi | Self::Thai => {
+                Composition::NoHook
+            }
         }
     }
 
@@ -564,30 +565,23 @@ impl Shaper {
     ///
     /// ```text
     /// ensures parts { Decomposed self _plan.now (T.tables tables.now) ab result }
-    /// ensures answer { is_some result ≡ has_hook self Decompose }
     /// ```
     ///
     /// - `Decomposed`: `crates/rustybuzz_shapers/specs/Hooks.antt`
-    /// - `has_hook`: `crates/rustybuzz_shapers/specs/Standing.antt`
     ///
     /// </details>
     #[inline]
-    pub fn decompose<T: Tables>(
-        self,
-        _plan: &Plan,
-        tables: &T,
-        ab: char,
-    ) -> Option<Option<(char, char)>> {
+    pub fn decompose<T: Tables>(self, _plan: &Plan, tables: &T, ab: char) -> Decomposition {
         match self {
-            Self::Indic => Some(ot_shaper_indic::decompose(tables, ab)),
-            Self::Khmer => Some(ot_shaper_khmer::decompose(tables, ab)),
+            Self::Indic => Decomposition::of(ot_shaper_indic::decompose(tables, ab)),
+            Self::Khmer => Decomposition::of(ot_shaper_khmer::decompose(tables, ab)),
             Self::Arabic
             | Self::Hangul
             | Self::Hebrew
             | Self::Myanmar
             | Self::MyanmarZawgyi
             | Self::Thai
-            | Self::Universal => None,
+            | Self::Universal => Decomposition::NoHook,
         }
     }
 
@@ -609,12 +603,13 @@ impl Shaper {
     /// requires without_positions { buffer.old.positions ≡ [] }
     /// requires data { PlanFits self plan.now }
     /// requires glyphs { GlyphsFit self plan.now buffer.old.glyphs }
-    /// ensures answer { is_some result ≡ has_hook self SetupMasks }
+    /// ensures answer { result ≡ outcome (has_hook self SetupMasks) }
     /// ensures masks { MasksSet self plan.now (T.tables tables.now) buffer.old buffer.new }
     /// ensures flags { OnlyFlagsAdded buffer.old.glyphs buffer.new.glyphs }
     /// ```
     ///
     /// - `GlyphsFit`, `MasksSet`, `PlanFits`: `crates/rustybuzz_shapers/specs/Hooks.antt`
+    /// - `outcome`: `crates/rustybuzz_shapers/specs/Outcomes.antt`
     /// - `has_hook`: `crates/rustybuzz_shapers/specs/Standing.antt`
     /// - `OnlyFlagsAdded`: `crates/shapers_clusters/specs/FlagLaw.antt`
     ///
@@ -626,9 +621,9 @@ impl Shaper {
         _face: &F,
         tables: &T,
         buffer: &mut Buffer,
-    ) -> Option<()> {
+    ) -> HookOutcome {
         match self {
-            Self::Hebrew | Self::MyanmarZawgyi | Self::Thai => return None,
+            Self::Hebrew | Self::MyanmarZawgyi | Self::Thai => return HookOutcome::NoHook,
             Self::Arabic | Self::Hangul => self.set_masks(plan, tables, buffer),
             Self::Indic | Self::Khmer | Self::Myanmar | Self::Universal => {
                 // (tables that panic leave the empty buffer, and no text with some categories)
@@ -638,7 +633,7 @@ impl Shaper {
                 *buffer = text;
             }
         }
-        Some(())
+        HookOutcome::Done
     }
 
     // The masks of a shaper, where it sets any.
@@ -673,12 +668,13 @@ impl Shaper {
     /// requires in_order { start ≤ end }
     /// requires in_range { end ≤ length buffer.old.glyphs }
     /// requires few { MarksFit self start end }
-    /// ensures answer { is_some result ≡ has_hook self ReorderMarks }
+    /// ensures answer { result ≡ outcome (has_hook self ReorderMarks) }
     /// ensures marks { MarksReordered self start end buffer.old buffer.new }
     /// ensures laws { MarksKeep self start end buffer.old buffer.new }
     /// ```
     ///
     /// - `MarksFit`, `MarksKeep`, `MarksReordered`: `crates/rustybuzz_shapers/specs/Hooks.antt`
+    /// - `outcome`: `crates/rustybuzz_shapers/specs/Outcomes.antt`
     /// - `has_hook`: `crates/rustybuzz_shapers/specs/Standing.antt`
     ///
     /// </details>
@@ -689,7 +685,7 @@ impl Shaper {
         buffer: &mut Buffer,
         start: usize,
         end: usize,
-    ) -> Option<()> {
+    ) -> HookOutcome {
         match self {
             Self::Arabic => ot_shaper_arabic::reorder_marks(plan, buffer, start, end),
             Self::Hebrew => ot_shaper_hebrew::reorder_marks(plan, buffer, start, end),
@@ -699,8 +695,8 @@ impl Shaper {
             | Self::Myanmar
             | Self::MyanmarZawgyi
             | Self::Thai
-            | Self::Universal => return None,
+            | Self::Universal => return HookOutcome::NoHook,
         }
-        Some(())
+        HookOutcome::Done
     }
 }

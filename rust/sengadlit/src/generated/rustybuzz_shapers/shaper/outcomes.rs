@@ -1,0 +1,56 @@
+// Generated from crates/rustybuzz_shapers/src/shaper/outcomes.rt by rust/erase; edit the source.
+
+//! What the hooks return, where a shaper may lack them.
+
+/// Whether the shaper has the hook that was called.
+#[derive(Clone, Copy, Debug, PartialEq, Eq, Hash)]
+pub enum HookOutcome {
+    /// It has, and the hook ran.
+    Done,
+    /// It lacks the hook, and nothing changed.
+    NoHook,
+}
+
+/// What two characters compose to for a shaper.
+#[derive(Clone, Copy, Debug, PartialEq, Eq, Hash)]
+pub enum Composition {
+    /// To this character.
+    Whole(char),
+    /// They stay apart.
+    Apart,
+    /// The shaper leaves it to Unicode's tables.
+    NoHook,
+}
+
+/// What a character decomposes to for a shaper.
+#[derive(Clone, Copy, Debug, PartialEq, Eq, Hash)]
+pub enum Decomposition {
+    /// To these two characters.
+    Parts(char, char),
+    /// It stays whole.
+    Whole,
+    /// The shaper leaves it to Unicode's tables.
+    NoHook,
+}
+
+impl Composition {
+    // What a hook composes, which the shaper has.
+    #[inline]
+    pub(super) fn of(composed: Option<char>) -> Self {
+        match composed {
+            Some(whole) => Self::Whole(whole),
+            None => Self::Apart,
+        }
+    }
+}
+
+impl Decomposition {
+    // What a hook decomposes, which the shaper has.
+    #[inline]
+    pub(super) fn of(parts: Option<(char, char)>) -> Self {
+        match parts {
+            Some((a, b)) => Self::Parts(a, b),
+            None => Self::Whole,
+        }
+    }
+}
