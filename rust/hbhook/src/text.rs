@@ -33,7 +33,7 @@ impl fmt::Display for TextFault {
     fn fmt(&self, f: &mut fmt::Formatter<'_>) -> fmt::Result {
         match self {
             TextFault::NoScript => f.write_str("no script with hooks is known of the text"),
-            TextFault::Refused(refusal) => write!(f, "refused: {refusal}"),
+            TextFault::Refused(refusal) => write!(f, "{refusal}"),
             TextFault::Undrawn(reason) => f.write_str(reason),
         }
     }

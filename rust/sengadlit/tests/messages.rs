@@ -7,7 +7,10 @@ use std::error::Error;
 #[test]
 fn an_error_is_one_of_rusts() {
     let error: Box<dyn Error> = Box::new(ShaperError::UnknownSyllable(7));
-    assert_eq!(error.to_string(), "UnknownSyllable");
+    assert_eq!(
+        error.to_string(),
+        "a syllable is of a kind that the shaper doesn't know"
+    );
     assert!(error.source().is_none());
 }
 
@@ -21,7 +24,10 @@ fn a_checked_call_says_what_it_refused() {
     );
     let refused = CallError::from(ShaperError::TooLong);
     assert_eq!(refused.to_string(), "the call was refused");
-    assert_eq!(refused.source().unwrap().to_string(), "TooLong");
+    assert_eq!(
+        refused.source().unwrap().to_string(),
+        "the text would be longer than the buffer's limit"
+    );
     let error: Box<dyn Error> = Box::new(Condition::PlanData);
     assert_eq!(error.to_string(), "the plan hasn't the data that is read");
 }

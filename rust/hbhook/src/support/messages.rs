@@ -1,5 +1,6 @@
 //! The messages of the errors that the sources declare.
 
+use crate::generated::hbhook_boxes::refusal_name;
 use crate::generated::hbhook_commands::{Expected, Fault};
 use std::error::Error;
 use std::fmt;
@@ -40,7 +41,7 @@ impl fmt::Display for Fault {
     fn fmt(&self, f: &mut fmt::Formatter<'_>) -> fmt::Result {
         match self {
             Fault::Unreadable(line, _) => write!(f, "line {line}: unreadable"),
-            Fault::Refused(refusal, _) => write!(f, "refused: {refusal}"),
+            Fault::Refused(refusal, _) => write!(f, "refused: {}", refusal_name(*refusal)),
             Fault::Broken => write!(f, "broken"),
         }
     }
