@@ -164,10 +164,11 @@ begun : (p : Positioning) (b : Buffer) → Keeps b (text_advanced p b) × Paired
 begun p b =
     let f = advanced p.font p.metrics (is_horizontal b.direction) in
     let a : Buffer = record b { positions = map f b.glyphs } in
-    let s = text_spaced p b in
-    let spaced : Placed a s = changed (space_placed p.font p.metrics (is_horizontal b.direction)) a in
+    let s = text_spaced p.font p.metrics b in
+    let kept : Keeps b s = record { level = refl; glyphs = itself (merges b.level) b.glyphs } in
+    let spaced = changed (space_placed p.font p.metrics (is_horizontal b.direction)) a in
     let zeroed = zeroed_if (is_early (zeroing_of p.shaper)) p.is_mark p.applies_gpos s in
-    (after b s (text_advanced p b) spaced.keeps zeroed.keeps, zeroed.paired (spaced.paired (length-map b.glyphs f)))
+    (after b s (text_advanced p b) kept zeroed.keeps, zeroed.paired (spaced.paired (length-map b.glyphs f)))
 
 behind_gpos : (p : Positioning) → PositionsKeep p → (b : Buffer) → Paired b → Placed b
     (looked_up p.positioned (lookups_if p.applies_gpos p.list) b)

@@ -68,16 +68,16 @@ marks_zeroed_if now is_mark applies_gpos b =
 
 -- Before GPOS each glyph has the advance along the line that the font has for it, and in vertical
 -- text its origin for that; a space that the font lacks is as wide as it should be.
-abbrev pub text_spaced : Positioning → Buffer → Buffer
-text_spaced p b =
+abbrev pub text_spaced : Font → Metrics → Buffer → Buffer
+text_spaced font metrics b =
     let horizontal = is_horizontal b.direction in
-    let advances = map (advanced p.font p.metrics horizontal) b.glyphs in
-    let placed = space_placed p.font p.metrics horizontal in
+    let advances = map (advanced font metrics horizontal) b.glyphs in
+    let placed = space_placed font metrics horizontal in
     record b { positions = positions_changed placed b.glyphs advances }
 
 abbrev pub text_advanced : Positioning → Buffer → Buffer
 text_advanced p b =
-    let spaced = text_spaced p b in
+    let spaced = text_spaced p.font p.metrics b in
     marks_zeroed_if (is_early (zeroing_of p.shaper)) p.is_mark p.applies_gpos spaced
 
 -- behind GPOS, if it is applied

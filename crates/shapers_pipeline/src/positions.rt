@@ -1,7 +1,7 @@
 //! Positions: what is done around GPOS.
 ghost use Rattle.std.specs.Prelude.{◌≡◌, OnErr, OnOk, length};
 ghost use Rattle.shapers_pipeline.specs.Lookups.{StoppedIn, looked_up};
-ghost use Rattle.shapers_pipeline.specs.Positioned.{hangs_marks, ordered_for_drawing, is_early, is_late, lookups_if, marks_zeroed_if, text_positioned, zeroing_of};
+ghost use Rattle.shapers_pipeline.specs.Positioned.{hangs_marks, ordered_for_drawing, is_early, is_late, lookups_if, marks_zeroed_if, text_positioned, text_spaced, zeroing_of};
 ghost use Rattle.shapers_pipeline.specs.Shaped.{PositionsStopped, positioning_by};
 
 use crate::fractions::runs_forward;
@@ -35,8 +35,7 @@ pub(crate) fn position_text<F: MetricsFont, L: Lookups>(
 {
     let applies_gpos = plan.applies_gpos();
     let zeroing = zeroing_of(plan.shaper());
-    set_advances(font, buffer)?;
-    set_space_widths(font, buffer);
+    place_glyphs(font, buffer)?;
     zero_marks_if(is_early(zeroing), applies_gpos, lookups, buffer);
     apply_positioning_if(applies_gpos, lookups, plan.positioning(), buffer)?;
     zero_marks_if(is_late(zeroing), applies_gpos, lookups, buffer);
@@ -45,6 +44,18 @@ pub(crate) fn position_text<F: MetricsFont, L: Lookups>(
     reverse_if_backward(buffer);
     let invisible_glyph = settings.normalize.invisible_glyph;
     hide_default_ignorables(settings.ignorables, invisible_glyph, font, buffer);
+    Ok(())
+}
+
+// Gives each glyph its advance, and a space that the font lacks its width.
+fn place_glyphs<F: MetricsFont>(font: &F, buffer: &mut hb_buffer_t) -> Result<(), ShaperError>
+    ensures ok { let text = text_spaced (F.font font.now) (F.metrics font.now) buffer.old in
+        OnOk result (buffer.new ≡ text) }
+    ensures paired { OnOk result (length buffer.new.positions ≡ length buffer.new.glyphs) }
+    ensures err { OnErr result (buffer.new ≡ buffer.old) }
+{
+    set_advances(font, buffer)?;
+    set_space_widths(font, buffer);
     Ok(())
 }
 

@@ -33,11 +33,7 @@ use shapers_prepare::ot_shape_prepare::UnicodeProperties;
 /// last lookup of GSUB; the refusal of a lookup of GPOS, with the text as it was before that one;
 /// the condition `Glyphs` where a number above 65535 stands in a text whose marks may stretch, and
 /// the refusal of stretching them, and the text has all its positions then.
-pub fn shape<
-    F: NormalizeFont + MetricsFont,
-    T: NormalizeTables + UnicodeProperties,
-    L: Lookups,
->(
+pub fn shape<F: NormalizeFont + MetricsFont, T: NormalizeTables + UnicodeProperties, L: Lookups>(
     plan: &ShapePlan,
     settings: &ShapeSettings,
     font: &F,
