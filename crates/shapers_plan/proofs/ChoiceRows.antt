@@ -1,5 +1,5 @@
 -- The caller's choices, as the plan has them and what shapers keep in it.
-use Rattle.std.specs.Prelude.{◌≡◌, Option, None, Some, option_map, refl}
+use Rattle.std.specs.Prelude.{◌≡◌, None, Some, option_map, refl}
 use Rattle.shapers_base.specs.Map.{Map}
 use Rattle.shapers_base.specs.Plan.{as_arabic, as_indic, new_plan}
 use Rattle.shapers_base.specs.declared.plan.arabic.StretchStart.TheVariants as starts

@@ -26,8 +26,7 @@ pub(crate) fn position_text<F: MetricsFont, L: Lookups>(
 ) -> Result<(), ShaperError> {
     let applies_gpos = plan.applies_gpos();
     let zeroing = zeroing_of(plan.shaper());
-    set_advances(font, buffer)?;
-    set_space_widths(font, buffer);
+    place_glyphs(font, buffer)?;
     zero_marks_if(is_early(zeroing), applies_gpos, lookups, buffer);
     apply_positioning_if(applies_gpos, lookups, plan.positioning(), buffer)?;
     zero_marks_if(is_late(zeroing), applies_gpos, lookups, buffer);
@@ -36,6 +35,13 @@ pub(crate) fn position_text<F: MetricsFont, L: Lookups>(
     reverse_if_backward(buffer);
     let invisible_glyph = settings.normalize.invisible_glyph;
     hide_default_ignorables(settings.ignorables, invisible_glyph, font, buffer);
+    Ok(())
+}
+
+// Gives each glyph its advance, and a space that the font lacks its width.
+fn place_glyphs<F: MetricsFont>(font: &F, buffer: &mut Buffer) -> Result<(), ShaperError> {
+    set_advances(font, buffer)?;
+    set_space_widths(font, buffer);
     Ok(())
 }
 

@@ -18,7 +18,7 @@ use crate::generated::shapers_prepare::ot_shape_prepare::UnicodeProperties;
 /// hidden, Arabic marks stretch, and the glyph flags of each cluster are spread over it. The
 /// direction of the buffer is then the one that it had.
 ///
-/// Marks that GPOS doesn't place stay where they are.
+/// Without GPOS no mark is placed by its class, as HarfBuzz places some.
 ///
 /// # Errors
 ///
