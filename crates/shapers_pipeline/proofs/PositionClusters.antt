@@ -15,6 +15,7 @@ use Rattle.shapers_buffer.specs.declared.buffer.glyph.hb_glyph_info_t.{hb_glyph_
 use Rattle.shapers_plan.specs.declared.ot_map.lookups.StageLookup.{StageLookup}
 use Rattle.shapers_position.specs.Ignorables.{drawn_by, ignorable_zeroed, ignorables_hidden, ignorables_removed, ignorables_zeroed, is_default_ignorable, removed}
 use Rattle.shapers_position.specs.Laws.{FlagsLaw, RemovalLaw}
+use Rattle.shapers_position.specs.Spaces.{space_placed}
 use Rattle.shapers_position.specs.Widths.{advanced, mark_zeroed, positions_changed}
 use Rattle.shapers_position.specs.declared.ot_shape_position.ignorables.DefaultIgnorables.{DefaultIgnorables}
 use Rattle.shapers_position.specs.declared.ot_shape_position.ignorables.DefaultIgnorables.TheVariants.{Hide, Preserve, Remove}
@@ -30,7 +31,7 @@ use Rattle.rustybuzz_shapers.specs.declared.shaper.hb_ot_shaper_t.{hb_ot_shaper_
 use Rattle.rustybuzz_shapers.specs.declared.shaper.hb_ot_shaper_t.TheVariants.{Arabic, Hangul, Hebrew, Indic, Khmer, Myanmar, MyanmarZawgyi, Thai, Universal}
 use Rattle.shapers_pipeline.specs.ClusterLaws.{PreparationKeepsClusters, StagesKeepClusters}
 use Rattle.shapers_pipeline.specs.Lookups.{PositionKeeps, looked_up, text_noted, unplaced}
-use Rattle.shapers_pipeline.specs.Positioned.{Positioning, hangs_marks, ordered_for_drawing, is_early, is_late, lookups_if, marks_zeroed_if, postprocessed_by, text_advanced, text_looked_up, text_narrowed, text_positioned, text_postprocessed, text_shaped, zeroing_of}
+use Rattle.shapers_pipeline.specs.Positioned.{Positioning, hangs_marks, ordered_for_drawing, is_early, is_late, lookups_if, marks_zeroed_if, postprocessed_by, text_advanced, text_looked_up, text_narrowed, text_positioned, text_postprocessed, text_shaped, text_spaced, zeroing_of}
 use Rattle.shapers_pipeline.specs.Prepared.{text_prepared}
 use Rattle.shapers_pipeline.specs.ShapeLaws.{FinishKeepsClusters, PositionsKeep, ShapingKeepsClusters}
 use Rattle.shapers_pipeline.proofs.ClustersKept.{clusters-map, itself, kept_sorted, same, turned}
@@ -158,21 +159,16 @@ pub record Laws : Type 0 where
   pub hooks : HooksMakeNoCluster
   pub stretch : StretchStaysMonotone
 
-advanced_pairs : (p : Positioning) (b : Buffer) → Paired (record b { positions = map (advanced p.font) b.glyphs })
-advanced_pairs p b = length-map b.glyphs (advanced p.font)
-
 -- before GPOS, with a position for each glyph
 begun : (p : Positioning) (b : Buffer) → Keeps b (text_advanced p b) × Paired (text_advanced p b)
 begun p b =
-    let t : Buffer = record b { positions = map (advanced p.font) b.glyphs } in
-    let zeroed = zeroed_if (is_early (zeroing_of p.shaper)) p.is_mark p.applies_gpos t in (
-      after b t (text_advanced p b) (record {
-        level = refl;
-        glyphs = itself
-            (merges b.level) b.glyphs;
-      }) zeroed.keeps,
-      zeroed.paired (advanced_pairs p b),
-    )
+    let f = advanced p.font p.metrics (is_horizontal b.direction) in
+    let a : Buffer = record b { positions = map f b.glyphs } in
+    let s = text_spaced p.font p.metrics b in
+    let kept : Keeps b s = record { level = refl; glyphs = itself (merges b.level) b.glyphs } in
+    let spaced = changed (space_placed p.font p.metrics (is_horizontal b.direction)) a in
+    let zeroed = zeroed_if (is_early (zeroing_of p.shaper)) p.is_mark p.applies_gpos s in
+    (after b s (text_advanced p b) kept zeroed.keeps, zeroed.paired (spaced.paired (length-map b.glyphs f)))
 
 behind_gpos : (p : Positioning) → PositionsKeep p → (b : Buffer) → Paired b → Placed b
     (looked_up p.positioned (lookups_if p.applies_gpos p.list) b)

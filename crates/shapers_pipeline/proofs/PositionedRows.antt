@@ -1,15 +1,17 @@
 -- A text behind its lookups, as a whole: what each step does is seen in what comes out.
-use Rattle.std.specs.Prelude.{◌≡◌, ◌==◌, ◌+ℤ◌, ℕ, ℤ, pos, neg_ℤ, Bool, true, false, List, [], ◌∷◌, map, Option, None, Some, refl}
+use Rattle.std.specs.Prelude.{◌≡◌, ◌==◌, ◌+◌, ◌+ℤ◌, ℕ, ℤ, pos, neg_ℤ, Bool, true, false, List, [], ◌∷◌, map, Option, None, Some, refl}
 use Rattle.shapers_base.specs.Font.{Font}
 use Rattle.shapers_base.specs.Plan.{new_plan}
 use Rattle.shapers_base.specs.declared.font.GlyphId.{GlyphId}
 use Rattle.shapers_base.specs.declared.plan.record.ZeroWidthMarks.TheVariants.{GDEF_EARLY, GDEF_LATE, NONE}
 use Rattle.shapers_buffer.specs.Buffer.{Buffer, new_buffer}
 use Rattle.shapers_buffer.specs.Glyph.{default_glyph, default_position}
+use Rattle.shapers_buffer.specs.declared.buffer.category.hb_unicode_general_category_t.TheVariants.{Zs}
 use Rattle.shapers_buffer.specs.declared.buffer.glyph.GlyphPosition.{GlyphPosition}
 use Rattle.shapers_buffer.specs.declared.buffer.level.Direction.{Direction}
-use Rattle.shapers_buffer.specs.declared.buffer.level.Direction.TheVariants.{BottomToTop, LeftToRight, RightToLeft}
+use Rattle.shapers_buffer.specs.declared.buffer.level.Direction.TheVariants.{BottomToTop, LeftToRight, RightToLeft, TopToBottom}
 use Rattle.shapers_plan.specs.declared.ot_map.lookups.StageLookup.{StageLookup}
+use Rattle.shapers_position.specs.Metrics.{Metrics}
 use Rattle.shapers_position.specs.declared.ot_shape_position.ignorables.DefaultIgnorables.TheVariants.{Hide}
 use Rattle.rustybuzz_shapers.specs.declared.shaper.hb_ot_shaper_t.{hb_ot_shaper_t}
 use Rattle.rustybuzz_shapers.specs.declared.shaper.hb_ot_shaper_t.TheVariants.{Khmer, Universal}
@@ -31,6 +33,14 @@ font = record {
   advance = λ glyph. pos glyph.0;
   applies = λ lookup glyphs zero. false;
   offers = λ tag. false;
+}
+
+-- downwards they are one unit higher than wide, and drawn from 5 units to their right and 8 above
+abbrev metrics : Metrics
+metrics = record {
+  em = 1000;
+  v_advance = λ glyph. neg_ℤ (pos (glyph.0 + 1));
+  v_origin = λ glyph. (pos 5, pos 8);
 }
 
 -- each lookup widens the first glyph by its number, and attaching moves it up by 1
@@ -56,6 +66,7 @@ by shaper applies = record {
   applies_gpos = applies;
   list = lookup 100 ∷ lookup 7 ∷ [];
   font = font;
+  metrics = metrics;
   is_mark = λ g. g.glyph_id == 20;
   positioned = λ l b. let r : Buffer = record b { positions = widened (pos l.index) (pos 0) b.positions } in r;
   finished = λ b. let r : Buffer = record b { positions = widened (pos 0) (pos 1) b.positions } in r;
@@ -119,3 +130,22 @@ backward = refl
 backward_positions : (text_shaped (by None false) RightToLeft (text RightToLeft)).positions
     ≡ spot (pos 0) (pos 0) (pos 0) ∷ spot (pos 0) (pos 0) (pos 0) ∷ spot (pos 10) (pos 0) (pos 1) ∷ []
 backward_positions = refl
+
+-- a space of half an em that the font lacks
+abbrev half_em : Buffer
+half_em = record (new_buffer 9) {
+  glyphs = record default_glyph { glyph_id = 3; general_category = Zs; modified_combining_class = 2 } ∷ [];
+  direction = LeftToRight;
+}
+
+spaced : (text_shaped (by None false) LeftToRight half_em).positions ≡ spot (pos 500) (pos 0) (pos 1) ∷ []
+spaced = refl
+
+-- downwards the mark hangs, too, and the ignorable one keeps its place beside the line
+abbrev below : ℤ → ℤ → ℤ → GlyphPosition
+below advance x y = record default_position { y_advance = advance; x_offset = x; y_offset = y }
+
+downward : (text_shaped (by None false) TopToBottom (text TopToBottom)).positions
+    ≡ below (neg_ℤ (pos 11)) (neg_ℤ (pos 5)) (neg_ℤ (pos 7)) ∷ below (pos 0) (neg_ℤ (pos 5)) (pos 13) ∷
+    below (pos 0) (neg_ℤ (pos 5)) (pos 0) ∷ []
+downward = refl

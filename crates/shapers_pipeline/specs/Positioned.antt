@@ -10,10 +10,13 @@ use Rattle.shapers_base.specs.declared.plan.record.ZeroWidthMarks.TheVariants.{G
 use Rattle.shapers_buffer.specs.Buffer.{Buffer}
 use Rattle.shapers_buffer.specs.declared.buffer.glyph.hb_glyph_info_t.{hb_glyph_info_t}
 use Rattle.shapers_buffer.specs.declared.buffer.level.Direction.{Direction}
+use Rattle.shapers_choice.specs.Choice.{is_horizontal}
 use Rattle.shapers_plan.specs.declared.ot_map.lookups.StageLookup.{StageLookup}
 use Rattle.shapers_position.specs.ClusterFlags.{flags_propagated}
 use Rattle.shapers_position.specs.Ignorables.{ignorables_hidden, ignorables_zeroed}
-use Rattle.shapers_position.specs.Widths.{advanced, marks_zeroed}
+use Rattle.shapers_position.specs.Metrics.{Metrics}
+use Rattle.shapers_position.specs.Spaces.{space_placed}
+use Rattle.shapers_position.specs.Widths.{advanced, marks_zeroed, positions_changed}
 use Rattle.shapers_position.specs.declared.ot_shape_position.ignorables.DefaultIgnorables.{DefaultIgnorables}
 use Rattle.shapers_prepare.specs.Rotation.{runs_backward}
 use Rattle.shapers_stretch.specs.Recorded.{start_of}
@@ -25,14 +28,15 @@ use Rattle.shapers_pipeline.specs.Fractions.{runs_forward}
 use Rattle.shapers_pipeline.specs.Lookups.{looked_up}
 
 -- what a text is positioned by: the shaper and the plan that its hooks read, whether GPOS is
--- applied, and its lookups, the font, which glyphs are marks, what a lookup makes of a text, and
--- what attachments do behind all, and the caller's wishes for ignorable glyphs
+-- applied, and its lookups, the font and its metrics, which glyphs are marks, what a lookup makes
+-- of a text, and what attachments do behind all, and the caller's wishes for ignorable glyphs
 pub record Positioning : Type 0 where
   pub shaper : Option hb_ot_shaper_t
   pub plan : hb_ot_shape_plan_t
   pub applies_gpos : Bool
   pub list : List StageLookup
   pub font : Font
+  pub metrics : Metrics
   pub is_mark : hb_glyph_info_t → Bool
   pub positioned : StageLookup → Buffer → Buffer
   pub finished : Buffer → Buffer
@@ -62,11 +66,19 @@ marks_zeroed_if now is_mark applies_gpos b =
     let hangs = hangs_marks applies_gpos b.direction in
     if now then record b { positions = marks_zeroed is_mark hangs b.glyphs b.positions } else b
 
--- before GPOS each glyph has the advance that the font has for it
+-- Before GPOS each glyph has the advance along the line that the font has for it, and in vertical
+-- text its origin for that; a space that the font lacks is as wide as it should be.
+abbrev pub text_spaced : Font → Metrics → Buffer → Buffer
+text_spaced font metrics b =
+    let horizontal = is_horizontal b.direction in
+    let advances = map (advanced font metrics horizontal) b.glyphs in
+    let placed = space_placed font metrics horizontal in
+    record b { positions = positions_changed placed b.glyphs advances }
+
 abbrev pub text_advanced : Positioning → Buffer → Buffer
 text_advanced p b =
-    let advances : Buffer = record b { positions = map (advanced p.font) b.glyphs } in
-    marks_zeroed_if (is_early (zeroing_of p.shaper)) p.is_mark p.applies_gpos advances
+    let spaced = text_spaced p.font p.metrics b in
+    marks_zeroed_if (is_early (zeroing_of p.shaper)) p.is_mark p.applies_gpos spaced
 
 -- behind GPOS, if it is applied
 abbrev pub lookups_if : Bool → List StageLookup → List StageLookup

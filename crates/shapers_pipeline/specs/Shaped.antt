@@ -10,20 +10,22 @@ use Rattle.rustybuzz_shapers.specs.declared.shaper.checked.CallError.{CallError}
 use Rattle.rustybuzz_shapers.specs.declared.shaper.hb_ot_shaper_t.{hb_ot_shaper_t}
 use Rattle.shapers_plan.specs.ShapePlan.{PlanView}
 use Rattle.shapers_plan.specs.declared.ot_map.lookups.StageLookup.{StageLookup}
+use Rattle.shapers_position.specs.Metrics.{Metrics}
 use Rattle.shapers_pipeline.specs.Lookups.{StoppedIn}
 use Rattle.shapers_pipeline.specs.Positioned.{Positioning, lookups_if, text_advanced, text_positioned}
 use Rattle.shapers_pipeline.specs.declared.settings.ShapeSettings.{ShapeSettings}
 
--- what a text is positioned by: what the plan and the settings say, in the font, and what its
--- lookups do
-abbrev pub positioning_by : PlanView → ShapeSettings → Font → (hb_glyph_info_t → Bool) →
-    (StageLookup → Buffer → Buffer) → (Buffer → Buffer) → Positioning
-positioning_by plan settings font is_mark positioned finished = record {
+-- what a text is positioned by: what the plan and the settings say, in the font with its metrics,
+-- and what its lookups do
+abbrev pub positioning_by : PlanView → ShapeSettings → Font → Metrics →
+    (hb_glyph_info_t → Bool) → (StageLookup → Buffer → Buffer) → (Buffer → Buffer) → Positioning
+positioning_by plan settings font metrics is_mark positioned finished = record {
   shaper = plan.shaper;
   plan = plan.plan;
   applies_gpos = plan.applies_gpos;
   list = plan.positioning;
   font = font;
+  metrics = metrics;
   is_mark = is_mark;
   positioned = positioned;
   finished = finished;

@@ -1,7 +1,7 @@
 //! Positions: what is done around GPOS.
 ghost use Rattle.std.specs.Prelude.{◌≡◌, OnErr, OnOk, length};
 ghost use Rattle.shapers_pipeline.specs.Lookups.{StoppedIn, looked_up};
-ghost use Rattle.shapers_pipeline.specs.Positioned.{hangs_marks, ordered_for_drawing, is_early, is_late, lookups_if, marks_zeroed_if, text_positioned, zeroing_of};
+ghost use Rattle.shapers_pipeline.specs.Positioned.{hangs_marks, ordered_for_drawing, is_early, is_late, lookups_if, marks_zeroed_if, text_positioned, text_spaced, zeroing_of};
 ghost use Rattle.shapers_pipeline.specs.Shaped.{PositionsStopped, positioning_by};
 
 use crate::fractions::runs_forward;
@@ -9,17 +9,17 @@ use crate::lookups::Lookups;
 use crate::settings::ShapeSettings;
 use rustybuzz_shapers::shaper::hb_ot_shaper_t;
 use shapers_base::buffer::{Direction, ShaperError, hb_buffer_t};
-use shapers_base::font::hb_font_t;
 use shapers_base::plan::ZeroWidthMarks;
 use shapers_plan::ot_map::StageLookup;
 use shapers_plan::ot_shape_plan::ShapePlan;
 use shapers_position::ot_shape_position::{
-    hide_default_ignorables, set_advances, zero_mark_widths, zero_width_default_ignorables,
+    MetricsFont, hide_default_ignorables, set_advances, set_space_widths, zero_mark_widths,
+    zero_width_default_ignorables,
 };
 
 // Gives the glyphs of a text positions, in the order that it is drawn in, and hides those that need
 // not be drawn.
-pub(crate) fn position_text<F: hb_font_t, L: Lookups>(
+pub(crate) fn position_text<F: MetricsFont, L: Lookups>(
     plan: &ShapePlan,
     settings: &ShapeSettings,
     font: &F,
@@ -27,15 +27,15 @@ pub(crate) fn position_text<F: hb_font_t, L: Lookups>(
     buffer: &mut hb_buffer_t,
 ) -> Result<(), ShaperError>
     ensures ok { let p = positioning_by plan.now settings.now (F.font font.now)
-        (L.marks lookups.now) (L.positioned lookups.now) (L.finished lookups.now) in
+        (F.metrics font.now) (L.marks lookups.now) (L.positioned lookups.now) (L.finished lookups.now) in
         OnOk result (buffer.new ≡ text_positioned p buffer.old) }
     ensures err { let p = positioning_by plan.now settings.now (F.font font.now)
-        (L.marks lookups.now) (L.positioned lookups.now) (L.finished lookups.now) in
+        (F.metrics font.now) (L.marks lookups.now) (L.positioned lookups.now) (L.finished lookups.now) in
         OnErr result (PositionsStopped p buffer.old buffer.new) }
 {
     let applies_gpos = plan.applies_gpos();
     let zeroing = zeroing_of(plan.shaper());
-    set_advances(font, buffer)?;
+    place_glyphs(font, buffer)?;
     zero_marks_if(is_early(zeroing), applies_gpos, lookups, buffer);
     apply_positioning_if(applies_gpos, lookups, plan.positioning(), buffer)?;
     zero_marks_if(is_late(zeroing), applies_gpos, lookups, buffer);
@@ -44,6 +44,18 @@ pub(crate) fn position_text<F: hb_font_t, L: Lookups>(
     reverse_if_backward(buffer);
     let invisible_glyph = settings.normalize.invisible_glyph;
     hide_default_ignorables(settings.ignorables, invisible_glyph, font, buffer);
+    Ok(())
+}
+
+// Gives each glyph its advance, and a space that the font lacks its width.
+fn place_glyphs<F: MetricsFont>(font: &F, buffer: &mut hb_buffer_t) -> Result<(), ShaperError>
+    ensures ok { let text = text_spaced (F.font font.now) (F.metrics font.now) buffer.old in
+        OnOk result (buffer.new ≡ text) }
+    ensures paired { OnOk result (length buffer.new.positions ≡ length buffer.new.glyphs) }
+    ensures err { OnErr result (buffer.new ≡ buffer.old) }
+{
+    set_advances(font, buffer)?;
+    set_space_widths(font, buffer);
     Ok(())
 }
 

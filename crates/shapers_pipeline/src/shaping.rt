@@ -15,10 +15,9 @@ use crate::settings::ShapeSettings;
 use crate::substitution::substitute_text;
 use rustybuzz_shapers::shaper::checked::CallError;
 use shapers_base::buffer::hb_buffer_t;
-use shapers_base::font::hb_font_t;
 use shapers_normalize::{NormalizeFont, NormalizeTables};
 use shapers_plan::ot_shape_plan::ShapePlan;
-use shapers_position::ot_shape_position::propagate_flags;
+use shapers_position::ot_shape_position::{MetricsFont, propagate_flags};
 use shapers_prepare::ot_shape_prepare::UnicodeProperties;
 
 /// Shapes a text, in HarfBuzz's order: its characters become glyphs, which lookups substitute;
@@ -26,7 +25,7 @@ use shapers_prepare::ot_shape_prepare::UnicodeProperties;
 /// hidden, Arabic marks stretch, and the glyph flags of each cluster are spread over it. The
 /// direction of the buffer is then the one that it had.
 ///
-/// Positions are those of horizontal text. Marks that GPOS doesn't place stay where they are.
+/// Without GPOS no mark is placed by its class, as HarfBuzz places some.
 ///
 /// # Errors
 ///
@@ -34,7 +33,7 @@ use shapers_prepare::ot_shape_prepare::UnicodeProperties;
 /// last lookup of GSUB; the refusal of a lookup of GPOS, with the text as it was before that one;
 /// the condition `Glyphs` where a number above 65535 stands in a text whose marks may stretch, and
 /// the refusal of stretching them, and the text has all its positions then.
-pub fn shape<F: NormalizeFont, T: NormalizeTables + UnicodeProperties, L: Lookups>(
+pub fn shape<F: NormalizeFont + MetricsFont, T: NormalizeTables + UnicodeProperties, L: Lookups>(
     plan: &ShapePlan,
     settings: &ShapeSettings,
     font: &F,
@@ -47,7 +46,7 @@ pub fn shape<F: NormalizeFont, T: NormalizeTables + UnicodeProperties, L: Lookup
         (T.texts tables.now) in
         let r = substitution_by plan.now (F.font font.now) (L.substituted lookups.now) in
         let q = positioning_by plan.now settings.now (F.font font.now)
-        (L.marks lookups.now) (L.positioned lookups.now) (L.finished lookups.now) in
+        (F.metrics font.now) (L.marks lookups.now) (L.positioned lookups.now) (L.finished lookups.now) in
         let noted = text_noted (L.noted lookups.now) (text_prepared p buffer.old) in
         OnOk result ((mid : Buffer) × (StagesRun r plan.now.stages noted mid
         × (buffer.new ≡ text_shaped q buffer.old.direction mid))) }
@@ -56,7 +55,7 @@ pub fn shape<F: NormalizeFont, T: NormalizeTables + UnicodeProperties, L: Lookup
         (T.texts tables.now) in
         let r = substitution_by plan.now (F.font font.now) (L.substituted lookups.now) in
         let q = positioning_by plan.now settings.now (F.font font.now)
-        (L.marks lookups.now) (L.positioned lookups.now) (L.finished lookups.now) in
+        (F.metrics font.now) (L.marks lookups.now) (L.positioned lookups.now) (L.finished lookups.now) in
         let noted = text_noted (L.noted lookups.now) (text_prepared p buffer.old) in
         IfErr result (λ e. IsStopped p buffer.old buffer.new e
         ⊎ (StagesStopped r plan.now.stages noted buffer.new
@@ -72,7 +71,7 @@ pub fn shape<F: NormalizeFont, T: NormalizeTables + UnicodeProperties, L: Lookup
 }
 
 // Gives glyphs positions, and stretches marks.
-fn finish_text<F: hb_font_t, L: Lookups>(
+fn finish_text<F: MetricsFont, L: Lookups>(
     plan: &ShapePlan,
     settings: &ShapeSettings,
     font: &F,
@@ -80,10 +79,10 @@ fn finish_text<F: hb_font_t, L: Lookups>(
     buffer: &mut hb_buffer_t,
 ) -> Result<(), CallError>
     ensures ok { let q = positioning_by plan.now settings.now (F.font font.now)
-        (L.marks lookups.now) (L.positioned lookups.now) (L.finished lookups.now) in
+        (F.metrics font.now) (L.marks lookups.now) (L.positioned lookups.now) (L.finished lookups.now) in
         OnOk result (buffer.new ≡ text_postprocessed q buffer.old) }
     ensures err { let q = positioning_by plan.now settings.now (F.font font.now)
-        (L.marks lookups.now) (L.positioned lookups.now) (L.finished lookups.now) in
+        (F.metrics font.now) (L.marks lookups.now) (L.positioned lookups.now) (L.finished lookups.now) in
         IfErr result (λ e. FinishStopped q buffer.old buffer.new e) }
 {
     position_text(plan, settings, font, lookups, buffer)?;

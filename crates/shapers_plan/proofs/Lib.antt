@@ -8,3 +8,4 @@ mod MaskRows
 mod StageRows
 mod CollectingRows
 mod GposRows
+mod ChoiceRows

@@ -9,7 +9,10 @@ use Rattle.shapers_buffer.specs.declared.buffer.tag.hb_tag_t.{hb_tag_t}
 use Rattle.shapers_base.specs.Map.{Map, mask_of, same_tag}
 use Rattle.shapers_base.specs.Plan.{new_plan}
 use Rattle.shapers_base.specs.declared.map.TableIndex.TheVariants.{GPOS, GSUB}
+use Rattle.shapers_base.specs.declared.plan.arabic.StretchStart.TheVariants as starts
+use Rattle.shapers_base.specs.declared.plan.breaks.BreakFlags.TheVariants as breaks
 use Rattle.shapers_base.specs.declared.plan.hb_ot_shape_plan_t.{hb_ot_shape_plan_t}
+use Rattle.shapers_base.specs.declared.plan.indic.BaseSearch.TheVariants.{WithoutMedials}
 use Rattle.shapers_base.specs.declared.plan.planner.Request.{Request}
 use Rattle.rustybuzz_shapers.specs.Hooks.{data_created, with_created}
 use Rattle.rustybuzz_shapers.specs.Records.{wants_gpos_script}
@@ -21,6 +24,7 @@ use Rattle.shapers_plan.specs.Masks.{value_in}
 use Rattle.shapers_plan.specs.ShapePlan.{PlanView}
 use Rattle.shapers_plan.specs.declared.ot_map.masks.MappedFeature.{MappedFeature}
 use Rattle.shapers_plan.specs.declared.ot_shape_plan.DriverMasks.{DriverMasks}
+use Rattle.shapers_plan.specs.declared.ot_shape_plan.choices.ShapeChoices.{ShapeChoices}
 use Rattle.shapers_plan.specs.declared.ot_shape_plan.user.UserFeature.{UserFeature}
 use Rattle.shapers_plan.specs.declared.ot_shape_plan.user.UserRange.{UserRange}
 
@@ -37,13 +41,27 @@ driver_masks map = record {
   vert = one_mask_of "vert" map;
 }
 
--- the plan that the shaper's hooks read, with the data that it keeps; where the map has the feature
--- mark, GPOS places marks
-abbrev pub hooks_plan : Option hb_ot_shaper_t → Option Script → Map → hb_ot_shape_plan_t
-hooks_plan shaper script map =
+-- the choices of a caller who makes none: marks stretch, and breaks are flagged, as HarfBuzz's code
+-- has it, and Indic looks for the base as rustybuzz does
+abbrev pub default_choices : ShapeChoices
+default_choices = record {
+  stretch_start = starts.AsCode;
+  break_flags = breaks.AsCode;
+  base_search = WithoutMedials;
+}
+
+-- the plan that the shaper's hooks read, with the caller's choices and the data that the shaper
+-- keeps; where the map has the feature mark, GPOS places marks
+abbrev pub hooks_plan : Option hb_ot_shaper_t → Option Script → ShapeChoices → Map →
+    hb_ot_shape_plan_t
+hooks_plan shaper script choices map =
     let bare = new_plan script map in
-    let plan : hb_ot_shape_plan_t =
-    record bare { has_gpos_mark = not (one_mask_of "mark" map == 0) } in
+    let plan : hb_ot_shape_plan_t = record bare {
+      has_gpos_mark = not (one_mask_of "mark" map == 0);
+      stretch_start = choices.stretch_start;
+      break_flags = choices.break_flags;
+      base_search = choices.base_search;
+    } in
     option_map_or (λ s. with_created (data_created s plan) plan) shaper plan
 
 -- whether a shaper that wants this script in GPOS, or any, takes the one that was chosen there
@@ -74,10 +92,10 @@ range_of_user features user = if is_for_all user then None
 
 -- the plan that a list of requests makes
 abbrev pub plan_of_requests : FontTables → Option hb_ot_shaper_t → Option Script → Direction →
-    List UserFeature → List Request → PlanView
-plan_of_requests tables shaper script direction users rs = record {
+    List UserFeature → ShapeChoices → List Request → PlanView
+plan_of_requests tables shaper script direction users choices rs = record {
   shaper = shaper;
-  plan = hooks_plan shaper script (map_for tables rs);
+  plan = hooks_plan shaper script choices (map_for tables rs);
   direction = direction;
   stages = stages_for tables rs;
   lookups = lookups_for tables rs;
@@ -87,10 +105,11 @@ plan_of_requests tables shaper script direction users rs = record {
   ranges = filter_map (range_of_user (features_for tables rs)) users;
 }
 
--- the plan of a text of this script and direction, with the user's features, in a font that has
--- these features, and rclt or not
-abbrev pub text_plan : FontTables → Bool → Option Script → Direction → List UserFeature → PlanView
-text_plan tables has_rclt script direction users =
+-- the plan of a text of this script and direction, with the user's features and choices, in a font
+-- that has these features, and rclt or not
+abbrev pub text_plan : FontTables → Bool → Option Script → Direction → List UserFeature →
+    ShapeChoices → PlanView
+text_plan tables has_rclt script direction users choices =
     let shaper = text_shaper script direction (tables.chosen GSUB) in
-    plan_of_requests tables shaper script direction users
+    plan_of_requests tables shaper script direction users choices
     (requests_for shaper script direction has_rclt users)

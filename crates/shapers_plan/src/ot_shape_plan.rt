@@ -2,7 +2,7 @@
 ghost use Rattle.std.specs.Prelude.{◌≡◌, IfOk, IsOkUnless};
 ghost use Rattle.shapers_arabic.specs.Requests.{rclt};
 ghost use Rattle.shapers_buffer.specs.declared.buffer.refusal.ShaperError.TheVariants.{Memory};
-ghost use Rattle.shapers_plan.specs.Planning.{text_plan};
+ghost use Rattle.shapers_plan.specs.Planning.{default_choices, text_plan};
 
 use crate::ot_map::{CompiledMap, FontFeatures, Stage, StageLookup};
 use collecting::{collect, text_shaper};
@@ -15,10 +15,12 @@ use shapers_base::plan::hb_ot_shape_plan_t;
 use std::alloc::Global;
 use std::marker::Model;
 
+mod choices;
 mod collecting;
 mod making;
 mod user;
 
+pub use choices::ShapeChoices;
 pub use user::{UserFeature, UserRange};
 
 /// The masks of features that the driver itself turns on; 0 where the font lacks one.
@@ -88,7 +90,32 @@ impl ShapePlan {
         users: &[UserFeature],
     ) -> Result<Self, ShaperError>
         ensures ok { let has_rclt = (F.font face.now).offers rclt in
-            let plan = text_plan (L.tables features.now) has_rclt script direction users.now in
+            let tables = L.tables features.now in
+            let plan = text_plan tables has_rclt script direction users.now default_choices in
+            IfOk result (λ it. it ≡ plan) }
+        ensures refusal { IsOkUnless result Memory }
+    {
+        let choices = ShapeChoices::default();
+        Self::with_choices(alloc, script, direction, face, features, users, choices)
+    }
+
+    /// The same, with the caller's choices in place of the default ones.
+    ///
+    /// # Errors
+    ///
+    /// `Memory`.
+    pub fn with_choices<F: hb_font_t, L: FontFeatures>(
+        alloc: Global,
+        script: Option<Script>,
+        direction: Direction,
+        face: &F,
+        features: &L,
+        users: &[UserFeature],
+        choices: ShapeChoices,
+    ) -> Result<Self, ShaperError>
+        ensures ok { let has_rclt = (F.font face.now).offers rclt in
+            let tables = L.tables features.now in
+            let plan = text_plan tables has_rclt script direction users.now choices in
             IfOk result (λ it. it ≡ plan) }
         ensures refusal { IsOkUnless result Memory }
     {
@@ -99,7 +126,7 @@ impl ShapePlan {
         let masks = driver_masks(&compiled.map);
         Ok(ShapePlan {
             shaper,
-            plan: hooks_plan(shaper, script, compiled.map),
+            plan: hooks_plan(shaper, script, choices, compiled.map),
             direction,
             substitutions: compiled.stages,
             lookups: compiled.lookups,

@@ -1,5 +1,5 @@
 -- Advances and widths, computed: a position with all fields set, marks and ignorable glyphs.
-use Rattle.std.specs.Prelude.{◌≡◌, ℕ, ℤ, pos, negsuc, neg_ℤ, ◌==◌, Bool, true, false, List, [], ◌∷◌, map, None, refl}
+use Rattle.std.specs.Prelude.{◌≡◌, ℕ, ℤ, pos, negsuc, neg_ℤ, ◌+◌, ◌/◌, ◌==◌, Bool, true, false, List, [], ◌∷◌, map, None, refl}
 use Rattle.shapers_base.specs.Font.{Font}
 use Rattle.shapers_buffer.specs.declared.buffer.glyph.GlyphPosition.{GlyphPosition}
 use Rattle.shapers_buffer.specs.declared.buffer.glyph.hb_glyph_info_t.{hb_glyph_info_t}
@@ -7,7 +7,8 @@ use Rattle.shapers_buffer.specs.declared.buffer.level.Direction.TheVariants.{Inv
 use Rattle.shapers_buffer.specs.Glyph.{default_glyph}
 use Rattle.shapers_position.specs.declared.ot_shape_position.ignorables.DefaultIgnorables.TheVariants.{Hide, Preserve, Remove}
 use Rattle.shapers_position.specs.Ignorables.{ignorables_for, ignorables_zeroed, is_default_ignorable, without_extent}
-use Rattle.shapers_position.specs.Widths.{advanced, glyph_of, hung_back, marks_zeroed, nearest_of_32_bits, without_advance}
+use Rattle.shapers_position.specs.Metrics.{Metrics}
+use Rattle.shapers_position.specs.Widths.{advanced, glyph_of, hung_back, marks_zeroed, nearest_of_32_bits, upright_position, without_advance}
 
 -- a font whose glyphs are as wide as their numbers
 abbrev font : Font
@@ -18,6 +19,14 @@ font = record {
   offers = λ tag. false;
 }
 
+-- and one unit higher than wide, with origins at half of that and above the baseline
+abbrev metrics : Metrics
+metrics = record {
+  em = 1000;
+  v_advance = λ glyph. neg_ℤ (pos (glyph.0 + 1));
+  v_origin = λ glyph. (pos (glyph.0 / 2), pos 880);
+}
+
 abbrev glyph : ℕ → ℕ → hb_glyph_info_t
 glyph n byte = record default_glyph { glyph_id = n; marks = record { 0 = byte } }
 
@@ -25,11 +34,27 @@ abbrev spot : ℤ → ℤ → ℤ → ℤ → GlyphPosition
 spot x y dx dy = record { x_advance = x; y_advance = y; x_offset = dx; y_offset = dy }
 
 -- a glyph that no lookup moved; numbers above 65535 are asked for as that one
-placed : map (advanced font) (glyph 0 0 ∷ glyph 600 0 ∷ glyph 65534 0 ∷ glyph 65535 0 ∷ glyph 65536 0 ∷
+placed : map (advanced font metrics true) (glyph 0 0 ∷ glyph 600 0 ∷ glyph 65534 0 ∷ glyph 65535 0 ∷ glyph 65536 0 ∷
     glyph 4294967295 0 ∷ []) ≡ spot (pos 0) (pos 0) (pos 0) (pos 0) ∷ spot (pos 600) (pos 0) (pos 0) (pos 0) ∷
     spot (pos 65534) (pos 0) (pos 0) (pos 0) ∷ spot (pos 65535) (pos 0) (pos 0) (pos 0) ∷
     spot (pos 65535) (pos 0) (pos 0) (pos 0) ∷ spot (pos 65535) (pos 0) (pos 0) (pos 0) ∷ []
 placed = refl
+
+-- in vertical text it is drawn to the left of the pen, and below it
+upright : map (advanced font metrics false) (glyph 0 0 ∷ glyph 600 0 ∷ glyph 65535 0 ∷ glyph 65536 0 ∷ [])
+    ≡ spot (pos 0) (neg_ℤ (pos 1)) (pos 0) (neg_ℤ (pos 880)) ∷
+    spot (pos 0) (neg_ℤ (pos 601)) (neg_ℤ (pos 300)) (neg_ℤ (pos 880)) ∷
+    spot (pos 0) (neg_ℤ (pos 65536)) (neg_ℤ (pos 32767)) (neg_ℤ (pos 880)) ∷
+    spot (pos 0) (neg_ℤ (pos 65536)) (neg_ℤ (pos 32767)) (neg_ℤ (pos 880)) ∷ []
+upright = refl
+
+-- offsets stop at 32 bits, and only one of them can pass these
+abbrev far : Metrics
+far = record metrics { v_origin = λ glyph. (neg_ℤ (pos 2147483648), pos 2147483647) }
+
+far_origin : upright_position far (record { 0 = 5 })
+    ≡ spot (pos 0) (neg_ℤ (pos 6)) (pos 2147483647) (neg_ℤ (pos 2147483647))
+far_origin = refl
 
 numbers : map glyph_of (glyph 7 0 ∷ glyph 65536 0 ∷ []) ≡ record { 0 = 7 } ∷ record { 0 = 65535 } ∷ []
 numbers = refl

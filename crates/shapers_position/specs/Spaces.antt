@@ -7,13 +7,14 @@ use Rattle.shapers_buffer.specs.declared.buffer.glyph.GlyphPosition.{GlyphPositi
 use Rattle.shapers_buffer.specs.declared.buffer.glyph.hb_glyph_info_t.{hb_glyph_info_t}
 use Rattle.shapers_buffer.specs.Marks.{is_ligated}
 use Rattle.shapers_normal.specs.Decomposition.{is_space_separator}
+use Rattle.shapers_position.specs.Metrics.{Metrics, along_line, line_advance}
 
--- the advance of the first of these characters that the font has, or else this one
-abbrev pub first_advance : Font → List ℕ → ℤ → ℤ
-first_advance font [] else_advance = else_advance
-first_advance font (c ∷ cs) else_advance =
-    option_map_or (λ glyph. font.advance glyph) (font.nominal c)
-    (first_advance font cs else_advance)
+-- the advance, along the line, of the first of these characters that the font has, or else this one
+abbrev pub first_advance : Font → Metrics → Bool → List ℕ → ℤ → ℤ
+first_advance font metrics horizontal [] else_advance = else_advance
+first_advance font metrics horizontal (c ∷ cs) else_advance =
+    option_map_or (line_advance font metrics horizontal) (font.nominal c)
+    (first_advance font metrics horizontal cs else_advance)
 
 -- the digits, and the stops that a space of punctuation is as wide as
 abbrev pub digits : List ℕ
@@ -28,27 +29,28 @@ abbrev pub is_part_of_em : ℕ → Bool
 is_part_of_em kind = nat_le 1 kind && nat_le kind 6 || kind == 16
 
 -- that part, to the nearest unit
-abbrev pub part_of_em : ℕ → ℕ → ℤ
-part_of_em em kind = pos ((em + kind / 2) / kind)
+abbrev pub part_of_em : ℕ → ℕ → ℕ
+part_of_em em kind = (em + kind / 2) / kind
 
--- The width of a space of a kind, by HarfBuzz's numbers, in a font with so many units in its em,
--- where its glyph has this advance: a part of an em, four eighteenths of one (17), a digit's (19),
--- a stop's (20), half of its glyph's (21). The others are as wide as their glyph.
-abbrev pub space_width : Font → ℕ → ℕ → ℤ → ℤ
-space_width font em kind advance =
-    if is_part_of_em kind then part_of_em em kind
-    else if kind == 17 then pos (em * 4 / 18)
-    else if kind == 19 then first_advance font digits advance
-    else if kind == 20 then first_advance font full_stops advance
+-- The width of a space of a kind, by HarfBuzz's numbers, in a font with these metrics, where its
+-- glyph has this advance along the line: a part of an em, four eighteenths of one (17), a digit's
+-- (19), a stop's (20), half of its glyph's (21). The others are as wide as their glyph.
+abbrev pub space_width : Font → Metrics → Bool → ℕ → ℤ → ℤ
+space_width font metrics horizontal kind advance =
+    if is_part_of_em kind then along_line horizontal (part_of_em metrics.em kind)
+    else if kind == 17 then along_line horizontal (metrics.em * 4 / 18)
+    else if kind == 19 then first_advance font metrics horizontal digits advance
+    else if kind == 20 then first_advance font metrics horizontal full_stops advance
     else if kind == 21 then int_div advance (pos 2) else advance
 
 -- a space that no lookup put in for several glyphs
 abbrev pub is_space_glyph : hb_glyph_info_t → Bool
 is_space_glyph g = is_space_separator g.general_category && not (is_ligated g.marks)
 
-abbrev pub space_placed : Font → ℕ → hb_glyph_info_t → GlyphPosition → GlyphPosition
-space_placed font em g p =
-    let placed : GlyphPosition = record p {
-      x_advance = space_width font em g.modified_combining_class p.x_advance;
-    } in
-    if is_space_glyph g then placed else p
+-- a glyph's position, with that width along the line if it is such a space
+abbrev pub space_placed : Font → Metrics → Bool → hb_glyph_info_t → GlyphPosition → GlyphPosition
+space_placed font metrics horizontal g p =
+    let width = space_width font metrics horizontal g.modified_combining_class in
+    if not (is_space_glyph g) then p
+    else if horizontal then record p { x_advance = width p.x_advance }
+    else record p { y_advance = width p.y_advance }

@@ -7,14 +7,11 @@ use Rattle.shapers_base.specs.Font.{Font}
 use Rattle.shapers_buffer.specs.declared.buffer.glyph.GlyphPosition.{GlyphPosition}
 use Rattle.shapers_buffer.specs.declared.buffer.glyph.hb_glyph_info_t.{hb_glyph_info_t}
 use Rattle.shapers_buffer.specs.Glyph.{default_position}
+use Rattle.shapers_position.specs.Metrics.{Metrics}
 
 -- The glyph by its number, as fonts take it: every number above 65535 is queried as that one.
 abbrev pub glyph_of : hb_glyph_info_t → GlyphId
 glyph_of g = record { 0 = min g.glyph_id 65535 }
-
--- the position of a glyph that no lookup has moved
-abbrev pub advanced : Font → hb_glyph_info_t → GlyphPosition
-advanced font g = record default_position { x_advance = font.advance (glyph_of g) }
 
 -- the positions, each as its glyph has it changed
 abbrev pub positions_changed : (hb_glyph_info_t → GlyphPosition → GlyphPosition) →
@@ -28,6 +25,26 @@ without_advance p = record p { x_advance = pos 0; y_advance = pos 0 }
 -- the number of 32 bits that is nearest
 abbrev pub nearest_of_32_bits : ℤ → ℤ
 nearest_of_32_bits z = saturate_to_bits 31 z
+
+-- the position of a glyph in horizontal text
+abbrev pub level_position : Font → GlyphId → GlyphPosition
+level_position font glyph = record default_position { x_advance = font.advance glyph }
+
+-- and in vertical text, where its vertical origin is drawn at the pen
+abbrev pub upright_position : Metrics → GlyphId → GlyphPosition
+upright_position metrics glyph =
+    let origin = metrics.v_origin glyph in
+    record default_position {
+      y_advance = metrics.v_advance glyph;
+      x_offset = nearest_of_32_bits (pos 0 -ℤ origin.0);
+      y_offset = nearest_of_32_bits (pos 0 -ℤ origin.1);
+    }
+
+-- that of a glyph that no lookup has moved
+abbrev pub advanced : Font → Metrics → Bool → hb_glyph_info_t → GlyphPosition
+advanced font metrics horizontal g =
+    if horizontal then level_position font (glyph_of g)
+    else upright_position metrics (glyph_of g)
 
 -- a glyph drawn where the pen will be behind it, and its advance less
 abbrev pub hung_back : GlyphPosition → GlyphPosition

@@ -42,8 +42,8 @@ impl Arguments {
         self.flags.iter().any(|other| other == flag)
     }
 
-    /// The script that `--script` names, or that of a text; `--direction ltr` and `rtl` choose
-    /// another direction.
+    /// The script that `--script` names, or that of a text; `--direction` chooses another direction,
+    /// by its name in HarfBuzz.
     ///
     /// # Errors
     ///
@@ -56,7 +56,9 @@ impl Arguments {
         match self.option("--direction") {
             Some("rtl") => Ok((script, Direction::RightToLeft)),
             Some("ltr") => Ok((script, Direction::LeftToRight)),
-            Some(other) => Err(format!("--direction is ltr or rtl, not {other}").into()),
+            Some("ttb") => Ok((script, Direction::TopToBottom)),
+            Some("btt") => Ok((script, Direction::BottomToTop)),
+            Some(other) => Err(format!("--direction is ltr, rtl, ttb or btt, not {other}").into()),
             None => Ok((script, direction)),
         }
     }

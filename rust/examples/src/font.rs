@@ -2,6 +2,7 @@
 
 use crate::features::Features;
 use crate::lookups::Layout;
+use crate::vertical::Vertical;
 use read_fonts::tables::cmap::{Cmap14, CmapSubtable, MapVariant};
 use read_fonts::tables::gdef::CaretValue;
 use read_fonts::tables::hmtx::Hmtx;
@@ -10,6 +11,7 @@ use read_fonts::{FontRef, ReadError, TableProvider};
 use sengadlit::map::TableIndex;
 use sengadlit::ot_shape_normalize::NormalizeFont;
 use sengadlit::ot_shape_plan::FontFeatures;
+use sengadlit::ot_shape_position::MetricsFont;
 use sengadlit::{Font, GlyphId, Script, Tag};
 
 /// A font of OpenType, for one script.
@@ -18,6 +20,7 @@ pub struct OpenType<'a> {
     characters: Option<CmapSubtable<'a>>,
     variants: Option<Cmap14<'a>>,
     metrics: Hmtx<'a>,
+    vertical: Vertical<'a>,
     /// Its features for the script, and its lookups.
     pub features: Features,
     pub layout: Layout<'a>,
@@ -36,6 +39,7 @@ impl<'a> OpenType<'a> {
             characters: characters.best_subtable().map(|(_, _, subtable)| subtable),
             variants: characters.uvs_subtable().map(|(_, subtable)| subtable),
             metrics: file.hmtx()?,
+            vertical: Vertical::new(file.clone()),
             features: Features::new(&file, script),
             layout: Layout::new(&file),
             file,
@@ -58,11 +62,6 @@ impl<'a> OpenType<'a> {
             CaretValue::Format2(_) => None,
         };
         values.iter().flatten().map(place).collect()
-    }
-
-    /// How many units an em has.
-    pub fn units_per_em(&self) -> u16 {
-        self.file.head().map_or(1000, |head| head.units_per_em())
     }
 }
 
@@ -97,5 +96,20 @@ impl NormalizeFont for OpenType<'_> {
             MapVariant::UseDefault => self.nominal_glyph(c),
             MapVariant::Variant(glyph) => drawn(glyph),
         }
+    }
+}
+
+impl MetricsFont for OpenType<'_> {
+    fn units_per_em(&self) -> u16 {
+        self.file.head().map_or(1000, |head| head.units_per_em())
+    }
+
+    fn glyph_v_advance(&self, glyph: GlyphId) -> i32 {
+        self.vertical.advance(glyph.0)
+    }
+
+    // (half of the horizontal advance to the right, as no table says otherwise)
+    fn glyph_v_origin(&self, glyph: GlyphId) -> (i32, i32) {
+        (self.glyph_h_advance(glyph) / 2, self.vertical.origin(glyph.0))
     }
 }

@@ -10,6 +10,7 @@ pub mod paragraph;
 pub mod run;
 pub mod scripts;
 pub mod svg;
+pub mod vertical;
 
 pub use font::OpenType;
 

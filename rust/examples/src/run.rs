@@ -8,7 +8,7 @@ use sengadlit::buffer::glyph_flag;
 use sengadlit::editing::caret_stops;
 use sengadlit::ot_shape::{ShapeSettings, shape};
 use sengadlit::ot_shape_normalize::{NormalizeSettings, Rounds};
-use sengadlit::ot_shape_plan::ShapePlan;
+use sengadlit::ot_shape_plan::{ShapeChoices, ShapePlan};
 use sengadlit::ot_shape_prepare::set_unicode_properties;
 use sengadlit::unicode::UnicodeTables;
 use sengadlit::{Buffer, Direction, GlyphInfo, GlyphPosition, Script};
@@ -54,8 +54,10 @@ impl<'f, 'a> Shaping<'f, 'a> {
         font: &'f OpenType<'a>,
         script: Script,
         direction: Direction,
+        choices: ShapeChoices,
     ) -> Result<Self, Box<dyn Error>> {
-        let plan = ShapePlan::new(Global, Some(script), direction, font, &font.features, &[])?;
+        let (named, features) = (Some(script), &font.features);
+        let plan = ShapePlan::with_choices(Global, named, direction, font, features, &[], choices)?;
         Ok(Shaping { font, plan, script, direction })
     }
 

@@ -3,6 +3,7 @@
 use crate::font::OpenType;
 use crate::outlines::Outlines;
 use read_fonts::TableProvider;
+use sengadlit::ot_shape_position::MetricsFont;
 use sengadlit::{GlyphInfo, GlyphPosition};
 use std::collections::BTreeMap;
 use std::fmt::Write as _;

@@ -7,6 +7,8 @@ use hbhook::{
     script_named, without_table,
 };
 use sengadlit::alloc::Global;
+use sengadlit::ot_shape_plan::ShapeChoices;
+use sengadlit::plan::BreakFlags;
 use std::env;
 use std::ffi::{OsStr, OsString};
 use std::fs::File;
@@ -22,8 +24,9 @@ usage: hbhook [FILE]            runs the lines of the file, and prints the glyph
        hbhook --draw [FILE]     runs them, and writes a page of HTML that shows what each hook did;
                                 also with --explain or --why
        hbhook --text TEXT       does all to the text that comes before a font's lookups, and runs the
-                                pauses between them; also with --draw, and with --script SCRIPT,
-                                a name or a code: khmer, Khmr
+                                pauses between them; also with --draw, with --script SCRIPT, a name
+                                or a code: khmer, Khmr, and with --sound: flags by which a text whose
+                                letters join may be broken
        hbhook --word TEXT       runs the hooks of the text's script over it; also with --draw
        hbhook --lines TEXT      prints the lines that do that
        hbhook --help            prints this
@@ -43,6 +46,7 @@ struct Task {
     lists: bool,
     draws: bool,
     prints_lines: bool,
+    is_sound: bool,
 }
 
 impl Task {
@@ -52,6 +56,7 @@ impl Task {
             Some("--explain") => self.explains = true,
             Some("--why") => (self.explains, self.lists) = (true, true),
             Some("--draw") => self.draws = true,
+            Some("--sound") => self.is_sound = true,
             _ => return false,
         }
         true
@@ -79,10 +84,14 @@ impl Task {
 
     // Prints or draws the glyphs of a text, and returns the exit status.
     fn carry_out_text(self, text: &str, script: Option<[u8; 4]>) -> u8 {
+        let mut choices = ShapeChoices::default();
+        if self.is_sound {
+            choices.break_flags = BreakFlags::Sound;
+        }
         let done = if self.draws {
-            draw_text(text, script)
+            draw_text(text, script, choices)
         } else {
-            print_text(text, script)
+            print_text(text, script, choices)
         };
         let fault = match done {
             Ok(output) => return print(&output),
@@ -188,6 +197,9 @@ fn run(arguments: &[OsString]) -> Result<u8, String> {
     }
     if script.is_some() {
         return Err("--script goes with --text (hbhook --help)".into());
+    }
+    if task.is_sound {
+        return Err("--sound goes with --text (hbhook --help)".into());
     }
     match (&files[..], lines) {
         ([], Some(lines)) if task.prints_lines => Ok(print(&lines)),

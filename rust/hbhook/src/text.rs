@@ -11,7 +11,7 @@ use crate::word::{Planned, line_of_text, name_of, name_of_pause, runs_from_right
 use sengadlit::alloc::{AllocError, Global};
 use sengadlit::ot_shape::{TextPlan, prepare_text};
 use sengadlit::ot_shape_normalize::NormalizeSettings;
-use sengadlit::ot_shape_plan::ShapePlan;
+use sengadlit::ot_shape_plan::{ShapeChoices, ShapePlan};
 use sengadlit::shaper::checked::CallError;
 use sengadlit::spans::setup_syllables_found;
 use sengadlit::unicode::UnicodeTables;
@@ -54,7 +54,8 @@ impl From<AllocError> for TextFault {
 /// The glyphs of a text, one line each as [`run_lines`](crate::run_lines) prints them: all that
 /// comes before a font's lookups is done to it, and then the pauses between them, in their order.
 /// The font has every character but those of private use, every feature and no lookup. The script is
-/// that of the first character that is of one with a shaper, unless one is named.
+/// that of the first character that is of one with a shaper, unless one is named; the choices are
+/// those of the plan.
 ///
 /// # Errors
 ///
@@ -62,12 +63,17 @@ impl From<AllocError> for TextFault {
 ///
 /// ```
 /// // E and AA are the parts of OO, and E comes before the letter
-/// let printed = hbhook::print_text("\u{1780}\u{17C4}", Some(*b"Khmr")).unwrap();
+/// let script = Some(*b"Khmr");
+/// let printed = hbhook::print_text("\u{1780}\u{17C4}", script, Default::default()).unwrap();
 /// let numbers: Vec<&str> = printed.lines().map(|line| &line[..4]).collect();
 /// assert_eq!(numbers, ["17c1", "1780", "17c4"]);
 /// ```
-pub fn print_text(text: &str, script: Option<[u8; 4]>) -> Result<String, TextFault> {
-    let way = Way::of(text, script)?;
+pub fn print_text(
+    text: &str,
+    script: Option<[u8; 4]>,
+    choices: ShapeChoices,
+) -> Result<String, TextFault> {
+    let way = Way::of(text, script, choices)?;
     let mut session = Session::new(Global);
     for line in way.lines(text) {
         session.carry_out(line.as_bytes()).map_err(refusal_of)?;
@@ -87,8 +93,12 @@ pub fn print_text(text: &str, script: Option<[u8; 4]>) -> Result<String, TextFau
 /// # Errors
 ///
 /// Those of [`print_text`], and a row would have too many glyphs.
-pub fn draw_text(text: &str, script: Option<[u8; 4]>) -> Result<String, TextFault> {
-    let way = Way::of(text, script)?;
+pub fn draw_text(
+    text: &str,
+    script: Option<[u8; 4]>,
+    choices: ShapeChoices,
+) -> Result<String, TextFault> {
+    let way = Way::of(text, script, choices)?;
     let mut walk = Walk::new();
     way.walk(&mut walk, text).map_err(TextFault::Undrawn)?;
     let context = way.context()?;
@@ -109,7 +119,7 @@ struct Way {
 }
 
 impl Way {
-    fn of(text: &str, script: Option<[u8; 4]>) -> Result<Self, TextFault> {
+    fn of(text: &str, script: Option<[u8; 4]>, choices: ShapeChoices) -> Result<Self, TextFault> {
         let code = script.or_else(|| script_of_word(text));
         let script = Script(code.ok_or(TextFault::NoScript)?);
         let direction = if runs_from_right(script) {
@@ -118,7 +128,8 @@ impl Way {
             Direction::LeftToRight
         };
         let font = WholeFont::of(script);
-        let plan = ShapePlan::new(Global, Some(script), direction, &font, &font, &[])?;
+        let named = Some(script);
+        let plan = ShapePlan::with_choices(Global, named, direction, &font, &font, &[], choices)?;
         Ok(Way {
             script,
             direction,
@@ -252,7 +263,7 @@ mod tests {
     use super::*;
 
     fn numbers(text: &str, script: &[u8; 4]) -> Vec<u32> {
-        let printed = print_text(text, Some(*script)).unwrap();
+        let printed = print_text(text, Some(*script), ShapeChoices::default()).unwrap();
         let first = |line: &str| line.split(' ').next().map(String::from);
         let numbers = printed.lines().filter_map(first);
         numbers
@@ -291,7 +302,8 @@ mod tests {
 
     #[test]
     fn a_page_has_a_row_for_each_pause() {
-        let page = draw_text("\u{1781}\u{17D2}\u{1798}\u{17C2}\u{179A}", None).unwrap();
+        let text = "\u{1781}\u{17D2}\u{1798}\u{17C2}\u{179A}";
+        let page = draw_text(text, None, ShapeChoices::default()).unwrap();
         let heads: Vec<&str> = page
             .lines()
             .filter(|line| line.starts_with("<h2>"))
@@ -312,9 +324,15 @@ mod tests {
 
     #[test]
     fn a_text_without_a_script_is_rejected() {
-        assert_eq!(print_text("word", None), Err(TextFault::NoScript));
+        assert_eq!(
+            print_text("word", None, ShapeChoices::default()),
+            Err(TextFault::NoScript)
+        );
         let long = "\u{1780}".repeat(crate::MOST_SHOWN + 1);
-        assert!(matches!(draw_text(&long, None), Err(TextFault::Undrawn(_))));
-        assert!(print_text(&long, None).is_ok());
+        assert!(matches!(
+            draw_text(&long, None, ShapeChoices::default()),
+            Err(TextFault::Undrawn(_))
+        ));
+        assert!(print_text(&long, None, ShapeChoices::default()).is_ok());
     }
 }

@@ -72,6 +72,21 @@ fn runs_a_text() {
 }
 
 #[test]
+fn flags_of_a_text_are_sound_where_that_is_wanted() {
+    // DALATH and ALAPH: alone ALAPH has another form
+    let flags = |options: &[&str]| {
+        let text = ["--text", "\u{0715}\u{0710}"];
+        let run = Run::new(&[&text, options].concat(), "");
+        let masks = run.printed.lines().map(|glyph| glyph.split(' ').nth(2));
+        masks
+            .map(|mask| u32::from_str_radix(mask.unwrap(), 16).unwrap() & 1)
+            .max()
+    };
+    assert_eq!(flags(&[]), Some(0));
+    assert_eq!(flags(&["--sound"]), Some(1));
+}
+
+#[test]
 fn rejects_other_texts() {
     let unknown = Run::new(&["--text", "word"], "");
     let told = "no script with hooks is known of the text\n";
@@ -89,6 +104,10 @@ fn rejects_other_texts() {
     expect_rejected(
         &["--script", "khmer"],
         "--script goes with --text (hbhook --help)",
+    );
+    expect_rejected(
+        &["--sound", "--word", "\u{0D9A}"],
+        "--sound goes with --text (hbhook --help)",
     );
     expect_rejected(
         &["--text", "a", "file"],

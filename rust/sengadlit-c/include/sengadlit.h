@@ -898,15 +898,19 @@ typedef struct sengadlit_shape_plan_input_t {
     sengadlit_layout_table_t gpos;
     const sengadlit_user_feature_t *user_features;
     unsigned int user_features_length;
+    unsigned int units_per_em;       /* Of the font, at most 65535; 0 stands for 1000. For spaces that the font lacks. */
+    sengadlit_bool_t centres_stretch; /* These three as in sengadlit_plan_input_t. */
+    sengadlit_bool_t sound_breaks;
+    sengadlit_bool_t searches_medials;
 } sengadlit_shape_plan_input_t;
 
 typedef struct sengadlit_shape_plan_t sengadlit_shape_plan_t;
 
 /* Makes a plan: the shaper by script, direction and chosen script; its features, those of every script and the user's; their
    bits of `mask`; and the stages of lookups with the pauses between them. All is copied. A plan doesn't change: threads may
-   share it. `error` may be null; it is written where null is returned: MEMORY, INTERNAL, or ARGUMENT: INPUT, DIRECTION,
-   FEATURES (a list is null), LOOKUPS (that of feature `index` is, counted through the lists of GSUB in the order of the struct
-   and those of GPOS). */
+   share it. `error` may be null; it is written where null is returned: MEMORY, INTERNAL, or ARGUMENT: INPUT (null, or
+   `units_per_em` above 65535), DIRECTION, FEATURES (a list is null), LOOKUPS (that of feature `index` is, counted through the
+   lists of GSUB in the order of the struct and those of GPOS). */
 sengadlit_shape_plan_t *sengadlit_shape_plan_create(const sengadlit_shape_plan_input_t *input, sengadlit_error_t *error);
 /* Frees the plan, which no call may use any more. `plan` may be null. */
 void sengadlit_shape_plan_destroy(sengadlit_shape_plan_t *plan);
@@ -940,6 +944,10 @@ typedef struct sengadlit_lookups_funcs_t {
     sengadlit_bool_t (*position)(void *user_data, const sengadlit_lookup_t *lookup, sengadlit_buffer_t *buffer);
     /* Moves what lookups of GPOS have attached to other glyphs, behind the last of them; keeps the length. May be null. */
     void (*finish_positions)(void *user_data, sengadlit_buffer_t *buffer);
+    /* For vertical text, and null otherwise: the advance of a glyph, below 0 as the pen moves down; and where its origin for
+       vertical text lies, seen from that for horizontal text, to the right and upwards. In font units. */
+    int32_t (*glyph_v_advance)(void *user_data, uint32_t glyph);
+    void (*glyph_v_origin)(void *user_data, uint32_t glyph, int32_t *x, int32_t *y);
 } sengadlit_lookups_funcs_t;
 
 typedef struct sengadlit_lookups_t {
@@ -965,10 +973,10 @@ sengadlit_status_t sengadlit_substitute_text(const sengadlit_shape_plan_t *plan,
 
 /* The same, and positions: advances, the lookups of GPOS where the shaper takes the script that was chosen in it, marks and
    default ignorables without a width, stretched marks, and one set of glyph flags for each cluster. The glyphs are in the order
-   in which they are drawn, and default ignorables that no lookup replaced are the font's space, or gone. For horizontal text;
-   the table kern, and marks placed without GPOS, are the caller's. Calls glyph_h_advance too, and is_mark, position and
-   finish_positions, of which position may be null if the plan has no lookup of GPOS. STRETCH_OVERFLOW. INTERNAL: also where a
-   lookup of GPOS left another number of positions than glyphs. */
+   in which they are drawn, and default ignorables that no lookup replaced are the font's space, or gone. The table kern, and
+   marks placed without GPOS, are the caller's. Calls glyph_h_advance too, and is_mark, position and finish_positions, of which
+   position may be null if the plan has no lookup of GPOS; and for vertical text glyph_v_advance and glyph_v_origin.
+   STRETCH_OVERFLOW. INTERNAL: also where a lookup of GPOS left another number of positions than glyphs. */
 sengadlit_status_t sengadlit_shape(const sengadlit_shape_plan_t *plan, const sengadlit_font_t *font,
                                    const sengadlit_lookups_t *lookups, sengadlit_buffer_t *buffer);
 

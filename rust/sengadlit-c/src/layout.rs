@@ -185,9 +185,11 @@ mod tests {
         layout!("layout_table", LayoutTableInput: has_table, chosen_script, found_script, features_length, features, anywhere,
         anywhere_length, required);
         layout!("user_feature", UserFeature: tag, value, start, end);
-        layout!("shape_plan_input", ShapePlanInput: script, direction, gsub, gpos, user_features, user_features_length);
+        layout!("shape_plan_input", ShapePlanInput: script, direction, gsub, gpos, user_features, user_features_length,
+        units_per_em, centres_stretch, sound_breaks, searches_medials);
         layout!("lookup", Lookup: index, mask, auto_zwnj, auto_zwj, random, per_syllable);
-        layout!("lookups_funcs", LookupsFuncs: variation_glyph, note, substitute, is_mark, position, finish_positions);
+        layout!("lookups_funcs", LookupsFuncs: variation_glyph, note, substitute, is_mark, position, finish_positions,
+        glyph_v_advance, glyph_v_origin);
         layout!("lookups", Lookups<'static>: funcs, user_data);
         lines
     }

@@ -8,6 +8,7 @@ use core::sync::atomic::AtomicUsize;
 use sengadlit::alloc::{AllocError, Global, Vec as List};
 use sengadlit::buffer::ShaperError;
 use sengadlit::map::{FeatureMap, Map, TableIndex};
+use sengadlit::ot_shape_plan::ShapeChoices;
 use sengadlit::plan::{ArabicPlan, BaseSearch, BreakFlags, Plan as Inner, StretchStart};
 use sengadlit::script::THAI;
 use sengadlit::shaper::Shaper;
@@ -43,21 +44,35 @@ pub fn make(
     }
     let mut plan = Inner::new(script(input.script), map(input, features, stages, lookups)?);
     plan.has_gpos_mark = input.has_gpos_mark != 0;
-    if input.centres_stretch != 0 {
-        plan.stretch_start = StretchStart::Centred;
-    }
-    if input.sound_breaks != 0 {
-        plan.break_flags = BreakFlags::Sound;
-    }
-    if input.searches_medials != 0 {
-        plan.base_search = BaseSearch::AllConsonants;
-    }
+    let choices = choices(
+        input.centres_stretch,
+        input.sound_breaks,
+        input.searches_medials,
+    );
+    plan.stretch_start = choices.stretch_start;
+    plan.break_flags = choices.break_flags;
+    plan.base_search = choices.base_search;
     Ok(Plan {
         references: AtomicUsize::new(1),
         shaper,
         inner: shaper.with_data(plan),
         kept: input.kept,
     })
+}
+
+/// What these fields of a plan's input choose.
+pub fn choices(centres_stretch: Bool, sound_breaks: Bool, searches_medials: Bool) -> ShapeChoices {
+    let mut choices = ShapeChoices::default();
+    if centres_stretch != 0 {
+        choices.stretch_start = StretchStart::Centred;
+    }
+    if sound_breaks != 0 {
+        choices.break_flags = BreakFlags::Sound;
+    }
+    if searches_medials != 0 {
+        choices.base_search = BaseSearch::AllConsonants;
+    }
+    choices
 }
 
 // The map of these features, stages and lookups, which fit each other.
@@ -184,7 +199,7 @@ mod tests {
         }
     }
 
-    fn choices(input: &PlanInput) -> (StretchStart, BreakFlags, BaseSearch) {
+    fn chosen(input: &PlanInput) -> (StretchStart, BreakFlags, BaseSearch) {
         let plan = make(Shaper::Indic, input, &[], &[], &[]).ok().unwrap();
         let kept = plan.inner.plan_data.indic().unwrap();
         assert_eq!(kept.base_search, plan.inner.base_search);
@@ -211,12 +226,12 @@ mod tests {
             ..input()
         };
         let without = BaseSearch::WithoutMedials;
-        assert_eq!(choices(&input()), (CODE.0, CODE.1, without));
+        assert_eq!(chosen(&input()), (CODE.0, CODE.1, without));
         assert_eq!(
-            choices(&medials),
+            chosen(&medials),
             (CODE.0, CODE.1, BaseSearch::AllConsonants)
         );
-        assert_eq!(choices(&sound), (CODE.0, BreakFlags::Sound, without));
-        assert_eq!(choices(&centred), (StretchStart::Centred, CODE.1, without));
+        assert_eq!(chosen(&sound), (CODE.0, BreakFlags::Sound, without));
+        assert_eq!(chosen(&centred), (StretchStart::Centred, CODE.1, without));
     }
 }

@@ -1,11 +1,14 @@
 //! A text's way from characters to glyphs: plans, and what the calls require.
 use crate::border::callbacks::{Asked, FONT_ADVANCE, FONT_NOMINAL, FONT_WOULD, Font, FontFuncs};
 use crate::border::glyphs::{MAX_LENGTH, Takes};
-use crate::border::shaping::{AskedLookups, Lookups, TableFeature};
+use crate::border::shaping::{
+    AskedLookups, LOOKUPS_POSITION, LOOKUPS_SUBSTITUTE, LOOKUPS_VERTICAL, Lookups, ShapePlanInput,
+    TableFeature,
+};
 use crate::buffer::Buffer;
 use crate::layout::UserFeature;
 use crate::numbers::{self, script, tag};
-use crate::plan::list;
+use crate::plan::{choices, list};
 use crate::status::{Argument, Error, Status};
 use sengadlit::alloc::{Global, Vec as List};
 use sengadlit::buffer::{Buffer as Inner, Direction, ShaperError, Tag};
@@ -14,7 +17,7 @@ use sengadlit::map::TableIndex;
 use sengadlit::ot_shape::{self, ShapeSettings};
 use sengadlit::ot_shape_normalize::{NormalizeFont, NormalizeSettings, Rounds};
 use sengadlit::ot_shape_plan::{FontFeatures, ShapePlan as Plan, UserFeature as Wanted};
-use sengadlit::ot_shape_position::DefaultIgnorables;
+use sengadlit::ot_shape_position::{DefaultIgnorables, MetricsFont};
 use sengadlit::shaper::Shaper;
 use sengadlit::shaper::checked::CallError;
 use sengadlit::unicode::UnicodeTables;
@@ -22,6 +25,7 @@ use sengadlit::unicode::UnicodeTables;
 /// `sengadlit_shape_plan_t`.
 pub struct ShapePlan {
     inner: Plan,
+    units_per_em: u16,
 }
 
 /// What GSUB or GPOS has for a text.
@@ -96,16 +100,21 @@ impl FontFeatures for Layout<'_> {
     }
 }
 
+// The units of an em where a font has no table that tells, as in HarfBuzz.
+const UNITS_PER_EM: u16 = 1000;
+
 /// The plan of a text of this script and direction, in a font with these tables.
 pub fn make(
-    of: u32,
-    direction: u32,
+    input: &ShapePlanInput,
     gsub: &LayoutTable<'_>,
     gpos: &LayoutTable<'_>,
     users: &[UserFeature],
 ) -> Result<ShapePlan, Error> {
-    let direction = numbers::direction(direction).filter(|known| *known != Direction::Invalid);
+    let direction = numbers::direction(input.direction);
+    let direction = direction.filter(|known| *known != Direction::Invalid);
     let direction = direction.ok_or_else(|| Error::argument(Argument::Direction))?;
+    let units_per_em = u16::try_from(input.units_per_em);
+    let units_per_em = units_per_em.map_err(|_| Error::argument(Argument::Input))?;
     let of_user = |user: &UserFeature| Wanted {
         tag: tag(user.tag),
         value: user.value,
@@ -115,21 +124,27 @@ pub fn make(
     let wanted = list(users, of_user).map_err(ShaperError::from)?;
     let font = FeaturesOnly(|tag: Tag| gsub.has(tag) || gpos.has(tag));
     let layout = Layout { gsub, gpos };
-    let inner = Plan::new(
-        Global,
-        script(of),
-        direction,
-        &font,
-        &layout,
-        wanted.as_slice(),
-    )?;
-    Ok(ShapePlan { inner })
+    let choices = choices(
+        input.centres_stretch,
+        input.sound_breaks,
+        input.searches_medials,
+    );
+    let (script, users) = (script(input.script), wanted.as_slice());
+    let inner = Plan::with_choices(Global, script, direction, &font, &layout, users, choices)?;
+    Ok(ShapePlan {
+        inner,
+        units_per_em: match units_per_em {
+            0 => UNITS_PER_EM,
+            units => units,
+        },
+    })
 }
 
-/// A font with the functions of lookups that normalization calls.
+/// A font with the functions of lookups that normalization and positions call.
 struct ShapedFont<'a> {
     font: Asked<'a, FontFuncs>,
     lookups: &'a AskedLookups<'a>,
+    units_per_em: u16,
 }
 
 impl AnswersFont for ShapedFont<'_> {
@@ -160,6 +175,20 @@ impl NormalizeFont for ShapedFont<'_> {
     }
 }
 
+impl MetricsFont for ShapedFont<'_> {
+    fn units_per_em(&self) -> u16 {
+        self.units_per_em
+    }
+
+    fn glyph_v_advance(&self, glyph: GlyphId) -> i32 {
+        self.lookups.glyph_v_advance(glyph)
+    }
+
+    fn glyph_v_origin(&self, glyph: GlyphId) -> (i32, i32) {
+        self.lookups.glyph_v_origin(glyph)
+    }
+}
+
 // Which functions of the font a text of this plan takes.
 fn asks_of(plan: &Plan) -> u8 {
     let own = match plan.shaper() {
@@ -168,6 +197,21 @@ fn asks_of(plan: &Plan) -> u8 {
         _ => 0,
     };
     FONT_NOMINAL | own
+}
+
+// Which functions of the lookups substitutions of this plan take, and which positions.
+fn substituting_asks(plan: &Plan) -> u8 {
+    match plan.lookups() {
+        [] => 0,
+        _ => LOOKUPS_SUBSTITUTE,
+    }
+}
+
+fn positioning_asks(plan: &Plan, is_vertical: bool) -> u8 {
+    let positions = plan.applies_gpos() && !plan.positioning().is_empty();
+    let of_gpos = if positions { LOOKUPS_POSITION } else { 0 };
+    let of_font = if is_vertical { LOOKUPS_VERTICAL } else { 0 };
+    of_gpos | of_font
 }
 
 /// An empty buffer with the settings of a text, which stands for it while a callback has its glyphs.
@@ -194,14 +238,14 @@ pub fn substitute_text(
     lookups: Option<&Lookups<'_>>,
     buffer: &mut Buffer,
 ) -> Result<Status, Error> {
-    let plan = &plan.inner;
-    let font = Asked::font(font, asks_of(plan))?;
-    let lookups = &AskedLookups::of(lookups, !plan.lookups().is_empty(), false)?;
-    let font = ShapedFont { font, lookups };
+    let inner = &plan.inner;
+    let font = Asked::font(font, asks_of(inner))?;
+    let lookups = &AskedLookups::of(lookups, substituting_asks(inner))?;
+    let font = plan.shaped_font(font, lookups);
     buffer.are_characters()?;
-    buffer.run(Takes::Numbers, |inner| {
+    buffer.run(Takes::Numbers, |text| {
         let settings = &SETTINGS.normalize;
-        let done = ot_shape::substitute_text(plan, settings, &font, &UnicodeTables, lookups, inner);
+        let done = ot_shape::substitute_text(inner, settings, &font, &UnicodeTables, lookups, text);
         done.map_err(of_call)
     })?;
     Ok(Status::Done)
@@ -214,17 +258,32 @@ pub fn shape(
     lookups: Option<&Lookups<'_>>,
     buffer: &mut Buffer,
 ) -> Result<Status, Error> {
-    let plan = &plan.inner;
-    let font = Asked::font(font, asks_of(plan) | FONT_ADVANCE)?;
-    let positions = plan.applies_gpos() && !plan.positioning().is_empty();
-    let lookups = &AskedLookups::of(lookups, !plan.lookups().is_empty(), positions)?;
-    let font = ShapedFont { font, lookups };
+    let inner = &plan.inner;
+    let font = Asked::font(font, asks_of(inner) | FONT_ADVANCE)?;
+    let is_vertical = buffer.text.is_vertical();
+    let asks = substituting_asks(inner) | positioning_asks(inner, is_vertical);
+    let lookups = &AskedLookups::of(lookups, asks)?;
+    let font = plan.shaped_font(font, lookups);
     buffer.are_characters()?;
-    buffer.run_to_positions(Takes::Numbers, |inner| {
-        let done = ot_shape::shape(plan, &SETTINGS, &font, &UnicodeTables, lookups, inner);
+    buffer.run_to_positions(Takes::Numbers, |text| {
+        let done = ot_shape::shape(inner, &SETTINGS, &font, &UnicodeTables, lookups, text);
         done.map_err(of_call)
     })?;
     Ok(Status::Done)
+}
+
+impl ShapePlan {
+    fn shaped_font<'a>(
+        &self,
+        font: Asked<'a, FontFuncs>,
+        lookups: &'a AskedLookups<'a>,
+    ) -> ShapedFont<'a> {
+        ShapedFont {
+            font,
+            lookups,
+            units_per_em: self.units_per_em,
+        }
+    }
 }
 
 // The conditions are tested before: the text is of characters, without positions, and its glyphs have numbers of a font.
@@ -232,5 +291,79 @@ fn of_call(error: CallError) -> Error {
     match error {
         CallError::Refused(refusal) => refusal.into(),
         CallError::Condition(condition) => unreachable!("{condition:?} isn't met"),
+    }
+}
+
+#[cfg(test)]
+mod tests {
+    use super::*;
+    use crate::border::shaping::{LayoutTableInput, TableFeatureInput};
+    use core::ptr::null;
+    use sengadlit::plan::{BaseSearch, BreakFlags, StretchStart};
+
+    fn no_table() -> LayoutTableInput {
+        LayoutTableInput {
+            has_table: 0,
+            chosen_script: 0,
+            found_script: 0,
+            features_length: 0,
+            features: null(),
+            anywhere: null(),
+            anywhere_length: 0,
+            required: TableFeatureInput {
+                tag: 0,
+                lookups_length: 0,
+                lookups: null(),
+            },
+        }
+    }
+
+    // The units of an em, and the choices, of the plan for these fields.
+    fn made(units_per_em: u32, bits: [i32; 3]) -> (u16, (StretchStart, BreakFlags, BaseSearch)) {
+        let [centres_stretch, sound_breaks, searches_medials] = bits;
+        let input = ShapePlanInput {
+            script: u32::from_be_bytes(*b"Deva"),
+            direction: 4,
+            gsub: no_table(),
+            gpos: no_table(),
+            user_features: null(),
+            user_features_length: 0,
+            units_per_em,
+            centres_stretch,
+            sound_breaks,
+            searches_medials,
+        };
+        let empty = || LayoutTable {
+            has_table: false,
+            chosen_script: 0,
+            found_script: false,
+            features: List::new(Global),
+            anywhere: List::new(Global),
+            required: (0, &[]),
+        };
+        let plan = make(&input, &empty(), &empty(), &[]).ok().unwrap();
+        let kept = plan.inner.plan();
+        let choices = (kept.stretch_start, kept.break_flags, kept.base_search);
+        (plan.units_per_em, choices)
+    }
+
+    #[test]
+    fn each_choice_of_the_input_is_the_plans() {
+        use BaseSearch::{AllConsonants, WithoutMedials};
+        use StretchStart::{AsCode, Centred};
+        let code = BreakFlags::AsCode;
+        let rows = [
+            (0, [0, 0, 0], (1000, (AsCode, code, WithoutMedials))),
+            (1, [1, 0, 0], (1, (Centred, code, WithoutMedials))),
+            (
+                2048,
+                [0, 1, 0],
+                (2048, (AsCode, BreakFlags::Sound, WithoutMedials)),
+            ),
+            (65535, [0, 0, 1], (65535, (AsCode, code, AllConsonants))),
+        ];
+        for (units, bits, wanted) in rows {
+            assert_eq!(made(units, bits), wanted);
+        }
     }
 }

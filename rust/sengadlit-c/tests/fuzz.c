@@ -446,6 +446,19 @@ static sengadlit_bool_t position(void *user_data, const sengadlit_lookup_t *look
     return next() != 1;
 }
 
+static int32_t glyph_v_advance(void *user_data, uint32_t glyph)
+{
+    if (sengadlit_buffer_get_glyph_infos(user_data, NULL)) abort();
+    return (int32_t)answer(glyph, 12);
+}
+
+static void glyph_v_origin(void *user_data, uint32_t glyph, int32_t *x, int32_t *y)
+{
+    if (sengadlit_buffer_get_glyph_infos(user_data, NULL)) abort();
+    *x = (int32_t)answer(glyph, 13);
+    *y = (int32_t)answer(glyph, 14);
+}
+
 static sengadlit_shape_plan_t *make_shape_plan(void)
 {
     static const char tags[][5] = {"ccmp", "rphf", "pref", "blwf", "half", "pres", "init", "medi", "liga", "mark"};
@@ -475,6 +488,10 @@ static sengadlit_shape_plan_t *make_shape_plan(void)
     input.gpos = input.gsub;
     input.user_features = &user;
     input.user_features_length = settings & 32 ? 1 : 0;
+    input.units_per_em = settings & 1 ? 1u << settings % 16 : 0;
+    input.centres_stretch = settings & 2;
+    input.sound_breaks = settings & 8;
+    input.searches_medials = settings & 16;
     sengadlit_shape_plan_t *plan = sengadlit_shape_plan_create(&input, &error);
     if (!plan && (error.status != SENGADLIT_ARGUMENT || error.argument != SENGADLIT_ARGUMENT_LOOKUPS)) abort();
     return plan;
@@ -482,7 +499,8 @@ static sengadlit_shape_plan_t *make_shape_plan(void)
 
 static void shape_whole(sengadlit_buffer_t *buffer)
 {
-    static const sengadlit_lookups_funcs_t funcs = {variation_glyph, note, substitute, is_mark, position, finish_positions};
+    static const sengadlit_lookups_funcs_t funcs = {variation_glyph, note,           substitute,     is_mark, position,
+                                                    finish_positions, glyph_v_advance, glyph_v_origin};
     const sengadlit_lookups_t lookups = {&funcs, buffer};
     sengadlit_shape_plan_t *plan = make_shape_plan();
 

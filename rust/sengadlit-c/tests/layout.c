@@ -140,6 +140,10 @@ static void print_shaping(void)
     FIELD(shape_plan_input, gpos);
     FIELD(shape_plan_input, user_features);
     FIELD(shape_plan_input, user_features_length);
+    FIELD(shape_plan_input, units_per_em);
+    FIELD(shape_plan_input, centres_stretch);
+    FIELD(shape_plan_input, sound_breaks);
+    FIELD(shape_plan_input, searches_medials);
     STRUCT(lookup);
     FIELD(lookup, index);
     FIELD(lookup, mask);
@@ -154,6 +158,8 @@ static void print_shaping(void)
     FIELD(lookups_funcs, is_mark);
     FIELD(lookups_funcs, position);
     FIELD(lookups_funcs, finish_positions);
+    FIELD(lookups_funcs, glyph_v_advance);
+    FIELD(lookups_funcs, glyph_v_origin);
     STRUCT(lookups);
     FIELD(lookups, funcs);
     FIELD(lookups, user_data);

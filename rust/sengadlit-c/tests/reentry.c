@@ -25,7 +25,7 @@ static void check(const char *what, int holds)
 enum callback {
     NOMINAL_GLYPH, GLYPH_H_ADVANCE, WOULD_SUBSTITUTE, HAS_FEATURE, JOINING_TYPE, GENERAL_CATEGORY, INDIC_CATEGORIES, USE_CATEGORY,
     COMPOSE, DECOMPOSE, ADD_FEATURE, ADD_GSUB_PAUSE, DESTROY, VARIATION_GLYPH, NOTE, SUBSTITUTE, IS_MARK, POSITION,
-    FINISH_POSITIONS, CALLBACKS
+    FINISH_POSITIONS, GLYPH_V_ADVANCE, GLYPH_V_ORIGIN, CALLBACKS
 };
 
 static sengadlit_font_funcs_t font_funcs;
@@ -178,21 +178,37 @@ static void finish_positions(void *user_data, sengadlit_buffer_t *buffer)
     found[0].y_offset = 8;
 }
 
+static int32_t glyph_v_advance(void *user_data, uint32_t glyph)
+{
+    (void)user_data, (void)glyph;
+    meet(GLYPH_V_ADVANCE);
+    return -1000;
+}
+
+static void glyph_v_origin(void *user_data, uint32_t glyph, int32_t *x, int32_t *y)
+{
+    (void)user_data, (void)glyph;
+    meet(GLYPH_V_ORIGIN);
+    *x = 500;
+    *y = 800;
+}
+
 static const sengadlit_map_funcs_t map_funcs = {add_feature, add_gsub_pause};
 static const sengadlit_map_t map = {&map_funcs, NULL};
-static const sengadlit_lookups_funcs_t lookups_funcs = {variation_glyph, note, substitute, is_mark, position, finish_positions};
+static const sengadlit_lookups_funcs_t lookups_funcs = {variation_glyph, note,           substitute,     is_mark, position,
+                                                        finish_positions, glyph_v_advance, glyph_v_origin};
 static const sengadlit_lookups_t lookups = {&lookups_funcs, NULL};
 static sengadlit_shape_plan_t *whole;
 
 static void plan_whole(void)
 {
     static const uint16_t zero[] = {0};
-    static const sengadlit_table_feature_t liga = {SENGADLIT_TAG('l', 'i', 'g', 'a'), 1, zero};
-    static const sengadlit_table_feature_t kern = {SENGADLIT_TAG('k', 'e', 'r', 'n'), 1, zero};
+    static const sengadlit_table_feature_t ccmp = {SENGADLIT_TAG('c', 'c', 'm', 'p'), 1, zero};
+    static const sengadlit_table_feature_t mark = {SENGADLIT_TAG('m', 'a', 'r', 'k'), 1, zero};
     const sengadlit_shape_plan_input_t input = {
-        .script = SENGADLIT_TAG('L', 'a', 't', 'n'), .direction = SENGADLIT_DIRECTION_LTR,
-        .gsub = {.has_table = 1, .features = &liga, .features_length = 1},
-        .gpos = {.has_table = 1, .chosen_script = SENGADLIT_TAG('l', 'a', 't', 'n'), .features = &kern, .features_length = 1}};
+        .script = SENGADLIT_TAG('L', 'a', 't', 'n'), .direction = SENGADLIT_DIRECTION_TTB,
+        .gsub = {.has_table = 1, .features = &ccmp, .features_length = 1},
+        .gpos = {.has_table = 1, .chosen_script = SENGADLIT_TAG('l', 'a', 't', 'n'), .features = &mark, .features_length = 1}};
 
     whole = sengadlit_shape_plan_create(&input, NULL);
 }
@@ -298,6 +314,8 @@ static void begin_whole(void)
 {
     begin(SENGADLIT_SHAPER_KHMER, SENGADLIT_TAG('K', 'h', 'm', 'r'), 0x1780);
     glyphs()[1].codepoint = 0xFE00;
+    world.properties.direction = SENGADLIT_DIRECTION_TTB;
+    (void)sengadlit_buffer_set_properties(world.buffer, &world.properties);
 }
 
 static sengadlit_status_t substitute_text(void)
@@ -578,7 +596,7 @@ static void jump_everywhere(void)
     }
     for (unsigned int callback = 0; callback < CALLBACKS; callback++) check("a jump out of each callback", intrusions[callback] > 0);
     check("jumps out of glyphs", intrusions[NOMINAL_GLYPH] >= 4);
-    check("jumps out of advances", intrusions[GLYPH_H_ADVANCE] == 3);
+    check("jumps out of advances", intrusions[GLYPH_H_ADVANCE] == 2 && intrusions[GLYPH_V_ADVANCE] == 1);
 }
 
 int main(int argc, char **argv)

@@ -100,7 +100,20 @@ static void finish_positions(void *user_data, sengadlit_buffer_t *buffer)
     sengadlit_buffer_get_glyph_positions(buffer, NULL)[0].y_offset = 5;
 }
 
-static sengadlit_lookups_funcs_t funcs = {variation_glyph, note, substitute, is_mark, position, finish_positions};
+static int32_t glyph_v_advance(void *user_data, uint32_t glyph)
+{
+    check("the glyph of an advance", user_data == &lookup_7 && glyph <= UINT16_MAX);
+    return -1000;
+}
+
+static void glyph_v_origin(void *user_data, uint32_t glyph, int32_t *x, int32_t *y)
+{
+    check("the glyph of an origin", user_data == &lookup_7 && *x == 0 && *y == 0);
+    *x = (int32_t)glyph;
+    *y = 880;
+}
+
+static sengadlit_lookups_funcs_t funcs = {variation_glyph, note, substitute, is_mark, position, finish_positions, NULL, NULL};
 static sengadlit_lookups_t lookups = {&funcs, &lookup_7};
 
 static sengadlit_shape_plan_t *plan;
@@ -155,6 +168,9 @@ static void try_plans(void)
     refuse_plan("no input", NULL, SENGADLIT_ARGUMENT_INPUT, 0);
     input.direction = SENGADLIT_DIRECTION_INVALID;
     refuse_plan("no direction", &input, SENGADLIT_ARGUMENT_DIRECTION, 0);
+    input = khmer();
+    input.units_per_em = 65536;
+    refuse_plan("a great em", &input, SENGADLIT_ARGUMENT_INPUT, 0);
     input = khmer();
     input.gsub.features = NULL;
     refuse_plan("no features", &input, SENGADLIT_ARGUMENT_FEATURES, 0);
@@ -358,6 +374,92 @@ static void try_ignorables(void)
     check("without a width", length == 3 && found[1].x_advance == 0 && found[2].x_advance == 100);
 }
 
+/* A plan of Latin without tables. */
+static sengadlit_shape_plan_t *bare_latin(sengadlit_direction_t direction, unsigned int units_per_em)
+{
+    sengadlit_shape_plan_input_t input = {0};
+
+    input.script = SENGADLIT_TAG('L', 'a', 't', 'n');
+    input.direction = direction;
+    input.units_per_em = units_per_em;
+    return sengadlit_shape_plan_create(&input, NULL);
+}
+
+static sengadlit_bool_t lacks_en_space(void *user_data, uint32_t unicode, uint32_t *glyph)
+{
+    (void)user_data;
+    *glyph = unicode;
+    return unicode != 0x2002;
+}
+
+/* EN SPACE is half an em, of 1000 units where none are told. */
+static void try_spaces(void)
+{
+    static const unsigned int ems[] = {0, 1000, 2048, 65535};
+    static const int32_t widths[] = {500, 500, 1024, 32768};
+    sengadlit_bool_t (*const nominal)(void *, uint32_t, uint32_t *) = world.font_funcs.nominal_glyph;
+    const sengadlit_glyph_position_t *found;
+
+    world.font_funcs.nominal_glyph = lacks_en_space;
+    for (unsigned int i = 0; i < 4; i++) {
+        sengadlit_shape_plan_t *spaced = bare_latin(SENGADLIT_DIRECTION_LTR, ems[i]);
+
+        set_text("x\u2002");
+        check("spaced", shape_whole(spaced) == SENGADLIT_DONE && glyphs()[1].codepoint == 0x20);
+        found = sengadlit_buffer_get_glyph_positions(world.buffer, NULL);
+        check("a space", found[0].x_advance == 100 && found[1].x_advance == widths[i]);
+        sengadlit_shape_plan_destroy(spaced);
+    }
+    world.font_funcs.nominal_glyph = nominal;
+}
+
+/* Downwards each glyph has its vertical advance, and its vertical origin is at the pen. */
+static void try_vertical(void)
+{
+    sengadlit_shape_plan_t *down = bare_latin(SENGADLIT_DIRECTION_TTB, 0);
+    const sengadlit_glyph_position_t *found;
+
+    world.properties.direction = SENGADLIT_DIRECTION_TTB;
+    set_text("xy");
+    check("no vertical metrics", shape_whole(down) == SENGADLIT_ARGUMENT);
+    funcs.glyph_v_advance = glyph_v_advance;
+    check("no origin", shape_whole(down) == SENGADLIT_ARGUMENT);
+    funcs.glyph_v_origin = glyph_v_origin;
+    check("down", shape_whole(down) == SENGADLIT_DONE);
+    found = sengadlit_buffer_get_glyph_positions(world.buffer, NULL);
+    check("below", found[1].x_advance == 0 && found[1].y_advance == -1000 && found[1].x_offset == -'y' &&
+                       found[1].y_offset == -880);
+    world.properties.direction = SENGADLIT_DIRECTION_LTR;
+    sengadlit_shape_plan_destroy(down);
+}
+
+/* A line broken between DALATH and ALAPH changes the form of ALAPH: flagged where breaks are to be sound. */
+static void try_choices(void)
+{
+    static const sengadlit_table_feature_t forms[] = {{SENGADLIT_TAG('i', 's', 'o', 'l'), 0, NULL},
+                                                      {SENGADLIT_TAG('f', 'i', 'n', '2'), 0, NULL},
+                                                      {SENGADLIT_TAG('f', 'i', 'n', '3'), 0, NULL}};
+    sengadlit_shape_plan_t *const khmer_plan = plan;
+    sengadlit_shape_plan_input_t input = {0};
+
+    input.script = world.properties.script = SENGADLIT_TAG('S', 'y', 'r', 'c');
+    input.direction = world.properties.direction = SENGADLIT_DIRECTION_RTL;
+    input.gsub.has_table = 1;
+    input.gsub.features = forms;
+    input.gsub.features_length = 3;
+    for (int sound = 0; sound < 2; sound++) {
+        input.sound_breaks = sound;
+        plan = sengadlit_shape_plan_create(&input, NULL);
+        set_text("\u0715\u0710");
+        check("joined", shape() == SENGADLIT_DONE);
+        check("flagged", ((glyphs()[0].mask | glyphs()[1].mask) & SENGADLIT_GLYPH_FLAG_UNSAFE_TO_BREAK) == (uint32_t)sound);
+        sengadlit_shape_plan_destroy(plan);
+    }
+    world.properties.script = SENGADLIT_TAG('K', 'h', 'm', 'r');
+    world.properties.direction = SENGADLIT_DIRECTION_LTR;
+    plan = khmer_plan;
+}
+
 /* ---- Arguments ---- */
 
 static void refuse_text(const char *what, sengadlit_status_t status, sengadlit_argument_t argument, unsigned int index)
@@ -529,6 +631,9 @@ int main(int argc, char **argv)
     try_bad_lookups();
     try_positions();
     try_ignorables();
+    try_spaces();
+    try_vertical();
+    try_choices();
     try_arguments();
     try_plan_without_lookups();
     try_callbacks();

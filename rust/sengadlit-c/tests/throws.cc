@@ -115,6 +115,18 @@ static sengadlit_bool_t position(void *, const sengadlit_lookup_t *, sengadlit_b
 
 static void finish_positions(void *, sengadlit_buffer_t *) { meet("finish_positions"); }
 
+static int32_t glyph_v_advance(void *, uint32_t)
+{
+    meet("glyph_v_advance");
+    return -1000;
+}
+
+static void glyph_v_origin(void *, uint32_t, int32_t *x, int32_t *y)
+{
+    *x = *y = 0;
+    meet("glyph_v_origin");
+}
+
 static void add_feature(void *, sengadlit_tag_t, uint32_t, uint32_t) { meet("add_feature"); }
 static void add_gsub_pause(void *, sengadlit_pause_t) { meet("add_gsub_pause"); }
 static void destroy(void *) { meet("destroy"); }
@@ -182,19 +194,24 @@ static void stretch()
 static void shape_whole()
 {
     static const uint16_t zero = 0;
-    static const sengadlit_table_feature_t liga = {SENGADLIT_TAG('l', 'i', 'g', 'a'), 1, &zero};
-    static const sengadlit_lookups_funcs_t funcs = {variation_glyph, note, substitute, is_mark, position, finish_positions};
+    static const sengadlit_table_feature_t mark = {SENGADLIT_TAG('m', 'a', 'r', 'k'), 1, &zero};
+    static const sengadlit_lookups_funcs_t funcs = {variation_glyph, note,           substitute,     is_mark, position,
+                                                    finish_positions, glyph_v_advance, glyph_v_origin};
     static const sengadlit_lookups_t lookups = {&funcs, nullptr};
     sengadlit_shape_plan_input_t input = {};
 
     input.script = SENGADLIT_TAG('L', 'a', 't', 'n');
-    input.direction = SENGADLIT_DIRECTION_LTR;
+    input.direction = SENGADLIT_DIRECTION_TTB;
     input.gsub.has_table = 1;
-    input.gsub.features = &liga;
+    input.gsub.features = &mark;
     input.gsub.features_length = 1;
     input.gpos = input.gsub;
     input.gpos.chosen_script = SENGADLIT_TAG('l', 'a', 't', 'n');
-    (void)sengadlit_shape(sengadlit_shape_plan_create(&input, nullptr), &font, &lookups, buffer_of("--\u1780\uFE00"));
+    const sengadlit_buffer_properties_t properties = {input.script, input.direction,
+                                                      SENGADLIT_BUFFER_CLUSTER_LEVEL_CHARACTERS, 0, 64};
+    sengadlit_buffer_t *buffer = buffer_of("--\u1780\uFE00");
+    (void)sengadlit_buffer_set_properties(buffer, &properties);
+    (void)sengadlit_shape(sengadlit_shape_plan_create(&input, nullptr), &font, &lookups, buffer);
 }
 
 // Calls that make every call back.
@@ -260,7 +277,8 @@ int main()
                                             "general_category", "indic_categories", "use_category",     "compose",     "decompose",
                                             "add_feature",      "add_gsub_pause",   "destroy",          "message",     "variation_glyph",
                                             "note",
-                                            "substitute",       "is_mark",          "position",         "finish_positions"};
+                                            "substitute",       "is_mark",          "position",         "finish_positions",
+                                            "glyph_v_advance",  "glyph_v_origin"};
 
     for (const char *callback : callbacks) expect_end(callback);
     std::printf("%u passed, %u failed\n", passed, failed);

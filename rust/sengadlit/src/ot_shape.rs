@@ -11,7 +11,7 @@
 //! # use sengadlit::ot_shape::Lookups;
 //! # use sengadlit::ot_shape_normalize::NormalizeFont;
 //! # use sengadlit::ot_shape_plan::{FontFeatures, StageLookup};
-//! # use sengadlit::ot_shape_position::GlyphClasses;
+//! # use sengadlit::ot_shape_position::{GlyphClasses, MetricsFont};
 //! # struct MyFont;
 //! # impl Font for MyFont {
 //! #     fn nominal_glyph(&self, c: u32) -> Option<GlyphId> {
@@ -23,6 +23,11 @@
 //! # }
 //! # impl NormalizeFont for MyFont {
 //! #     fn variation_glyph(&self, _: u32, _: u32) -> Option<GlyphId> { None }
+//! # }
+//! # impl MetricsFont for MyFont {
+//! #     fn units_per_em(&self) -> u16 { 1000 }
+//! #     fn glyph_v_advance(&self, _: GlyphId) -> i32 { 0 }
+//! #     fn glyph_v_origin(&self, _: GlyphId) -> (i32, i32) { (0, 0) }
 //! # }
 //! # impl FontFeatures for MyFont {
 //! #     fn has_table(&self, table: TableIndex) -> bool { table == TableIndex::GSUB }
@@ -67,7 +72,8 @@
 //! use sengadlit::unicode::UnicodeTables;
 //! use sengadlit::{Buffer, Direction, script};
 //!
-//! let font = MyFont; // with `Font`, `NormalizeFont`, `FontFeatures` and `Lookups`
+//! // with `Font`, `NormalizeFont`, `MetricsFont`, `FontFeatures` and `Lookups`
+//! let font = MyFont;
 //! let (script, direction) = (Some(script::KHMER), Direction::LeftToRight);
 //! let plan = ShapePlan::new(Global, script, direction, &font, &font, &[])?;
 //! let mut buffer = Buffer::from("ខ្មែរ");
@@ -129,22 +135,23 @@ pub use crate::generated::shapers_pipeline::{
 mod tests {
     use super::{Lookups, ShapeSettings, Single, SingleLookups, shape, substitute_text};
     use crate::alloc::Global;
-    use crate::buffer::{Buffer, Direction, GlyphInfo, Script, ShaperError, Tag};
+    use crate::buffer::{Buffer, Direction, GlyphInfo, GlyphPosition, Script, ShaperError, Tag};
     use crate::font::{Font, GlyphId};
     use crate::map::TableIndex;
     use crate::ot_shape_normalize::{NormalizeFont, NormalizeSettings, Rounds};
     use crate::ot_shape_plan::{FontFeatures, ShapePlan, StageLookup};
-    use crate::ot_shape_position::{DefaultIgnorables, GlyphClasses};
+    use crate::ot_shape_position::{DefaultIgnorables, GlyphClasses, MetricsFont};
     use crate::unicode::UnicodeTables;
     use std::vec::Vec;
 
-    /// A font of Khmer with a glyph for each character, by its number. Lookup 7 of the feature
+    /// A font of Khmer with a glyph for each character but EN SPACE, by its number. Lookup 7 of the feature
     /// `pres` gives each glyph the next number.
     struct Khmer;
 
     impl Font for Khmer {
         fn nominal_glyph(&self, c: u32) -> Option<GlyphId> {
-            u16::try_from(c).ok().map(GlyphId)
+            let number = u16::try_from(c).ok()?;
+            (number != 0x2002).then_some(GlyphId(number))
         }
 
         fn glyph_h_advance(&self, _: GlyphId) -> i32 {
@@ -163,6 +170,20 @@ mod tests {
     impl NormalizeFont for Khmer {
         fn variation_glyph(&self, _: u32, _: u32) -> Option<GlyphId> {
             None
+        }
+    }
+
+    impl MetricsFont for Khmer {
+        fn units_per_em(&self) -> u16 {
+            2000
+        }
+
+        fn glyph_v_advance(&self, _: GlyphId) -> i32 {
+            -900
+        }
+
+        fn glyph_v_origin(&self, _: GlyphId) -> (i32, i32) {
+            (250, 880)
         }
     }
 
@@ -288,6 +309,55 @@ mod tests {
         assert_eq!(glyphs, [5, 0x20, 6]);
         let advances: Vec<i32> = text.positions().iter().map(|at| at.x_advance).collect();
         assert_eq!(advances, [500, 0, 500]);
+    }
+
+    /// EN SPACE, which the font lacks, is a space of half an em.
+    #[test]
+    fn a_space_that_the_font_lacks_has_its_width() {
+        let mut text = khmer_text("\u{1780}\u{2002}");
+        let lookups = SingleLookups { singles: &[] };
+        shape(
+            &khmer_plan(),
+            &SETTINGS,
+            &Khmer,
+            &UnicodeTables,
+            &lookups,
+            &mut text,
+        )
+        .unwrap();
+        let seen: Vec<(u32, i32)> = text
+            .glyphs()
+            .iter()
+            .zip(text.positions())
+            .map(|(glyph, at)| (glyph.glyph_id, at.x_advance))
+            .collect();
+        assert_eq!(seen, [(0x1780, 500), (0x20, 1000)]);
+    }
+
+    /// Downwards advances are vertical, and glyphs are drawn by their vertical origins.
+    #[test]
+    fn vertical_text_runs_down() {
+        let (script, direction) = (Some(Script(*b"Khmr")), Direction::TopToBottom);
+        let plan = ShapePlan::new(Global, script, direction, &Khmer, &Khmer, &[]).unwrap();
+        let mut text = khmer_text("\u{1780}\u{2002}");
+        text.set_direction(direction);
+        let lookups = SingleLookups { singles: &[] };
+        shape(
+            &plan,
+            &SETTINGS,
+            &Khmer,
+            &UnicodeTables,
+            &lookups,
+            &mut text,
+        )
+        .unwrap();
+        let at = |y_advance| GlyphPosition {
+            x_advance: 0,
+            y_advance,
+            x_offset: -250,
+            y_offset: -880,
+        };
+        assert_eq!(text.positions(), [at(-900), at(-1000)]);
     }
 
     /// `pres` gives NIKAHIT the next number; the note of it stays, and the shaper keeps its advance.

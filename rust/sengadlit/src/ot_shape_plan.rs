@@ -3,7 +3,8 @@
 //!
 //! [`ShapePlan::new`] chooses the shaper, collects what it and the user request, joins requests by
 //! tag, gives each feature its bits of a glyph's mask, and puts the font's lookups into stages. A
-//! caller's [`FontFeatures`] says which lookups a feature has.
+//! caller's [`FontFeatures`] says which lookups a feature has. [`ShapePlan::with_choices`] also takes
+//! what a caller chooses of the shapers' ways, as [`Plan::builder`](crate::Plan::builder) does.
 //!
 //! ```
 //! use sengadlit::alloc::Global;
@@ -55,17 +56,17 @@ pub use crate::generated::shapers_plan::ot_map::{
     F_GLOBAL_SEARCH, F_RANDOM, FontFeatures, Stage, StageLookup,
 };
 pub use crate::generated::shapers_plan::ot_shape_plan::{
-    DriverMasks, ShapePlan, UserFeature, UserRange,
+    DriverMasks, ShapeChoices, ShapePlan, UserFeature, UserRange,
 };
 
 #[cfg(test)]
 mod tests {
-    use super::{FontFeatures, ShapePlan, UserFeature};
+    use super::{FontFeatures, ShapeChoices, ShapePlan, UserFeature};
     use crate::alloc::Global;
     use crate::buffer::{Direction, Script, Tag};
-    use crate::font::NominalOnly;
+    use crate::font::{FeaturesOnly, NominalOnly};
     use crate::map::TableIndex;
-    use crate::plan::Pause;
+    use crate::plan::{BaseSearch, BreakFlags, Pause, StretchStart};
     use crate::shaper::Shaper;
     use std::vec::Vec;
 
@@ -156,6 +157,33 @@ mod tests {
             3
         );
         assert_eq!((masks.rtlm, masks.vert), (0, 0));
+    }
+
+    /// A caller's choices are the plan's, and the shaper keeps those that it has.
+    #[test]
+    fn choices_are_the_callers() {
+        let choices = ShapeChoices {
+            stretch_start: StretchStart::Centred,
+            break_flags: BreakFlags::Sound,
+            base_search: BaseSearch::AllConsonants,
+        };
+        let plan_for = |script, choices| {
+            let font = FeaturesOnly(|_| false);
+            let (script, direction) = (Some(Script(script)), Direction::LeftToRight);
+            ShapePlan::with_choices(Global, script, direction, &font, &Khmer, &[], choices).unwrap()
+        };
+        for wanted in [ShapeChoices::default(), choices] {
+            let arabic = plan_for(*b"Arab", wanted);
+            let kept = arabic.plan().plan_data.arabic().unwrap();
+            let seen = (kept.stretch_start, kept.break_flags);
+            assert_eq!(seen, (wanted.stretch_start, wanted.break_flags));
+            assert_eq!(arabic.plan().base_search, wanted.base_search);
+            let indic = plan_for(*b"Deva", wanted);
+            let kept = indic.plan().plan_data.indic().unwrap();
+            assert_eq!(kept.base_search, wanted.base_search);
+        }
+        let default = plan_for(*b"Khmr", ShapeChoices::default());
+        assert_eq!(default, plan_of(&[]));
     }
 
     #[test]

@@ -1,8 +1,9 @@
 //! What is done to glyphs around a font's positioning lookups and behind them, in the order of
 //! HarfBuzz's steps:
 //!
-//! 1. [`set_advances`] gives each glyph a position, with its advance in the font, and
-//!    [`set_space_widths`] spaces that the font lacks the width that they stand for;
+//! 1. [`set_advances`] gives each glyph a position, with its advance in the font (and in vertical
+//!    text its origin), and [`set_space_widths`] spaces that the font lacks the width that they stand
+//!    for, both by a [`MetricsFont`];
 //! 2. [`zero_mark_widths`] takes marks their advance, before the lookups or behind them, as the
 //!    shaper wants it ([`Shaper::zero_width_marks`](crate::Shaper::zero_width_marks));
 //! 3. [`zero_width_default_ignorables`] does so for glyphs of characters that need not be drawn;
@@ -31,6 +32,6 @@
 //! ```
 
 pub use crate::generated::shapers_position::ot_shape_position::{
-    DefaultIgnorables, GlyphClasses, SpaceFont, hide_default_ignorables, propagate_flags,
+    DefaultIgnorables, GlyphClasses, MetricsFont, hide_default_ignorables, propagate_flags,
     set_advances, set_space_widths, zero_mark_widths, zero_width_default_ignorables,
 };

@@ -10,7 +10,7 @@ use sengadlit::buffer::{
 };
 use sengadlit::font::{Font, GlyphId, NominalOnly};
 use sengadlit::ot_shape_position::{
-    DefaultIgnorables, GlyphClasses, SpaceFont, hide_default_ignorables, propagate_flags,
+    DefaultIgnorables, GlyphClasses, MetricsFont, hide_default_ignorables, propagate_flags,
     set_advances, set_space_widths, zero_mark_widths, zero_width_default_ignorables,
 };
 use std::panic;
@@ -220,9 +220,38 @@ fn widths() {
     assert_eq!(buffer.position(1), at(0, 0, 1, 0));
 }
 
-impl SpaceFont for Wide {
+impl MetricsFont for Wide {
     fn units_per_em(&self) -> u16 {
         1000
+    }
+
+    fn glyph_v_advance(&self, glyph: GlyphId) -> i32 {
+        -i32::from(glyph.0) - 1
+    }
+
+    fn glyph_v_origin(&self, glyph: GlyphId) -> (i32, i32) {
+        (i32::from(glyph.0) / 2, 880)
+    }
+}
+
+#[test]
+fn vertical_text() {
+    let mut buffer = text(&[(0, 0, 0), (1, 1, 0)]);
+    buffer.with_glyphs_mut(|glyphs| {
+        glyphs[1].general_category = GeneralCategory::Zs;
+        glyphs[1].modified_combining_class = 3;
+    });
+    for direction in [Direction::TopToBottom, Direction::BottomToTop] {
+        buffer.set_direction(direction);
+        set_advances(&Wide, &mut buffer).unwrap();
+        set_space_widths(&Wide, &mut buffer);
+        let at = |y_advance| GlyphPosition {
+            x_advance: 0,
+            y_advance,
+            x_offset: -20,
+            y_offset: -880,
+        };
+        assert_eq!(buffer.positions(), [at(-41), at(-333)]);
     }
 }
 
@@ -272,8 +301,16 @@ impl Font for Panicking {
     }
 }
 
-impl SpaceFont for Panicking {
+impl MetricsFont for Panicking {
     fn units_per_em(&self) -> u16 {
+        panic::resume_unwind(Box::new("the caller's code"))
+    }
+
+    fn glyph_v_advance(&self, _: GlyphId) -> i32 {
+        panic::resume_unwind(Box::new("the caller's code"))
+    }
+
+    fn glyph_v_origin(&self, _: GlyphId) -> (i32, i32) {
         panic::resume_unwind(Box::new("the caller's code"))
     }
 }

@@ -6,7 +6,7 @@ ghost use Rattle.shapers_buffer.specs.declared.buffer.refusal.ShaperError.TheVar
 ghost use Rattle.shapers_plan.specs.Planning.{driver_masks, hooks_plan, range_of_user, suits, takes_gpos};
 
 use super::collecting::is_for_all;
-use super::{DriverMasks, UserFeature, UserRange};
+use super::{DriverMasks, ShapeChoices, UserFeature, UserRange};
 use crate::ot_map::{FontFeatures, MappedFeature};
 use rustybuzz_shapers::shaper::hb_ot_shaper_t;
 use shapers_base::buffer::{Script, ShaperError, hb_tag_t};
@@ -31,13 +31,17 @@ pub(super) fn driver_masks(map: &hb_ot_map_t) -> DriverMasks
 pub(super) fn hooks_plan(
     shaper: Option<hb_ot_shaper_t>,
     script: Option<Script>,
+    choices: ShapeChoices,
     map: hb_ot_map_t,
 ) -> hb_ot_shape_plan_t
-    ensures { result ≡ hooks_plan shaper script map }
+    ensures { result ≡ hooks_plan shaper script choices map }
 {
     let has_mark = map.get_1_mask(hb_tag_t(*b"mark")) != 0;
     let mut plan = hb_ot_shape_plan_t::new(script, map);
     plan.has_gpos_mark = has_mark;
+    plan.stretch_start = choices.stretch_start;
+    plan.break_flags = choices.break_flags;
+    plan.base_search = choices.base_search;
     match shaper {
         Some(shaper) => shaper.with_data(plan),
         None => plan,

@@ -1,12 +1,12 @@
 //! Glyphs that don't move the pen.
 ghost use Rattle.std.specs.Prelude.{◌≡◌, Bool};
-ghost use Rattle.shapers_choice.specs.Choice.{is_horizontal};
 ghost use Rattle.shapers_position.specs.Ignorables.{ignorables_zeroed, without_extent};
 ghost use Rattle.shapers_position.specs.Widths.{hung_back, mark_zeroed, marks_zeroed, without_advance};
 
 use super::ignorables::{DefaultIgnorables, is_default_ignorable};
+use super::metrics::is_horizontal;
 use super::positions::{PositionChange, change_positions};
-use shapers_base::buffer::{Direction, GlyphPosition, hb_buffer_t, hb_glyph_info_t};
+use shapers_base::buffer::{GlyphPosition, hb_buffer_t, hb_glyph_info_t};
 use std::mem;
 
 /// The classes of glyphs by a font's GDEF, as far as positions read them.
@@ -101,13 +101,6 @@ pub fn zero_width_default_ignorables(ignorables: DefaultIgnorables, buffer: &mut
         }
         DefaultIgnorables::Preserve | DefaultIgnorables::Remove => {}
     }
-}
-
-#[inline]
-fn is_horizontal(direction: Direction) -> bool
-    ensures { result ≡ is_horizontal direction }
-{
-    matches!(direction, Direction::LeftToRight | Direction::RightToLeft)
 }
 
 // Takes an ignorable glyph its extent.

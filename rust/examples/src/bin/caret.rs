@@ -7,6 +7,7 @@
 //!     --script CODE, --direction ltr|rtl   as for `shape`
 
 use sengadlit::Direction;
+use sengadlit::ot_shape_plan::ShapeChoices;
 use sengadlit_examples::OpenType;
 use sengadlit_examples::arguments::Arguments;
 use sengadlit_examples::run::{Cluster, Shaping, graphemes};
@@ -20,7 +21,7 @@ fn main() -> Result<(), Box<dyn Error>> {
     let (script, direction) = arguments.script(text)?;
     let data = fs::read(path)?;
     let font = OpenType::new(&data, script)?;
-    let shaping = Shaping::new(&font, script, direction)?;
+    let shaping = Shaping::new(&font, script, direction, ShapeChoices::default())?;
     let clusters = join_narrow(shaping.clusters(text, 0..text.len())?, direction);
     let places = places(&shaping, text, &clusters)?;
     for (byte, x) in &places {

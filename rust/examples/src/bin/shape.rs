@@ -1,11 +1,11 @@
 //! `shape FONT TEXT`: the glyphs of a text, one per line, from left to right, as hb-shape writes
 //! them: NUMBER=CLUSTER@X,Y+ADVANCE#FLAGS, of which `@` and `#` are left out where they are
-//! nothing. A cluster is the place of a byte of the text.
+//! nothing; in vertical text the advance is +0,ADVANCE. A cluster is the place of a byte of the text.
 //!
 //!     --svg FILE        also draws them
 //!     --lines FILE      shapes each line of the file instead, and prints each on a line
 //!     --script CODE     the script by ISO 15924, instead of that of the first letter
-//!     --direction ltr   or rtl
+//!     --direction ltr   or rtl, ttb, btt
 
 use sengadlit::alloc::Global;
 use sengadlit::buffer::glyph_flag;
@@ -77,6 +77,9 @@ fn item(glyph: &GlyphInfo, position: &GlyphPosition) -> String {
         let _ = write!(item, "@{},{}", position.x_offset, position.y_offset);
     }
     let _ = write!(item, "+{}", position.x_advance);
+    if position.y_advance != 0 {
+        let _ = write!(item, ",{}", position.y_advance);
+    }
     if glyph.mask & glyph_flag::UNSAFE_TO_BREAK != 0 {
         item += "#1";
     }

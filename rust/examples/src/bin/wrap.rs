@@ -3,9 +3,13 @@
 //! how many of a line's clusters were, and whether the line is as if it had been shaped alone.
 //!
 //!     --anywhere        breaks between any two clusters, not only behind spaces
+//!     --sound           by flags that are sound where letters join, too (`BreakFlags::Sound`)
 //!     --svg FILE        draws the lines
 //!     --script CODE, --direction ltr|rtl   as for `shape`
 
+use sengadlit::ot_shape_plan::ShapeChoices;
+use sengadlit::ot_shape_position::MetricsFont;
+use sengadlit::plan::BreakFlags;
 use sengadlit::{Direction, GlyphInfo, GlyphPosition};
 use sengadlit_examples::OpenType;
 use sengadlit_examples::arguments::Arguments;
@@ -21,7 +25,11 @@ fn main() -> Result<(), Box<dyn Error>> {
     let (script, direction) = arguments.script(text)?;
     let data = fs::read(path)?;
     let font = OpenType::new(&data, script)?;
-    let shaping = Shaping::new(&font, script, direction)?;
+    let mut choices = ShapeChoices::default();
+    if arguments.has("--sound") {
+        choices.break_flags = BreakFlags::Sound;
+    }
+    let shaping = Shaping::new(&font, script, direction, choices)?;
     let width = (ems.parse::<f32>()? * f32::from(font.units_per_em())) as i32;
     let breaks = if arguments.has("--anywhere") { Breaks::Anywhere } else { Breaks::Words };
     let lines = wrap(&shaping, text, width, breaks)?;

@@ -46,13 +46,18 @@ impl<'a> Pass<'_, 'a> {
     fn add(&mut self, at: usize, value: &ValueRecord) -> bool {
         let number = |value: Option<i16>| i32::from(value.unwrap_or(0));
         let (x, y) = (number(value.x_placement()), number(value.y_placement()));
-        let advance = number(value.x_advance());
+        // (downwards advances are below 0)
+        let advance = match self.buffer.direction() {
+            Direction::TopToBottom | Direction::BottomToTop => (0, -number(value.y_advance())),
+            _ => (number(value.x_advance()), 0),
+        };
         self.move_by(at, |position| {
             position.x_offset += x;
             position.y_offset += y;
-            position.x_advance += advance;
+            position.x_advance += advance.0;
+            position.y_advance += advance.1;
         });
-        (x, y, advance) != (0, 0, 0)
+        (x, y, advance) != (0, 0, (0, 0))
     }
 
     // A second glyph that has values of its own begins no pair.
@@ -296,14 +301,19 @@ fn follow(buffer: &mut Buffer, at: usize, left: u8) {
     position.y_offset += moved.y_offset;
     if notes.is_attached_mark {
         // the pen has moved on between the two
-        let advance = |between: &[GlyphPosition]| -> i32 {
-            between.iter().map(|position| position.x_advance).sum()
+        let moves = |between: &[GlyphPosition]| {
+            let step = |(x, y), to: &GlyphPosition| (x + to.x_advance, y + to.y_advance);
+            between.iter().fold((0, 0), step)
         };
-        position.x_offset += moved.x_offset;
-        position.x_offset += match buffer.direction() {
-            Direction::RightToLeft => advance(&buffer.positions()[to + 1..at + 1]),
-            _ => -advance(&buffer.positions()[to..at]),
+        let (x, y) = match buffer.direction() {
+            Direction::RightToLeft => moves(&buffer.positions()[to + 1..at + 1]),
+            _ => {
+                let (x, y) = moves(&buffer.positions()[to..at]);
+                (-x, -y)
+            }
         };
+        position.x_offset += moved.x_offset + x;
+        position.y_offset += y;
     }
     buffer.set_position(at, position);
 }

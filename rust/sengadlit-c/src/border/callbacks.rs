@@ -78,7 +78,7 @@ pub struct Asked<'a, F> {
     user_data: UserData,
 }
 
-fn bit(is_there: bool, bit: u8) -> u8 {
+pub(super) fn bit(is_there: bool, bit: u8) -> u8 {
     if is_there { bit } else { 0 }
 }
 

@@ -5,7 +5,9 @@ use crate::layout::Glyph;
 use crate::status::{Argument, Error};
 use core::slice;
 use sengadlit::alloc::Global;
-use sengadlit::buffer::{Buffer as Inner, BufferSettings, GeneralCategory, GlyphInfo, ShaperError};
+use sengadlit::buffer::{
+    Buffer as Inner, BufferSettings, Direction, GeneralCategory, GlyphInfo, ShaperError,
+};
 use std::vec::Vec;
 
 /// The number of general categories.
@@ -185,6 +187,12 @@ impl Text {
     /// Sets those after it.
     pub fn set_post_context(&mut self, after: &[char]) {
         self.inner.set_post_context(after);
+    }
+
+    /// Whether it runs up or down.
+    pub fn is_vertical(&self) -> bool {
+        let direction = self.inner.direction();
+        matches!(direction, Direction::TopToBottom | Direction::BottomToTop)
     }
 
     /// What one hook leaves for a later one: that a syllable is broken, and that a mark stretches.

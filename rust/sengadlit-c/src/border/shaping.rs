@@ -1,6 +1,6 @@
 //! Plans for whole texts, and the calls that take a text up to the last of a font's lookups.
 use super::call_back;
-use super::callbacks::Font;
+use super::callbacks::{Font, bit};
 use super::handle::{Lent, Pointer};
 use super::plans::UserData;
 use super::{Out, array, boxed, guarded, put};
@@ -52,6 +52,10 @@ pub struct ShapePlanInput {
     pub gpos: LayoutTableInput,
     pub user_features: *const UserFeature,
     pub user_features_length: c_uint,
+    pub units_per_em: c_uint,
+    pub centres_stretch: Bool,
+    pub sound_breaks: Bool,
+    pub searches_medials: Bool,
 }
 
 /// A feature of a table, and its lookups.
@@ -108,7 +112,7 @@ fn make(input: &ShapePlanInput) -> Result<Box<ShapePlan>, Error> {
     // SAFETY: an array of C's with its length.
     let users = unsafe { array(input.user_features, input.user_features_length) };
     let users = users.ok_or_else(|| Error::argument(Argument::Features))?;
-    let plan = shaping::make(input.script, input.direction, &gsub, &gpos, users)?;
+    let plan = shaping::make(input, &gsub, &gpos, users)?;
     boxed(plan).ok_or(Error::MEMORY)
 }
 
@@ -146,6 +150,7 @@ pub unsafe extern "C" fn sengadlit_shape_plan_destroy(plan: *mut ShapePlan) {
 type Note = unsafe extern "C-unwind" fn(UserData, *const Glyph) -> u32;
 type IsMark = unsafe extern "C-unwind" fn(UserData, *const Glyph) -> Bool;
 type Apply = unsafe extern "C-unwind" fn(UserData, *const Lookup, Pointer) -> Bool;
+type Origin = unsafe extern "C-unwind" fn(UserData, u32, *mut i32, *mut i32);
 
 /// `sengadlit_lookups_funcs_t`.
 #[repr(C)]
@@ -156,6 +161,22 @@ pub struct LookupsFuncs {
     pub is_mark: Option<IsMark>,
     pub position: Option<Apply>,
     pub finish_positions: Option<unsafe extern "C-unwind" fn(UserData, Pointer)>,
+    pub glyph_v_advance: Option<unsafe extern "C-unwind" fn(UserData, u32) -> i32>,
+    pub glyph_v_origin: Option<Origin>,
+}
+
+// Which callbacks a call uses, as bits.
+pub const LOOKUPS_SUBSTITUTE: u8 = 1;
+pub const LOOKUPS_POSITION: u8 = 2;
+pub const LOOKUPS_VERTICAL: u8 = 4;
+
+impl LookupsFuncs {
+    fn answered(&self) -> u8 {
+        let is_vertical = self.glyph_v_advance.is_some() && self.glyph_v_origin.is_some();
+        bit(self.substitute.is_some(), LOOKUPS_SUBSTITUTE)
+            | bit(self.position.is_some(), LOOKUPS_POSITION)
+            | bit(is_vertical, LOOKUPS_VERTICAL)
+    }
 }
 
 /// `sengadlit_lookups_t`.
@@ -173,17 +194,12 @@ pub struct AskedLookups<'a> {
 }
 
 impl<'a> AskedLookups<'a> {
-    /// The lookups, which must have what applies those of GSUB, and those of GPOS, if the call applies some.
-    pub fn of(
-        lookups: Option<&Lookups<'a>>,
-        substitutes: bool,
-        positions: bool,
-    ) -> Result<Self, Error> {
+    /// The lookups, which must have what the call uses: bits of `LOOKUPS_..`.
+    pub fn of(lookups: Option<&Lookups<'a>>, asks: u8) -> Result<Self, Error> {
         let missing = || Error::argument(Argument::Lookups);
         let lookups = lookups.ok_or_else(missing)?;
         let funcs = lookups.funcs.ok_or_else(missing)?;
-        let is_there = |wanted: bool, function: &Option<Apply>| !wanted || function.is_some();
-        if !is_there(substitutes, &funcs.substitute) || !is_there(positions, &funcs.position) {
+        if asks & !funcs.answered() != 0 {
             return Err(missing());
         }
         Ok(AskedLookups {
@@ -202,6 +218,25 @@ impl<'a> AskedLookups<'a> {
         let has = call_back(|| unsafe { variation(user_data, character, selector, &mut glyph) });
         let glyph = u16::try_from(glyph).ok()?;
         (has != 0).then_some(GlyphId(glyph))
+    }
+
+    /// The vertical advance of a glyph.
+    pub fn glyph_v_advance(&self, glyph: GlyphId) -> i32 {
+        let Some(advance) = self.funcs.glyph_v_advance else {
+            return 0;
+        };
+        // SAFETY: a callback of C, with what it is given.
+        call_back(|| unsafe { advance(self.user_data, u32::from(glyph.0)) })
+    }
+
+    /// The origin of a glyph for vertical text.
+    pub fn glyph_v_origin(&self, glyph: GlyphId) -> (i32, i32) {
+        let (mut x, mut y) = (0, 0);
+        if let Some(origin) = self.funcs.glyph_v_origin {
+            // SAFETY: a callback of C, with what it is given and room for two numbers.
+            call_back(|| unsafe { origin(self.user_data, u32::from(glyph.0), &mut x, &mut y) });
+        }
+        (x, y)
     }
 
     // Lends a text to a callback, in a buffer that the callback may use as any other. Its glyphs, and positions where there are

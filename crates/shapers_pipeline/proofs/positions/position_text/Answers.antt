@@ -1,16 +1,13 @@
 -- There is a position for each glyph.
 use Rattle.std.proofs.Common.{subst, sym}
-use Rattle.std.proofs.lemmas.List.{length-map}
-use Rattle.shapers_position.specs.Widths.{advanced}
 use Rattle.shapers_pipeline.proofs.Placing.{Paired, ignorables_pairs, zeroed_pairs}
 use Rattle.shapers_pipeline.proofs.positions.position_text.Goals as goal
 
 pub apply_positioning_if-requires : goal.apply_positioning_if-requires
 apply_positioning_if-requires g c =
-    let start : Paired c.set_advances.new.buffer =
-    subst Paired (sym c.in_ok-set_advances.ensures.ok) (length-map c.args.buffer.now.glyphs (advanced (g.F.hb_font_t.font c.args.font.now))) in
     subst Paired (sym c.zero_marks_if.ensures)
-    (zeroed_pairs c.is_early.result (g.L.GlyphClasses.marks c.args.lookups.now) c.applies_gpos-applies_gpos.result c.set_advances.new.buffer start)
+    (zeroed_pairs c.is_early.result (g.L.GlyphClasses.marks c.args.lookups.now) c.applies_gpos-applies_gpos.result
+    c.place_glyphs.new.buffer c.in_ok-place_glyphs.ensures.paired)
 
 pub finish_positions-requires : goal.finish_positions-requires
 finish_positions-requires g c =

@@ -8,7 +8,8 @@ use Rattle.shapers_pipeline.proofs.shaping.shape.Goals as goal
 
 pub returns-clause-ok : goal.returns-clause-ok
 returns-clause-ok g c =
-    let q = positioning_by c.args.plan.now c.args.settings.now (g.F.hb_font_t.font c.args.font.now) (g.L.GlyphClasses.marks c.args.lookups.now)
+    let q = positioning_by c.args.plan.now c.args.settings.now (g.F.hb_font_t.font c.args.font.now)
+    (g.F.MetricsFont.metrics c.args.font.now) (g.L.GlyphClasses.marks c.args.lookups.now)
     (g.L.Lookups.positioned c.args.lookups.now) (g.L.Lookups.finished c.args.lookups.now) in
     let mid = c.substitute_text.new.buffer in
     let d = c.direction-direction.result in (

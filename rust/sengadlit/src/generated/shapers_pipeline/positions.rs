@@ -4,7 +4,6 @@
 
 use crate::generated::rustybuzz_shapers::shaper::Shaper;
 use crate::generated::shapers_base::buffer::{Buffer, Direction, ShaperError};
-use crate::generated::shapers_base::font::Font;
 use crate::generated::shapers_base::plan::ZeroWidthMarks;
 use crate::generated::shapers_pipeline::fractions::runs_forward;
 use crate::generated::shapers_pipeline::lookups::Lookups;
@@ -12,12 +11,13 @@ use crate::generated::shapers_pipeline::settings::ShapeSettings;
 use crate::generated::shapers_plan::ot_map::StageLookup;
 use crate::generated::shapers_plan::ot_shape_plan::ShapePlan;
 use crate::generated::shapers_position::ot_shape_position::{
-    hide_default_ignorables, set_advances, zero_mark_widths, zero_width_default_ignorables,
+    MetricsFont, hide_default_ignorables, set_advances, set_space_widths, zero_mark_widths,
+    zero_width_default_ignorables,
 };
 
 // Gives the glyphs of a text positions, in the order that it is drawn in, and hides those that need
 // not be drawn.
-pub(crate) fn position_text<F: Font, L: Lookups>(
+pub(crate) fn position_text<F: MetricsFont, L: Lookups>(
     plan: &ShapePlan,
     settings: &ShapeSettings,
     font: &F,
@@ -26,7 +26,7 @@ pub(crate) fn position_text<F: Font, L: Lookups>(
 ) -> Result<(), ShaperError> {
     let applies_gpos = plan.applies_gpos();
     let zeroing = zeroing_of(plan.shaper());
-    set_advances(font, buffer)?;
+    place_glyphs(font, buffer)?;
     zero_marks_if(is_early(zeroing), applies_gpos, lookups, buffer);
     apply_positioning_if(applies_gpos, lookups, plan.positioning(), buffer)?;
     zero_marks_if(is_late(zeroing), applies_gpos, lookups, buffer);
@@ -35,6 +35,13 @@ pub(crate) fn position_text<F: Font, L: Lookups>(
     reverse_if_backward(buffer);
     let invisible_glyph = settings.normalize.invisible_glyph;
     hide_default_ignorables(settings.ignorables, invisible_glyph, font, buffer);
+    Ok(())
+}
+
+// Gives each glyph its advance, and a space that the font lacks its width.
+fn place_glyphs<F: MetricsFont>(font: &F, buffer: &mut Buffer) -> Result<(), ShaperError> {
+    set_advances(font, buffer)?;
+    set_space_widths(font, buffer);
     Ok(())
 }
 

@@ -14,10 +14,12 @@ use crate::support::alloc::Global;
 use collecting::{collect, text_shaper};
 use making::{driver_masks, hooks_plan, takes_gpos, user_ranges};
 
+mod choices;
 mod collecting;
 mod making;
 mod user;
 
+pub use choices::ShapeChoices;
 pub use user::{UserFeature, UserRange};
 
 /// The masks of features that the driver itself turns on; 0 where the font lacks one.
@@ -63,13 +65,14 @@ impl ShapePlan {
     ///
     /// ```text
     /// ensures ok { let has_rclt = (F.font face.now).offers rclt in
-    ///     let plan = text_plan (L.tables features.now) has_rclt script direction users.now in
+    ///     let tables = L.tables features.now in
+    ///     let plan = text_plan tables has_rclt script direction users.now default_choices in
     ///     IfOk result (λ it. it ≡ plan) }
     /// ensures refusal { IsOkUnless result Memory }
     /// ```
     ///
     /// - `rclt`: `crates/shapers_arabic/specs/Requests.antt`
-    /// - `text_plan`: `crates/shapers_plan/specs/Planning.antt`
+    /// - `default_choices`, `text_plan`: `crates/shapers_plan/specs/Planning.antt`
     ///
     /// </details>
     ///
@@ -82,6 +85,43 @@ impl ShapePlan {
         features: &L,
         users: &[UserFeature],
     ) -> Result<Self, ShaperError> {
+        let choices = ShapeChoices::default();
+        Self::with_choices(alloc, script, direction, face, features, users, choices)
+    }
+
+    /// The same, with the caller's choices in place of the default ones.
+    ///
+    /// # Errors
+    ///
+    /// [`Memory`].
+    ///
+    /// <details><summary>Contract</summary>
+    ///
+    /// # Contract
+    ///
+    /// ```text
+    /// ensures ok { let has_rclt = (F.font face.now).offers rclt in
+    ///     let tables = L.tables features.now in
+    ///     let plan = text_plan tables has_rclt script direction users.now choices in
+    ///     IfOk result (λ it. it ≡ plan) }
+    /// ensures refusal { IsOkUnless result Memory }
+    /// ```
+    ///
+    /// - `rclt`: `crates/shapers_arabic/specs/Requests.antt`
+    /// - `text_plan`: `crates/shapers_plan/specs/Planning.antt`
+    ///
+    /// </details>
+    ///
+    /// [`Memory`]: crate::ShaperError::Memory
+    pub fn with_choices<F: Font, L: FontFeatures>(
+        alloc: Global,
+        script: Option<Script>,
+        direction: Direction,
+        face: &F,
+        features: &L,
+        users: &[UserFeature],
+        choices: ShapeChoices,
+    ) -> Result<Self, ShaperError> {
         let shaper = text_shaper(script, direction, features.chosen_script(TableIndex::GSUB));
         let planner = collect(alloc, shaper, script, direction, face, users)?;
         let compiled = CompiledMap::new(alloc, features, planner.requests())?;
@@ -89,7 +129,7 @@ impl ShapePlan {
         let masks = driver_masks(&compiled.map);
         Ok(ShapePlan {
             shaper,
-            plan: hooks_plan(shaper, script, compiled.map),
+            plan: hooks_plan(shaper, script, choices, compiled.map),
             direction,
             substitutions: compiled.stages,
             lookups: compiled.lookups,

@@ -4,4 +4,6 @@ use Rattle.shapers_position.specs.Widths.{advanced}
 use Rattle.shapers_position.proofs.ot_shape_position.advances.advances.Given as goal
 
 abbrev pub invariant-loop-glyph : goal.invariant-loop-glyph
-invariant-loop-glyph g l = l.positions.items ≡ map (advanced (g.F.hb_font_t.font l.font)) (take l.glyph-index l.glyphs)
+invariant-loop-glyph g l =
+    let f = advanced (g.F.hb_font_t.font l.font) (g.F.MetricsFont.metrics l.font) l.is_horizontal in
+    l.positions.items ≡ map f (take l.glyph-index l.glyphs)

@@ -5,5 +5,5 @@ use Rattle.shapers_position.proofs.ot_shape_position.spaces.first_advance.Given 
 
 abbrev pub invariant-loop-c : goal.invariant-loop-c
 invariant-loop-c g l =
-    let font = g.F.hb_font_t.font l.font in
-    first_advance font (drop l.c-index l.characters) l.else_advance ≡ first_advance font l.characters l.else_advance
+    let first = first_advance (g.F.hb_font_t.font l.font) (g.F.MetricsFont.metrics l.font) l.is_horizontal in
+    first (drop l.c-index l.characters) l.else_advance ≡ first l.characters l.else_advance

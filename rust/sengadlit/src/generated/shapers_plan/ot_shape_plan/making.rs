@@ -5,7 +5,7 @@
 use crate::support::prelude::*;
 
 use super::collecting::is_for_all;
-use super::{DriverMasks, UserFeature, UserRange};
+use super::{DriverMasks, ShapeChoices, UserFeature, UserRange};
 use crate::generated::rustybuzz_shapers::shaper::Shaper;
 use crate::generated::shapers_base::buffer::{Script, ShaperError, Tag};
 use crate::generated::shapers_base::map::{Map, TableIndex};
@@ -25,10 +25,18 @@ pub(super) fn driver_masks(map: &Map) -> DriverMasks {
 }
 
 /// The plan that the shaper's hooks read, with the data that it keeps.
-pub(super) fn hooks_plan(shaper: Option<Shaper>, script: Option<Script>, map: Map) -> Plan {
+pub(super) fn hooks_plan(
+    shaper: Option<Shaper>,
+    script: Option<Script>,
+    choices: ShapeChoices,
+    map: Map,
+) -> Plan {
     let has_mark = map.one_mask(Tag(*b"mark")) != 0;
     let mut plan = Plan::new(script, map);
     plan.has_gpos_mark = has_mark;
+    plan.stretch_start = choices.stretch_start;
+    plan.break_flags = choices.break_flags;
+    plan.base_search = choices.base_search;
     match shaper {
         Some(shaper) => shaper.with_data(plan),
         None => plan,

@@ -4,16 +4,15 @@
 
 use crate::support::prelude::*;
 
+use super::metrics::{MetricsFont, is_horizontal};
 use crate::generated::shapers_base::buffer::{Buffer, GlyphInfo, GlyphPosition, ShaperError};
-use crate::generated::shapers_base::font::{Font, GlyphId};
+use crate::generated::shapers_base::font::GlyphId;
 use crate::support::alloc::Global;
 
-/// Gives each glyph a position of its own: its horizontal advance in the font, and no offset. What
-/// positions there were are gone. A font has no glyph of a number above 65535, nor of that one:
-/// every greater number is queried as that one.
-///
-/// Advances are horizontal in every direction of text, as `Font` knows no others; for a
-/// vertical text the caller sets them. (HarfBuzz's `hb_ot_position_default`.)
+/// Gives each glyph a position of its own: its advance in the font, and no offset; in vertical text
+/// it is drawn by its origin for that. What positions there were are gone. A font has no glyph of a
+/// number above 65535, nor of that one: every greater number is queried as that one. (HarfBuzz's
+/// `hb_ot_position_default`.)
 ///
 /// # Errors
 ///
@@ -24,34 +23,37 @@ use crate::support::alloc::Global;
 /// # Contract
 ///
 /// ```text
-/// ensures ok { OnOk result (buffer.new ≡ record buffer.old {
-///   positions = map (advanced (F.font font.now)) buffer.old.glyphs;
-/// }) }
+/// ensures ok { let horizontal = is_horizontal buffer.old.direction in
+///     let f = advanced (F.font font.now) (F.metrics font.now) horizontal in
+///     OnOk result (buffer.new ≡ record buffer.old { positions = map f buffer.old.glyphs }) }
 /// ensures refusal { IsOkUnless result Memory }
 /// ensures err { OnErr result (buffer.new ≡ buffer.old) }
 /// ```
 ///
+/// - `is_horizontal`: `crates/shapers_choice/specs/Choice.antt`
 /// - `advanced`: `crates/shapers_position/specs/Widths.antt`
 ///
 /// </details>
 ///
 /// [`Memory`]: crate::ShaperError::Memory
-pub fn set_advances<F: Font>(font: &F, buffer: &mut Buffer) -> Result<(), ShaperError> {
-    let positions = advances(font, buffer.glyphs(), buffer.alloc())?;
+pub fn set_advances<F: MetricsFont>(font: &F, buffer: &mut Buffer) -> Result<(), ShaperError> {
+    let is_horizontal = is_horizontal(buffer.direction());
+    let positions = advances(font, is_horizontal, buffer.glyphs(), buffer.alloc())?;
     buffer.set_positions(positions);
     Ok(())
 }
 
 // A position for each of these glyphs.
-fn advances<F: Font>(
+fn advances<F: MetricsFont>(
     font: &F,
+    is_horizontal: bool,
     glyphs: &[GlyphInfo],
     alloc: Global,
 ) -> Result<Vec<GlyphPosition>, ShaperError> {
     let mut positions = Vec::with_capacity(alloc, glyphs.len())?;
     for glyph in glyphs {
         positions
-            .push(advanced(font, glyph))
+            .push(advanced(font, is_horizontal, glyph))
             .map_err(|_| ShaperError::Memory)?;
     }
     Ok(positions)
@@ -59,10 +61,30 @@ fn advances<F: Font>(
 
 // The position of a glyph that no lookup has moved.
 #[inline]
-fn advanced<F: Font>(font: &F, glyph: &GlyphInfo) -> GlyphPosition {
+fn advanced<F: MetricsFont>(font: &F, is_horizontal: bool, glyph: &GlyphInfo) -> GlyphPosition {
     let number = GlyphId(glyph.glyph_id.min(u32::from(u16::MAX)) as u16);
+    if is_horizontal {
+        level_position(font, number)
+    } else {
+        upright_position(font, number)
+    }
+}
+
+#[inline]
+fn level_position<F: MetricsFont>(font: &F, glyph: GlyphId) -> GlyphPosition {
     GlyphPosition {
-        x_advance: font.glyph_h_advance(number),
+        x_advance: font.glyph_h_advance(glyph),
+        ..GlyphPosition::ZERO
+    }
+}
+
+#[inline]
+fn upright_position<F: MetricsFont>(font: &F, glyph: GlyphId) -> GlyphPosition {
+    let (x, y) = font.glyph_v_origin(glyph);
+    GlyphPosition {
+        y_advance: font.glyph_v_advance(glyph),
+        x_offset: 0_i32.saturating_sub(x),
+        y_offset: 0_i32.saturating_sub(y),
         ..GlyphPosition::ZERO
     }
 }

@@ -3,8 +3,9 @@
 //! Glyphs that don't move the pen.
 
 use super::ignorables::{DefaultIgnorables, is_default_ignorable};
+use super::metrics::is_horizontal;
 use super::positions::{PositionChange, change_positions};
-use crate::generated::shapers_base::buffer::{Buffer, Direction, GlyphInfo, GlyphPosition};
+use crate::generated::shapers_base::buffer::{Buffer, GlyphInfo, GlyphPosition};
 use core::mem;
 
 /// The classes of glyphs by a font's GDEF, as far as positions read them.
@@ -109,11 +110,6 @@ pub fn zero_width_default_ignorables(ignorables: DefaultIgnorables, buffer: &mut
         }
         DefaultIgnorables::Preserve | DefaultIgnorables::Remove => {}
     }
-}
-
-#[inline]
-fn is_horizontal(direction: Direction) -> bool {
-    matches!(direction, Direction::LeftToRight | Direction::RightToLeft)
 }
 
 // Takes an ignorable glyph its extent.

@@ -1,0 +1,47 @@
+-- The caller's choices, as the plan has them and what shapers keep in it.
+use Rattle.std.specs.Prelude.{◌≡◌, None, Some, option_map, refl}
+use Rattle.shapers_base.specs.Map.{Map}
+use Rattle.shapers_base.specs.Plan.{as_arabic, as_indic, new_plan}
+use Rattle.shapers_base.specs.declared.plan.arabic.StretchStart.TheVariants as starts
+use Rattle.shapers_base.specs.declared.plan.breaks.BreakFlags.TheVariants as breaks
+use Rattle.shapers_base.specs.declared.plan.hb_ot_shape_plan_t.{hb_ot_shape_plan_t}
+use Rattle.shapers_base.specs.declared.plan.indic.BaseSearch.TheVariants.{AllConsonants, WithoutMedials}
+use Rattle.rustybuzz_shapers.specs.declared.shaper.hb_ot_shaper_t.TheVariants.{Arabic, Indic}
+use Rattle.shapers_plan.specs.Planning.{default_choices, hooks_plan}
+use Rattle.shapers_plan.specs.declared.ot_shape_plan.choices.ShapeChoices.{ShapeChoices}
+
+abbrev choices_of : hb_ot_shape_plan_t → ShapeChoices
+choices_of p = record { stretch_start = p.stretch_start; break_flags = p.break_flags; base_search = p.base_search }
+
+abbrev centred : ShapeChoices
+centred = record default_choices { stretch_start = starts.Centred }
+
+abbrev sound : ShapeChoices
+sound = record default_choices { break_flags = breaks.Sound }
+
+abbrev all_consonants : ShapeChoices
+all_consonants = record default_choices { base_search = AllConsonants }
+
+-- each by its name
+each : default_choices ≡ record { stretch_start = starts.AsCode; break_flags = breaks.AsCode; base_search = WithoutMedials }
+each = refl
+
+-- a plan has its caller's, and by default those of a new one
+of_plan : (map : Map) (choices : ShapeChoices) → choices_of (hooks_plan None None choices map) ≡ choices
+of_plan map choices = refl
+
+of_new : (map : Map) → choices_of (new_plan None map) ≡ default_choices
+of_new map = refl
+
+-- what shapers keep of them
+stretched : (map : Map) → option_map (λ p. p.stretch_start) (as_arabic (hooks_plan (Some Arabic) None centred map).plan_data)
+    ≡ Some starts.Centred
+stretched map = refl
+
+flagged : (map : Map) → option_map (λ p. p.break_flags) (as_arabic (hooks_plan (Some Arabic) None sound map).plan_data)
+    ≡ Some breaks.Sound
+flagged map = refl
+
+searched : (map : Map) → option_map (λ p. p.base_search)
+    (as_indic (hooks_plan (Some Indic) None all_consonants map).plan_data) ≡ Some AllConsonants
+searched map = refl

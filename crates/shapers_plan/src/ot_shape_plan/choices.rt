@@ -1,0 +1,12 @@
+use shapers_base::plan::{BaseSearch, BreakFlags, StretchStart};
+
+/// What a caller chooses where a shaper can go more than one way.
+#[derive(Clone, Copy, Debug, PartialEq, Eq, Default)]
+pub struct ShapeChoices {
+    /// Where the tiles of a stretched mark begin.
+    pub stretch_start: StretchStart,
+    /// Which places are flagged unsafe to break.
+    pub break_flags: BreakFlags,
+    /// Among which consonants Indic looks for the base of a syllable.
+    pub base_search: BaseSearch,
+}
