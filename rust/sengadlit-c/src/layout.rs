@@ -103,6 +103,13 @@ pub struct Data {
     pub masks: [u32; 9],
 }
 
+/// `sengadlit_unaffected_t`.
+#[repr(C)]
+pub struct Unaffected {
+    pub front: c_uint,
+    pub back: c_uint,
+}
+
 /// `sengadlit_user_feature_t`.
 #[repr(C)]
 #[derive(Clone, Copy)]
@@ -189,6 +196,7 @@ mod tests {
         layout!("lookup", Lookup: index, mask, auto_zwnj, auto_zwj, random, per_syllable);
         layout!("lookups_funcs", LookupsFuncs: variation_glyph, note, substitute, is_mark, position, finish_positions);
         layout!("lookups", Lookups<'static>: funcs, user_data);
+        layout!("unaffected", Unaffected: front, back);
         lines
     }
 
