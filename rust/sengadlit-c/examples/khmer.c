@@ -1,5 +1,5 @@
 /* A Khmer word, shaped in a font of the example's own: COENG and MO are one glyph, by the feature `blwf`, and so are COENG and
-   RO, by `pref`. The vowel sign comes before its letter. */
+   RO, by `pref`. The vowel sign comes before its letter. Then the bytes of the text before which a caret may stand. */
 #include <sengadlit.h>
 
 #include <stdio.h>
@@ -7,14 +7,12 @@
 #include <string.h>
 
 static const struct { uint32_t first, second, glyph; } ligatures[] = {{0x17D2, 0x1798, 0xE000}, {0x17D2, 0x179A, 0xE001}};
-
 /* A glyph for each character of Khmer, by its number. */
 static sengadlit_bool_t nominal_glyph(void *user_data, uint32_t unicode, uint32_t *glyph)
 {
     *glyph = unicode;
     return (void)user_data, unicode >= 0x1780 && unicode < 0x1800;
 }
-
 static int32_t glyph_h_advance(void *user_data, uint32_t glyph) { return (void)user_data, glyph >= 0xE000 ? 0 : 600; }
 /* The font's GSUB: lookup I makes one glyph of two. */
 static sengadlit_bool_t substitute(void *user_data, const sengadlit_lookup_t *lookup, sengadlit_buffer_t *buffer)
@@ -54,6 +52,8 @@ int main(void)
     const sengadlit_glyph_info_t *glyphs = sengadlit_buffer_get_glyph_infos(buffer, &length);
     for (; length > 0; length--, glyphs++, positions++)
         printf("glyph %04X cluster %u advance %d\n", glyphs->codepoint, glyphs->cluster, positions->x_advance);
+    const uint32_t *stops = sengadlit_caret_stops(buffer, input.direction, &length);
+    for (; stops && length > 0; length--) printf("caret at %u\n", *stops++);
     sengadlit_buffer_destroy(buffer);
     sengadlit_shape_plan_destroy(plan);
     return EXIT_SUCCESS;

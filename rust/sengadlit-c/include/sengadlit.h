@@ -652,7 +652,7 @@ sengadlit_glyph_info_t *sengadlit_buffer_set_length(sengadlit_buffer_t *buffer, 
 /* The glyphs, for which the same holds, and through `length`, which may be null, how many there are. */
 sengadlit_glyph_info_t *sengadlit_buffer_get_glyph_infos(sengadlit_buffer_t *buffer, unsigned int *length);
 /* The positions, one per glyph, which the first call makes, all zero. They stay until sengadlit_buffer_set_length; while
-   they are there, sengadlit_postprocess_glyphs alone takes the buffer. */
+   they are there, sengadlit_postprocess_glyphs is the only hook that takes the buffer. */
 sengadlit_glyph_position_t *sengadlit_buffer_get_glyph_positions(sengadlit_buffer_t *buffer, unsigned int *length);
 
 /* Adds characters to the text: those of the item of `item_length` units (bytes, 16 or 32 bits) that begins at `item_offset`
@@ -979,6 +979,34 @@ sengadlit_status_t sengadlit_substitute_text(const sengadlit_shape_plan_t *plan,
    STRETCH_OVERFLOW. INTERNAL: also where a lookup of GPOS left another number of positions than glyphs. */
 sengadlit_status_t sengadlit_shape(const sengadlit_shape_plan_t *plan, const sengadlit_font_t *font,
                                    const sengadlit_lookups_t *lookups, sengadlit_buffer_t *buffer);
+
+/* ---- Carets and edits ---- */
+
+/* Where a caret may stand before a glyph in a text of this direction, as values of `cluster`: the borders of clusters, which
+   rise. The glyphs are a shaped text in the order in which they are drawn, as sengadlit_shape leaves them, so that clusters fall
+   along one of direction RTL or BTT; INVALID counts as LTR. A caret also stands behind the text. A glyph stands for the text from
+   the last stop that isn't above its cluster up to the next one, or to the text's end. Where clusters don't keep to the order of
+   the text, as the reorderings of Indic may leave them, one is a stop only if all behind it are greater. `length` gets the number
+   of stops, unless it is null. The pointer isn't null where there are none, and holds until this function is called again with the
+   buffer, or the buffer is destroyed. Null is returned for ARGUMENT: DIRECTION, GENERAL_CATEGORY, and for a null buffer; TOO_LONG;
+   IN_CALL; and MEMORY, where the buffer never had so many stops. */
+const uint32_t *sengadlit_caret_stops(sengadlit_buffer_t *buffer, sengadlit_direction_t direction, unsigned int *length);
+
+/* How many glyphs in front and behind an edit leaves of a text of syllables. */
+typedef struct sengadlit_unaffected_t {
+    unsigned int front;
+    unsigned int back;
+} sengadlit_unaffected_t;
+
+/* Which glyphs of a text of syllables an edit affects: those between `unaffected`; the others come out as before. The spans are
+   those of sengadlit_spans for the text before the edit and for the text after it; `front` glyphs stand in front of what was
+   replaced and `back` behind it, the same in both texts. The syllables that meet the edit aren't enough, since a grammar reads on
+   through joiners: of Khmer U+1780 U+200C are two syllables, and with U+17B7 behind them one. A list may be null if its length is
+   0. `error` may be null; it is written where anything but DONE is returned. ARGUMENT (and `unaffected` is as it was): SPANS, a
+   null list; RANGE, `front` and `back` together are more glyphs than the spans of a text; RESULT. */
+sengadlit_status_t sengadlit_affected(const sengadlit_span_t *before, unsigned int before_length,
+                                      const sengadlit_span_t *after, unsigned int after_length, unsigned int front,
+                                      unsigned int back, sengadlit_unaffected_t *unaffected, sengadlit_error_t *error);
 
 #ifdef __cplusplus
 }

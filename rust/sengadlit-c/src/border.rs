@@ -7,6 +7,7 @@
 
 mod buffers;
 pub mod callbacks;
+mod editing;
 pub mod glyphs;
 mod handle;
 mod hook_calls;

@@ -9,9 +9,10 @@ use core::ops::Range;
 use sengadlit::Shaper;
 use sengadlit::alloc::{AllocError, Global, Vec as List};
 use sengadlit::buffer::{
-    Buffer as Inner, BufferClusterLevel, BufferFlags, BufferSettings, CONTEXT_LENGTH, GlyphInfo,
-    GlyphPosition, ShaperError, Span,
+    Buffer as Inner, BufferClusterLevel, BufferFlags, BufferSettings, CONTEXT_LENGTH, Direction,
+    GlyphInfo, GlyphPosition, ShaperError, Span,
 };
+use sengadlit::editing::caret_stops;
 use sengadlit::unicode::UnicodeTables;
 
 /// What a `sengadlit_buffer_t` holds.
@@ -21,6 +22,8 @@ pub struct Buffer {
     positions: List<GlyphPosition>,
     // What was found last; it is kept for its room.
     spans: List<Span>,
+    // The same of carets.
+    stops: List<u32>,
 }
 
 impl Buffer {
@@ -30,6 +33,7 @@ impl Buffer {
             text: Text::new(),
             positions: List::new(Global),
             spans: List::new(Global),
+            stops: List::new(Global),
         }
     }
 
@@ -138,6 +142,15 @@ impl Buffer {
         self.text
             .run(Takes::Numbers, |inner| Ok(shaper.spans_into(inner, spans)?))?;
         Ok(spans.as_slice())
+    }
+
+    /// Where a caret may stand in the text, whose glyphs are in the order in which they are drawn.
+    pub fn find_stops(&mut self, direction: Direction) -> Result<&[u32], Error> {
+        let stops = &mut self.stops;
+        self.text.run(Takes::Numbers, |inner| {
+            Ok(caret_stops(inner.glyphs(), direction, stops)?)
+        })?;
+        Ok(stops.as_slice())
     }
 
     /// The positions, one per glyph, all zero if there were none.

@@ -5,10 +5,12 @@ use crate::border::callbacks::{
 };
 use crate::border::glyphs::Takes;
 use crate::buffer::Buffer;
+use crate::layout::Unaffected;
 use crate::numbers;
 use crate::plan::Plan;
 use crate::status::{Argument, Error, Status};
 use sengadlit::buffer::Span;
+use sengadlit::editing;
 use sengadlit::plan::{Pause, Preprocess};
 use sengadlit::shaper::{Composition, Decomposition, Shaper, pause_fits, run_pause as run};
 use sengadlit::spans::setup_syllables_found as set_up_found;
@@ -209,4 +211,29 @@ pub fn postprocess_glyphs(
         Ok(plan.shaper.postprocess_glyphs(&plan.inner, &font, inner)?)
     })?;
     Ok(done_if(done.is_done()))
+}
+
+/// `sengadlit_affected`.
+pub fn affected(
+    before: &[Span],
+    after: &[Span],
+    front: u32,
+    back: u32,
+) -> Result<Unaffected, Error> {
+    let outside = u64::from(front) + u64::from(back);
+    if outside > covered(before).min(covered(after)) {
+        return Err(Error::argument(Argument::Range));
+    }
+    let found = editing::affected(before, after, front as usize, back as usize);
+    // (these are at most what was given)
+    Ok(Unaffected {
+        front: found.front as u32,
+        back: found.back as u32,
+    })
+}
+
+// How many glyphs the spans cover.
+fn covered(spans: &[Span]) -> u64 {
+    let lengths = spans.iter().map(|span| span.len as u64);
+    lengths.fold(0, u64::saturating_add)
 }

@@ -103,6 +103,13 @@ pub struct Data {
     pub masks: [u32; 9],
 }
 
+/// `sengadlit_unaffected_t`.
+#[repr(C)]
+pub struct Unaffected {
+    pub front: c_uint,
+    pub back: c_uint,
+}
+
 /// `sengadlit_user_feature_t`.
 #[repr(C)]
 #[derive(Clone, Copy)]
@@ -191,6 +198,7 @@ mod tests {
         layout!("lookups_funcs", LookupsFuncs: variation_glyph, note, substitute, is_mark, position, finish_positions,
         glyph_v_advance, glyph_v_origin);
         layout!("lookups", Lookups<'static>: funcs, user_data);
+        layout!("unaffected", Unaffected: front, back);
         lines
     }
 

@@ -303,18 +303,48 @@ static sengadlit_status_t run_found(const sengadlit_plan_t *plan, sengadlit_buff
     return sengadlit_run_pause(plan, pause, &font, spans, length, buffer, NULL);
 }
 
+/* Stops rise, and each is a glyph's cluster. */
+static sengadlit_status_t stop_carets(sengadlit_buffer_t *buffer)
+{
+    unsigned int count, length, glyph;
+    sengadlit_error_t error;
+    const uint32_t *stops = sengadlit_caret_stops(buffer, (sengadlit_direction_t)(next() % 9), &count);
+    const sengadlit_glyph_info_t *glyphs = sengadlit_buffer_get_glyph_infos(buffer, &length);
+
+    sengadlit_buffer_get_error(buffer, &error);
+    if (!stops) return error.status;
+    for (unsigned int i = 0; i < count; i++) {
+        for (glyph = 0; glyph < length && glyphs[glyph].cluster != stops[i];) glyph++;
+        if (glyph == length || (i > 0 && stops[i] <= stops[i - 1])) abort();
+    }
+    return SENGADLIT_DONE;
+}
+
+/* What an edit leaves is no more than what stands outside of it. */
+static void edit(void)
+{
+    sengadlit_span_t spans[2][4];
+    unsigned int before = next() % 5, after = next() % 5, front = next() % 9, back = next() % 9;
+    sengadlit_unaffected_t left;
+
+    for (unsigned int i = 0; i < 8; i++) spans[i / 4][i % 4] = (sengadlit_span_t){next() % 4, next() % 3};
+    if (sengadlit_affected(spans[0], before, spans[1], after, front, back, &left, NULL) != SENGADLIT_DONE) return;
+    if (left.front > front || left.back > back) abort();
+}
+
 static sengadlit_status_t run_hook(const sengadlit_plan_t *plan, sengadlit_buffer_t *buffer)
 {
     sengadlit_bool_t constraints;
     unsigned int start = next() % 33;
 
-    switch (next() % 9) {
+    switch (next() % 10) {
     case 0: return sengadlit_preprocess_text(plan, &font, buffer, &constraints);
     case 1: return sengadlit_setup_masks(plan, start == 1 ? NULL : &tables, buffer);
     case 5: return run_found(plan, buffer);
     case 2: return sengadlit_reorder_marks(plan, buffer, start, start + next() % 40);
     case 3: (void)sengadlit_buffer_get_glyph_positions(buffer, NULL); /* fall through */
     case 4: return sengadlit_postprocess_glyphs(plan, &font, buffer);
+    case 6: return stop_carets(buffer);
     default: return run_pause(plan, buffer);
     }
 }
@@ -538,6 +568,7 @@ static void call_others(sengadlit_plan_t *plan)
     (void)sengadlit_decompose(plan, next() == 1 ? NULL : &tables, next() & 1 ? a : b, &c, &d, NULL);
     (void)sengadlit_shaper_for_script(scripts[place], (sengadlit_direction_t)(next() % 9), next() == 1 ? a : 0, &found);
     (void)sengadlit_modified_combining_class(a);
+    edit();
     (void)sengadlit_version_atleast(a, b, 0);
     (void)sengadlit_status_name((sengadlit_status_t)a);
     (void)sengadlit_argument_name((sengadlit_argument_t)(a % 32));

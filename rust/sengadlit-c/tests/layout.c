@@ -163,6 +163,9 @@ static void print_shaping(void)
     STRUCT(lookups);
     FIELD(lookups, funcs);
     FIELD(lookups, user_data);
+    STRUCT(unaffected);
+    FIELD(unaffected, front);
+    FIELD(unaffected, back);
 }
 
 int main(void)

@@ -78,6 +78,11 @@ static sengadlit_status_t find(void)
     return sengadlit_spans(SENGADLIT_SHAPER_KHMER, world.buffer, &length) ? SENGADLIT_DONE : SENGADLIT_MEMORY;
 }
 
+static sengadlit_status_t stop(void)
+{
+    return sengadlit_caret_stops(world.buffer, SENGADLIT_DIRECTION_LTR, NULL) ? SENGADLIT_DONE : SENGADLIT_MEMORY;
+}
+
 static sengadlit_status_t set_up_found(void)
 {
     return sengadlit_setup_syllables_found(world.plan, SENGADLIT_PAUSE_SETUP_SYLLABLES_KHMER, world.buffer);
@@ -245,6 +250,7 @@ static void try_khmer(void)
     world.answers.glyph_of_circle = 7;
     try_call("override", override);
     try_call("spans", find);
+    try_call("caret_stops", stop);
     try_call("set up found", set_up_found);
     try_call("set up", set_up);
     try_call("reorder", reorder);

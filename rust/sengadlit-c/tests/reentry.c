@@ -465,6 +465,7 @@ static void set_up_found(void)
     expect_status(sengadlit_setup_syllables_found(world.plan, SENGADLIT_PAUSE_SETUP_SYLLABLES_KHMER, world.buffer));
 }
 
+static void stop_carets(void) { expect(sengadlit_caret_stops(world.buffer, SENGADLIT_DIRECTION_LTR, NULL) == NULL); }
 static void merge_clusters(void) { expect_status(sengadlit_buffer_merge_clusters(world.buffer, 0, 1)); }
 static void flag_unsafe_to_break(void) { expect_status(sengadlit_buffer_unsafe_to_break(world.buffer, 0, 1)); }
 static void call_substitute_text(void) { expect_status(substitute_text()); }
@@ -510,6 +511,7 @@ static const struct intruder {
     {"postprocess_glyphs", call_postprocess, 0},
     {"spans", find_spans, 0},
     {"setup_syllables_found", set_up_found, 0},
+    {"caret_stops", stop_carets, 0},
     {"merge_clusters", merge_clusters, 0},
     {"unsafe_to_break", flag_unsafe_to_break, 0},
     {"substitute_text", call_substitute_text, 0},

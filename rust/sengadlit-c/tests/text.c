@@ -1,5 +1,5 @@
-/* Texts in UTF-8, UTF-16 and UTF-32, what Unicode's tables say of them, and their syllables. The last line is 'N passed, M
-   failed'. What bad sequences become is what HarfBuzz's documentation of hb_buffer_add_utf8 and its decoders says. */
+/* Texts in UTF-8, UTF-16 and UTF-32, what Unicode's tables say of them, their syllables, and where carets stand in them. The
+   last line is 'N passed, M failed'. What bad sequences become is what HarfBuzz's documentation of hb_buffer_add_utf8 and its decoders says. */
 #include <sengadlit.h>
 
 #include <limits.h>
@@ -323,6 +323,116 @@ static void syllables_that_are_none(void)
     sengadlit_plan_destroy(plan);
 }
 
+/* ---- Carets and edits ---- */
+
+/* The places that the library finds in a text of these clusters, none of which is 99. */
+static void expect_stops(const char *what, sengadlit_direction_t direction, const uint32_t *clusters, const uint32_t *wanted)
+{
+    unsigned int length = 0, count = 0, found;
+
+    while (clusters[length] != 99) length++;
+    while (wanted[count] != 99) count++;
+    begin();
+    sengadlit_glyph_info_t *first = sengadlit_buffer_set_length(buffer, length);
+    for (unsigned int i = 0; i < length; i++) first[i].cluster = clusters[i];
+    const uint32_t *stops = sengadlit_caret_stops(buffer, direction, &found);
+    check(what, stops && found == count && memcmp(stops, wanted, count * sizeof *stops) == 0);
+}
+
+#define NUMBERS(...) (const uint32_t[]){__VA_ARGS__, 99}
+#define NO_NUMBER (const uint32_t[]){99}
+
+static void carets(void)
+{
+    const sengadlit_direction_t ltr = SENGADLIT_DIRECTION_LTR, rtl = SENGADLIT_DIRECTION_RTL;
+
+    expect_stops("no text", ltr, NO_NUMBER, NO_NUMBER);
+    expect_stops("no text", rtl, NO_NUMBER, NO_NUMBER);
+    expect_stops("a glyph each", ltr, NUMBERS(0, 1, 3), NUMBERS(0, 1, 3));
+    expect_stops("glyphs of one cluster", ltr, NUMBERS(0, 0, 6, 6, 9), NUMBERS(0, 6, 9));
+    expect_stops("the same backward", rtl, NUMBERS(9, 6, 6, 0, 0), NUMBERS(0, 6, 9));
+    expect_stops("not in the order of the text", ltr, NUMBERS(0, 1, 2, 0, 0), NUMBERS(0));
+    expect_stops("the same backward", rtl, NUMBERS(0, 0, 2, 1, 0), NUMBERS(0));
+    expect_stops("clusters that fall", ltr, NUMBERS(2, 1, 4), NUMBERS(1, 4));
+    expect_stops("another first cluster", ltr, NUMBERS(7, 8), NUMBERS(7, 8));
+    expect_stops("downward", SENGADLIT_DIRECTION_TTB, NUMBERS(0, 1), NUMBERS(0, 1));
+    expect_stops("upward", SENGADLIT_DIRECTION_BTT, NUMBERS(1, 0), NUMBERS(0, 1));
+    expect_stops("no direction yet", SENGADLIT_DIRECTION_INVALID, NUMBERS(0, 1), NUMBERS(0, 1));
+}
+
+static void expect_no_stops(const char *what, unsigned int direction, sengadlit_argument_t argument)
+{
+    unsigned int length = 77;
+
+    check(what, sengadlit_caret_stops(buffer, (sengadlit_direction_t)direction, &length) == NULL && length == 77);
+    expect_refused(what, SENGADLIT_ARGUMENT, argument);
+}
+
+static void carets_that_are_none(void)
+{
+    const sengadlit_buffer_properties_t none = {.direction = SENGADLIT_DIRECTION_LTR};
+    sengadlit_error_t error;
+
+    begin();
+    (void)sengadlit_buffer_add_utf8(buffer, "a", -1, 0, -1);
+    check("with positions", sengadlit_buffer_get_glyph_positions(buffer, NULL) != NULL);
+    check("with positions", sengadlit_caret_stops(buffer, SENGADLIT_DIRECTION_LTR, NULL) != NULL);
+    expect_no_stops("no direction", 3, SENGADLIT_ARGUMENT_DIRECTION);
+    expect_no_stops("no direction", 0x104, SENGADLIT_ARGUMENT_DIRECTION);
+    check("no buffer", sengadlit_caret_stops(NULL, SENGADLIT_DIRECTION_LTR, NULL) == NULL);
+    check("a greatest length", sengadlit_buffer_set_properties(buffer, &none) == SENGADLIT_DONE);
+    check("longer", sengadlit_caret_stops(buffer, SENGADLIT_DIRECTION_LTR, NULL) == NULL);
+    sengadlit_buffer_get_error(buffer, &error);
+    check("longer", error.status == SENGADLIT_TOO_LONG);
+    glyphs(NULL)->general_category = 30;
+    expect_no_stops("no category", SENGADLIT_DIRECTION_LTR, SENGADLIT_ARGUMENT_GENERAL_CATEGORY);
+}
+
+/* The third of five glyphs is replaced, and takes the second into its syllable. */
+static const sengadlit_span_t spans_before[] = {{1, 0}, {1, 0}, {1, 8}, {2, 0}}, spans_after[] = {{1, 0}, {2, 0}, {2, 0}};
+
+static void expect_unaffected(const char *what, unsigned int before, unsigned int after, unsigned int front, unsigned int back,
+                              unsigned int front_left, unsigned int back_left)
+{
+    sengadlit_error_t error = {SENGADLIT_MEMORY, SENGADLIT_ARGUMENT_NONE, 7};
+    sengadlit_unaffected_t left = {77, 77};
+
+    check(what, sengadlit_affected(spans_before, before, spans_after, after, front, back, &left, &error) == SENGADLIT_DONE);
+    check(what, left.front == front_left && left.back == back_left && error.index == 7);
+}
+
+static void refuse_edit(const char *what, const sengadlit_span_t *before, const sengadlit_span_t *after, unsigned int front,
+                        unsigned int back, sengadlit_argument_t argument)
+{
+    sengadlit_error_t error = {0};
+    sengadlit_unaffected_t left = {77, 77};
+
+    check(what, sengadlit_affected(before, 4, after, 3, front, back, &left, &error) == SENGADLIT_ARGUMENT);
+    check(what, error.status == SENGADLIT_ARGUMENT && error.argument == argument && left.front == 77 && left.back == 77);
+    check(what, sengadlit_affected(before, 4, after, 3, front, back, &left, NULL) == SENGADLIT_ARGUMENT);
+}
+
+static void edits(void)
+{
+    const sengadlit_span_t huge[] = {{SIZE_MAX, 0}, {SIZE_MAX, 1}};
+    sengadlit_unaffected_t left;
+    sengadlit_error_t error;
+
+    expect_unaffected("the syllable in front meets the edit", 4, 3, 2, 2, 1, 2);
+    expect_unaffected("nothing in front", 4, 3, 0, 2, 0, 2);
+    expect_unaffected("a part of a syllable behind", 4, 3, 2, 1, 1, 0);
+    expect_unaffected("no text before", 0, 3, 0, 0, 0, 0);
+    expect_unaffected("no text after", 4, 0, 0, 0, 0, 0);
+    check("lists may be null", sengadlit_affected(NULL, 0, NULL, 0, 0, 0, &left, NULL) == SENGADLIT_DONE && left.back == 0);
+    check("long spans", sengadlit_affected(huge, 2, huge, 2, UINT_MAX, 1, &left, NULL) == SENGADLIT_DONE && left.front == 0);
+    refuse_edit("no spans", NULL, spans_after, 2, 2, SENGADLIT_ARGUMENT_SPANS);
+    refuse_edit("no spans", spans_before, NULL, 2, 2, SENGADLIT_ARGUMENT_SPANS);
+    refuse_edit("more than there are", spans_before, spans_after, 3, 3, SENGADLIT_ARGUMENT_RANGE);
+    refuse_edit("far more", spans_before, spans_after, UINT_MAX, UINT_MAX, SENGADLIT_ARGUMENT_RANGE);
+    check("no result", sengadlit_affected(spans_before, 4, spans_after, 3, 2, 2, NULL, &error) == SENGADLIT_ARGUMENT &&
+                           error.argument == SENGADLIT_ARGUMENT_RESULT);
+}
+
 /* ---- Shapers ---- */
 
 static void expect_shaper(const char *script, unsigned int direction, const char *chosen, unsigned int wanted)
@@ -390,6 +500,9 @@ int main(void)
     contexts();
     syllables();
     syllables_that_are_none();
+    carets();
+    carets_that_are_none();
+    edits();
     shapers();
     pairs();
     sengadlit_buffer_destroy(buffer);
