@@ -1,15 +1,15 @@
 mod Again
 mod AgainRows
-mod Apart
+pub mod Apart
 mod Breaks
 mod CheckedRows
 mod Cuts
 mod Edited
 mod FlagLaws
-mod HangulHalves
+pub mod HangulHalves
 mod HangulItems
 mod HangulLong
-mod HangulMonotone
+pub mod HangulMonotone
 mod Headline
 mod HookRows
 mod IndicHalves
@@ -21,15 +21,15 @@ mod PauseRows
 mod PauseStays
 mod RecordRows
 mod StandingRows
-mod StretchMonotone
+pub mod StretchMonotone
 mod Regrouped
 mod Together
 mod TogetherRows
 mod TextCutRows
 mod TextCuts
-mod ThaiClusterHalves
-mod ThaiHalves
-mod ThaiMonotone
+pub mod ThaiClusterHalves
+pub mod ThaiHalves
+pub mod ThaiMonotone
 -- lemmas to cite, of the crates below, under their names
 pub use Rattle.shapers_clusters.proofs as clusters
 pub use Rattle.shapers_syllabic.proofs as syllabic

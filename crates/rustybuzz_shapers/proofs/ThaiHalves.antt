@@ -206,7 +206,7 @@ characters-append (u ∷ us) vs [] hs same = absurd (omega arith)
 characters-append (u ∷ us) vs (g ∷ gs) hs same =
     ap (λ xs. with_character g u ∷ xs) (characters-append us vs gs hs (omega arith))
 
-forms_halves : (has : ℕ → Bool) (gs : List hb_glyph_info_t) (y : hb_glyph_info_t) (t : List hb_glyph_info_t)
+pub forms_halves : (has : ℕ → Bool) (gs : List hb_glyph_info_t) (y : hb_glyph_info_t) (t : List hb_glyph_info_t)
     → is_thai_mark y.glyph_id ≡ false → with_thai_forms has (gs ++ y ∷ t) ≡ with_thai_forms has gs
     ++ with_thai_forms has (y ∷ t)
 forms_halves has gs y t h =

@@ -232,7 +232,7 @@ passed_share level m gs xs u ys split am q low high =
     held_share level m sts (clusters gs) (subst (λ k. EndWithin k sts) (sym long) (stretches_within level gs)) n q
     inside (omega (arith, inside, high)) held q (omega arith) (omega arith)
 
-thai_monotone : (level : BufferClusterLevel) → merges level ≡ true → (gs : List hb_glyph_info_t) (js : List ℕ)
+pub thai_monotone : (level : BufferClusterLevel) → merges level ≡ true → (gs : List hb_glyph_info_t) (js : List ℕ)
     → ClustersMade level (sara_am_stretches level (characters gs)) (sara_am_sources (characters gs)) (clusters gs) js
     → StaysMonotone (clusters gs) js
 thai_monotone level m gs js made =

@@ -54,22 +54,22 @@ falls : (cs : List ℕ) (sts : List (ℕ × ℕ)) (js : List ℕ) → ExactCuts 
     → get_or js a 0 ≤ get_or cs a 0
 falls cs sts js x a l = x.least a a l l (λ k b c. absurd (omega arith))
 
-up_to : (cs : List ℕ) → IsRising cs → (a b : ℕ) → a ≤ b → b < length cs → get_or cs a 0 ≤ get_or cs b 0
+pub up_to : (cs : List ℕ) → IsRising cs → (a b : ℕ) → a ≤ b → b < length cs → get_or cs a 0 ≤ get_or cs b 0
 up_to cs up a b h l = elim (cases_lt a b) [
   | inl less ↦ up a b 0 less l
   | inr more ↦ let same : a ≡ b = omega arith in omega (arith, ap (λ k. get_or cs k 0) same)
 ]
 
-down_to : (cs : List ℕ) → IsFalling cs → (a b : ℕ) → a ≤ b → b < length cs → get_or cs b 0 ≤ get_or cs a 0
+pub down_to : (cs : List ℕ) → IsFalling cs → (a b : ℕ) → a ≤ b → b < length cs → get_or cs b 0 ≤ get_or cs a 0
 down_to cs down a b h l = elim (cases_lt a b) [
   | inl less ↦ down a b 0 less l
   | inr more ↦ let same : a ≡ b = omega arith in omega (arith, ap (λ k. get_or cs k 0) same)
 ]
 
 -- the greater cluster at a cut stays, and so do all that were in it
-record Stays (cs js : List ℕ) (p : ℕ) : Type 0 where
-  greatest : max (get_or js (p - 1) 0) (get_or js p 0) ≡ max (get_or cs (p - 1) 0) (get_or cs p 0)
-  each : (k : ℕ) → k < length cs → get_or cs k 0 ≡ max (get_or cs (p - 1) 0) (get_or cs p 0) → get_or js k 0
+pub record Stays (cs js : List ℕ) (p : ℕ) : Type 0 where
+  pub greatest : max (get_or js (p - 1) 0) (get_or js p 0) ≡ max (get_or cs (p - 1) 0) (get_or cs p 0)
+  pub each : (k : ℕ) → k < length cs → get_or cs k 0 ≡ max (get_or cs (p - 1) 0) (get_or cs p 0) → get_or js k 0
       ≡ get_or cs k 0
 
 differ_before : (cs : List ℕ) (sts : List (ℕ × ℕ)) (js : List ℕ) → ExactCuts cs sts js → (p : ℕ) → 0 < p
@@ -120,7 +120,7 @@ stays_down cs sts js x down p z l ne =
       ];
     }
 
-stays : (cs : List ℕ) (sts : List (ℕ × ℕ)) (js : List ℕ) → ExactCuts cs sts js → IsMonotone cs → (p : ℕ) → 0 < p
+pub stays : (cs : List ℕ) (sts : List (ℕ × ℕ)) (js : List ℕ) → ExactCuts cs sts js → IsMonotone cs → (p : ℕ) → 0 < p
     → p < length cs → get_or js (p - 1) 0 ≢ get_or js p 0 → Stays cs js p
 stays cs sts js x h p z l ne = elim h [
   | inl up ↦ stays_up cs sts js x up p z l ne

@@ -8,5 +8,10 @@ pub mod ScriptBreaks
 mod BreakRows
 pub mod MergedHalves
 pub mod MarkBreaks
+pub mod MeetingPlaces
+pub mod SaraAmHalves
+pub mod TextBreaks
+pub mod ThaiBreaks
+pub mod HangulBreaks
 mod MarkBreakRows
 pub mod KeptFlags

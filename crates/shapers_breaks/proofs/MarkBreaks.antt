@@ -37,9 +37,9 @@ use Rattle.shapers_breaks.proofs.MergedHalves.{changed_behind, changed_front, me
 use Rattle.shapers_breaks.proofs.SetUp.{Glyphs}
 
 -- halves of a text at a border of clusters share none
-halves_apart : (gs : Glyphs) (p : ℕ) → 0 < p → p < length gs → IsMonotone (clusters gs) → IsClear gs p → ShareNone
-    (take p gs) (drop p gs)
-halves_apart gs p z l mono clear i j il jl =
+pub halves_apart : (gs : Glyphs) (p : ℕ) → 0 < p → p < length gs → IsMonotone (clusters gs)
+    → get_or (clusters gs) (p - 1) 0 ≢ get_or (clusters gs) p 0 → ShareNone (take p gs) (drop p gs)
+halves_apart gs p z l mono meet i j il jl =
     let cluster : hb_glyph_info_t → ℕ = λ g. g.cluster in
     let xs = take p gs in
     let ys = drop p gs in
@@ -49,7 +49,7 @@ halves_apart gs p z l mono clear i j il jl =
     let yn : length (clusters ys) ≡ length ys = length-map ys cluster in
     let rest = length-drop p gs in
     let differ = subst (λ (cs : List ℕ). get_or cs (length (clusters xs) - 1) 0 ≢ get_or cs (length (clusters xs)) 0)
-    (sym all) (subst (λ (k : ℕ). get_or (clusters gs) (k - 1) 0 ≢ get_or (clusters gs) k 0) (sym xn) clear.differ) in
+    (sym all) (subst (λ (k : ℕ). get_or (clusters gs) (k - 1) 0 ≢ get_or (clusters gs) k 0) (sym xn) meet) in
     apart_at (clusters xs) (clusters ys) (subst IsMonotone (sym all) mono) (omega arith) (omega arith) differ i j
     (omega (arith, il, length-map xs cluster)) (omega (arith, jl, yn))
 
@@ -337,7 +337,7 @@ broken_by : (after : ℕ → ℕ → Glyphs → Glyphs) → BreaksAlike after �
     ((p ≤ s) ⊎ (e ≤ p)) × (after s e gs ≡ after (min s p) (min e p) (take p gs) ++ after (s - p) (e - p) (drop p gs))
 broken_by after alike s e gs h l mono inside p z within clear =
     let outside = outside_by s e gs inside p clear in
-    (outside, halves_by after alike s e p gs h l (omega arith) outside (halves_apart gs p z within mono clear))
+    (outside, halves_by after alike s e p gs h l (omega arith) outside (halves_apart gs p z within mono clear.differ))
 
 arabic_alike : (level : BufferClusterLevel) → BreaksAlike (marks_after Arabic level)
 arabic_alike level = record { nothing = no_run level; behind = arabic_behind level; front = arabic_front level }

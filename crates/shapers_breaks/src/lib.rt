@@ -5,11 +5,13 @@
 ghost use Rattle.rustybuzz_shapers.specs.Pauses.{by_khmer, by_myanmar};
 ghost use Rattle.shapers_base.specs.declared.plan.pause.Pause.TheVariants.{ReorderKhmer, ReorderMyanmar, SetupSyllablesKhmer, SetupSyllablesMyanmar};
 ghost use Rattle.shapers_breaks.specs.ClearSteps.{ClearBeforeLaw};
+ghost use Rattle.shapers_breaks.specs.HangulBreaks.{HangulBreaksLaw};
 ghost use Rattle.shapers_breaks.specs.KeptFlags.{AddedFlagsClearNone, PausesClearNone};
 ghost use Rattle.shapers_breaks.specs.MarkBreaks.{MarksBreakLaw};
 ghost use Rattle.shapers_breaks.specs.PauseBreaks.{PausesBreakLaw};
 ghost use Rattle.shapers_breaks.specs.ScriptBreaks.{MyanmarHasNoRepha, PausesBreakBy, UniversalPausesBreak};
 ghost use Rattle.shapers_breaks.specs.SetUp.{SetUpBreaksLaw};
+ghost use Rattle.shapers_breaks.specs.ThaiBreaks.{SaraAmsBreakLaw, ThaiFormsBreakLaw};
 
 use shapers_khmer::ot_shaper_khmer::{khmer_reads_no_serials, khmer_reorder_laws};
 use shapers_myanmar::ot_shaper_myanmar::{myanmar_reads_no_serials, myanmar_reorder_laws};
@@ -68,3 +70,18 @@ pub fn kept_flags_law()
     myanmar_reorder_laws();
     universal_reorder_laws();
 }
+
+/// A Thai or Lao text that was preprocessed may be broken wherever two clusters meet, where clusters
+/// rise or fall, at the levels that merge; with private use forms where each mark is in the cluster of
+/// the glyph before it once the SARA AMs are in two.
+pub fn thai_breaks_law()
+    ensures sara_ams { SaraAmsBreakLaw }
+    ensures forms { ThaiFormsBreakLaw }
+{}
+
+/// A Hangul text that was preprocessed may be broken wherever two clusters meet, where clusters are
+/// whole graphemes and rise or fall, and each tone without width is in the cluster of the glyph
+/// before it.
+pub fn hangul_breaks_law()
+    ensures { HangulBreaksLaw }
+{}
