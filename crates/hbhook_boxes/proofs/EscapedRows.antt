@@ -4,7 +4,8 @@ use Rattle.std.specs.Prelude.{◌≡◌, true, false, [], ◌∷◌, codes, enco
 use Rattle.std.specs.Str.{chars}
 use Rattle.hbhook_boxes.specs.Escaped.{escaped, escaped_char, is_control}
 
-controls : map is_control (0 ∷ 9 ∷ 10 ∷ 0x1F ∷ 0x20 ∷ 0x7E ∷ 0x7F ∷ 0x80 ∷ 0x9F ∷ 0xA0 ∷ []) ≡ true ∷ true ∷ true ∷ true ∷ false ∷ false ∷ true ∷ true ∷ true ∷ false ∷ []
+controls : map is_control (0 ∷ 9 ∷ 10 ∷ 0x1F ∷ 0x20 ∷ 0x7E ∷ 0x7F ∷ 0x80 ∷ 0x9F ∷ 0xA0 ∷ [])
+    ≡ true ∷ true ∷ true ∷ true ∷ false ∷ false ∷ true ∷ true ∷ true ∷ false ∷ []
 controls = refl
 
 control : escaped_char 0x85 ≡ encode_utf8 0xFFFD
@@ -26,7 +27,8 @@ apostrophe : escaped_char 0x27 ≡ codes "&#39;"
 apostrophe = refl
 
 -- beside those: ! # % ( ; = ? and a character of two, three and four bytes
-plain : map escaped_char (0x21 ∷ 0x23 ∷ 0x25 ∷ 0x28 ∷ 0x3B ∷ 0x3D ∷ 0x3F ∷ 0xE9 ∷ 0x17D2 ∷ 0x1F600 ∷ []) ≡ map encode_utf8 (0x21 ∷ 0x23 ∷ 0x25 ∷ 0x28 ∷ 0x3B ∷ 0x3D ∷ 0x3F ∷ 0xE9 ∷ 0x17D2 ∷ 0x1F600 ∷ [])
+plain : map escaped_char (0x21 ∷ 0x23 ∷ 0x25 ∷ 0x28 ∷ 0x3B ∷ 0x3D ∷ 0x3F ∷ 0xE9 ∷ 0x17D2 ∷ 0x1F600 ∷ [])
+    ≡ map encode_utf8 (0x21 ∷ 0x23 ∷ 0x25 ∷ 0x28 ∷ 0x3B ∷ 0x3D ∷ 0x3F ∷ 0xE9 ∷ 0x17D2 ∷ 0x1F600 ∷ [])
 plain = refl
 
 nothing : escaped [] ≡ []

@@ -36,7 +36,9 @@ fallback_positions : map places_marks nine ≡ true ∷ false ∷ true ∷ false
 fallback_positions = refl
 
 -- what they ask for, with the script Arabic and without rclt, for another script and with rclt, and after all
-lists : map (λ shaper. collected shaper (Some (record { 0 = codes "Arab" })) false) nine ≡ Some (arabic_list true false) ∷ Some hangul_list ∷ None ∷ Some indic_list ∷ Some khmer_list ∷ Some myanmar_list ∷ None ∷ None ∷ Some universal_list ∷ []
+lists : map (λ shaper. collected shaper (Some (record { 0 = codes "Arab" })) false) nine
+    ≡ Some (arabic_list true false) ∷ Some hangul_list ∷ None ∷ Some indic_list ∷ Some khmer_list ∷ Some myanmar_list
+    ∷ None ∷ None ∷ Some universal_list ∷ []
 lists = refl
 
 lists_of_others : map (λ shaper. collected shaper None true) nine ≡ Some (arabic_list false true) ∷ Some hangul_list
@@ -48,8 +50,11 @@ overrides : map overridden nine ≡ None ∷ Some hangul_overrides ∷ None ∷ 
 overrides = refl
 
 -- requests come behind those that are there, and where there are none the planner stays
-requests_behind : asked (Some (disabled "calt" ∷ bare_pause ∷ [])) (record { script = None; requests = enabled 0 "locl" ∷ [] }) ≡ record { script = None; requests = enabled 0 "locl" ∷ disabled "calt" ∷ bare_pause ∷ [] }
+requests_behind : asked (Some (disabled "calt" ∷ bare_pause ∷ []))
+    (record { script = None; requests = enabled 0 "locl" ∷ [] })
+    ≡ record { script = None; requests = enabled 0 "locl" ∷ disabled "calt" ∷ bare_pause ∷ [] }
 requests_behind = refl
 
-no_requests : asked None (record { script = None; requests = enabled 0 "locl" ∷ [] }) ≡ record { script = None; requests = enabled 0 "locl" ∷ [] }
+no_requests : asked None (record { script = None; requests = enabled 0 "locl" ∷ [] })
+    ≡ record { script = None; requests = enabled 0 "locl" ∷ [] }
 no_requests = refl

@@ -11,8 +11,7 @@ use Rattle.rustybuzz_shapers.specs.Pauses.{Paused}
 use Rattle.rustybuzz_shapers.specs.declared.shaper.hb_ot_shaper_t.{hb_ot_shaper_t}
 use Rattle.rustybuzz_shapers.specs.declared.shaper.hb_ot_shaper_t.TheVariants.{Arabic, Universal}
 
--- the pauses that set syllables by spans alone, and those that record what a lookup did, or clear
--- it
+-- the pauses that set syllables by spans alone, and those that record or clear what a lookup did
 abbrev pub settles : Pause → Bool
 settles SetupSyllablesIndic = true
 settles SetupSyllablesKhmer = true

@@ -14,8 +14,7 @@ use Rattle.rustybuzz_shapers.specs.Hooks.{MarksKeep, PostprocessKeeps, Preproces
 use Rattle.rustybuzz_shapers.specs.Pauses.{PauseKeeps}
 use Rattle.rustybuzz_shapers.specs.declared.shaper.hb_ot_shaper_t.{hb_ot_shaper_t}
 
--- What each hook makes of a text has no cluster that the text hadn't. (Setting masks changes none:
--- OnlyFlagsAdded.)
+-- What a hook makes of a text has no cluster that the text hadn't. (Masks: OnlyFlagsAdded.)
 pub record HooksMakeNoCluster : Type 0 where
   pub preprocessing : (shaper : hb_ot_shaper_t) (plan : hb_ot_shape_plan_t) (font : Font)
       (old new : Buffer) → PreprocessKeeps shaper plan font old new →

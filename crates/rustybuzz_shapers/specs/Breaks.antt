@@ -24,16 +24,14 @@ abbrev pub AreHalves : Buffer → Buffer → Buffer → Type 0
 AreHalves new one two =
     order_view new.glyphs ≡ order_view one.glyphs ++ order_view two.glyphs
 
--- the first n glyphs of the whole buffer, all but clusters and glyph flags, are those of its first
--- half
+-- the first n glyphs of the whole, all but clusters and glyph flags, are those of its first half
 abbrev pub IsFirstHalf : ℕ → Buffer → Buffer → Type 0
 IsFirstHalf n new one = order_view (take n new.glyphs) ≡ order_view one.glyphs
 
 -- The halves at place n, each with its masks set by itself, are the whole if the place is clear:
--- with Sound always, else if what Sound adds doesn't reach over it. With either choice the first
--- half keeps what it has in the whole if the place is clear. In a fresh text whose selectors are
--- transparent, or that isn't Mongolian, the place is clear: with Sound if the halves are the whole,
--- with AsCode if the first half keeps what it has.
+-- with Sound always, else if what Sound adds doesn't reach over it; the first half keeps what it
+-- has. In a fresh text whose selectors, if Mongolian, are transparent, it is clear: with Sound if
+-- the halves are the whole, with AsCode if the first half keeps what it has.
 pub record BreaksAsFlagged (breaks : BreakFlags) (masks : List ℕ) (script : Option Script)
     (tables : CharacterTables) (n : ℕ) (old new one two : Buffer) : Type 0 where
   pub clear : IsClear new.glyphs n →

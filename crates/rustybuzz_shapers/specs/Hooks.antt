@@ -76,8 +76,7 @@ PlanFits Hangul plan = is_hangul_data plan.plan_data ≡ true
 PlanFits Universal plan = is_universal plan.plan_data ≡ true
 PlanFits _ plan = Unit {0}
 
--- what setting masks requires of the glyphs: for Arabic, and the universal shaper where letters
--- join, they are characters
+-- what setting masks requires of the glyphs: where letters join, they are characters
 abbrev pub GlyphsFit : hb_ot_shaper_t → hb_ot_shape_plan_t → List hb_glyph_info_t → Type 0
 GlyphsFit Arabic plan gs = AreCharacters gs
 GlyphsFit Universal plan gs = CanJoin (arabic_of plan.plan_data) gs
@@ -88,8 +87,7 @@ abbrev pub MarksFit : hb_ot_shaper_t → ℕ → ℕ → Type 0
 MarksFit Arabic start end = end ≤ start + 32
 MarksFit _ start end = Unit {0}
 
--- what postprocessing requires of the plan and the glyphs: for Arabic its data, and glyph numbers
--- of a font
+-- what postprocessing requires: for Arabic its data in the plan, and glyph numbers of a font
 abbrev pub PostprocessFits : hb_ot_shaper_t → hb_ot_shape_plan_t → List hb_glyph_info_t → Type 0
 PostprocessFits Arabic plan gs = IsArabic plan.plan_data × All (λ g. g.glyph_id ≤ 65535) gs
 PostprocessFits _ plan gs = Unit {0}
@@ -110,8 +108,7 @@ Preprocessed Thai plan font old new = new ≡ preprocessed_in_thai plan font old
 Preprocessed Universal plan font old new = new ≡ old
 Preprocessed shaper plan font old new = Lacking (has_hook shaper PreprocessText) (new ≡ old)
 
--- the laws of its clusters and glyph flags, that no glyph is lost, and for Hangul that each unit
--- spells what it takes
+-- its clusters and glyph flags, that no glyph is lost, and that Hangul's units spell what they take
 abbrev pub PreprocessKeeps : hb_ot_shaper_t → hb_ot_shape_plan_t → Font → Buffer → Buffer → Type 0
 PreprocessKeeps Hangul plan font old new =
     KeepsClusters font old new × SpellsSame old new × KeepsGlyphFlags font old new
@@ -124,8 +121,7 @@ PreprocessKeeps Thai plan font old new =
 PreprocessKeeps Universal plan font old new = new ≡ old
 PreprocessKeeps shaper plan font old new = Lacking (has_hook shaper PreprocessText) (new ≡ old)
 
--- when it refuses: Hangul and Thai as a growth to the result's length does, Hangul never where
--- every item stays as it is, Thai never without a SARA AM; the others never
+-- when it refuses: Hangul and Thai as a growth does, and never where all stays; the others never
 abbrev pub RefusesPreprocess :
     {T : Type 0} → hb_ot_shaper_t → Font → Buffer → Result T ShaperError → Type 0
 RefusesPreprocess Hangul font old r =
@@ -143,16 +139,14 @@ abbrev pub Postprocessed : hb_ot_shaper_t → hb_ot_shape_plan_t → Font → Bu
 Postprocessed Arabic plan font old new = new ≡ marks_stretched font (start_of plan.plan_data) old
 Postprocessed shaper plan font old new = Lacking (has_hook shaper PostprocessGlyphs) (new ≡ old)
 
--- what it keeps: for Arabic each glyph is a copy of one that the text had, with its cluster and its
--- glyph flags, and what is laid is as wide as the law of widths says
+-- what it keeps: Arabic's glyphs are copies of old ones, and what is laid is as wide as it says
 abbrev pub PostprocessKeeps :
     hb_ot_shaper_t → hb_ot_shape_plan_t → Font → Buffer → Buffer → Type 0
 PostprocessKeeps Arabic plan font old new =
     AreCopies old.glyphs new.glyphs × IsLaidOver font (start_of plan.plan_data) old new
 PostprocessKeeps shaper plan font old new = Lacking (has_hook shaper PostprocessGlyphs) (new ≡ old)
 
--- when it refuses: for Arabic where a number doesn't fit, and then as a growth to the result's
--- length does, but never without a mark that stretches; the others never
+-- when it refuses: Arabic if a number doesn't fit, then as a growth does; without stretches never
 abbrev pub RefusesPostprocess :
     {T : Type 0} → hb_ot_shaper_t → hb_ot_shape_plan_t → Font → Buffer → Result T ShaperError →
     Type 0

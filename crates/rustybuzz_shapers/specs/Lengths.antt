@@ -42,8 +42,7 @@ PausesGrow = (pause : Pause) (plan : hb_ot_shape_plan_t) (font : Font) (spans : 
     (old new : Buffer) → PauseKeeps pause plan font spans old new →
     length new.glyphs ≡ length old.glyphs + broken_in (pause_circles pause plan font old) old.glyphs
 
--- How many times as long a text gets at most, by preprocessing or by a pause of the shaper: twice
--- where each syllable may be broken.
+-- How many times as long preprocessing or a pause makes a text at most: twice by circles.
 abbrev pub growth : hb_ot_shaper_t → ℕ
 growth Hangul = 3
 growth Thai = 2

@@ -61,10 +61,6 @@ PauseFits RecordStch plan = IsArabic plan.plan_data
 PauseFits RecordRphf plan = is_universal plan.plan_data ≡ true
 PauseFits _ plan = Unit {0}
 
--- so for each of these
-abbrev pub AllFit : hb_ot_shape_plan_t → List Pause → Type 0
-AllFit plan pauses = All (λ pause. PauseFits pause plan) pauses
-
 -- the pauses among requests
 abbrev pub pauses_in : List Request → List Pause
 pauses_in [] = []
@@ -72,15 +68,13 @@ pauses_in (request.Pause (Some pause) ∷ rs) = pause ∷ pauses_in rs
 pauses_in (request.Pause None ∷ rs) = pauses_in rs
 pauses_in (request.Feature tag flags value ∷ rs) = pauses_in rs
 
--- the plan's data are of the kind that each pause in a shaper's lists reads, for any script, and a
--- font with rclt or without
+-- the plan's data are of the kind that each pause in a shaper's lists reads, whichever those are
 abbrev pub PausesFit : hb_ot_shaper_t → hb_ot_shape_plan_t → Type 0
 PausesFit shaper plan = (script : Option Script) (has_rclt : Bool) →
-    AllFit plan (pauses_in (unwrap_or (collected shaper script has_rclt) []))
-    × AllFit plan (pauses_in (unwrap_or (overridden shaper) []))
+    All (λ p. PauseFits p plan) (pauses_in (unwrap_or (collected shaper script has_rclt) []))
+    × All (λ p. PauseFits p plan) (pauses_in (unwrap_or (overridden shaper) []))
 
--- What a pause that reorders goes by: the circles that it opens first, what each syllable of the
--- text with them becomes, and the merges and moves that lead there.
+-- What a reordering goes by: circles, what each syllable becomes, the merges and moves to that.
 pub record Reordering : Type 0 where
   pub circles : Option DottedCircles
   pub order : List hb_glyph_info_t → List hb_glyph_info_t
@@ -137,28 +131,17 @@ reordering_of ReorderKhmer plan font b = Some (by_khmer plan font b)
 reordering_of ReorderMyanmar plan font b = Some (by_myanmar font b)
 reordering_of ReorderUse plan font b = Some (by_universal font b)
 reordering_of FinalReordering plan font b = Some (by_final plan font b)
-reordering_of SetupSyllablesIndic plan font b = None
-reordering_of SetupSyllablesKhmer plan font b = None
-reordering_of SetupSyllablesMyanmar plan font b = None
-reordering_of SetupSyllablesUse plan font b = None
-reordering_of RecordStch plan font b = None
-reordering_of RecordRphf plan font b = None
-reordering_of RecordPref plan font b = None
-reordering_of SyllabicClearVar plan font b = None
-reordering_of ClearSubstitutionFlags plan font b = None
-reordering_of ArabicFallbackShape plan font b = None
+reordering_of _ plan font b = None
 
 -- the dotted circles that it opens, if any: true is returned exactly where circles are wanted
 abbrev pub pause_circles : Pause → hb_ot_shape_plan_t → Font → Buffer → Option DottedCircles
 pause_circles pause plan font b = option_and_then (λ r. r.circles) (reordering_of pause plan font b)
 
--- the buffer before and after a reordering: circles come into the text, and each syllable becomes
--- what it goes by
+-- the buffer before and after a reordering: circles come, and each syllable becomes what it goes by
 abbrev pub Reordered : Reordering → Buffer → Buffer → Type 0
 Reordered r old new = PauseReordered r.circles r.order r.steps old new
 
--- the buffer before and after the pause: where it reorders, the placement list is empty, so that
--- each place reads 0; else it is what it was
+-- the buffer before and after the pause; where it reorders, the placement list is empty then
 abbrev pub Paused : Pause → hb_ot_shape_plan_t → Font → List Span → Buffer → Buffer → Type 0
 Paused SetupSyllablesIndic plan font spans old new =
     new ≡ spans_set_up spans indic_syllable.BROKEN_CLUSTER old
@@ -185,9 +168,8 @@ Paused ClearSubstitutionFlags plan font spans old new =
     new ≡ record old { glyphs = map unsubstituted old.glyphs }
 Paused ArabicFallbackShape plan font spans old new = new ≡ old
 
--- whether the pause may change a buffer under a plan: the record of tiles only where the font
--- stretches marks, the record of rphf only where the plan has a mask for it, the fallback of Arabic
--- never, and each other pause under any plan
+-- whether the pause may change a buffer under a plan: to record tiles only where the font stretches
+-- marks, rphf only where the plan has a mask for it, the fallback of Arabic never, others always
 abbrev pub may_change : Pause → hb_ot_shape_plan_t → Bool
 may_change RecordStch plan = has_stch plan.plan_data
 may_change RecordRphf plan = not (rphf_of plan.plan_data == 0)
@@ -212,8 +194,7 @@ PauseStays pause plan =
     Paused pause plan font spans old new → new ≡ old
 
 -- Where halves of a text meet at a border of syllables and share no cluster, what is carried along,
--- clusters and glyph flags among it, is that of the halves joined, whose bytes may have other
--- serials, but for serials.
+-- clusters and glyph flags too, is the halves' joined, serials apart, whatever theirs are.
 abbrev pub CarriedAtBorders : Reordering → Buffer → Buffer → Type 0
 CarriedAtBorders r old new = (gs hs xs ys : List hb_glyph_info_t) →
     old.glyphs ≡ gs ++ hs → MeetAtBorder gs hs → SameButSerials gs xs → SameButSerials hs ys →
@@ -222,11 +203,10 @@ CarriedAtBorders r old new = (gs hs xs ys : List hb_glyph_info_t) →
     ≡ map unnumbered (paused_carried r.circles r.steps old.level xs)
     ++ map unnumbered (paused_carried r.circles r.steps old.level ys)
 
--- What every reordering keeps. A text cut at any border of syllables gives the halves' results
--- joined; where the bytes of the halves have other serials, but for serials; where they share no
--- cluster, glyph flags too. No glyph is lost, no cluster rises, glyph flags stay unless it fell,
--- and what shared a cluster still does: the laws of steps, from after circles on. Every cluster is
--- one that the text had before its circles.
+-- What every reordering keeps. A text cut at a border of syllables gives the halves' results
+-- joined, serials apart where theirs are others; where they share no cluster, glyph flags too. No
+-- glyph is lost, no cluster rises, glyph flags stay unless it fell, what shared one still does: the
+-- laws of steps, from after circles on. Every cluster is one from before the circles.
 pub record ReorderingKeeps (r : Reordering) (old new : Buffer) : Type 0 where
   pub cuts : PauseCutsAtBorders r.circles r.order r.steps old new
   pub renumbered : CutsAtBorders unnumbered (paused_order r.circles r.order)
@@ -235,8 +215,7 @@ pub record ReorderingKeeps (r : Reordering) (old new : Buffer) : Type 0 where
   pub text : TextReordered r.steps (record old { glyphs = circled r.circles old.glyphs }) new
   pub old_clusters : NoNewCluster old.glyphs new.glyphs
 
--- and where syllables move only inside what they merged first, as but for Indic they do: exact cuts
--- and the cluster law besides
+-- and where syllables move only inside what they merged first: exact cuts and the cluster law
 abbrev pub MergedFirst : Reordering → Buffer → Buffer → Type 0
 MergedFirst r old new =
     let opened = circled r.circles old.glyphs in
@@ -246,28 +225,23 @@ MergedFirst r old new =
 abbrev pub OneByOne : Reordering → Buffer → Buffer → Type 0
 OneByOne r old new = PauseLinked r.circles (SyllableReordered r.order r.steps) old new
 
--- no cluster changes
-abbrev pub ClustersStay : Buffer → Buffer → Type 0
-ClustersStay old new = clusters new.glyphs ≡ clusters old.glyphs
-
--- The laws of a pause: spans may be cut between any two, and texts at any border of syllables;
--- what becomes of clusters and glyph flags. What doesn't reorder leaves clusters, and only adds
--- flags. What reorders does so syllable by syllable. In the initial reordering of Indic clusters
--- merge by the cycles of its order, in the final one by its moves. In Khmer what comes to the front
--- of a regular syllable are its movers.
+-- The laws of a pause: spans may be cut between any two, and texts at any border of syllables; what
+-- becomes of clusters and glyph flags. What doesn't reorder leaves clusters, and only adds flags.
+-- What reorders does so by syllables. In Indic clusters merge by the cycles of the initial order,
+-- and by the moves of the final one. In Khmer the movers of a regular syllable come to its front.
 abbrev pub PauseKeeps : Pause → hb_ot_shape_plan_t → Font → List Span → Buffer → Buffer → Type 0
 PauseKeeps SetupSyllablesIndic plan font spans old new =
-    SetUpCutsAtSpans spans indic_syllable.BROKEN_CLUSTER old new × ClustersStay old new
-    × OnlyFlagsAdded old.glyphs new.glyphs
+    SetUpCutsAtSpans spans indic_syllable.BROKEN_CLUSTER old new
+    × (clusters new.glyphs ≡ clusters old.glyphs) × OnlyFlagsAdded old.glyphs new.glyphs
 PauseKeeps SetupSyllablesKhmer plan font spans old new =
-    SetUpCutsAtSpans spans khmer_syllable.BROKEN_CLUSTER old new × ClustersStay old new
-    × OnlyFlagsAdded old.glyphs new.glyphs
+    SetUpCutsAtSpans spans khmer_syllable.BROKEN_CLUSTER old new
+    × (clusters new.glyphs ≡ clusters old.glyphs) × OnlyFlagsAdded old.glyphs new.glyphs
 PauseKeeps SetupSyllablesMyanmar plan font spans old new =
-    SetUpCutsAtSpans spans myanmar_syllable.BROKEN_CLUSTER old new × ClustersStay old new
-    × OnlyFlagsAdded old.glyphs new.glyphs
+    SetUpCutsAtSpans spans myanmar_syllable.BROKEN_CLUSTER old new
+    × (clusters new.glyphs ≡ clusters old.glyphs) × OnlyFlagsAdded old.glyphs new.glyphs
 PauseKeeps SetupSyllablesUse plan font spans old new =
-    UniversalSetUpCutsAtSpans plan.plan_data plan.ot_map spans old new × ClustersStay old new
-    × OnlyFlagsAdded old.glyphs new.glyphs
+    UniversalSetUpCutsAtSpans plan.plan_data plan.ot_map spans old new
+    × (clusters new.glyphs ≡ clusters old.glyphs) × OnlyFlagsAdded old.glyphs new.glyphs
 PauseKeeps InitialReordering plan font spans old new =
     ReorderingKeeps (by_initial plan font old) old new
     × (InitiallyLinked font plan.ot_map (indic_in plan) old new
@@ -287,15 +261,9 @@ PauseKeeps FinalReordering plan font spans old new =
     FinallyKept (final.final_rules font (indic_in plan)) old new
     × (FinallyLinked (final.final_rules font (indic_in plan)) old new
     × NoNewCluster old.glyphs new.glyphs)
-PauseKeeps RecordStch plan font spans old new = OnlyFlagsAdded old.glyphs new.glyphs
-PauseKeeps RecordRphf plan font spans old new = OnlyFlagsAdded old.glyphs new.glyphs
-PauseKeeps RecordPref plan font spans old new = OnlyFlagsAdded old.glyphs new.glyphs
-PauseKeeps SyllabicClearVar plan font spans old new = OnlyFlagsAdded old.glyphs new.glyphs
-PauseKeeps ClearSubstitutionFlags plan font spans old new = OnlyFlagsAdded old.glyphs new.glyphs
-PauseKeeps ArabicFallbackShape plan font spans old new = OnlyFlagsAdded old.glyphs new.glyphs
+PauseKeeps _ plan font spans old new = OnlyFlagsAdded old.glyphs new.glyphs
 
--- when a reordering refuses: an unknown kind first; then as a growth to the text with its circles
--- does; never where no circle opens
+-- when a reordering refuses: an unknown kind first; then as a growth by its circles, never without
 abbrev pub RefusesReordering :
     {T : Type 0} → Option ShaperError → Option DottedCircles → Buffer → Result T ShaperError →
     Type 0

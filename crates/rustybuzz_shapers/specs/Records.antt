@@ -1,5 +1,6 @@
 -- The records of the shapers: their constants, and what they request of the map.
 use Rattle.std.specs.Prelude.{Bool, true, false, List, Option, None, Some, codes}
+use Rattle.std.specs.Option.{option_map_or}
 use Rattle.shapers_base.specs.Planner.{Planner, with_requests}
 use Rattle.shapers_buffer.specs.declared.buffer.tag.hb_tag_t.{hb_tag_t}
 use Rattle.shapers_buffer.specs.declared.buffer.tag.Script.{Script}
@@ -20,14 +21,11 @@ use Rattle.rustybuzz_shapers.specs.declared.shaper.hb_ot_shaper_t.TheVariants.{A
 -- how the text is normalized
 abbrev pub normalizes : hb_ot_shaper_t → NormalizationMode
 normalizes Arabic = mode.AUTO
-normalizes Hangul = mode.NONE
 normalizes Hebrew = mode.AUTO
-normalizes Indic = mode.CD
-normalizes Khmer = mode.CD
-normalizes Myanmar = mode.CD
-normalizes MyanmarZawgyi = mode.NONE
 normalizes Thai = mode.AUTO
-normalizes Universal = mode.CD
+normalizes Hangul = mode.NONE
+normalizes MyanmarZawgyi = mode.NONE
+normalizes _ = mode.CD
 
 -- the script that GPOS has to have for its marks to be trusted
 abbrev pub wants_gpos_script : hb_ot_shaper_t → Option hb_tag_t
@@ -37,14 +35,11 @@ wants_gpos_script _ = None
 -- when the advances of marks become zero
 abbrev pub zeroes_marks : hb_ot_shaper_t → ZeroWidthMarks
 zeroes_marks Arabic = zeroing.GDEF_LATE
-zeroes_marks Hangul = zeroing.NONE
 zeroes_marks Hebrew = zeroing.GDEF_LATE
-zeroes_marks Indic = zeroing.NONE
-zeroes_marks Khmer = zeroing.NONE
-zeroes_marks Myanmar = zeroing.GDEF_EARLY
-zeroes_marks MyanmarZawgyi = zeroing.NONE
 zeroes_marks Thai = zeroing.GDEF_LATE
+zeroes_marks Myanmar = zeroing.GDEF_EARLY
 zeroes_marks Universal = zeroing.GDEF_EARLY
+zeroes_marks _ = zeroing.NONE
 
 -- whether marks are placed without the font's help where it gives none
 abbrev pub places_marks : hb_ot_shaper_t → Bool
@@ -71,5 +66,4 @@ overridden _ = None
 
 -- the planner after these requests, if there are any
 abbrev pub asked : Option (List Request) → Planner → Planner
-asked None p = p
-asked (Some rs) p = with_requests rs p
+asked requests p = option_map_or (λ rs. with_requests rs p) requests p

@@ -18,8 +18,7 @@ use Rattle.shapers_syllabic.specs.Circles.{circled}
 use Rattle.shapers_syllabic.specs.Reordering.{text_order}
 use Rattle.rustybuzz_shapers.specs.Pauses.{Paused, Reordering, reordering_of}
 
--- what syllables become together: one after another; in the final reordering of Indic with the
--- masks of init, which also look at the glyph before
+-- what syllables become together; in Indic's final reordering with init, which also looks before
 abbrev pub text_of_syllables :
     Pause → hb_ot_shape_plan_t → Font → Reordering → List hb_glyph_info_t → List hb_glyph_info_t
 text_of_syllables FinalReordering plan font r gs =
@@ -37,8 +36,7 @@ pub record RegroupsSyllables (pause : Pause) (plan : hb_ot_shape_plan_t) (font :
   pub each : (syl : List hb_glyph_info_t) →
       IsPermutation (map (λ g. g.glyph_id) syl) (map (λ g. g.glyph_id) (r.order syl))
 
--- so each pause that reorders, by what it makes of a syllable: a function of that syllable, the
--- plan, the font and the buffer's script
+-- so each pause that reorders, by its function of a syllable, the plan, the font and the script
 abbrev pub SyllablesRegrouped : Type 0
 SyllablesRegrouped =
     (pause : Pause) (plan : hb_ot_shape_plan_t) (font : Font) (spans : List Span)

@@ -18,9 +18,8 @@ abbrev pub glyphs_added : hb_ot_shaper_t → Font → Buffer → ℕ
 glyphs_added Arabic font old = copies_in font old
 glyphs_added _ font old = 0
 
--- The text after is the parts of the text before, one after another, each with its run laid: as
--- wide as its numbers say, and where its tiles fit, as the word, or wider by less than a unit for
--- each added copy.
+-- The text after is the parts of the text before, each with its run laid: as wide as its numbers
+-- say, and where its tiles fit, as the word, or wider by less than a unit per added copy.
 abbrev pub StretchesCover : Type 0
 StretchesCover = (plan : hb_ot_shape_plan_t) (font : Font) (old new : Buffer) →
     old.stch ≡ true → length old.positions ≡ length old.glyphs →
@@ -36,8 +35,7 @@ advance_of cs = total (map (λ c. c.1.x_advance) cs)
 abbrev pub tiles_advance : List Cell → ℤ
 tiles_advance cs = total (map (λ part. advance_of (tiles_of part)) (parts_of_text cs))
 
--- The advance of the line: that before, less that of the tiles, since their copies have none. So
--- the copies, however many, make no line longer.
+-- The line's advance: that before, less the tiles', since copies, however many, have none.
 abbrev pub LineAdvances : Type 0
 LineAdvances = (plan : hb_ot_shape_plan_t) (font : Font) (old new : Buffer) →
     old.stch ≡ true → length old.positions ≡ length old.glyphs →

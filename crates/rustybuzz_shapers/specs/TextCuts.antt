@@ -14,16 +14,14 @@ use Rattle.shapers_text.specs.ThaiForms.{asks_for_forms, is_thai_mark}
 use Rattle.rustybuzz_shapers.specs.Hooks.{Preprocessed}
 use Rattle.rustybuzz_shapers.specs.declared.shaper.hb_ot_shaper_t.TheVariants.{Hangul, Thai}
 
--- A Thai or Lao text opens freely with a glyph that is no above-base mark and no SARA AM; where
--- private use forms follow, no mark of Thai either.
+-- A Thai text opens freely with no above-base mark or SARA AM; where forms follow, with no mark.
 abbrev pub OpensFreely : Bool → List hb_glyph_info_t → Type 0
 OpensFreely forms [] = Unit {0}
 OpensFreely forms (g ∷ gs) =
     (is_above_base g.glyph_id ≡ false)
     × ((is_sara_am g.glyph_id ≡ false) × (forms ≡ true → is_thai_mark g.glyph_id ≡ false))
 
--- What the whole became, and the halves gs and hs: the same glyphs in order; and where the halves
--- share no cluster, the same clusters.
+-- What the whole became: the halves' glyphs in order; where they share no cluster, their clusters.
 pub record PreprocessedHalves (gs hs one two new : List hb_glyph_info_t) : Type 0 where
   pub order : order_view new ≡ order_view one ++ order_view two
   pub in_clusters : ShareNone gs hs → clusters new ≡ clusters one ++ clusters two
@@ -38,8 +36,7 @@ ThaiCuts = (plan : hb_ot_shape_plan_t) (font : Font) (gs hs : List hb_glyph_info
     Preprocessed Thai plan font (record old { glyphs = gs ++ hs }) new →
     PreprocessedHalves gs hs one.glyphs two.glyphs new.glyphs
 
--- place n of a Hangul text is between two of its items: each ends there at the latest, or begins
--- there at the earliest
+-- place n of a Hangul text is between items: each ends there or earlier, or begins there or later
 abbrev pub IsBetweenItems : Font → Bool → List ℕ → ℕ → Type 0
 IsBetweenItems font circles us n =
     AllByRecursion (λ p. (p.0 + item_len p.1 ≤ n) ⊎ (n ≤ p.0)) (items font circles us)

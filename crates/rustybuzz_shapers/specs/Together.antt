@@ -19,9 +19,8 @@ LettersJoin Arabic kept = Unit {0}
 LettersJoin Universal kept = is_some (arabic_of kept) ≡ true
 LettersJoin shaper kept = ⊥
 
--- masks are set in two buffers, of which the second wants flags of concatenation, and in the glyphs
--- of the one up to place n put together with those of the other from place m on; these have a
--- letter, or no letter follows them
+-- masks are set in two buffers, of which the second wants flags of concatenation, and in the one up
+-- to place n put together with the other from place m on; this has a letter, or none follows it
 pub record SetTogether (shaper : hb_ot_shaper_t) (plan : hb_ot_shape_plan_t)
     (tables : CharacterTables) (n m : ℕ) (one two one_new two_new new : Buffer) : Type 0 where
   pub first : MasksSet shaper plan tables one one_new
@@ -31,8 +30,7 @@ pub record SetTogether (shaper : hb_ot_shaper_t) (plan : hb_ot_shape_plan_t)
   pub inside : ((0 < n) × (n < length one.glyphs)) × ((0 < m) × (m < length two.glyphs))
   pub letter : HasOwnLetter tables.joining tables.general m two
 
--- both parts keep what they had, if no flag forbids a break before place n in the one text or a
--- border before place m in the other
+-- both parts keep what they had, if place n of the one text is clear and border m of the other bare
 abbrev pub TextsConcatenate : Type 0
 TextsConcatenate = (shaper : hb_ot_shaper_t) (plan : hb_ot_shape_plan_t)
     (tables : CharacterTables) (n m : ℕ) (one two one_new two_new new : Buffer) →

@@ -139,7 +139,8 @@ opens-within : (n : ℕ) (cs : List ℕ) → prefix_len is_selector cs ≤ n + p
 opens-within zero cs = omega arith
 opens-within (suc n) [] = omega arith
 opens-within (suc n) (c ∷ cs) =
-    elim (is_selector c) as (λ b. cond b (1 + prefix_len is_selector cs) 0 ≤ suc n + prefix_len is_selector (drop n cs)) [
+    elim (is_selector c) as (λ b. cond b (1 + prefix_len is_selector cs) 0
+    ≤ suc n + prefix_len is_selector (drop n cs)) [
       | true ↦ omega (arith, opens-within n cs)
       | false ↦ omega arith
     ]

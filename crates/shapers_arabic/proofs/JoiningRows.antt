@@ -193,7 +193,8 @@ looked_up : look_ups
 looked_up = refl
 
 -- Mongolian
-mongolian : map (λ tag. is_mongolian (Some (record { 0 = codes tag }))) ("Mong" ∷ "Arab" ∷ "mong" ∷ []) ≡ true ∷ false ∷ false ∷ []
+mongolian : map (λ tag. is_mongolian (Some (record { 0 = codes tag }))) ("Mong" ∷ "Arab" ∷ "mong" ∷ [])
+    ≡ true ∷ false ∷ false ∷ []
 mongolian = refl
 
 no_script : is_mongolian None ≡ false

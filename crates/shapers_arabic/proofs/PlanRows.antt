@@ -16,11 +16,31 @@ abbrev map_of : List feature_map_t → Map
 map_of features = record { features = features; stages = []; lookups = []; global = 0; chosen = None; found = true }
 
 -- the features of a font in another order
-all_masks : arabic_plan Centred breaks.AsCode (map_of (feature "init" 8 ∷ feature "med2" 16 ∷ feature "medi" 32 ∷ feature "fin3" 64 ∷ feature "fin2" 128 ∷ feature "fina" 256 ∷ feature "isol" 512 ∷ feature "stch" 1024 ∷ [])) ≡ record { mask_array = 512 ∷ 256 ∷ 128 ∷ 64 ∷ 32 ∷ 16 ∷ 8 ∷ 0 ∷ []; has_stch = true; stretch_start = Centred; break_flags = breaks.AsCode }
+all_masks : arabic_plan Centred breaks.AsCode
+    (map_of (feature "init" 8 ∷ feature "med2" 16 ∷ feature "medi" 32 ∷ feature "fin3" 64 ∷ feature "fin2" 128
+    ∷ feature "fina" 256 ∷ feature "isol" 512 ∷ feature "stch" 1024 ∷ []))
+    ≡ record {
+      mask_array = 512 ∷ 256 ∷ 128 ∷ 64 ∷ 32 ∷ 16 ∷ 8 ∷ 0 ∷ [];
+      has_stch = true;
+      stretch_start = Centred;
+      break_flags = breaks.AsCode;
+    }
 all_masks = refl
 
-no_masks : arabic_plan starts.AsCode Sound (map_of (feature "rlig" 8 ∷ [])) ≡ record { mask_array = 0 ∷ 0 ∷ 0 ∷ 0 ∷ 0 ∷ 0 ∷ 0 ∷ 0 ∷ []; has_stch = false; stretch_start = starts.AsCode; break_flags = Sound }
+no_masks : arabic_plan starts.AsCode Sound (map_of (feature "rlig" 8 ∷ []))
+    ≡ record {
+      mask_array = 0 ∷ 0 ∷ 0 ∷ 0 ∷ 0 ∷ 0 ∷ 0 ∷ 0 ∷ [];
+      has_stch = false;
+      stretch_start = starts.AsCode;
+      break_flags = Sound;
+    }
 no_masks = refl
 
-stretching_without_a_mask : arabic_plan starts.AsCode breaks.AsCode (map_of (feature "stch" 0 ∷ feature "isol" 8 ∷ [])) ≡ record { mask_array = 8 ∷ 0 ∷ 0 ∷ 0 ∷ 0 ∷ 0 ∷ 0 ∷ 0 ∷ []; has_stch = false; stretch_start = starts.AsCode; break_flags = breaks.AsCode }
+stretching_without_a_mask : arabic_plan starts.AsCode breaks.AsCode (map_of (feature "stch" 0 ∷ feature "isol" 8 ∷ []))
+    ≡ record {
+      mask_array = 8 ∷ 0 ∷ 0 ∷ 0 ∷ 0 ∷ 0 ∷ 0 ∷ 0 ∷ [];
+      has_stch = false;
+      stretch_start = starts.AsCode;
+      break_flags = breaks.AsCode;
+    }
 stretching_without_a_mask = refl

@@ -21,8 +21,7 @@ abbrev pub sound_flags : List hb_arabic_joining_type_t → List hb_arabic_joinin
 sound_flags before types after =
     joining_flags before types after ++ form_flags_along before [] types after
 
--- the text may be broken behind ts: its forms are those of the halves, each by itself, with nothing
--- between them
+-- the text may be broken behind ts: its forms are those of the halves, each with nothing at the cut
 abbrev pub MayBreak : List hb_arabic_joining_type_t → List hb_arabic_joining_type_t →
     List hb_arabic_joining_type_t → List hb_arabic_joining_type_t → Type 0
 MayBreak before ts us after =

@@ -15,15 +15,13 @@ use Rattle.shapers_arabic.specs.JoinedText.{buffer_joined, opening, stored_types
 abbrev pub edited : ℕ → ℕ → List hb_glyph_info_t → Buffer → Buffer
 edited s e gs b = record b { glyphs = take s b.glyphs ++ (gs ++ drop e b.glyphs) }
 
--- two lists at the places of a text with these characters are the same from place k on, but for
--- place j and, with the script Mongolian, the selectors directly behind it
+-- two lists at a text's places agree from place k on, but for j and Mongolian selectors behind it
 abbrev pub SameBut : {T : Type 0} → Option Script → ℕ → ℕ → List ℕ → List T → List T → Type 0
 SameBut script k j characters xs ys =
     let l = suc j + opening script (drop (suc j) characters) in
     (drop k (take j xs) ≡ drop k (take j ys)) × (drop l xs ≡ drop l ys)
 
--- Before an edit all glyphs stay if none is a letter, else all but the last letter and, with the
--- script Mongolian, the selectors directly behind it.
+-- Before an edit all stay but the last letter, if there is one, and Mongolian selectors behind it.
 pub record StayBefore (script : Option Script) (types : List hb_arabic_joining_type_t)
     (characters : List ℕ) (xs ys : List hb_glyph_info_t) : Type 0 where
   pub none : nearest types ≡ None → xs ≡ ys
@@ -31,8 +29,7 @@ pub record StayBefore (script : Option Script) (types : List hb_arabic_joining_t
       types ≡ front ++ t ∷ tail → is_transparent t ≡ false → nearest tail ≡ None →
       SameBut script 0 (length front) characters xs ys
 
--- Behind an edit all stay but the first letter and, with the script Mongolian, the selectors
--- directly behind it and those that open the part.
+-- Behind an edit all stay but the first letter and Mongolian selectors behind it or in front.
 pub record StayBehind (script : Option Script) (types : List hb_arabic_joining_type_t)
     (characters : List ℕ) (xs ys : List hb_glyph_info_t) : Type 0 where
   pub none : nearest types ≡ None →
@@ -41,9 +38,8 @@ pub record StayBehind (script : Option Script) (types : List hb_arabic_joining_t
       types ≡ front ++ t ∷ tail → nearest front ≡ None → is_transparent t ≡ false →
       SameBut script (opening script characters) (length front) characters xs ys
 
--- One: the glyphs gs after joining; two: the same after joining, where so many others have replaced
--- those from s to e. What stands before the edit stays, and what stands behind it, all but clusters
--- and glyph flags.
+-- One: the glyphs gs after joining; two: so with that many others in place of those from s to e.
+-- What stands before the edit stays, and what stands behind it, all but clusters and glyph flags.
 pub record StayNear (script : Option Script) (joining : ℕ → hb_arabic_joining_type_t)
     (s e others : ℕ) (gs one two : List hb_glyph_info_t) : Type 0 where
   pub before : StayBefore script (stored_types joining (take s gs)) (characters (take s gs))

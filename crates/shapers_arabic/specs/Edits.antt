@@ -13,8 +13,7 @@ is_shielded_behind ts i =
 abbrev pub is_shielded_before : List hb_arabic_joining_type_t → ℕ → Bool
 is_shielded_before us i = is_transparent (slice_index_or us i U) || is_some (nearest (take i us))
 
--- Where one place of a text changes, behind ts and before us, only its own form changes and those
--- of the nearest letters on both sides.
+-- Where one place changes, between ts and us, only its form and the nearest letters' forms do.
 abbrev pub EditsStayNear : Type 0
 EditsStayNear = (before ts us after : List hb_arabic_joining_type_t)
     (x y : hb_arabic_joining_type_t) (i : ℕ) →

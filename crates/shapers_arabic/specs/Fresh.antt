@@ -8,9 +8,8 @@ use Rattle.shapers_clusters.specs.Breaks.{IsStrictlyMonotone, is_unsafe}
 use Rattle.shapers_arabic.specs.Joining.{is_selector, is_transparent}
 use Rattle.shapers_arabic.specs.JoinedText.{Text, is_mongolian}
 
--- nothing but joining decides which places are clear: each glyph is a cluster of its own, and
--- clusters rise or fall along the text; no glyph was flagged before; no form's mask has a glyph
--- flag bit
+-- nothing but joining decides which places are clear: each glyph is a cluster of its own, clusters
+-- rise or fall along the text, no glyph was flagged before, and no form's mask has a glyph flag bit
 pub record IsFresh (masks : List ℕ) (gs : List hb_glyph_info_t) : Type 0 where
   pub single : IsStrictlyMonotone (clusters gs)
   pub unflagged : AllByRecursion (λ g. is_unsafe g ≡ false) gs

@@ -32,8 +32,7 @@ abbrev pub context_types : (ℕ → hb_arabic_joining_type_t) → (ℕ → hb_un
     List ℕ → List hb_arabic_joining_type_t
 context_types joining general cs = map (λ c. resolved (joining c) (general c)) cs
 
--- a text, as far as joining sees it: the types before it, nearest first, its characters and their
--- types, and the types after it
+-- a text, as joining sees it: types before it, nearest first, characters and types, types after it
 pub record Text : Type 0 where
   pub before : List hb_arabic_joining_type_t
   pub characters : List ℕ
@@ -50,8 +49,7 @@ text_of joining general b = record {
   after = context_types joining general b.after;
 }
 
--- the form of each place: by the joining rule, and then, with the script Mongolian, by the selector
--- rule
+-- the form of each place: by the joining rule, and then, if Mongolian, by the selector rule
 abbrev pub forms_of : Option Script → Text → List ℕ
 forms_of script text =
     let by_rule = forms text.before text.types text.after in
@@ -66,8 +64,7 @@ with_form masks form g =
 abbrev pub with_joining_forms : List ℕ → List ℕ → List hb_glyph_info_t → List hb_glyph_info_t
 with_joining_forms masks forms gs = map (λ p. with_form masks p.0 p.1) (zip forms gs)
 
--- what Sound flags besides: forms that the text's pieces would lose, and with the script Mongolian
--- copied forms
+-- what Sound flags besides: forms that the text's pieces would lose, and copied ones if Mongolian
 abbrev pub added_calls : Option Script → Text → List FlagCall
 added_calls script text =
     let by_rule = forms text.before text.types text.after in
@@ -81,8 +78,7 @@ flag_calls AsCode script text = joining_flags text.before text.types text.after
 flag_calls Sound script text =
     joining_flags text.before text.types text.after ++ added_calls script text
 
--- the glyphs of a text after joining: each in its form, and the flags of joining, as far as the
--- buffer wants them
+-- the glyphs of a text after joining: each in its form, with those flags that the buffer wants
 abbrev pub joined_glyphs : BreakFlags → List ℕ → BufferFlags → Option Script → Text →
     List hb_glyph_info_t → List hb_glyph_info_t
 joined_glyphs breaks masks flags script text gs =
@@ -120,8 +116,7 @@ abbrev pub second_half : ℕ → List hb_arabic_joining_type_t → Text → Text
 second_half n inner text =
     record text { before = inner; characters = drop n text.characters; types = drop n text.types }
 
--- the inner contexts show the neighbours: in each the nearest type that isn't transparent is the
--- one that the whole text has there, or both have none
+-- the inner contexts show the neighbours: their nearest letters are those of the whole text there
 pub record ShowNeighbours (n : ℕ) (text : Text) (inner_after inner_before : List
     hb_arabic_joining_type_t) : Type 0 where
   pub onward : nearest inner_after ≡ nearest (drop n text.types ++ text.after)
@@ -131,8 +126,7 @@ pub record ShowNeighbours (n : ℕ) (text : Text) (inner_after inner_before : Li
 abbrev pub opening : Option Script → List ℕ → ℕ
 opening script characters = if is_mongolian script then prefix_len is_selector characters else 0
 
--- these forms are those of the halves, one after the other; only the selectors that open the second
--- half may differ
+-- these forms are the halves' joined; only the selectors that open the second half may differ
 pub record ActAsHalves (script : Option Script) (n : ℕ) (text : Text) (inner_after inner_before :
     List hb_arabic_joining_type_t) (whole : List ℕ) : Type 0 where
   pub first : take n whole ≡ forms_of script (first_half n inner_after text)
@@ -153,8 +147,7 @@ abbrev pub CutsAsHalves : Option Script → (ℕ → hb_arabic_joining_type_t) �
 CutsAsHalves script joining general old new =
     HoldsCut script (text_of joining general old) (map (λ g. g.auxiliary) new.glyphs)
 
--- what a context shows that is copied from a text, at most five characters of it: one of them isn't
--- transparent, or the text ends there
+-- what a context of at most five characters copied from a text shows: a letter, or the text's end
 abbrev pub Shows : List hb_arabic_joining_type_t → Type 0
 Shows ts = (is_some (nearest (take 5 ts)) ≡ true) ⊎ (length ts ≤ 5)
 
@@ -182,8 +175,7 @@ second_of n b = record b {
   before = take 5 (reverse (map (λ g. g.glyph_id) (take n b.glyphs)) ++ b.before);
 }
 
--- the forms of the whole are those of these halves; only the selectors that open the second may
--- differ
+-- the forms of the whole are those of these halves, selectors that open the second apart
 pub record HalvesAgree (script : Option Script) (joining : ℕ →
     hb_arabic_joining_type_t) (general : ℕ →
     hb_unicode_general_category_t) (n : ℕ) (b : Buffer) : Type 0 where

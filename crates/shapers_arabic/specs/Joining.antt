@@ -8,8 +8,7 @@ use Rattle.shapers_base.specs.declared.plan.joining.hb_arabic_joining_type_t.{hb
 use Rattle.shapers_base.specs.declared.plan.joining.hb_arabic_joining_type_t.TheVariants.{U, L, R, D, GroupAlaph, GroupDalathRish, T, X}
 use Rattle.shapers_arabic.specs.declared.ot_shaper_arabic.arabic_action_t.TheConstants.{ISOL, FINA, FIN2, FIN3, MEDI, MED2, INIT, NONE}
 
--- the general categories of characters that joining passes over unless their type says otherwise:
--- Mn, Me and Cf
+-- the categories of characters that joining passes over unless their type says otherwise
 abbrev pub is_passed_over : hb_unicode_general_category_t → Bool
 is_passed_over Mn = true
 is_passed_over Me = true
@@ -53,8 +52,7 @@ form true false = FINA
 form false true = INIT
 form false false = ISOL
 
--- Alaph by the letter before it: joined to it, after R or another Alaph, after Dalath or Rish, or
--- alone
+-- Alaph by the letter before it: joined to it; after R or Alaph; after Dalath or Rish; or alone
 abbrev pub alaph_after : Option hb_arabic_joining_type_t → ℕ
 alaph_after (Some L) = FINA
 alaph_after (Some D) = FINA
@@ -77,8 +75,7 @@ act before D after = form (joins_on before) (joins_back after)
 act before GroupDalathRish after = form (joins_on before) false
 act before _ after = NONE
 
--- the forms of a text between what stands before it, nearest first, and what follows it: each by
--- the joining rule
+-- the forms of a text between what stands before it, nearest first, and what follows it
 abbrev pub forms : List hb_arabic_joining_type_t → List hb_arabic_joining_type_t →
     List hb_arabic_joining_type_t → List ℕ
 forms before [] after = []
@@ -89,8 +86,7 @@ forms before (t ∷ ts) after =
 abbrev pub is_selector : ℕ → Bool
 is_selector c = nat_le 0x180B c && nat_le c 0x180D || c == 0x180F
 
--- of places with their forms, nearest first: the form at the nearest place that is no selector, or
--- else at the last of them
+-- of places with their forms, nearest first: the nearest form that is no selector's, or the last
 abbrev pub form_behind : List (ℕ × ℕ) → ℕ → ℕ
 form_behind [] own = own
 form_behind ((c, a) ∷ before) own = if is_selector c then form_behind before a else a

@@ -8,8 +8,7 @@ use Rattle.shapers_base.specs.declared.plan.joining.hb_arabic_joining_type_t.{hb
 use Rattle.shapers_base.specs.declared.plan.joining.hb_arabic_joining_type_t.TheVariants.{U, L, R, D, GroupAlaph, GroupDalathRish}
 use Rattle.shapers_arabic.specs.Joining.{is_transparent, nearest, joins_back, act}
 
--- a letter of a text: its type, and the types of the text before it, nearest first; their number is
--- its place
+-- a letter of a text: its type, and the types before it, nearest first; their number is its place
 pub record Letter : Type 0 where
   pub own : hb_arabic_joining_type_t
   pub before : List hb_arabic_joining_type_t
@@ -44,8 +43,7 @@ pair_flags context k t joins end =
     else if joins || can_change context k then UnsafeToConcat (length k.before) end ∷ []
     else []
 
--- the flags of a letter of type t, the last before the place end, with the nearest letter before
--- it; a first letter that joins back is flagged from the text's start
+-- the flags of a letter of type t, the last before the place end, with the letter before it or none
 abbrev pub letter_flags :
     List hb_arabic_joining_type_t → Option Letter → hb_arabic_joining_type_t → ℕ → List FlagCall
 letter_flags context None t end = if joins_back (Some t) then UnsafeToConcat 0 end ∷ [] else []
@@ -66,8 +64,7 @@ flags_along context passed (t ∷ ts) =
     (if is_transparent t then [] else letter_flags context (nearest_letter passed) t end)
     ++ flags_along context (t ∷ passed) ts
 
--- what joining flags in a text between its contexts, both nearest first: each letter with the one
--- before it, and the last with the nearest type behind the text
+-- what joining flags: each letter with the one before it, the last with the nearest type behind
 abbrev pub joining_flags : List hb_arabic_joining_type_t → List hb_arabic_joining_type_t →
     List hb_arabic_joining_type_t → List FlagCall
 joining_flags context types after =

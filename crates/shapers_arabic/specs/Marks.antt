@@ -72,8 +72,7 @@ abbrev pub merged_for : ℕ → ℕ → ℕ → List (ℕ × ℕ)
 merged_for zero p q = []
 merged_for (suc k) p q = (p, q) ∷ []
 
--- What merges, by the lengths of the first four parts: the modifiers of 220 with what they pass,
--- and then those of 230 with what they pass.
+-- What merges: the modifiers of 220 with what they pass, then those of 230; by the parts' lengths.
 abbrev pub passed : ℕ → ℕ → ℕ → ℕ → List (ℕ × ℕ)
 passed a m b n = merged_for m 0 (a + m) ++ merged_for n m (a + m + b + n)
 
@@ -110,8 +109,7 @@ marks_merged level start end gs = merge_all level (text_step start end gs).merge
 abbrev pub without_class : hb_glyph_info_t → hb_glyph_info_t
 without_class g = record g { modified_combining_class = 0 }
 
--- what the reordering promises of the buffer before and after it, through that view: no glyph is
--- lost, and the laws of clusters and flags hold
+-- what the reordering promises, through that view: no glyph is lost, and the laws hold
 abbrev pub ArabicMarksReordered : ℕ → ℕ → Buffer → Buffer → Type 0
 ArabicMarksReordered start end old new =
     ReorderedHold without_class old.level (text_step start end old.glyphs ∷ []) old.glyphs

@@ -17,15 +17,13 @@ is_arabic (Some s) = pointwise nat_eq s.0 (codes "Arab")
 abbrev pub rclt : hb_tag_t
 rclt = record { 0 = codes "rclt" }
 
--- the joining forms, with these flags, but those of the second and third kind without a fallback;
--- each followed by a pause
+-- the joining forms, each followed by a pause; those of the second and third kind have no fallback
 abbrev pub joining_list : ℕ → List Request
 joining_list flags = each_paused (added flags "isol" ∷ added flags "fina"
     ∷ added F_MANUAL_ZWJ "fin2" ∷ added F_MANUAL_ZWJ "fin3" ∷ added flags "medi"
     ∷ added F_MANUAL_ZWJ "med2" ∷ added flags "init" ∷ [])
 
--- Arabic: only with the script Arabic itself a fallback for the joining forms and its pause, and
--- only without rclt a pause after calt
+-- Arabic: a fallback and its pause only with the script Arabic; without rclt a pause after calt
 abbrev pub arabic_list : Bool → Bool → List Request
 arabic_list arabic has_rclt =
     enabled F_NONE "stch" ∷ pause_for RecordStch ∷ enabled F_MANUAL_ZWJ "ccmp"

@@ -16,9 +16,8 @@ abbrev pub is_taken : ℕ → Bool
 is_taken form =
     form == FINA || form == FIN2 || form == FIN3 || form == MEDI || form == MED2
 
--- the flags of a letter that ends before place end, in its final form: behind a letter of the text
--- where that form is FIN2 or FIN3, from that letter on; as the first letter where it took its form
--- from the context, from the text's start on
+-- the flags of a letter that ends before place end, in its final form: if FIN2 or FIN3, from the
+-- letter before it on; as the first letter, if it took its form from the context, from the start
 abbrev pub form_flags : Option Letter → ℕ → ℕ → List FlagCall
 form_flags None form end = if is_taken form then UnsafeToBreak 0 end ∷ [] else []
 form_flags (Some k) form end =
@@ -33,9 +32,8 @@ form_flags_along context passed (t ∷ ts) after =
     (if is_transparent t then [] else form_flags (nearest_letter passed) form (suc (length passed)))
     ++ form_flags_along context (t ∷ passed) ts after
 
--- the flags of selectors, at each of these places, a character with its form by the joining rule,
--- behind those before it, nearest first: a selector whose copied form isn't its own, with the place
--- before it
+-- the flags of selectors at these places, characters with their forms by the joining rule, behind
+-- those before them: a selector whose copied form isn't its own, with the place before it
 abbrev pub selector_flags : List (ℕ × ℕ) → List (ℕ × ℕ) → List FlagCall
 selector_flags before [] = []
 selector_flags before ((c, a) ∷ places) =

@@ -12,8 +12,7 @@ use Rattle.shapers_clusters.specs.Breaks.{IsClear}
 use Rattle.shapers_arabic.specs.Joining.{nearest}
 use Rattle.shapers_arabic.specs.JoinedText.{context_types, buffer_joined, opening, stored_types}
 
--- the first n glyphs of one buffer and, behind them, those of another from place m on, between what
--- stood before the first and what follows the second
+-- the first n glyphs of one buffer and those of another from m on, between the outer contexts
 abbrev pub together_at : ℕ → ℕ → Buffer → Buffer → Buffer
 together_at n m one two =
     record one { glyphs = take n one.glyphs ++ drop m two.glyphs; after = two.after }
@@ -25,9 +24,8 @@ HasOwnLetter joining general m b =
     nearest (stored_types joining (drop m b.glyphs)) ≡ None →
     nearest (context_types joining general b.after) ≡ None
 
--- the glyphs put together are what they were, in the one text up to place n and in the other from
--- place m on, all but clusters and glyph flags; only the selectors that open the second part may
--- differ, with the script Mongolian alone
+-- the glyphs put together are what they were in the two texts, up to place n and from place m on,
+-- all but clusters and glyph flags; only Mongolian selectors that open the second part may differ
 pub record KeepsParts (script : Option Script) (n m : ℕ)
     (one two whole : List hb_glyph_info_t) : Type 0 where
   pub first : order_view (take n whole) ≡ order_view (take n one)

@@ -94,5 +94,7 @@ paused : each_paused (bare_pause ∷ []) ≡ bare_pause ∷ bare_pause ∷ []
 paused = refl
 
 -- new requests stand behind the planner's own, in their order
-requests_behind : with_requests (disabled "liga" ∷ bare_pause ∷ []) (record { script = None; requests = enabled 0 "ccmp" ∷ [] }) ≡ record { script = None; requests = enabled 0 "ccmp" ∷ disabled "liga" ∷ bare_pause ∷ [] }
+requests_behind : with_requests (disabled "liga" ∷ bare_pause ∷ [])
+    (record { script = None; requests = enabled 0 "ccmp" ∷ [] })
+    ≡ record { script = None; requests = enabled 0 "ccmp" ∷ disabled "liga" ∷ bare_pause ∷ [] }
 requests_behind = refl

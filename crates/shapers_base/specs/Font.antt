@@ -6,9 +6,8 @@ use Rattle.shapers_buffer.specs.declared.buffer.tag.hb_tag_t.{hb_tag_t}
 use Rattle.shapers_base.specs.declared.font.GlyphId.{GlyphId}
 use Rattle.shapers_base.specs.declared.plan.joining.hb_arabic_joining_type_t.{hb_arabic_joining_type_t}
 
--- a font: the nominal glyph of a character, the horizontal advance of a glyph in font units,
--- whether a lookup would apply to glyphs (with or without context around them), and whether it has
--- a feature
+-- a font: a character's nominal glyph, a glyph's advance in font units, whether a lookup would
+-- apply to glyphs (with or without context around them), and whether it has a feature
 pub record Font : Type 0 where
   pub nominal : ℕ → Option GlyphId
   pub advance : GlyphId → ℤ

@@ -11,8 +11,7 @@ use Rattle.shapers_base.specs.declared.map.TableIndex.{TableIndex}
 use Rattle.shapers_base.specs.declared.map.TableIndex.TheVariants.{GSUB, GPOS}
 
 -- a map: its features, its stages as ranges of the list of lookups, that list, the bits that hold
--- for the whole text, the script that the font offers for it, and whether that is the script that
--- was requested
+-- for the whole text, the script that the font offers for it, and whether that is the requested one
 pub record Map : Type 0 where
   pub features : List feature_map_t
   pub stages : List (Range ℕ)

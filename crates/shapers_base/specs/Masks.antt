@@ -19,8 +19,7 @@ masks_kept (data_of.Khmer kept) = kept.mask_array
 masks_kept (data_of.Universal kept) = kept.rphf_mask ∷ joining_masks kept.arabic_plan
 masks_kept _ = []
 
--- the glyph with the mask of its auxiliary byte's number besides its own; a byte without a mask
--- changes nothing
+-- the glyph with the mask of its auxiliary byte's number, if there is one, besides its own
 abbrev pub with_numbered_mask : List ℕ → hb_glyph_info_t → hb_glyph_info_t
 with_numbered_mask masks g = record g { mask = bit_or g.mask (slice_index masks g.auxiliary) }
 

@@ -5,8 +5,7 @@ use Rattle.shapers_buffer.specs.declared.buffer.tag.hb_tag_t.{hb_tag_t}
 use Rattle.shapers_base.specs.declared.font.GlyphId.{GlyphId}
 use Rattle.shapers_base.specs.declared.plan.indic.IndicWouldSubstituteFeature.{IndicWouldSubstituteFeature}
 
--- the question about the feature by this tag: the lookups of its stage, and whether they must need
--- no context
+-- the question about the feature by this tag: its stage's lookups, and whether without context
 abbrev pub question_for : hb_tag_t → Bool → Map → IndicWouldSubstituteFeature
 question_for tag zero m = record { lookups = range_for tag m; zero_context = zero }
 

@@ -83,7 +83,23 @@ new = refl
 
 -- a buffer of two glyphs whose fields are all set
 abbrev whole : Buffer
-whole = record { glyphs = full ∷ default_glyph ∷ []; positions = position_from 10 ∷ position_from 20 ∷ []; direction = RightToLeft; script = Some (record { 0 = codes "Thai" }); level = Characters; flags = record { 0 = 0xE0 }; before = 1 ∷ 2 ∷ []; after = 3 ∷ []; broken = true; stch = true; max_len = 50; places = 1 ∷ [] }
+whole = record {
+  glyphs = full ∷ default_glyph ∷ [];
+  positions = position_from 10 ∷ position_from 20
+      ∷ [];
+  direction = RightToLeft;
+  script = Some (record { 0 = codes "Thai" });
+  level = Characters;
+  flags =
+      record { 0 = 0xE0 };
+  before = 1 ∷ 2 ∷ [];
+  after = 3 ∷ [];
+  broken = true;
+  stch = true;
+  max_len = 50;
+  places =
+      1 ∷ [];
+}
 
 -- growth: default glyphs, and zero positions unless there are none
 grown_by_two : grown 2 whole ≡ record whole {

@@ -91,7 +91,8 @@ last_not_below m (g ∷ (k ∷ gs)) some none =
 last_run_passes : (test : hb_glyph_info_t → Bool) (gs : List hb_glyph_info_t) → list_all test (last_run test gs) ≡ true
 last_run_passes test =
     from_end (λ gs. list_all test (last_run test gs) ≡ true) refl (λ gs g here. elim (cases_Bool (test g)) [
-      | inl passes ↦ ap (list_all test) (last_run_yes test gs g passes) ∙ list_all-append test (last_run test gs) (g ∷ [])
+      | inl passes ↦ ap (list_all test) (last_run_yes test gs g passes)
+          ∙ list_all-append test (last_run test gs) (g ∷ [])
           ∙ rw (here, passes) refl
       | inr fails ↦ ap (list_all test) (last_run_no test gs g fails)
     ])

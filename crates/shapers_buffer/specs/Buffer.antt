@@ -11,8 +11,7 @@ use Rattle.shapers_buffer.specs.declared.buffer.level.BufferClusterLevel.TheVari
 use Rattle.shapers_buffer.specs.declared.buffer.tag.Script.{Script}
 use Rattle.shapers_buffer.specs.Glyph.{default_glyph, default_position}
 
--- a buffer: its glyphs, their positions (none, or one per glyph), its settings and marks, and the
--- placement list
+-- a buffer: glyphs, positions (none, or one per glyph), settings, marks, and the placement list
 pub record Buffer : Type 0 where
   pub glyphs : List hb_glyph_info_t
   pub positions : List GlyphPosition
@@ -61,8 +60,7 @@ abbrev pub copied_to : ℕ → ℕ → Buffer → Buffer
 copied_to from to b =
     record b { glyphs = with_copy from to b.glyphs; positions = with_copy from to b.positions }
 
--- the flags of a buffer by their bits: no dotted circles, unsafe to concatenate, safe to insert a
--- tatweel
+-- the buffer's flags: no dotted circles, unsafe to concatenate, safe to insert a tatweel
 abbrev pub no_dotted_circle : ℕ
 no_dotted_circle = 0x20
 

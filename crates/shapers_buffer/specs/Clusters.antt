@@ -33,8 +33,7 @@ with_stretch s e f xs = take s xs ++ (f (stretch_of s e xs) ++ drop e xs)
 abbrev pub has_cluster : ℕ → hb_glyph_info_t → Bool
 has_cluster c g = g.cluster == c
 
--- the start of the stretch, moved down over the glyphs directly before it that have the cluster of
--- its first glyph
+-- the start of the stretch, moved down over glyphs directly before it in its first one's cluster
 abbrev pub low : ℕ → ℕ → List hb_glyph_info_t → ℕ
 low s e gs = s - suffix_len (has_cluster (first_cluster (stretch_of s e gs))) (take s gs)
 

@@ -12,8 +12,7 @@ with_bits bits g = record g { mask = bit_or g.mask bits }
 abbrev pub with_bits_off : ℕ → ℕ → hb_glyph_info_t → hb_glyph_info_t
 with_bits_off bits m g = if g.cluster == m then g else with_bits bits g
 
--- mask bits for every glyph whose cluster isn't the least one of the list; where there is one
--- glyph, that is none
+-- mask bits for every glyph whose cluster isn't the list's least; so none for one glyph
 abbrev pub flagged : ℕ → List hb_glyph_info_t → List hb_glyph_info_t
 flagged bits gs = map (with_bits_off bits (least (clusters gs))) gs
 
@@ -34,15 +33,13 @@ unsafe_to_concat_in asked s e gs = if asked then with_stretch s e (map (with_bit
 abbrev pub tatweel_inside : Bool → ℕ → ℕ → List hb_glyph_info_t → List hb_glyph_info_t
 tatweel_inside asked s e gs = with_stretch s e (flagged (if asked then 4 else 3)) gs
 
--- One flag call, over the stretch from s to e: no break inside it, no concatenation in it, or a
--- join inside it.
+-- One flag call, over the stretch from s to e: no break, no concatenation, or a join inside it.
 pub data FlagCall : Type 0 where
   UnsafeToBreak : (s e : ℕ) → FlagCall
   UnsafeToConcat : (s e : ℕ) → FlagCall
   SafeToInsertTatweel : (s e : ℕ) → FlagCall
 
--- the glyphs after one call, and after several, one after another; whether the buffer wants flags
--- of concatenation, and of joins
+-- the glyphs after one call, and after several; whether the buffer wants bits 2, and bits 4
 abbrev pub flag_called : Bool → Bool → FlagCall → List hb_glyph_info_t → List hb_glyph_info_t
 flag_called concat tatweel (UnsafeToBreak s e) gs = unsafe_inside s e gs
 flag_called concat tatweel (UnsafeToConcat s e) gs = unsafe_to_concat_in concat s e gs

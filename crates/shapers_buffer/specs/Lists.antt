@@ -16,15 +16,13 @@ last_run test xs = drop (length xs - suffix_len test xs) xs
 abbrev pub before_last_run : {X : Type 0} → (X → Bool) → List X → List X
 before_last_run test xs = take (length xs - suffix_len test xs) xs
 
--- a piece, given from its end back: where its last passes the test, what a rule makes of what
--- stands before it and of it
+-- a piece, given from its end back: where its last passes the test, what a rule makes of it
 abbrev pub opened_back : {X : Type 0} → (X → Bool) → (List X → X → List X) → List X → List X
 opened_back test rule [] = []
 opened_back test rule (x ∷ before) =
     if test x then rule (reverse before) x else reverse (x ∷ before)
 
--- the list cut after each element that passes the test, and each piece that ends with one opened by
--- the rule
+-- the list cut after each element that passes the test, each piece that ends with one by the rule
 abbrev pub opened_pieces : {X : Type 0} → (X → Bool) → (List X → X → List X) → List X → List X
 opened_pieces test rule xs =
     flat_map (λ piece. opened_back test rule (reverse piece)) (cut_after test xs)

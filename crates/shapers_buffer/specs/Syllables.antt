@@ -16,8 +16,7 @@ abbrev pub first_syllable_len : List hb_glyph_info_t → ℕ
 first_syllable_len [] = 0
 first_syllable_len (g ∷ gs) = suc (prefix_len (has_byte g.syllable) gs)
 
--- these pieces with g in front: in the first piece, if that has g's byte, else as a piece of its
--- own
+-- these pieces with g in front: in the first piece, if that has g's byte, else by itself
 abbrev pub with_opening : hb_glyph_info_t → List (List hb_glyph_info_t) →
     List (List hb_glyph_info_t)
 with_opening g [] = (g ∷ []) ∷ []
@@ -35,8 +34,7 @@ syllables (g ∷ gs) = with_opening g (syllables gs)
 abbrev pub kind_of : ℕ → ℕ
 kind_of byte = byte % 16
 
--- the first place of the first syllable of unknown kind, one above the last known: the first place
--- of such a kind
+-- the first place of a kind above the last known: of the first syllable of unknown kind
 abbrev pub unknown_syllable : ℕ → List hb_glyph_info_t → Option ℕ
 unknown_syllable last gs = position (λ g. nat_lt last (kind_of g.syllable)) gs
 
@@ -44,8 +42,7 @@ unknown_syllable last gs = position (λ g. nat_lt last (kind_of g.syllable)) gs
 abbrev pub unknown_refusal : ℕ → List hb_glyph_info_t → Option ShaperError
 unknown_refusal last gs = option_map (λ place. UnknownSyllable place) (unknown_syllable last gs)
 
--- the byte of the span at place i of the list: serial 1 to 15 and then 1 again, times 16, and the
--- kind
+-- the byte of span i of the list: serial 1 to 15 and then 1 again, times 16, and the kind
 abbrev pub span_byte : ℕ → Span → ℕ
 span_byte i span = (i % 15 + 1) * 16 + span.kind
 

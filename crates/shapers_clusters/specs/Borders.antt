@@ -21,8 +21,7 @@ IsOpen calls p = list_any (forbids_border p) calls ≡ false
 abbrev pub is_unsafe_to_concat : hb_glyph_info_t → Bool
 is_unsafe_to_concat g = bit_at 1 g.mask == 1
 
--- the border before place p is bare: the place is clear, and no glyph of the cluster that begins
--- there is unsafe to concatenate
+-- the border before place p is bare: p is clear, and the cluster there has no flag of concatenation
 pub record IsBare (gs : List hb_glyph_info_t) (p : ℕ) : Type 0 where
   pub clear : IsClear gs p
   pub joinable :

@@ -16,8 +16,7 @@ forbids p (SafeToInsertTatweel s e) = nat_lt s p && nat_lt p e
 abbrev pub IsFree : List FlagCall → ℕ → Type 0
 IsFree calls p = list_any (forbids p) calls ≡ false
 
--- whether the glyph is flagged: unsafe to break, bit 1, or what replaces it where the buffer wants
--- tatweels, bit 4
+-- whether the glyph is unsafe to break, bit 1, or has what stands for that with tatweels, bit 4
 abbrev pub is_unsafe : hb_glyph_info_t → Bool
 is_unsafe g = bit_at 0 g.mask == 1 || bit_at 2 g.mask == 1
 

@@ -31,13 +31,11 @@ IsFalling cs = AllPairs (λ a b. b ≤ a) cs
 abbrev pub IsMonotone : List ℕ → Type 0
 IsMonotone cs = IsRising cs ⊎ IsFalling cs
 
--- all neighbours between p and q are linked: the two stand in one block, a longest run of linked
--- places
+-- all neighbours between p and q are linked: both stand in one block, a longest linked run
 abbrev pub SameBlock : List ℕ → List (ℕ × ℕ) → ℕ → ℕ → Type 0
 SameBlock cs sts p q = (r : ℕ) → min p q < r → r ≤ max p q → linked cs sts r ≡ true
 
--- Exact cuts: after the stretches are merged, the clusters change exactly at the borders of blocks,
--- and each place has the least old cluster of its block.
+-- Exact cuts: clusters change exactly at the borders of blocks, and are the least of their blocks.
 pub record ExactCuts (cs : List ℕ) (sts : List (ℕ × ℕ)) (after : List ℕ) : Type 0 where
   pub same_length : length after ≡ length cs
   pub cuts : (p : ℕ) → 0 < p → p < length cs →

@@ -11,8 +11,7 @@ use Rattle.shapers_buffer.specs.GlyphFlags.{FlagCall, UnsafeToBreak, UnsafeToCon
 abbrev pub FallsTo : hb_glyph_info_t → hb_glyph_info_t → Type 0
 FallsTo old new = (new.cluster ≤ old.cluster) × (new ≡ in_cluster new.cluster old)
 
--- the same of cluster and glyph flags alone, where other fields may change: fell, the flags are
--- gone; kept, they are kept
+-- so of cluster and glyph flags, other fields apart: fell, the flags are gone; kept, they are kept
 pub record FlagsFall (old new : hb_glyph_info_t) : Type 0 where
   pub at_most : new.cluster ≤ old.cluster
   pub fell : new.cluster < old.cluster → new.mask % 8 ≡ 0

@@ -110,9 +110,8 @@ ClustersLaw = (level : BufferClusterLevel) (steps : List Step) (cs : List ℕ) �
     FitSteps (length cs) steps →
     ClustersHold level steps cs (joined_steps level steps cs)
 
--- What steps that move only inside what they merged first make of the clusters, at the levels that
--- merge: the old ones, merged. All places between a place and the old place of what stands there
--- share one cluster. Exact cuts.
+-- What steps that move only inside what they merged first make of clusters, at levels that merge:
+-- the old ones, merged; one cluster from each place to where its glyph came from. Exact cuts.
 pub record MergedStepsHold (level : BufferClusterLevel) (steps : List Step) (cs js : List
     ℕ) : Type 0 where
   pub only_merged : js ≡ joined_all level (all_first steps) cs
@@ -175,9 +174,8 @@ SeenStepsLaw = (view : hb_glyph_info_t → hb_glyph_info_t) →
     FitSteps (length gs) steps → map view ms ≡ map view (run_steps level steps gs) →
     SeenStepsHold view level steps gs ms
 
--- What a hook that reorders promises, whatever fields it changes that the view hides, by steps that
--- move only inside what they merged first and take each place once: of the glyphs gs no one is
--- lost, and the laws of steps hold.
+-- What a hook that reorders promises, through a view that hides what else it changes, by steps that
+-- move only inside what they merged first: no glyph is lost, and the laws of steps hold.
 pub record ReorderedHold (view : hb_glyph_info_t →
     hb_glyph_info_t) (level : BufferClusterLevel) (steps : List Step) (gs ms : List
     hb_glyph_info_t) : Type 0 where

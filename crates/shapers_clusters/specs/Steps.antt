@@ -10,8 +10,7 @@ use Rattle.shapers_clusters.specs.Cuts.{EndWithin, held}
 use Rattle.std.specs.List.Sorted.{IsPermutation}
 use Rattle.std.specs.Prelude.{swap}
 
--- One step: some stretches merge, then the glyph of the listed old place comes to each place, then
--- some stretches merge.
+-- One step: stretches merge, the glyphs of the listed places come in that order, stretches merge.
 pub record Step : Type 0 where
   pub merged_first : List (ℕ × ℕ)
   pub places : List ℕ
@@ -33,8 +32,7 @@ joined_step level step cs =
 abbrev pub joined_steps : BufferClusterLevel → List Step → List ℕ → List ℕ
 joined_steps level steps cs = fold (λ cs step. joined_step level step cs) cs steps
 
--- where these are the old places so far, for each place after the steps the old place of what
--- stands there
+-- of the old places so far, for each place after the steps the old place of what stands there
 abbrev pub moved_on : List Step → List ℕ → List ℕ
 moved_on steps places = fold (λ places step. pick step.places places) places steps
 
@@ -105,8 +103,7 @@ widened s e n step = record {
 abbrev pub Permutes : ℕ → Step → Type 0
 Permutes n step = IsPermutation (range_with_len 0 n) step.places
 
--- The steps of neighbouring stretches, each given by its length and its steps over it, from place s
--- on, as steps over n places.
+-- The steps of neighbouring stretches, given by their lengths, from place s on, over n places.
 abbrev pub steps_along : ℕ → ℕ → List (ℕ × List Step) → List Step
 steps_along n s [] = []
 steps_along n s (piece ∷ rest) =

@@ -100,7 +100,8 @@ length_put t (d ∷ ds) = elim (above t d) as
 in_lesser : (t d : hb_glyph_info_t) (ds : List hb_glyph_info_t) → class_of t ≤ class_of d
     → AllByRecursion (λ h. class_of d ≤ class_of h) ds → AllByRecursion (λ h. class_of t ≤ class_of h) ds
 in_lesser t d [] less all = tt
-in_lesser t d (h ∷ hs) less all = let least : class_of d ≤ class_of h = all.0 in (omega arith, in_lesser t d hs less all.1)
+in_lesser t d (h ∷ hs) less all = let least : class_of d ≤ class_of h =
+    all.0 in (omega arith, in_lesser t d hs less all.1)
 
 sorted_by : (t d : hb_glyph_info_t) (ds : List hb_glyph_info_t) (b : Bool) → above t d ≡ b → Sorted (d ∷ ds)
     → Sorted (put_in t ds) → Sorted (cond b (t ∷ d ∷ ds) (d ∷ put_in t ds))

@@ -131,7 +131,8 @@ stops_settled zero c s =
     alone_settled 0 c (no_syllable c (not_of (is_s c) parts.1) ∙ ap as_pair (empty_of (canonical_mapping c) parts.0))
 stops_settled (suc n) c s =
     let parts = and_parts (not (is_s c)) (parts_all (stops canonical_mapping n) (canonical_mapping c)) s in
-    by_mapping n c (canonical_mapping c) (no_syllable c (not_of (is_s c) parts.0)) parts.1 (λ a more. stops_settled n a more)
+    by_mapping n c (canonical_mapping c) (no_syllable c (not_of (is_s c) parts.0)) parts.1
+    (λ a more. stops_settled n a more)
 
 -- ---- Hangul
 

@@ -340,7 +340,19 @@ masked_whole : with_numbered_mask (0 ∷ 0x10 ∷ 0x20 ∷ []) (record (full_gly
     ≡ record (full_glyph 0x1161 3) { mask = 0x3F; auxiliary = 2 }
 masked_whole = refl
 
-jamo_tags : jamo_masks (record { features = record { tag = record { 0 = codes "tjmo" }; mask = 0x40; stage = 0 } ∷ record { tag = record { 0 = codes "ljmo" }; mask = 0x10; stage = 0 } ∷ record { tag = record { 0 = codes "vjmo" }; mask = 0x20; stage = 0 } ∷ []; stages = []; lookups = []; global = 0; chosen = None; found = true }) ≡ 0 ∷ 0x10 ∷ 0x20 ∷ 0x40 ∷ []
+jamo_tags : jamo_masks
+    (record {
+      features = record { tag = record { 0 = codes "tjmo" }; mask = 0x40; stage = 0 }
+          ∷ record { tag = record { 0 = codes "ljmo" }; mask = 0x10; stage = 0 }
+          ∷ record { tag = record { 0 = codes "vjmo" }; mask = 0x20; stage = 0 } ∷ [];
+      stages = [];
+      lookups = [];
+      global =
+          0;
+      chosen = None;
+      found = true;
+    })
+    ≡ 0 ∷ 0x10 ∷ 0x20 ∷ 0x40 ∷ []
 jamo_tags = refl
 
 -- SOURCES, MERGES and SPELLING of a text with two syllables and a tone

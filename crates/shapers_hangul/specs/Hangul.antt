@@ -95,9 +95,8 @@ abbrev pub jamo_parts : ℕ → Unit
 jamo_parts s =
     if is_lv s then PartsTwo (lead s) (vowel s) else PartsThree (lead s) (vowel s) (trail s)
 
--- a syllable character S before v: LV with a combining T as one that the font has; jamo that the
--- font has of an S that it lacks, or of an LV before any T, which comes along; an S that the font
--- has
+-- a syllable character S before v: LV with a combining T as one that the font has; jamo of an S
+-- that the font lacks, or of an LV before any T, which comes along; an S that the font has
 abbrev pub syllable_unit : Font → ℕ → ℕ → Unit
 syllable_unit font s v =
     if (is_lv s && combines_t v) && has_nominal font (with_t s v) then ComposedTwo (with_t s v)
@@ -137,27 +136,19 @@ taken (ComposedTwo s) = 2
 taken (ComposedThree s) = 3
 taken JamoTwo = 2
 taken JamoThree = 3
-taken (PartsTwo l v) = 1
-taken (PartsThree l v t) = 1
 taken (PartsBeforeT l v) = 2
-taken Syllable = 1
-taken ToneCircle = 1
-taken CircleTone = 1
-taken Other = 1
+taken _ = 1
 
 -- how many glyphs it becomes
 abbrev pub output_len : Unit → ℕ
-output_len (ComposedTwo s) = 1
-output_len (ComposedThree s) = 1
 output_len JamoTwo = 2
 output_len JamoThree = 3
 output_len (PartsTwo l v) = 2
 output_len (PartsThree l v t) = 3
 output_len (PartsBeforeT l v) = 3
-output_len Syllable = 1
 output_len ToneCircle = 2
 output_len CircleTone = 2
-output_len Other = 1
+output_len _ = 1
 
 -- whether it is a syllable
 abbrev pub is_syllable : Unit → Bool
@@ -175,16 +166,14 @@ is_marked (PartsThree l v t) = true
 is_marked (PartsBeforeT l v) = true
 is_marked _ = false
 
--- ITEMS. A unit, and the tone w directly after it if it is a syllable: that moves before it, unless
--- it has advance 0.
+-- ITEMS. A unit, and the tone w directly after a syllable, which moves before it unless narrow
 abbrev pub joined_tone : Font → Unit → ℕ → JoinedTone
 joined_tone font unit w =
     if is_syllable unit && is_tone w then (if is_narrow font w then Behind else Before) else Absent
 
 abbrev pub tone_len : JoinedTone → ℕ
 tone_len Absent = 0
-tone_len Before = 1
-tone_len Behind = 1
+tone_len _ = 1
 
 -- LV and the T behind it, where the font can't join them, and can't part LV if that T doesn't
 -- combine
@@ -228,8 +217,7 @@ keeps _ = false
 abbrev pub is_kept : Item → Bool
 is_kept item = keeps item.unit && (tone_len item.tone == 0 && item.unsafe_len == 0)
 
--- the items of a text, each with the place of its first character; the first skip characters belong
--- to the item before
+-- the items of a text with their places; the first skip characters belong to the item before
 abbrev pub items_from : (List ℕ → Item) → ℕ → ℕ → List ℕ → List (ℕ × Item)
 items_from read place skip [] = []
 items_from read place zero (u ∷ us) =
@@ -247,8 +235,7 @@ items_at font circles us place = items_from (first_item font circles) place 0 (d
 abbrev pub Fit : ℕ → List (ℕ × Item) → Type 0
 Fit n cut = AllByRecursion (λ p. (p.0 + item_len p.1 ≤ n) × (p.0 + p.1.unsafe_len ≤ n)) cut
 
--- OUTPUT, of anything that can be copied as another character and as a jamo: leading 1, vowel 2,
--- trailing 3.
+-- OUTPUT, of what can be copied as another character and as a jamo: leading 1, vowel 2, trailing 3.
 pub record Copying (X : Type 0) : Type 0 where
   pub as_character : ℕ → X → X
   pub as_jamo : ℕ → X → X
@@ -292,8 +279,7 @@ item_output c item xs =
 abbrev pub outputs : {X : Type 0} → Copying X → List (ℕ × Item) → List X → List X
 outputs c cut xs = flat_map (λ p. item_output c p.1 (drop p.0 xs)) cut
 
--- MERGES. Whether all that a unit takes merges: at level MonotoneCharacters only where its glyphs
--- aren't marked
+-- MERGES. Whether all that a unit takes merges: at MonotoneCharacters only unmarked glyphs
 abbrev pub is_merged : BufferClusterLevel → Unit → Bool
 is_merged MonotoneGraphemes unit = true
 is_merged MonotoneCharacters unit = not (is_marked unit)
@@ -304,9 +290,8 @@ unit_stretch level unit s = if is_merged level unit then (s, s + taken unit) ∷
 
 -- a tone that moves merges with the whole syllable
 abbrev pub tone_stretch : JoinedTone → ℕ → ℕ → List (ℕ × ℕ)
-tone_stretch Absent s e = []
 tone_stretch Before s e = (s, e + 1) ∷ []
-tone_stretch Behind s e = []
+tone_stretch _ s e = []
 
 abbrev pub item_stretches : BufferClusterLevel → Item → ℕ → List (ℕ × ℕ)
 item_stretches level item s =
@@ -315,16 +300,14 @@ item_stretches level item s =
 abbrev pub stretches : BufferClusterLevel → List (ℕ × Item) → List (ℕ × ℕ)
 stretches level cut = flat_map (λ p. item_stretches level p.1 p.0) cut
 
--- FLAGS. The stretch of an item that is unsafe to break; inside one that merges, flags would go
--- again
+-- FLAGS. The stretch of an item that is unsafe to break; if it merges, none: flags would go again
 abbrev pub unsafe_stretches : BufferClusterLevel → Item → ℕ → List (ℕ × ℕ)
 unsafe_stretches level item s =
     if not (is_merged level item.unit)
     || nat_lt (taken item.unit) item.unsafe_len then (s, s + item.unsafe_len) ∷ []
     else []
 
--- the glyphs where they stand, joined by an item at place s: flags, then merges; by all items, one
--- after another
+-- the glyphs where they stand, joined by an item at place s: flags, then merges; so by all items
 abbrev pub item_joined : BufferClusterLevel → ℕ → Item → List hb_glyph_info_t → List hb_glyph_info_t
 item_joined level s item gs =
     merge_all level (item_stretches level item s) (unsafe_all (unsafe_stretches level item s) gs)

@@ -24,9 +24,8 @@ abbrev pub hangul_sources : List (ℕ × Item) → ℕ → List ℕ
 hangul_sources cut n = outputs place_copies cut (range_with_len 0 n)
 
 -- What the rewriting of the characters us makes of their clusters cs: js. They are the clusters of
--- made glyphs, each having that of its source after the merges, with exact cuts. At the levels that
--- merge, all places between a moved tone, which stands before what its syllable becomes, and the
--- place behind that share one cluster.
+-- made glyphs, each that of its source after the merges, with exact cuts. At the levels that merge,
+-- the places from a moved tone, before what its syllable becomes, to behind that share one cluster.
 pub record ClustersRewritten (font : Font) (circles : Bool) (level : BufferClusterLevel) (us cs js :
     List ℕ) : Type 0 where
   pub made : ClustersMade level (stretches level (items font circles us))
@@ -43,8 +42,7 @@ KeepsClusters font old new =
     ClustersRewritten font (allows_circles old) old.level (characters old.glyphs)
     (clusters old.glyphs) (clusters new.glyphs)
 
--- The flag law, of each glyph by its source: no cluster rises, and unless it fell, no glyph flag of
--- the source is lost.
+-- The flag law, of each glyph by its source: no cluster rises, and unless it fell, no flag is lost.
 abbrev pub KeepsGlyphFlags : Font → Buffer → Buffer → Type 0
 KeepsGlyphFlags font old new =
     let cut = items font (allows_circles old) (characters old.glyphs) in
@@ -70,8 +68,7 @@ RewrittenLaw = (font : Font) (circles : Bool) (level : BufferClusterLevel)
     (gs : List hb_glyph_info_t) →
     RewrittenHolds font circles level gs (preprocessed font circles level gs)
 
--- SPELLING. A text with each syllable character replaced by its jamo; that without tones and
--- circles
+-- SPELLING. A text with each syllable character taken apart; that without tones and circles
 abbrev pub jamo_of : ℕ → List ℕ
 jamo_of s = lead s ∷ vowel s ∷ (if is_lv s then [] else trail s ∷ [])
 
@@ -98,8 +95,7 @@ UnitSpells us p =
     full (unit_output character_copies p.1.unit (drop p.0 us))
     ≡ full (take (taken p.1.unit) (drop p.0 us))
 
--- The text after is the outputs of the items of the text before, one after another, and the unit of
--- each spells what it takes.
+-- The text after is the outputs of the text's items joined, and each unit spells what it takes.
 pub record SpellsByUnits (font : Font) (old new : Buffer) : Type 0 where
   pub outputs : characters new.glyphs
       ≡ outputs character_copies (items font (allows_circles old) (characters old.glyphs))

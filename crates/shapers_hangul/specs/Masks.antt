@@ -6,8 +6,7 @@ use Rattle.shapers_buffer.specs.Buffer.{Buffer}
 use Rattle.shapers_base.specs.Map.{Map, mask_of}
 use Rattle.shapers_base.specs.Masks.{masks_kept, with_numbered_mask}
 
--- the masks that the plan keeps: none for unmarked glyphs, then those of leading, vowel and
--- trailing jamo
+-- the masks that the plan keeps: none for unmarked glyphs, then those of the three kinds of jamo
 abbrev pub jamo_masks : Map → List ℕ
 jamo_masks m = 0 ∷ map (λ tag. mask_of (record { 0 = codes tag }) m) ("ljmo" ∷ "vjmo" ∷ "tjmo" ∷ [])
 

@@ -43,7 +43,9 @@ blwf_modes : map (λ t. (row_of t).blwf_mode) tags ≡ PreAndPost ∷ PreAndPost
     ∷ PreAndPost ∷ PostOnly ∷ PostOnly ∷ PreAndPost ∷ PreAndPost ∷ PreAndPost ∷ []
 blwf_modes = refl
 
-each_its_own : map (λ t. (row_of t).script) tags ≡ script "Deva" ∷ script "Beng" ∷ script "Guru" ∷ script "Gujr" ∷ script "Orya" ∷ script "Taml" ∷ script "Telu" ∷ script "Knda" ∷ script "Mlym" ∷ script "Sinh" ∷ None ∷ []
+each_its_own : map (λ t. (row_of t).script) tags
+    ≡ script "Deva" ∷ script "Beng" ∷ script "Guru" ∷ script "Gujr" ∷ script "Orya" ∷ script "Taml" ∷ script "Telu"
+    ∷ script "Knda" ∷ script "Mlym" ∷ script "Sinh" ∷ None ∷ []
 each_its_own = refl
 
 no_more_rows : length scripts ≡ 10
@@ -71,10 +73,13 @@ abbrev chosen : String → Map
 chosen tag = map_with [] (Some (record { 0 = codes tag }))
 
 -- the older specification: no script chosen, or one whose tag doesn't end in 2, and a script that has one
-old_ones : map (has_old_spec (script "Deva")) (map_with [] None ∷ chosen "deva" ∷ chosen "dev2" ∷ chosen "dev3" ∷ chosen "DFLT" ∷ chosen "2222" ∷ chosen "222x" ∷ []) ≡ true ∷ true ∷ false ∷ true ∷ true ∷ false ∷ true ∷ []
+old_ones : map (has_old_spec (script "Deva")) (map_with [] None ∷ chosen "deva" ∷ chosen "dev2" ∷ chosen "dev3"
+    ∷ chosen "DFLT" ∷ chosen "2222" ∷ chosen "222x" ∷ [])
+    ≡ true ∷ true ∷ false ∷ true ∷ true ∷ false ∷ true ∷ []
 old_ones = refl
 
-only_one_specification : map (λ t. has_old_spec (script t) (chosen "sinh")) ("Sinh" ∷ "Thai" ∷ "Knda" ∷ []) ≡ false ∷ false ∷ true ∷ []
+only_one_specification : map (λ t. has_old_spec (script t) (chosen "sinh")) ("Sinh" ∷ "Thai" ∷ "Knda" ∷ [])
+    ≡ false ∷ false ∷ true ∷ []
 only_one_specification = refl
 
 unknown_script : has_old_spec None (map_with [] None) ≡ false
@@ -85,12 +90,16 @@ old_contexts : map (λ t. zero_context (script t) (map_with [] None)) tags ≡ t
     ∷ true ∷ true ∷ false ∷ false ∷ false ∷ []
 old_contexts = refl
 
-new_contexts : zero_context (script "Deva") (chosen "dev2") ∷ zero_context (script "Mlym") (chosen "mlm2") ∷ [] ≡ false ∷ false ∷ []
+new_contexts : zero_context (script "Deva") (chosen "dev2") ∷ zero_context (script "Mlym") (chosen "mlm2") ∷ []
+    ≡ false ∷ false ∷ []
 new_contexts = refl
 
 -- every feature of the shaper has a mask in the font; those of the whole text get none
 abbrev all_features : List feature_map_t
-all_features = feature "nukt" 8 0 ∷ feature "akhn" 16 0 ∷ feature "rphf" 24 0 ∷ feature "rkrf" 32 0 ∷ feature "pref" 40 0 ∷ feature "blwf" 48 1 ∷ feature "abvf" 56 0 ∷ feature "half" 64 0 ∷ feature "pstf" 72 0 ∷ feature "vatu" 80 0 ∷ feature "cjct" 88 0 ∷ feature "init" 96 0 ∷ feature "pres" 104 0 ∷ feature "abvs" 112 0 ∷ feature "blws" 120 0 ∷ feature "psts" 128 0 ∷ feature "haln" 136 0 ∷ []
+all_features = feature "nukt" 8 0 ∷ feature "akhn" 16 0 ∷ feature "rphf" 24 0 ∷ feature "rkrf" 32 0
+    ∷ feature "pref" 40 0 ∷ feature "blwf" 48 1 ∷ feature "abvf" 56 0 ∷ feature "half" 64 0 ∷ feature "pstf" 72 0
+    ∷ feature "vatu" 80 0 ∷ feature "cjct" 88 0 ∷ feature "init" 96 0 ∷ feature "pres" 104 0 ∷ feature "abvs" 112 0
+    ∷ feature "blws" 120 0 ∷ feature "psts" 128 0 ∷ feature "haln" 136 0 ∷ []
 
 masks : feature_masks (map_with all_features None) ≡ 0 ∷ 0 ∷ 24 ∷ 0 ∷ 40 ∷ 48 ∷ 56 ∷ 64 ∷ 72 ∷ 0 ∷ 0 ∷ 96 ∷ 0 ∷ 0 ∷ 0
     ∷ 0 ∷ 0 ∷ []
@@ -100,17 +109,28 @@ no_masks : feature_masks (map_with [] None) ≡ 0 ∷ 0 ∷ 0 ∷ 0 ∷ 0 ∷ 0 
 no_masks = refl
 
 -- the whole plan: each question about the lookups of its own stage, with the plan's context
-whole_plan : indic_plan AllConsonants (script "Beng") (map_with (feature "rphf" 8 0 ∷ feature "blwf" 16 1 ∷ feature "vatu" 32 0 ∷ feature "half" 64 1 ∷ []) (Some (record { 0 = codes "beng" }))) ≡ record {
-  config = record { script = script "Beng"; has_old_spec = true; virama = 0x09CD; reph_pos = AfterSub; reph_mode = Implicit; blwf_mode = PreAndPost };
-  is_old_spec = true;
-  base_search = AllConsonants;
-  rphf = record { lookups = record { start = 0; end = 2 }; zero_context = true };
-  pref = record { lookups = record { start = 0; end = 0 }; zero_context = true };
-  blwf = record { lookups = record { start = 2; end = 3 }; zero_context = true };
-  pstf = record { lookups = record { start = 0; end = 0 }; zero_context = true };
-  vatu = record { lookups = record { start = 0; end = 2 }; zero_context = true };
-  mask_array = 0 ∷ 0 ∷ 8 ∷ 0 ∷ 0 ∷ 16 ∷ 0 ∷ 64 ∷ 0 ∷ 0 ∷ 0 ∷ 0 ∷ 0 ∷ 0 ∷ 0 ∷ 0 ∷ 0 ∷ [];
-}
+whole_plan : indic_plan AllConsonants (script "Beng")
+    (map_with (feature "rphf" 8 0 ∷ feature "blwf" 16 1 ∷ feature "vatu" 32 0 ∷ feature "half" 64 1 ∷ [])
+    (Some (record { 0 = codes "beng" })))
+    ≡ record {
+      config = record {
+        script = script "Beng";
+        has_old_spec = true;
+        virama = 0x09CD;
+        reph_pos = AfterSub;
+        reph_mode =
+            Implicit;
+        blwf_mode = PreAndPost;
+      };
+      is_old_spec = true;
+      base_search = AllConsonants;
+      rphf = record { lookups = record { start = 0; end = 2 }; zero_context = true };
+      pref = record { lookups = record { start = 0; end = 0 }; zero_context = true };
+      blwf = record { lookups = record { start = 2; end = 3 }; zero_context = true };
+      pstf = record { lookups = record { start = 0; end = 0 }; zero_context = true };
+      vatu = record { lookups = record { start = 0; end = 2 }; zero_context = true };
+      mask_array = 0 ∷ 0 ∷ 8 ∷ 0 ∷ 0 ∷ 16 ∷ 0 ∷ 64 ∷ 0 ∷ 0 ∷ 0 ∷ 0 ∷ 0 ∷ 0 ∷ 0 ∷ 0 ∷ 0 ∷ [];
+    }
 whole_plan = refl
 
 -- the caller's choice is kept, and nothing else depends on it

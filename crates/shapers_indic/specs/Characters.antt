@@ -5,8 +5,7 @@ use Rattle.shapers_base.specs.Font.{CharacterTables}
 use Rattle.shapers_buffer.specs.Category.{is_mark}
 use Rattle.shapers_syllabic.specs.Characters.{composed_behind}
 
--- whether two characters are Bengali YA (09AF) and the nukta (09BC), which compose to YYA (09DF)
--- although Unicode excludes it
+-- whether two characters are Bengali YA and the nukta, whose YYA (09DF) Unicode excludes
 abbrev pub is_ya_nukta : ℕ → ℕ → Bool
 is_ya_nukta a b = a == 0x09AF && b == 0x09BC
 
@@ -15,8 +14,7 @@ abbrev pub composed_in_indic : CharacterTables → ℕ → ℕ → Option ℕ
 composed_in_indic t a b =
     if not (is_mark (t.general a)) && is_ya_nukta a b then Some 0x09DF else composed_behind t a b
 
--- the letters that stay whole, since fonts know them so: Devanagari RRA, Bengali RRA and RHA, Tamil
--- AU (0931, 09DC, 09DD, 0B94)
+-- the letters that fonts know whole: Devanagari RRA, Bengali RRA and RHA, Tamil AU
 abbrev pub whole_letters : List ℕ
 whole_letters = 0x0931 ∷ 0x09DC ∷ 0x09DD ∷ 0x0B94 ∷ []
 

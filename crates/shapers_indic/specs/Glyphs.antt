@@ -8,16 +8,14 @@ use Rattle.shapers_base.specs.declared.font.GlyphId.{GlyphId}
 use Rattle.shapers_base.specs.declared.plan.ot_category_t.TheConstants.{OT_C, OT_M, OT_MPst, OT_ZWJ, OT_ZWNJ}
 use Rattle.shapers_base.specs.declared.plan.ot_position_t.TheConstants.{POS_BASE_C}
 
--- Glyphs by their numbers, as fonts take them. A font has at most 65,535 glyphs, so none has the
--- number 65535: every greater number is queried as that one.
+-- Glyphs as fonts take them: every number above 65535, which no font has, is queried as that one.
 abbrev pub number : hb_glyph_info_t → GlyphId
 number g = record { 0 = min g.glyph_id 65535 }
 
 abbrev pub numbers : List hb_glyph_info_t → List GlyphId
 numbers gs = map number gs
 
--- whether a glyph is of a category; whether it is of one of these and no lookup put it in for
--- several
+-- whether a glyph is of a category; whether it is of one of these, and not put in for several
 abbrev pub has_category : ℕ → hb_glyph_info_t → Bool
 has_category c g = g.category == c
 
@@ -38,8 +36,7 @@ has_position p g = g.auxiliary == p
 abbrev pub passes : (hb_glyph_info_t → Bool) → List hb_glyph_info_t → ℕ → Bool
 passes test gs i = option_map_or test (slice_get gs i) false
 
--- the places from s on and before e; whether one of them has a property, the least one that has it,
--- and the greatest
+-- the places from s on and before e; whether one has a property; the least that has, the greatest
 abbrev pub places : ℕ → ℕ → List ℕ
 places s e = range_with_len s (e - s)
 

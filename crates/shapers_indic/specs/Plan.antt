@@ -74,8 +74,7 @@ is_script = option_eq (λ s t. pointwise nat_eq s.0 t.0)
 abbrev pub config_of : Option Script → IndicConfig
 config_of script = unwrap_or (find (λ c. is_script c.script script) scripts) other_script
 
--- whether a script of the font isn't one of the newer specification, whose tags end in 2; so is
--- none
+-- whether a script of the font isn't of the newer specification (its tag ends in 2); so is none
 abbrev pub is_old_script : Option hb_tag_t → Bool
 is_old_script None = true
 is_old_script (Some tag) = not (slice_index tag.0 3 == 0x32)
@@ -84,8 +83,7 @@ is_old_script (Some tag) = not (slice_index tag.0 3 == 0x32)
 abbrev pub has_old_spec : Option Script → Map → Bool
 has_old_spec script m = (config_of script).has_old_spec && is_old_script m.chosen
 
--- whether the questions to the font leave contexts out: in the older specification, but for
--- Malayalam
+-- whether questions to the font leave contexts out: in the older specification, but for Malayalam
 abbrev pub zero_context : Option Script → Map → Bool
 zero_context script m =
     has_old_spec script m && not (is_script script (Some (record { 0 = codes "Mlym" })))

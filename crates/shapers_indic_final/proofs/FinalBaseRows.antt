@@ -111,7 +111,8 @@ in_malayalam : map mlym (linked ((C, 8) ∷ []) ∷ linked ((C, 8) ∷ (H, 8) �
     ∷ (0, 4 ∷ 4 ∷ 8 ∷ [], true) ∷ []
 in_malayalam = refl
 
-elsewhere : deva (linked ((C, 8) ∷ [])) ∷ found (rules "Taml") (linked ((C, 8) ∷ [])) ∷ [] ≡ (0, 4 ∷ 4 ∷ 8 ∷ [], true) ∷ (0, 4 ∷ 4 ∷ 8 ∷ [], true) ∷ []
+elsewhere : deva (linked ((C, 8) ∷ [])) ∷ found (rules "Taml") (linked ((C, 8) ∷ [])) ∷ []
+    ≡ (0, 4 ∷ 4 ∷ 8 ∷ [], true) ∷ (0, 4 ∷ 4 ∷ 8 ∷ [], true) ∷ []
 elsewhere = refl
 
 -- links follow the base by pref, or nothing where that is the end
@@ -154,14 +155,21 @@ changing_positions tag =
     filter (λ p. changes_syllable (rules tag) (script tag) (record default_glyph { category = C; auxiliary = p }))
     (range_with_len 0 20)
 
-changing_by_position : map changing_positions ("Deva" ∷ "Mlym" ∷ "Taml" ∷ []) ≡ (1 ∷ 2 ∷ []) ∷ (1 ∷ 2 ∷ 8 ∷ []) ∷ (1 ∷ 2 ∷ []) ∷ []
+changing_by_position : map changing_positions ("Deva" ∷ "Mlym" ∷ "Taml" ∷ [])
+    ≡ (1 ∷ 2 ∷ []) ∷ (1 ∷ 2 ∷ 8 ∷ []) ∷ (1 ∷ 2 ∷ []) ∷ []
 changing_by_position = refl
 
-changing_by_mask : map (λ m. changes_syllable (rules "Deva") (script "Deva") (record default_glyph { mask = m; auxiliary = 4 })) (0 ∷ 7 ∷ 8 ∷ 16 ∷ 32 ∷ 48 ∷ 0xFFFFFFEF ∷ []) ≡ false ∷ false ∷ false ∷ true ∷ false ∷ true ∷ false ∷ []
+changing_by_mask : map
+    (λ m. changes_syllable (rules "Deva") (script "Deva") (record default_glyph { mask = m; auxiliary = 4 }))
+    (0 ∷ 7 ∷ 8 ∷ 16 ∷ 32 ∷ 48 ∷ 0xFFFFFFEF ∷ [])
+    ≡ false ∷ false ∷ false ∷ true ∷ false ∷ true ∷ false ∷ []
 changing_by_mask = refl
 
-changing_viramas : changing_in "Deva" (of_marks 90 6 ∷ of_marks 90 31 ∷ of_marks 90 2 ∷ of_marks 90 4 ∷ of_marks 90 0 ∷ of_marks 91 6 ∷ []) ≡ true ∷ true ∷ false ∷ false ∷ false ∷ false ∷ []
+changing_viramas : changing_in "Deva" (of_marks 90 6 ∷ of_marks 90 31 ∷ of_marks 90 2 ∷ of_marks 90 4 ∷ of_marks 90 0
+    ∷ of_marks 91 6 ∷ [])
+    ≡ true ∷ true ∷ false ∷ false ∷ false ∷ false ∷ []
 changing_viramas = refl
 
-changing_without_virama : changes_syllable (record (rules "Deva") { virama = None }) (script "Deva") (of_marks 90 6) ≡ false
+changing_without_virama : changes_syllable (record (rules "Deva") { virama = None }) (script "Deva") (of_marks 90 6)
+    ≡ false
 changing_without_virama = refl

@@ -236,7 +236,8 @@ pub moves_tried : (r : Rules) (script : Option Script) (b : Based)
 moves_tried r script b =
     elim b.tries_pref as (λ t. AllByRecursion (MovesMerged (length b.glyphs))
     (if t then pref_steps r.pref script b.base b.glyphs else [])) [
-      | true ↦ moves_pref b.glyphs (pref_target script b.base b.glyphs) (b.base + 1) (formed_pref r.pref b.base b.glyphs)
+      | true ↦ moves_pref b.glyphs (pref_target script b.base b.glyphs) (b.base + 1)
+          (formed_pref r.pref b.base b.glyphs)
           (pref_target_within script b.base b.glyphs) (formed_pref_within r.pref b.base b.glyphs)
       | false ↦ tt
     ]

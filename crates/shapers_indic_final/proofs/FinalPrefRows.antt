@@ -43,7 +43,10 @@ at_start : targets 0 ((ZWJ, 4) ∷ (Ra, 11) ∷ []) ∷ targets 1 ((ZWJ, 3) ∷ 
     ∷ (0 ∷ 0 ∷ 1 ∷ 1 ∷ []) ∷ []
 at_start = refl
 
-ligatures : pref_target (script "Deva") 3 (marks_at 1 2 (of ((M, 3) ∷ (H, 3) ∷ (C, 3) ∷ (C, 4) ∷ []))) ∷ pref_target (script "Deva") 3 (marks_at 1 2 (of ((C, 3) ∷ (H, 3) ∷ (ZWJ, 3) ∷ (C, 4) ∷ []))) ∷ pref_target (script "Deva") 3 (marks_at 2 2 (of ((C, 3) ∷ (H, 3) ∷ (ZWJ, 3) ∷ (C, 4) ∷ []))) ∷ [] ≡ 1 ∷ 0 ∷ 2 ∷ []
+ligatures : pref_target (script "Deva") 3 (marks_at 1 2 (of ((M, 3) ∷ (H, 3) ∷ (C, 3) ∷ (C, 4) ∷ [])))
+    ∷ pref_target (script "Deva") 3 (marks_at 1 2 (of ((C, 3) ∷ (H, 3) ∷ (ZWJ, 3) ∷ (C, 4) ∷ [])))
+    ∷ pref_target (script "Deva") 3 (marks_at 2 2 (of ((C, 3) ∷ (H, 3) ∷ (ZWJ, 3) ∷ (C, 4) ∷ []))) ∷ []
+    ≡ 1 ∷ 0 ∷ 2 ∷ []
 ligatures = refl
 
 -- order and clusters
@@ -54,7 +57,8 @@ moved tag base gs = numbers_of (with_pref 16 (script tag) base gs)
 abbrev behind_base : List hb_glyph_info_t
 behind_base = of ((C, 3) ∷ (H, 3) ∷ (C, 3) ∷ (C, 4) ∷ (C, 8) ∷ (Ra, 11) ∷ (M, 12) ∷ [])
 
-moves : moved "Deva" 3 (formed_at 5 behind_base) ∷ moved "Mlym" 3 (formed_at 5 behind_base) ∷ moved "Deva" 3 (unformed_at 5 behind_base) ∷ moved "Deva" 3 behind_base ∷ []
+moves : moved "Deva" 3 (formed_at 5 behind_base) ∷ moved "Mlym" 3 (formed_at 5 behind_base)
+    ∷ moved "Deva" 3 (unformed_at 5 behind_base) ∷ moved "Deva" 3 behind_base ∷ []
     ≡ ((0 ∷ 1 ∷ 5 ∷ 2 ∷ 3 ∷ 4 ∷ 6 ∷ []) ∷ (0 ∷ 1 ∷ 2 ∷ 2 ∷ 2 ∷ 2 ∷ 6 ∷ []) ∷ [])
     ∷ ((0 ∷ 1 ∷ 2 ∷ 5 ∷ 3 ∷ 4 ∷ 6 ∷ []) ∷ (0 ∷ 1 ∷ 2 ∷ 3 ∷ 3 ∷ 3 ∷ 6 ∷ []) ∷ [])
     ∷ ((0 ∷ 1 ∷ 2 ∷ 3 ∷ 4 ∷ 5 ∷ 6 ∷ []) ∷ (0 ∷ 1 ∷ 2 ∷ 3 ∷ 4 ∷ 5 ∷ 6 ∷ []) ∷ [])
@@ -62,5 +66,7 @@ moves : moved "Deva" 3 (formed_at 5 behind_base) ∷ moved "Mlym" 3 (formed_at 5
 moves = refl
 
 -- already there: nothing moves
-in_place : moved "Deva" 0 (formed_at 1 (of ((C, 4) ∷ (Ra, 11) ∷ []))) ∷ moved "Deva" 1 (formed_at 2 (of ((H, 3) ∷ (ZWJ, 4) ∷ (Ra, 11) ∷ []))) ∷ [] ≡ ((1 ∷ 0 ∷ []) ∷ (0 ∷ 0 ∷ []) ∷ []) ∷ ((0 ∷ 1 ∷ 2 ∷ []) ∷ (0 ∷ 1 ∷ 2 ∷ []) ∷ []) ∷ []
+in_place : moved "Deva" 0 (formed_at 1 (of ((C, 4) ∷ (Ra, 11) ∷ [])))
+    ∷ moved "Deva" 1 (formed_at 2 (of ((H, 3) ∷ (ZWJ, 4) ∷ (Ra, 11) ∷ []))) ∷ []
+    ≡ ((1 ∷ 0 ∷ []) ∷ (0 ∷ 0 ∷ []) ∷ []) ∷ ((0 ∷ 1 ∷ 2 ∷ []) ∷ (0 ∷ 1 ∷ 2 ∷ []) ∷ []) ∷ []
 in_place = refl

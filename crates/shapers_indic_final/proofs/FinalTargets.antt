@@ -100,7 +100,8 @@ end_within base gs l =
     let high : last < length gs =
     last_within gs (greatest_place test 0 (length gs)) l
     (λ j found. greatest_within test 0 (length gs) j found) in
-    elim (passes is_indic_halant gs last) as (λ b. (if b then last - matras_between base last gs else last) < length gs) [
+    elim (passes is_indic_halant gs last) as (λ b. (if b then last - matras_between base last gs else last)
+    < length gs) [
       | true ↦ omega arith
       | false ↦ high
     ]

@@ -76,7 +76,8 @@ lasts = refl
 abbrev after : List hb_glyph_info_t → List (List ℕ)
 after gs =
     let run = text_run (rules "Deva") (script "Deva") MonotoneGraphemes 0 None (syllables gs) gs in
-    numbers_of (final_text (rules "Deva") (script "Deva") gs) ∷ row_masks (final_text (rules "Deva") (script "Deva") gs) ∷ clusters run ∷ numbers_of run ∷ map (λ g. g.mask % 8) run ∷ []
+    numbers_of (final_text (rules "Deva") (script "Deva") gs) ∷ row_masks (final_text (rules "Deva") (script "Deva") gs)
+    ∷ clusters run ∷ numbers_of run ∷ map (λ g. g.mask % 8) run ∷ []
 
 -- two syllables M C each behind a letter or a sign: the first opens the text; the second is bound
 -- to a letter, and its own glyph is of a later cluster

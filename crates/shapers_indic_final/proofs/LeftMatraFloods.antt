@@ -111,7 +111,8 @@ reaches_more i top c from k j gs one within so passed =
     ] in (
       omega arith,
       ap (list_all (has_cluster c)) split
-          ∙ list_all-append (has_cluster c) (staying i top gs k (k + 1)) (staying i top gs j from) ∙ rw (here, so.1) refl,
+          ∙ list_all-append (has_cluster c) (staying i top gs k (k + 1)) (staying i top gs j from)
+          ∙ rw (here, so.1) refl,
     )
 
 pub reaches_here : (i top c from j : ℕ) (gs : List hb_glyph_info_t) → 0 < j → j ≤ length gs → Passes i top c from j gs

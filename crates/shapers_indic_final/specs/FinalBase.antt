@@ -75,8 +75,7 @@ along_links f false (g ∷ gs) =
 along_links f true (g ∷ gs) =
     if is_joiner g then g ∷ along_links f true gs else f g ∷ along_links f false gs
 
--- whether a linked glyph is a consonant whose below-base form was not made; it gets the base's
--- position
+-- whether a linked glyph is a consonant without its below-base form; it gets the base's position
 abbrev pub is_unformed_below : hb_glyph_info_t → Bool
 is_unformed_below g = is_consonant g && has_position POS_BELOW_C g
 
@@ -97,8 +96,7 @@ last_link base gs = unwrap_or (find (passes is_unformed_below gs)
 abbrev pub base_by_links : Option Script → ℕ → List hb_glyph_info_t → ℕ
 base_by_links script base gs = if is_malayalam script then last_link base gs else base
 
--- a base whose position is one after the base's is no base: what stands before it is, if that is in
--- the syllable
+-- a base whose position is one after the base's is none: what stands before it in the syllable is
 abbrev pub is_behind_base : hb_glyph_info_t → Bool
 is_behind_base g = nat_lt POS_BASE_C g.auxiliary
 

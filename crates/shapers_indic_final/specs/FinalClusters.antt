@@ -31,8 +31,7 @@ FinalCutsLaw = (r : Rules) (script : Option Script) (level : BufferClusterLevel)
     ExactCuts (pick (old_places (length gs) steps) cs) (all_merged steps)
     (joined_steps level steps cs)
 
--- so of each syllable of a text gs (its order view) whose clusters are its own: cs are the clusters
--- of the text as the pause begins, and js those after it
+-- so of each syllable of a text gs (its order view) with clusters of its own: cs before, js after
 abbrev pub EachSyllableCuts : Rules → Option Script → List hb_glyph_info_t → List ℕ → List ℕ →
     Type 0
 EachSyllableCuts r script gs cs js =

@@ -23,8 +23,7 @@ use Rattle.shapers_syllabic.specs.Syllabic.{unsafe_spans}
 abbrev pub uninitiated : Rules → hb_glyph_info_t → hb_glyph_info_t
 uninitiated r g = unnumbered (with_bits r.init g)
 
--- what a reordering pause and then the final reordering make of a text: the order view, and the
--- clusters
+-- what a reordering pause and then the final one make of a text: its order view, and its clusters
 abbrev pub final_after : Rules → Option Script → Option DottedCircles →
     (List hb_glyph_info_t → List hb_glyph_info_t) → List hb_glyph_info_t → List hb_glyph_info_t
 final_after r script circles meaning gs = final_text r script (paused_order circles meaning gs)

@@ -18,8 +18,7 @@ is_matra_or_halant = is_one_of (OT_M ∷ OT_MPst ∷ OT_H ∷ [])
 abbrev pub is_formed : hb_glyph_info_t → Bool
 is_formed g = is_ligated g.marks && not (is_multiplied g.marks)
 
--- a halant that lookups put in for several glyphs and then took apart: it has the virama's glyph.
--- It becomes a halant again, without these marks
+-- a halant that lookups put in for several and took apart: a halant again, without these marks
 abbrev pub is_lost_virama : Option GlyphId → hb_glyph_info_t → Bool
 is_lost_virama None g = false
 is_lost_virama (Some virama) g =

@@ -65,8 +65,7 @@ FinalTextReadsNoSerials =
     (r : Rules) (script : Option Script) (gs hs : List hb_glyph_info_t) → SameButSerials gs hs →
     SameButSerialsFinally r script gs hs
 
--- Glyph flags of an old glyph and a new one: its cluster doesn't rise; if it fell the flags are
--- gone, else they are kept; but the bits of an unsafe break may come besides.
+-- Glyph flags: no cluster rises; if it fell they are gone, else kept; an unsafe break may come.
 pub record FlagsFallButBreaks (old new : hb_glyph_info_t) : Type 0 where
   pub at_most : new.cluster ≤ old.cluster
   pub fell : new.cluster < old.cluster → (new.mask % 8 ≡ 0) ⊎ (new.mask % 8 ≡ 3)
@@ -81,8 +80,7 @@ BreaksNowhere r script before (syl ∷ syls) =
     (is_bound before (final_order r script syl) ≡ false)
     × BreaksNowhere r script (last_or before (final_order r script syl)) syls
 
--- whether place i is the first of a syllable that opens inside a word, or the one before it; of
--- these syllables, from place s on
+-- whether place i is the first of a syllable, from place s on, opened inside a word, or before it
 abbrev pub at_opening : Rules → Option Script → ℕ → Option hb_glyph_info_t →
     List (List hb_glyph_info_t) → ℕ → Bool
 at_opening r script s before [] i = false
@@ -90,8 +88,7 @@ at_opening r script s before (syl ∷ syls) i =
     is_bound before (final_order r script syl) && (i == s || i + 1 == s)
     || at_opening r script (s + length syl) (last_or before (final_order r script syl)) syls i
 
--- the glyphs with these bits in the mask of the first; two lists that differ in these bits of their
--- first glyph alone
+-- the glyphs with these bits in the mask of the first; lists that differ in these alone
 abbrev pub with_first_bits : ℕ → List hb_glyph_info_t → List hb_glyph_info_t
 with_first_bits bits [] = []
 with_first_bits bits (g ∷ gs) = with_bits bits g ∷ gs

@@ -20,8 +20,7 @@ is_left = has_position POS_PRE_M
 abbrev pub is_free_halant : hb_glyph_info_t → Bool
 is_free_halant g = is_indic_halant g && not (is_left g)
 
--- whether the glyph at place i ends the search for a halant: a vowel sign or halant, but no free
--- halant that a ZWJ follows, which requests a half form
+-- whether place i ends the search: a matra or halant, but no free halant requesting a half form
 abbrev pub ends_search : List hb_glyph_info_t → ℕ → Bool
 ends_search gs i = passes is_matra_or_halant gs i
     && not (passes is_free_halant gs i && passes (has_category OT_ZWJ) gs (i + 1))
@@ -30,8 +29,7 @@ ends_search gs i = passes is_matra_or_halant gs i
 abbrev pub place_before : ℕ → List hb_glyph_info_t → ℕ
 place_before base gs = if base == length gs then base - 2 else base - 1
 
--- the free halant that left matras go behind: the nearest from a place leftwards, if nothing ends
--- the search before it; else the start
+-- where left matras go: to what ends the search leftwards, if that is a free halant, else the start
 abbrev pub halant_or_start : List hb_glyph_info_t → ℕ → ℕ
 halant_or_start gs i = if passes is_free_halant gs i then i else 0
 
@@ -65,8 +63,7 @@ with_matras script base gs =
 abbrev pub end_of_base : ℕ → List hb_glyph_info_t → ℕ
 end_of_base base gs = min (length gs) (base + 1)
 
--- the step of n places in which the glyph of place i goes behind those up to place j, and then all
--- from there to e merges
+-- the step of n places in which glyph i goes behind those up to j, and then all from j to e merges
 abbrev pub matra_step : ℕ → ℕ → ℕ → ℕ → Step
 matra_step n e i j = record {
   merged_first = [];
@@ -74,8 +71,7 @@ matra_step n e i j = record {
   merged_then = (j, e) ∷ [];
 }
 
--- the places of the left matras before p, the last one first; it goes to p, and each further one to
--- the place before
+-- the places of the left matras before p, the last first; it goes to p, each further one before it
 abbrev pub left_places : ℕ → List hb_glyph_info_t → List ℕ
 left_places p gs = reverse (filter (passes is_left gs) (places 0 p))
 

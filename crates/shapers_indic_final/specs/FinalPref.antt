@@ -19,8 +19,7 @@ if_formed gs (Some i) = if passes is_formed gs i then Some i else None
 abbrev pub formed_pref : ℕ → ℕ → List hb_glyph_info_t → Option ℕ
 formed_pref pref base gs = if_formed gs (pref_place pref base gs)
 
--- the place directly behind the nearest vowel sign or halant before the base, else the start; in
--- scripts without half forms the base
+-- the place behind the nearest matra or halant before the base, else 0; without half forms the base
 abbrev pub place_before_base : Option Script → ℕ → List hb_glyph_info_t → ℕ
 place_before_base script base gs =
     if has_no_half_forms script then base
@@ -45,8 +44,7 @@ abbrev pub with_pref : ℕ → Option Script → ℕ → List hb_glyph_info_t �
 with_pref pref script base gs =
     moved_before (pref_target script base gs) (formed_pref pref base gs) gs
 
--- the step of n places in which all from place j up to place i merges, and the glyph of place i
--- goes to j
+-- the step of n places in which all from place j up to place i merges, and glyph i goes to j
 abbrev pub pref_move : ℕ → ℕ → ℕ → Step
 pref_move n j i = record {
   merged_first = (j, i + 1) ∷ [];

@@ -10,8 +10,7 @@ use Rattle.shapers_indic_final.specs.FinalPref.{pref_steps, with_pref}
 use Rattle.shapers_indic_final.specs.FinalReph.{base_after_reph, reph_steps, with_reph}
 use Rattle.shapers_indic_final.specs.declared.ot_shaper_indic_final.rules.Rules.{Rules}
 
--- the syllable with its base, its left matras at their place; and its reph at its own, which may
--- carry the base along
+-- the syllable with its left matras at their place; and its reph, which may carry the base along
 abbrev pub after_matras : Rules → Option Script → Based → Based
 after_matras r script b =
     record { glyphs = with_matras script b.base b.glyphs; base = b.base; tries_pref = b.tries_pref }

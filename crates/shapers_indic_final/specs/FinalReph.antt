@@ -7,7 +7,7 @@ use Rattle.shapers_buffer.specs.declared.buffer.glyph.hb_glyph_info_t.{hb_glyph_
 use Rattle.shapers_buffer.specs.Lists.{first_last}
 use Rattle.shapers_buffer.specs.Clusters.{stretch_of, with_stretch}
 use Rattle.shapers_base.specs.declared.plan.indic.RephPosition.{RephPosition}
-use Rattle.shapers_base.specs.declared.plan.indic.RephPosition.TheVariants.{AfterMain, BeforeSub, AfterSub, BeforePost, AfterPost}
+use Rattle.shapers_base.specs.declared.plan.indic.RephPosition.TheVariants.{AfterMain, AfterSub}
 use Rattle.shapers_base.specs.declared.plan.ot_category_t.TheConstants.{OT_Repha}
 use Rattle.shapers_base.specs.declared.plan.ot_position_t.TheConstants.{POS_AFTER_MAIN, POS_AFTER_POST, POS_POST_C, POS_RA_TO_BECOME_REPH, POS_SMVD}
 use Rattle.shapers_clusters.specs.Steps.{Step}
@@ -22,11 +22,9 @@ is_moving_reph g = has_position POS_RA_TO_BECOME_REPH g
 -- whether it opens a syllable of two or more
 abbrev pub opens_with_reph : List hb_glyph_info_t → Bool
 opens_with_reph (g ∷ (h ∷ gs)) = is_moving_reph g
-opens_with_reph (g ∷ []) = false
-opens_with_reph [] = false
+opens_with_reph _ = false
 
--- the place behind the first halant between the start and the base, and behind a joiner there that
--- stands before the base; by the halant's place
+-- the place behind the first halant before the base and a joiner there; by the halant's place
 abbrev pub halant_after_start : ℕ → List hb_glyph_info_t → Option ℕ
 halant_after_start base gs = least_place (passes is_indic_halant gs) 1 base
 
@@ -44,8 +42,7 @@ is_with_sub g = not (list_any (λ p. p == g.auxiliary) (POS_POST_C ∷ POS_AFTER
 abbrev pub end_of_run : (hb_glyph_info_t → Bool) → ℕ → List hb_glyph_info_t → ℕ
 end_of_run test base gs = base + prefix_len test (drop (base + 1) gs)
 
--- the end of the syllable: its last glyph that is no sign, else its start; not between vowel signs
--- and the halant behind them
+-- the end of the syllable: its last glyph that is no sign, but not between matras and their halant
 abbrev pub last_but_signs : List hb_glyph_info_t → ℕ
 last_but_signs gs =
     unwrap_or (greatest_place (λ i. not (passes (has_position POS_SMVD) gs i)) 0 (length gs)) 0
@@ -64,9 +61,7 @@ behind_base AfterMain base gs =
     if nat_lt base (length gs) then end_of_run is_with_main base gs else at_end base gs
 behind_base AfterSub base gs =
     if nat_lt base (length gs) then end_of_run is_with_sub base gs else at_end base gs
-behind_base BeforeSub base gs = at_end base gs
-behind_base BeforePost base gs = at_end base gs
-behind_base AfterPost base gs = at_end base gs
+behind_base _ base gs = at_end base gs
 
 -- where the reph goes
 abbrev pub reph_target : RephPosition → ℕ → List hb_glyph_info_t → ℕ

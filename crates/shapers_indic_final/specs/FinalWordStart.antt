@@ -53,8 +53,7 @@ abbrev pub last_or : {X : Type 0} → Option X → List X → Option X
 last_or before [] = before
 last_or before (x ∷ xs) = last_or (Some x) xs
 
--- syllables in their final order, one after another, each with its mask of init, by the glyph
--- before it
+-- syllables in their final order joined, each with its mask of init, by the glyph before it
 abbrev pub with_inits : ℕ → Option hb_glyph_info_t → List (List hb_glyph_info_t) →
     List hb_glyph_info_t
 with_inits bits before [] = []
@@ -79,8 +78,7 @@ opened bits s gs =
     let before = before_place s gs in
     bound_at s (is_bound before (drop s gs)) (take s gs ++ with_init bits before (drop s gs))
 
--- the glyphs after the steps of the syllable from place s on, and then with the break before it
--- unsafe, where it is opened so; by the glyph before it
+-- the glyphs after the steps of the syllable from place s on, with an unsafe break if opened so
 abbrev pub syllable_run : Rules → Option Script → BufferClusterLevel → ℕ → Option hb_glyph_info_t →
     List hb_glyph_info_t → List hb_glyph_info_t → List hb_glyph_info_t
 syllable_run r script level s before syl gs =
@@ -105,8 +103,7 @@ pub record FinallyReordered (r : Rules) (old new : Buffer) : Type 0 where
       ≡ map carried (text_run r old.script old.level 0 None (syllables (order_view old.glyphs))
       old.glyphs)
 
--- The buffer before and after one syllable, from s to e, is reordered in a text of a script, and
--- then opened; and the pause as a chain of these, one link a syllable.
+-- A syllable, from s to e, is reordered and then opened; and the pause as a chain of such links.
 abbrev pub FinalLink : Rules → Option Script → ℕ → ℕ → Buffer → Buffer → Type 0
 FinalLink r script s e old new =
     (mid : Buffer) × SyllableReordered (final_order r script) (final_steps r script) s e old mid

@@ -15,7 +15,10 @@ ra_h_zwj = plainly (Ra ∷ H ∷ ZWJ ∷ C ∷ [])
 kannada : map (joiner_comes_first (script "Knda")) (ra_h_zwj ∷ plainly (Ra ∷ H ∷ ZWJ ∷ []) ∷ []) ≡ true ∷ true ∷ []
 kannada = refl
 
-not_so : map (joiner_comes_first (script "Knda")) (ligated_at 0 ra_h_zwj ∷ ligated_at 1 ra_h_zwj ∷ ligated_at 2 ra_h_zwj ∷ plainly (Ra ∷ H ∷ ZWNJ ∷ C ∷ []) ∷ plainly (C ∷ H ∷ ZWJ ∷ C ∷ []) ∷ plainly (Ra ∷ ZWJ ∷ H ∷ []) ∷ plainly (Ra ∷ H ∷ []) ∷ plainly (Ra ∷ []) ∷ [] ∷ []) ≡ false ∷ false ∷ false ∷ false ∷ false ∷ false ∷ false ∷ false ∷ false ∷ []
+not_so : map (joiner_comes_first (script "Knda")) (ligated_at 0 ra_h_zwj ∷ ligated_at 1 ra_h_zwj ∷ ligated_at 2 ra_h_zwj
+    ∷ plainly (Ra ∷ H ∷ ZWNJ ∷ C ∷ []) ∷ plainly (C ∷ H ∷ ZWJ ∷ C ∷ []) ∷ plainly (Ra ∷ ZWJ ∷ H ∷ [])
+    ∷ plainly (Ra ∷ H ∷ []) ∷ plainly (Ra ∷ []) ∷ [] ∷ [])
+    ≡ false ∷ false ∷ false ∷ false ∷ false ∷ false ∷ false ∷ false ∷ false ∷ []
 not_so = refl
 
 other_scripts : joiner_comes_first (script "Telu") ra_h_zwj ∷ joiner_comes_first None ra_h_zwj ∷ [] ≡ false ∷ false ∷ []
@@ -34,26 +37,44 @@ implicit_rephs = refl
 no_mask : indic_reph_len (with_reph_of (0 ∷ 1 ∷ []) (rules "Deva" false no_masks)) (plainly (Ra ∷ H ∷ C ∷ [])) ≡ 0
 no_mask = refl
 
-not_formed : indic_reph_len (with_reph_of (1 ∷ 0 ∷ []) (rules "Deva" false each_mask)) (plainly (Ra ∷ H ∷ C ∷ [])) ∷ indic_reph_len (with_reph_of (0 ∷ 1 ∷ 2 ∷ []) (rules "Deva" false each_mask)) (plainly (Ra ∷ H ∷ C ∷ [])) ∷ [] ≡ 0 ∷ 0 ∷ []
+not_formed : indic_reph_len (with_reph_of (1 ∷ 0 ∷ []) (rules "Deva" false each_mask)) (plainly (Ra ∷ H ∷ C ∷ []))
+    ∷ indic_reph_len (with_reph_of (0 ∷ 1 ∷ 2 ∷ []) (rules "Deva" false each_mask)) (plainly (Ra ∷ H ∷ C ∷ [])) ∷ []
+    ≡ 0 ∷ 0 ∷ []
 not_formed = refl
 
 -- written as Ra, H, ZWJ: the ZWJ is there, be it a ligature, and the font forms it of two or of three
-explicit_rephs : map (λ ids. indic_reph_len (with_reph_of ids (rules "Telu" false each_mask)) (plainly (Ra ∷ H ∷ ZWJ ∷ C ∷ []))) ((0 ∷ 1 ∷ []) ∷ (0 ∷ 1 ∷ 2 ∷ []) ∷ (1 ∷ 2 ∷ []) ∷ []) ≡ 2 ∷ 2 ∷ 0 ∷ []
+explicit_rephs : map
+    (λ ids. indic_reph_len (with_reph_of ids (rules "Telu" false each_mask)) (plainly (Ra ∷ H ∷ ZWJ ∷ C ∷ [])))
+    ((0 ∷ 1 ∷ []) ∷ (0 ∷ 1 ∷ 2 ∷ []) ∷ (1 ∷ 2 ∷ []) ∷ [])
+    ≡ 2 ∷ 2 ∷ 0 ∷ []
 explicit_rephs = refl
 
-explicit_thirds : map (indic_reph_len (with_reph_of (0 ∷ 1 ∷ []) (rules "Sinh" false each_mask))) (plainly (Ra ∷ H ∷ C ∷ []) ∷ plainly (Ra ∷ H ∷ ZWNJ ∷ []) ∷ ligated_at 2 (plainly (Ra ∷ H ∷ ZWJ ∷ [])) ∷ plainly (Ra ∷ H ∷ []) ∷ []) ≡ 0 ∷ 0 ∷ 2 ∷ 0 ∷ []
+explicit_thirds : map (indic_reph_len (with_reph_of (0 ∷ 1 ∷ []) (rules "Sinh" false each_mask)))
+    (plainly (Ra ∷ H ∷ C ∷ []) ∷ plainly (Ra ∷ H ∷ ZWNJ ∷ []) ∷ ligated_at 2 (plainly (Ra ∷ H ∷ ZWJ ∷ []))
+    ∷ plainly (Ra ∷ H ∷ []) ∷ [])
+    ≡ 0 ∷ 0 ∷ 2 ∷ 0 ∷ []
 explicit_thirds = refl
 
 -- a character of its own, whatever the font says
-rephas : map (indic_reph_len (with_reph_of (0 ∷ 1 ∷ []) (rules "Mlym" false each_mask))) (plainly (Repha ∷ C ∷ []) ∷ plainly (Repha ∷ []) ∷ plainly (Ra ∷ H ∷ C ∷ []) ∷ plainly (C ∷ Repha ∷ []) ∷ [] ∷ plainly (Repha ∷ C ∷ M ∷ []) ∷ ligated_at 0 (plainly (Repha ∷ C ∷ [])) ∷ []) ≡ 1 ∷ 1 ∷ 0 ∷ 0 ∷ 0 ∷ 1 ∷ 1 ∷ []
+rephas : map (indic_reph_len (with_reph_of (0 ∷ 1 ∷ []) (rules "Mlym" false each_mask)))
+    (plainly (Repha ∷ C ∷ []) ∷ plainly (Repha ∷ []) ∷ plainly (Ra ∷ H ∷ C ∷ []) ∷ plainly (C ∷ Repha ∷ []) ∷ []
+    ∷ plainly (Repha ∷ C ∷ M ∷ []) ∷ ligated_at 0 (plainly (Repha ∷ C ∷ [])) ∷ [])
+    ≡ 1 ∷ 1 ∷ 0 ∷ 0 ∷ 0 ∷ 1 ∷ 1 ∷ []
 rephas = refl
 
 -- the limit: behind the reph and the joiners after it
-limits : limit implicit (plainly (Ra ∷ H ∷ C ∷ [])) ∷ limit implicit (plainly (Ra ∷ H ∷ ZWJ ∷ C ∷ [])) ∷ limit (with_reph_of (0 ∷ 1 ∷ []) (rules "Telu" false each_mask)) (plainly (Ra ∷ H ∷ ZWJ ∷ ZWNJ ∷ C ∷ ZWJ ∷ [])) ∷ limit (rules "Mlym" false no_masks) (plainly (Repha ∷ ZWJ ∷ C ∷ [])) ∷ limit (rules "Mlym" false no_masks) (plainly (Repha ∷ ZWJ ∷ [])) ∷ [] ≡ 2 ∷ 0 ∷ 4 ∷ 2 ∷ 2 ∷ []
+limits : limit implicit (plainly (Ra ∷ H ∷ C ∷ [])) ∷ limit implicit (plainly (Ra ∷ H ∷ ZWJ ∷ C ∷ []))
+    ∷ limit (with_reph_of (0 ∷ 1 ∷ []) (rules "Telu" false each_mask)) (plainly (Ra ∷ H ∷ ZWJ ∷ ZWNJ ∷ C ∷ ZWJ ∷ []))
+    ∷ limit (rules "Mlym" false no_masks) (plainly (Repha ∷ ZWJ ∷ C ∷ []))
+    ∷ limit (rules "Mlym" false no_masks) (plainly (Repha ∷ ZWJ ∷ [])) ∷ []
+    ≡ 2 ∷ 0 ∷ 4 ∷ 2 ∷ 2 ∷ []
 limits = refl
 
 -- a ligature of a joiner isn't passed, nor are joiners in front where there is no reph
-limits_before_joiners : limit (with_reph_of (0 ∷ 1 ∷ []) (rules "Telu" false each_mask)) (ligated_at 2 (plainly (Ra ∷ H ∷ ZWJ ∷ ZWJ ∷ C ∷ []))) ∷ limit (rules "Deva" false no_masks) (plainly (ZWJ ∷ ZWNJ ∷ C ∷ [])) ∷ [] ≡ 2 ∷ 0 ∷ []
+limits_before_joiners : limit (with_reph_of (0 ∷ 1 ∷ []) (rules "Telu" false each_mask))
+    (ligated_at 2 (plainly (Ra ∷ H ∷ ZWJ ∷ ZWJ ∷ C ∷ [])))
+    ∷ limit (rules "Deva" false no_masks) (plainly (ZWJ ∷ ZWNJ ∷ C ∷ [])) ∷ []
+    ≡ 2 ∷ 0 ∷ []
 limits_before_joiners = refl
 
 -- where the search ends: behind the last ZWJ that follows an H
@@ -68,7 +89,11 @@ ends_with_ligatures : map (search_from 0) (ligated_at 1 (plainly (C ∷ H ∷ ZW
 ends_with_ligatures = refl
 
 -- from a limit on: a ZWJ before it doesn't count, one at it does; no further than the last glyph
-from_a_limit : search_from 3 (plainly (Ra ∷ H ∷ ZWJ ∷ C ∷ [])) ∷ search_from 2 (plainly (Ra ∷ H ∷ ZWJ ∷ C ∷ [])) ∷ search_start (rules "Mlym" false no_masks) (plainly (Repha ∷ [])) ∷ search_start (rules "Mlym" false no_masks) (plainly (Repha ∷ ZWJ ∷ [])) ∷ search_start (rules "Mlym" false no_masks) (plainly (Repha ∷ ZWJ ∷ C ∷ [])) ∷ [] ≡ 3 ∷ 3 ∷ 0 ∷ 1 ∷ 2 ∷ []
+from_a_limit : search_from 3 (plainly (Ra ∷ H ∷ ZWJ ∷ C ∷ [])) ∷ search_from 2 (plainly (Ra ∷ H ∷ ZWJ ∷ C ∷ []))
+    ∷ search_start (rules "Mlym" false no_masks) (plainly (Repha ∷ []))
+    ∷ search_start (rules "Mlym" false no_masks) (plainly (Repha ∷ ZWJ ∷ []))
+    ∷ search_start (rules "Mlym" false no_masks) (plainly (Repha ∷ ZWJ ∷ C ∷ [])) ∷ []
+    ≡ 3 ∷ 3 ∷ 0 ∷ 1 ∷ 2 ∷ []
 from_a_limit = refl
 
 -- three consonants by their positions: the last that is neither below nor post-base; a post-base
@@ -83,7 +108,9 @@ by_positions : map base_of ((4 ∷ 4 ∷ 4 ∷ []) ∷ (4 ∷ 4 ∷ 8 ∷ []) �
 by_positions = refl
 
 -- what is no consonant isn't one below, so a post-base one doesn't count before it
-below_alone : map (base_place (rules "Deva" false no_masks)) (of ((C, 4) ∷ (C, 11) ∷ (M, 8) ∷ []) ∷ ligated_at 2 (of ((C, 4) ∷ (C, 11) ∷ (C, 8) ∷ [])) ∷ of ((C, 4) ∷ (C, 11) ∷ (M, 8) ∷ (C, 8) ∷ []) ∷ []) ≡ 0 ∷ 0 ∷ 1 ∷ []
+below_alone : map (base_place (rules "Deva" false no_masks)) (of ((C, 4) ∷ (C, 11) ∷ (M, 8) ∷ [])
+    ∷ ligated_at 2 (of ((C, 4) ∷ (C, 11) ∷ (C, 8) ∷ [])) ∷ of ((C, 4) ∷ (C, 11) ∷ (M, 8) ∷ (C, 8) ∷ []) ∷ [])
+    ≡ 0 ∷ 0 ∷ 1 ∷ []
 below_alone = refl
 
 abbrev categories : List ℕ
@@ -91,7 +118,9 @@ categories = 0 ∷ 1 ∷ 2 ∷ 3 ∷ 4 ∷ 5 ∷ 6 ∷ 7 ∷ 8 ∷ 9 ∷ 10 ∷ 
     ∷ 255 ∷ []
 
 -- which categories may be the base, of a C and one more: those behind it at place 1, C V PLACEHOLDER DOTTEDCIRCLE Ra CS
-by_categories : map (λ c. base_place (rules "Deva" false no_masks) (plainly (C ∷ c ∷ []))) (0 ∷ 1 ∷ 2 ∷ 3 ∷ 4 ∷ 5 ∷ 6 ∷ 7 ∷ 8 ∷ 9 ∷ 10 ∷ 11 ∷ 12 ∷ 13 ∷ 14 ∷ 15 ∷ 16 ∷ 17 ∷ 18 ∷ []) ≡ 0 ∷ 1 ∷ 1 ∷ 0 ∷ 0 ∷ 0 ∷ 0 ∷ 0 ∷ 0 ∷ 0 ∷ 1 ∷ 1 ∷ 0 ∷ 0 ∷ 0 ∷ 1 ∷ 0 ∷ 0 ∷ 1 ∷ []
+by_categories : map (λ c. base_place (rules "Deva" false no_masks) (plainly (C ∷ c ∷ [])))
+    (0 ∷ 1 ∷ 2 ∷ 3 ∷ 4 ∷ 5 ∷ 6 ∷ 7 ∷ 8 ∷ 9 ∷ 10 ∷ 11 ∷ 12 ∷ 13 ∷ 14 ∷ 15 ∷ 16 ∷ 17 ∷ 18 ∷ [])
+    ≡ 0 ∷ 1 ∷ 1 ∷ 0 ∷ 0 ∷ 0 ∷ 0 ∷ 0 ∷ 0 ∷ 0 ∷ 1 ∷ 1 ∷ 0 ∷ 0 ∷ 0 ∷ 1 ∷ 0 ∷ 0 ∷ 1 ∷ []
 by_categories = refl
 
 a_ligature : base_place (rules "Deva" false no_masks) (ligated_at 1 (plainly (C ∷ C ∷ []))) ≡ 0
@@ -134,11 +163,14 @@ reph_before_medial : map (λ r. has_indic_reph r (plainly (Ra ∷ H ∷ CM ∷ [
 reph_before_medial = refl
 
 -- nothing else is read: where no medial stands, both find the same
-no_medials : map (base_place among_all) (map (λ c. plainly (C ∷ c ∷ C ∷ [])) (0 ∷ 3 ∷ 4 ∷ 6 ∷ 7 ∷ [])) ≡ map (base_place (rules "Deva" false no_masks)) (map (λ c. plainly (C ∷ c ∷ C ∷ [])) (0 ∷ 3 ∷ 4 ∷ 6 ∷ 7 ∷ []))
+no_medials : map (base_place among_all) (map (λ c. plainly (C ∷ c ∷ C ∷ [])) (0 ∷ 3 ∷ 4 ∷ 6 ∷ 7 ∷ []))
+    ≡ map (base_place (rules "Deva" false no_masks)) (map (λ c. plainly (C ∷ c ∷ C ∷ [])) (0 ∷ 3 ∷ 4 ∷ 6 ∷ 7 ∷ []))
 no_medials = refl
 
 -- behind a ZWJ that ends the search: the first consonant there, none if there is none
-behind_zwj : map (base_place (rules "Deva" false no_masks)) (of ((C, 4) ∷ (H, 4) ∷ (ZWJ, 4) ∷ (C, 8) ∷ (C, 8) ∷ []) ∷ plainly (C ∷ H ∷ ZWJ ∷ M ∷ []) ∷ plainly (C ∷ H ∷ ZWJ ∷ []) ∷ plainly (M ∷ []) ∷ []) ≡ 3 ∷ 4 ∷ 3 ∷ 1 ∷ []
+behind_zwj : map (base_place (rules "Deva" false no_masks)) (of ((C, 4) ∷ (H, 4) ∷ (ZWJ, 4) ∷ (C, 8) ∷ (C, 8) ∷ [])
+    ∷ plainly (C ∷ H ∷ ZWJ ∷ M ∷ []) ∷ plainly (C ∷ H ∷ ZWJ ∷ []) ∷ plainly (M ∷ []) ∷ [])
+    ≡ 3 ∷ 4 ∷ 3 ∷ 1 ∷ []
 behind_zwj = refl
 
 -- with a reph the search ends behind it, and without another base the reph is one; then it is none,
@@ -151,5 +183,10 @@ with_reph : map (has_indic_reph implicit) (plainly (Ra ∷ H ∷ C ∷ []) ∷ p
     ∷ []) ≡ true ∷ false ∷ false ∷ []
 with_reph = refl
 
-forced : has_indic_reph (with_reph_of (0 ∷ 1 ∷ []) (rules "Telu" false each_mask)) (plainly (Ra ∷ H ∷ ZWJ ∷ M ∷ [])) ∷ has_indic_reph (rules "Mlym" false no_masks) (plainly (Repha ∷ [])) ∷ has_indic_reph (rules "Mlym" false no_masks) (plainly (Repha ∷ ZWJ ∷ M ∷ [])) ∷ has_indic_reph (rules "Mlym" false no_masks) (plainly (Repha ∷ ZWJ ∷ ZWJ ∷ M ∷ [])) ∷ has_indic_reph (rules "Mlym" false no_masks) (plainly (Repha ∷ C ∷ [])) ∷ [] ≡ true ∷ false ∷ false ∷ true ∷ true ∷ []
+forced : has_indic_reph (with_reph_of (0 ∷ 1 ∷ []) (rules "Telu" false each_mask)) (plainly (Ra ∷ H ∷ ZWJ ∷ M ∷ []))
+    ∷ has_indic_reph (rules "Mlym" false no_masks) (plainly (Repha ∷ [])) ∷ has_indic_reph (rules "Mlym" false no_masks)
+    (plainly (Repha ∷ ZWJ ∷ M ∷ [])) ∷ has_indic_reph (rules "Mlym" false no_masks)
+    (plainly (Repha ∷ ZWJ ∷ ZWJ ∷ M ∷ [])) ∷ has_indic_reph (rules "Mlym" false no_masks) (plainly (Repha ∷ C ∷ []))
+    ∷ []
+    ≡ true ∷ false ∷ false ∷ true ∷ true ∷ []
 forced = refl

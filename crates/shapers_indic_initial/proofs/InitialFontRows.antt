@@ -21,7 +21,17 @@ feature tag stage = record { tag = record { 0 = codes tag }; mask = 8; stage = s
 
 -- a stage of one lookup for each: blwf 10, pstf 11, pref 12, vatu 13, rphf 14
 abbrev small : Option hb_tag_t → Map
-small chosen = record { features = feature "blwf" 0 ∷ feature "pstf" 1 ∷ feature "pref" 2 ∷ feature "vatu" 3 ∷ feature "rphf" 4 ∷ []; stages = map (λ i. record { start = i; end = i + 1 }) (range_with_len 0 5); lookups = 10 ∷ 11 ∷ 12 ∷ 13 ∷ 14 ∷ []; global = 0; chosen = chosen; found = true }
+small chosen =
+    record {
+      features = feature "blwf" 0 ∷ feature "pstf" 1 ∷ feature "pref" 2 ∷ feature "vatu" 3 ∷ feature "rphf" 4
+          ∷ [];
+      stages = map (λ i. record { start = i; end = i + 1 }) (range_with_len 0 5);
+      lookups =
+          10 ∷ 11 ∷ 12 ∷ 13 ∷ 14 ∷ [];
+      global = 0;
+      chosen = chosen;
+      found = true;
+    }
 
 -- glyph 100 for the virama of Devanagari, and the glyphs that the lookups apply to
 abbrev applying : List (ℕ × List ℕ)
@@ -47,28 +57,42 @@ glyphs p = map (λ i. let g : hb_glyph_info_t = record default_glyph { glyph_id 
     (range_with_len 1 11)
 
 -- below by blwf or vatu, in either order of virama and consonant; else post-base by pstf or pref; else as it was
-by_font : row_positions (positions_by_font (font_with virama_alone applies) (small None) (indic_plan WithoutMedials (script "Deva") (small None)) (glyphs 4)) ≡ 8 ∷ 8 ∷ 8 ∷ 8 ∷ 11 ∷ 11 ∷ 11 ∷ 11 ∷ 8 ∷ 4 ∷ 4 ∷ []
+by_font : row_positions
+    (positions_by_font (font_with virama_alone applies) (small None)
+    (indic_plan WithoutMedials (script "Deva") (small None)) (glyphs 4))
+    ≡ 8 ∷ 8 ∷ 8 ∷ 8 ∷ 11 ∷ 11 ∷ 11 ∷ 11 ∷ 8 ∷ 4 ∷ 4 ∷ []
 by_font = refl
 
 -- other positions than BASE_C stay
-other_positions : positions_by_font (font_with virama_alone applies) (small None) (indic_plan WithoutMedials (script "Deva") (small None)) (glyphs 3) ≡ glyphs 3
+other_positions : positions_by_font (font_with virama_alone applies) (small None)
+    (indic_plan WithoutMedials (script "Deva") (small None)) (glyphs 3)
+    ≡ glyphs 3
 other_positions = refl
 
 -- a font without the virama, and a script without one
-no_glyph : positions_by_font (font_with virama_alone applies) (small None) (indic_plan WithoutMedials (script "Beng") (small None)) (glyphs 4) ≡ glyphs 4
+no_glyph : positions_by_font (font_with virama_alone applies) (small None)
+    (indic_plan WithoutMedials (script "Beng") (small None)) (glyphs 4)
+    ≡ glyphs 4
 no_glyph = refl
 
-no_virama : positions_by_font (font_with all_characters applies) (small None) (indic_plan WithoutMedials (script "Thai") (small None)) (glyphs 4) ≡ glyphs 4
+no_virama : positions_by_font (font_with all_characters applies) (small None)
+    (indic_plan WithoutMedials (script "Thai") (small None)) (glyphs 4)
+    ≡ glyphs 4
 no_virama = refl
 
 -- in the older specification contexts are left out: a lookup that asks for one doesn't count; in the newer it does
 abbrev with_context : ℕ → List GlyphId → Bool → Bool
 with_context lookup ids zero = if zero then false else applies lookup ids zero
 
-old_contexts : positions_by_font (font_with virama_alone with_context) (small None) (indic_plan WithoutMedials (script "Deva") (small None)) (glyphs 4) ≡ glyphs 4
+old_contexts : positions_by_font (font_with virama_alone with_context) (small None)
+    (indic_plan WithoutMedials (script "Deva") (small None)) (glyphs 4)
+    ≡ glyphs 4
 old_contexts = refl
 
-new_contexts : row_positions (positions_by_font (font_with virama_alone with_context) (small (Some (record { 0 = codes "dev2" }))) (indic_plan WithoutMedials (script "Deva") (small (Some (record { 0 = codes "dev2" })))) (glyphs 4)) ≡ 8 ∷ 8 ∷ 8 ∷ 8 ∷ 11 ∷ 11 ∷ 11 ∷ 11 ∷ 8 ∷ 4 ∷ 4 ∷ []
+new_contexts : row_positions
+    (positions_by_font (font_with virama_alone with_context) (small (Some (record { 0 = codes "dev2" })))
+    (indic_plan WithoutMedials (script "Deva") (small (Some (record { 0 = codes "dev2" })))) (glyphs 4))
+    ≡ 8 ∷ 8 ∷ 8 ∷ 8 ∷ 11 ∷ 11 ∷ 11 ∷ 11 ∷ 8 ∷ 4 ∷ 4 ∷ []
 new_contexts = refl
 
 -- a font is queried about a glyph's number, and about 65535 for every greater one

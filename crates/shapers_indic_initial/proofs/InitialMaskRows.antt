@@ -24,7 +24,11 @@ reph = refl
 
 -- before the base half, and blwf in the newer specification of scripts that have it there; after it
 -- blwf, abvf and pstf; on it none
-around : row_masks (with_masks_around new 2 five) ∷ row_masks (with_masks_around old 2 five) ∷ row_masks (with_masks_around (rules "Knda" false each_mask) 2 five) ∷ row_masks (with_masks_around (rules "Telu" true each_mask) 2 five) ∷ [] ≡ (160 ∷ 160 ∷ 0 ∷ 352 ∷ 352 ∷ []) ∷ (128 ∷ 128 ∷ 0 ∷ 352 ∷ 352 ∷ []) ∷ (128 ∷ 128 ∷ 0 ∷ 352 ∷ 352 ∷ []) ∷ (128 ∷ 128 ∷ 0 ∷ 352 ∷ 352 ∷ []) ∷ []
+around : row_masks (with_masks_around new 2 five) ∷ row_masks (with_masks_around old 2 five)
+    ∷ row_masks (with_masks_around (rules "Knda" false each_mask) 2 five)
+    ∷ row_masks (with_masks_around (rules "Telu" true each_mask) 2 five) ∷ []
+    ≡ (160 ∷ 160 ∷ 0 ∷ 352 ∷ 352 ∷ []) ∷ (128 ∷ 128 ∷ 0 ∷ 352 ∷ 352 ∷ []) ∷ (128 ∷ 128 ∷ 0 ∷ 352 ∷ 352 ∷ [])
+    ∷ (128 ∷ 128 ∷ 0 ∷ 352 ∷ 352 ∷ []) ∷ []
 around = refl
 
 around_the_ends : map (λ base. row_masks (with_masks_around new base five)) (0 ∷ 4 ∷ 5 ∷ [])
@@ -46,10 +50,18 @@ with_joiner : eyelash 3 (Ra ∷ H ∷ ZWJ ∷ C ∷ []) ∷ eyelash 2 (Ra ∷ H 
 with_joiner = refl
 
 -- ligatures count, too: of Ra, of H, of that ZWJ
-with_ligatures : map (λ i. row_masks (with_eyelash_mask old (script "Deva") 3 (ligated_at i (plainly (Ra ∷ H ∷ N ∷ C ∷ []))))) (0 ∷ 1 ∷ []) ∷ map (λ i. row_masks (with_eyelash_mask old (script "Deva") 3 (ligated_at i (plainly (Ra ∷ H ∷ ZWJ ∷ C ∷ []))))) (2 ∷ []) ∷ [] ≡ ((32 ∷ 32 ∷ 0 ∷ 0 ∷ []) ∷ (32 ∷ 32 ∷ 0 ∷ 0 ∷ []) ∷ []) ∷ ((0 ∷ 0 ∷ 0 ∷ 0 ∷ []) ∷ []) ∷ []
+with_ligatures : map
+    (λ i. row_masks (with_eyelash_mask old (script "Deva") 3 (ligated_at i (plainly (Ra ∷ H ∷ N ∷ C ∷ [])))))
+    (0 ∷ 1 ∷ []) ∷ map
+    (λ i. row_masks (with_eyelash_mask old (script "Deva") 3 (ligated_at i (plainly (Ra ∷ H ∷ ZWJ ∷ C ∷ []))))) (2 ∷ [])
+    ∷ []
+    ≡ ((32 ∷ 32 ∷ 0 ∷ 0 ∷ []) ∷ (32 ∷ 32 ∷ 0 ∷ 0 ∷ []) ∷ []) ∷ ((0 ∷ 0 ∷ 0 ∷ 0 ∷ []) ∷ []) ∷ []
 with_ligatures = refl
 
-no_eyelash : eyelash 1 (Ra ∷ H ∷ C ∷ []) ∷ eyelash 0 (Ra ∷ H ∷ []) ∷ eyelash 2 (C ∷ H ∷ C ∷ []) ∷ eyelash 2 (Ra ∷ C ∷ C ∷ []) ∷ row_masks (with_eyelash_mask new (script "Deva") 2 (plainly (Ra ∷ H ∷ C ∷ []))) ∷ row_masks (with_eyelash_mask old (script "Beng") 2 (plainly (Ra ∷ H ∷ C ∷ []))) ∷ [] ≡ (0 ∷ 0 ∷ 0 ∷ []) ∷ (0 ∷ 0 ∷ []) ∷ (0 ∷ 0 ∷ 0 ∷ []) ∷ (0 ∷ 0 ∷ 0 ∷ []) ∷ (0 ∷ 0 ∷ 0 ∷ []) ∷ (0 ∷ 0 ∷ 0 ∷ []) ∷ []
+no_eyelash : eyelash 1 (Ra ∷ H ∷ C ∷ []) ∷ eyelash 0 (Ra ∷ H ∷ []) ∷ eyelash 2 (C ∷ H ∷ C ∷ [])
+    ∷ eyelash 2 (Ra ∷ C ∷ C ∷ []) ∷ row_masks (with_eyelash_mask new (script "Deva") 2 (plainly (Ra ∷ H ∷ C ∷ [])))
+    ∷ row_masks (with_eyelash_mask old (script "Beng") 2 (plainly (Ra ∷ H ∷ C ∷ []))) ∷ []
+    ≡ (0 ∷ 0 ∷ 0 ∷ []) ∷ (0 ∷ 0 ∷ []) ∷ (0 ∷ 0 ∷ 0 ∷ []) ∷ (0 ∷ 0 ∷ 0 ∷ []) ∷ (0 ∷ 0 ∷ 0 ∷ []) ∷ (0 ∷ 0 ∷ 0 ∷ []) ∷ []
 no_eyelash = refl
 
 -- the first two neighbours after the base that pref would substitute
@@ -87,5 +99,8 @@ ligatures : halves (of ((C, 4) ∷ []) ++ with_row_marks 2 (record default_glyph
 ligatures = refl
 
 -- all at once: reph, before the base, base, after it, with a pair for pref and a ZWNJ after the base
-all_masks : row_masks (with_initial_masks (with_pref_of (4 ∷ 5 ∷ []) new) (script "Deva") 3 (of ((Ra, 1) ∷ (H, 1) ∷ (C, 3) ∷ (C, 4) ∷ (H, 8) ∷ (Ra, 8) ∷ []))) ≡ 168 ∷ 168 ∷ 160 ∷ 0 ∷ 368 ∷ 368 ∷ []
+all_masks : row_masks
+    (with_initial_masks (with_pref_of (4 ∷ 5 ∷ []) new) (script "Deva") 3
+    (of ((Ra, 1) ∷ (H, 1) ∷ (C, 3) ∷ (C, 4) ∷ (H, 8) ∷ (Ra, 8) ∷ [])))
+    ≡ 168 ∷ 168 ∷ 160 ∷ 0 ∷ 368 ∷ 368 ∷ []
 all_masks = refl

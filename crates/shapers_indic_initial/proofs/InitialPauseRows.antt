@@ -38,7 +38,8 @@ abbrev sixteen : List hb_glyph_info_t
 sixteen = one 0 0x14 C 4 ∷ map (λ i. one (i + 1) ((i + 2) * 16) C 4) (range_with_len 0 14) ++ one 15 0x14 C 4 ∷ []
 
 abbrev prepared : List hb_glyph_info_t → List hb_glyph_info_t
-prepared gs = (with_positions_and_circles font empty_map (indic_plan WithoutMedials (script "Deva") empty_map) (text gs)).glyphs
+prepared gs =
+    (with_positions_and_circles font empty_map (indic_plan WithoutMedials (script "Deva") empty_map) (text gs)).glyphs
 
 circles : numbers_of (prepared sixteen) ≡ 500 ∷ range_with_len 0 15 ++ 500 ∷ 15 ∷ []
 circles = refl
@@ -50,7 +51,9 @@ circle_positions = refl
 
 -- the order of a text: a left matra goes before the circle, which is the base, and not into the syllable before it
 abbrev ordered : List hb_glyph_info_t → List hb_glyph_info_t
-ordered gs = text_order (initial_order (initial_rules font empty_map (indic_plan WithoutMedials (script "Deva") empty_map)) (script "Deva")) (prepared gs)
+ordered gs = text_order
+    (initial_order (initial_rules font empty_map (indic_plan WithoutMedials (script "Deva") empty_map)) (script "Deva"))
+    (prepared gs)
 
 text_by_syllables : numbers_of (ordered (one 0 0x10 C 4 ∷ one 1 0x10 M 2 ∷ one 2 0x24 M 2 ∷ one 3 0x33 M 2 ∷ []))
     ∷ row_positions (ordered (one 0 0x10 C 4 ∷ one 1 0x10 M 2 ∷ one 2 0x24 M 2 ∷ one 3 0x33 M 2 ∷ [])) ∷ []

@@ -40,15 +40,21 @@ after_the_base_alone : halants 2 ((C ∷ H ∷ C ∷ H ∷ C ∷ []) ∷ (C ∷ 
     ∷ [] ≡ ((0 ∷ 1 ∷ 2 ∷ 4 ∷ 3 ∷ []) ∷ (0 ∷ 1 ∷ 2 ∷ []) ∷ []) ∷ ((0 ∷ 1 ∷ 2 ∷ []) ∷ []) ∷ []
 after_the_base_alone = refl
 
-newer_specification : halant_places (rules "Deva" false no_masks) (script "Deva") 0 (plainly (C ∷ H ∷ C ∷ [])) ≡ 0 ∷ 1 ∷ 2 ∷ []
+newer_specification : halant_places (rules "Deva" false no_masks) (script "Deva") 0 (plainly (C ∷ H ∷ C ∷ []))
+    ≡ 0 ∷ 1 ∷ 2 ∷ []
 newer_specification = refl
 
 -- in Kannada not over another H
-kannada : map (λ cs. halant_places (rules "Knda" true no_masks) (script "Knda") 0 (plainly cs)) ((C ∷ H ∷ C ∷ H ∷ []) ∷ (C ∷ H ∷ C ∷ []) ∷ (C ∷ H ∷ H ∷ C ∷ []) ∷ (C ∷ H ∷ H ∷ M ∷ []) ∷ []) ≡ (0 ∷ 1 ∷ 2 ∷ 3 ∷ []) ∷ (0 ∷ 2 ∷ 1 ∷ []) ∷ (0 ∷ 2 ∷ 3 ∷ 1 ∷ []) ∷ (0 ∷ 1 ∷ 2 ∷ 3 ∷ []) ∷ []
+kannada : map (λ cs. halant_places (rules "Knda" true no_masks) (script "Knda") 0 (plainly cs))
+    ((C ∷ H ∷ C ∷ H ∷ []) ∷ (C ∷ H ∷ C ∷ []) ∷ (C ∷ H ∷ H ∷ C ∷ []) ∷ (C ∷ H ∷ H ∷ M ∷ []) ∷ [])
+    ≡ (0 ∷ 1 ∷ 2 ∷ 3 ∷ []) ∷ (0 ∷ 2 ∷ 1 ∷ []) ∷ (0 ∷ 2 ∷ 3 ∷ 1 ∷ []) ∷ (0 ∷ 1 ∷ 2 ∷ 3 ∷ []) ∷ []
 kannada = refl
 
 -- a ligature of H moves, and in Kannada forbids it; one of a consonant isn't passed
-ligated_halants : halant_places (rules "Deva" true no_masks) (script "Deva") 0 (ligated_at 1 (plainly (C ∷ H ∷ C ∷ []))) ∷ halant_places (rules "Knda" true no_masks) (script "Knda") 0 (ligated_at 3 (plainly (C ∷ H ∷ C ∷ H ∷ []))) ∷ halant_places (rules "Deva" true no_masks) (script "Deva") 0 (ligated_at 2 (plainly (C ∷ H ∷ C ∷ []))) ∷ [] ≡ (0 ∷ 2 ∷ 1 ∷ []) ∷ (0 ∷ 1 ∷ 2 ∷ 3 ∷ []) ∷ (0 ∷ 1 ∷ 2 ∷ []) ∷ []
+ligated_halants : halant_places (rules "Deva" true no_masks) (script "Deva") 0 (ligated_at 1 (plainly (C ∷ H ∷ C ∷ [])))
+    ∷ halant_places (rules "Knda" true no_masks) (script "Knda") 0 (ligated_at 3 (plainly (C ∷ H ∷ C ∷ H ∷ [])))
+    ∷ halant_places (rules "Deva" true no_masks) (script "Deva") 0 (ligated_at 2 (plainly (C ∷ H ∷ C ∷ []))) ∷ []
+    ≡ (0 ∷ 2 ∷ 1 ∷ []) ∷ (0 ∷ 1 ∷ 2 ∷ 3 ∷ []) ∷ (0 ∷ 1 ∷ 2 ∷ []) ∷ []
 ligated_halants = refl
 
 -- attached glyphs: N, H, ZWNJ, ZWJ, CM and RS take the nearest other position before them, but for

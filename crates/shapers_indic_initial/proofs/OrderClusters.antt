@@ -55,7 +55,8 @@ together_lies r from base o =
     elim (r.old || nat_lt 127 (length from)) as (λ b. AllByRecursion (Lies base (length from))
     (if b then (base, length from) ∷ [] else all_ways from base)) [
       | true ↦ (record { low = omega arith; high = omega arith }, tt)
-      | false ↦ all-mapped (λ p. p < length from) (Lies base (length from)) (way_of from base) (places base (length from))
+      | false ↦ all-mapped (λ p. p < length from) (Lies base (length from)) (way_of from base)
+          (places base (length from))
           (λ p l. record { low = omega arith; high = omega (arith, o.within p l) })
           (all-range (λ p. p < length from) base (length from - base) (λ p low high. omega arith))
     ]
@@ -109,11 +110,12 @@ one_cluster level m sts xs ends st within all p q pl ph ql qh =
 unlinked_before : (base n : ℕ) (sts : List (ℕ × ℕ)) (xs : List ℕ) → AllByRecursion (Lies base n) sts
     → ((a c : ℕ) → a < c → c < length xs → get_or xs a 0 ≢ get_or xs c 0) → (i : ℕ) → 0 < i → i ≤ base → i < length xs
     → linked xs sts i ≡ true → ⊥
-unlinked_before base n sts xs lies different i z h l t = elim (cases_Bool (slice_index xs (i - 1) == slice_index xs i)) [
-  | inl e ↦ different (i - 1) i (omega arith) l (eqb-true (get_or xs (i - 1) 0) (get_or xs i 0) e)
-  | inr f ↦ let b = held_behind base n sts i lies (sym (ap (λ b. b || held sts i) f) ∙ t) in let above =
-      b.above in omega arith
-]
+unlinked_before base n sts xs lies different i z h l t =
+    elim (cases_Bool (slice_index xs (i - 1) == slice_index xs i)) [
+      | inl e ↦ different (i - 1) i (omega arith) l (eqb-true (get_or xs (i - 1) 0) (get_or xs i 0) e)
+      | inr f ↦ let b = held_behind base n sts i lies (sym (ap (λ b. b || held sts i) f) ∙ t) in let above =
+          b.above in omega arith
+    ]
 
 kept_before : (base n : ℕ) (sts : List (ℕ × ℕ)) (xs js : List ℕ) → AllByRecursion (Lies base n) sts
     → ((a c : ℕ) → a < c → c < length xs → get_or xs a 0 ≢ get_or xs c 0) → ExactCuts xs sts js → (p : ℕ) → p < base

@@ -41,7 +41,9 @@ abbrev pub plain_consonant : hb_glyph_info_t → hb_glyph_info_t
 plain_consonant g = record g { category = 1; auxiliary = 4 }
 
 no_joiner : (script : Option Script) (g : hb_glyph_info_t) → joiner_comes_first script (plain_consonant g ∷ []) ≡ false
-no_joiner script g = elim (cases_Bool (is_script script (Some (record { 0 = codes "Knda" })))) [ inl on ↦ rw on refl | inr off ↦ rw off refl ]
+no_joiner script g =
+    elim (cases_Bool (is_script script (Some (record { 0 = codes "Knda" }))))
+    [ inl on ↦ rw on refl | inr off ↦ rw off refl ]
 
 no_repha : (mode : RephMode) (g : hb_glyph_info_t) → opens_with_repha mode (plain_consonant g ∷ []) ≡ false
 no_repha Implicit g = refl

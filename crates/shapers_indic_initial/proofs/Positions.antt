@@ -129,7 +129,8 @@ owned_is : (g : hb_glyph_info_t) (o : Option hb_glyph_info_t)
     → at_position (if nat_le 13 g.auxiliary then g.auxiliary else unwrap_or (owner_position o) g.auxiliary) g
     ≡ (if nat_le 13 g.auxiliary then g else owned_by o g)
 owned_is g None =
-    elim (nat_le 13 g.auxiliary) as (λ b. at_position (if b then g.auxiliary else g.auxiliary) g ≡ (if b then g else g)) [
+    elim (nat_le 13 g.auxiliary) as (λ b. at_position (if b then g.auxiliary else g.auxiliary) g
+    ≡ (if b then g else g)) [
       | true ↦ refl
       | false ↦ refl
     ]

@@ -21,17 +21,14 @@ use Rattle.shapers_indic.specs.Plan.{is_script}
 abbrev pub opens_with_ra_h_zwj : List hb_glyph_info_t → Bool
 opens_with_ra_h_zwj (a ∷ (b ∷ (c ∷ gs))) =
     is_one_of (OT_Ra ∷ []) a && is_one_of (OT_H ∷ []) b && is_one_of (OT_ZWJ ∷ []) c
-opens_with_ra_h_zwj (a ∷ (b ∷ [])) = false
-opens_with_ra_h_zwj (a ∷ []) = false
-opens_with_ra_h_zwj [] = false
+opens_with_ra_h_zwj _ = false
 
 -- Kannada writes an opening Ra, H, ZWJ as it does Ra, ZWJ, H: the last two change places
 abbrev pub joiner_comes_first : Option Script → List hb_glyph_info_t → Bool
 joiner_comes_first script gs =
     is_script script (Some (record { 0 = codes "Knda" })) && opens_with_ra_h_zwj gs
 
--- whether a glyph behind two others lets them be a reph: in scripts that write it as Ra, H, one
--- that is no joiner; in those that write Ra, H, ZWJ, the ZWJ
+-- whether a third glyph lets two be a reph: no joiner, if it is Ra, H; the ZWJ of Ra, H, ZWJ
 abbrev pub lets_reph : RephMode → hb_glyph_info_t → Bool
 lets_reph Implicit g = not (is_joiner g)
 lets_reph Explicit g = has_category OT_ZWJ g
@@ -39,24 +36,18 @@ lets_reph LogRepha g = false
 
 abbrev pub third_lets_reph : RephMode → List hb_glyph_info_t → Bool
 third_lets_reph mode (a ∷ (b ∷ (c ∷ gs))) = lets_reph mode c
-third_lets_reph mode (a ∷ (b ∷ [])) = false
-third_lets_reph mode (a ∷ []) = false
-third_lets_reph mode [] = false
+third_lets_reph mode _ = false
 
--- whether the font forms a reph of the first two glyphs, or where it is written explicitly of the
--- first three
+-- whether the font forms a reph of the first two glyphs, or if written explicitly of three
 abbrev pub reph_is_formed : RephMode → (List GlyphId → Bool) → List hb_glyph_info_t → Bool
 reph_is_formed Implicit forms gs = forms (numbers (take 2 gs))
 reph_is_formed Explicit forms gs = forms (numbers (take 2 gs)) || forms (numbers (take 3 gs))
 reph_is_formed LogRepha forms gs = false
 
--- whether the syllable opens with a reph that is a character of its own, in a script that writes it
--- so
+-- whether a reph that is a character of its own opens the syllable, in a script that writes it so
 abbrev pub opens_with_repha : RephMode → List hb_glyph_info_t → Bool
 opens_with_repha LogRepha (g ∷ gs) = has_category OT_Repha g
-opens_with_repha LogRepha [] = false
-opens_with_repha Implicit gs = false
-opens_with_repha Explicit gs = false
+opens_with_repha _ _ = false
 
 -- whether it is up to the font: rphf has a mask, and the third glyph lets the first two be a reph
 abbrev pub font_decides_reph : Rules → List hb_glyph_info_t → Bool
@@ -95,8 +86,7 @@ abbrev pub stops_search : List hb_glyph_info_t → ℕ → Bool
 stops_search gs i =
     nat_lt 0 i && passes (has_category OT_ZWJ) gs i && passes (has_category OT_H) gs (i - 1)
 
--- where the search ends: at the limit, or at the last glyph if that stands before it, or behind the
--- last glyph from there on that stops it
+-- where the search ends: at the limit or the last glyph, or behind the last one that stops it
 abbrev pub search_from : ℕ → List hb_glyph_info_t → ℕ
 search_from lo gs = option_map_or suc (greatest_place (stops_search gs) lo (length gs)) lo
 
@@ -107,9 +97,8 @@ search_start r gs = search_from (min (limit r gs) (length gs - 1)) gs
 abbrev pub has_below_form : BaseSearch → List hb_glyph_info_t → ℕ → Bool
 has_below_form search gs i = may_be_base search gs i && passes (has_position POS_BELOW_C) gs i
 
--- whether the search may end with the consonant at place i: it has neither a below-base nor a
--- post-base form; but a post-base form has to follow below-base ones, so it counts as none before
--- one of those
+-- whether the search may end with the consonant at place i: it has no below-base and no post-base
+-- form; but a post-base form follows below-base ones, so before one of those it counts as none
 abbrev pub is_base : BaseSearch → List hb_glyph_info_t → ℕ → Bool
 is_base search gs i = may_be_base search gs i && not (has_below_form search gs i)
     && (not (passes (has_position POS_POST_C) gs i)
@@ -129,8 +118,7 @@ abbrev pub base_place : Rules → List hb_glyph_info_t → ℕ
 base_place r gs =
     base_from r.search (search_start r gs) (if indic_reph_len r gs == 0 then length gs else 0) gs
 
--- whether the syllable has a reph: one opens it, and there is another base, or a joiner that forces
--- the reph
+-- whether the syllable has a reph: one opens it, with another base or a joiner that forces the reph
 abbrev pub has_indic_reph : Rules → List hb_glyph_info_t → Bool
 has_indic_reph r gs =
     not (indic_reph_len r gs == 0) && not (base_place r gs == 0 && nat_le (limit r gs) 2)

@@ -15,8 +15,7 @@ use Rattle.shapers_indic_initial.specs.InitialReordering.{in_indic_order, initia
 use Rattle.shapers_indic_initial.specs.InitialRules.{Rules}
 use Rattle.shapers_syllabic.specs.Reordering.{glyphs_before, text_steps}
 
--- the places from the base on between place p and the old place of the glyph now at p, both
--- included
+-- the places from the base on from place p to the old place of the glyph now at p
 abbrev pub way_of : List ℕ → ℕ → ℕ → ℕ × ℕ
 way_of from base p = (max base (min p (slice_index from p)), suc (max p (slice_index from p)))
 
@@ -31,8 +30,7 @@ kept_together r from base =
 
 -- From the clusters cs before to the clusters js after: each of these stretches is in one cluster.
 -- No more is merged: where all clusters are different, neighbours share one only if such a stretch
--- holds both, each run so joined has the least that its glyphs had, and each glyph before the base
--- keeps its own.
+-- holds both, each run so joined has its least, and glyphs before the base keep their own.
 pub record OrderMerges (base : ℕ) (sts : List (ℕ × ℕ)) (from cs js : List ℕ) : Type 0 where
   pub together : AllByRecursion (OneAlong js) sts
   pub exact : AllDifferent cs → ExactCuts (pick from cs) sts js
@@ -50,8 +48,7 @@ OrderMergesLaw =
     (indic_ordered_places gs) cs
     (joined_step level (indic_order_step r gs) cs)
 
--- In a whole text: the clusters as the order of a syllable begins, when those before it are
--- reordered and it has come to its last step.
+-- In a whole text: the clusters as a syllable's last step begins, those before it being reordered.
 abbrev pub as_order_begins : Rules → Option Script → BufferClusterLevel → ℕ →
     List (List hb_glyph_info_t) → List hb_glyph_info_t → List ℕ → List ℕ
 as_order_begins r script level n before syl cs =
@@ -60,15 +57,13 @@ as_order_begins r script level n before syl cs =
     (map (λ piece. (length piece, initial_steps r script piece)) before)
     ++ map (widened s (s + length syl) n) (take 2 (initial_steps r script syl))) cs
 
--- From the clusters cs of a text as the order of the syllable from s to e begins, to the clusters
--- js after the pause: each of the syllable's stretches is in one cluster, and where its clusters
--- are its own, no more is merged.
+-- From a text's clusters cs as the order of the syllable from s to e begins to those after, js:
+-- each of its stretches is in one cluster, and where its clusters are its own no more is merged.
 pub record SyllableMerges (s e base : ℕ) (sts : List (ℕ × ℕ)) (from cs js : List ℕ) : Type 0 where
   pub together : AllByRecursion (OneAlong js) (shifted s sts)
   pub own : OwnClusters s e cs → OrderMerges base sts from (stretch_of s e cs) (stretch_of s e js)
 
--- so each syllable that is reordered, of a text gs (its order view) with clusters cs before the
--- moves and js after them
+-- so each syllable that is reordered, of a text gs (its order view) with clusters cs, and js after
 abbrev pub EachSyllableMerges : Rules → Option Script → BufferClusterLevel → List hb_glyph_info_t →
     List ℕ → List ℕ → Type 0
 EachSyllableMerges r script level gs cs js =

@@ -18,19 +18,12 @@ abbrev pub joins_virama : Font → Map → IndicWouldSubstituteFeature → Glyph
 joins_virama font m q v c =
     would_by font.applies m q (v ∷ c ∷ []) || would_by font.applies m q (c ∷ v ∷ [])
 
--- whether the font has a below-base form of c, by blwf or vatu; a post-base form or one reordered
--- before the base, by pstf or pref
-abbrev pub is_below_base : Font → Map → indic_shape_plan_t → GlyphId → GlyphId → Bool
-is_below_base font m p v c = joins_virama font m p.blwf v c || joins_virama font m p.vatu v c
-
-abbrev pub is_post_base : Font → Map → indic_shape_plan_t → GlyphId → GlyphId → Bool
-is_post_base font m p v c = joins_virama font m p.pstf v c || joins_virama font m p.pref v c
-
--- the position of a consonant by the font
+-- the position by the font: below-base by blwf or vatu, post-base by pstf or pref, else the base's
 abbrev pub consonant_position : Font → Map → indic_shape_plan_t → GlyphId → GlyphId → ℕ
 consonant_position font m p v c =
-    if is_below_base font m p v c then POS_BELOW_C
-    else if is_post_base font m p v c then POS_POST_C else POS_BASE_C
+    if joins_virama font m p.blwf v c || joins_virama font m p.vatu v c then POS_BELOW_C
+    else if joins_virama font m p.pstf v c || joins_virama font m p.pref v c then POS_POST_C
+    else POS_BASE_C
 
 -- a glyph with its position by the font, where the table has BASE_C for it
 abbrev pub by_virama : Font → Map → indic_shape_plan_t → GlyphId → hb_glyph_info_t → hb_glyph_info_t

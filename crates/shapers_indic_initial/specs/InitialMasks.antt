@@ -30,8 +30,7 @@ abbrev pub applies_before_base : BlwfMode → Bool
 applies_before_base PreAndPost = true
 applies_before_base PostOnly = false
 
--- the mask before the base, and the one after it; each glyph on its side of the base gets it, the
--- base neither
+-- the masks before the base and after it, which each glyph on that side gets; the base gets neither
 abbrev pub mask_before_base : Rules → ℕ
 mask_before_base r =
     if not r.old

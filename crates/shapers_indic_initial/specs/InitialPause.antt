@@ -21,8 +21,7 @@ use Rattle.shapers_syllabic.specs.declared.ot_shaper_syllabic.circles.DottedCirc
 use Rattle.shapers_syllabic.specs.Reordering.{SyllablesLinked, SyllablesReordered, script_circles}
 use Rattle.shapers_syllabic.specs.declared.ot_shaper_syllabic.circles.ScriptCircles.{ScriptCircles}
 
--- the dotted circles: behind a repha that opens a broken syllable, and of the last position, which
--- the base's replaces where a circle is the base
+-- the dotted circles: behind an opening repha; of the last position, unless one becomes the base
 abbrev pub indic_circles : ScriptCircles
 indic_circles = record {
   broken_kind = BROKEN_CLUSTER;

@@ -15,8 +15,7 @@ use Rattle.shapers_indic_initial.specs.InitialRules.{Rules}
 use Rattle.shapers_indic.specs.Plan.{is_script}
 use Rattle.shapers_syllabic.specs.Consonants.{is_consonant}
 
--- the position of the glyph at place i, where it has p so far: the reph's; at most PRE_C before the
--- base; BASE_C on it
+-- the position at place i, where it was p: the reph's; at most PRE_C before the base; BASE_C on it
 abbrev pub position_by_base : ℕ → Bool → ℕ → ℕ → ℕ
 position_by_base base reph i p =
     if reph && i == 0 then POS_RA_TO_BECOME_REPH
@@ -73,8 +72,7 @@ is_attached g =
 abbrev pub carries : hb_glyph_info_t → Bool
 carries g = not (is_attached g) && not (has_position POS_SMVD g)
 
--- an attached glyph has the position of the nearest glyph before it that carries it, 0 if there is
--- none
+-- an attached glyph has the position of the nearest glyph before it that carries it, else 0
 abbrev pub attached_to : List hb_glyph_info_t → hb_glyph_info_t → hb_glyph_info_t
 attached_to before g =
     if is_attached g then at_position
@@ -84,8 +82,7 @@ attached_to before g =
 abbrev pub with_attached : List hb_glyph_info_t → List hb_glyph_info_t
 with_attached gs = map (λ t. attached_to t.0 t.1) (each_after [] gs)
 
--- a syllable modifier goes with a postfixed matra directly behind it, unless that stands with the
--- modifiers
+-- a syllable modifier goes with a postfixed matra directly behind it, unless that is with the signs
 abbrev pub draws_sign : hb_glyph_info_t → hb_glyph_info_t → Bool
 draws_sign g next =
     has_category OT_SM g && has_category OT_MPst next && not (has_position POS_SMVD next)
@@ -98,8 +95,7 @@ abbrev pub with_signs : List hb_glyph_info_t → List hb_glyph_info_t
 with_signs [] = []
 with_signs (g ∷ gs) = before_next g gs ∷ with_signs gs
 
--- an H doesn't go with a left matra: it has the position of the nearest glyph before it that is no
--- such matra's, if there is one
+-- an H with the position of left matras gets that of the nearest glyph before it with another one
 abbrev pub halant_behind : List hb_glyph_info_t → hb_glyph_info_t → hb_glyph_info_t
 halant_behind before g =
     if has_category OT_H g
@@ -118,8 +114,7 @@ with_marks_attached gs = with_halants (with_signs (with_attached gs))
 abbrev pub bounds : hb_glyph_info_t → Bool
 bounds g = is_consonant g || is_matra g
 
--- after the base a consonant owns what stands before it since the last consonant or matra, but for
--- modifiers and what is behind them
+-- after the base a consonant owns what is between it and the last consonant or matra, signs apart
 abbrev pub owned_by : Option hb_glyph_info_t → hb_glyph_info_t → hb_glyph_info_t
 owned_by None g = g
 owned_by (Some h) g = if is_consonant h then at_position h.auxiliary g else g

@@ -9,8 +9,7 @@ use Rattle.shapers_base.specs.Map.{Map}
 use Rattle.shapers_base.specs.Questions.{would_by}
 
 -- the script's properties, whether the older specification holds, among which consonants the base
--- is looked for, the masks by feature, and of which glyphs the font forms a reph or a consonant
--- that is reordered before the base
+-- is looked for, masks by feature, which glyphs form a reph, and which a consonant before the base
 pub record Rules : Type 0 where
   pub config : IndicConfig
   pub old : Bool

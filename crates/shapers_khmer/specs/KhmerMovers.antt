@@ -8,8 +8,7 @@ use Rattle.shapers_clusters.specs.Steps.{Step, still_step}
 use Rattle.shapers_khmer.specs.Khmer.{is_coeng, is_left_vowel, is_reordered_in_khmer, is_ro, khmer_masked, khmer_moves, khmer_order, khmer_places, khmer_steps, merged_by_move, categories_of, with_mask}
 use Rattle.shapers_khmer.specs.declared.ot_shaper_khmer.reordering.KhmerOrder.{KhmerOrder}
 
--- whether a syllable of these categories is regular: its first is neither Coeng nor a left vowel,
--- and each Coeng is last or directly followed by neither
+-- whether a syllable is regular: no Coeng or left vowel comes first, or directly behind a Coeng
 abbrev pub is_coeng_or_left_vowel : ℕ → Bool
 is_coeng_or_left_vowel category = is_coeng category || is_left_vowel category
 
@@ -19,8 +18,7 @@ is_regular (c ∷ cs) =
     not (is_coeng_or_left_vowel c)
     && list_all (λ p. not (is_coeng p.0 && is_coeng_or_left_vowel p.1)) (zip (c ∷ cs) cs)
 
--- A part of a syllable: Coeng with the glyph behind it, by its place and the category of that
--- glyph; or another glyph alone, or a last Coeng, by its place and category.
+-- A part of a syllable: Coeng with the glyph behind it, or one glyph alone; by place and category.
 pub data Part : Type 0 where
   Coeng : (place behind : ℕ) → Part
   Alone : (place category : ℕ) → Part
@@ -44,8 +42,7 @@ behind_coengs [] = []
 behind_coengs (Coeng place behind ∷ parts) = behind ∷ behind_coengs parts
 behind_coengs (Alone place category ∷ parts) = behind_coengs parts
 
--- whether a Ro moves with its Coeng, by what stands behind the Coengs before it: fewer than three
--- others, and then Ros alone
+-- whether a Ro moves, by what follows the Coengs before it: fewer than three others, then Ros alone
 abbrev pub moves_behind : List ℕ → Bool
 moves_behind before =
     let others = prefix_len (λ y. not (is_ro y)) before in
@@ -81,8 +78,7 @@ moving_coengs categories =
 abbrev pub with_mask_if : Bool → ℕ → hb_glyph_info_t → hb_glyph_info_t
 with_mask_if wanted m g = if wanted then with_mask m g else g
 
--- the glyph at a place with its masks: blwf, abvf and pstf on all but the first, pref on each pair
--- that moves, cfar behind one
+-- the glyph at a place: blwf, abvf, pstf on all but the first, pref on moving pairs, cfar behind
 abbrev pub masked_at : KhmerOrder → List ℕ → ℕ → hb_glyph_info_t → hb_glyph_info_t
 masked_at r coengs place g =
     with_mask_if (list_any (λ p. nat_lt (p + 1) place) coengs) r.cfar
@@ -126,8 +122,7 @@ KhmerMoversMergesLaw =
     (gs : List hb_glyph_info_t) → is_regular (categories_of gs) ≡ true →
     map merged_by_move (khmer_moves gs) ≡ merges_by_movers (categories_of gs)
 
--- THE CALL. What a syllable becomes and by which steps, where those of a regular one are said by
--- its movers
+-- THE CALL. What a syllable becomes, and by which steps: of a regular one by its movers
 abbrev pub ordered_by_movers : KhmerOrder → List hb_glyph_info_t → List hb_glyph_info_t
 ordered_by_movers r gs =
     if is_regular (categories_of gs) then khmer_by_movers r gs else khmer_order r gs

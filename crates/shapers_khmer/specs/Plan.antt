@@ -9,8 +9,7 @@ use Rattle.shapers_base.specs.Map.{Map, mask_of}
 abbrev pub khmer_basic_features : List String
 khmer_basic_features = "pref" ∷ "blwf" ∷ "abvf" ∷ "pstf" ∷ "cfar" ∷ []
 
--- the masks that the plan keeps: those of the basic features, and none for the four features that
--- hold for the whole text
+-- the masks that the plan keeps: the basic features', and none for the four of the whole text
 abbrev pub khmer_masks : Map → List ℕ
 khmer_masks m =
     map (λ tag. mask_of (record { 0 = codes tag }) m) khmer_basic_features ++ replicate 4 0

@@ -48,7 +48,8 @@ backward : map (λ d. masks whole (buffer d 0 one_23rd)) (RightToLeft ∷ Bottom
 backward = refl
 
 -- 1⁄2⁄3: the 2 is of both
-in_a_row : masks whole (buffer LeftToRight 0 (0x31 ∷ 0x2044 ∷ 0x32 ∷ 0x2044 ∷ 0x33 ∷ [])) ≡ 0x30 ∷ 0x13 ∷ 0x73 ∷ 0x13 ∷ 0x53 ∷ []
+in_a_row : masks whole (buffer LeftToRight 0 (0x31 ∷ 0x2044 ∷ 0x32 ∷ 0x2044 ∷ 0x33 ∷ []))
+    ≡ 0x30 ∷ 0x13 ∷ 0x73 ∷ 0x13 ∷ 0x53 ∷ []
 in_a_row = refl
 
 -- numbers on one side alone: the slash, where flags of concatenation are wanted
@@ -56,14 +57,16 @@ lacking_left : map (λ flags. masks whole (buffer LeftToRight flags (0x61 ∷ 0x
     ≡ (0 ∷ 0 ∷ 0 ∷ []) ∷ (0 ∷ 2 ∷ 0 ∷ []) ∷ []
 lacking_left = refl
 
-lacking_right : map (λ flags. masks whole (buffer LeftToRight flags (0x31 ∷ 0x2044 ∷ []))) (0 ∷ 0x40 ∷ []) ≡ (0 ∷ 0 ∷ []) ∷ (0 ∷ 2 ∷ []) ∷ []
+lacking_right : map (λ flags. masks whole (buffer LeftToRight flags (0x31 ∷ 0x2044 ∷ []))) (0 ∷ 0x40 ∷ [])
+    ≡ (0 ∷ 0 ∷ []) ∷ (0 ∷ 2 ∷ []) ∷ []
 lacking_right = refl
 
 slash_only : masks whole (buffer LeftToRight 0x40 (0x2044 ∷ [])) ≡ 2 ∷ []
 slash_only = refl
 
 -- fonts: halves alone are enough together, and neither by itself; no feature, no flag
-halves : masks (fraction_features 0 0x20 0x40) (buffer LeftToRight 0 (0x31 ∷ 0x2044 ∷ 0x32 ∷ [])) ≡ 0x20 ∷ 0x03 ∷ 0x43 ∷ []
+halves : masks (fraction_features 0 0x20 0x40) (buffer LeftToRight 0 (0x31 ∷ 0x2044 ∷ 0x32 ∷ []))
+    ≡ 0x20 ∷ 0x03 ∷ 0x43 ∷ []
 halves = refl
 
 one_half : map (λ m. masks m (buffer LeftToRight 0x40 (0x31 ∷ 0x2044 ∷ 0x32 ∷ [])))

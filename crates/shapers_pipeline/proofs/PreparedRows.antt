@@ -73,11 +73,13 @@ buffer direction script cs = record (new_buffer 9) {
 
 -- of each glyph its number, cluster, mask and category
 abbrev seen : Option hb_ot_shaper_t → Buffer → List (ℕ × (ℕ × (ℕ × ℕ)))
-seen shaper b = map (λ g. (g.glyph_id, (g.cluster, (g.mask, g.category)))) (text_prepared (prepared_for shaper) b).glyphs
+seen shaper b =
+    map (λ g. (g.glyph_id, (g.cluster, (g.mask, g.category)))) (text_prepared (prepared_for shaper) b).glyphs
 
 -- 1⁄2: fractions, and the caller's feature from cluster 2 on
 fraction : seen None (buffer LeftToRight (codes "Latn") (0x31 ∷ 0x2044 ∷ 0x32 ∷ []))
-    ≡ (0x31 + 1000, (0, (0x80000030, 0))) ∷ (0x2044 + 1000, (1, (0x80000013, 0))) ∷ (0x32 + 1000, (2, (0x80000353, 0))) ∷ []
+    ≡ (0x31 + 1000, (0, (0x80000030, 0))) ∷ (0x2044 + 1000, (1, (0x80000013, 0))) ∷ (0x32 + 1000, (2, (0x80000353, 0)))
+    ∷ []
 fraction = refl
 
 -- a with a grave accent is one cluster, and composed
@@ -97,6 +99,7 @@ turned = refl
 
 -- Devanagari: a circle between vowels, and the categories of the shaper
 vowels : seen (Some Indic) (buffer LeftToRight (codes "Deva") (0x905 ∷ 0x946 ∷ []))
-    ≡ (0x905 + 1000, (0, (0x80000000, 5))) ∷ (0x25CC + 1000, (1, (0x80000000, 5))) ∷ (0x946 + 1000, (1, (0x80000000, 5))) ∷ []
+    ≡ (0x905 + 1000, (0, (0x80000000, 5))) ∷ (0x25CC + 1000, (1, (0x80000000, 5)))
+    ∷ (0x946 + 1000, (1, (0x80000000, 5))) ∷ []
 unfolding devanagari_pairs
 vowels = refl

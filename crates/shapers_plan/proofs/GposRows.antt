@@ -10,7 +10,11 @@ use Rattle.shapers_plan.specs.Planning.{takes_gpos}
 abbrev font : Bool → Bool → Option String → FontTables
 font gsub gpos script = record {
   there = elim [ GSUB ↦ gsub | GPOS ↦ gpos ];
-  chosen = elim [ GSUB ↦ Some (record { 0 = codes "hebr" }) | GPOS ↦ elim script [ None ↦ None | Some tag ↦ Some (record { 0 = codes tag }) ] ];
+  chosen = elim [
+    | GSUB ↦ Some (record { 0 = codes "hebr" })
+    | GPOS ↦ elim script
+        [ None ↦ None | Some tag ↦ Some (record { 0 = codes tag }) ]
+  ];
   found = λ _. false;
   lookups = λ _ _. None;
   anywhere = λ _ _. None;

@@ -18,14 +18,25 @@ before_all : in_order ((2, 1) ∷ []) ((1, 4) ∷ []) ≡ (1, 4) ∷ (2, 1) ∷ 
 before_all = refl
 
 abbrev info : String → ℕ → Bool → Bool → ℕ → ℕ → ℕ → FeatureInfo
-info tag flags is_global has_fallback max_value default_value stage = record { tag = record { 0 = codes tag }; flags = flags; is_global = is_global; has_fallback = has_fallback; max_value = max_value; default_value = default_value; stage = stage }
+info tag flags is_global has_fallback max_value default_value stage =
+    record {
+      tag = record { 0 = codes tag };
+      flags = flags;
+      is_global = is_global;
+      has_fallback = has_fallback;
+      max_value = max_value;
+      default_value = default_value;
+      stage = stage;
+    }
 
 -- a feature for the whole text has its value everywhere, another one nowhere; each stands behind the pauses before it
-by_stage : infos_after 0 (enabled 0 "rvrn" ∷ bare_pause ∷ added 0 "frac" ∷ []) ≡ info "rvrn" 1 true false 1 1 0 ∷ info "frac" 0 false false 1 0 1 ∷ []
+by_stage : infos_after 0 (enabled 0 "rvrn" ∷ bare_pause ∷ added 0 "frac" ∷ [])
+    ≡ info "rvrn" 1 true false 1 1 0 ∷ info "frac" 0 false false 1 0 1 ∷ []
 by_stage = refl
 
 -- tags come in the order of their bytes, capitals first
-tags_in_order : joined_by_tag (enabled 0 "rlig" ∷ enabled 0 "abvm" ∷ enabled 0 "Harf" ∷ []) ≡ info "Harf" 1 true false 1 1 0 ∷ info "abvm" 1 true false 1 1 0 ∷ info "rlig" 1 true false 1 1 0 ∷ []
+tags_in_order : joined_by_tag (enabled 0 "rlig" ∷ enabled 0 "abvm" ∷ enabled 0 "Harf" ∷ [])
+    ≡ info "Harf" 1 true false 1 1 0 ∷ info "abvm" 1 true false 1 1 0 ∷ info "rlig" 1 true false 1 1 0 ∷ []
 tags_in_order = refl
 
 -- a shaper that turns a feature off has the last word; the first stage and the first flags stay
@@ -33,10 +44,12 @@ turned_off : joined_by_tag (enabled 8 "liga" ∷ bare_pause ∷ disabled "liga" 
 turned_off = refl
 
 -- a range of the user's takes bits of its own, as many as the greater value needs; elsewhere the first value stays
-ranged_after : joined_by_tag (enabled 0 "salt" ∷ Feature (record { 0 = codes "salt" }) 0 3 ∷ []) ≡ info "salt" 1 false false 3 1 0 ∷ []
+ranged_after : joined_by_tag (enabled 0 "salt" ∷ Feature (record { 0 = codes "salt" }) 0 3 ∷ [])
+    ≡ info "salt" 1 false false 3 1 0 ∷ []
 ranged_after = refl
 
-ranged_before : joined_by_tag (Feature (record { 0 = codes "salt" }) 0 3 ∷ enabled 0 "salt" ∷ []) ≡ info "salt" 0 true false 1 1 0 ∷ []
+ranged_before : joined_by_tag (Feature (record { 0 = codes "salt" }) 0 3 ∷ enabled 0 "salt" ∷ [])
+    ≡ info "salt" 0 true false 1 1 0 ∷ []
 ranged_before = refl
 
 -- a fallback of any request counts

@@ -77,7 +77,8 @@ view_removed kept (g ∷ gs) =
 filter_view : (gs : List hb_glyph_info_t) → filter stays_in_text (order_view gs) ≡ order_view (filter stays_in_text gs)
 filter_view [] = refl
 filter_view (g ∷ gs) =
-    elim (stays_in_text g) as (λ b. cond b (plain g ∷ filter stays_in_text (order_view gs)) (filter stays_in_text (order_view gs))
+    elim (stays_in_text g) as
+    (λ b. cond b (plain g ∷ filter stays_in_text (order_view gs)) (filter stays_in_text (order_view gs))
     ≡ order_view (cond b (g ∷ filter stays_in_text gs) (filter stays_in_text gs))) [
       | true ↦ ap (λ xs. plain g ∷ xs) (filter_view gs)
       | false ↦ filter_view gs
@@ -234,7 +235,8 @@ by_length gs hs same = sym (sym (length-map gs plain) ∙ ap length same ∙ len
 drawn_number : (glyph : GlyphId) (n : ℕ) (g : hb_glyph_info_t) → with_glyph_id n (drawn_by glyph g) ≡ with_glyph_id n g
 drawn_number glyph n g =
     elim (is_default_ignorable g)
-    as (λ b. with_glyph_id n (cond b (let r : hb_glyph_info_t = record g { glyph_id = glyph.0 } in r) g) ≡ with_glyph_id n g)
+    as (λ b. with_glyph_id n (cond b (let r : hb_glyph_info_t = record g { glyph_id = glyph.0 } in r) g)
+    ≡ with_glyph_id n g)
     [ true ↦ refl | false ↦ refl ]
 
 pub drawn_keep : DrawnLaw

@@ -33,7 +33,8 @@ pub count_next : (gs : List hb_glyph_info_t) (i : ℕ) (b : Bool) → i < length
     count_by stays_in_text (drop i gs) ≡ cond {A = ℕ} b 0 1 + count_by stays_in_text (drop (i + 1) gs)
 count_next gs i b inside is =
     ap (count_by stays_in_text) (drop_more gs i default_glyph inside)
-    ∙ sum_by-cons (λ (g : hb_glyph_info_t). cond {A = ℕ} (stays_in_text g) 1 0) (get_or gs i default_glyph) (drop (i + 1) gs)
+    ∙ sum_by-cons (λ (g : hb_glyph_info_t). cond {A = ℕ} (stays_in_text g) 1 0) (get_or gs i default_glyph)
+    (drop (i + 1) gs)
     ∙ ap (λ n. n + count_by stays_in_text (drop (i + 1) gs)) (ap (λ c. cond {A = ℕ} (not c) 1 0) is ∙ by b)
 
 -- ---- a glyph that stays

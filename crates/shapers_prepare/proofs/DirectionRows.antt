@@ -20,13 +20,15 @@ direction_of code = let s : Script = record { 0 = code } in script_direction s
 to_left : map (λ name. direction_of (codes name)) (
     "Arab" ∷ "Hebr" ∷ "Syrc" ∷ "Thaa" ∷ "Cprt" ∷ "Khar" ∷ "Phnx" ∷ "Nkoo" ∷ "Lydi" ∷ "Avst" ∷ "Armi" ∷ "Phli" ∷
     "Prti" ∷ "Sarb" ∷ "Orkh" ∷ "Samr" ∷ "Mand" ∷ "Merc" ∷ "Mero" ∷ "Mani" ∷ "Mend" ∷ "Nbat" ∷ "Narb" ∷ "Palm" ∷
-    "Phlp" ∷ "Hatr" ∷ "Adlm" ∷ "Rohg" ∷ "Sogo" ∷ "Sogd" ∷ "Elym" ∷ "Chrs" ∷ "Yezi" ∷ "Ougr" ∷ "Gara" ∷ "Sidt" ∷ []) ≡ replicate 36 RightToLeft
+    "Phlp" ∷ "Hatr" ∷ "Adlm" ∷ "Rohg" ∷ "Sogo" ∷ "Sogd" ∷ "Elym" ∷ "Chrs" ∷ "Yezi" ∷ "Ougr" ∷ "Gara" ∷ "Sidt" ∷ [])
+    ≡ replicate 36 RightToLeft
 to_left = refl
 
 either_way : map (λ name. direction_of (codes name)) ("Hung" ∷ "Ital" ∷ "Runr" ∷ "Tfng" ∷ []) ≡ replicate 4 Invalid
 either_way = refl
 
-to_right : map (λ name. direction_of (codes name)) ("Latn" ∷ "Deva" ∷ "Mong" ∷ "Ogam" ∷ "Zyyy" ∷ []) ≡ replicate 5 LeftToRight
+to_right : map (λ name. direction_of (codes name)) ("Latn" ∷ "Deva" ∷ "Mong" ∷ "Ogam" ∷ "Zyyy" ∷ [])
+    ≡ replicate 5 LeftToRight
 to_right = refl
 
 no_script : native_direction None ≡ Invalid

@@ -11,7 +11,8 @@ use Rattle.shapers_prepare.specs.VowelRows.{devanagari_pairs, bengali_pairs, gur
 use Rattle.shapers_prepare.specs.Vowels.{is_parted_pair, vowel_circle, vowel_script, vowels_parted}
 
 -- the scripts, and two without such vowels
-of_script : map (λ name. vowel_script (record { 0 = codes name })) ("Deva" ∷ "Beng" ∷ "Guru" ∷ "Gujr" ∷ "Orya" ∷ "Taml" ∷ "Telu" ∷ "Knda" ∷ "Mlym" ∷ "Sinh" ∷ "Brah" ∷ "Khoj" ∷ "Sind" ∷ "Tirh" ∷ "Modi" ∷ "Takr" ∷ "Bali" ∷ "Latn" ∷ [])
+of_script : map (λ name. vowel_script (record { 0 = codes name })) ("Deva" ∷ "Beng" ∷ "Guru" ∷ "Gujr" ∷ "Orya" ∷ "Taml"
+    ∷ "Telu" ∷ "Knda" ∷ "Mlym" ∷ "Sinh" ∷ "Brah" ∷ "Khoj" ∷ "Sind" ∷ "Tirh" ∷ "Modi" ∷ "Takr" ∷ "Bali" ∷ "Latn" ∷ [])
     ≡ Some scripts.Devanagari ∷ Some scripts.Bengali ∷ Some scripts.Gurmukhi ∷ Some scripts.Gujarati
     ∷ Some scripts.Oriya ∷ Some scripts.Tamil ∷ Some scripts.Telugu ∷ Some scripts.Kannada ∷ Some scripts.Malayalam
     ∷ Some scripts.Sinhala
@@ -66,17 +67,20 @@ abbrev parted : List ℕ → List ℕ → List ℕ
 parted code cs = characters (vowels_parted (buffer code 0 cs))
 
 -- A and short E, with letters around them; one after another
-between : parted (codes "Deva") (0x0915 ∷ 0x0905 ∷ 0x0946 ∷ 0x0915 ∷ 0x0905 ∷ 0x0946 ∷ []) ≡ 0x0915 ∷ 0x0905 ∷ 0x25CC ∷ 0x0946 ∷ 0x0915 ∷ 0x0905 ∷ 0x25CC ∷ 0x0946 ∷ []
+between : parted (codes "Deva") (0x0915 ∷ 0x0905 ∷ 0x0946 ∷ 0x0915 ∷ 0x0905 ∷ 0x0946 ∷ [])
+    ≡ 0x0915 ∷ 0x0905 ∷ 0x25CC ∷ 0x0946 ∷ 0x0915 ∷ 0x0905 ∷ 0x25CC ∷ 0x0946 ∷ []
 unfolding devanagari_pairs
 between = refl
 
 -- RA, virama, I; without the I; with another letter; and behind it what follows
-triple : parted (codes "Deva") (0x0930 ∷ 0x094D ∷ 0x0907 ∷ 0x0930 ∷ 0x094D ∷ 0x0908 ∷ 0x0930 ∷ 0x094D ∷ []) ≡ 0x0930 ∷ 0x094D ∷ 0x25CC ∷ 0x0907 ∷ 0x0930 ∷ 0x094D ∷ 0x0908 ∷ 0x0930 ∷ 0x094D ∷ []
+triple : parted (codes "Deva") (0x0930 ∷ 0x094D ∷ 0x0907 ∷ 0x0930 ∷ 0x094D ∷ 0x0908 ∷ 0x0930 ∷ 0x094D ∷ [])
+    ≡ 0x0930 ∷ 0x094D ∷ 0x25CC ∷ 0x0907 ∷ 0x0930 ∷ 0x094D ∷ 0x0908 ∷ 0x0930 ∷ 0x094D ∷ []
 unfolding devanagari_pairs
 triple = refl
 
 -- the search goes on behind a pair: the second sign of one begins none
-behind : parted (codes "Gujr") (0x0A85 ∷ 0x0AC5 ∷ 0x0ABE ∷ 0x0AC5 ∷ 0x0ABE ∷ []) ≡ 0x0A85 ∷ 0x25CC ∷ 0x0AC5 ∷ 0x0ABE ∷ 0x0AC5 ∷ 0x25CC ∷ 0x0ABE ∷ []
+behind : parted (codes "Gujr") (0x0A85 ∷ 0x0AC5 ∷ 0x0ABE ∷ 0x0AC5 ∷ 0x0ABE ∷ [])
+    ≡ 0x0A85 ∷ 0x25CC ∷ 0x0AC5 ∷ 0x0ABE ∷ 0x0AC5 ∷ 0x25CC ∷ 0x0ABE ∷ []
 unfolding gujarati_pairs
 behind = refl
 
@@ -85,7 +89,10 @@ unfolding khojki_pairs
 longer = refl
 
 -- another script's text, one letter, none, and the caller's flag
-others : map characters (vowels_parted (buffer (codes "Beng") 0 (0x0905 ∷ 0x0946 ∷ [])) ∷ vowels_parted (buffer (codes "Latn") 0 (0x0905 ∷ 0x0946 ∷ [])) ∷ vowels_parted (buffer (codes "Deva") 0 (0x0905 ∷ [])) ∷ vowels_parted (buffer (codes "Deva") 0 []) ∷ vowels_parted (buffer (codes "Deva") 0x20 (0x0905 ∷ 0x0946 ∷ [])) ∷ [])
+others : map characters (vowels_parted (buffer (codes "Beng") 0 (0x0905 ∷ 0x0946 ∷ []))
+    ∷ vowels_parted (buffer (codes "Latn") 0 (0x0905 ∷ 0x0946 ∷ []))
+    ∷ vowels_parted (buffer (codes "Deva") 0 (0x0905 ∷ [])) ∷ vowels_parted (buffer (codes "Deva") 0 [])
+    ∷ vowels_parted (buffer (codes "Deva") 0x20 (0x0905 ∷ 0x0946 ∷ [])) ∷ [])
     ≡ (0x0905 ∷ 0x0946 ∷ []) ∷ (0x0905 ∷ 0x0946 ∷ []) ∷ (0x0905 ∷ []) ∷ [] ∷ (0x0905 ∷ 0x0946 ∷ []) ∷ []
 unfolding devanagari_pairs bengali_pairs
 others = refl

@@ -1,35 +1,31 @@
 -- A stretched text, read from its result: how much longer it is, and how wide what is laid is.
-use Rattle.std.proofs.Common.{◌≡◌, ◌+◌, ◌*◌, ℕ, suc, ℤ, pos, ◌-ℤ◌, Bool, true, false, cond, not, List, [], ◌∷◌, ◌++◌, length, map, reverse, take, drop, flat_map, replicate, Result, Ok, Err, OnOk, refl, subst, sym, ◌∙◌, ap, arith, mul-zero}
+use Rattle.std.proofs.Common.{◌≡◌, ◌+◌, ◌*◌, ℕ, ℤ, pos, Bool, true, false, cond, not, List, [], ◌∷◌, ◌++◌, length, map, reverse, take, drop, flat_map, replicate, Result, Ok, Err, OnOk, refl, subst, sym, ◌∙◌, ap, arith, mul-zero}
 use Rattle.std.specs.List.{AllZip, onto_first, sum_by}
 use Rattle.std.proofs.lemmas.List.{append_assoc, length-append, length-map, length-reverse, map-append, reverse-reverse, take-append-drop, take_at}
 use Rattle.std.proofs.lemmas.List.Folds.{flat_map-map}
 use Rattle.std.proofs.lemmas.List.Sums.{sum_by-cons}
 use Rattle.std.proofs.lemmas.Bool.Decides.{nat_tests}
-use Rattle.shapers_buffer.specs.declared.buffer.glyph.hb_glyph_info_t.{hb_glyph_info_t}
 use Rattle.shapers_buffer.specs.declared.buffer.refusal.ShaperError.{ShaperError}
 use Rattle.shapers_buffer.specs.Buffer.{Buffer}
 use Rattle.shapers_buffer.specs.Clusters.{least}
 use Rattle.shapers_buffer.specs.Glyph.{clusters}
 use Rattle.shapers_buffer.specs.Lists.{each_after}
-use Rattle.shapers_buffer.proofs.MappedLists.{map-reverse}
 use Rattle.shapers_base.specs.declared.plan.arabic.StretchStart.{StretchStart}
 use Rattle.shapers_base.specs.Font.{Font}
-use Rattle.shapers_stretch.specs.Cells.{Cell, before_tiles, before_word, cut_between, cut_here, glyphs_of, parts_of_text, positions_of, repeats, run_ends, tiles_of, word_of}
-use Rattle.shapers_stretch.specs.CountingWalk.{offsets_on, pen_behind, stands_at}
+use Rattle.shapers_stretch.specs.Cells.{Cell, before_tiles, before_word, cut_between, cut_here, glyphs_of, parts_of_text, positions_of, run_ends, tiles_of, word_of}
+use Rattle.shapers_stretch.specs.CountingWalk.{pen_behind}
 use Rattle.shapers_stretch.specs.LayingWalk.{laid_on, offsets}
-use Rattle.shapers_stretch.specs.Measure.{times_added, copies_added, overlap, start, total}
-use Rattle.shapers_stretch.specs.Stretch.{Copy, Laying, cells, cells_in_order, copies, copies_in, copies_of, has_run, in_working_order, laid_run, laying, marks_stretched, repeating, run_of_part, stretched, stretched_part, unbroken, width_of, with_cells}
-use Rattle.shapers_stretch.specs.StretchLaws.{PartIsLaid, RunIsLaid, TextIsLaid, ids, laid_ids, moves_in, offsets_by, stands}
+use Rattle.shapers_stretch.specs.Measure.{times_added, copies_added, start}
+use Rattle.shapers_stretch.specs.Stretch.{Copy, Laying, cells, cells_in_order, copies, copies_in, has_run, in_working_order, laid_at, laid_run, laying, marks_stretched, offset, repeating, run_of_part, stretched, stretched_part, unbroken, with_cells}
+use Rattle.shapers_stretch.specs.StretchLaws.{PartIsLaid, RunIsLaid, TextIsLaid, ids}
 use Rattle.shapers_stretch.specs.declared.ot_shaper_arabic_stretch.measuring.Run.{Run}
 use Rattle.shapers_stretch.proofs.Flagging.{flag_cell, flag_copies, flag_copy, flag_offsets, same_id, tiles_are, unbroken_is}
 use Rattle.shapers_stretch.proofs.Lengths.{length-copies, length-laid}
-use Rattle.shapers_stretch.proofs.Moves.{map-replicate, moves_hold, widths_hold}
-use Rattle.shapers_stretch.proofs.PartCounts.{moved_copies, no_run_length, run_length, run_offsets}
+use Rattle.shapers_stretch.proofs.Moves.{moves_hold, widths_hold}
+use Rattle.shapers_stretch.proofs.PartCounts.{no_run_length, run_length}
 use Rattle.shapers_stretch.proofs.Pen.{laid_is}
 use Rattle.shapers_stretch.proofs.Postprocessing.{zipped}
-use Rattle.shapers_stretch.proofs.Sums.{total-push}
 use Rattle.shapers_stretch.proofs.Zips.{length-zipped}
-use Rattle.std.proofs.lemmas.Int.{ints}
 
 -- a text is its parts
 onto : {X : Type 0} (x : X) (pieces : List (List X)) → flat_map (λ p. p) (onto_first x pieces)
@@ -132,29 +128,6 @@ laid_on-advances : (r : Bool) (pen : ℤ) (cs : List Copy) → map (λ c. c.1.x_
 laid_on-advances r pen [] = refl
 laid_on-advances r pen (c ∷ cs) = ap (λ ns. pos 0 ∷ ns) (laid_on-advances r (pen_behind r pen c.move) cs)
 
-tile_ids : (b : Bool) (n : ℕ) (w v : ℤ) (c : Cell)
-    → map copy_id (record { tile = c; move = w } ∷ cond b (replicate n (record { tile = c; move = v })) [])
-    ≡ replicate (cond b (suc n) 1) c.0.glyph_id
-tile_ids true n w v c = ap (λ ns. c.0.glyph_id ∷ ns) (map-replicate copy_id n (record { tile = c; move = v }))
-tile_ids false n w v c = refl
-
-abbrev ids_of_tile : ℕ → hb_glyph_info_t → List ℕ
-ids_of_tile n g = replicate (cond (repeats g) (suc n) 1) g.glyph_id
-
-flat_ids : (font : Font) (z : Run) (cs : List Cell) → map copy_id (flat_map (copies_of font z) cs)
-    ≡ flat_map (ids_of_tile (times_added z)) (glyphs_of cs)
-flat_ids font z [] = refl
-flat_ids font z (c ∷ cs) =
-    map-append copy_id (copies_of font z c) (flat_map (copies_of font z) cs)
-    ∙ ap (λ ns. ns ++ map copy_id (flat_map (copies_of font z) cs))
-    (tile_ids (repeats c.0) (times_added z) (width_of font c.0) (width_of font c.0 -ℤ overlap z) c)
-    ∙ ap (λ ns. ids_of_tile (times_added z) c.0 ++ ns) (flat_ids font z cs)
-
-copies-ids : (font : Font) (z : Run) (tiles : List Cell) → map copy_id (copies font z tiles)
-    ≡ laid_ids (times_added z) (glyphs_of tiles)
-copies-ids font z tiles = flat_ids font z (reverse tiles)
-    ∙ ap (flat_map (ids_of_tile (times_added z))) (map-reverse (λ c. c.0) tiles)
-
 flagged_copies-ids : (m : ℕ) (cs : List Copy) → map copy_id (map (flag_copy m) cs) ≡ map copy_id cs
 flagged_copies-ids m [] = refl
 flagged_copies-ids m (c ∷ cs) = ap (λ n. n ∷ map copy_id (map (flag_copy m) cs)) (same_id m c.tile.0)
@@ -170,31 +143,10 @@ flagged-positions m [] = refl
 flagged-positions m (c ∷ cs) = ap (λ ps. c.1 ∷ ps) (flagged-positions m cs)
 
 -- where they stand
-stands_is : (r : Bool) (from : ℤ) (before : List ℤ) (m : ℤ)
-    → stands r from before m ≡ stands_at r (pen_behind r from (total before)) m
-stands_is true from before m = omega (arith, ints, total-push before m)
-stands_is false from before m = refl
-
-pen_on : (r : Bool) (from : ℤ) (before : List ℤ) (m : ℤ) → pen_behind r from (total (before ++ m ∷ []))
-    ≡ pen_behind r (pen_behind r from (total before)) m
-pen_on true from before m = omega (arith, ints, total-push before m)
-pen_on false from before m = omega (arith, ints, total-push before m)
-
-offsets_after : (r : Bool) (from : ℤ) (before ms : List ℤ) → offsets_on r (pen_behind r from (total before)) ms
-    ≡ map (λ p. stands r from p.0 p.1) (each_after before ms)
-offsets_after r from before [] = refl
-offsets_after r from before (m ∷ ms) =
-    let rest = map (λ p. stands r from p.0 p.1) (each_after (before ++ m ∷ []) ms) in
-    ap (λ xs. stands_at r (pen_behind r from (total before)) m ∷ xs)
-    (ap (λ pen. offsets_on r pen ms) (sym (pen_on r from before m)) ∙ offsets_after r from (before ++ m ∷ []) ms)
-    ∙ ap (λ x. x ∷ rest) (sym (stands_is r from before m))
-
-nothing_moved : (r : Bool) (from : ℤ) → pen_behind r from (total []) ≡ from
-nothing_moved true from = omega (arith, ints)
-nothing_moved false from = omega (arith, ints)
-
-offsets_are : (r : Bool) (from : ℤ) (ms : List ℤ) → offsets_on r from ms ≡ offsets_by r from ms
-offsets_are r from ms = ap (λ pen. offsets_on r pen ms) (sym (nothing_moved r from)) ∙ offsets_after r from [] ms
+laid-offsets : (r : Bool) (from : ℤ) (ps : List (List Copy × Copy))
+    → offsets (map (λ p. laid_at (offset r from p.0 p.1) p.1.tile) ps) ≡ map (λ p. offset r from p.0 p.1) ps
+laid-offsets r from [] = refl
+laid-offsets r from (p ∷ ps) = ap (λ xs. offset r from p.0 p.1 ∷ xs) (laid-offsets r from ps)
 
 -- the flagged tiles of a run laid
 laid_flagged : (how : Laying) (z : Run) (m : ℕ) (tiles : List Cell) → laid_run how z (map (flag_cell m) tiles)
@@ -236,14 +188,13 @@ run_laid how part e =
       front_positions = map-append (λ c. c.1) (before_word part) on
           ∙ ap (λ ps. positions_of (before_word part) ++ ps) (ap positions_of over ∙ flagged-positions m word)
           ∙ sym (map-append (λ c. c.1) (before_word part) word) ∙ ap positions_of before;
-      tiles = ap ids is ∙ laid_on-ids r from (map (flag_copy m) its) ∙ flagged_copies-ids m its
-          ∙ copies-ids how.font z tiles;
+      tiles = ap ids is ∙ laid_on-ids r from (map (flag_copy m) its) ∙ flagged_copies-ids m its;
       many = long ∙ length-map its (flag_copy m) ∙ length-copies how.font z tiles;
       advances = ap (map (λ c. c.1.x_advance)) is ∙ laid_on-advances r from (map (flag_copy m) its)
           ∙ ap (λ n. replicate n (pos 0)) (sym long);
       offsets = ap offsets is ∙ flag_offsets r m from its ∙ ap offsets (sym (laid_is r from its))
-          ∙ run_offsets how z tiles ∙ offsets_are r from (moves_in how part);
-      width = ap total (sym (moved_copies how z tiles)) ∙ moves_hold how.font part;
+          ∙ laid-offsets r from (each_after [] its);
+      width = moves_hold how.font part;
       covers = widths_hold how.font part;
     }
 

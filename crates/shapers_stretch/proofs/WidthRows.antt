@@ -5,10 +5,10 @@ use Rattle.shapers_buffer.specs.declared.buffer.level.Direction.TheVariants.{Lef
 use Rattle.shapers_buffer.specs.Buffer.{Buffer}
 use Rattle.shapers_base.specs.declared.plan.arabic.StretchStart.{StretchStart}
 use Rattle.shapers_base.specs.declared.plan.arabic.StretchStart.TheVariants.{AsCode, Centred}
-use Rattle.shapers_stretch.specs.Cells.{Cell, glyphs_of, tiles_of}
-use Rattle.shapers_stretch.specs.Measure.{times_added, copies_added, laid_width, total}
-use Rattle.shapers_stretch.specs.Stretch.{Laying, copies_in, run_of_part}
-use Rattle.shapers_stretch.specs.StretchLaws.{TilesFit, laid_ids, moves_in, offsets_by, start_in}
+use Rattle.shapers_stretch.specs.Cells.{Cell}
+use Rattle.shapers_stretch.specs.Measure.{copies_added, laid_width}
+use Rattle.shapers_stretch.specs.Stretch.{Laying, copies_in, moves, run_of_part}
+use Rattle.shapers_stretch.specs.StretchLaws.{TilesFit, laid_copies, offsets_in}
 use Rattle.shapers_stretch.proofs.StretchRows.{fixed_tile, font, letter, repeating_tile, second_tile, space, text, widths}
 
 -- of a part: the glyphs laid, their moves, their offsets; the word, what is laid, the copies added
@@ -26,10 +26,10 @@ row widths choice right_to_left part =
     let how : Laying = record { font = font widths; choice = choice; right_to_left = right_to_left } in
     let z = run_of_part how.font part in
     record {
-      laid = laid_ids (times_added z) (glyphs_of (tiles_of part));
-      moves = moves_in how part;
-      offsets = offsets_by right_to_left (start_in how part) (moves_in how part);
-      together = total (moves_in how part);
+      laid = map (λ copy. copy.tile.0.glyph_id) (laid_copies how part);
+      moves = map (λ copy. copy.move) (laid_copies how part);
+      offsets = offsets_in how part;
+      together = moves (laid_copies how part);
       word = z.word;
       width = laid_width z;
       more = copies_added z;

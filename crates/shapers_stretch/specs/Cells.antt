@@ -47,8 +47,7 @@ is_word_category Sm = true
 is_word_category So = true
 is_word_category _ = false
 
--- whether a glyph can belong to the word before a run: it is no tile, and undrawn by nature or of a
--- category of words
+-- whether a glyph can be of the word before a run: no tile, undrawn by nature or of such a category
 abbrev pub in_word : hb_glyph_info_t → Bool
 in_word g = not (is_tile g)
     && (is_ignorable g.marks && not (is_substituted g.marks) || is_word_category g.general_category)

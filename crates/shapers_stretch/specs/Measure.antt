@@ -53,8 +53,7 @@ laid_width z = (z.fixed +ℤ reach z (times_added z)) -ℤ pos (copies_added z) 
 abbrev pub half_gap : Run → ℤ
 half_gap z = int_div (z.word -ℤ laid_width z) (pos 2)
 
--- where the first tile begins; of the two choices the second lays along the direction in which
--- tiles follow one another
+-- where the first tile begins; Centred lays along the direction in which tiles follow one another
 abbrev pub start : StretchStart → Bool → Run → ℤ
 start AsCode right_to_left z = if squeezes z then pos 0 else int_div (left z) (pos 2)
 start Centred right_to_left z = if right_to_left then neg_ℤ (half_gap z) else half_gap z

@@ -70,8 +70,7 @@ copies font z tiles = flat_map (copies_of font z) (reverse tiles)
 abbrev pub moves : List Copy → ℤ
 moves laid = total (map (λ copy. copy.move) laid)
 
--- where a copy stands when others were laid before it: right to left behind its own move, else
--- before it
+-- where a copy stands behind others: right to left behind its own move, else before it
 abbrev pub offset : Bool → ℤ → List Copy → Copy → ℤ
 offset right_to_left from before copy =
     if right_to_left then from -ℤ moves (before ++ copy ∷ []) else from +ℤ moves before
@@ -94,8 +93,7 @@ laid_run how z tiles =
 abbrev pub unbroken : List Cell → List Cell
 unbroken cs = zip (flagged 3 (glyphs_of cs)) (positions_of cs)
 
--- A part stretched: word and run flagged together, and the laid list in the place of the run, later
--- copies before earlier ones. Without a run it stays.
+-- A part stretched: word and run flagged together, the laid list for the run, later copies first.
 abbrev pub stretched_over : Laying → Run → List Cell → List Cell → List Cell
 stretched_over how z word tiles =
     let whole = unbroken (word ++ tiles) in

@@ -1,5 +1,5 @@
 -- The law of widths: how wide the laid stretches of a text are, read from the text after.
-use Rattle.std.specs.Prelude.{◌≡◌, ℕ, suc, true, false, Bool, List, [], ◌∷◌, ◌++◌, length, map, flat_map, replicate, reverse, pos, ℤ, ◌+ℤ◌, ◌-ℤ◌, ◌≤ℤ◌, ◌<ℤ◌, ◌⊎◌, ◌+◌, if◌then◌else◌}
+use Rattle.std.specs.Prelude.{◌≡◌, ℕ, true, false, List, [], ◌++◌, length, map, flat_map, replicate, reverse, pos, ℤ, ◌+ℤ◌, ◌≤ℤ◌, ◌<ℤ◌, ◌⊎◌, ◌+◌}
 use Rattle.std.specs.List.{AllByRecursion, AllZip, Contains}
 use Rattle.shapers_buffer.specs.declared.buffer.glyph.hb_glyph_info_t.{hb_glyph_info_t}
 use Rattle.shapers_buffer.specs.Buffer.{Buffer}
@@ -7,12 +7,10 @@ use Rattle.shapers_buffer.specs.Lists.{each_after}
 use Rattle.shapers_base.specs.declared.plan.arabic.StretchStart.{StretchStart}
 use Rattle.shapers_base.specs.Font.{Font}
 use Rattle.shapers_clusters.specs.FlagLaw.{FlagsAdded}
-use Rattle.shapers_stretch.specs.Cells.{Cell, before_tiles, glyphs_of, parts_of_text, positions_of, repeats, tiles_of}
-use Rattle.shapers_stretch.specs.CountingWalk.{run_moves}
+use Rattle.shapers_stretch.specs.Cells.{Cell, before_tiles, parts_of_text, positions_of, tiles_of}
 use Rattle.shapers_stretch.specs.declared.ot_shaper_arabic_stretch.measuring.Run.{Run}
-use Rattle.shapers_stretch.specs.Lays.{lay_of}
-use Rattle.shapers_stretch.specs.Measure.{times_added, left, laid_width, copies_added, start, total}
-use Rattle.shapers_stretch.specs.Stretch.{Laying, cells_in_order, has_run, laying, marks_stretched, run_of_part}
+use Rattle.shapers_stretch.specs.Measure.{left, laid_width, copies_added, start}
+use Rattle.shapers_stretch.specs.Stretch.{Copy, Laying, cells_in_order, copies, has_run, laying, marks_stretched, moves, offset, run_of_part}
 
 -- the repeating tiles have a width, and fit into what the fixed ones leave of the word
 abbrev pub TilesFit : Run → Type 0
@@ -28,48 +26,29 @@ CoversTheWord z =
 abbrev pub ids : List Cell → List ℕ
 ids cs = map (λ c. c.0.glyph_id) cs
 
--- the glyphs that are laid for tiles, from the last tile to the first: a fixed one once, a
--- repeating one these times more
-abbrev pub laid_ids : ℕ → List hb_glyph_info_t → List ℕ
-laid_ids more tiles =
-    flat_map (λ g. replicate (if repeats g then suc more else 1) g.glyph_id) (reverse tiles)
+-- the copies of a part's run as they are laid, and where each stands
+abbrev pub laid_copies : Laying → List Cell → List Copy
+laid_copies how part = copies how.font (run_of_part how.font part) (tiles_of part)
 
--- where copies stand that move the pen so far: right to left behind their own move, else before it
-abbrev pub stands : Bool → ℤ → List ℤ → ℤ → ℤ
-stands right_to_left from before move =
-    if right_to_left then from -ℤ total (before ++ move ∷ []) else from +ℤ total before
+abbrev pub offsets_in : Laying → List Cell → List ℤ
+offsets_in how part =
+    let from = start how.choice how.right_to_left (run_of_part how.font part) in
+    map (λ p. offset how.right_to_left from p.0 p.1) (each_after [] (laid_copies how part))
 
-abbrev pub offsets_by : Bool → ℤ → List ℤ → List ℤ
-offsets_by right_to_left from moves =
-    map (λ p. stands right_to_left from p.0 p.1) (each_after [] moves)
-
--- how far the copies of a part's run move it, each by the font's advance, and an added one by the
--- overlap less; and where the first begins
-abbrev pub moves_in : Laying → List Cell → List ℤ
-moves_in how part =
-    let z = run_of_part how.font part in
-    run_moves how.font (lay_of how.choice how.right_to_left z) (glyphs_of (tiles_of part))
-
-abbrev pub start_in : Laying → List Cell → ℤ
-start_in how part = start how.choice how.right_to_left (run_of_part how.font part)
-
--- What a part with a run became. In front stands what stood before the run, with its positions, and
--- so with the word's advance. Behind it stand the copies, the one that is laid first last. They
--- have no advance, and stand where their moves lead. All moves together are the laid width, and
--- where the tiles fit, that covers the word.
+-- What a part with a run became. In front stands what stood before the run, with its positions;
+-- behind it the copies, the one that is laid first last. They have no advance, and stand where
+-- their moves lead, which together are the laid width; where the tiles fit, that covers the word.
 pub record RunIsLaid (how : Laying) (part piece : List Cell) : Type 0 where
   pub front : List Cell
   pub copies : List Cell
   pub joined : piece ≡ front ++ reverse copies
   pub front_ids : ids front ≡ ids (before_tiles part)
   pub front_positions : positions_of front ≡ positions_of (before_tiles part)
-  pub tiles : ids copies ≡ laid_ids (times_added (run_of_part how.font part))
-      (glyphs_of (tiles_of part))
+  pub tiles : ids copies ≡ map (λ copy. copy.tile.0.glyph_id) (laid_copies how part)
   pub many : length copies ≡ length (tiles_of part) + copies_added (run_of_part how.font part)
   pub advances : map (λ c. c.1.x_advance) copies ≡ replicate (length copies) (pos 0)
-  pub offsets : map (λ c. c.1.x_offset) copies
-      ≡ offsets_by how.right_to_left (start_in how part) (moves_in how part)
-  pub width : total (moves_in how part) ≡ laid_width (run_of_part how.font part)
+  pub offsets : map (λ c. c.1.x_offset) copies ≡ offsets_in how part
+  pub width : moves (laid_copies how part) ≡ laid_width (run_of_part how.font part)
   pub covers : TilesFit (run_of_part how.font part) → CoversTheWord (run_of_part how.font part)
 
 -- a part without a run stays
@@ -99,8 +78,7 @@ IsLaidOver font choice old new =
     old.stch ≡ true →
     TextIsLaid (laying font choice old) (cells_in_order old) (cells_in_order new)
 
--- each glyph of the text after is a copy of one of the text before: it has its cluster and its
--- glyph flags, and may have got others
+-- each glyph is a copy of an old one, with its cluster and its glyph flags, and maybe others
 abbrev pub AreCopies : List hb_glyph_info_t → List hb_glyph_info_t → Type 0
 AreCopies olds news =
     AllByRecursion

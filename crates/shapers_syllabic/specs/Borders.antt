@@ -7,8 +7,7 @@ use Rattle.shapers_buffer.specs.Buffer.{Buffer}
 use Rattle.shapers_buffer.specs.Syllables.{kind_of, spans_cover, syllables, with_spans}
 use Rattle.shapers_syllabic.specs.Syllabic.{with_unsafe_syllables}
 
--- two texts meet at a border of syllables: the last of the one and the first of the other have
--- different bytes, if there are both
+-- texts meet at a border of syllables: the glyphs there have different bytes, if there are both
 abbrev pub MeetAtBorder : List hb_glyph_info_t → List hb_glyph_info_t → Type 0
 MeetAtBorder gs hs = 0 < length gs → 0 < length hs →
     slice_index (map (λ g. g.syllable) gs) (length gs - 1)
@@ -22,8 +21,7 @@ unnumbered g = record g { syllable = kind_of g.syllable }
 abbrev pub SameButSerials : List hb_glyph_info_t → List hb_glyph_info_t → Type 0
 SameButSerials gs hs = map (map unnumbered) (syllables gs) ≡ map (map unnumbered) (syllables hs)
 
--- the buffer set up by spans: their bytes, the mark where one is of the broken kind, and no break
--- inside a syllable
+-- the buffer set up by spans: their bytes, the mark of a broken one, no break inside a syllable
 abbrev pub spans_set_up : List Span → ℕ → Buffer → Buffer
 spans_set_up spans broken_kind b = with_unsafe_syllables (with_spans spans broken_kind b)
 

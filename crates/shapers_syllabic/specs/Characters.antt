@@ -4,8 +4,7 @@ use Rattle.shapers_buffer.specs.declared.buffer.glyph.hb_glyph_info_t.{hb_glyph_
 use Rattle.shapers_buffer.specs.Category.{is_mark}
 use Rattle.shapers_base.specs.Font.{CharacterTables}
 
--- the composition of two characters by the table; a mark composes with nothing behind it, so that a
--- split vowel stays split
+-- two characters composed by the table; not behind a mark, so that a split vowel stays split
 abbrev pub composed_behind : CharacterTables → ℕ → ℕ → Option ℕ
 composed_behind t a b = if is_mark (t.general a) then None else t.composed a b
 

@@ -18,8 +18,7 @@ abbrev pub is_of_kinds : List ℕ → List hb_glyph_info_t → Bool
 is_of_kinds kinds [] = false
 is_of_kinds kinds (g ∷ gs) = list_any (λ kind. kind == kind_of g.syllable) kinds
 
--- how many glyphs of a syllable stand in front of its circle: the leading rephas, where there is a
--- category of rephas
+-- how many glyphs of a syllable stand in front of its circle: the leading rephas, if there are any
 abbrev pub rephas_len : Option ℕ → List hb_glyph_info_t → ℕ
 rephas_len None gs = 0
 rephas_len (Some repha) gs = prefix_len (λ g. g.category == repha) gs

@@ -5,8 +5,7 @@ use Rattle.shapers_buffer.specs.declared.buffer.glyph.hb_glyph_info_t.{hb_glyph_
 use Rattle.shapers_base.specs.declared.plan.ot_category_t.TheConstants.{OT_C, OT_CS, OT_Ra, OT_CM, OT_V, OT_PLACEHOLDER, OT_DOTTEDCIRCLE}
 use Rattle.shapers_buffer.specs.Marks.{is_ligated}
 
--- the categories that may carry a syllable: consonants, independent vowels, and what stands for a
--- consonant (OpenType)
+-- the categories that may carry a syllable: consonants, vowels, what stands for one (OpenType)
 abbrev pub consonants : List ℕ
 consonants = OT_C ∷ OT_CS ∷ OT_Ra ∷ OT_CM ∷ OT_V ∷ OT_PLACEHOLDER ∷ OT_DOTTEDCIRCLE ∷ []
 

@@ -16,8 +16,7 @@ use Rattle.shapers_syllabic.specs.declared.ot_shaper_syllabic.circles.DottedCirc
 use Rattle.shapers_syllabic.specs.Circles.{circled, circles_for}
 use Rattle.shapers_clusters.specs.Steps.{Step, run_steps, steps_along, widened}
 
--- The view of what a reordering carries along: it hides feature masks, category, auxiliary byte and
--- marks, which it may change.
+-- What a reordering carries along: all but feature masks, category, auxiliary byte and marks.
 abbrev pub carried : hb_glyph_info_t → hb_glyph_info_t
 carried g = record g { mask = g.mask % 8; category = 0; auxiliary = 0; marks = no_marks }
 
@@ -60,9 +59,8 @@ pub record TextOrdered (meaning : List hb_glyph_info_t →
   pub others : new ≡ record old { glyphs = new.glyphs; places = [] }
   pub order : order_view new.glyphs ≡ text_order meaning (order_view old.glyphs)
 
--- A chain that leads from one buffer to another: a link for each stretch of these lengths, the
--- first from this place on and each other one from where the one before it ends. Behind the last
--- the placement list is emptied.
+-- A chain from one buffer to another: a link for each stretch of these lengths, the first from this
+-- place on, each other one from the end of the last. Behind all the placement list is emptied.
 abbrev pub Chain : (ℕ → ℕ → Buffer → Buffer → Type 0) → ℕ → List ℕ → Buffer → Buffer → Type 0
 Chain link start [] old new = new ≡ but_places old
 Chain link start (len ∷ lens) old new =
@@ -87,8 +85,7 @@ pub record SyllableReordered (meaning : List hb_glyph_info_t →
       ≡ map carried (run_steps old.level (map (widened s e (length old.glyphs))
       (steps (stretch_of s e (order_view old.glyphs)))) old.glyphs)
 
--- The same of a whole text: the order view is the text order, and the glyphs are those that all
--- steps lead to, syllable by syllable. The placement list is empty.
+-- The same of a whole text: its order view is the text order, and all steps lead to its glyphs.
 pub record SyllablesReordered (meaning : List hb_glyph_info_t →
     List hb_glyph_info_t) (steps : List hb_glyph_info_t →
     List Step) (old new : Buffer) : Type 0 where

@@ -80,8 +80,7 @@ TextReorderedLaw = (meaning : List hb_glyph_info_t → List hb_glyph_info_t)
     ReorderLaws meaning steps → SyllablesReordered meaning steps old new →
     TextReordered steps old new
 
--- what a reordering pause makes of a text, by its definition: the order view; and what is carried
--- along
+-- what a reordering pause makes of a text: its order view; and what is carried along
 abbrev pub paused_order : Option DottedCircles → (List hb_glyph_info_t → List hb_glyph_info_t) →
     List hb_glyph_info_t → List hb_glyph_info_t
 paused_order circles meaning gs = text_order meaning (order_view (circled circles gs))
@@ -99,9 +98,8 @@ paused_clusters circles steps level gs =
     joined_steps level (text_steps steps (order_view (circled circles gs)))
     (clusters (circled circles gs))
 
--- A text cut at a border of syllables: the order view after the pause is that of the halves, one
--- after the other. Where they share no cluster, so are clusters and glyph flags and all else that
--- is carried along.
+-- A text cut at a border of syllables: the order view after the pause is the halves' joined. Where
+-- they share no cluster, so is all that is carried along, clusters and glyph flags among it.
 pub record PauseOfHalves (circles : Option DottedCircles) (meaning : List hb_glyph_info_t →
     List hb_glyph_info_t) (steps : List hb_glyph_info_t →
     List Step) (level : BufferClusterLevel) (gs hs new : List hb_glyph_info_t) : Type 0 where

@@ -34,8 +34,7 @@ CutsBetweenSpans view set_up made clusters_made spans old new =
     SameButSerials (set_up ss gs) xs → SameButSerials (set_up ts hs) ys →
     HalvesJoined view made clusters_made gs hs xs ys new
 
--- So at every border of a text's syllables: each half's bytes may have other serials, as long as
--- neighbouring syllables differ.
+-- So at every border of syllables: each half may have other serials, as long as neighbours differ.
 abbrev pub CutsAtBorders : (hb_glyph_info_t → hb_glyph_info_t) →
     (List hb_glyph_info_t → List hb_glyph_info_t) → (List hb_glyph_info_t → List ℕ) →
     List hb_glyph_info_t → List hb_glyph_info_t → Type 0

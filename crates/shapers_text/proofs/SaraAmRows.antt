@@ -79,7 +79,9 @@ copied : sara_am_sources some_text ≡ 0 ∷ 0 ∷ 1 ∷ 4 ∷ 2 ∷ 3 ∷ 4 ∷
 copied = refl
 
 -- the private use forms: the script is Thai, and GSUB hasn't found it
-scripts : map is_thai (None ∷ Some (record { 0 = codes "Thai" }) ∷ Some (record { 0 = codes "Laoo" }) ∷ Some (record { 0 = codes "thai" }) ∷ []) ≡ false ∷ true ∷ false ∷ false ∷ []
+scripts : map is_thai (None ∷ Some (record { 0 = codes "Thai" }) ∷ Some (record { 0 = codes "Laoo" })
+    ∷ Some (record { 0 = codes "thai" }) ∷ [])
+    ≡ false ∷ true ∷ false ∷ false ∷ []
 scripts = refl
 
 wanted : map (wants_forms (Some (record { 0 = codes "Thai" }))) (false ∷ true ∷ []) ≡ true ∷ false ∷ []

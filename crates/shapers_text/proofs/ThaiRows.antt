@@ -212,5 +212,6 @@ rewritten planned written =
       script = Some (record { 0 = codes written });
     })).glyphs
 
-forms_by_plan : rewritten "Thai" "Laoo" ∷ rewritten "Laoo" "Thai" ∷ [] ≡ (0x0E1B ∷ 0xF701 ∷ []) ∷ (0x0E1B ∷ 0x0E34 ∷ []) ∷ []
+forms_by_plan : rewritten "Thai" "Laoo" ∷ rewritten "Laoo" "Thai" ∷ []
+    ≡ (0x0E1B ∷ 0xF701 ∷ []) ∷ (0x0E1B ∷ 0x0E34 ∷ []) ∷ []
 forms_by_plan = refl

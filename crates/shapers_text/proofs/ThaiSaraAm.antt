@@ -37,7 +37,8 @@ last_mark gs end g some within at =
     let test : hb_glyph_info_t → Bool = λ x. is_above_base x.glyph_id in
     let inside : 0 < end = omega (arith, suffix_len-le-length test (take end gs), length-take-le end gs within) in
     let same : test g ≡ test (get_or gs (end - 1) g) = ap test at in
-    elim (test g) as (λ b. test g ≡ b → (b ≡ true) × (above_marks_before gs end ≡ 1 + above_marks_before gs (end - 1))) [
+    elim (test g) as (λ b. test g ≡ b → (b ≡ true)
+    × (above_marks_before gs end ≡ 1 + above_marks_before gs (end - 1))) [
       | true ↦ λ e. (refl, suffix_len-take_yes test gs end g inside within (sym same ∙ e))
       | false ↦ λ e. absurd (omega (arith, suffix_len-take_no test gs end g inside within (sym same ∙ e)))
     ] refl

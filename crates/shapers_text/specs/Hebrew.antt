@@ -49,8 +49,7 @@ step_at n (Some i) = swap_step n i
 abbrev pub hebrew_mark_step : ℕ → ℕ → List hb_glyph_info_t → Step
 hebrew_mark_step start end gs = step_at (length gs) (second_of_triple start end gs)
 
--- what the reordering promises, of the buffer before and after it: no glyph is lost, and the laws
--- of clusters and flags hold
+-- what the reordering promises: no glyph is lost, and the laws of clusters and flags hold
 abbrev pub HebrewMarksReordered : ℕ → ℕ → Buffer → Buffer → Type 0
 HebrewMarksReordered start end old new =
     ReorderedHold whole old.level (hebrew_mark_step start end old.glyphs ∷ []) old.glyphs new.glyphs
@@ -63,8 +62,7 @@ pairs = (0x05D9, 0x05B4, 0xFB1D) ∷ (0x05F2, 0x05B7, 0xFB1F) ∷ (0x05D0, 0x05B
     ∷ (0xFB49, 0x05C1, 0xFB2C) ∷ (0x05E9, 0x05C2, 0xFB2B) ∷ (0xFB49, 0x05C2, 0xFB2D)
     ∷ (0xFB2A, 0x05BC, 0xFB2C) ∷ (0xFB2B, 0x05BC, 0xFB2D) ∷ []
 
--- the letters that have no form with dagesh in Unicode: het, final mem, final nun, ayin and final
--- tsadi
+-- the letters without a form with dagesh: het, final mem, final nun, ayin and final tsadi
 abbrev pub lacks_dagesh : ℕ → Bool
 lacks_dagesh a = a == 0x05D7 || a == 0x05DD || a == 0x05DF || a == 0x05E2 || a == 0x05E5
 

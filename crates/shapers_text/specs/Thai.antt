@@ -4,7 +4,7 @@ use Rattle.std.specs.List.{suffix_len, enumerate_from}
 use Rattle.shapers_buffer.specs.declared.buffer.category.hb_unicode_general_category_t.TheVariants.{Mn}
 use Rattle.shapers_buffer.specs.declared.buffer.glyph.hb_glyph_info_t.{hb_glyph_info_t}
 use Rattle.shapers_buffer.specs.declared.buffer.level.BufferClusterLevel.{BufferClusterLevel}
-use Rattle.shapers_buffer.specs.declared.buffer.level.BufferClusterLevel.TheVariants.{MonotoneGraphemes, MonotoneCharacters, Characters}
+use Rattle.shapers_buffer.specs.declared.buffer.level.BufferClusterLevel.TheVariants.{MonotoneGraphemes}
 use Rattle.std.specs.Cmp.Lexicographic.{pointwise}
 use Rattle.shapers_buffer.specs.declared.buffer.tag.Script.{Script}
 use Rattle.shapers_buffer.specs.Marks.{CONTINUATION, with_mark}
@@ -21,13 +21,11 @@ is_thai_above_base u =
     u == 0x0E31 || (nat_le 0x0E34 u && nat_le u 0x0E37) || u == 0x0E3B
     || (nat_le 0x0E47 u && nat_le u 0x0E4E)
 
--- an above-base mark: one of Thai, once bit 0x80 is cleared, which leads from Lao to Thai (the
--- order of the two blocks in Unicode)
+-- an above-base mark: one of Thai, once bit 0x80 is cleared, which leads from Lao to Thai (Unicode)
 abbrev pub is_above_base : ℕ → Bool
 is_above_base u = is_thai_above_base (bit_and u 0xFFFFFF7F)
 
--- NIKHAHIT and SARA AA out of SARA AM (Unicode's decomposition of 0E33 and 0EB3): NIKHAHIT is a
--- continuation of category Mn
+-- NIKHAHIT, a continuation of category Mn, and SARA AA out of SARA AM (Unicode's decomposition)
 abbrev pub nikhahit : hb_glyph_info_t → hb_glyph_info_t
 nikhahit am = record am {
   glyph_id = am.glyph_id + 0x1A;
@@ -38,9 +36,8 @@ nikhahit am = record am {
 abbrev pub sara_aa : hb_glyph_info_t → hb_glyph_info_t
 sara_aa am = record am { glyph_id = am.glyph_id - 1 }
 
--- What the rule of SARA AM reads of the elements of a text, and makes of them: their character, and
--- the NIKHAHIT and SARA AA of a SARA AM. So one rule serves glyphs, and characters with their
--- places.
+-- What the rule of SARA AM reads of a text's elements, and makes of them: their character, and the
+-- two parts of a SARA AM. So one rule serves glyphs, and characters with their places.
 pub record SaraAmRule (X : Type 0) : Type 0 where
   pub character : X → ℕ
   pub nikhahit : X → X
@@ -53,8 +50,7 @@ is_am rule = λ x. is_sara_am (rule.character x)
 abbrev pub is_above : {X : Type 0} → SaraAmRule X → X → Bool
 is_above rule = λ x. is_above_base (rule.character x)
 
--- `.. W SARA_AM` as `.. NIKHAHIT W SARA_AA`, W the longest run of above-base marks there
--- (OpenType's notes on Thai and Lao)
+-- `.. W SARA_AM` as `.. NIKHAHIT W SARA_AA`, W the longest run of above-base marks (OpenType)
 abbrev pub piece_in_two : {X : Type 0} → SaraAmRule X → List X → X → List X
 piece_in_two rule text am =
     before_last_run (is_above rule) text
@@ -88,12 +84,10 @@ place_rule = record {
 abbrev pub sara_am_sources : List ℕ → List ℕ
 sara_am_sources us = map (λ p. p.0) (in_two place_rule (enumerate_from 0 us))
 
--- whether a SARA AM without marks joins the glyph before it: where clusters are whole graphemes
--- (Unicode's UAX 29: SARA AM is a spacing mark)
+-- whether a SARA AM without marks joins the glyph before it, as a spacing mark (Unicode's UAX 29)
 abbrev pub joins_before : BufferClusterLevel → Bool
 joins_before MonotoneGraphemes = true
-joins_before MonotoneCharacters = false
-joins_before Characters = false
+joins_before _ = false
 
 -- the stretch that a SARA AM at place am merges, with w above-base marks before it
 abbrev pub stretch_of_sara_am : BufferClusterLevel → ℕ → ℕ → List (ℕ × ℕ)
@@ -106,8 +100,7 @@ stretch_of_sara_am level am w =
 abbrev pub stretches_at : BufferClusterLevel → ℕ → ℕ → ℕ → List (ℕ × ℕ)
 stretches_at level place u w = if is_sara_am u then stretch_of_sara_am level place w else []
 
--- the merged stretches, from the left, of characters each given with what stands before it; those
--- of a text
+-- the merged stretches of characters, each given with what stands before it; those of a text
 abbrev pub stretches_of_each : BufferClusterLevel → List (List ℕ × ℕ) → List (ℕ × ℕ)
 stretches_of_each level each =
     flat_map (λ p. stretches_at level (length p.0) p.1 (suffix_len is_above_base p.0)) each

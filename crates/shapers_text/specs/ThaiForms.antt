@@ -42,14 +42,11 @@ mark_type u =
 abbrev pub stands_above : Mark → Bool
 stands_above AV = true
 stands_above T = true
-stands_above BV = false
-stands_above NotMark = false
+stands_above _ = false
 
 abbrev pub stands_below : Mark → Bool
 stands_below BV = true
-stands_below AV = false
-stands_below T = false
-stands_below NotMark = false
+stands_below _ = false
 
 abbrev pub is_thai_mark : ℕ → Bool
 is_thai_mark u = stands_above (mark_type u) || stands_below (mark_type u)
@@ -68,8 +65,7 @@ abbrev pub below_action : Consonant → ℕ → Action
 below_action RC b = if b == 0 then RD else SD
 below_action NC b = if b == 0 then NOP else SD
 below_action AC b = if b == 0 then NOP else SD
-below_action DC b = SD
-below_action NotConsonant b = SD
+below_action _ b = SD
 
 -- what a mark does by the types of base and mark, with a marks above and b below since the base
 abbrev pub action_of : Consonant → Mark → ℕ → ℕ → Action
@@ -148,13 +144,9 @@ has_below after = list_any (λ u. stands_below (mark_type u)) (take_while is_tha
 -- whether a base loses its descender to the marks after it
 abbrev pub is_removable : Consonant → Bool
 is_removable RC = true
-is_removable NC = false
-is_removable AC = false
-is_removable DC = false
-is_removable NotConsonant = false
+is_removable _ = false
 
--- the form of a character between two texts: a mark by its action, a base without its descender
--- where a vowel below follows
+-- a character's form between two texts: a mark's by its action, a base's by a vowel below behind it
 abbrev pub form_between : (ℕ → Bool) → List ℕ → ℕ → List ℕ → ℕ
 form_between has before u after =
     if is_thai_mark u then shaped_by has u (action_after before u)
@@ -182,8 +174,7 @@ with_thai_forms has gs = with_characters (forms_between has [] (characters gs) [
 abbrev pub thai_base_place : List ℕ → ℕ
 thai_base_place before = length before - suffix_len is_thai_mark before - 1
 
--- from each mark's base to the mark, in turn, of a text given with what stands before each
--- character
+-- from each mark's base to the mark, in turn, of characters with what stands before each
 abbrev pub stretch_of_mark : ℕ → ℕ → ℕ → List (ℕ × ℕ)
 stretch_of_mark base place u = if is_thai_mark u then (base, place) ∷ [] else []
 
@@ -194,8 +185,7 @@ mark_stretches_of_each each =
 abbrev pub mark_stretches : List ℕ → List (ℕ × ℕ)
 mark_stretches us = mark_stretches_of_each (each_after [] us)
 
--- forms and flags (HarfBuzz's glyph flags): a break between a base and its marks would change the
--- forms
+-- forms and flags: a break between a base and its marks would change the forms
 abbrev pub pua_shaped : (ℕ → Bool) → List hb_glyph_info_t → List hb_glyph_info_t
 pua_shaped has gs = with_thai_forms has (unsafe_all (mark_stretches (characters gs)) gs)
 
@@ -206,8 +196,7 @@ preprocessed_text forms has level gs =
     let text = glyphs_in_two (merge_all level (sara_am_stretches level (characters gs)) gs) in
     if forms then pua_shaped has text else text
 
--- whether a plan wants the forms: its script is Thai, and GSUB doesn't have it (the Thai note: for
--- fonts without OpenType rules)
+-- whether a plan wants the forms (the Thai note: for fonts without OpenType rules)
 abbrev pub asks_for_forms : hb_ot_shape_plan_t → Bool
 asks_for_forms plan = wants_forms plan.script plan.ot_map.found
 

@@ -17,16 +17,14 @@ use Rattle.shapers_clusters.specs.Laws.{ClustersMade}
 use Rattle.shapers_text.specs.ThaiForms.{preprocessed_text}
 use Rattle.shapers_text.specs.Thai.{is_sara_am, is_above_base, in_parts, glyph_rule, glyphs_in_two, sara_am_sources, sara_am_stretches}
 
--- where the NIKHAHIT of a SARA AM stands in the result, if xs is the text before it: behind what
--- comes of the text before its marks
+-- where a SARA AM's NIKHAHIT stands behind the text xs: behind what comes of it before its marks
 abbrev pub new_place : List ℕ → ℕ
 new_place xs = length (sara_am_sources (before_last_run is_above_base xs))
 
 -- What the rewriting of the characters us makes of their clusters cs: js. They are the clusters of
--- made glyphs, each having that of its source after the merges, with exact cuts; and each place of
--- the text is the source of some glyph. At the levels that merge, wherever the text is xs, a SARA
--- AM and ys, all places between its NIKHAHIT and where that stood before its move share one
--- cluster.
+-- made glyphs, each that of its source after the merges, with exact cuts; each place is the source
+-- of some glyph. At the levels that merge, wherever the text is xs, a SARA AM and ys, the places
+-- between its NIKHAHIT and where that stood before its move share one cluster.
 pub record ClustersInTwo (level : BufferClusterLevel) (us cs js : List ℕ) : Type 0 where
   pub made : ClustersMade level (sara_am_stretches level us) (sara_am_sources us) cs js
   pub none_lost : (p : ℕ) → p < length us → Contains (sara_am_sources us) p
@@ -56,8 +54,7 @@ InTwoLaw = (level : BufferClusterLevel) (gs : List hb_glyph_info_t) →
     InTwoHolds level gs
     (glyphs_in_two (merge_all level (sara_am_stretches level (characters gs)) gs))
 
--- The flag law, of each glyph by its source, the flags of the private use forms included: no
--- cluster rises, and unless it fell, no glyph flag of the source is lost.
+-- The flag law, of each glyph by its source: no cluster rises, and unless it fell, no flag is lost.
 abbrev pub FlagsInTwo : List hb_glyph_info_t → List hb_glyph_info_t → Type 0
 FlagsInTwo gs rs = AllFlagsStay (pick (sara_am_sources (characters gs)) gs) rs
 
@@ -80,8 +77,7 @@ kept_view false g = plain g
 kept_view true g = record (plain g) { glyph_id = 0 }
 
 -- No glyph is lost, and none made but the two parts of each SARA AM: the order view is the old one
--- with each SARA AM taken in two, in some order; where the private use forms follow, but for the
--- characters.
+-- with these, in some order; where the private use forms follow, but for the characters.
 abbrev pub KeptInTwo : Bool → List hb_glyph_info_t → List hb_glyph_info_t → Type 0
 KeptInTwo forms gs rs =
     IsPermutation (map (kept_view forms) (flat_map (in_parts glyph_rule) gs))

@@ -26,6 +26,7 @@ text_stays tables joining general b =
     rw (
       mapped_twice (λ (g : hb_glyph_info_t). g.glyph_id) (categorized tables.universal) b.glyphs,
       mapped_twice
-          (λ (g : hb_glyph_info_t). resolved (joining g.glyph_id) g.general_category) (categorized tables.universal) b.glyphs,
+          (λ (g : hb_glyph_info_t). resolved (joining g.glyph_id) g.general_category) (categorized tables.universal)
+          b.glyphs,
     )
     refl

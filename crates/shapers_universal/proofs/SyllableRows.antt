@@ -97,7 +97,8 @@ abbrev map_of : ℕ → List feature_map_t → Map
 map_of global features =
     record { features = features; stages = []; lookups = []; global = global; chosen = None; found = true }
 
-masks_of_map : form_masks (map_of 0x40 (feature "fina" 0x80 ∷ feature "isol" 0x10 ∷ feature "medi" 0x40 ∷ [])) ≡ record { isol = 0x10; init = 0; medi = 0; fina = 0x80 }
+masks_of_map : form_masks (map_of 0x40 (feature "fina" 0x80 ∷ feature "isol" 0x10 ∷ feature "medi" 0x40 ∷ []))
+    ≡ record { isol = 0x10; init = 0; medi = 0; fina = 0x80 }
 masks_of_map = refl
 
 -- the mask of rphf: on a reph alone, else on three at most
@@ -120,7 +121,8 @@ rphf_on_ligature = refl
 
 -- the whole set-up, where letters join and where they don't
 abbrev font : Map
-font = map_of 1 (feature "rphf" 0x100 ∷ feature "isol" 0x10 ∷ feature "init" 0x20 ∷ feature "medi" 0x40 ∷ feature "fina" 0x80 ∷ [])
+font = map_of 1 (feature "rphf" 0x100 ∷ feature "isol" 0x10 ∷ feature "init" 0x20 ∷ feature "medi" 0x40
+    ∷ feature "fina" 0x80 ∷ [])
 
 abbrev script : String → Option Script
 script tag = Some (record { 0 = codes tag })
@@ -159,14 +161,17 @@ by_bytes tag rows = set_up_by_its_bytes (Universal (universal_plan starts.AsCode
 abbrev masks_by_bytes : String → List (ℕ × ℕ) → List (ℕ × ℕ)
 masks_by_bytes tag rows = map (λ g. (g.mask, g.syllable)) (by_bytes tag rows).glyphs
 
-set_up_of_bytes : masks_by_bytes "Bali" ((0, 0x52) ∷ (1, 0x52) ∷ (2, 0x52) ∷ (3, 0x52) ∷ (4, 0x27) ∷ []) ≡ (0x120, 0x52) ∷ (0x123, 0x52) ∷ (0x123, 0x52) ∷ (0x23, 0x52) ∷ (0x180, 0x27) ∷ []
+set_up_of_bytes : masks_by_bytes "Bali" ((0, 0x52) ∷ (1, 0x52) ∷ (2, 0x52) ∷ (3, 0x52) ∷ (4, 0x27) ∷ [])
+    ≡ (0x120, 0x52) ∷ (0x123, 0x52) ∷ (0x123, 0x52) ∷ (0x23, 0x52) ∷ (0x180, 0x27) ∷ []
 set_up_of_bytes = refl
 
-set_up_of_joining : map (λ g. g.mask) (by_bytes "Mong" ((3, 0x16) ∷ (3, 0x16) ∷ [])).glyphs ∷ [] ≡ (0x100 ∷ 0x100 ∷ []) ∷ []
+set_up_of_joining : map (λ g. g.mask) (by_bytes "Mong" ((3, 0x16) ∷ (3, 0x16) ∷ [])).glyphs ∷ []
+    ≡ (0x100 ∷ 0x100 ∷ []) ∷ []
 set_up_of_joining = refl
 
 -- the broken kind is 7
-broken_by_bytes : map (λ byte. (by_bytes "Bali" ((0, byte) ∷ [])).broken) (0x17 ∷ 0x16 ∷ 0x18 ∷ 0x71 ∷ []) ≡ true ∷ false ∷ false ∷ false ∷ []
+broken_by_bytes : map (λ byte. (by_bytes "Bali" ((0, byte) ∷ [])).broken) (0x17 ∷ 0x16 ∷ 0x18 ∷ 0x71 ∷ [])
+    ≡ true ∷ false ∷ false ∷ false ∷ []
 broken_by_bytes = refl
 
 -- the records: four bases with the mask, the second put in by a lookup
@@ -206,13 +211,21 @@ record_keeps : rphf_recorded 0x20 (full ∷ full ∷ []) ≡ record full { categ
 record_keeps = refl
 
 -- the scripts whose letters join, and others
-joining : map (λ tag. joins_letters (script tag)) ("Adlm" ∷ "Arab" ∷ "Chrs" ∷ "Rohg" ∷ "Mand" ∷ "Mani" ∷ "Mong" ∷ "Nkoo" ∷ "Ougr" ∷ "Phag" ∷ "Phlp" ∷ "Sogd" ∷ "Syrc" ∷ []) ≡ true ∷ true ∷ true ∷ true ∷ true ∷ true ∷ true ∷ true ∷ true ∷ true ∷ true ∷ true ∷ true ∷ []
+joining : map (λ tag. joins_letters (script tag)) ("Adlm" ∷ "Arab" ∷ "Chrs" ∷ "Rohg" ∷ "Mand" ∷ "Mani" ∷ "Mong" ∷ "Nkoo"
+    ∷ "Ougr" ∷ "Phag" ∷ "Phlp" ∷ "Sogd" ∷ "Syrc" ∷ [])
+    ≡ true ∷ true ∷ true ∷ true ∷ true ∷ true ∷ true ∷ true ∷ true ∷ true ∷ true ∷ true ∷ true ∷ []
 joining = refl
 
-not_joining : joins_letters None ∷ map (λ tag. joins_letters (script tag)) ("Bali" ∷ "Thai" ∷ "mong" ∷ "Sogo" ∷ "Syre" ∷ []) ≡ false ∷ false ∷ false ∷ false ∷ false ∷ false ∷ []
+not_joining : joins_letters None ∷ map (λ tag. joins_letters (script tag)) ("Bali" ∷ "Thai" ∷ "mong" ∷ "Sogo" ∷ "Syre"
+    ∷ [])
+    ≡ false ∷ false ∷ false ∷ false ∷ false ∷ false ∷ []
 not_joining = refl
 
-plans : universal_plan starts.AsCode breaks.AsCode (script "Mong") font ∷ universal_plan starts.AsCode breaks.AsCode (script "Bali") font ∷ universal_plan starts.AsCode breaks.AsCode None font ∷ [] ≡ record { rphf_mask = 0x100; arabic_plan = Some (arabic_plan starts.AsCode breaks.AsCode font) } ∷ record { rphf_mask = 0x100; arabic_plan = None } ∷ record { rphf_mask = 0x100; arabic_plan = None } ∷ []
+plans : universal_plan starts.AsCode breaks.AsCode (script "Mong") font
+    ∷ universal_plan starts.AsCode breaks.AsCode (script "Bali") font ∷ universal_plan starts.AsCode breaks.AsCode None
+    font ∷ []
+    ≡ record { rphf_mask = 0x100; arabic_plan = Some (arabic_plan starts.AsCode breaks.AsCode font) }
+    ∷ record { rphf_mask = 0x100; arabic_plan = None } ∷ record { rphf_mask = 0x100; arabic_plan = None } ∷ []
 plans = refl
 
 -- the category of the character, and nothing else
@@ -224,12 +237,21 @@ abbrev joins : ℕ → hb_arabic_joining_type_t
 joins c = if c == 0x180B then T else D
 
 abbrev mongolian : List ℕ → List ℕ → List ℕ
-mongolian before cs = forms_of (script "Mong") (text_of joins (λ c. Lo) (record (new_buffer 9) { glyphs = map (λ c. categorized (λ d. 1) (record default_glyph { glyph_id = c; general_category = Lo })) cs; before = before }))
+mongolian before cs =
+    forms_of (script "Mong")
+    (text_of joins (λ c. Lo)
+    (record (new_buffer 9) {
+      glyphs = map (λ c. categorized (λ d. 1) (record default_glyph { glyph_id = c; general_category = Lo })) cs;
+      before
+          = before;
+    }))
 
 selectors : mongolian [] (0x1820 ∷ 0x180B ∷ 0x1820 ∷ []) ∷ mongolian (0x1820 ∷ []) (0x180B ∷ 0x1820 ∷ []) ∷ []
     ≡ (6 ∷ 6 ∷ 1 ∷ []) ∷ (7 ∷ 1 ∷ []) ∷ []
 selectors = refl
 
 -- a glyph without the masks of forms; with a plan of Arabic it stays
-formless : (formless_for None (map_of 0x40 (feature "fina" 0x80 ∷ feature "isol" 0x10 ∷ feature "medi" 0x40 ∷ [])) (record full { mask = 0xFFFFFFFF })).mask ≡ 0xFFFFFF6F
+formless : (formless_for None (map_of 0x40 (feature "fina" 0x80 ∷ feature "isol" 0x10 ∷ feature "medi" 0x40 ∷ []))
+    (record full { mask = 0xFFFFFFFF })).mask
+    ≡ 0xFFFFFF6F
 formless = refl

@@ -41,8 +41,7 @@ first_behind n xs = first_last (take n xs) ++ drop n xs
 abbrev pub reph_moved : List hb_glyph_info_t → List hb_glyph_info_t
 reph_moved gs = first_behind (reph_run gs) gs
 
--- what goes to the front of its piece: a vowel or modifier before the base, of those that a lookup
--- put in for one glyph the first
+-- what goes to the front of its piece: VPre and VMPre, of those put in for one glyph the first
 abbrev pub goes_front : hb_glyph_info_t → Bool
 goes_front g = is_of_categories (VPre ∷ VMPre ∷ []) g && g.lig_comp == 0
 
@@ -79,8 +78,7 @@ places_within gs = range_with_len 0 (length gs)
 abbrev pub goes_front_at : List hb_glyph_info_t → ℕ → Bool
 goes_front_at gs i = option_map_or goes_front (slice_get gs i) false
 
--- the step of a piece: each glyph that goes to the front merges from the start of the piece to its
--- place
+-- the step of a piece: each glyph that goes to the front merges from the piece's start to its place
 abbrev pub piece_step : List hb_glyph_info_t → Step
 piece_step gs = record {
   merged_first = map (λ i. (0, suc i))

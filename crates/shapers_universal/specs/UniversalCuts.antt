@@ -22,9 +22,8 @@ abbrev pub formless_set_up : PlanData → Map → List Span → Buffer → List 
 formless_set_up kept m spans b =
     map (formless_for (arabic_of kept) m) (syllables_set_up kept m spans b).glyphs
 
--- Spans cut between two of them: masks of forms apart, what they set up is what the first ones set
--- up of the glyphs that they cover, and behind it, but for serials, what the others set up of
--- theirs; the two meet at a border.
+-- Spans cut between two of them, masks of forms apart: what the first ones set up of their glyphs,
+-- and behind it, serials apart, what the others set up of theirs; the two meet at a border.
 pub record UniversalSetUpOfHalves (kept : PlanData) (m : Map) (ss ts : List Span) (gs hs : List
     hb_glyph_info_t) (old new : Buffer) : Type 0 where
   pub behind : List hb_glyph_info_t

@@ -32,14 +32,12 @@ UniversalReadsNoSerials = ReadsNoSerials universal_order universal_steps
 abbrev pub UniversalReadsNoMasks : Type 0
 UniversalReadsNoMasks = ReadsNoMasks universal_order universal_steps
 
--- the glyphs that spans set up: their bytes, no break inside them, and the masks of rphf and of
--- forms
+-- the glyphs that spans set up: bytes, no break inside them, the masks of rphf and of forms
 abbrev pub set_up_by_spans : PlanData → Map → List Span → List hb_glyph_info_t →
     List hb_glyph_info_t
 set_up_by_spans kept m spans gs = with_syllable_masks kept m (unsafe_spans spans gs)
 
--- the glyph without what differs between a text and its halves: the serial of its byte and the
--- masks of forms
+-- the glyph without what differs between a text and its halves: serial and masks of forms
 abbrev pub without_serial_or_forms : PlanData → Map → hb_glyph_info_t → hb_glyph_info_t
 without_serial_or_forms kept m g = unnumbered (formless_for (arabic_of kept) m g)
 

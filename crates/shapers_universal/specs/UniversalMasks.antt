@@ -22,8 +22,7 @@ abbrev pub CanJoin : Option arabic_shape_plan_t → List hb_glyph_info_t → Typ
 CanJoin None gs = Unit {0}
 CanJoin (Some p) gs = AreCharacters gs
 
--- the categories of the tables, and where there is a plan of Arabic the forms, the masks and the
--- flags of joining, with the law of the cut
+-- the tables' categories, and with a plan of Arabic what joining sets, with the law of the cut
 abbrev pub MasksAreSet :
     Option arabic_shape_plan_t → Option Script → CharacterTables → Buffer → Buffer → Type 0
 MasksAreSet None script tables old new = new ≡ with_categories tables old

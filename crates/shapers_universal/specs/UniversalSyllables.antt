@@ -18,8 +18,7 @@ use Rattle.shapers_universal.specs.declared.ot_shaper_use.category.TheConstants.
 use Rattle.shapers_universal.specs.declared.ot_shaper_use.forms.FormMasks.{FormMasks}
 use Rattle.shapers_universal.specs.PlanData.{arabic_of, rphf_of}
 
--- how many glyphs in front of a syllable get the mask of rphf: a reph alone, else three, or as many
--- as there are
+-- how many glyphs in front get the mask of rphf: a reph alone, else three, or as many as there are
 abbrev pub rphf_len : List hb_glyph_info_t → ℕ
 rphf_len [] = 0
 rphf_len (g ∷ gs) = if g.category == R then 1 else min 3 (length (g ∷ gs))
@@ -44,8 +43,7 @@ form_masks m = record {
 abbrev pub all_forms : FormMasks → ℕ
 all_forms masks = bit_or (bit_or masks.isol masks.init) (bit_or masks.medi masks.fina)
 
--- whether a syllable stands in runs of joining ones: not one of hieroglyphs, and not what is in no
--- cluster
+-- whether a syllable stands in runs of joining ones: no hieroglyphs, and not what is in no cluster
 abbrev pub joins_runs : List hb_glyph_info_t → Bool
 joins_runs [] = false
 joins_runs (g ∷ gs) =
@@ -56,8 +54,7 @@ abbrev pub first_joins : List (List hb_glyph_info_t) → Bool
 first_joins [] = false
 first_joins (syl ∷ syls) = joins_runs syl
 
--- the form in a run, by whether a syllable of it stands before and whether one stands behind: a
--- lone one isolated, the first initial, the last final, the others medial
+-- the form in a run: a lone syllable isolated, the first initial, the last final, others medial
 abbrev pub mask_between : FormMasks → Bool → Bool → ℕ
 mask_between masks false false = masks.isol
 mask_between masks false true = masks.init
@@ -117,14 +114,12 @@ first_recorded c [] = []
 first_recorded c (g ∷ gs) =
     if is_substituted g.marks then in_category c g ∷ gs else g ∷ first_recorded c gs
 
--- the record of rphf in a syllable: among its leading glyphs with that mask the first that a lookup
--- put in becomes a reph
+-- the record of rphf in a syllable: the first leading glyph with that mask put in becomes a reph
 abbrev pub rphf_recorded : ℕ → List hb_glyph_info_t → List hb_glyph_info_t
 rphf_recorded mask gs =
     let n = prefix_len (has_bits mask) gs in first_recorded R (take n gs) ++ drop n gs
 
--- the records of a text, syllable by syllable; that of pref: the first glyph that a lookup put in
--- becomes one before the base
+-- so of a text; that of pref: the first glyph of a syllable put in becomes one before the base
 abbrev pub with_rphf_recorded : ℕ → Buffer → Buffer
 with_rphf_recorded mask b = record b { glyphs = flat_map (rphf_recorded mask) (syllables b.glyphs) }
 

@@ -129,7 +129,8 @@ carried_khmer_masked r (g ∷ gs) on =
 pub khmer_agrees : (r : KhmerOrder) (gs : List hb_glyph_info_t) → seen carried (khmer_order r gs)
     ≡ pick (old_places (length gs) (khmer_step gs ∷ [])) (seen carried gs)
 khmer_agrees r gs =
-    agrees_by_places (khmer_step gs) gs (khmer_order r gs) (khmer_fits gs) (elim (cases_Bool (is_reordered_in_khmer gs)) [
+    agrees_by_places (khmer_step gs) gs (khmer_order r gs) (khmer_fits gs)
+    (elim (cases_Bool (is_reordered_in_khmer gs)) [
       | inl on ↦ rw on (let same : map carried (khmer_masked r gs) ≡ map carried gs = carried_khmer_masked r gs on in
           sym (pick-map (λ g. plain (carried g)) (khmer_places gs) (khmer_masked r gs))
           ∙ ap (pick (khmer_places gs)) (seen-same carried (khmer_masked r gs) gs same))

@@ -4,4 +4,5 @@ use Rattle.shapers_bench.proofs.calling.buffer_of.Given as goal
 
 -- The buffer has no positions, and each cluster in it is a place of the text.
 abbrev pub invariant-loop-place : goal.invariant-loop-place
-invariant-loop-place l = (l.buffer.positions ≡ []) × All (λ cluster. cluster < length l.fn.text) (clusters l.buffer.glyphs)
+invariant-loop-place l = (l.buffer.positions ≡ [])
+    × All (λ cluster. cluster < length l.fn.text) (clusters l.buffer.glyphs)

@@ -48,7 +48,8 @@ returns-in_err-run_pause-2-clause-room g c e =
     let same = passed_on c.from_residual-in_err-run_pause-2.result x c.from_residual-in_err-run_pause-2.ensures.1 e in
     room (ap (λ (y : ShaperError). let r : Result Bool ShaperError = Err y in r) same)
 
-stops-mapped : (n : ℕ) (gs read : List hb_glyph_info_t) (stops : List ℕ) → stops ≡ caret_stops LeftToRight read → read ≡ gs
+stops-mapped : (n : ℕ) (gs read : List hb_glyph_info_t) (stops : List ℕ) → stops ≡ caret_stops LeftToRight read
+    → read ≡ gs
     → IsCaretMap n (clusters gs) (caret_stops LeftToRight gs) → IsCaretMap n (clusters gs) stops
 stops-mapped n gs read stops a b map = subst (λ (ss : List ℕ). IsCaretMap n (clusters gs) ss)
     (sym (a ∙ ap (caret_stops LeftToRight) b)) map
