@@ -1,6 +1,7 @@
 -- The items that change the text, and what stands between them.
 use Rattle.std.proofs.Common.{◌≡◌, ℕ, zero, suc, ◌+◌, ◌-◌, ◌<◌, ◌≤◌, Bool, true, false, cond, List, [], ◌∷◌, ◌++◌, length, take, drop, refl, sym, ap, subst, ◌∙◌, arith}
 use Rattle.std.specs.Prelude.{slice_index_or, Result, OnOk}
+use Rattle.std.specs.List.{AllByRecursion}
 use Rattle.shapers_buffer.specs.Glyph.{characters}
 use Rattle.shapers_buffer.specs.Buffer.{Buffer}
 use Rattle.shapers_buffer.specs.declared.buffer.refusal.ShaperError.{ShaperError}
@@ -8,13 +9,17 @@ use Rattle.std.proofs.lemmas.List.{append_assoc, drop_all, drop-drop, length-app
 use Rattle.std.proofs.Math.Seq.{take-add}
 use Rattle.shapers_buffer.specs.declared.buffer.glyph.hb_glyph_info_t.{hb_glyph_info_t}
 use Rattle.shapers_buffer.specs.declared.buffer.level.BufferClusterLevel.{BufferClusterLevel}
+use Rattle.shapers_buffer.specs.GlyphFlags.{unsafe_all, unsafe_inside}
 use Rattle.shapers_base.specs.Font.{Font}
+use Rattle.shapers_base.specs.declared.plan.breaks.BreakFlags.{BreakFlags}
+use Rattle.shapers_base.specs.declared.plan.breaks.BreakFlags.TheVariants.{AsCode, Sound}
 use Rattle.shapers_hangul.specs.declared.ot_shaper_hangul.item.Item.{Item}
-use Rattle.shapers_hangul.specs.Hangul.{item_len, output_len, tone_len, is_kept, first_item, items_from, items_at, Fit, item_output, outputs, item_joined, all_joined, glyph_copies, preprocessed, allows_circles, KeptBefore}
+use Rattle.shapers_hangul.specs.Hangul.{item_len, output_len, tone_len, is_kept, first_item, items_from, items_at, Fit, item_output, outputs, item_joined, all_joined, character_copies, glyph_copies, preprocessed, rewritten, allows_circles, items, items_flagged, whole_items, with_items_flagged, KeptBefore}
 use Rattle.shapers_hangul.specs.RewritingWalk.{rewritten_items, InTurn, change_output, changed_from}
+use Rattle.shapers_hangul.proofs.ItemFlags.{characters-items_flagged}
 use Rattle.shapers_hangul.proofs.Items.{taken_some, first_item-within, items_at_fit}
-use Rattle.shapers_hangul.proofs.Outputs.{preprocessed-kept, preprocessed-read}
-use Rattle.shapers_hangul.proofs.Walks.{kept_stays, staying_next, glyphs_next, length-characters, length-all_joined, length-item_output}
+use Rattle.shapers_hangul.proofs.Outputs.{characters-outputs, length-preprocessed, preprocessed-kept}
+use Rattle.shapers_hangul.proofs.Walks.{kept_stays, one_unflagged, staying_next, glyphs_end, glyphs_next, length-characters, length-all_joined, length-item_output}
 
 -- a choice by whether an item is kept
 by_kept : (P : List (ℕ × Item) → Type 0) (item : Item) (a b : List (ℕ × Item)) → (is_kept item ≡ true → P a)
@@ -62,6 +67,23 @@ joined_changes level (p ∷ cut) gs =
     (λ stays. joined_changes level cut gs
     ∙ ap (all_joined level cut) (sym ((kept_stays p.1 stays).unjoined level p.0 gs)))
     (λ _. joined_changes level cut (item_joined level p.0 p.1 gs))
+
+-- without an item nothing is flagged
+none_flagged : (breaks : BreakFlags) (gs : List hb_glyph_info_t) → items_flagged breaks [] gs ≡ gs
+none_flagged AsCode gs = refl
+none_flagged Sound gs = refl
+
+-- nor is what is kept
+pub flagged_changes : (cut : List (ℕ × Item)) (gs : List hb_glyph_info_t)
+    → unsafe_all (whole_items (rewritten_items cut)) gs ≡ unsafe_all (whole_items cut) gs
+flagged_changes [] gs = refl
+flagged_changes (p ∷ cut) gs =
+    by_kept (λ l. unsafe_all (whole_items l) gs
+    ≡ unsafe_all (whole_items cut) (unsafe_inside p.0 (p.0 + item_len p.1) gs)) p.1 (rewritten_items cut)
+    (p ∷ rewritten_items cut)
+    (λ stays. flagged_changes cut gs
+    ∙ ap (unsafe_all (whole_items cut)) (sym (one_unflagged p.0 p.1 gs (kept_stays p.1 stays).one)))
+    (λ _. flagged_changes cut (unsafe_inside p.0 (p.0 + item_len p.1) gs))
 
 -- what fits, and stands in turn
 pub changes_fit : (n : ℕ) (cut : List (ℕ × Item)) → Fit n cut → Fit n (rewritten_items cut)
@@ -276,16 +298,90 @@ changes_stand font circles gs place cut within same =
     subst (λ (l : List (ℕ × Item)). Fit (length gs) l × InTurn (length gs) 0 l) (sym same)
     (changes_fit (length gs) whole fit, turn)
 
-pub buffer_changed : (font : Font) (b : Buffer) (circles : Bool) (level : BufferClusterLevel)
+-- the flags of the items that the code listed are those of all
+pub flagged_listed : (breaks : BreakFlags) (font : Font) (circles : Bool) (gs : List hb_glyph_info_t) (place : ℕ)
+    (cut : List (ℕ × Item)) → KeptBefore font circles gs place
+    → cut ≡ rewritten_items (items_at font circles (characters gs) place)
+    → items_flagged breaks cut gs ≡ items_flagged breaks (items font circles (characters gs)) gs
+flagged_listed AsCode font circles gs place cut kept same = refl
+flagged_listed Sound font circles gs place cut kept same =
+    ap (λ (l : List (ℕ × Item)). unsafe_all (whole_items l) gs) same
+    ∙ flagged_changes (items_at font circles (characters gs) place) gs
+    ∙ sym (kept.unflagged gs)
+
+-- what is kept of a text is so of another with its characters
+kept_alike : (font : Font) (circles : Bool) (gs hs : List hb_glyph_info_t) (place : ℕ)
+    → characters hs ≡ characters gs → KeptBefore font circles gs place → KeptBefore font circles hs place
+kept_alike font circles gs hs place same kept =
+    let long : length hs ≡ length gs = sym (length-characters hs) ∙ ap length same ∙ length-characters gs in
+    record {
+      within = omega (arith, kept.within, long);
+      unjoined = λ level xs. subst (λ us. all_joined level (items font circles us) xs
+          ≡ all_joined level (items_at font circles us place) xs) (sym same) (kept.unjoined level xs);
+      unflagged = λ xs. subst (λ us. unsafe_all (whole_items (items font circles us)) xs
+          ≡ unsafe_all (whole_items (items_at font circles us place)) xs) (sym same) (kept.unflagged xs);
+      same = λ xs. subst (λ us. outputs glyph_copies (items font circles us) xs
+          ≡ take place xs ++ outputs glyph_copies (items_at font circles us place) xs) (sym same) (kept.same xs);
+      stays = subst (λ us. AllByRecursion (λ (p : ℕ × Item). is_kept p.1 ≡ true) (items_at font circles us place)
+          → AllByRecursion (λ (p : ℕ × Item). is_kept p.1 ≡ true) (items font circles us)) (sym same) kept.stays;
+    }
+
+flagged_whole : (breaks : BreakFlags) (font : Font) (circles : Bool) (level : BufferClusterLevel)
+    (gs : List hb_glyph_info_t) (place : ℕ) (cut : List (ℕ × Item)) → KeptBefore font circles gs place
+    → cut ≡ rewritten_items (items_at font circles (characters gs) place)
+    → changed_from 0 cut (all_joined level cut (items_flagged breaks cut gs))
+    ≡ preprocessed font circles level (items_flagged breaks (items font circles (characters gs)) gs)
+flagged_whole breaks font circles level gs place cut kept same =
+    let flagged = items_flagged breaks (items font circles (characters gs)) gs in
+    let text = characters-items_flagged breaks (items font circles (characters gs)) gs in
+    ap (λ (xs : List hb_glyph_info_t). changed_from 0 cut (all_joined level cut xs))
+    (flagged_listed breaks font circles gs place cut kept same)
+    ∙ changed_whole font circles level flagged place cut (kept_alike font circles gs flagged place text kept)
+    (same ∙ ap (λ us. rewritten_items (items_at font circles us place)) (sym text))
+
+pub buffer_changed : (breaks : BreakFlags) (font : Font) (b : Buffer) (circles : Bool) (level : BufferClusterLevel)
     (read : List hb_glyph_info_t) (place : ℕ) (cut : List (ℕ × Item)) → circles ≡ allows_circles b → level ≡ b.level
     → read ≡ b.glyphs → KeptBefore font circles read place
     → cut ≡ rewritten_items (items_at font circles (characters read) place)
-    → changed_from 0 cut (all_joined level cut b.glyphs) ≡ preprocessed font (allows_circles b) b.level b.glyphs
-buffer_changed font b circles level read place cut same_circles same_level same_glyphs kept same =
-    ap (λ (xs : List hb_glyph_info_t). changed_from 0 cut (all_joined level cut xs)) (sym same_glyphs)
-    ∙ preprocessed-read font (allows_circles b) circles b.level level b.glyphs read
-    (changed_from 0 cut (all_joined level cut read)) same_circles same_level same_glyphs
-    (changed_whole font circles level read place cut kept same)
+    → changed_from 0 cut (all_joined level cut (items_flagged breaks cut b.glyphs))
+    ≡ (rewritten font (with_items_flagged breaks font b)).glyphs
+buffer_changed breaks font b circles level read place cut same_circles same_level same_glyphs kept same =
+    ap (λ (xs : List hb_glyph_info_t). changed_from 0 cut (all_joined level cut (items_flagged breaks cut xs)))
+    (sym same_glyphs)
+    ∙ flagged_whole breaks font circles level read place cut kept same
+    ∙ ap (λ c. preprocessed font c level (items_flagged breaks (items font c (characters read)) read)) same_circles
+    ∙ ap (λ l. preprocessed font (allows_circles b) l
+    (items_flagged breaks (items font (allows_circles b) (characters read)) read)) same_level
+    ∙ ap (λ (xs : List hb_glyph_info_t). preprocessed font (allows_circles b) b.level
+    (items_flagged breaks (items font (allows_circles b) (characters xs)) xs)) same_glyphs
+
+-- flags change no length
+pub length-flagged : (breaks : BreakFlags) (font : Font) (b : Buffer)
+    → length (rewritten font (with_items_flagged breaks font b)).glyphs ≡ length (rewritten font b).glyphs
+length-flagged breaks font b =
+    let circles = allows_circles b in
+    let cut = items font circles (characters b.glyphs) in
+    let flagged = items_flagged breaks cut b.glyphs in
+    let text = characters-items_flagged breaks cut b.glyphs in
+    length-preprocessed font circles b.level flagged
+    ∙ sym (length-characters (outputs glyph_copies (items font circles (characters flagged)) flagged))
+    ∙ ap length (characters-outputs (items font circles (characters flagged)) flagged)
+    ∙ ap (λ us. length (outputs character_copies (items font circles us) us)) text
+    ∙ sym (ap length (characters-outputs cut b.glyphs))
+    ∙ length-characters (outputs glyph_copies cut b.glyphs)
+    ∙ sym (length-preprocessed font circles b.level b.glyphs)
+
+-- where all is kept
+pub all_unchanged : (breaks : BreakFlags) (font : Font) (b : Buffer) (circles : Bool) (read : List hb_glyph_info_t)
+    (place : ℕ) → circles ≡ allows_circles b → read ≡ b.glyphs → length read ≤ place
+    → KeptBefore font circles read place → b ≡ rewritten font (with_items_flagged breaks font b)
+all_unchanged breaks font b circles read place same_circles same_glyphs past kept =
+    let none : items_at font circles (characters read) place ≡ [] =
+    glyphs_end font circles read (characters read) place refl past in
+    let same : [] ≡ rewritten_items (items_at font circles (characters read) place) = sym (ap rewritten_items none) in
+    let empty : items_flagged breaks [] b.glyphs ≡ b.glyphs = none_flagged breaks b.glyphs in
+    ap (λ (xs : List hb_glyph_info_t). let new : Buffer = record b { glyphs = xs } in new) (sym empty
+    ∙ buffer_changed breaks font b circles b.level read place [] same_circles refl same_glyphs kept same)
 
 -- a buffer that took another text
 pub replaced_by : {T : Type 0} (b after : Buffer) (r : Result T ShaperError) {list text : List hb_glyph_info_t}

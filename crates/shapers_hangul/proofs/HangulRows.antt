@@ -6,8 +6,9 @@ use Rattle.shapers_buffer.specs.declared.buffer.level.BufferClusterLevel.{Buffer
 use Rattle.shapers_buffer.specs.declared.buffer.level.BufferClusterLevel.TheVariants.{MonotoneGraphemes, MonotoneCharacters, Characters}
 use Rattle.shapers_buffer.specs.declared.buffer.category.hb_unicode_general_category_t.TheVariants.{Mn}
 use Rattle.shapers_base.specs.Font.{Font}
+use Rattle.shapers_base.specs.declared.plan.breaks.BreakFlags.TheVariants.{AsCode, Sound}
 use Rattle.shapers_buffer.specs.Glyph.{default_glyph}
-use Rattle.shapers_hangul.specs.Hangul.{is_l, is_v, is_t, combines_l, combines_v, combines_t, is_s, is_lv, is_tone, with_v, with_t, lead, vowel, trail, preprocessed, items, stretches}
+use Rattle.shapers_hangul.specs.Hangul.{is_l, is_v, is_t, combines_l, combines_v, combines_t, is_s, is_lv, is_tone, with_v, with_t, lead, vowel, trail, preprocessed, items, items_flagged, stretches, whole_items}
 use Rattle.shapers_hangul.specs.HangulLaws.{hangul_sources, full, spelled}
 use Rattle.shapers_hangul.specs.Masks.{jamo_masks}
 use Rattle.shapers_base.specs.Masks.{with_numbered_mask}
@@ -326,6 +327,50 @@ flags_of_others : flags (wide (0xAC01 ∷ 0x1100 ∷ 0x1161 ∷ 0x11A9 ∷ 0x25C
     ∷ 0x302E ∷ 0x302F ∷ [])
     ≡ map (λ level. 0 ∷ 0 ∷ 0 ∷ 0 ∷ 0 ∷ 0 ∷ 0 ∷ 0 ∷ 0 ∷ []) (MonotoneGraphemes ∷ MonotoneCharacters ∷ Characters ∷ [])
 flags_of_others = refl
+
+-- with Sound each item is flagged, its tone with it: from its first character on
+whole : whole_items (items (narrow (0x1100 ∷ 0x1161 ∷ 0xAC00 ∷ 0x302E ∷ [])) true (0x41 ∷ 0xAC00 ∷ 0x302E ∷ 0xAC00 ∷ 0x11C3 ∷ []))
+    ≡ (0, 1) ∷ (1, 3) ∷ (3, 5) ∷ []
+whole = refl
+
+abbrev sound_flags_at : Font → List ℕ → BufferClusterLevel → List ℕ
+sound_flags_at font us level =
+    map (λ g. g.mask) (preprocessed font true level (items_flagged Sound (items font true us) (text us)))
+
+abbrev sound_flags : Font → List ℕ → List (List ℕ)
+sound_flags font us = map (sound_flags_at font us) (MonotoneGraphemes ∷ MonotoneCharacters ∷ Characters ∷ [])
+
+sound_old_t : sound_flags (wide (0x1100 ∷ 0x1161 ∷ 0xAC00 ∷ [])) (0xAC00 ∷ 0x11C3 ∷ []) ≡ (0 ∷ 0 ∷ 0 ∷ [])
+    ∷ (0 ∷ 0 ∷ 3 ∷ []) ∷ (0 ∷ 0 ∷ 3 ∷ []) ∷ []
+sound_old_t = refl
+
+-- a tone that stays: no flag of the code's, and with Sound one
+narrow_tone : flags (narrow (0xAC00 ∷ 0x302E ∷ [])) (0xAC00 ∷ 0x302E ∷ []) ≡ (0 ∷ 0 ∷ []) ∷ (0 ∷ 0 ∷ [])
+    ∷ (0 ∷ 0 ∷ []) ∷ []
+narrow_tone = refl
+
+sound_narrow_tone : sound_flags (narrow (0xAC00 ∷ 0x302E ∷ [])) (0xAC00 ∷ 0x302E ∷ []) ≡ (0 ∷ 3 ∷ []) ∷ (0 ∷ 3 ∷ [])
+    ∷ (0 ∷ 3 ∷ []) ∷ []
+sound_narrow_tone = refl
+
+sound_old_t_narrow_tone : sound_flags (narrow (0x1100 ∷ 0x1161 ∷ 0xAC00 ∷ 0x302E ∷ [])) (0xAC00 ∷ 0x11C3 ∷ 0x302E ∷ [])
+    ≡ (0 ∷ 0 ∷ 0 ∷ 3 ∷ []) ∷ (0 ∷ 0 ∷ 3 ∷ 3 ∷ []) ∷ (0 ∷ 0 ∷ 3 ∷ 3 ∷ []) ∷ []
+sound_old_t_narrow_tone = refl
+
+-- a tone that moves merges with its syllable, and keeps its flag where nothing merges
+sound_moved_tone : sound_flags (wide (0xAC00 ∷ [])) (0xAC00 ∷ 0x302E ∷ []) ≡ (0 ∷ 0 ∷ []) ∷ (0 ∷ 0 ∷ []) ∷ (3 ∷ 0 ∷ [])
+    ∷ []
+sound_moved_tone = refl
+
+-- between items nothing is flagged
+sound_apart : sound_flags (wide (0xAC00 ∷ [])) (0xAC00 ∷ 0x41 ∷ 0xAC00 ∷ []) ≡ map (λ level. 0 ∷ 0 ∷ 0 ∷ [])
+    (MonotoneGraphemes ∷ MonotoneCharacters ∷ Characters ∷ [])
+sound_apart = refl
+
+-- the code's choice flags nothing before
+as_code : items_flagged AsCode (items (narrow (0xAC00 ∷ 0x302E ∷ [])) true (0xAC00 ∷ 0x302E ∷ [])) (text (0xAC00 ∷ 0x302E ∷ []))
+    ≡ text (0xAC00 ∷ 0x302E ∷ [])
+as_code = refl
 
 -- MASKS, by the auxiliary byte, which stays with all else
 abbrev masked : (n : ℕ) → hb_glyph_info_t

@@ -3,6 +3,7 @@ pub mod HangulClusters
 pub mod HangulFlags
 mod HangulRows
 pub mod HangulSpelling
+pub mod ItemFlags
 pub mod Items
 pub mod KeptTexts
 pub mod Outputs

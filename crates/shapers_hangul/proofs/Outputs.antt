@@ -92,6 +92,14 @@ outputs-map f c d leads (p ∷ cut) xs =
     ∙ ap (item_output d p.1) (sym (drop-map f p.0 xs)))
     ∙ ap (λ ys. item_output d p.1 (drop p.0 (map f xs)) ++ ys) (outputs-map f c d leads cut xs)
 
+-- the characters of what is made of glyphs are made of theirs
+pub characters-outputs : (cut : List (ℕ × Item)) (gs : List hb_glyph_info_t)
+    → characters (outputs glyph_copies cut gs) ≡ outputs character_copies cut (characters gs)
+characters-outputs cut gs =
+    let leads : Leads (λ g. g.glyph_id) glyph_copies character_copies =
+    record { character = λ u g. refl; jamo = λ n g. refl } in
+    outputs-map (λ g. g.glyph_id) glyph_copies character_copies leads cut gs
+
 -- flags and merges change no length
 pub length-preprocessed : (font : Font) (circles : Bool) (level : BufferClusterLevel) (gs : List hb_glyph_info_t)
     → length (preprocessed font circles level gs)
@@ -113,7 +121,7 @@ pub preprocessed-kept : (font : Font) (circles : Bool) (level : BufferClusterLev
     items_at font circles (characters gs) place in preprocessed font circles level gs
     ≡ take place (all_joined level cut gs) ++ outputs glyph_copies cut (all_joined level cut gs)
 preprocessed-kept font circles level gs place kept =
-    ap (outputs glyph_copies (items font circles (characters gs))) (kept.unjoined level)
+    ap (outputs glyph_copies (items font circles (characters gs))) (kept.unjoined level gs)
     ∙ kept.same (all_joined level (items_at font circles (characters gs) place) gs)
 
 -- its length

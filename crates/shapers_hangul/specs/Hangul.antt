@@ -10,6 +10,8 @@ use Rattle.shapers_buffer.specs.Buffer.{Buffer, asks, no_dotted_circle}
 use Rattle.shapers_buffer.specs.Clusters.{merge_all}
 use Rattle.shapers_buffer.specs.GlyphFlags.{unsafe_all}
 use Rattle.shapers_base.specs.Font.{Font, dotted_circle, has_nominal}
+use Rattle.shapers_base.specs.declared.plan.breaks.BreakFlags.{BreakFlags}
+use Rattle.shapers_base.specs.declared.plan.breaks.BreakFlags.TheVariants.{AsCode, Sound}
 use Rattle.shapers_hangul.specs.declared.ot_shaper_hangul.item.Item.{Item}
 use Rattle.shapers_hangul.specs.declared.ot_shaper_hangul.item.JoinedTone.{JoinedTone}
 use Rattle.shapers_hangul.specs.declared.ot_shaper_hangul.item.JoinedTone.TheVariants.{Absent, Before, Behind}
@@ -317,6 +319,16 @@ abbrev pub all_joined : BufferClusterLevel → List (ℕ × Item) → List hb_gl
 all_joined level [] gs = gs
 all_joined level (p ∷ cut) gs = all_joined level cut (item_joined level p.0 p.1 gs)
 
+-- what the choice flags besides, before anything merges: with Sound no break inside an item, its
+-- tone with it
+abbrev pub whole_items : List (ℕ × Item) → List (ℕ × ℕ)
+whole_items cut = map (λ p. (p.0, p.0 + item_len p.1)) cut
+
+abbrev pub items_flagged : BreakFlags → List (ℕ × Item) → List hb_glyph_info_t →
+    List hb_glyph_info_t
+items_flagged AsCode cut gs = gs
+items_flagged Sound cut gs = unsafe_all (whole_items cut) gs
+
 -- THE RULE ON GLYPHS
 abbrev pub glyph_copies : Copying hb_glyph_info_t
 glyph_copies = record {
@@ -343,13 +355,22 @@ allows_circles b = not (asks no_dotted_circle b)
 abbrev pub rewritten : Font → Buffer → Buffer
 rewritten font b = record b { glyphs = preprocessed font (allows_circles b) b.level b.glyphs }
 
+-- the buffer with what the choice flags
+abbrev pub with_items_flagged : BreakFlags → Font → Buffer → Buffer
+with_items_flagged breaks font b =
+    let cut = items font (allows_circles b) (characters b.glyphs) in
+    record b { glyphs = items_flagged breaks cut b.glyphs }
+
 -- in the code: up to this place every item is one character that stays as it is
 pub record KeptBefore (font : Font) (circles : Bool) (gs : List hb_glyph_info_t) (place :
     ℕ) : Type 0 where
   pub within : place ≤ length gs
-  pub unjoined : (level : BufferClusterLevel) →
-      all_joined level (items font circles (characters gs)) gs
-      ≡ all_joined level (items_at font circles (characters gs) place) gs
+  pub unjoined : (level : BufferClusterLevel) (xs : List hb_glyph_info_t) →
+      all_joined level (items font circles (characters gs)) xs
+      ≡ all_joined level (items_at font circles (characters gs) place) xs
+  pub unflagged : (xs : List hb_glyph_info_t) →
+      unsafe_all (whole_items (items font circles (characters gs))) xs
+      ≡ unsafe_all (whole_items (items_at font circles (characters gs) place)) xs
   pub same : (xs : List hb_glyph_info_t) →
       outputs glyph_copies (items font circles (characters gs)) xs
       ≡ take place xs ++ outputs glyph_copies (items_at font circles (characters gs) place) xs

@@ -5,7 +5,7 @@ ghost use Rattle.shapers_base.specs.Planner.{with_requests};
 ghost use Rattle.std.specs.List.{All};
 ghost use Rattle.shapers_base.specs.declared.plan.PlanData.TheVariants.{Hangul};
 ghost use Rattle.shapers_buffer.specs.Refusals.{RefusesLength};
-ghost use Rattle.shapers_hangul.specs.Hangul.{rewritten};
+ghost use Rattle.shapers_hangul.specs.Hangul.{rewritten, with_items_flagged};
 ghost use Rattle.shapers_hangul.specs.HangulLaws.{AllKept, KeepsClusters, KeepsGlyphFlags, SpellsByUnits, SpellsSame};
 ghost use Rattle.shapers_clusters.specs.FlagLaw.{OnlyFlagsAdded};
 ghost use Rattle.shapers_hangul.specs.Masks.{jamo_masks, is_hangul_data, with_jamo_masks};
@@ -60,17 +60,19 @@ pub fn override_features(planner: &mut hb_ot_shape_planner_t) -> Result<(), Shap
 /// become one syllable character where the font has it, else they are marked for the features of
 /// jamo; so are the jamo of a syllable character that the font lacks. A tone moves before the
 /// syllable that it follows, unless it has advance 0; without one it gets a dotted circle. What a
-/// break would tear apart is flagged. Refuses as a growth to the length of the result does, and
+/// break would tear apart is flagged, by the plan's `break_flags`. Refuses as a growth to the length of the result does, and
 /// never where every character stays as it is. (The Unicode Standard, "Conjoining Jamo
 /// Behavior"; OpenType's notes on Hangul.)
 #[inline]
 pub fn preprocess_text<F: hb_font_t>(
-    _plan: &hb_ot_shape_plan_t,
+    plan: &hb_ot_shape_plan_t,
     face: &F,
     buffer: &mut hb_buffer_t,
 ) -> Result<(), ShaperError>
     requires { buffer.old.positions ≡ [] }
-    ensures ok { OnOk result (buffer.new ≡ rewritten (F.font face.now) buffer.old) }
+    ensures ok { let breaks = plan.now.break_flags in
+        let flagged = with_items_flagged breaks (F.font face.now) buffer.old in
+        OnOk result (buffer.new ≡ rewritten (F.font face.now) flagged) }
     ensures clusters { OnOk result (KeepsClusters (F.font face.now) buffer.old buffer.new) }
     ensures flags { OnOk result (KeepsGlyphFlags (F.font face.now) buffer.old buffer.new) }
     ensures spelling { OnOk result (SpellsSame buffer.old buffer.new) }
@@ -80,7 +82,7 @@ pub fn preprocess_text<F: hb_font_t>(
     ensures err { OnErr result (buffer.new ≡ buffer.old) }
     ensures kept { AllKept (F.font face.now) buffer.old → IsOk result }
 {
-    rewrite(face, buffer)
+    rewrite(plan.break_flags, face, buffer)
 }
 
 /// `preprocess_text`, which returns whether it rewrote the text: just where every character stays as
@@ -92,12 +94,14 @@ pub fn preprocess_text<F: hb_font_t>(
 /// nothing has changed then.
 #[inline]
 pub fn preprocess_text_changes<F: hb_font_t>(
-    _plan: &hb_ot_shape_plan_t,
+    plan: &hb_ot_shape_plan_t,
     face: &F,
     buffer: &mut hb_buffer_t,
 ) -> Result<bool, ShaperError>
     requires { buffer.old.positions ≡ [] }
-    ensures ok { OnOk result (buffer.new ≡ rewritten (F.font face.now) buffer.old) }
+    ensures ok { let breaks = plan.now.break_flags in
+        let flagged = with_items_flagged breaks (F.font face.now) buffer.old in
+        OnOk result (buffer.new ≡ rewritten (F.font face.now) flagged) }
     ensures clusters { OnOk result (KeepsClusters (F.font face.now) buffer.old buffer.new) }
     ensures flags { OnOk result (KeepsGlyphFlags (F.font face.now) buffer.old buffer.new) }
     ensures spelling { OnOk result (SpellsSame buffer.old buffer.new) }
@@ -109,7 +113,7 @@ pub fn preprocess_text_changes<F: hb_font_t>(
         RefusesLength buffer.old.max_len (length text) result }
     ensures err { OnErr result (buffer.new ≡ buffer.old) }
 {
-    rewrite_changes(face, buffer)
+    rewrite_changes(plan.break_flags, face, buffer)
 }
 
 /// Keeps the masks of the features of jamo in the plan. None of them touches a glyph flag bit.
@@ -136,7 +140,7 @@ struct JamoMasks {
 impl GlyphChange for JamoMasks {
     ghost use Rattle.std.specs.Prelude.{◌≡◌};
     ghost use Rattle.shapers_buffer.specs.Refusals.{RefusesLength};
-    ghost use Rattle.shapers_hangul.specs.Hangul.{rewritten};
+    ghost use Rattle.shapers_hangul.specs.Hangul.{rewritten, with_items_flagged};
     ghost use Rattle.shapers_base.specs.Masks.{with_numbered_mask};
 
     ghost changed = { λ m g. with_numbered_mask m.masks g };

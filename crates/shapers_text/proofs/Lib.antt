@@ -12,3 +12,4 @@ pub mod ThaiRows
 pub mod ThaiSaraAm
 pub mod ThaiStretches
 mod ThaiTypes
+pub mod ThaiWholeMarks

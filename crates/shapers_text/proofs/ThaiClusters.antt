@@ -15,16 +15,18 @@ use Rattle.shapers_buffer.specs.Marks.{CONTINUATION}
 use Rattle.shapers_buffer.specs.Lists.{before_last_run, each_after}
 use Rattle.shapers_buffer.proofs.MarkLemmas.{cleared_after_set}
 use Rattle.shapers_buffer.proofs.MappedLists.{all-range, Contains-flat_map, Contains-each_after}
+use Rattle.shapers_base.specs.declared.plan.breaks.BreakFlags.{BreakFlags}
 use Rattle.shapers_clusters.specs.Cuts.{ShareCluster}
 use Rattle.shapers_clusters.proofs.MadeGlyphs.{Made, all_standing, glyphs-standing, numbered-standing}
 use Rattle.shapers_clusters.specs.Laws.{ClustersMade}
 use Rattle.shapers_clusters.proofs.Proved.{made_hold_by, part_shares}
 use Rattle.shapers_text.specs.Thai.{is_sara_am, is_above_base, SaraAmRule, in_two, glyph_rule, place_rule, nikhahit, sara_aa, glyphs_in_two, sara_am_sources, sara_am_stretches, stretches_at}
-use Rattle.shapers_text.specs.ThaiLaws.{without_name, new_place, ClustersInTwo, InTwoLaw}
-use Rattle.shapers_text.specs.ThaiForms.{preprocessed_text, pua_shaped}
+use Rattle.shapers_text.specs.ThaiLaws.{without_form, without_name, new_place, ClustersInTwo, InTwoLaw}
+use Rattle.shapers_text.specs.ThaiForms.{marks_flagged, preprocessed_text, pua_shaped}
 use Rattle.shapers_text.proofs.ThaiInTwo.{kept, none_lost, read_by, in_two-map, sources_at}
 use Rattle.shapers_text.proofs.ThaiStretches.{characters-merge_all, stretches_within}
-use Rattle.shapers_text.proofs.ThaiFormWalks.{forms_hold}
+use Rattle.shapers_text.proofs.ThaiFormWalks.{without_form-pua}
+use Rattle.shapers_text.proofs.ThaiWholeMarks.{map-marks_flagged}
 
 -- but for what the rewriting changes, a NIKHAHIT is the SARA AM that it comes of
 unnamed_nikhahit : (am : hb_glyph_info_t) → without_name (nikhahit am) ≡ without_name am
@@ -104,10 +106,18 @@ plain_in_two level gs text is =
     subst (λ xs. ClustersInTwo level (characters gs) (clusters gs) (clusters xs)) (sym is)
     (in_two_holds level gs).in_clusters
 
-pub shaped_in_two : (has : ℕ → Bool) (level : BufferClusterLevel) (gs text shaped : List hb_glyph_info_t)
-    → text ≡ preprocessed_text false has level gs → shaped ≡ pua_shaped has text
+pub shaped_in_two : (breaks : BreakFlags) (has : ℕ → Bool) (level : BufferClusterLevel)
+    (gs text shaped : List hb_glyph_info_t) → text ≡ preprocessed_text false has level gs
+    → shaped ≡ pua_shaped has (marks_flagged breaks text)
     → ClustersInTwo level (characters gs) (clusters gs) (clusters shaped)
-shaped_in_two has level gs text shaped is forms =
-    let same : clusters shaped ≡ clusters (preprocessed_text false has level gs) =
-    ap clusters (forms ∙ ap (pua_shaped has) is) ∙ (forms_hold has level gs).clusters_stay in
+shaped_in_two breaks has level gs text shaped is forms =
+    let whole = preprocessed_text false has level gs in
+    let cluster : hb_glyph_info_t → ℕ = λ g. g.cluster in
+    let flagged = marks_flagged breaks whole in
+    let same : clusters shaped ≡ clusters whole =
+    ap clusters (forms ∙ ap (λ xs. pua_shaped has (marks_flagged breaks xs)) is)
+    ∙ sym (map-map cluster without_form (pua_shaped has flagged))
+    ∙ ap clusters (without_form-pua has flagged)
+    ∙ map-map cluster without_form flagged
+    ∙ map-marks_flagged cluster (λ g. refl) breaks whole in
     subst (ClustersInTwo level (characters gs) (clusters gs)) (sym same) (in_two_holds level gs).in_clusters

@@ -7,14 +7,16 @@ use Rattle.shapers_buffer.specs.Glyph.{characters}
 use Rattle.shapers_buffer.specs.GlyphFlags.{unsafe_all}
 use Rattle.shapers_buffer.specs.Lists.{each_after}
 use Rattle.shapers_buffer.specs.Places.{pick}
+use Rattle.shapers_base.specs.declared.plan.breaks.BreakFlags.{BreakFlags}
 use Rattle.shapers_clusters.specs.FlagLaw.{AllFlagsStay}
 use Rattle.shapers_clusters.proofs.FlagLaw.{all_fallen, all_stay_as, all_stay_on, unsafe_all_stays}
 use Rattle.shapers_text.specs.Thai.{sara_am_sources}
-use Rattle.shapers_text.specs.ThaiForms.{forms_between, mark_stretches, preprocessed_text, pua_shaped, with_character, with_characters}
+use Rattle.shapers_text.specs.ThaiForms.{forms_between, mark_stretches, marks_flagged, preprocessed_text, pua_shaped, with_character, with_characters}
 use Rattle.shapers_text.specs.ThaiLaws.{FlagsInTwo}
 use Rattle.shapers_text.proofs.ThaiClusters.{in_two_holds}
 use Rattle.shapers_text.proofs.ThaiFormLaws.{length-forms}
 use Rattle.shapers_text.proofs.ThaiFormWalks.{in_order}
+use Rattle.shapers_text.proofs.ThaiWholeMarks.{marks_flagged_stay}
 
 -- what is read of glyphs, characters apart
 map-with_characters : {Y : Type 0} (f : hb_glyph_info_t → Y)
@@ -44,8 +46,11 @@ plain_flags level gs text is =
     subst (FlagsInTwo gs) (sym is)
     (all_fallen (pick (sara_am_sources (characters gs)) gs) made (in_two_holds level gs).falls)
 
-pub shaped_flags : (has : ℕ → Bool) (level : BufferClusterLevel) (gs text shaped : List hb_glyph_info_t)
-    → text ≡ preprocessed_text false has level gs → shaped ≡ pua_shaped has text → FlagsInTwo gs shaped
-shaped_flags has level gs text shaped is forms =
+pub shaped_flags : (breaks : BreakFlags) (has : ℕ → Bool) (level : BufferClusterLevel)
+    (gs text shaped : List hb_glyph_info_t) → text ≡ preprocessed_text false has level gs
+    → shaped ≡ pua_shaped has (marks_flagged breaks text) → FlagsInTwo gs shaped
+shaped_flags breaks has level gs text shaped is forms =
+    let flagged = marks_flagged breaks text in
     all_stay_on (pick (sara_am_sources (characters gs)) gs) text shaped (plain_flags level gs text is)
-    (subst (AllFlagsStay text) (sym forms) (forms_stay has text))
+    (subst (AllFlagsStay text) (sym forms) (all_stay_on text flagged (pua_shaped has flagged)
+    (marks_flagged_stay breaks text) (forms_stay has flagged)))

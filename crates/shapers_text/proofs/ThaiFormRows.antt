@@ -1,15 +1,19 @@
 -- The private use forms of Thai, cell by cell, computed on characters.
-use Rattle.std.specs.Prelude.{◌≡◌, ◌==◌, ℕ, Bool, true, List, [], ◌∷◌, map, flat_map, refl}
+use Rattle.std.specs.Prelude.{◌≡◌, ◌==◌, ℕ, Bool, true, false, List, [], ◌∷◌, map, flat_map, refl}
 use Rattle.std.specs.List.{list_any, range_with_len}
 use Rattle.shapers_buffer.specs.declared.buffer.category.hb_unicode_general_category_t.TheVariants.{Mn}
 use Rattle.shapers_buffer.specs.declared.buffer.glyph.hb_glyph_info_t.{hb_glyph_info_t}
+use Rattle.shapers_buffer.specs.declared.buffer.level.BufferClusterLevel.TheVariants.{MonotoneCharacters}
+use Rattle.shapers_buffer.specs.Glyph.{default_glyph}
+use Rattle.shapers_base.specs.declared.plan.breaks.BreakFlags.{BreakFlags}
+use Rattle.shapers_base.specs.declared.plan.breaks.BreakFlags.TheVariants.{AsCode, Sound}
 use Rattle.shapers_text.specs.declared.ot_shaper_thai.forms.Action.{Action}
 use Rattle.shapers_text.specs.declared.ot_shaper_thai.forms.Action.TheVariants.{NOP, SD, SL, SDL, RD}
 use Rattle.shapers_text.specs.declared.ot_shaper_thai.forms.Consonant.{Consonant}
 use Rattle.shapers_text.specs.declared.ot_shaper_thai.forms.Consonant.TheVariants.{NC, AC, RC, DC, NotConsonant}
 use Rattle.shapers_text.specs.declared.ot_shaper_thai.forms.Mark.{Mark}
 use Rattle.shapers_text.specs.declared.ot_shaper_thai.forms.Mark.TheVariants.{AV, BV, T, NotMark}
-use Rattle.shapers_text.specs.ThaiForms.{action_after, action_of, thai_base_place, base_type, consonant_type, form_between, forms_between, mark_stretches, mark_type, marks_above, marks_below, pua_shaped, shaped_by}
+use Rattle.shapers_text.specs.ThaiForms.{action_after, action_of, thai_base_place, base_type, consonant_type, form_between, forms_between, mark_stretches, mark_type, marks_above, marks_below, preprocessed_by, pua_shaped, shaped_by, whole_mark_stretches}
 
 -- the forms of characters under an action with a font that has them all, and with one that has but these
 abbrev all_forms : Action → List ℕ → List ℕ
@@ -324,6 +328,48 @@ between = refl
 stretches : mark_stretches (0x0E38 ∷ 0x0E14 ∷ 0x0E38 ∷ 0x0E48 ∷ 0x0E32 ∷ 0x0E1B ∷ 0x0E34 ∷ []) ≡ (0, 0) ∷ (1, 2)
     ∷ (1, 3) ∷ (5, 6) ∷ []
 stretches = refl
+
+-- with Sound each reaches to behind its mark
+whole_stretches : whole_mark_stretches (0x0E38 ∷ 0x0E14 ∷ 0x0E38 ∷ 0x0E48 ∷ 0x0E32 ∷ 0x0E1B ∷ 0x0E34 ∷ []) ≡ (0, 1)
+    ∷ (1, 3) ∷ (1, 4) ∷ (5, 7) ∷ []
+whole_stretches = refl
+
+-- forms and masks by the choice, each character in a cluster of its own
+abbrev own_cluster : ℕ × ℕ → hb_glyph_info_t
+own_cluster p = record default_glyph { glyph_id = p.0; cluster = p.1 }
+
+abbrev forms_by : BreakFlags → List (ℕ × ℕ) → List (ℕ × ℕ)
+forms_by breaks us =
+    map (λ (g : hb_glyph_info_t). (g.glyph_id, g.mask)) (preprocessed_by breaks true has_all MonotoneCharacters (map own_cluster us))
+
+-- one mark behind its base
+one_mark : map (λ breaks. forms_by breaks ((0x0E1B, 0) ∷ (0x0E31, 1) ∷ [])) (AsCode ∷ Sound ∷ [])
+    ≡ ((0x0E1B, 0) ∷ (0xF710, 0) ∷ []) ∷ ((0x0E1B, 0) ∷ (0xF710, 3) ∷ []) ∷ []
+one_mark = refl
+
+-- two marks, and a base behind them that stays clear
+two_marks : map (λ breaks. forms_by breaks ((0x0E14, 0) ∷ (0x0E38, 1) ∷ (0x0E48, 2) ∷ (0x0E01, 3) ∷ [])) (AsCode ∷ Sound ∷ [])
+    ≡ ((0x0E14, 0) ∷ (0x0E38, 3) ∷ (0xF70A, 0) ∷ (0x0E01, 0) ∷ []) ∷ ((0x0E14, 0) ∷ (0x0E38, 3) ∷ (0xF70A, 3) ∷ (0x0E01, 0) ∷ []) ∷ []
+two_marks = refl
+
+-- the mark of a SARA AM, taken apart; the clusters are 0 1 1
+sara_am_apart : map (λ breaks. forms_by breaks ((0x0E1B, 0) ∷ (0x0E33, 1) ∷ [])) (AsCode ∷ Sound ∷ [])
+    ≡ ((0x0E1B, 0) ∷ (0xF711, 0) ∷ (0x0E32, 0) ∷ []) ∷ ((0x0E1B, 0) ∷ (0xF711, 3) ∷ (0x0E32, 0) ∷ []) ∷ []
+sara_am_apart = refl
+
+-- where clusters fall, the base is flagged; marks without a base, from the text's start on
+falling_clusters : map (λ breaks. forms_by breaks ((0x0E1B, 1) ∷ (0x0E31, 0) ∷ [])) (AsCode ∷ Sound ∷ [])
+    ≡ ((0x0E1B, 0) ∷ (0xF710, 0) ∷ []) ∷ ((0x0E1B, 3) ∷ (0xF710, 0) ∷ []) ∷ []
+falling_clusters = refl
+
+no_base : map (λ breaks. forms_by breaks ((0x0E38, 0) ∷ (0x0E48, 1) ∷ [])) (AsCode ∷ Sound ∷ [])
+    ≡ ((0xF718, 0) ∷ (0x0E48, 0) ∷ []) ∷ ((0xF718, 0) ∷ (0x0E48, 3) ∷ []) ∷ []
+no_base = refl
+
+-- without forms the choice adds nothing
+no_forms : map (λ breaks. preprocessed_by breaks false has_all MonotoneCharacters (own_cluster (0x0E1B, 0) ∷ own_cluster (0x0E31, 1) ∷ [])) (AsCode ∷ Sound ∷ [])
+    ≡ (own_cluster (0x0E1B, 0) ∷ own_cluster (0x0E31, 1) ∷ []) ∷ (own_cluster (0x0E1B, 0) ∷ own_cluster (0x0E31, 1) ∷ []) ∷ []
+no_forms = refl
 
 -- forms and flags change characters and masks alone
 abbrev full : hb_glyph_info_t

@@ -56,7 +56,7 @@ pub record Splits (us : List ℕ) (i u : ℕ) : Type 0 where
   pub front_is : take (i + 1) us ≡ take i us ++ u ∷ []
   pub length_is : length (take i us) ≡ i
 
-splits : (us : List ℕ) (i u : ℕ) → i < length us → u ≡ get_or us i 0 → Splits us i u
+pub splits : (us : List ℕ) (i u : ℕ) → i < length us → u ≡ get_or us i 0 → Splits us i u
 splits us i u inside at = record {
   rest_is = drop_more us i 0 inside ∙ ap (λ v. v ∷ drop (i + 1) us) (sym at);
   front_is = take_more us i 0 inside ∙ ap (λ v. take i us ++ v ∷ []) (sym at);

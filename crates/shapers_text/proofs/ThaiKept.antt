@@ -9,12 +9,15 @@ use Rattle.shapers_buffer.specs.declared.buffer.glyph.hb_glyph_info_t.{hb_glyph_
 use Rattle.shapers_buffer.specs.declared.buffer.level.BufferClusterLevel.{BufferClusterLevel}
 use Rattle.shapers_buffer.specs.Glyph.{order_view, plain, characters}
 use Rattle.shapers_buffer.specs.Clusters.{merge_all}
+use Rattle.shapers_base.specs.declared.plan.breaks.BreakFlags.{BreakFlags}
+use Rattle.shapers_clusters.proofs.FlagCalls.{without_flags-or}
 use Rattle.shapers_clusters.proofs.Merging.{order_view-merge_all, without_flags-twice}
 use Rattle.shapers_text.specs.Thai.{glyph_rule, in_parts, is_sara_am, nikhahit, sara_aa, glyphs_in_two, sara_am_stretches}
-use Rattle.shapers_text.specs.ThaiForms.{preprocessed_text, pua_shaped}
+use Rattle.shapers_text.specs.ThaiForms.{marks_flagged, preprocessed_text, pua_shaped}
 use Rattle.shapers_text.specs.ThaiLaws.{kept_view, without_form, KeptInTwo}
 use Rattle.shapers_text.proofs.ThaiFormWalks.{without_form-pua}
 use Rattle.shapers_text.proofs.ThaiInTwo.{kept}
+use Rattle.shapers_text.proofs.ThaiWholeMarks.{map-marks_flagged}
 
 -- a glyph with a mask, in cluster 0, with its character or without
 abbrev masked : Bool → hb_glyph_info_t → ℕ → hb_glyph_info_t
@@ -88,8 +91,18 @@ plain_kept forms none level gs text is =
     (subst (KeptInTwo false gs) (sym is) (kept_in_two false (λ _. false) level gs))
 
 pub shaped_kept : (forms : Bool) → true ≡ forms
-    → (has : ℕ → Bool) (level : BufferClusterLevel) (gs text shaped : List hb_glyph_info_t)
-    → text ≡ preprocessed_text false has level gs → shaped ≡ pua_shaped has text → KeptInTwo forms gs shaped
-shaped_kept forms some has level gs text shaped is forms_are =
+    → (breaks : BreakFlags) (has : ℕ → Bool) (level : BufferClusterLevel) (gs text shaped : List hb_glyph_info_t)
+    → text ≡ preprocessed_text false has level gs → shaped ≡ pua_shaped has (marks_flagged breaks text)
+    → KeptInTwo forms gs shaped
+shaped_kept forms some breaks has level gs text shaped is forms_are =
+    let whole = preprocessed_text false has level gs in
+    let view = kept_view true in
+    let same : map view shaped ≡ map view (pua_shaped has whole) =
+    ap (map view) (forms_are ∙ ap (λ xs. pua_shaped has (marks_flagged breaks xs)) is)
+    ∙ formless has (marks_flagged breaks whole)
+    ∙ map-marks_flagged view
+    (λ g. ap (λ n. let r : hb_glyph_info_t = record g { glyph_id = 0; cluster = 0; mask = n } in r)
+    (without_flags-or g.mask 3 refl)) breaks whole
+    ∙ sym (formless has whole) in
     subst (λ b. KeptInTwo b gs shaped) some
-    (subst (KeptInTwo true gs) (sym (forms_are ∙ ap (pua_shaped has) is)) (kept_in_two true has level gs))
+    (subst (IsPermutation (map view (flat_map parts gs))) (sym same) (kept_in_two true has level gs))

@@ -1,9 +1,11 @@
 -- The private use forms of Thai, by the note on Thai OpenType shaping (the Thai note).
-use Rattle.std.specs.Prelude.{ℕ, ◌-◌, Bool, ◌||◌, ◌&&◌, ◌==◌, nat_le, true, false, List, [], ◌∷◌, ◌++◌, length, reverse, map, flat_map, take_while, count_by, find, zip, Option, None, Some, if◌then◌else◌}
+use Rattle.std.specs.Prelude.{ℕ, ◌+◌, ◌-◌, Bool, ◌||◌, ◌&&◌, ◌==◌, nat_le, true, false, List, [], ◌∷◌, ◌++◌, length, reverse, map, flat_map, take_while, count_by, find, zip, Option, None, Some, if◌then◌else◌}
 use Rattle.std.specs.List.{list_any, suffix_len}
 use Rattle.shapers_buffer.specs.declared.buffer.glyph.hb_glyph_info_t.{hb_glyph_info_t}
 use Rattle.shapers_buffer.specs.declared.buffer.level.BufferClusterLevel.{BufferClusterLevel}
 use Rattle.shapers_buffer.specs.Glyph.{characters}
+use Rattle.shapers_base.specs.declared.plan.breaks.BreakFlags.{BreakFlags}
+use Rattle.shapers_base.specs.declared.plan.breaks.BreakFlags.TheVariants.{AsCode, Sound}
 use Rattle.shapers_base.specs.declared.plan.hb_ot_shape_plan_t.{hb_ot_shape_plan_t}
 use Rattle.shapers_buffer.specs.Buffer.{Buffer}
 use Rattle.shapers_base.specs.Font.{Font, has_nominal}
@@ -189,12 +191,26 @@ mark_stretches us = mark_stretches_of_each (each_after [] us)
 abbrev pub pua_shaped : (ℕ → Bool) → List hb_glyph_info_t → List hb_glyph_info_t
 pua_shaped has gs = with_thai_forms has (unsafe_all (mark_stretches (characters gs)) gs)
 
--- the whole rewriting, with the private use forms or without
+-- from each mark's base to the mark, the mark with it
+abbrev pub whole_mark_stretches : List ℕ → List (ℕ × ℕ)
+whole_mark_stretches us = map (λ st. (st.0, st.1 + 1)) (mark_stretches us)
+
+-- what the choice flags besides, before the forms: with Sound no break between a base and any mark
+-- of it, since a piece that opens with marks forms them without their base
+abbrev pub marks_flagged : BreakFlags → List hb_glyph_info_t → List hb_glyph_info_t
+marks_flagged AsCode gs = gs
+marks_flagged Sound gs = unsafe_all (whole_mark_stretches (characters gs)) gs
+
+-- the whole rewriting by the choice, with the private use forms or without; with the code's flags
+abbrev pub preprocessed_by : BreakFlags → Bool → (ℕ → Bool) → BufferClusterLevel →
+    List hb_glyph_info_t → List hb_glyph_info_t
+preprocessed_by breaks forms has level gs =
+    let text = glyphs_in_two (merge_all level (sara_am_stretches level (characters gs)) gs) in
+    if forms then pua_shaped has (marks_flagged breaks text) else text
+
 abbrev pub preprocessed_text : Bool → (ℕ → Bool) → BufferClusterLevel → List hb_glyph_info_t →
     List hb_glyph_info_t
-preprocessed_text forms has level gs =
-    let text = glyphs_in_two (merge_all level (sara_am_stretches level (characters gs)) gs) in
-    if forms then pua_shaped has text else text
+preprocessed_text forms has level gs = preprocessed_by AsCode forms has level gs
 
 -- whether a plan wants the forms (the Thai note: for fonts without OpenType rules)
 abbrev pub asks_for_forms : hb_ot_shape_plan_t → Bool
@@ -204,6 +220,6 @@ asks_for_forms plan = wants_forms plan.script plan.ot_map.found
 abbrev pub preprocessed_in_thai : hb_ot_shape_plan_t → Font → Buffer → Buffer
 preprocessed_in_thai plan font b =
     record b {
-      glyphs = preprocessed_text (asks_for_forms plan) (has_nominal font) b.level
+      glyphs = preprocessed_by plan.break_flags (asks_for_forms plan) (has_nominal font) b.level
           b.glyphs;
     }

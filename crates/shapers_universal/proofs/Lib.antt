@@ -6,6 +6,7 @@ mod OneFront
 mod RequestRows
 mod SyllableRows
 mod SyllableWalks
+pub mod TornPairs
 mod UniversalCuts
 mod UniversalFlags
 mod UniversalListing

@@ -9,7 +9,9 @@ use Rattle.shapers_buffer.specs.Buffer.{Buffer, new_buffer}
 use Rattle.shapers_buffer.specs.Glyph.{default_glyph}
 use Rattle.shapers_base.specs.Map.{Map}
 use Rattle.shapers_base.specs.declared.plan.arabic.StretchStart.TheVariants as starts
+use Rattle.shapers_base.specs.declared.plan.breaks.BreakFlags.{BreakFlags}
 use Rattle.shapers_base.specs.declared.plan.breaks.BreakFlags.TheVariants as breaks
+use Rattle.shapers_buffer.specs.Syllables.{syllables}
 use Rattle.shapers_base.specs.declared.map.feature_map_t.{feature_map_t}
 use Rattle.shapers_base.specs.declared.plan.PlanData.TheVariants.{Universal}
 use Rattle.shapers_base.specs.declared.plan.joining.hb_arabic_joining_type_t.{hb_arabic_joining_type_t}
@@ -19,8 +21,8 @@ use Rattle.shapers_arabic.specs.PlanData.{arabic_plan}
 use Rattle.shapers_universal.specs.declared.ot_shaper_use.forms.FormMasks.{FormMasks}
 use Rattle.shapers_universal.specs.PlanData.{joins_letters, universal_plan}
 use Rattle.shapers_universal.specs.UniversalMasks.{categorized}
-use Rattle.shapers_universal.specs.UniversalCuts.{formless_for}
-use Rattle.shapers_universal.specs.UniversalSyllables.{all_forms, form_masks, mask_between, rphf_recorded, set_up_by_its_bytes, syllables_set_up, with_form_masks, with_instead, with_pref_recorded, with_rphf, with_rphf_recorded}
+use Rattle.shapers_universal.specs.UniversalCuts.{flagless_for, formless_for}
+use Rattle.shapers_universal.specs.UniversalSyllables.{all_forms, form_masks, forms_flagged, is_torn, mask_between, rphf_recorded, set_up_by_its_bytes, syllables_set_up, torn_pairs, with_form_masks, with_forms_flagged, with_instead, with_pref_recorded, with_rphf, with_rphf_recorded}
 
 -- a glyph whose fields are all set
 abbrev full : hb_glyph_info_t
@@ -89,6 +91,30 @@ between : mask_between four false false ∷ mask_between four false true ∷ mas
     ∷ mask_between four true false ∷ all_forms four ∷ [] ≡ 0x10 ∷ 0x20 ∷ 0x40 ∷ 0x80 ∷ 0xF0 ∷ []
 between = refl
 
+-- where a break changes a mask: between all that join, with four masks; with one for the last form alone, between the
+-- first two of three it doesn't; with none nowhere
+abbrev last_only : FormMasks
+last_only = record no_forms { fina = 0x80 }
+
+torn : map (λ masks. is_torn masks false false ∷ is_torn masks false true ∷ is_torn masks true false ∷ is_torn masks true true ∷ [])
+    (four ∷ last_only ∷ no_forms ∷ []) ≡ (true ∷ true ∷ true ∷ true ∷ []) ∷ (true ∷ false ∷ true ∷ true ∷ [])
+    ∷ (false ∷ false ∷ false ∷ false ∷ []) ∷ []
+torn = refl
+
+-- the stretches, over both syllables, and over none of kind 8
+abbrev pairs_of : FormMasks → List ℕ → List (ℕ × ℕ)
+pairs_of masks bytes = torn_pairs masks false 0 (syllables (map of_byte bytes))
+
+pairs : pairs_of four (0x12 ∷ 0x12 ∷ 0x22 ∷ 0x38 ∷ 0x42 ∷ 0x52 ∷ 0x52 ∷ 0x62 ∷ [])
+    ≡ (0, 3) ∷ (4, 7) ∷ (5, 8) ∷ []
+pairs = refl
+
+pairs_of_last : pairs_of last_only (0x12 ∷ 0x22 ∷ 0x32 ∷ []) ≡ (1, 3) ∷ []
+pairs_of_last = refl
+
+pair_of_none : pairs_of no_forms (0x12 ∷ 0x22 ∷ []) ∷ pairs_of four (0x12 ∷ 0x12 ∷ []) ∷ pairs_of four [] ∷ [] ≡ [] ∷ [] ∷ [] ∷ []
+pair_of_none = refl
+
 -- the masks in a map: 0 where there is no feature, and where it holds for the whole text
 abbrev feature : String → ℕ → feature_map_t
 feature tag mask = record { tag = record { 0 = codes tag }; mask = mask; stage = 0 }
@@ -144,6 +170,19 @@ set_up_masks tag =
 
 set_up : set_up_masks "Bali" ≡ (0x120, 0x12) ∷ (0x123, 0x12) ∷ (0x123, 0x12) ∷ (0x23, 0x12) ∷ (0x180, 0x27) ∷ []
 set_up = refl
+
+-- with Sound the pair too, where letters don't join
+abbrev sound_masks : String → List (ℕ × ℕ)
+sound_masks tag =
+    let kept = Universal (universal_plan starts.AsCode breaks.Sound (script tag) font) in
+    map (λ g. (g.mask, g.syllable))
+    (with_forms_flagged breaks.Sound kept font (syllables_set_up kept font two_spans five)).glyphs
+
+sound_set_up : sound_masks "Bali" ≡ (0x120, 0x12) ∷ (0x123, 0x12) ∷ (0x123, 0x12) ∷ (0x23, 0x12) ∷ (0x183, 0x27) ∷ []
+sound_set_up = refl
+
+sound_joining : sound_masks "Mong" ≡ (0x100, 0x12) ∷ (0x103, 0x12) ∷ (0x103, 0x12) ∷ (3, 0x12) ∷ (0x100, 0x27) ∷ []
+sound_joining = refl
 
 set_up_joining : set_up_masks "Mong" ≡ (0x100, 0x12) ∷ (0x103, 0x12) ∷ (0x103, 0x12) ∷ (3, 0x12) ∷ (0x100, 0x27) ∷ []
 set_up_joining = refl
@@ -249,6 +288,18 @@ mongolian before cs =
 selectors : mongolian [] (0x1820 ∷ 0x180B ∷ 0x1820 ∷ []) ∷ mongolian (0x1820 ∷ []) (0x180B ∷ 0x1820 ∷ []) ∷ []
     ≡ (6 ∷ 6 ∷ 1 ∷ []) ∷ (7 ∷ 1 ∷ []) ∷ []
 selectors = refl
+
+-- a mask without what Sound flags by forms
+flagless : flagless_for None breaks.AsCode 0xFF ∷ flagless_for None breaks.Sound 0xFF ∷ flagless_for (Some (arabic_plan starts.AsCode breaks.Sound font)) breaks.Sound 0xFF ∷ []
+    ≡ 0xFF ∷ 0xF8 ∷ 0xFF ∷ []
+flagless = refl
+
+-- the choice of the code flags nothing; where clusters fall, Sound flags the first of two
+abbrev two_falling : BreakFlags → List ℕ
+two_falling choice = map (λ g. g.mask) (forms_flagged None choice font (record (of_byte 0x12) { cluster = 1 } ∷ of_byte 0x22 ∷ []))
+
+falling : two_falling breaks.AsCode ∷ two_falling breaks.Sound ∷ [] ≡ (0 ∷ 0 ∷ []) ∷ (3 ∷ 0 ∷ []) ∷ []
+falling = refl
 
 -- a glyph without the masks of forms; with a plan of Arabic it stays
 formless : (formless_for None (map_of 0x40 (feature "fina" 0x80 ∷ feature "isol" 0x10 ∷ feature "medi" 0x40 ∷ []))

@@ -86,7 +86,7 @@ rphf_next mask g new false rest bits continues =
     ∙ ap (λ xs. new ∷ xs) (take-append-drop n rest))
 
 -- whether the first syllable joins is told by the first glyph
-first_joins-text : (gs : List hb_glyph_info_t) → first_joins (syllables gs) ≡ joins_runs gs
+pub first_joins-text : (gs : List hb_glyph_info_t) → first_joins (syllables gs) ≡ joins_runs gs
 first_joins-text [] = refl
 first_joins-text (g ∷ gs) = ap first_joins (syllables_are_runs g gs)
 

@@ -1,6 +1,6 @@
--- The set-up of syllables in the universal shaper cuts between two spans, masks of forms apart.
-use Rattle.std.proofs.Common.{ℕ, suc, if◌then◌else◌, ◌+◌, ◌-◌, ◌<◌, ◌≤◌, ◌≡◌, ◌==◌, ◌^◌, min, bit_and, bit_or, Bool, true, false, inl, inr, List, [], ◌∷◌, ◌++◌, map, length, take, drop, Option, None, Some, refl, sym, ◌∙◌, ap, subst, arith, length-append}
-use Rattle.std.specs.Prelude.{All}
+-- The set-up of syllables in the universal shaper cuts between two spans, masks of forms apart, and the flags by them.
+use Rattle.std.proofs.Common.{ℕ, suc, if◌then◌else◌, ◌+◌, ◌-◌, ◌%◌, ◌/◌, ◌<◌, ◌≤◌, ◌≡◌, ◌==◌, ◌^◌, ◌||◌, min, bit_and, bit_or, Bool, true, false, inl, inr, List, [], ◌∷◌, ◌++◌, map, length, take, drop, Option, None, Some, refl, sym, ◌∙◌, ap, subst, arith, length-append}
+use Rattle.std.specs.Prelude.{All, slice_index}
 use Rattle.std.specs.Int.{bit_at}
 use Rattle.std.specs.List.{flat_map}
 use mir.Syntax.{w32}
@@ -9,29 +9,35 @@ use Rattle.std.proofs.lemmas.List.{length-map, map-append, take-map, drop-map, t
 use Rattle.std.proofs.lemmas.List.Concat.{flat_map-append}
 use Rattle.std.proofs.lemmas.List.Elements.{All-append, All-drop, All-map, All-take}
 use Rattle.std.proofs.lemmas.Simd.{map-map}
-use Rattle.std.proofs.lemmas.Nat.{and_or_apart, and_le_r}
+use Rattle.std.proofs.lemmas.Nat.{and_mod, and_or_apart, and_le_r, and_shr}
 use Rattle.std.proofs.lemmas.Nat.Bits.{bit_at-lt, bit_at-zero, bit_at_above, bit_at_and, bit_at_not, bit_at_or, same_from_bits}
 use Rattle.shapers_buffer.specs.declared.buffer.glyph.hb_glyph_info_t.{hb_glyph_info_t}
 use Rattle.shapers_buffer.specs.declared.buffer.syllables.Span.{Span}
 use Rattle.shapers_buffer.specs.Buffer.{Buffer}
-use Rattle.shapers_buffer.specs.Glyph.{clusters}
+use Rattle.shapers_buffer.specs.Glyph.{clusters, without_flags}
 use Rattle.shapers_buffer.specs.GlyphFlags.{with_bits}
-use Rattle.shapers_buffer.specs.Syllables.{syllables}
+use Rattle.shapers_buffer.specs.Syllables.{spans_cover, syllables}
 use Rattle.shapers_buffer.proofs.MappedLists.{map-seen}
 use Rattle.shapers_syllabic.specs.declared.ot_shaper_syllabic.kinds.use_syllable.TheConstants.{BROKEN_CLUSTER}
 use Rattle.shapers_universal.specs.declared.ot_shaper_use.category.TheConstants.{R}
 use Rattle.shapers_base.specs.Map.{Map}
 use Rattle.shapers_base.specs.declared.plan.PlanData.{PlanData}
 use Rattle.shapers_base.specs.declared.plan.arabic.arabic_shape_plan_t.{arabic_shape_plan_t}
-use Rattle.shapers_syllabic.specs.Borders.{MeetAtBorder, spans_set_up, unnumbered}
+use Rattle.shapers_base.specs.declared.plan.breaks.BreakFlags.{BreakFlags}
+use Rattle.shapers_base.specs.declared.plan.breaks.BreakFlags.TheVariants.{AsCode, Sound}
+use Rattle.shapers_clusters.proofs.FlagCalls.{without_flags-or}
+use Rattle.shapers_syllabic.specs.Borders.{MeetAtBorder, SameButSerials, spans_set_up, unnumbered}
+use Rattle.shapers_syllabic.specs.ReorderingLaws.{with_mask_by}
 use Rattle.shapers_syllabic.proofs.CircleLaws.{joined-syllables}
 use Rattle.shapers_syllabic.proofs.Borders.{OfByte, SameEnds, border_by, ends-kept, syllables-append, syllables-mapped, syllables_cut}
+use Rattle.shapers_syllabic.proofs.HiddenCuts.{same-by}
 use Rattle.shapers_syllabic.proofs.Serials.{KeepsSame, pieces_same}
 use Rattle.shapers_syllabic.proofs.SpanCuts.{spans_cut}
 use Rattle.shapers_universal.specs.PlanData.{arabic_of, rphf_of}
-use Rattle.shapers_universal.specs.UniversalCuts.{UniversalSetUpCutsAtSpans, formless_for}
-use Rattle.shapers_universal.specs.UniversalSyllables.{all_forms, first_joins, form_masks, formed, in_forms, joins_runs, mask_between, rphf_len, syllables_set_up, with_forms_for, with_instead, with_rphf, with_syllable_masks}
+use Rattle.shapers_universal.specs.UniversalCuts.{UniversalSetUpCutsAtSpans, cut_view, flagless_for, formless_for}
+use Rattle.shapers_universal.specs.UniversalSyllables.{all_forms, first_joins, form_masks, formed, forms_flagged, in_forms, joins_runs, mask_between, rphf_len, syllables_set_up, with_forms_flagged, with_forms_for, with_instead, with_rphf, with_syllable_masks}
 use Rattle.shapers_universal.specs.declared.ot_shaper_use.forms.FormMasks.{FormMasks}
+use Rattle.shapers_universal.proofs.TornPairs.{map-forms_flagged}
 
 -- bits among those that are hidden don't show
 bit_hidden : (y bits i : ℕ) → bit_at y i ≤ bit_at bits i → bits < 2 ^ 32 → bit_at (bit_and y (0xFFFFFFFF - bits)) i
@@ -231,10 +237,25 @@ clusters-masks kept m gs =
     ∙ clusters-flat f (clusters-rphf (rphf_of kept)) (syllables gs)
     ∙ ap clusters (joined-syllables gs)
 
-pub universal_set_up_cuts : (kept : PlanData) (m : Map) (spans : List Span) (old : Buffer)
-    → All (λ span. span.kind ≤ 15) spans
-    → UniversalSetUpCutsAtSpans kept m spans old (syllables_set_up kept m spans old)
-universal_set_up_cuts kept m spans old kinds ss ts gs hs whole text first second =
+-- the halves, before the choice flags anything: masks of forms apart
+pub record FormlessHalves (kept : PlanData) (m : Map) (ss ts : List Span) (gs hs : List hb_glyph_info_t) (old new :
+    Buffer) : Type 0 where
+  pub behind : List hb_glyph_info_t
+  pub parts : map (formless_for (arabic_of kept) m) new.glyphs
+      ≡ map (formless_for (arabic_of kept) m) (syllables_set_up kept m ss (record old { glyphs = gs })).glyphs ++ behind
+  pub renumbered : SameButSerials behind (map (formless_for (arabic_of kept) m)
+      (syllables_set_up kept m ts (record old { glyphs = hs })).glyphs)
+  pub border : MeetAtBorder (map (formless_for (arabic_of kept) m)
+      (syllables_set_up kept m ss (record old { glyphs = gs })).glyphs) behind
+  pub broken : new.broken
+      ≡ ((syllables_set_up kept m ss (record old { glyphs = gs })).broken
+      || (syllables_set_up kept m ts (record old { glyphs = hs })).broken)
+
+pub formless_cuts : (kept : PlanData) (m : Map) (spans : List Span) (old : Buffer)
+    → All (λ span. span.kind ≤ 15) spans → (ss ts : List Span) (gs hs : List hb_glyph_info_t) → spans ≡ ss ++ ts
+    → old.glyphs ≡ gs ++ hs → spans_cover (length gs) ss ≡ true → spans_cover (length hs) ts ≡ true
+    → FormlessHalves kept m ss ts gs hs old (syllables_set_up kept m spans old)
+formless_cuts kept m spans old kinds ss ts gs hs whole text first second =
     let plain = spans_cut spans BROKEN_CLUSTER old kinds ss ts gs hs whole text first second in
     let f = set_on (arabic_of kept) m (rphf_of kept) in
     let told = set_on_each (arabic_of kept) m (rphf_of kept) in
@@ -257,4 +278,79 @@ universal_set_up_cuts kept m spans old kinds ss ts gs hs whole text first second
           (border_by (flat_map f (syllables front)) (flat_map f (syllables plain.behind)) front plain.behind
           (ends front) (ends plain.behind) plain.border);
       broken = plain.broken;
+    }
+
+-- a mask without flags and without other bits
+pub flags-and : (a b : ℕ) → without_flags (bit_and a b) ≡ bit_and (without_flags a) b
+flags-and a b =
+    let x = bit_and a b in
+    let y = bit_and (without_flags a) b in
+    let zero : without_flags a % 8 ≡ 0 = omega arith in
+    let none : y % 8 ≡ 0 = and_mod (without_flags a) b 3 ∙ ap (λ n. bit_and n (b % 8)) zero in
+    let front : without_flags a / 8 ≡ a / 8 = omega arith in
+    let same : x / 8 ≡ y / 8 = and_shr a b 3 ∙ ap (λ n. bit_and n (b / 8)) (sym front)
+    ∙ sym (and_shr (without_flags a) b 3) in
+    omega arith
+
+-- what the choice flags doesn't show
+sound_hidden : (m : Map) (g : hb_glyph_info_t)
+    → with_mask_by (flagless_for None Sound) (formless_for None m (with_bits 3 g))
+    ≡ with_mask_by (flagless_for None Sound) (formless_for None m g)
+sound_hidden m g =
+    let k = 0xFFFFFFFF - all_forms (form_masks m) in
+    ap (λ n. let r : hb_glyph_info_t = record g { mask = n } in r) (flags-and (bit_or g.mask 3) k
+    ∙ ap (λ n. bit_and n k) (without_flags-or g.mask 3 refl) ∙ sym (flags-and g.mask k))
+
+flags_hidden : (arabic : Option arabic_shape_plan_t) (breaks : BreakFlags) (m : Map) (gs : List hb_glyph_info_t)
+    → map (λ g. with_mask_by (flagless_for arabic breaks) (formless_for arabic m g)) (forms_flagged arabic breaks m gs)
+    ≡ map (λ g. with_mask_by (flagless_for arabic breaks) (formless_for arabic m g)) gs
+flags_hidden (Some p) breaks m gs = refl
+flags_hidden None AsCode m gs = refl
+flags_hidden None Sound m gs = map-forms_flagged (λ g. with_mask_by (flagless_for None Sound) (formless_for None m g))
+    (sound_hidden m) None Sound m gs
+
+view_by : (breaks : BreakFlags) (kept : PlanData) (m : Map) (gs : List hb_glyph_info_t)
+    → map (cut_view breaks kept m) (forms_flagged (arabic_of kept) breaks m gs)
+    ≡ map (with_mask_by (flagless_for (arabic_of kept) breaks)) (map (formless_for (arabic_of kept) m) gs)
+view_by breaks kept m gs =
+    flags_hidden (arabic_of kept) breaks m gs
+    ∙ sym (map-map (with_mask_by (flagless_for (arabic_of kept) breaks)) (formless_for (arabic_of kept) m) gs)
+
+-- other masks leave a border
+border-by : (f : ℕ → ℕ) (gs hs : List hb_glyph_info_t) → MeetAtBorder gs hs
+    → MeetAtBorder (map (with_mask_by f) gs) (map (with_mask_by f) hs)
+border-by f gs hs border some more =
+    let syllable : hb_glyph_info_t → ℕ = λ g. g.syllable in
+    let long = length-map gs (with_mask_by f) in
+    let apart = border (omega (arith, some, long)) (omega (arith, more, length-map hs (with_mask_by f))) in
+    λ same. apart (
+    ap (λ n. slice_index (map syllable gs) (n - 1)) (sym long)
+    ∙ ap (λ bytes. slice_index bytes (length (map (with_mask_by f) gs) - 1))
+    (sym (map-map syllable (with_mask_by f) gs))
+    ∙ same
+    ∙ ap (λ bytes. slice_index bytes 0) (map-map syllable (with_mask_by f) hs)
+    )
+
+pub universal_set_up_cuts : (breaks : BreakFlags) (kept : PlanData) (m : Map) (spans : List Span) (old : Buffer)
+    → All (λ span. span.kind ≤ 15) spans
+    → UniversalSetUpCutsAtSpans breaks kept m spans old
+    (with_forms_flagged breaks kept m (syllables_set_up kept m spans old))
+universal_set_up_cuts breaks kept m spans old kinds ss ts gs hs whole text first second =
+    let cut = formless_cuts kept m spans old kinds ss ts gs hs whole text first second in
+    let f = flagless_for (arabic_of kept) breaks in
+    let hide : hb_glyph_info_t → hb_glyph_info_t = with_mask_by f in
+    let formless : hb_glyph_info_t → hb_glyph_info_t = formless_for (arabic_of kept) m in
+    let all = (syllables_set_up kept m spans old).glyphs in
+    let front = (syllables_set_up kept m ss (record old { glyphs = gs })).glyphs in
+    let back = (syllables_set_up kept m ts (record old { glyphs = hs })).glyphs in
+    let shown = view_by breaks kept m in
+    record {
+      behind = map hide cut.behind;
+      parts = shown all ∙ ap (map hide) cut.parts ∙ map-append hide (map formless front) cut.behind
+          ∙ ap (λ l. l ++ map hide cut.behind) (sym (shown front));
+      renumbered = subst (SameButSerials (map hide cut.behind)) (sym (shown back))
+          (same-by f cut.behind (map formless back) cut.renumbered);
+      border = subst (λ l. MeetAtBorder l (map hide cut.behind)) (sym (shown front))
+          (border-by f (map formless front) cut.behind cut.border);
+      broken = cut.broken;
     }

@@ -1,16 +1,23 @@
 -- The order of a syllable reads neither serials nor masks, so a set-up and a pause directly after
 -- it may be cut between two spans.
-use Rattle.std.proofs.Common.{ℕ, ◌-◌, ◌%◌, ◌/◌, ◌≡◌, bit_and, ◌++◌, map, Option, None, Some, refl, sym, ◌∙◌, ap, subst, arith}
-use Rattle.std.proofs.lemmas.Nat.{and_mod, and_shr}
+use Rattle.std.proofs.Common.{ℕ, ◌-◌, ◌≡◌, bit_and, List, [], ◌∷◌, ◌++◌, map, Option, None, Some, refl, sym, ◌∙◌, ap, subst, arith}
 use Rattle.shapers_buffer.specs.declared.buffer.glyph.hb_glyph_info_t.{hb_glyph_info_t}
-use Rattle.shapers_buffer.specs.Glyph.{clusters, without_flags}
+use Rattle.shapers_buffer.specs.declared.buffer.level.BufferClusterLevel.{BufferClusterLevel}
+use Rattle.shapers_buffer.specs.Buffer.{Buffer}
+use Rattle.shapers_buffer.specs.Glyph.{clusters, order_view, plain, without_flags}
 use Rattle.shapers_base.specs.Map.{Map}
 use Rattle.shapers_base.specs.declared.plan.arabic.arabic_shape_plan_t.{arabic_shape_plan_t}
+use Rattle.shapers_clusters.specs.Steps.{Step, joined_steps}
+use Rattle.shapers_clusters.proofs.FlagCalls.{without_flags-or}
+use Rattle.shapers_clusters.proofs.Merging.{without_flags-twice}
+use Rattle.shapers_syllabic.specs.declared.ot_shaper_syllabic.circles.DottedCircles.{DottedCircles}
 use Rattle.shapers_syllabic.specs.Borders.{MeetAtBorder, SameButSerials, spans_set_up, unnumbered}
+use Rattle.shapers_syllabic.specs.Circles.{circled}
+use Rattle.shapers_syllabic.specs.Reordering.{text_order, text_steps}
 use Rattle.shapers_syllabic.specs.ReorderingLaws.{paused_clusters, paused_order, with_mask_by}
 use Rattle.shapers_syllabic.specs.SpanCuts.{HalvesJoined}
 use Rattle.shapers_syllabic.specs.declared.ot_shaper_syllabic.kinds.use_syllable.TheConstants.{BROKEN_CLUSTER}
-use Rattle.shapers_syllabic.proofs.HiddenCuts.{MaskKeepsFlags, SetUpParts, joined_halves, paused_clusters_are}
+use Rattle.shapers_syllabic.proofs.HiddenCuts.{MaskKeepsFlags, SetUpParts, circled-by, clusters-by, joined_halves, paused_clusters_are}
 use Rattle.shapers_syllabic.proofs.LawsThen.{reads_by_view}
 use Rattle.shapers_syllabic.proofs.PauseCuts.{clusters-set_up}
 use Rattle.shapers_syllabic.proofs.Views.{KeepsKinds, masks_view, unnumbered_view}
@@ -18,8 +25,9 @@ use Rattle.shapers_universal.specs.PlanData.{arabic_of}
 use Rattle.shapers_universal.specs.Universal.{universal_order, universal_steps}
 use Rattle.shapers_universal.specs.UniversalCuts.{formless_for}
 use Rattle.shapers_universal.specs.UniversalLaws.{UniversalCutsBetweenSpans, UniversalReadsNoMasks, UniversalReadsNoSerials, set_up_by_spans}
-use Rattle.shapers_universal.specs.UniversalSyllables.{all_forms, form_masks, syllables_set_up}
-use Rattle.shapers_universal.proofs.UniversalCuts.{clusters-masks, universal_set_up_cuts}
+use Rattle.shapers_universal.specs.UniversalSyllables.{all_forms, form_masks, syllables_set_up, with_forms_flagged}
+use Rattle.shapers_universal.proofs.TornPairs.{map-forms_flagged}
+use Rattle.shapers_universal.proofs.UniversalCuts.{clusters-masks, flags-and, formless_cuts}
 use Rattle.shapers_universal.specs.Proved.UniversalView.{universal_laws, universal_order-seen, universal_steps-seen}
 
 pub universal_reads_no_serials : UniversalReadsNoSerials
@@ -44,30 +52,61 @@ formless_all : (arabic : Option arabic_shape_plan_t) (m : Map)
 formless_all None m = refl
 formless_all (Some p) m = refl
 
-flags-and : (a b : ℕ) → without_flags (bit_and a b) ≡ bit_and (without_flags a) b
-flags-and a b =
-    let x = bit_and a b in
-    let y = bit_and (without_flags a) b in
-    let zero : without_flags a % 8 ≡ 0 = omega arith in
-    let none : y % 8 ≡ 0 = and_mod (without_flags a) b 3 ∙ ap (λ n. bit_and n (b % 8)) zero in
-    let front : without_flags a / 8 ≡ a / 8 = omega arith in
-    let same : x / 8 ≡ y / 8 = and_shr a b 3 ∙ ap (λ n. bit_and n (b / 8)) (sym front)
-    ∙ sym (and_shr (without_flags a) b 3) in
-    omega arith
-
 keeps_flags : (arabic : Option arabic_shape_plan_t) (m : Map) → MaskKeepsFlags (without_forms arabic m)
 keeps_flags None m mask = flags-and mask (0xFFFFFFFF - all_forms (form_masks m))
 keeps_flags (Some p) m mask = refl
 
+-- glyph flags don't show in what a pause makes
+abbrev flagless : hb_glyph_info_t → hb_glyph_info_t
+flagless = with_mask_by without_flags
+
+view-flagless : (gs : List hb_glyph_info_t) → order_view (map flagless gs) ≡ order_view gs
+view-flagless [] = refl
+view-flagless (g ∷ gs) =
+    ap (λ n. let r : hb_glyph_info_t = record g { cluster = 0; mask = n } in r ∷ order_view (map flagless gs))
+    (without_flags-twice g.mask)
+    ∙ ap (λ l. plain g ∷ l) (view-flagless gs)
+
+opened_view : (circles : Option DottedCircles) (gs hs : List hb_glyph_info_t) → map flagless gs ≡ map flagless hs
+    → order_view (circled circles gs) ≡ order_view (circled circles hs)
+opened_view circles gs hs alike =
+    let told : (xs : List hb_glyph_info_t) → order_view (circled circles (map flagless xs)) ≡ order_view
+    (circled circles xs) = λ xs. ap order_view (circled-by without_flags circles xs) ∙ view-flagless (circled circles xs)
+    in
+    sym (told gs) ∙ ap (λ xs. order_view (circled circles xs)) alike ∙ told hs
+
+opened_clusters : (circles : Option DottedCircles) (gs hs : List hb_glyph_info_t) → map flagless gs ≡ map flagless hs
+    → clusters (circled circles gs) ≡ clusters (circled circles hs)
+opened_clusters circles gs hs alike =
+    let told : (xs : List hb_glyph_info_t) → clusters (circled circles (map flagless xs)) ≡ clusters (circled circles xs) =
+    λ xs. ap clusters (circled-by without_flags circles xs) ∙ clusters-by without_flags (circled circles xs) in
+    sym (told gs) ∙ ap (λ xs. clusters (circled circles xs)) alike ∙ told hs
+
+order_alike : (circles : Option DottedCircles) (meaning : List hb_glyph_info_t → List hb_glyph_info_t)
+    (gs hs : List hb_glyph_info_t) → map flagless gs ≡ map flagless hs → paused_order circles meaning gs
+    ≡ paused_order circles meaning hs
+order_alike circles meaning gs hs alike = ap (text_order meaning) (opened_view circles gs hs alike)
+
+clusters_alike : (circles : Option DottedCircles) (steps : List hb_glyph_info_t → List Step) (level : BufferClusterLevel)
+    (gs hs : List hb_glyph_info_t) → map flagless gs ≡ map flagless hs → paused_clusters circles steps level gs
+    ≡ paused_clusters circles steps level hs
+clusters_alike circles steps level gs hs alike =
+    ap (λ xs. joined_steps level (text_steps steps xs) (clusters (circled circles gs))) (opened_view circles gs hs alike)
+    ∙ ap (joined_steps level (text_steps steps (order_view (circled circles hs)))) (opened_clusters circles gs hs alike)
+
 pub universal_cuts_between_spans : UniversalCutsBetweenSpans
-universal_cuts_between_spans kept m circles spans old new kinds done ss ts gs hs xs ys split text first second one two =
+universal_cuts_between_spans breaks kept m circles spans old new kinds done ss ts gs hs xs ys split text first second one two =
     let f = without_forms (arabic_of kept) m in
     let set = set_up_by_spans kept m in
-    let cut = universal_set_up_cuts kept m spans old kinds ss ts gs hs split text first second in
+    let cut = formless_cuts kept m spans old kinds ss ts gs hs split text first second in
     let is = formless_all (arabic_of kept) m in
     let front = set ss gs in
     let back = set ts hs in
     let whole = set spans old.glyphs in
+    let flagged : Buffer = with_forms_flagged breaks kept m (syllables_set_up kept m spans old) in
+    let alike : map flagless flagged.glyphs ≡ map flagless whole =
+    map-forms_flagged flagless (λ g. ap (λ n. let r : hb_glyph_info_t = record g { mask = n } in r)
+    (without_flags-or g.mask 3 refl)) (arabic_of kept) breaks m whole in
     let parts : SetUpParts f gs hs whole front back = record {
       behind = cut.behind;
       parts = ap (λ (h : hb_glyph_info_t → hb_glyph_info_t). map h whole) (sym is) ∙ cut.parts
@@ -86,5 +125,7 @@ universal_cuts_between_spans kept m circles spans old new kinds done ss ts gs hs
     new.glyphs) (sym is)
     (joined_halves f (keeps_flags (arabic_of kept) m) circles universal_order universal_steps old.level universal_laws
     universal_reads_no_serials (read.meant f) (read.led f)
-    gs hs whole front back xs ys new.glyphs parts one two done.order
-    (paused_clusters_are circles universal_order universal_steps (syllables_set_up kept m spans old) new done))
+    gs hs whole front back xs ys new.glyphs parts one two (done.order ∙ order_alike circles universal_order flagged.glyphs
+    whole alike)
+    (paused_clusters_are circles universal_order universal_steps flagged new done
+    ∙ clusters_alike circles universal_steps old.level flagged.glyphs whole alike))

@@ -5,6 +5,7 @@ use Rattle.shapers_buffer.specs.declared.buffer.syllables.Span.{Span}
 use Rattle.shapers_buffer.specs.Buffer.{Buffer}
 use Rattle.shapers_base.specs.Map.{Map}
 use Rattle.shapers_base.specs.declared.plan.PlanData.{PlanData}
+use Rattle.shapers_base.specs.declared.plan.breaks.BreakFlags.{BreakFlags}
 use Rattle.shapers_syllabic.specs.declared.ot_shaper_syllabic.circles.DottedCircles.{DottedCircles}
 use Rattle.shapers_syllabic.specs.Borders.{unnumbered}
 use Rattle.shapers_syllabic.specs.Reordering.{PauseReordered}
@@ -14,7 +15,7 @@ use Rattle.shapers_syllabic.specs.Syllabic.{unsafe_spans}
 use Rattle.shapers_universal.specs.PlanData.{arabic_of}
 use Rattle.shapers_universal.specs.Universal.{universal_order, universal_steps}
 use Rattle.shapers_universal.specs.UniversalCuts.{formless_for}
-use Rattle.shapers_universal.specs.UniversalSyllables.{syllables_set_up, with_syllable_masks}
+use Rattle.shapers_universal.specs.UniversalSyllables.{syllables_set_up, with_forms_flagged, with_syllable_masks}
 
 -- the steps of a syllable take each of its places once and lead to its order
 abbrev pub UniversalReorderLaws : Type 0
@@ -44,10 +45,11 @@ without_serial_or_forms kept m g = unnumbered (formless_for (arabic_of kept) m g
 -- A set-up and a reordering pause directly after it may be cut between any two spans.
 abbrev pub UniversalCutsBetweenSpans : Type 0
 UniversalCutsBetweenSpans =
-    (kept : PlanData) (m : Map) (circles : Option DottedCircles) (spans : List Span)
-    (old new : Buffer) →
+    (breaks : BreakFlags) (kept : PlanData) (m : Map) (circles : Option DottedCircles)
+    (spans : List Span) (old new : Buffer) →
     All (λ span. span.kind ≤ 15) spans →
-    PauseReordered circles universal_order universal_steps (syllables_set_up kept m spans old) new →
+    PauseReordered circles universal_order universal_steps
+    (with_forms_flagged breaks kept m (syllables_set_up kept m spans old)) new →
     CutsBetweenSpans (without_serial_or_forms kept m) (set_up_by_spans kept m)
     (paused_order circles universal_order) (paused_clusters circles universal_steps old.level)
     spans old.glyphs new.glyphs

@@ -1,6 +1,6 @@
 -- What the universal shaper sets on syllables before the lookups, and what it records after some of
 -- them.
-use Rattle.std.specs.Prelude.{ℕ, ◌-◌, ◌==◌, bit_and, bit_or, min, length, Bool, true, false, not, ◌&&◌, List, [], ◌∷◌, ◌++◌, map, take, drop, Option, None, Some, codes, if◌then◌else◌}
+use Rattle.std.specs.Prelude.{ℕ, ◌+◌, ◌-◌, ◌==◌, bit_and, bit_or, min, length, Bool, true, false, not, ◌&&◌, ◌||◌, List, [], ◌∷◌, ◌++◌, map, take, drop, Option, None, Some, codes, if◌then◌else◌}
 use Rattle.std.specs.List.{flat_map, prefix_len}
 use Rattle.shapers_buffer.specs.declared.buffer.glyph.hb_glyph_info_t.{hb_glyph_info_t}
 use Rattle.shapers_buffer.specs.declared.buffer.syllables.Span.{Span}
@@ -8,8 +8,10 @@ use Rattle.shapers_base.specs.Map.{Map, mask_of}
 use Rattle.shapers_base.specs.Masks.{has_bits}
 use Rattle.shapers_base.specs.declared.plan.PlanData.{PlanData}
 use Rattle.shapers_base.specs.declared.plan.arabic.arabic_shape_plan_t.{arabic_shape_plan_t}
+use Rattle.shapers_base.specs.declared.plan.breaks.BreakFlags.{BreakFlags}
+use Rattle.shapers_base.specs.declared.plan.breaks.BreakFlags.TheVariants.{AsCode, Sound}
 use Rattle.shapers_buffer.specs.Buffer.{Buffer}
-use Rattle.shapers_buffer.specs.GlyphFlags.{with_bits}
+use Rattle.shapers_buffer.specs.GlyphFlags.{unsafe_all, with_bits}
 use Rattle.shapers_buffer.specs.Marks.{is_substituted}
 use Rattle.shapers_buffer.specs.Syllables.{kind_of, syllables, with_spans}
 use Rattle.shapers_syllabic.specs.Syllabic.{set_up_by_bytes, with_unsafe_syllables}
@@ -86,6 +88,41 @@ abbrev pub with_forms_for : Option arabic_shape_plan_t → Map → List hb_glyph
     List hb_glyph_info_t
 with_forms_for None m gs = with_form_masks (form_masks m) gs
 with_forms_for (Some p) m gs = gs
+
+-- whether a break between two neighbouring syllables of a run would change the mask of one, by
+-- whether a syllable of it stands before the first and whether one stands behind the second
+abbrev pub is_torn : FormMasks → Bool → Bool → Bool
+is_torn masks before behind =
+    not (mask_between masks before true == mask_between masks before false)
+    || not (mask_between masks true behind == mask_between masks false behind)
+
+-- the stretch over the syllable at place i and the next of these behind it, where a break between
+-- them would do so
+abbrev pub torn_pair : FormMasks → Bool → ℕ → List hb_glyph_info_t → List (List hb_glyph_info_t) →
+    List (ℕ × ℕ)
+torn_pair masks before i syl [] = []
+torn_pair masks before i syl (next ∷ syls) =
+    if joins_runs syl && (joins_runs next && is_torn masks before (first_joins syls)) then
+    (i, i + (length syl + length next)) ∷ []
+    else []
+
+-- so over any two neighbours of these syllables, of which the first is at place i
+abbrev pub torn_pairs : FormMasks → Bool → ℕ → List (List hb_glyph_info_t) → List (ℕ × ℕ)
+torn_pairs masks before i [] = []
+torn_pairs masks before i (syl ∷ syls) =
+    torn_pair masks before i syl syls ++ torn_pairs masks (joins_runs syl) (i + length syl) syls
+
+-- what the choice flags besides, where the plan has no plan of Arabic: with Sound no break between
+-- two syllables that would change the mask of one's form
+abbrev pub forms_flagged : Option arabic_shape_plan_t → BreakFlags → Map → List hb_glyph_info_t →
+    List hb_glyph_info_t
+forms_flagged (Some p) breaks m gs = gs
+forms_flagged None AsCode m gs = gs
+forms_flagged None Sound m gs = unsafe_all (torn_pairs (form_masks m) false 0 (syllables gs)) gs
+
+abbrev pub with_forms_flagged : BreakFlags → PlanData → Map → Buffer → Buffer
+with_forms_flagged breaks kept m b =
+    record b { glyphs = forms_flagged (arabic_of kept) breaks m b.glyphs }
 
 -- the text with the masks of rphf and of forms
 abbrev pub with_syllable_masks : PlanData → Map → List hb_glyph_info_t → List hb_glyph_info_t

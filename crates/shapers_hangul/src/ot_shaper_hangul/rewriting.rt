@@ -1,18 +1,21 @@
 //! The text rewritten, item after item.
 ghost use Rattle.std.specs.Prelude.{◌≡◌, ◌+◌, ◌-◌, ◌<◌, ◌≤◌, ◌++◌, ◌∷◌, [], true, false, drop, length, take, vec_capacity, Ok, OnOk, OnErr, IfOk, IfErr, IsOk};
 ghost use Rattle.shapers_buffer.specs.Glyph.{characters};
+ghost use Rattle.shapers_buffer.specs.GlyphFlags.{unsafe_all};
 ghost use Rattle.shapers_hangul.specs.HangulLaws.{AllKept};
 ghost use Rattle.shapers_hangul.specs.RewritingWalk.{rewritten_items, InTurn, change_output, changed_from};
 ghost use Rattle.shapers_buffer.specs.Refusals.{RefusesLength};
 ghost use Rattle.shapers_buffer.specs.declared.buffer.refusal.ShaperError.TheVariants.{TooLong};
-ghost use Rattle.shapers_hangul.specs.Hangul.{first_item, item_len, items_at, glyph_copies, outputs, Fit, all_joined, rewritten, allows_circles, is_kept, KeptBefore};
+ghost use Rattle.shapers_hangul.specs.Hangul.{first_item, item_len, items_at, items_flagged, glyph_copies, outputs, Fit, all_joined, rewritten, allows_circles, is_kept, whole_items, with_items_flagged, KeptBefore};
 
 use super::item::{Item, first_item, stays_alone};
 use bitflags::Flags;
 use shapers_base::buffer::{
     BufferClusterLevel, BufferFlags, GlyphRewriting, ShaperError, hb_buffer_t, hb_glyph_info_t,
+    unsafe_to_break_in,
 };
 use shapers_base::font::hb_font_t;
+use shapers_base::plan::BreakFlags;
 use std::alloc::Global;
 
 // The item at a place of the text.
@@ -143,6 +146,29 @@ fn measure<F: hb_font_t>(
     Ok(limit - room)
 }
 
+// Flags each item, its tone with it.
+#[inline]
+fn flag_items(cut: &[(usize, Item)], glyphs: &mut [hb_glyph_info_t])
+    requires { Fit (length glyphs.old) cut.now }
+    ensures { glyphs.new ≡ unsafe_all (whole_items cut.now) glyphs.old }
+{
+    for entry in cut {
+        unsafe_to_break_in(glyphs, entry.0, entry.0 + entry.1.len());
+    }
+}
+
+// Flags what the choice adds.
+#[inline]
+fn flag_breaks(breaks: BreakFlags, cut: &[(usize, Item)], glyphs: &mut [hb_glyph_info_t])
+    requires { Fit (length glyphs.old) cut.now }
+    ensures { glyphs.new ≡ items_flagged breaks cut.now glyphs.old }
+{
+    match breaks {
+        BreakFlags::AsCode => {}
+        BreakFlags::Sound => flag_items(cut, glyphs),
+    }
+}
+
 // Flags and merges what the items flag and merge, one after another.
 #[inline]
 fn join_items(cut: &[(usize, Item)], level: BufferClusterLevel, glyphs: &mut [hb_glyph_info_t])
@@ -216,22 +242,25 @@ fn write_changes(cut: &[(usize, Item)], glyphs: &[hb_glyph_info_t], list: &mut V
 // What rewrites a text: the items that change it.
 #[derive(Drop)]
 struct Rewriting<'a> {
+    breaks: BreakFlags,
     cut: &'a [(usize, Item)],
     level: BufferClusterLevel,
 }
 
 impl<'a> GlyphRewriting for Rewriting<'a> {
     ghost use Rattle.std.specs.Prelude.{length};
-    ghost use Rattle.shapers_hangul.specs.Hangul.{Fit, all_joined};
+    ghost use Rattle.shapers_hangul.specs.Hangul.{Fit, all_joined, items_flagged};
     ghost use Rattle.shapers_hangul.specs.RewritingWalk.{InTurn, changed_from};
 
     ghost can_rewrite = { λ r gs. Fit (length gs) r.cut.now × InTurn (length gs) 0 r.cut.now };
 
-    ghost rewrites = { λ r gs. changed_from 0 r.cut.now (all_joined r.level r.cut.now gs) };
+    ghost rewrites = { λ r gs. let flagged = items_flagged r.breaks r.cut.now gs in
+        changed_from 0 r.cut.now (all_joined r.level r.cut.now flagged) };
 
-    // What the items flag and merge, on the old places, and then what they become.
+    // What is flagged and merged, on the old places, and then what the items become.
     #[inline]
     fn rewrite(&self, glyphs: &mut [hb_glyph_info_t], to: &mut Vec<hb_glyph_info_t>) {
+        flag_breaks(self.breaks, self.cut, glyphs);
         join_items(self.cut, self.level, glyphs);
         write_changes(self.cut, glyphs, to);
     }
@@ -250,11 +279,13 @@ fn wants_circles(buffer: &hb_buffer_t) -> bool
 /// Rewrites the text, unless every character stays as it is, and returns whether it did.
 #[inline]
 pub(super) fn rewrite_changes<F: hb_font_t>(
+    breaks: BreakFlags,
     face: &F,
     buffer: &mut hb_buffer_t,
 ) -> Result<bool, ShaperError>
     requires { buffer.old.positions ≡ [] }
-    ensures ok { OnOk result (buffer.new ≡ rewritten (F.font face.now) buffer.old) }
+    ensures ok { let flagged = with_items_flagged breaks (F.font face.now) buffer.old in
+        OnOk result (buffer.new ≡ rewritten (F.font face.now) flagged) }
     ensures kept { AllKept (F.font face.now) buffer.old → result ≡ Ok false }
     ensures changes { result ≡ Ok false → AllKept (F.font face.now) buffer.old }
     ensures unchanged { result ≡ Ok false → buffer.new ≡ buffer.old }
@@ -267,15 +298,20 @@ pub(super) fn rewrite_changes<F: hb_font_t>(
     if kept_len(face, circles, glyphs) == buffer.len() {
         return Ok(false);
     }
-    rewrite(face, buffer)?;
+    rewrite(breaks, face, buffer)?;
     Ok(true)
 }
 
 // Rewrites the text.
 #[inline]
-pub(super) fn rewrite<F: hb_font_t>(face: &F, buffer: &mut hb_buffer_t) -> Result<(), ShaperError>
+pub(super) fn rewrite<F: hb_font_t>(
+    breaks: BreakFlags,
+    face: &F,
+    buffer: &mut hb_buffer_t,
+) -> Result<(), ShaperError>
     requires { buffer.old.positions ≡ [] }
-    ensures ok { OnOk result (buffer.new ≡ rewritten (F.font face.now) buffer.old) }
+    ensures ok { let flagged = with_items_flagged breaks (F.font face.now) buffer.old in
+        OnOk result (buffer.new ≡ rewritten (F.font face.now) flagged) }
     ensures length { let text = (rewritten (F.font face.now) buffer.old).glyphs in
         RefusesLength buffer.old.max_len (length text) result }
     ensures err { OnErr result (buffer.new ≡ buffer.old) }
@@ -294,6 +330,7 @@ pub(super) fn rewrite<F: hb_font_t>(face: &F, buffer: &mut hb_buffer_t) -> Resul
         return Err(ShaperError::Memory);
     }
     let rewriting = Rewriting {
+        breaks,
         cut: cut.items.as_slice(),
         level,
     };

@@ -2,12 +2,14 @@
 //! would touch are shifted, and a descender that is in the way is left out. (The Thai note.)
 ghost use Rattle.std.specs.Prelude.{◌≡◌, ◌+◌, ◌-◌, ◌^◌, ◌<◌, ◌≤◌, ◌==◌, [], length, find};
 ghost use Rattle.shapers_base.specs.Font.{has_nominal};
-ghost use Rattle.shapers_buffer.specs.GlyphFlags.{unsafe_inside};
-ghost use Rattle.shapers_text.specs.ThaiForms.{action_of, mappings_of, shaped_by, pua_shaped};
+ghost use Rattle.shapers_buffer.specs.Glyph.{characters};
+ghost use Rattle.shapers_buffer.specs.GlyphFlags.{unsafe_all, unsafe_inside};
+ghost use Rattle.shapers_text.specs.ThaiForms.{action_of, is_thai_mark, mappings_of, marks_flagged, shaped_by, pua_shaped, whole_mark_stretches};
 ghost use Rattle.shapers_text.specs.ThaiWalk.{types_of, base_after, form_set, after_action, after_character};
 
 use shapers_base::buffer::{GlyphWalk, hb_buffer_t, hb_glyph_info_t, unsafe_to_break_in};
 use shapers_base::font::hb_font_t;
+use shapers_base::plan::BreakFlags;
 use std::mem;
 
 /// The type of a consonant.
@@ -297,36 +299,75 @@ fn shape_marks<F: hb_font_t>(face: &F, glyphs: &mut [hb_glyph_info_t])
     flag_marks(glyphs, base.place, end);
 }
 
+// Whether a character is a mark.
+#[inline]
+fn is_mark(u: u32) -> bool
+    ensures { result ≡ is_thai_mark u }
+{
+    let Types(_, mark) = types_of(u);
+    !matches!(mark, Mark::NotMark)
+}
+
+// Flags each base with all its marks.
+fn flag_whole_marks(glyphs: &mut [hb_glyph_info_t])
+    ensures { glyphs.new ≡ unsafe_all (whole_mark_stretches (characters glyphs.old)) glyphs.old }
+{
+    let mut base = 0;
+    for i in 0..glyphs.len() {
+        if !is_mark(glyphs[i].glyph_id) {
+            unsafe_to_break_in(glyphs, base, i);
+            base = i;
+        }
+    }
+    let end = glyphs.len();
+    unsafe_to_break_in(glyphs, base, end);
+}
+
+// Flags what the choice adds, in glyphs without their forms.
+#[inline]
+fn flag_breaks(breaks: BreakFlags, glyphs: &mut [hb_glyph_info_t])
+    ensures { glyphs.new ≡ marks_flagged breaks glyphs.old }
+{
+    match breaks {
+        BreakFlags::AsCode => {}
+        BreakFlags::Sound => flag_whole_marks(glyphs),
+    }
+}
+
 // The walk over a buffer.
 #[derive(Clone, Copy)]
 struct PuaShaping<'a, F> {
+    breaks: BreakFlags,
     face: &'a F,
 }
 
 impl<'a, F: hb_font_t> GlyphWalk for PuaShaping<'a, F> {
     ghost use Rattle.std.specs.Prelude.{⊤, ◌≡◌};
     ghost use Rattle.shapers_base.specs.Font.{has_nominal};
-    ghost use Rattle.shapers_text.specs.ThaiForms.{pua_shaped};
+    ghost use Rattle.shapers_text.specs.ThaiForms.{marks_flagged, pua_shaped};
 
     ghost can_walk = { λ walk glyphs. ⊤ };
 
     ghost walks = { λ walk _ old new.
-        new ≡ pua_shaped (has_nominal (F.font walk.face.now)) old };
+        new ≡ pua_shaped (has_nominal (F.font walk.face.now)) (marks_flagged walk.breaks old) };
 
     #[inline]
     fn walk(&mut self, glyphs: &mut [hb_glyph_info_t]) {
+        flag_breaks(self.breaks, glyphs);
         shape_marks(self.face, glyphs);
     }
 }
 
-/// Gives the marks of a Thai text, and bases with descenders, their private use forms.
-pub fn do_pua_shaping<F: hb_font_t>(face: &F, buffer: &mut hb_buffer_t)
+/// Gives the marks of a Thai text, and bases with descenders, their private use forms, and flags
+/// what the choice adds.
+pub fn do_pua_shaping<F: hb_font_t>(breaks: BreakFlags, face: &F, buffer: &mut hb_buffer_t)
     ensures { let has = has_nominal (F.font face.now) in
-        buffer.new ≡ record buffer.old { glyphs = pua_shaped has buffer.old.glyphs } }
+        let flagged = marks_flagged breaks buffer.old.glyphs in
+        buffer.new ≡ record buffer.old { glyphs = pua_shaped has flagged } }
 {
     // (a font that panics leaves the empty buffer, and no text with some of the forms)
     let empty = hb_buffer_t::new(buffer.alloc(), buffer.max_len());
     let mut text = mem::replace(buffer, empty);
-    text.walk(&mut PuaShaping { face });
+    text.walk(&mut PuaShaping { breaks, face });
     *buffer = text;
 }

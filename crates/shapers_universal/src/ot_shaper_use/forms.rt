@@ -1,12 +1,16 @@
 //! The forms of syllables by their places in runs.
-ghost use Rattle.std.specs.Prelude.{◌≡◌, ◌%◌, ◌<◌, ◌≤◌, length, map, drop, false};
-ghost use Rattle.shapers_buffer.specs.Clusters.{with_stretch};
+ghost use Rattle.std.specs.Prelude.{◌≡◌, ◌%◌, ◌<◌, ◌≤◌, ◌&&◌, length, map, drop, false, None};
+ghost use Rattle.shapers_buffer.specs.Clusters.{stretch_of, with_stretch};
+ghost use Rattle.shapers_buffer.specs.GlyphFlags.{unsafe_all};
 ghost use Rattle.shapers_buffer.specs.Syllables.{syllables};
 ghost use Rattle.shapers_clusters.specs.FlagLaw.{OnlyFlagsAdded};
-ghost use Rattle.shapers_universal.specs.UniversalSyllables.{all_forms, form_mask, form_masks, formed, in_forms, joins_runs, mask_between, with_form_masks, with_instead};
+ghost use Rattle.shapers_universal.specs.UniversalSyllables.{all_forms, form_mask, form_masks, formed, forms_flagged, in_forms, is_torn, joins_runs, mask_between, torn_pair, torn_pairs, with_form_masks, with_instead};
 
-use shapers_base::buffer::{GlyphWalk, first_syllable_len, hb_buffer_t, hb_glyph_info_t, hb_tag_t};
+use shapers_base::buffer::{
+    GlyphWalk, first_syllable_len, hb_buffer_t, hb_glyph_info_t, hb_tag_t, unsafe_to_break_in,
+};
 use shapers_base::map::hb_ot_map_t;
+use shapers_base::plan::BreakFlags;
 use shapers_syllabic::ot_shaper_syllabic::use_syllable::{HIEROGLYPH_CLUSTER, NON_CLUSTER};
 
 // The masks of the four forms.
@@ -29,6 +33,21 @@ pub(super) fn set_forms(map: &hb_ot_map_t, buffer: &mut hb_buffer_t)
     let mut masks = FormMasks::of(map);
     if masks.all() != 0 {
         buffer.walk(&mut masks);
+    }
+}
+
+// Flags what the choice adds, in a text whose syllables have their forms: with Sound any two
+// neighbours of a run between which a break would change a mask.
+#[inline]
+pub(super) fn flag_forms(breaks: BreakFlags, map: &hb_ot_map_t, buffer: &mut hb_buffer_t)
+    ensures { let flagged = forms_flagged None breaks map.now buffer.old.glyphs in
+        buffer.new ≡ record buffer.old { glyphs = flagged } }
+{
+    match breaks {
+        BreakFlags::AsCode => {}
+        BreakFlags::Sound => buffer.walk(&mut TornPairs {
+            masks: FormMasks::of(map),
+        }),
     }
 }
 
@@ -97,6 +116,67 @@ impl FormMasks {
         self.set(&mut glyphs[s..e], before, behind);
     }
 
+    // Whether a break between two syllables of a run would change the mask of one, by whether one
+    // of it stands before them and whether one stands behind.
+    #[inline]
+    fn is_torn(self, before: bool, behind: bool) -> bool
+        ensures { result ≡ is_torn self before behind }
+    {
+        self.between(before, true) != self.between(before, false)
+            || self.between(true, behind) != self.between(false, behind)
+    }
+
+    // Whether a break between a syllable and the one that opens the rest would do so.
+    #[inline]
+    fn tears(
+        self,
+        syllable: &[hb_glyph_info_t],
+        rest: &[hb_glyph_info_t],
+        before: bool,
+        behind: bool,
+    ) -> bool
+        ensures { let torn = is_torn self before behind in
+            result ≡ (joins_runs syllable.now && (joins_runs rest.now && torn)) }
+    {
+        joins_runs(syllable) && joins_runs(rest) && self.is_torn(before, behind)
+    }
+
+    // Flags the syllable from `s` to `e` and the next one, where a break between them would do so.
+    #[inline]
+    fn flag_pair(self, glyphs: &mut [hb_glyph_info_t], s: usize, e: usize, before: bool)
+        requires in_order { s ≤ e }
+        requires in_range { e ≤ length glyphs.old }
+        ensures { let behind = syllables (drop e glyphs.old) in
+            let stretches = torn_pair self before s (stretch_of s e glyphs.old) behind in
+            glyphs.new ≡ unsafe_all stretches glyphs.old }
+    {
+        if e == glyphs.len() {
+            return;
+        }
+        let end = e + first_syllable_len(&glyphs[e..]);
+        let behind = joins_runs(&glyphs[end..]);
+        if self.tears(&glyphs[s..e], &glyphs[e..], before, behind) {
+            unsafe_to_break_in(glyphs, s, end);
+        }
+    }
+
+    // Flags each such pair.
+    #[inline]
+    fn flag_pairs(self, glyphs: &mut [hb_glyph_info_t])
+        ensures { let stretches = torn_pairs self false 0 (syllables glyphs.old) in
+            glyphs.new ≡ unsafe_all stretches glyphs.old }
+    {
+        let mut start = 0;
+        let mut before = false;
+        while start < glyphs.len() {
+            let end = start + first_syllable_len(&glyphs[start..]);
+            let joins = joins_runs(&glyphs[start..end]);
+            self.flag_pair(glyphs, start, end, before);
+            before = joins;
+            start = end;
+        }
+    }
+
     // Gives a syllable the mask of its form.
     #[inline]
     fn set(self, syllable: &mut [hb_glyph_info_t], before: bool, behind: bool)
@@ -120,6 +200,29 @@ impl GlyphWalk for FormMasks {
     #[inline]
     fn walk(&mut self, glyphs: &mut [hb_glyph_info_t]) {
         self.set_in(glyphs);
+    }
+}
+
+// The walk that flags pairs by the masks of forms.
+#[derive(Clone, Copy)]
+struct TornPairs {
+    masks: FormMasks,
+}
+
+impl GlyphWalk for TornPairs {
+    ghost use Rattle.std.specs.Prelude.{◌≡◌, ⊤, false};
+    ghost use Rattle.shapers_buffer.specs.GlyphFlags.{unsafe_all};
+    ghost use Rattle.shapers_buffer.specs.Syllables.{syllables};
+    ghost use Rattle.shapers_universal.specs.UniversalSyllables.{torn_pairs};
+
+    ghost can_walk = { λ _ _. ⊤ };
+
+    ghost walks = { λ walk _ old new.
+        new ≡ unsafe_all (torn_pairs walk.masks false 0 (syllables old)) old };
+
+    #[inline]
+    fn walk(&mut self, glyphs: &mut [hb_glyph_info_t]) {
+        self.masks.flag_pairs(glyphs);
     }
 }
 

@@ -8,10 +8,10 @@ ghost use Rattle.shapers_buffer.specs.Syllables.{spans_refusal, syllables};
 ghost use Rattle.shapers_clusters.specs.FlagLaw.{OnlyFlagsAdded};
 ghost use Rattle.shapers_universal.specs.PlanData.{is_universal};
 ghost use Rattle.shapers_universal.specs.UniversalCuts.{UniversalSetUpCutsAtSpans};
-ghost use Rattle.shapers_universal.specs.UniversalSyllables.{rphf_len, set_up_by_its_bytes, syllables_set_up, with_rphf, with_syllable_masks};
+ghost use Rattle.shapers_universal.specs.UniversalSyllables.{rphf_len, set_up_by_its_bytes, syllables_set_up, with_forms_flagged, with_rphf, with_syllable_masks};
 
 use super::category;
-use super::forms::set_forms;
+use super::forms::{flag_forms, set_forms};
 use super::syllable_walk::{EachSyllable, SyllableChange};
 use shapers_base::buffer::{ShaperError, Span, hb_buffer_t, hb_glyph_info_t};
 use shapers_base::plan::{PlanData, hb_ot_shape_plan_t};
@@ -20,7 +20,8 @@ use shapers_syllabic::ot_shaper_syllabic::{set_up_by_bytes, set_up_syllables};
 
 /// Cuts the text into the syllables of these spans and flags the inside of each as unsafe to break.
 /// Gives the mask of `rphf` to the first glyph of each syllable if it is a reph, else to its first
-/// three, and, where the plan has no plan of Arabic, the masks of forms by the places of syllables.
+/// three, and, where the plan has no plan of Arabic, the masks of forms by the places of syllables,
+/// with what the plan's `break_flags` flag by them.
 /// Refuses with `SpansDontCover` where a span is empty or the lengths don't add up to the buffer's.
 /// It takes no memory, leaves the clusters as they are and only adds glyph flags.
 ///
@@ -37,10 +38,13 @@ pub fn setup_syllables_use(
     requires kinds { All (λ span. span.kind ≤ 15) spans.now }
     ensures refusal { RefusesInput (spans_refusal spans.now buffer.old) result }
     ensures ok { let kept = plan.now.plan_data in
-        OnOk result (buffer.new ≡ syllables_set_up kept plan.now.ot_map spans.now buffer.old) }
-    ensures cut { let kept = plan.now.plan_data in
+        let set_up = syllables_set_up kept plan.now.ot_map spans.now buffer.old in
+        let flagged = with_forms_flagged plan.now.break_flags kept plan.now.ot_map set_up in
+        OnOk result (buffer.new ≡ flagged) }
+    ensures cut { let breaks = plan.now.break_flags in
+        let kept = plan.now.plan_data in
         OnOk result
-        (UniversalSetUpCutsAtSpans kept plan.now.ot_map spans.now buffer.old buffer.new) }
+        (UniversalSetUpCutsAtSpans breaks kept plan.now.ot_map spans.now buffer.old buffer.new) }
     ensures clusters { clusters buffer.new.glyphs ≡ clusters buffer.old.glyphs }
     ensures flags { OnOk result (OnlyFlagsAdded buffer.old.glyphs buffer.new.glyphs) }
     ensures err { OnErr result (buffer.new ≡ buffer.old) }
@@ -56,19 +60,21 @@ pub fn setup_syllables_use(
 pub fn setup_syllables_use_by_bytes(plan: &hb_ot_shape_plan_t, buffer: &mut hb_buffer_t)
     requires { is_universal plan.now.plan_data ≡ true }
     ensures { let kept = plan.now.plan_data in
-        buffer.new ≡ set_up_by_its_bytes kept plan.now.ot_map buffer.old }
+        let set_up = set_up_by_its_bytes kept plan.now.ot_map buffer.old in
+        buffer.new ≡ with_forms_flagged plan.now.break_flags kept plan.now.ot_map set_up }
 {
     set_up_by_bytes(BROKEN_CLUSTER, buffer);
     set_masks(plan, buffer);
 }
 
-// Gives each syllable its masks.
+// Gives each syllable its masks, and flags what the plan's choice adds.
 #[inline]
 fn set_masks(plan: &hb_ot_shape_plan_t, buffer: &mut hb_buffer_t)
     requires { is_universal plan.now.plan_data ≡ true }
     ensures masks { let kept = plan.now.plan_data in
         let masked = with_syllable_masks kept plan.now.ot_map buffer.old.glyphs in
-        buffer.new ≡ record buffer.old { glyphs = masked } }
+        let set_up = record buffer.old { glyphs = masked } in
+        buffer.new ≡ with_forms_flagged plan.now.break_flags kept plan.now.ot_map set_up }
     ensures flags { OnlyFlagsAdded buffer.old.glyphs buffer.new.glyphs }
 {
     match &plan.plan_data {
@@ -76,6 +82,7 @@ fn set_masks(plan: &hb_ot_shape_plan_t, buffer: &mut hb_buffer_t)
             set_rphf(universal_plan.rphf_mask, buffer);
             if universal_plan.arabic_plan.is_none() {
                 set_forms(&plan.ot_map, buffer);
+                flag_forms(plan.break_flags, &plan.ot_map, buffer);
             }
         }
         _ => unreachable!("the plan has no data of the universal shaper"),

@@ -11,7 +11,7 @@ use Rattle.shapers_text.proofs.ot_shaper_thai.preprocess_text.Goals as goal
 pub returns-then-wants_forms-clause-clusters : goal.returns-then-wants_forms-clause-clusters
 returns-then-wants_forms-clause-clusters g c =
     let b = c.args.buffer.now in
-    shaped_in_two (has_nominal (g.F.hb_font_t.font c.args.face.now)) b.level b.glyphs _ _
+    shaped_in_two c.args.plan.now.break_flags (has_nominal (g.F.hb_font_t.font c.args.face.now)) b.level b.glyphs _ _
     (ap (λ (x : Buffer). x.glyphs) c.in_ok-rewrite_sara_am.ensures.ok)
     (ap (λ (x : Buffer). x.glyphs) c.do_pua_shaping.ensures)
 
@@ -23,7 +23,7 @@ returns-else-wants_forms-clause-clusters g c =
 pub returns-then-wants_forms-clause-kept : goal.returns-then-wants_forms-clause-kept
 returns-then-wants_forms-clause-kept g c =
     let b = c.args.buffer.now in
-    shaped_kept (asks_for_forms c.args.plan.now) c.if-wants_forms.ensures
+    shaped_kept (asks_for_forms c.args.plan.now) c.if-wants_forms.ensures c.args.plan.now.break_flags
     (has_nominal (g.F.hb_font_t.font c.args.face.now)) b.level b.glyphs _ _
     (ap (λ (x : Buffer). x.glyphs) c.in_ok-rewrite_sara_am.ensures.ok)
     (ap (λ (x : Buffer). x.glyphs) c.do_pua_shaping.ensures)
@@ -37,7 +37,7 @@ returns-else-wants_forms-clause-kept g c =
 pub returns-then-wants_forms-clause-flags : goal.returns-then-wants_forms-clause-flags
 returns-then-wants_forms-clause-flags g c =
     let b = c.args.buffer.now in
-    shaped_flags (has_nominal (g.F.hb_font_t.font c.args.face.now)) b.level b.glyphs _ _
+    shaped_flags c.args.plan.now.break_flags (has_nominal (g.F.hb_font_t.font c.args.face.now)) b.level b.glyphs _ _
     (ap (λ (x : Buffer). x.glyphs) c.in_ok-rewrite_sara_am.ensures.ok)
     (ap (λ (x : Buffer). x.glyphs) c.do_pua_shaping.ensures)
 

@@ -1,6 +1,7 @@
 -- A text without SARA AM, where no forms are asked for.
 use Rattle.std.proofs.Common.{◌∙◌, ap, sym, refl, false, arith}
 use Rattle.shapers_base.specs.Font.{has_nominal}
+use Rattle.shapers_base.specs.declared.plan.breaks.BreakFlags.TheVariants.{AsCode}
 use Rattle.shapers_buffer.specs.Buffer.{Buffer}
 use Rattle.shapers_buffer.proofs.ListLaws.{count_from_none}
 use Rattle.shapers_text.specs.Thai.{is_sara_am}
@@ -17,7 +18,7 @@ returns-then-not-wants_forms-clause-ok g c =
     let none = count_from_none (λ g. is_sara_am g.glyph_id) b.glyphs (sym c.has_sara_am.ensures
     ∙ c.if-not-has_sara_am.true) in
     ap (λ gs. let r : Buffer = record b { glyphs = gs } in r)
-    (unchanged_plain (asks_for_forms c.args.plan.now) (has_nominal (g.F.hb_font_t.font c.args.face.now)) b.level
+    (unchanged_plain c.args.plan.now.break_flags (asks_for_forms c.args.plan.now) (has_nominal (g.F.hb_font_t.font c.args.face.now)) b.level
     b.glyphs (sym c.wants_forms.ensures ∙ c.if-not-wants_forms.true) none)
 
 pub returns-then-not-wants_forms-clause-length : goal.returns-then-not-wants_forms-clause-length
@@ -37,14 +38,14 @@ returns-then-not-wants_forms-clause-clusters g c =
     let b = c.args.buffer.now in
     let none = count_from_none (λ g. is_sara_am g.glyph_id) b.glyphs (sym c.has_sara_am.ensures
     ∙ c.if-not-has_sara_am.true) in
-    plain_in_two b.level b.glyphs b.glyphs (unchanged_plain false (λ _. false) b.level b.glyphs refl none)
+    plain_in_two b.level b.glyphs b.glyphs (unchanged_plain AsCode false (λ _. false) b.level b.glyphs refl none)
 
 pub returns-then-not-wants_forms-clause-flags : goal.returns-then-not-wants_forms-clause-flags
 returns-then-not-wants_forms-clause-flags g c =
     let b = c.args.buffer.now in
     let none = count_from_none (λ g. is_sara_am g.glyph_id) b.glyphs (sym c.has_sara_am.ensures
     ∙ c.if-not-has_sara_am.true) in
-    plain_flags b.level b.glyphs b.glyphs (unchanged_plain false (λ _. false) b.level b.glyphs refl none)
+    plain_flags b.level b.glyphs b.glyphs (unchanged_plain AsCode false (λ _. false) b.level b.glyphs refl none)
 
 pub returns-then-not-wants_forms-clause-kept : goal.returns-then-not-wants_forms-clause-kept
 returns-then-not-wants_forms-clause-kept g c =
@@ -52,4 +53,4 @@ returns-then-not-wants_forms-clause-kept g c =
     let none = count_from_none (λ g. is_sara_am g.glyph_id) b.glyphs (sym c.has_sara_am.ensures
     ∙ c.if-not-has_sara_am.true) in
     plain_kept (asks_for_forms c.args.plan.now) (sym (sym c.wants_forms.ensures ∙ c.if-not-wants_forms.true)) b.level
-    b.glyphs b.glyphs (unchanged_plain false (λ _. false) b.level b.glyphs refl none)
+    b.glyphs b.glyphs (unchanged_plain AsCode false (λ _. false) b.level b.glyphs refl none)

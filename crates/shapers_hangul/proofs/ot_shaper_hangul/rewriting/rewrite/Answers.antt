@@ -5,7 +5,7 @@ use Rattle.shapers_buffer.specs.Glyph.{characters}
 use Rattle.shapers_buffer.specs.Refusals.{RefusesLength}
 use Rattle.shapers_hangul.specs.Hangul.{glyph_copies, items_at, outputs, allows_circles, Fit}
 use Rattle.shapers_hangul.specs.RewritingWalk.{InTurn}
-use Rattle.shapers_hangul.proofs.Changes.{buffer_changed, changes_stand, replaced_by}
+use Rattle.shapers_hangul.proofs.Changes.{buffer_changed, changes_stand, length-flagged, replaced_by}
 use Rattle.shapers_hangul.proofs.KeptTexts.{never_goes}
 use Rattle.shapers_hangul.proofs.Outputs.{length_read, told_by_text}
 use Rattle.shapers_hangul.proofs.ot_shaper_hangul.rewriting.rewrite.Goals as goal
@@ -57,9 +57,10 @@ rewrite-requires-clause-length g c =
     let read = c.glyphs-glyphs.result.now in
     let kept = c.kept_len-kept.result in
     let cut = c.as_slice.result.now in
-    ap length (buffer_changed font b circles c.cluster_level-level.result read kept cut c.wants_circles-circles.ensures
+    ap length (buffer_changed c.args.breaks font b circles c.cluster_level-level.result read kept cut c.wants_circles-circles.ensures
     c.cluster_level-level.ensures c.glyphs-glyphs.ensures c.kept_len-kept.ensures.kept (c.as_slice.ensures.value
     ∙ c.in_ok-len.ensures.items c.if-not-cut.false))
+    ∙ length-flagged c.args.breaks font b
     ∙ length_read font (allows_circles b) b.level b.glyphs circles read kept c.wants_circles-circles.ensures
     c.glyphs-glyphs.ensures c.kept_len-kept.ensures.kept
     ∙ sym c.in_ok-len.ensures.exact
@@ -73,7 +74,7 @@ returns-clause-ok g c =
     let kept = c.kept_len-kept.result in
     let cut = c.as_slice.result.now in
     replaced_by b c.rewrite.new.self c.rewrite.result
-    (buffer_changed font b circles c.cluster_level-level.result read kept cut c.wants_circles-circles.ensures
+    (buffer_changed c.args.breaks font b circles c.cluster_level-level.result read kept cut c.wants_circles-circles.ensures
     c.cluster_level-level.ensures c.glyphs-glyphs.ensures c.kept_len-kept.ensures.kept (c.as_slice.ensures.value
     ∙ c.in_ok-len.ensures.items c.if-not-cut.false)) c.rewrite.ensures.ok
 
