@@ -30,7 +30,7 @@ use Rattle.rustybuzz_shapers.specs.Hooks.{Postprocessed}
 use Rattle.rustybuzz_shapers.specs.declared.shaper.hb_ot_shaper_t.TheVariants.{Arabic, Hangul, Hebrew, Indic, Khmer, Myanmar, MyanmarZawgyi, Thai, Universal}
 use Rattle.rustybuzz_shapers.proofs.StretchMonotone.{stretch_stays_monotone}
 use Rattle.shapers_breaks.specs.StretchBreaks.{JoinsPositions, StretchBreaksLaw}
-use Rattle.shapers_breaks.specs.TextBreaks.{TextBroken, back_of, front_of}
+use Rattle.shapers_breaks.specs.TextBreaks.{TextBroken, back_half, front_half}
 use Rattle.shapers_breaks.proofs.MarkBreaks.{halves_apart}
 use Rattle.shapers_breaks.proofs.MeetingPlaces.{InOneOrder, unheld_at}
 use Rattle.shapers_breaks.proofs.StretchCuts.{InsideRun, NoneOf, all_back, cut_or_inside}
@@ -47,12 +47,12 @@ unchanged_broken hook old new same is mono p z l clear =
     let meet = (subst (λ (b : Buffer). IsClear b.glyphs p) still clear).differ in
     record {
       cut = p;
-      behind_some = z;
-      before_some = within;
+      some_in_front = z;
+      some_behind = within;
       apart = halves_apart gs p z within mono meet;
       halves = λ one two first second.
-          let front = same (front_of p old) one refl first in
-          let back = same (back_of p old) two refl second in (
+          let front = same (front_half p old) one refl first in
+          let back = same (back_half p old) two refl second in (
             ap (λ (b : Buffer). length b.glyphs) front ∙ length-take-le p gs (omega (arith, within)),
             (
               ap (λ (b : Buffer). b.glyphs) still
@@ -268,15 +268,15 @@ arabic_breaks plan font old new both mono marked is p z l clear =
           (ap (λ k. max k s.b.0.cluster) (sym a_is) ∙ ap (λ k. max (get_or (clusters gs) (q - 1) 0) k) (sym b_is)
           ∙ at.greatest) none)
     ] in
-    let whole : stretched_cells font choice old ≡ stretched_cells font choice (front_of q old)
-    ++ stretched_cells font choice (back_of q old) = ap (turned how r) text ∙ joined in
+    let whole : stretched_cells font choice old ≡ stretched_cells font choice (front_half q old)
+    ++ stretched_cells font choice (back_half q old) = ap (turned how r) text ∙ joined in
     broken_text (Postprocessed Arabic plan font) JoinsPositions old new [] p mono (made_clusters plan font)
     (λ one two both_parts. ap clusters both_parts.0 ∙ map-append cluster one.glyphs two.glyphs)
     at (λ apart one two first second.
-    let x = cells_made plan font (front_of q old) one marked first in
-    let y = cells_made plan font (back_of q old) two marked second in
-    let fs = stretched_cells font choice (front_of q old) in
-    let bs = stretched_cells font choice (back_of q old) in (
+    let x = cells_made plan font (front_half q old) one marked first in
+    let y = cells_made plan font (back_half q old) two marked second in
+    let fs = stretched_cells font choice (front_half q old) in
+    let bs = stretched_cells font choice (back_half q old) in (
       now.0 ∙ ap glyphs_of whole ∙ map-append (λ (c : Cell). c.0) fs bs
           ∙ ap (λ hs. hs ++ glyphs_of bs) (sym x.0) ∙ ap (λ hs. one.glyphs ++ hs) (sym y.0),
       now.1 ∙ ap positions_of whole ∙ map-append (λ (c : Cell). c.1) fs bs

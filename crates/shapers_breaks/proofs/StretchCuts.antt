@@ -205,8 +205,8 @@ stretched_first how others tiles rest os ts some follows =
 
 -- ONE PART
 -- without tiles it stays
-without_run : (how : Laying) (xs : List Cell) → list_all other xs ≡ true → stretched_part how xs ≡ xs
-without_run how xs os =
+made_without_run : (how : Laying) (xs : List Cell) → list_all other xs ≡ true → stretched_part how xs ≡ xs
+made_without_run how xs os =
     let tiles = (last_run_after tile xs [] (no_tiles xs os) refl).0 in
     let none : has_run xs ≡ false = ap (λ l. nat_lt 0 (length (tiles_of l))) (sym (append-nil xs))
     ∙ ap (λ l. nat_lt 0 (length l)) tiles in
@@ -219,10 +219,10 @@ abbrev run_made : Laying → List Cell → List Cell → List Cell
 run_made how word tiles =
     stretched_over how (measured how.font (positions_of word) (glyphs_of tiles)) word tiles
 
-with_run : (how : Laying) (before word tiles : List Cell) → list_all other (before ++ word) ≡ true
+made_with_run : (how : Laying) (before word tiles : List Cell) → list_all other (before ++ word) ≡ true
     → list_all tile tiles ≡ true → 0 < length tiles → suffix_len wordly before ≡ 0 → list_all wordly word ≡ true
     → stretched_part how ((before ++ word) ++ tiles) ≡ before ++ run_made how word tiles
-with_run how before word tiles os ts some stops passes =
+made_with_run how before word tiles os ts some stops passes =
     let part = (before ++ word) ++ tiles in
     let (tiles_is, before_tiles_is) = last_run_after tile (before ++ word) tiles (no_tiles (before ++ word) os) ts in
     let (run_is, front_is) = last_run_after wordly before word stops passes in
@@ -376,7 +376,7 @@ cut_in_others how xs others tiles rest some os ts behind follows =
     (omega (arith, ap length e)))
     ∙ append-nil (stretched_part how (xs ++ []))
     ∙ ap (stretched_part how) empty
-    ∙ without_run how xs xo in
+    ∙ made_without_run how xs xo in
     let back = stretched_first how others tiles rest yo ts behind follows in
     let joined : stretched_part how ((xs ++ others) ++ tiles) ≡ xs ++ stretched_part how (others ++ tiles)
     → Cut how xs ((others ++ tiles) ++ rest) = λ parts. inl (whole
@@ -389,15 +389,15 @@ cut_in_others how xs others tiles rest some os ts behind follows =
           let nothing : tiles ≡ [] = empty_list tiles none in
           joined (ap (λ l. stretched_part how ((xs ++ others) ++ l)) nothing
           ∙ ap (stretched_part how) (append-nil (xs ++ others))
-          ∙ without_run how (xs ++ others) os
+          ∙ made_without_run how (xs ++ others) os
           ∙ ap (λ l. xs ++ l) (sym (ap (λ l. stretched_part how (others ++ l)) nothing
-          ∙ ap (stretched_part how) (append-nil others) ∙ without_run how others yo)))
+          ∙ ap (stretched_part how) (append-nil others) ∙ made_without_run how others yo)))
       | inl run ↦
           let r = run_split wordly (xs ++ others) in
           let parts_os : list_all other (r.front ++ r.run) ≡ true = ap (list_all other) (sym r.whole) ∙ os in
           let part : stretched_part how ((xs ++ others) ++ tiles) ≡ r.front ++ run_made how r.run tiles =
           ap (λ l. stretched_part how (l ++ tiles)) r.whole
-          ∙ with_run how r.front r.run tiles parts_os ts run r.stops r.passes in
+          ∙ made_with_run how r.front r.run tiles parts_os ts run r.stops r.passes in
           elim (cases_lt (length r.front) (length xs)) [
             | inl inside ↦
                 let (w, (first, second)) = two_cuts r.front xs r.run others (sym r.whole) (omega (arith, inside)) in
@@ -413,7 +413,7 @@ cut_in_others how xs others tiles rest some os ts behind follows =
                 ∙ ap (λ l. l ++ run_made how r.run tiles) first
                 ∙ append_assoc xs bs (run_made how r.run tiles)
                 ∙ ap (λ l. xs ++ l) (sym (ap (λ l. stretched_part how (l ++ tiles)) second
-                ∙ with_run how bs r.run tiles own ts run stops r.passes)))
+                ∙ made_with_run how bs r.run tiles own ts run stops r.passes)))
           ]
     ]
   where
@@ -439,7 +439,7 @@ cut_in_tiles how others ts us rest os all some behind follows =
     (ap (stretched how) text
     ∙ stretched_first how others tiles rest os all (omega (arith, length-append others tiles, many)) follows
     ∙ ap (λ l. l ++ stretched how rest) (ap (λ l. stretched_part how (l ++ tiles)) r.whole
-    ∙ with_run how r.front r.run tiles parts_os all many r.stops r.passes)))
+    ∙ made_with_run how r.front r.run tiles parts_os all many r.stops r.passes)))
 
 cut_in_part : (how : Laying) (xs zs others tiles rest : List Cell) → 0 < length xs → 0 < length zs
     → others ++ tiles ≡ xs ++ zs → list_all other others ≡ true → list_all tile tiles ≡ true → Follows tiles rest

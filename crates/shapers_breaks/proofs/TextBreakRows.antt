@@ -16,7 +16,7 @@ use Rattle.shapers_hangul.specs.Hangul.{preprocessed}
 use Rattle.shapers_stretch.specs.Stretch.{marks_stretched}
 use Rattle.shapers_text.specs.ThaiForms.{preprocessed_text}
 use Rattle.shapers_breaks.specs.HangulBreaks.{NarrowTonesJoin}
-use Rattle.shapers_breaks.specs.TextBreaks.{IsClusterBorder, back_of, front_of}
+use Rattle.shapers_breaks.specs.TextBreaks.{IsClusterBorder, back_half, front_half}
 use Rattle.shapers_breaks.specs.ThaiBreaks.{ThaiMarksJoin, sara_ams_taken}
 
 abbrev glyph : ℕ → ℕ → hb_glyph_info_t
@@ -176,8 +176,8 @@ laid_at_80 = record default_position { x_offset = negsuc 79 }
 row_line : (stretched_line (line 1 1)).positions ≡ wide (pos 55) ∷ wide (pos 140) ∷ laid_at_80 ∷ []
 row_line = refl
 
-row_line_halves : (stretched_line (front_of 1 (line 1 1))).positions
-    ++ (stretched_line (back_of 1 (line 1 1))).positions ≡ wide (pos 55) ∷ wide (pos 140) ∷ laid_at_80 ∷ []
+row_line_halves : (stretched_line (front_half 1 (line 1 1))).positions
+    ++ (stretched_line (back_half 1 (line 1 1))).positions ≡ wide (pos 55) ∷ wide (pos 140) ∷ laid_at_80 ∷ []
 row_line_halves = refl
 
 -- between letter and tile the greater cluster is flagged, and a break there would move the tile
@@ -187,12 +187,12 @@ row_rising = refl
 row_falling : map (λ (g : hb_glyph_info_t). g.mask) (stretched_line (line 2 1)).glyphs ≡ 0 ∷ 3 ∷ 0 ∷ []
 row_falling = refl
 
-row_moved : map (λ (p : GlyphPosition). p.x_offset) (stretched_line (back_of 2 (line 1 2))).positions ≡ negsuc 149 ∷ []
+row_moved : map (λ (p : GlyphPosition). p.x_offset) (stretched_line (back_half 2 (line 1 2))).positions ≡ negsuc 149 ∷ []
 row_moved = refl
 
 -- halves keep all else
-row_front : (front_of 2 (line 1 2)).positions ≡ wide (pos 55) ∷ wide (pos 140) ∷ []
+row_front : (front_half 2 (line 1 2)).positions ≡ wide (pos 55) ∷ wide (pos 140) ∷ []
 row_front = refl
 
-row_back : clusters (back_of 1 (line 1 2)).glyphs ≡ 1 ∷ 2 ∷ []
+row_back : clusters (back_half 1 (line 1 2)).glyphs ≡ 1 ∷ 2 ∷ []
 row_back = refl
