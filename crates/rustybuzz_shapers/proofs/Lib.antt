@@ -1,6 +1,6 @@
 mod Again
 mod AgainRows
-pub mod Apart
+mod Apart
 mod Breaks
 mod CheckedRows
 mod Cuts

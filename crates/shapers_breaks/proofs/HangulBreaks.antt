@@ -23,7 +23,7 @@ use Rattle.rustybuzz_shapers.specs.declared.shaper.hb_ot_shaper_t.TheVariants.{H
 use Rattle.rustybuzz_shapers.proofs.HangulHalves.{ends_within, hangul_clusters_halves, hangul_order_halves}
 use Rattle.rustybuzz_shapers.proofs.HangulMonotone.{hangul_stays_monotone}
 use Rattle.shapers_breaks.specs.HangulBreaks.{HangulBreaksLaw}
-use Rattle.shapers_breaks.specs.TextBreaks.{JoinsOrder, back_of, front_of}
+use Rattle.shapers_breaks.specs.TextBreaks.{JoinsOrder, back_half, front_half}
 use Rattle.shapers_breaks.proofs.MeetingPlaces.{InOneOrder, contains_picked, unheld_at}
 use Rattle.shapers_breaks.proofs.TextBreaks.{broken_text}
 
@@ -113,9 +113,13 @@ between_from font circles all before q (suc skip) (u ∷ us) text none free =
     (text ∙ sym (append_assoc before (u ∷ []) us)) none) free
 
 -- THE TEXT
-made_of : (plan : hb_ot_shape_plan_t) (font : Font) (b c : Buffer) → Preprocessed Hangul plan font b c
-    → c.glyphs ≡ preprocessed font (allows_circles b) b.level b.glyphs
-made_of plan font b c is = ap (λ (d : Buffer). d.glyphs) is
+made_clusters : (plan : hb_ot_shape_plan_t) (font : Font) (b c : Buffer) → Preprocessed Hangul plan font b c
+    → clusters c.glyphs ≡ clusters (preprocessed font (allows_circles b) b.level b.glyphs)
+made_clusters plan font b c is = ap (λ (d : Buffer). clusters d.glyphs) is
+
+made_order : (plan : hb_ot_shape_plan_t) (font : Font) (b c : Buffer) → Preprocessed Hangul plan font b c
+    → order_view c.glyphs ≡ order_view (preprocessed font (allows_circles b) b.level b.glyphs)
+made_order plan font b c is = ap (λ (d : Buffer). order_view d.glyphs) is
 
 pub hangul_breaks : HangulBreaksLaw
 hangul_breaks plan font old new graphemes mono join is p z l differ =
@@ -127,14 +131,13 @@ hangul_breaks plan font old new graphemes mono join is p z l differ =
     let m : merges level ≡ true = ap merges graphemes in
     let cut = items font circles us in
     let sts = stretches level cut in
-    let made = made_of plan font old new is in
     let long = length-map gs cluster in
     let stays = hangul_stays_monotone plan font old new m is in
     let order : InOneOrder (clusters gs) (clusters new.glyphs) =
     elim mono [ inl up ↦ inl (up, stays.0 up) | inr down ↦ inr (down, stays.1 down) ] in
     let ends : EndWithin (length (clusters gs)) sts =
     subst (λ k. EndWithin k sts) (sym long) (ends_within level font circles gs) in
-    let picked : clusters new.glyphs ≡ _ = ap clusters made
+    let picked : clusters new.glyphs ≡ _ = made_clusters plan font old new is
     ∙ (rewritten_holds font circles level gs).in_clusters.made.clusters_are in
     let at = unheld_at level m sts (clusters gs) (clusters new.glyphs) ends order
     (subst (All (Contains (joined_all level sts (clusters gs)))) (sym picked)
@@ -154,20 +157,20 @@ hangul_breaks plan font old new graphemes mono join is p z l differ =
     subst (λ k. IsBetweenItems font circles (characters (xs ++ ys)) k) (sym n)
     (subst (λ hs. IsBetweenItems font circles (characters hs) q) text between) in
     broken_text (Preprocessed Hangul plan font) JoinsOrder old new sts p mono
-    (λ b c own. subst (λ ms. All (Contains (clusters b.glyphs)) (clusters ms)) (sym (made_of plan font b c own))
+    (λ b c own. subst (All (Contains (clusters b.glyphs))) (sym (made_clusters plan font b c own))
     (rewritten_holds font (allows_circles b) b.level b.glyphs).in_clusters.made.old_clusters)
     (λ one two joined. joined.1)
-    at (λ apart one two first second.
-    let made_one = sym (made_of plan font (front_of q old) one first) in
-    let made_two = sym (made_of plan font (back_of q old) two second) in
-    let whole : new.glyphs ≡ preprocessed font circles level (xs ++ ys) = made
-    ∙ ap (preprocessed font circles level) text in (
-      ap order_view whole
+    at (λ apart one two first second. (
+      made_order plan font old new is
+          ∙ ap (λ hs. order_view (preprocessed font circles level hs)) text
           ∙ hangul_order_halves font circles level xs ys parted
-          ∙ ap (λ hs. order_view hs ++ order_view (preprocessed font circles level ys)) made_one
-          ∙ ap (λ hs. order_view one.glyphs ++ order_view hs) made_two,
-      ap clusters whole
+          ∙ ap (λ vs. vs ++ order_view (preprocessed font circles level ys))
+          (sym (made_order plan font (front_half q old) one first))
+          ∙ ap (λ vs. order_view one.glyphs ++ vs) (sym (made_order plan font (back_half q old) two second)),
+      made_clusters plan font old new is
+          ∙ ap (λ hs. clusters (preprocessed font circles level hs)) text
           ∙ hangul_clusters_halves font circles level xs ys parted apart
-          ∙ ap (λ hs. clusters hs ++ clusters (preprocessed font circles level ys)) made_one
-          ∙ ap (λ hs. clusters one.glyphs ++ clusters hs) made_two,
+          ∙ ap (λ cs. cs ++ clusters (preprocessed font circles level ys))
+          (sym (made_clusters plan font (front_half q old) one first))
+          ∙ ap (λ cs. clusters one.glyphs ++ cs) (sym (made_clusters plan font (back_half q old) two second)),
     ))

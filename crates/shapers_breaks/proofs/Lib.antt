@@ -13,5 +13,8 @@ pub mod SaraAmHalves
 pub mod TextBreaks
 pub mod ThaiBreaks
 pub mod HangulBreaks
+pub mod StretchCuts
+pub mod StretchBreaks
 mod MarkBreakRows
+mod TextBreakRows
 pub mod KeptFlags

@@ -6,7 +6,7 @@ use Rattle.shapers_buffer.specs.declared.buffer.glyph.hb_glyph_info_t.{hb_glyph_
 use Rattle.shapers_buffer.specs.Buffer.{Buffer}
 use Rattle.shapers_buffer.specs.Glyph.{clusters}
 use Rattle.shapers_clusters.specs.Cuts.{IsMonotone, ShareNone}
-use Rattle.shapers_breaks.specs.TextBreaks.{TextBroken, back_of, front_of}
+use Rattle.shapers_breaks.specs.TextBreaks.{TextBroken, back_half, front_half}
 use Rattle.shapers_breaks.proofs.MarkBreaks.{halves_apart}
 use Rattle.shapers_breaks.proofs.MeetingPlaces.{UnheldAt}
 
@@ -16,7 +16,7 @@ pub broken_text : (hook : Buffer → Buffer → Type 0) (Joins : Buffer → Buff
     → ((one two : Buffer) → Joins one two new → clusters new.glyphs ≡ clusters one.glyphs ++ clusters two.glyphs)
     → (at : UnheldAt (clusters old.glyphs) sts (clusters new.glyphs) p)
     → (ShareNone (take at.place old.glyphs) (drop at.place old.glyphs) → (one two : Buffer)
-    → hook (front_of at.place old) one → hook (back_of at.place old) two → Joins one two new)
+    → hook (front_half at.place old) one → hook (back_half at.place old) two → Joins one two new)
     → TextBroken hook Joins old new p
 broken_text hook Joins old new sts p mono made in_clusters at whole =
     let cluster : hb_glyph_info_t → ℕ = λ g. g.cluster in
@@ -28,14 +28,14 @@ broken_text hook Joins old new sts p mono made in_clusters at whole =
     let apart = halves_apart gs q at.some within mono at.differ in
     record {
       cut = q;
-      behind_some = at.some;
-      before_some = within;
+      some_in_front = at.some;
+      some_behind = within;
       apart = apart;
       halves = λ one two first second.
           let joined = whole apart one two first second in
           let place = at.border (clusters xs) (clusters ys) (clusters one.glyphs) (clusters two.glyphs)
           (sym (sym (map-append cluster xs ys) ∙ ap clusters (take-append-drop q gs)))
           (length-map xs cluster ∙ length-take-le q gs (omega (arith, within))) (in_clusters one two joined)
-          (made (front_of q old) one first) (made (back_of q old) two second) in
+          (made (front_half q old) one first) (made (back_half q old) two second) in
           (sym (length-map one.glyphs cluster) ∙ place, joined);
     }

@@ -21,7 +21,7 @@ use Rattle.rustybuzz_shapers.specs.Hooks.{Preprocessed}
 use Rattle.rustybuzz_shapers.specs.declared.shaper.hb_ot_shaper_t.TheVariants.{Thai}
 use Rattle.rustybuzz_shapers.proofs.ThaiHalves.{forms_halves, text_view}
 use Rattle.rustybuzz_shapers.proofs.ThaiMonotone.{thai_monotone}
-use Rattle.shapers_breaks.specs.TextBreaks.{IsClusterBorder, JoinsGlyphs, JoinsOrder, back_of, front_of}
+use Rattle.shapers_breaks.specs.TextBreaks.{IsClusterBorder, JoinsGlyphs, JoinsOrder, back_half, front_half}
 use Rattle.shapers_breaks.specs.ThaiBreaks.{SaraAmsBreakLaw, ThaiFormsBreakLaw, sara_ams_taken}
 use Rattle.shapers_breaks.proofs.MeetingPlaces.{InOneOrder, UnheldAt, contains_picked, unheld_at}
 use Rattle.shapers_breaks.proofs.SaraAmHalves.{two_halves}
@@ -87,8 +87,8 @@ sara_ams_break plan font old new none m mono is p z l differ =
     at (λ apart one two first second. made
     ∙ two_cut level gs at.place at.some (omega (arith, at.within, length-map gs (λ (g : hb_glyph_info_t). g.cluster)))
     apart at.free
-    ∙ ap (λ hs. hs ++ sara_ams_taken level (drop at.place gs)) (sym (two_of plan font none (front_of at.place old) one first))
-    ∙ ap (λ hs. one.glyphs ++ hs) (sym (two_of plan font none (back_of at.place old) two second)))
+    ∙ ap (λ hs. hs ++ sara_ams_taken level (drop at.place gs)) (sym (two_of plan font none (front_half at.place old) one first))
+    ∙ ap (λ hs. one.glyphs ++ hs) (sym (two_of plan font none (back_half at.place old) two second)))
 
 -- PRIVATE USE FORMS
 formed_of : (plan : hb_ot_shape_plan_t) (font : Font) → asks_for_forms plan ≡ true → (b c : Buffer)
@@ -169,9 +169,9 @@ thai_forms_break plan font old new asked m mono join is p z l differ =
           ∙ ap (with_thai_forms has) (map-append plain us vs)
           ∙ cut
           ∙ ap (λ hs. hs ++ with_thai_forms has (order_view vs))
-          (sym (formed_view plan font asked (front_of q old) one first))
-          ∙ ap (λ hs. order_view one.glyphs ++ hs) (sym (formed_view plan font asked (back_of q old) two second)),
+          (sym (formed_view plan font asked (front_half q old) one first))
+          ∙ ap (λ hs. order_view one.glyphs ++ hs) (sym (formed_view plan font asked (back_half q old) two second)),
       split
-          ∙ ap (λ cs. cs ++ clusters vs) (sym (formed_clusters plan font asked (front_of q old) one first))
-          ∙ ap (λ cs. clusters one.glyphs ++ cs) (sym (formed_clusters plan font asked (back_of q old) two second)),
+          ∙ ap (λ cs. cs ++ clusters vs) (sym (formed_clusters plan font asked (front_half q old) one first))
+          ∙ ap (λ cs. clusters one.glyphs ++ cs) (sym (formed_clusters plan font asked (back_half q old) two second)),
     ))

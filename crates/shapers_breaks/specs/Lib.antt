@@ -7,3 +7,4 @@ pub mod KeptFlags
 pub mod TextBreaks
 pub mod ThaiBreaks
 pub mod HangulBreaks
+pub mod StretchBreaks

@@ -11,11 +11,11 @@ abbrev pub IsClusterBorder : List hb_glyph_info_t → ℕ → Type 0
 IsClusterBorder gs p = slice_index (clusters gs) (p - 1) ≢ slice_index (clusters gs) p
 
 -- the halves of a buffer's text, cut before place c, with all else that the buffer has
-abbrev pub front_of : ℕ → Buffer → Buffer
-front_of c b = record b { glyphs = take c b.glyphs; positions = take c b.positions }
+abbrev pub front_half : ℕ → Buffer → Buffer
+front_half c b = record b { glyphs = take c b.glyphs; positions = take c b.positions }
 
-abbrev pub back_of : ℕ → Buffer → Buffer
-back_of c b = record b { glyphs = drop c b.glyphs; positions = drop c b.positions }
+abbrev pub back_half : ℕ → Buffer → Buffer
+back_half c b = record b { glyphs = drop c b.glyphs; positions = drop c b.positions }
 
 -- the text is two texts, one after the other, glyph for glyph; or in order view and clusters
 abbrev pub JoinsGlyphs : Buffer → Buffer → Buffer → Type 0
@@ -32,8 +32,8 @@ JoinsOrder one two new =
 pub record TextBroken (hook : Buffer → Buffer → Type 0) (Joins : Buffer → Buffer → Buffer →
     Type 0) (old new : Buffer) (p : ℕ) : Type 0 where
   pub cut : ℕ
-  pub behind_some : 0 < cut
-  pub before_some : cut < length old.glyphs
+  pub some_in_front : 0 < cut
+  pub some_behind : cut < length old.glyphs
   pub apart : ShareNone (take cut old.glyphs) (drop cut old.glyphs)
-  pub halves : (one two : Buffer) → hook (front_of cut old) one → hook (back_of cut old) two →
+  pub halves : (one two : Buffer) → hook (front_half cut old) one → hook (back_half cut old) two →
       (length one.glyphs ≡ p) × Joins one two new

@@ -11,6 +11,7 @@ ghost use Rattle.shapers_breaks.specs.MarkBreaks.{MarksBreakLaw};
 ghost use Rattle.shapers_breaks.specs.PauseBreaks.{PausesBreakLaw};
 ghost use Rattle.shapers_breaks.specs.ScriptBreaks.{MyanmarHasNoRepha, PausesBreakBy, UniversalPausesBreak};
 ghost use Rattle.shapers_breaks.specs.SetUp.{SetUpBreaksLaw};
+ghost use Rattle.shapers_breaks.specs.StretchBreaks.{StretchBreaksLaw};
 ghost use Rattle.shapers_breaks.specs.ThaiBreaks.{SaraAmsBreakLaw, ThaiFormsBreakLaw};
 
 use shapers_khmer::ot_shaper_khmer::{khmer_reads_no_serials, khmer_reorder_laws};
@@ -84,4 +85,10 @@ pub fn thai_breaks_law()
 /// before it.
 pub fn hangul_breaks_law()
     ensures { HangulBreaksLaw }
+{}
+
+/// A text whose marks were stretched may be broken at every clear place, where clusters rise or fall:
+/// each half is what it is by itself, glyph for glyph, with its positions.
+pub fn stretch_breaks_law()
+    ensures { StretchBreaksLaw }
 {}
