@@ -159,16 +159,24 @@ pub record Laws : Type 0 where
   pub hooks : HooksMakeNoCluster
   pub stretch : StretchStaysMonotone
 
+advanced_pairs : (p : Positioning) (b : Buffer) → Paired (text_spaced p.font p.metrics b)
+advanced_pairs p b =
+    let f = advanced p.font p.metrics (is_horizontal b.direction) in
+    let t : Buffer = record b { positions = map f b.glyphs } in
+    (changed (space_placed p.font p.metrics (is_horizontal b.direction)) t).paired (length-map b.glyphs f)
+
 -- before GPOS, with a position for each glyph
 begun : (p : Positioning) (b : Buffer) → Keeps b (text_advanced p b) × Paired (text_advanced p b)
 begun p b =
-    let f = advanced p.font p.metrics (is_horizontal b.direction) in
-    let a : Buffer = record b { positions = map f b.glyphs } in
-    let s = text_spaced p.font p.metrics b in
-    let kept : Keeps b s = record { level = refl; glyphs = itself (merges b.level) b.glyphs } in
-    let spaced = changed (space_placed p.font p.metrics (is_horizontal b.direction)) a in
-    let zeroed = zeroed_if (is_early (zeroing_of p.shaper)) p.is_mark p.applies_gpos s in
-    (after b s (text_advanced p b) kept zeroed.keeps, zeroed.paired (spaced.paired (length-map b.glyphs f)))
+    let t = text_spaced p.font p.metrics b in
+    let zeroed = zeroed_if (is_early (zeroing_of p.shaper)) p.is_mark p.applies_gpos t in (
+      after b t (text_advanced p b) (record {
+        level = refl;
+        glyphs = itself
+            (merges b.level) b.glyphs;
+      }) zeroed.keeps,
+      zeroed.paired (advanced_pairs p b),
+    )
 
 behind_gpos : (p : Positioning) → PositionsKeep p → (b : Buffer) → Paired b → Placed b
     (looked_up p.positioned (lookups_if p.applies_gpos p.list) b)

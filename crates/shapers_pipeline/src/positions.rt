@@ -26,11 +26,11 @@ pub(crate) fn position_text<F: MetricsFont, L: Lookups>(
     lookups: &L,
     buffer: &mut hb_buffer_t,
 ) -> Result<(), ShaperError>
-    ensures ok { let p = positioning_by plan.now settings.now (F.font font.now)
-        (F.metrics font.now) (L.marks lookups.now) (L.positioned lookups.now) (L.finished lookups.now) in
+    ensures ok { let p = positioning_by plan.now settings.now (F.font font.now) (F.metrics font.now)
+        (L.marks lookups.now) (L.positioned lookups.now) (L.finished lookups.now) in
         OnOk result (buffer.new ≡ text_positioned p buffer.old) }
-    ensures err { let p = positioning_by plan.now settings.now (F.font font.now)
-        (F.metrics font.now) (L.marks lookups.now) (L.positioned lookups.now) (L.finished lookups.now) in
+    ensures err { let p = positioning_by plan.now settings.now (F.font font.now) (F.metrics font.now)
+        (L.marks lookups.now) (L.positioned lookups.now) (L.finished lookups.now) in
         OnErr result (PositionsStopped p buffer.old buffer.new) }
 {
     let applies_gpos = plan.applies_gpos();

@@ -45,8 +45,8 @@ pub fn shape<F: NormalizeFont + MetricsFont, T: NormalizeTables + UnicodePropert
         (F.variants font.now) (T.properties tables.now) (T.tables tables.now)
         (T.texts tables.now) in
         let r = substitution_by plan.now (F.font font.now) (L.substituted lookups.now) in
-        let q = positioning_by plan.now settings.now (F.font font.now)
-        (F.metrics font.now) (L.marks lookups.now) (L.positioned lookups.now) (L.finished lookups.now) in
+        let q = positioning_by plan.now settings.now (F.font font.now) (F.metrics font.now)
+        (L.marks lookups.now) (L.positioned lookups.now) (L.finished lookups.now) in
         let noted = text_noted (L.noted lookups.now) (text_prepared p buffer.old) in
         OnOk result ((mid : Buffer) × (StagesRun r plan.now.stages noted mid
         × (buffer.new ≡ text_shaped q buffer.old.direction mid))) }
@@ -54,8 +54,8 @@ pub fn shape<F: NormalizeFont + MetricsFont, T: NormalizeTables + UnicodePropert
         (F.variants font.now) (T.properties tables.now) (T.tables tables.now)
         (T.texts tables.now) in
         let r = substitution_by plan.now (F.font font.now) (L.substituted lookups.now) in
-        let q = positioning_by plan.now settings.now (F.font font.now)
-        (F.metrics font.now) (L.marks lookups.now) (L.positioned lookups.now) (L.finished lookups.now) in
+        let q = positioning_by plan.now settings.now (F.font font.now) (F.metrics font.now)
+        (L.marks lookups.now) (L.positioned lookups.now) (L.finished lookups.now) in
         let noted = text_noted (L.noted lookups.now) (text_prepared p buffer.old) in
         IfErr result (λ e. IsStopped p buffer.old buffer.new e
         ⊎ (StagesStopped r plan.now.stages noted buffer.new
@@ -78,11 +78,11 @@ fn finish_text<F: MetricsFont, L: Lookups>(
     lookups: &L,
     buffer: &mut hb_buffer_t,
 ) -> Result<(), CallError>
-    ensures ok { let q = positioning_by plan.now settings.now (F.font font.now)
-        (F.metrics font.now) (L.marks lookups.now) (L.positioned lookups.now) (L.finished lookups.now) in
+    ensures ok { let q = positioning_by plan.now settings.now (F.font font.now) (F.metrics font.now)
+        (L.marks lookups.now) (L.positioned lookups.now) (L.finished lookups.now) in
         OnOk result (buffer.new ≡ text_postprocessed q buffer.old) }
-    ensures err { let q = positioning_by plan.now settings.now (F.font font.now)
-        (F.metrics font.now) (L.marks lookups.now) (L.positioned lookups.now) (L.finished lookups.now) in
+    ensures err { let q = positioning_by plan.now settings.now (F.font font.now) (F.metrics font.now)
+        (L.marks lookups.now) (L.positioned lookups.now) (L.finished lookups.now) in
         IfErr result (λ e. FinishStopped q buffer.old buffer.new e) }
 {
     position_text(plan, settings, font, lookups, buffer)?;
