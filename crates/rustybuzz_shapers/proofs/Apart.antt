@@ -43,9 +43,9 @@ preprocessing Universal plan font old new k = unchanged old new k
 
 marks : (shaper : hb_ot_shaper_t) (start end : ℕ) (old new : Buffer) → MarksKeep shaper start end old new
     → NoNewCluster old.glyphs new.glyphs
-marks Arabic start end old new k = k.in_clusters.at_all_levels.old_clusters
+marks Arabic start end old new k = k.glyphs.in_clusters.old_clusters
 marks Hangul start end old new k = unchanged old new k.1
-marks Hebrew start end old new k = k.in_clusters.at_all_levels.old_clusters
+marks Hebrew start end old new k = k.glyphs.in_clusters.old_clusters
 marks Indic start end old new k = unchanged old new k.1
 marks Khmer start end old new k = unchanged old new k.1
 marks Myanmar start end old new k = unchanged old new k.1

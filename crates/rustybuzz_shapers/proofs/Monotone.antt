@@ -98,7 +98,7 @@ pub merged_monotone : (view : hb_glyph_info_t → hb_glyph_info_t) (level : Buff
     (gs ms : List hb_glyph_info_t) → merges level ≡ true → ReorderedHold view level steps gs ms
     → StaysMonotone (clusters gs) (clusters ms)
 merged_monotone view level steps gs ms m h =
-    let x = h.in_clusters.where_merging m in (
+    let x = h.where_merging m in (
       λ up. rising_after (clusters gs) (all_first steps) (clusters ms) (x.exact (inl up)) up,
       λ down. falling_after (clusters gs) (all_first steps) (clusters ms) (x.exact (inr down)) down,
     )

@@ -159,7 +159,7 @@ clear_before_held view level steps gs ms m mono moves permutes hold p z l clear 
     let js = clusters ms in
     let count = length-map gs (λ (g : hb_glyph_info_t). g.cluster) in
     let long = hold.glyphs.same_length in
-    let merged = hold.in_clusters.where_merging m in
+    let merged = hold.where_merging m in
     let x = merged.exact mono in
     let st = stays cs (all_first steps) js x mono p z (omega arith) clear.differ in
     let c = greater gs p in

@@ -8,6 +8,7 @@ use Rattle.shapers_buffer.specs.Syllables.{spans_cover}
 use Rattle.shapers_clusters.specs.Breaks.{IsClear}
 use Rattle.shapers_clusters.specs.Flags.{bit_at}
 use Rattle.shapers_syllabic.specs.Borders.{SetUpOfHalves, spans_set_up}
+use Rattle.shapers_syllabic.specs.Syllabic.{unsafe_spans}
 
 -- place p is a border of spans: the first of them cover the p glyphs before it
 pub record SpanBorder (spans : List Span) (p : ℕ) : Type 0 where
@@ -36,8 +37,8 @@ FlagsInsideSpans spans new =
 -- that of its halves, serials apart.
 pub record SetUpBroken (spans : List Span) (broken_kind p : ℕ) (old new : Buffer) : Type 0 where
   pub border : SpanBorder spans p
-  pub halves : SetUpOfHalves border.front border.back broken_kind (take p old.glyphs)
-      (drop p old.glyphs) old new
+  pub halves : SetUpOfHalves unsafe_spans broken_kind border.front border.back
+      (take p old.glyphs) (drop p old.glyphs) new.glyphs old new
 
 abbrev pub BreaksSetUp : List Span → ℕ → Buffer → Buffer → Type 0
 BreaksSetUp spans broken_kind old new =

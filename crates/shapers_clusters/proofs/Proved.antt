@@ -170,13 +170,13 @@ reordered_hold view hides level steps gs ms moves permutes same =
     let fits = merged_fits (length gs) steps moves in
     let holds = seen_steps_hold view hides level steps gs ms fits same in
     let P : ℕ → Type 0 = λ n. AllByRecursion (MovesMerged n) steps in
+    let merged = subst (ClustersReordered level steps (clusters gs)) (sym holds.clusters_are)
+    (clusters_reordered level steps (clusters gs) (subst P (sym (length-map gs (λ g. g.cluster))) moves)) in
     record {
       kept = subst (IsPermutation (seen view gs)) (sym (seen-same view ms (run_steps level steps gs) same))
           (seen-permuted view hides level steps gs fits permutes);
       glyphs = holds;
-      in_clusters =
-          subst (ClustersReordered level steps (clusters gs)) (sym holds.clusters_are)
-          (clusters_reordered level steps (clusters gs) (subst P (sym (length-map gs (λ g. g.cluster))) moves));
+      where_merging = merged.where_merging;
     }
 
 -- the same of the steps' own result, all of whose fields show

@@ -2,16 +2,15 @@
 use Rattle.std.specs.Prelude.{ℕ, ◌≡◌, ◌<◌, ◌==◌, nat_le, nat_lt, Bool, true, false, ◌&&◌, List, length, slice_index}
 use Rattle.std.specs.List.{list_any, AllByRecursion}
 use Rattle.shapers_buffer.specs.Glyph.{clusters}
-use Rattle.shapers_buffer.specs.GlyphFlags.{FlagCall, UnsafeToBreak, UnsafeToConcat, SafeToInsertTatweel, flags_called}
+use Rattle.shapers_buffer.specs.GlyphFlags.{FlagCall, UnsafeToConcat, flags_called}
 use Rattle.shapers_buffer.specs.declared.buffer.glyph.hb_glyph_info_t.{hb_glyph_info_t}
-use Rattle.shapers_clusters.specs.Breaks.{IsClear}
+use Rattle.shapers_clusters.specs.Breaks.{IsClear, forbids}
 use Rattle.shapers_clusters.specs.Flags.{bit_at, InOrder}
 
 -- whether the call forbids a border before place p: a break, or a concatenation
 abbrev pub forbids_border : ℕ → FlagCall → Bool
-forbids_border p (UnsafeToBreak s e) = nat_lt s p && nat_lt p e
 forbids_border p (UnsafeToConcat s e) = nat_le s p && nat_lt p e
-forbids_border p (SafeToInsertTatweel s e) = nat_lt s p && nat_lt p e
+forbids_border p call = forbids p call
 
 -- no call of the list does
 abbrev pub IsOpen : List FlagCall → ℕ → Type 0

@@ -181,7 +181,7 @@ pub record ReorderedHold (view : hb_glyph_info_t →
     hb_glyph_info_t) : Type 0 where
   pub kept : IsPermutation (seen view gs) (seen view ms)
   pub glyphs : SeenStepsHold view level steps gs ms
-  pub in_clusters : ClustersReordered level steps (clusters gs) (clusters ms)
+  pub where_merging : merges level ≡ true → MergedStepsHold level steps (clusters gs) (clusters ms)
 
 abbrev pub ReorderedLaw : Type 0
 ReorderedLaw = (view : hb_glyph_info_t → hb_glyph_info_t) →

@@ -30,7 +30,10 @@ map_same f g same (x ∷ xs) = ap (λ y. y ∷ map f xs) (same x) ∙ ap (λ ys.
 
 order_same : (r : KhmerOrder) (gs : List hb_glyph_info_t) → khmer_order r gs ≡ ordered_by_movers r gs
 order_same r gs = elim (cases_Bool (is_regular (categories_of gs))) [
-  | inl on ↦ rw on (by_movers_law r gs on)
+  | inl on ↦ elim (cases_Bool (is_reordered_in_khmer gs)) [
+    | inl kind ↦ by_movers_law r gs on ∙ rw (on, kind) refl
+    | inr other ↦ rw (on, other) refl
+  ]
   | inr off ↦ rw off refl
 ]
 

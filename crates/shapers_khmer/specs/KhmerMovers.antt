@@ -1,10 +1,10 @@
 -- Khmer: the order, the masks and the merges of a regular syllable, by what moves in it.
-use Rattle.std.specs.Prelude.{ℕ, ◌+◌, ◌≡◌, nat_lt, true, Bool, ◌&&◌, ◌||◌, ◌==◌, not, List, [], ◌∷◌, ◌++◌, drop, filter, flat_map, length, map, reverse, if◌then◌else◌}
+use Rattle.std.specs.Prelude.{ℕ, ◌+◌, ◌≡◌, nat_lt, true, Bool, ◌&&◌, ◌||◌, ◌==◌, not, List, [], ◌∷◌, ◌++◌, drop, filter, flat_map, map, reverse, if◌then◌else◌}
 use Rattle.std.specs.List.{enumerate_from, list_all, list_any, prefix_len, zip}
 use Rattle.shapers_buffer.specs.Lists.{each_after}
 use Rattle.shapers_buffer.specs.Places.{pick}
 use Rattle.shapers_buffer.specs.declared.buffer.glyph.hb_glyph_info_t.{hb_glyph_info_t}
-use Rattle.shapers_clusters.specs.Steps.{Step, still_step}
+use Rattle.shapers_clusters.specs.Steps.{Step}
 use Rattle.shapers_khmer.specs.Khmer.{is_coeng, is_left_vowel, is_reordered_in_khmer, is_ro, khmer_masked, khmer_moves, khmer_order, khmer_places, khmer_steps, merged_by_move, categories_of, with_mask}
 use Rattle.shapers_khmer.specs.declared.ot_shaper_khmer.reordering.KhmerOrder.{KhmerOrder}
 
@@ -125,17 +125,15 @@ KhmerMoversMergesLaw =
 -- THE CALL. What a syllable becomes, and by which steps: of a regular one by its movers
 abbrev pub ordered_by_movers : KhmerOrder → List hb_glyph_info_t → List hb_glyph_info_t
 ordered_by_movers r gs =
-    if is_regular (categories_of gs) then khmer_by_movers r gs else khmer_order r gs
+    if is_regular (categories_of gs) && is_reordered_in_khmer gs
+    then pick (order_by_movers (categories_of gs)) (masked_by_movers r gs) else khmer_order r gs
 
-abbrev pub step_by_movers : List hb_glyph_info_t → Step
-step_by_movers gs =
-    if is_reordered_in_khmer gs then record {
+abbrev pub steps_by_movers : List hb_glyph_info_t → List Step
+steps_by_movers gs =
+    if is_regular (categories_of gs) && is_reordered_in_khmer gs then record {
       merged_first = merges_by_movers (categories_of gs);
       places = order_by_movers (categories_of gs);
       merged_then = [];
     }
-    else still_step (length gs)
-
-abbrev pub steps_by_movers : List hb_glyph_info_t → List Step
-steps_by_movers gs =
-    if is_regular (categories_of gs) then step_by_movers gs ∷ [] else khmer_steps gs
+    ∷ []
+    else khmer_steps gs

@@ -143,13 +143,13 @@ pub arabic_same_length : (level : BufferClusterLevel) (s e : ℕ) (gs : List hb_
 arabic_same_length level s e gs some within =
     let new = marks_reordered s e (marks_merged level s e gs) in
     sym (length-map new (λ g. g.cluster))
-    ∙ (mark_laws level s e gs (omega arith) within).in_clusters.at_all_levels.same_length
+    ∙ (mark_laws level s e gs (omega arith) within).glyphs.in_clusters.same_length
     ∙ length-map gs (λ g. g.cluster)
 
 pub arabic_old_clusters : (level : BufferClusterLevel) (s e : ℕ) (gs : List hb_glyph_info_t) → s < e → e ≤ length gs
     → All (Contains (clusters gs)) (clusters (marks_reordered s e (marks_merged level s e gs)))
 arabic_old_clusters level s e gs some within =
-    (mark_laws level s e gs (omega arith) within).in_clusters.at_all_levels.old_clusters
+    (mark_laws level s e gs (omega arith) within).glyphs.in_clusters.old_clusters
 
 -- what stands behind the marks keeps its classes
 pub arabic_behind : (level : BufferClusterLevel) (s e : ℕ) (gs : List hb_glyph_info_t) → s < e → e ≤ length gs

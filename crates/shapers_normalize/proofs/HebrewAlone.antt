@@ -109,13 +109,13 @@ pub hebrew_same_length : (level : BufferClusterLevel) (s e : ℕ) (gs : List hb_
 hebrew_same_length level s e gs some long =
     let new = run_step level (hebrew_mark_step s e gs) gs in
     sym (length-map new (λ g. g.cluster))
-    ∙ (mark_laws level s e gs (within s e gs some long)).in_clusters.at_all_levels.same_length
+    ∙ (mark_laws level s e gs (within s e gs some long)).glyphs.in_clusters.same_length
     ∙ length-map gs (λ g. g.cluster)
 
 pub hebrew_old_clusters : (level : BufferClusterLevel) (s e : ℕ) (gs : List hb_glyph_info_t) → s < e → e ≤ length gs
     → All (Contains (clusters gs)) (clusters (run_step level (hebrew_mark_step s e gs) gs))
 hebrew_old_clusters level s e gs some long =
-    (mark_laws level s e gs (within s e gs some long)).in_clusters.at_all_levels.old_clusters
+    (mark_laws level s e gs (within s e gs some long)).glyphs.in_clusters.old_clusters
 
 -- what stands behind the marks keeps its classes
 before_end : (s e : ℕ) (gs : List hb_glyph_info_t) → s < e → e ≤ length gs

@@ -31,7 +31,7 @@ by_step level view step gs new m moves held rises =
     let sts = all_first (step ∷ []) in
     let merged : IsMonotone (clusters (merge_all level sts gs)) =
     (exact_cuts_hold level sts gs m (end_within-all_first (length gs) (step ∷ []) (moves, tt)) rises).1 in
-    subst IsMonotone (clusters-merge_all level sts gs ∙ sym (held.in_clusters.where_merging m).only_merged) merged
+    subst IsMonotone (clusters-merge_all level sts gs ∙ sym (held.where_merging m).only_merged) merged
 
 arabic_moves : (marks : List hb_glyph_info_t) → MovesMerged (length marks) (arabic_mark_step (split_marks marks))
 arabic_moves marks =

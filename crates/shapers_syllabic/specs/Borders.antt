@@ -5,7 +5,7 @@ use Rattle.shapers_buffer.specs.declared.buffer.glyph.hb_glyph_info_t.{hb_glyph_
 use Rattle.shapers_buffer.specs.declared.buffer.syllables.Span.{Span}
 use Rattle.shapers_buffer.specs.Buffer.{Buffer}
 use Rattle.shapers_buffer.specs.Syllables.{kind_of, spans_cover, syllables, with_spans}
-use Rattle.shapers_syllabic.specs.Syllabic.{with_unsafe_syllables}
+use Rattle.shapers_syllabic.specs.Syllabic.{unsafe_spans, with_unsafe_syllables}
 
 -- texts meet at a border of syllables: the glyphs there have different bytes, if there are both
 abbrev pub MeetAtBorder : List hb_glyph_info_t → List hb_glyph_info_t → Type 0
@@ -25,27 +25,30 @@ SameButSerials gs hs = map (map unnumbered) (syllables gs) ≡ map (map unnumber
 abbrev pub spans_set_up : List Span → ℕ → Buffer → Buffer
 spans_set_up spans broken_kind b = with_unsafe_syllables (with_spans spans broken_kind b)
 
--- Spans cut between two of them: what they set up is what the first ones set up of the glyphs that
--- they cover, and behind it, but for serials, what the others set up of theirs; the two meet at a
--- border. It is marked broken where one of them is.
-pub record SetUpOfHalves (ss ts : List Span) (broken_kind : ℕ) (gs hs : List hb_glyph_info_t) (old
-    new : Buffer) : Type 0 where
+-- Spans cut between two of them: what the first make of their glyphs, and behind it, serials apart,
+-- what the others make of theirs; the two meet at a border. It is broken where one of them is.
+pub record SetUpOfHalves (made : List Span → List hb_glyph_info_t →
+    List hb_glyph_info_t) (broken_kind : ℕ) (ss ts : List Span) (gs hs shown : List
+    hb_glyph_info_t) (old new : Buffer) : Type 0 where
   pub behind : List hb_glyph_info_t
-  pub parts : new.glyphs
-      ≡ (spans_set_up ss broken_kind (record old { glyphs = gs })).glyphs ++ behind
-  pub renumbered : SameButSerials behind
-      (spans_set_up ts broken_kind (record old { glyphs = hs })).glyphs
-  pub border : MeetAtBorder (spans_set_up ss broken_kind (record old { glyphs = gs })).glyphs behind
+  pub parts : shown ≡ made ss gs ++ behind
+  pub renumbered : SameButSerials behind (made ts hs)
+  pub border : MeetAtBorder (made ss gs) behind
   pub broken : new.broken
-      ≡ ((spans_set_up ss broken_kind (record old { glyphs = gs })).broken
-      || (spans_set_up ts broken_kind (record old { glyphs = hs })).broken)
+      ≡ ((with_spans ss broken_kind old).broken || (with_spans ts broken_kind old).broken)
 
--- so between any two spans
-abbrev pub SetUpCutsAtSpans : List Span → ℕ → Buffer → Buffer → Type 0
-SetUpCutsAtSpans spans broken_kind old new = (ss ts : List Span) (gs hs : List hb_glyph_info_t) →
+-- so between any two spans, by what they make of glyphs, of the new glyphs as they are shown
+abbrev pub SetUpCuts : (List Span → List hb_glyph_info_t → List hb_glyph_info_t) → ℕ → List Span →
+    List hb_glyph_info_t → Buffer → Buffer → Type 0
+SetUpCuts made broken_kind spans shown old new =
+    (ss ts : List Span) (gs hs : List hb_glyph_info_t) →
     spans ≡ ss ++ ts → old.glyphs ≡ gs ++ hs → spans_cover (length gs) ss ≡ true →
     spans_cover (length hs) ts ≡ true →
-    SetUpOfHalves ss ts broken_kind gs hs old new
+    SetUpOfHalves made broken_kind ss ts gs hs shown old new
+
+abbrev pub SetUpCutsAtSpans : List Span → ℕ → Buffer → Buffer → Type 0
+SetUpCutsAtSpans spans broken_kind old new =
+    SetUpCuts unsafe_spans broken_kind spans new.glyphs old new
 
 abbrev pub SpansCutLaw : Type 0
 SpansCutLaw = (spans : List Span) (broken_kind : ℕ) (old : Buffer) →

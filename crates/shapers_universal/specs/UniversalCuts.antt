@@ -1,20 +1,21 @@
 -- The set-up of syllables in the universal shaper, cut between two spans. The form of a syllable
 -- depends on its neighbours, so masks of forms are left out, and with Sound the flags by them.
-use Rattle.std.specs.Prelude.{ℕ, ◌-◌, ◌≡◌, bit_and, true, ◌||◌, List, ◌++◌, length, map, Option, None, Some}
+use Rattle.std.specs.Prelude.{ℕ, ◌-◌, bit_and, List, map, Option, None, Some}
 use Rattle.shapers_buffer.specs.declared.buffer.glyph.hb_glyph_info_t.{hb_glyph_info_t}
 use Rattle.shapers_buffer.specs.declared.buffer.syllables.Span.{Span}
 use Rattle.shapers_buffer.specs.Buffer.{Buffer}
 use Rattle.shapers_buffer.specs.Glyph.{without_flags}
-use Rattle.shapers_buffer.specs.Syllables.{spans_cover}
 use Rattle.shapers_base.specs.Map.{Map}
 use Rattle.shapers_base.specs.declared.plan.PlanData.{PlanData}
 use Rattle.shapers_base.specs.declared.plan.arabic.arabic_shape_plan_t.{arabic_shape_plan_t}
 use Rattle.shapers_base.specs.declared.plan.breaks.BreakFlags.{BreakFlags}
 use Rattle.shapers_base.specs.declared.plan.breaks.BreakFlags.TheVariants.{AsCode, Sound}
-use Rattle.shapers_syllabic.specs.Borders.{MeetAtBorder, SameButSerials}
+use Rattle.shapers_syllabic.specs.declared.ot_shaper_syllabic.kinds.use_syllable.TheConstants.{BROKEN_CLUSTER}
+use Rattle.shapers_syllabic.specs.Borders.{SetUpCuts}
 use Rattle.shapers_syllabic.specs.ReorderingLaws.{with_mask_by}
+use Rattle.shapers_syllabic.specs.Syllabic.{unsafe_spans}
 use Rattle.shapers_universal.specs.PlanData.{arabic_of}
-use Rattle.shapers_universal.specs.UniversalSyllables.{all_forms, form_masks, syllables_set_up, with_forms_flagged}
+use Rattle.shapers_universal.specs.UniversalSyllables.{all_forms, form_masks, forms_flagged, with_syllable_masks}
 
 -- the glyph without the masks of forms; with a plan of Arabic there are none
 abbrev pub formless_for : Option arabic_shape_plan_t → Map → hb_glyph_info_t → hb_glyph_info_t
@@ -32,33 +33,16 @@ abbrev pub cut_view : BreakFlags → PlanData → Map → hb_glyph_info_t → hb
 cut_view breaks kept m g =
     with_mask_by (flagless_for (arabic_of kept) breaks) (formless_for (arabic_of kept) m g)
 
--- what a set-up by spans makes of a buffer, as far as this view shows it
-abbrev pub formless_set_up : BreakFlags → PlanData → Map → List Span → Buffer →
+-- what spans set up of glyphs, as far as this view shows it
+abbrev pub formless_set_up : BreakFlags → PlanData → Map → List Span → List hb_glyph_info_t →
     List hb_glyph_info_t
-formless_set_up breaks kept m spans b =
-    map (cut_view breaks kept m)
-    (with_forms_flagged breaks kept m (syllables_set_up kept m spans b)).glyphs
+formless_set_up breaks kept m spans gs =
+    let set_up = with_syllable_masks kept m (unsafe_spans spans gs) in
+    map (cut_view breaks kept m) (forms_flagged (arabic_of kept) breaks m set_up)
 
--- Spans cut between two of them: in this view, what they set up is what the first ones set up of
--- the glyphs that they cover, and behind it, but for serials, what the others set up of theirs; the
--- two meet at a border.
-pub record UniversalSetUpOfHalves (breaks : BreakFlags) (kept : PlanData) (m : Map) (ss ts : List
-    Span) (gs hs : List hb_glyph_info_t) (old new : Buffer) : Type 0 where
-  pub behind : List hb_glyph_info_t
-  pub parts : map (cut_view breaks kept m) new.glyphs
-      ≡ formless_set_up breaks kept m ss (record old { glyphs = gs }) ++ behind
-  pub renumbered : SameButSerials behind
-      (formless_set_up breaks kept m ts (record old { glyphs = hs }))
-  pub border : MeetAtBorder (formless_set_up breaks kept m ss (record old { glyphs = gs })) behind
-  pub broken : new.broken
-      ≡ ((syllables_set_up kept m ss (record old { glyphs = gs })).broken
-      || (syllables_set_up kept m ts (record old { glyphs = hs })).broken)
-
--- so between any two spans
+-- the set-up cut between any two spans, in this view
 abbrev pub UniversalSetUpCutsAtSpans : BreakFlags → PlanData → Map → List Span → Buffer → Buffer →
     Type 0
 UniversalSetUpCutsAtSpans breaks kept m spans old new =
-    (ss ts : List Span) (gs hs : List hb_glyph_info_t) →
-    spans ≡ ss ++ ts → old.glyphs ≡ gs ++ hs → spans_cover (length gs) ss ≡ true →
-    spans_cover (length hs) ts ≡ true →
-    UniversalSetUpOfHalves breaks kept m ss ts gs hs old new
+    let shown = map (cut_view breaks kept m) new.glyphs in
+    SetUpCuts (formless_set_up breaks kept m) BROKEN_CLUSTER spans shown old new
