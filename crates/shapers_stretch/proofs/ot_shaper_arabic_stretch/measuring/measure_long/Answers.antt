@@ -1,11 +1,12 @@
-use Rattle.std.proofs.Common.{◌≡◌, ◌<◌, ◌≤◌, ◌+ℤ◌, ◌≤ℤ◌, ◌*◌, ◌-◌, neg_ℤ, pos, not, length, map, sym, subst, ap, ◌∙◌, arith, rules, length-append, FitsSigned, List, to_z, of_z, [], ◌∷◌, ◌++◌}
-use Rattle.std.specs.List.{AllByRecursion}
+use Rattle.std.proofs.Common.{◌≡◌, ◌&&◌, true, false, ◌<◌, ◌≤◌, ◌+ℤ◌, ◌≤ℤ◌, ◌*◌, ◌-◌, neg_ℤ, pos, not, length, map, sym, subst, ap, ◌∙◌, arith, rules, length-append, FitsSigned, List, to_z, of_z, [], ◌∷◌, ◌++◌}
+use Rattle.std.specs.List.{AllByRecursion, list_all}
+use Rattle.std.proofs.lemmas.Bool.{and_right}
 use Rattle.std.proofs.lemmas.Int.{to_z-of_z}
 use Rattle.std.specs.Slice.Iter.{chunks_rest}
 use mir.Syntax.{w64, w128}
 use Rattle.shapers_stretch.specs.Cells.{repeats}
 use Rattle.shapers_stretch.specs.Lays.{MeasuresRun}
-use Rattle.shapers_stretch.specs.Measure.{fits_i32, total}
+use Rattle.shapers_stretch.specs.Measure.{fits_i32, left, total}
 use Rattle.shapers_stretch.specs.Stretch.{fixed, measured, repeating, width_of}
 use Rattle.shapers_stretch.specs.declared.ot_shaper_arabic_stretch.measuring.Run.{Run}
 use Rattle.shapers_stretch.proofs.Numbers.{repeating_apart, same_run}
@@ -84,6 +85,34 @@ loop-piece-preserved g c =
       subst (λ x. neg_ℤ (pos (9223372036854775808 * (all - length rest))) ≤ℤ x) (sym same_2) bounds_2.low,
       subst (λ x. x ≤ℤ pos (9223372036854775808 * (all - length rest))) (sym same_2) bounds_2.high,
     )
+
+-- a sum that doesn't fit
+word_apart : (z : Run) → fits_i32 z.word ≡ false → list_all fits_i32 (z.word ∷ z.fixed ∷ z.repeating ∷ left z ∷ [])
+    ≡ false
+word_apart z e = ap (λ b. b && (fits_i32 z.fixed && (fits_i32 z.repeating && (fits_i32 (left z) && true)))) e
+
+fixed_apart : (z : Run) → fits_i32 z.fixed ≡ false → list_all fits_i32 (z.word ∷ z.fixed ∷ z.repeating ∷ left z ∷ [])
+    ≡ false
+fixed_apart z e = and_right (fits_i32 z.word) _ (ap (λ b. b && (fits_i32 z.repeating && (fits_i32 (left z) && true))) e)
+
+pub returns-in_err-narrowed : goal.returns-in_err-narrowed
+returns-in_err-narrowed g c =
+    let z = measured (g.F.hb_font_t.font c.args.face.now) c.args.word.now c.args.tiles.now in
+    let fits_word : FitsSigned w128 c.total_advance-word.result = record { sfits = c.total_advance-word.type_inv } in
+    let done : to_z w128 (of_z w128 c.total_advance-word.result) ≡ z.word =
+    to_z-of_z w128 c.total_advance-word.result fits_word ∙ c.total_advance-word.ensures in
+    subst (MeasuresRun z) (sym c.from_residual.ensures)
+    (word_apart z (ap fits_i32 (sym done) ∙ c.in_err-narrowed.ensures))
+
+pub returns-in_err-narrowed-2 : goal.returns-in_err-narrowed-2
+returns-in_err-narrowed-2 g c =
+    let font = g.F.hb_font_t.font c.args.face.now in
+    let z = measured font c.args.word.now c.args.tiles.now in
+    let done : to_z w128 c.loop-piece.fixed-bits ≡ z.fixed =
+    kept_summed (width_of font) (λ g. not (repeats g)) _ (chunks_rest c.loop-piece.piece-iterator)
+    (to_z w128 c.loop-piece.fixed-bits) c.in-None.ensures.steps.1.0 c.loop-piece.invariant.5 in
+    subst (MeasuresRun z) (sym c.from_residual-in_err-narrowed-2.ensures)
+    (fixed_apart z (ap fits_i32 (sym done) ∙ c.in_err-narrowed-2.ensures))
 
 pub returns-in_err-narrowed-3 : goal.returns-in_err-narrowed-3
 returns-in_err-narrowed-3 g c =
