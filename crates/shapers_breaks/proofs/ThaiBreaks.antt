@@ -21,7 +21,7 @@ use Rattle.rustybuzz_shapers.specs.Hooks.{Preprocessed}
 use Rattle.rustybuzz_shapers.specs.declared.shaper.hb_ot_shaper_t.TheVariants.{Thai}
 use Rattle.rustybuzz_shapers.proofs.ThaiHalves.{forms_halves, text_view}
 use Rattle.rustybuzz_shapers.proofs.ThaiMonotone.{thai_monotone}
-use Rattle.shapers_breaks.specs.TextBreaks.{IsClusterBorder, JoinsGlyphs, JoinsOrder, back_half, front_half}
+use Rattle.shapers_breaks.specs.TextBreaks.{IsClusterBorder, JoinsGlyphs, JoinsOrder, TextBroken, back_half, front_half}
 use Rattle.shapers_breaks.specs.ThaiBreaks.{SaraAmsBreakLaw, ThaiFormsBreakLaw, sara_ams_taken}
 use Rattle.shapers_breaks.proofs.MeetingPlaces.{InOneOrder, UnheldAt, contains_picked, unheld_at}
 use Rattle.shapers_breaks.proofs.SaraAmHalves.{two_halves}
@@ -125,8 +125,13 @@ cut_before_letter has us (v ∷ vs) p n l letter =
     ∙ ap (λ k. get_or (v.glyph_id ∷ characters vs) k 0) back in
     forms_halves has (order_view us) (plain v) (order_view vs) (sym (ap is_thai_mark first) ∙ letter)
 
-pub thai_forms_break : ThaiFormsBreakLaw
-thai_forms_break plan font old new asked m mono join is p z l differ =
+-- wherever two clusters meet before a glyph that is no mark
+pub forms_broken : (plan : hb_ot_shape_plan_t) (font : Font) (old new : Buffer) → asks_for_forms plan ≡ true
+    → merges old.level ≡ true → IsMonotone (clusters old.glyphs) → Preprocessed Thai plan font old new → (p : ℕ)
+    → 0 < p → p < length new.glyphs → IsClusterBorder new.glyphs p
+    → is_thai_mark (get_or (characters (sara_ams_taken old.level old.glyphs)) p 0) ≡ false
+    → TextBroken (Preprocessed Thai plan font) JoinsOrder old new p
+forms_broken plan font old new asked m mono is p z l differ letter =
     let cluster : hb_glyph_info_t → ℕ = λ g. g.cluster in
     let has = has_nominal font in
     let level = old.level in
@@ -138,7 +143,6 @@ thai_forms_break plan font old new asked m mono join is p z l differ =
     let within : p < length ms = omega (arith, l, long) in
     let apart : get_or (clusters ms) (p - 1) 0 ≢ get_or (clusters ms) p 0 =
     subst (λ cs. get_or cs (p - 1) 0 ≢ get_or cs p 0) same differ in
-    let letter = false_from_ne_true (is_thai_mark (get_or (characters ms) p 0)) (λ mark. apart (join p z within mark)) in
     let at = two_unheld level m gs mono p z within apart in
     let sts = sara_am_stretches level (characters gs) in
     let there : UnheldAt (clusters gs) sts (clusters new.glyphs) p =
@@ -175,3 +179,20 @@ thai_forms_break plan font old new asked m mono join is p z l differ =
           ∙ ap (λ cs. cs ++ clusters vs) (sym (formed_clusters plan font asked (front_half q old) one first))
           ∙ ap (λ cs. clusters one.glyphs ++ cs) (sym (formed_clusters plan font asked (back_half q old) two second)),
     ))
+
+pub thai_forms_break : ThaiFormsBreakLaw
+thai_forms_break plan font old new asked m mono join is p z l differ =
+    let ms = sara_ams_taken old.level old.glyphs in
+    let same = formed_clusters plan font asked old new is in
+    let within : p < length ms =
+    omega (
+      arith,
+      l,
+      ap length same,
+      length-map new.glyphs (λ (g : hb_glyph_info_t). g.cluster),
+      length-map ms (λ (g : hb_glyph_info_t). g.cluster),
+    ) in
+    let apart : get_or (clusters ms) (p - 1) 0 ≢ get_or (clusters ms) p 0 =
+    subst (λ cs. get_or cs (p - 1) 0 ≢ get_or cs p 0) same differ in
+    forms_broken plan font old new asked m mono is p z l differ
+    (false_from_ne_true (is_thai_mark (get_or (characters ms) p 0)) (λ mark. apart (join p z within mark)))
