@@ -1,6 +1,7 @@
 # shellcheck shell=sh disable=SC2034,SC2154
-# Where the scripts of this folder, which source this file, fetch and build everything: the folder $out. With the first argument
-# --unstable HarfBuzz is that of Debian's unstable, and what is built goes to a folder in that one.
+# Where the scripts of this folder, which source this file, fetch and build everything: the folder $out. With the argument
+# --unstable HarfBuzz is that of Debian's unstable, and what is built goes to a folder in that one. With --sound there is one
+# more build, `sound`, whose plans choose the sound flags of breaks.
 
 known='6.0.0 12.3.2' # the versions that the binding is made for
 out=${SENGADLIT_HARFBUZZ:-${XDG_CACHE_HOME:-$HOME/.cache}/sengadlit/harfbuzz}
@@ -11,17 +12,20 @@ deb-src debian bookworm'
 # shellcheck source=bindings/debian.sh
 . "$here/../debian.sh"
 option=
-case ${1-} in
-'') ;;
---unstable)
-    option=' --unstable'
-    package=harfbuzz
-    sources="$sources
+sound=
+for argument; do
+    case $argument in
+    --unstable)
+        option=' --unstable'
+        package=harfbuzz
+        sources="$sources
 deb-src debian sid"
-    out=$out/unstable
-    ;;
-*) echo "$0 [--unstable]" >&2; exit 2 ;;
-esac
+        out=$out/unstable
+        ;;
+    --sound) sound=yes ;;
+    *) echo "$0 [--unstable] [--sound]" >&2; exit 2 ;;
+    esac
+done
 
 # The folder of HarfBuzz's source: what $HARFBUZZ_SOURCE names, or what was fetched.
 source_folder() {

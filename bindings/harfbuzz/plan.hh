@@ -323,6 +323,9 @@ create_proved_plan (unsigned shaper, const hb_ot_shape_plan_t *plan)
   input.has_gpos_mark = plan->has_gpos_mark;
   input.global_mask = plan->map.get_global_mask ();
   input.searches_medials = true;
+#ifdef SENGADLIT_SOUND
+  input.sound_breaks = true;
+#endif
   input.features = features.arrayZ;
   input.features_length = features.length;
   input.stages = stages.arrayZ;

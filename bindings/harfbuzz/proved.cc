@@ -5,6 +5,8 @@
    what sengadlit.h takes, makes the call, and writes the result back. HarfBuzz's own functions still do what the
    proved hooks leave to a caller: syllable machines, vowel constraints, tables of Unicode, the fallback shaper.
 
+   With SENGADLIT_SOUND the plans choose the sound flags of breaks.
+
    With SENGADLIT_SHADOW each hook runs after HarfBuzz's own on the same buffer, and both are compared (shadow.hh). */
 
 #include "hb.hh"

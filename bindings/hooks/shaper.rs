@@ -17,7 +17,7 @@ use sengadlit::alloc::Global;
 use sengadlit::buffer::GlyphMarks;
 use sengadlit::font::FeaturesOnly;
 use sengadlit::ot_shaper_syllabic::{clear_syllables_in, set_categories_and_positions_in, set_categories_in};
-use sengadlit::plan::{BaseSearch, NormalizationMode, ZeroWidthMarks};
+use sengadlit::plan::{BaseSearch, BreakFlags, NormalizationMode, ZeroWidthMarks};
 use sengadlit::shaper::{pause_may_change, Hook};
 use sengadlit::{
     ot_shaper_hangul, ot_shaper_indic, ot_shaper_khmer, ot_shaper_use, run_pause, Buffer, BufferFlags, Direction,
@@ -78,6 +78,10 @@ fn request(planner: &mut hb_ot_shape_planner_t, wanted: &Planner) {
     }
 }
 
+/// Which places are flagged unsafe to break: those of HarfBuzz's code, or with the feature `sound-breaks` those too where a
+/// broken text would be shaped otherwise.
+const BREAK_FLAGS: BreakFlags = if cfg!(feature = "sound-breaks") { BreakFlags::Sound } else { BreakFlags::AsCode };
+
 fn create_data<const S: usize>(from: &hb_ot_shape_plan_t) -> Box<dyn Any + Send + Sync> {
     const GSUB: TableIndex = TableIndex::GSUB;
     let map = &from.ot_map;
@@ -96,6 +100,7 @@ fn create_data<const S: usize>(from: &hb_ot_shape_plan_t) -> Box<dyn Any + Send 
         .found_script(map.found_script(GSUB))
         .has_gpos_mark(from.has_gpos_mark)
         .base_search(BaseSearch::AllConsonants)
+        .break_flags(BREAK_FLAGS)
         .build_for(Shaper::ALL[S]);
     let plan = made.expect("stages are ranges, and masks touch no glyph flag");
     Box::new(ShaperPlan { shaper: Some(Shaper::ALL[S]), plan, may_turn: parts::may_turn(from) })

@@ -32,7 +32,7 @@ myanmar_is_cut law plan font spans unread old mid new kinds set_up reordered =
 pub universal_is_cut : UniversalCutsBetweenSpans → UniversalIsCut
 universal_is_cut law plan font spans unread old mid new kinds set_up reordered =
     let r = by_universal font mid in
-    law plan.plan_data plan.ot_map r.circles spans old new kinds
+    law plan.break_flags plan.plan_data plan.ot_map r.circles spans old new kinds
     (subst (λ (b : Buffer). Reordered r b new) set_up reordered)
 
 pub indic_is_cut : InitialCutsBetweenSpans → IsCut SetupSyllablesIndic InitialReordering by_initial

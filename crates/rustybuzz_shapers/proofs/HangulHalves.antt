@@ -7,16 +7,18 @@ use Rattle.shapers_buffer.specs.Clusters.{merge_all}
 use Rattle.shapers_buffer.specs.Glyph.{characters, clusters, order_view, plain}
 use Rattle.shapers_buffer.specs.GlyphFlags.{unsafe_all}
 use Rattle.shapers_base.specs.Font.{Font}
+use Rattle.shapers_base.specs.declared.plan.breaks.BreakFlags.{BreakFlags}
 use Rattle.shapers_clusters.specs.Cuts.{EndWithin, ShareNone}
 use Rattle.shapers_clusters.specs.Steps.{shifted}
 use Rattle.shapers_clusters.proofs.FlagCalls.{without_flags-or}
 use Rattle.shapers_clusters.proofs.Merging.{length-merge_all, order_view-merge_all}
 use Rattle.shapers_clusters.proofs.Moves.{end_within-append}
-use Rattle.shapers_hangul.specs.Hangul.{Copying, all_joined, first_item, glyph_copies, item_joined, item_len, item_stretches, items, items_from, outputs, preprocessed, stretches, unsafe_stretches}
+use Rattle.shapers_hangul.specs.Hangul.{Copying, all_joined, first_item, glyph_copies, item_joined, item_len, item_stretches, items, items_flagged, items_from, outputs, preprocessed, stretches, text_rewritten, unsafe_stretches}
 use Rattle.shapers_hangul.specs.HangulLaws.{place_copies}
 use Rattle.shapers_hangul.proofs.HangulClusters.{item_ends}
+use Rattle.shapers_hangul.proofs.ItemFlags.{map-items_flagged}
 use Rattle.shapers_hangul.proofs.Items.{first_item-within, taken_some}
-use Rattle.shapers_hangul.proofs.Outputs.{outputs-map}
+use Rattle.shapers_hangul.proofs.Outputs.{Leads, outputs-map}
 use Rattle.shapers_hangul.proofs.Walks.{clusters-all_joined, length-characters, map-unsafe}
 use Rattle.rustybuzz_shapers.specs.TextCuts.{IsBetweenItems}
 use Rattle.rustybuzz_shapers.proofs.HangulItems.{EachBeside, outputs_local, outputs_past, split_there, stretches_past}
@@ -53,6 +55,20 @@ clusters_made font circles level gs =
     outputs-map (λ (g : hb_glyph_info_t). g.cluster) glyph_copies place_copies
     (record { character = λ u g. refl; jamo = λ n g. refl }) cut (all_joined level cut gs)
     ∙ ap (outputs place_copies cut) (clusters-all_joined level cut gs)
+
+-- what the choice flags shows in neither
+pub hangul_order-flagged : (breaks : BreakFlags) (font : Font) (circles : Bool) (level : BufferClusterLevel)
+    (gs : List hb_glyph_info_t) → order_view (text_rewritten breaks font circles level gs)
+    ≡ order_view (preprocessed font circles level gs)
+hangul_order-flagged breaks font circles level gs =
+    let cut = items font circles (characters gs) in
+    let joined = all_joined level cut gs in
+    let leads : Leads plain glyph_copies glyph_copies = record { character = λ u g. refl; jamo = λ n g. refl } in
+    outputs-map plain glyph_copies glyph_copies leads cut (items_flagged breaks cut joined)
+    ∙ ap (outputs glyph_copies cut) (map-items_flagged plain
+    (λ g. ap (λ (m : ℕ). let r : hb_glyph_info_t = record g { cluster = 0; mask = m } in r)
+    (without_flags-or g.mask 3 refl)) breaks cut joined)
+    ∙ sym (outputs-map plain glyph_copies glyph_copies leads cut joined)
 
 -- the stretches end within the text
 ends_from : (level : BufferClusterLevel) (font : Font) (circles : Bool) (n place skip : ℕ) (us : List ℕ)

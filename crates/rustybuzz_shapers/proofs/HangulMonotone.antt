@@ -15,6 +15,7 @@ use Rattle.shapers_clusters.proofs.Merging.{length-merge_all}
 use Rattle.shapers_clusters.proofs.Moves.{HeldIn, all_held, clusters-merge_all, held_share}
 use Rattle.shapers_hangul.specs.Hangul.{allows_circles, combines_l, combines_t, combines_v, first_item, first_unit, has_jamo_of, is_l, is_lv, is_narrow, is_s, is_syllable, is_t, is_tone, is_v, item_len, item_output, item_stretches, items, items_from, marked_from, opening_unit, outputs, stretches, taken, tone_len, tone_stretch, unit_output, unit_stretch, with_t, with_tone, with_v}
 use Rattle.shapers_hangul.specs.HangulLaws.{place_copies}
+use Rattle.shapers_hangul.proofs.HangulClusters.{clusters-rewritten}
 use Rattle.shapers_hangul.proofs.Items.{either, first_item-within, taken_some}
 use Rattle.shapers_hangul.proofs.Walks.{length-characters}
 use Rattle.rustybuzz_shapers.specs.Monotone.{HangulStaysMonotone}
@@ -304,7 +305,8 @@ hangul_stays_monotone plan font old new m is =
     let sts = stretches level (items font circles us) in
     let merged = clusters (merge_all level sts gs) in
     let made : clusters new.glyphs ≡ outputs place_copies (items font circles us) merged =
-    ap (λ (b : Buffer). clusters b.glyphs) is ∙ clusters_made font circles level gs in
+    ap (λ (b : Buffer). clusters b.glyphs) is ∙ clusters-rewritten plan.break_flags font circles level gs
+    ∙ clusters_made font circles level gs in
     let are : merged ≡ joined_all level sts cs = clusters-merge_all level sts gs in
     let long = length-map gs (λ (g : hb_glyph_info_t). g.cluster) in
     let within : EndWithin (length cs) sts =

@@ -18,14 +18,16 @@ use Rattle.shapers_buffer.specs.Refusals.{RefusesInput, RefusesLength}
 use Rattle.shapers_buffer.specs.Syllables.{spans_cover, syllables, unknown_syllable}
 use Rattle.shapers_clusters.specs.FlagLaw.{FlagsAdded, OnlyFlagsAdded}
 use Rattle.shapers_hangul.specs.Hangul.{allows_circles}
+use Rattle.shapers_hangul.proofs.Changes.{length-flagged}
 use Rattle.shapers_syllabic.specs.Circles.{circled, is_of_kind}
 use Rattle.shapers_syllabic.specs.declared.ot_shaper_syllabic.circles.DottedCircles.{DottedCircles}
 use Rattle.shapers_syllabic.proofs.CircleLaws.{joined-syllables, length-with_circles}
 use Rattle.shapers_text.specs.Thai.{glyph_rule, glyphs_in_two, in_parts, is_sara_am, nikhahit, sara_aa}
-use Rattle.shapers_text.specs.ThaiForms.{asks_for_forms, preprocessed_text}
+use Rattle.shapers_text.specs.ThaiForms.{asks_for_forms, preprocessed_flagged, preprocessed_text}
 use Rattle.shapers_text.specs.ThaiLaws.{kept_view}
 use Rattle.shapers_text.proofs.ThaiInTwo.{lengths}
 use Rattle.shapers_text.proofs.ThaiKept.{kept_in_two}
+use Rattle.shapers_text.proofs.ThaiWholeMarks.{clusters-flagged}
 use Rattle.rustybuzz_shapers.specs.Hooks.{Preprocessed}
 use Rattle.rustybuzz_shapers.specs.Lengths.{PausesGrow, PausesHaveRoom, PreprocessingGrows, PreprocessingHasRoom, broken_in}
 use Rattle.rustybuzz_shapers.specs.Pauses.{RefusesReordering, pause_circles}
@@ -58,7 +60,11 @@ thai_long plan font old new is =
     let forms = asks_for_forms plan in
     let made = preprocessed_text forms (has_nominal font) old.level old.glyphs in
     let parts = flat_map (in_parts glyph_rule) old.glyphs in
+    let flagged = preprocessed_flagged plan.break_flags forms (has_nominal font) old.level old.glyphs in
     ap (λ (b : Buffer). length b.glyphs) is
+    ∙ sym (length-map flagged (λ g. g.cluster))
+    ∙ ap length (clusters-flagged plan.break_flags forms (has_nominal font) old.level old.glyphs)
+    ∙ length-map made (λ g. g.cluster)
     ∙ sym (length-map made (kept_view forms))
     ∙ length_permutation (map (kept_view forms) parts) (map (kept_view forms) made)
     (kept_in_two forms (has_nominal font) old.level old.glyphs)
@@ -69,7 +75,7 @@ pub preprocessing_grows : PreprocessingGrows
 preprocessing_grows Arabic plan font old new k = same_long old new k.1
 preprocessing_grows Hangul plan font old new k =
     let long = hangul_long font (allows_circles old) old.level old.glyphs in
-    let same = ap (λ (b : Buffer). length b.glyphs) k in
+    let same = ap (λ (b : Buffer). length b.glyphs) k ∙ length-flagged plan.break_flags font old in
     omega (arith, long, same)
 preprocessing_grows Hebrew plan font old new k = same_long old new k.1
 preprocessing_grows Indic plan font old new k = same_long old new k

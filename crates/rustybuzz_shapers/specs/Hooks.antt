@@ -102,7 +102,7 @@ preprocess_answer _ = None
 
 -- the buffer before and after preprocessing
 abbrev pub Preprocessed : hb_ot_shaper_t → hb_ot_shape_plan_t → Font → Buffer → Buffer → Type 0
-Preprocessed Hangul plan font old new = new ≡ hangul.rewritten font old
+Preprocessed Hangul plan font old new = new ≡ hangul.rewritten_by plan.break_flags font old
 Preprocessed Indic plan font old new = new ≡ old
 Preprocessed Thai plan font old new = new ≡ preprocessed_in_thai plan font old
 Preprocessed Universal plan font old new = new ≡ old

@@ -33,7 +33,7 @@ use Rattle.shapers_syllabic.specs.declared.ot_shaper_syllabic.kinds.myanmar_syll
 use Rattle.shapers_universal.specs.PlanData.{is_universal, rphf_of}
 use Rattle.shapers_universal.specs.Universal.{universal_order, universal_steps}
 use Rattle.shapers_universal.specs.UniversalCuts.{UniversalSetUpCutsAtSpans}
-use Rattle.shapers_universal.specs.UniversalSyllables.{syllables_set_up, with_pref_recorded, with_rphf_recorded}
+use Rattle.shapers_universal.specs.UniversalSyllables.{syllables_set_up, with_forms_flagged, with_pref_recorded, with_rphf_recorded}
 use Rattle.shapers_universal.specs.UniversalText.{universal_circles}
 use Rattle.shapers_buffer.specs.Buffer.{Buffer}
 use Rattle.shapers_base.specs.Font.{Font}
@@ -150,7 +150,8 @@ Paused SetupSyllablesKhmer plan font spans old new =
 Paused SetupSyllablesMyanmar plan font spans old new =
     new ≡ spans_set_up spans myanmar_syllable.BROKEN_CLUSTER old
 Paused SetupSyllablesUse plan font spans old new =
-    new ≡ syllables_set_up plan.plan_data plan.ot_map spans old
+    new ≡ with_forms_flagged plan.break_flags plan.plan_data plan.ot_map
+    (syllables_set_up plan.plan_data plan.ot_map spans old)
 Paused InitialReordering plan font spans old new =
     Reordered (by_initial plan font old) old new
     × InitiallyReordered font plan.ot_map (indic_in plan) old new
@@ -240,7 +241,7 @@ PauseKeeps SetupSyllablesMyanmar plan font spans old new =
     SetUpCutsAtSpans spans myanmar_syllable.BROKEN_CLUSTER old new
     × (clusters new.glyphs ≡ clusters old.glyphs) × OnlyFlagsAdded old.glyphs new.glyphs
 PauseKeeps SetupSyllablesUse plan font spans old new =
-    UniversalSetUpCutsAtSpans plan.plan_data plan.ot_map spans old new
+    UniversalSetUpCutsAtSpans plan.break_flags plan.plan_data plan.ot_map spans old new
     × (clusters new.glyphs ≡ clusters old.glyphs) × OnlyFlagsAdded old.glyphs new.glyphs
 PauseKeeps InitialReordering plan font spans old new =
     ReorderingKeeps (by_initial plan font old) old new

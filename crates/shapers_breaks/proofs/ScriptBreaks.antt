@@ -23,7 +23,7 @@ use Rattle.shapers_myanmar.specs.Myanmar.{myanmar_circles, myanmar_order, myanma
 use Rattle.shapers_myanmar.specs.MyanmarLaws.{MyanmarMovesMerged, MyanmarReadsNoSerials, MyanmarReorderLaws}
 use Rattle.shapers_universal.specs.Universal.{universal_order, universal_steps}
 use Rattle.shapers_universal.specs.UniversalLaws.{UniversalCutsBetweenSpans, UniversalMovesMerged, UniversalReorderLaws, set_up_by_spans}
-use Rattle.shapers_universal.specs.UniversalSyllables.{syllables_set_up}
+use Rattle.shapers_universal.specs.UniversalSyllables.{syllables_set_up, with_forms_flagged}
 use Rattle.rustybuzz_shapers.specs.Pauses.{Reordered, by_khmer, by_myanmar, by_universal}
 use Rattle.rustybuzz_shapers.proofs.Monotone.{circles_stay_monotone}
 use Rattle.shapers_breaks.specs.PauseBreaks.{AtMostOneRepha, PausesBreakLaw, SpanCut}
@@ -31,7 +31,7 @@ use Rattle.shapers_breaks.specs.ScriptBreaks.{MyanmarHasNoRepha, PausesBreakBy, 
 use Rattle.shapers_breaks.proofs.CircledBorders.{circled_is, length-paused, opened_piece}
 use Rattle.shapers_breaks.proofs.PauseBreaks.{as_many, front_is, length-moved, pause_cut, pauses_break_by, text_cut}
 use Rattle.shapers_breaks.proofs.SetUp.{Glyphs, set_up_guarded}
-use Rattle.shapers_breaks.proofs.UniversalSetUp.{clusters_kept, guarded_kept, length-all_opened, set_up_kept, syllables_kept, taken_kept}
+use Rattle.shapers_breaks.proofs.UniversalSetUp.{clusters_kept, flagged_kept, guarded_kept, length-all_opened, set_up_kept, syllables_kept, taken_kept}
 
 -- circles behind at most one repha leave clusters rising or falling
 monotone_circled : (circles : Option DottedCircles) (gs : Glyphs) → AtMostOneRepha circles gs → IsMonotone
@@ -105,11 +105,12 @@ universal_breaks laws inside cuts plan font spans unread old mid new can off few
     let circles = by.circles in
     let F = opened_piece circles in
     let bare = unsafe_spans spans gs in
-    let whole : Buffer = syllables_set_up kept m spans old in
-    let masked = set_up_by_spans kept m spans gs in
+    let breaks = plan.break_flags in
+    let whole : Buffer = with_forms_flagged breaks kept m (syllables_set_up kept m spans old) in
+    let masked = whole.glyphs in
     let done : Reordered by whole new = subst (λ (b : Buffer). Reordered by b new) set_up reordered in
     let short : AtMostOneRepha circles masked = subst (λ (b : Buffer). AtMostOneRepha circles b.glyphs) set_up few in
-    let shape = set_up_kept kept m off bare in
+    let shape = flagged_kept breaks kept m off bare in
     let under = set_up_guarded spans gs can.kinds can.covered in
     let guarded = guarded_kept spans bare masked shape under in
     let first_same = clusters-set_up spans 0 old in
@@ -156,6 +157,6 @@ universal_breaks laws inside cuts plan font spans unread old mid new can off few
       apart = far;
       place = place;
     } in
-    let halves = cuts kept m circles spans old new can.kinds done (take k spans) (drop k spans) (take n gs)
+    let halves = cuts breaks kept m circles spans old new can.kinds done (take k spans) (drop k spans) (take n gs)
     (drop n gs) front back text.split text.text text.first text.second refl refl in
     record { cut = cut; order = halves.order; in_clusters = halves.in_clusters far }

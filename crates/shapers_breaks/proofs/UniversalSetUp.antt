@@ -1,6 +1,6 @@
 -- The masks that the universal shaper sets on syllables leave clusters, bytes and flags.
 use Rattle.std.proofs.Common.{ℕ, zero, suc, if◌then◌else◌, ◌-◌, ◌%◌, ◌<◌, ◌≤◌, ◌≡◌, ◌==◌, bit_and, Bool, true, false, List, [], ◌∷◌, ◌++◌, length, map, take, drop, refl, sym, ap, ◌∙◌, subst, arith, length-append, length-take, length-drop}
-use Rattle.std.specs.Prelude.{Option, None, Some}
+use Rattle.std.specs.Prelude.{Option, None, Some, get_or}
 use Rattle.std.specs.List.{AllByRecursion, AllZip, flat_map}
 use Rattle.std.proofs.lemmas.List.{take-append-drop}
 use Rattle.std.proofs.lemmas.List.Elements.{All-from_get_or, All-get_or, AllZip-get_or}
@@ -13,13 +13,16 @@ use Rattle.shapers_buffer.specs.Syllables.{kind_of, syllables, with_opening}
 use Rattle.shapers_base.specs.Map.{Map}
 use Rattle.shapers_base.specs.declared.plan.PlanData.{PlanData}
 use Rattle.shapers_base.specs.declared.plan.arabic.arabic_shape_plan_t.{arabic_shape_plan_t}
+use Rattle.shapers_base.specs.declared.plan.breaks.BreakFlags.{BreakFlags}
+use Rattle.shapers_clusters.specs.FlagLaw.{OnlyFlagsAdded}
 use Rattle.shapers_clusters.specs.Flags.{bit_at}
 use Rattle.shapers_clusters.proofs.Falls.{all_append}
 use Rattle.shapers_syllabic.specs.Circles.{circle_in, is_of_kind, rephas_len, with_circle}
 use Rattle.shapers_syllabic.specs.declared.ot_shaper_syllabic.circles.DottedCircles.{DottedCircles}
 use Rattle.shapers_syllabic.proofs.CircleLaws.{joined-syllables}
 use Rattle.shapers_universal.specs.PlanData.{arabic_of, rphf_of}
-use Rattle.shapers_universal.specs.UniversalSyllables.{all_forms, first_joins, form_masks, formed, in_forms, joins_runs, mask_between, rphf_len, with_forms_for, with_instead, with_rphf, with_syllable_masks}
+use Rattle.shapers_universal.specs.UniversalSyllables.{all_forms, first_joins, form_masks, formed, forms_flagged, in_forms, joins_runs, mask_between, rphf_len, with_forms_for, with_instead, with_rphf, with_syllable_masks}
+use Rattle.shapers_universal.proofs.TornPairs.{forms_flagged_added, map-forms_flagged}
 use Rattle.shapers_breaks.specs.ScriptBreaks.{FormsOffFlags}
 use Rattle.shapers_breaks.specs.SetUp.{IsFlagged}
 use Rattle.shapers_breaks.proofs.CircledBorders.{opened_piece}
@@ -137,6 +140,33 @@ set_up_kept kept m off gs =
     let mid = flat_map (with_rphf (rphf_of kept)) (syllables gs) in
     let first = subst (λ xs. KeepShapes xs mid) (joined-syllables gs) (rphfs_kept (rphf_of kept) (syllables gs)) in
     all_on gs mid (with_syllable_masks kept m gs) first (forms_for_kept (arabic_of kept) m off mid)
+
+-- and so what the choice flags
+added_kept : (gs hs : Glyphs) → OnlyFlagsAdded gs hs → map (λ g. g.syllable) hs ≡ map (λ g. g.syllable) gs
+    → KeepShapes gs hs
+added_kept [] [] added bytes = tt
+added_kept [] (h ∷ hs) added bytes = absurd added
+added_kept (g ∷ gs) [] added bytes = absurd added
+added_kept (g ∷ gs) (h ∷ hs) added bytes = (
+  record {
+    cluster = added.0.same;
+    byte = ap (λ (bs : List ℕ). get_or bs 0 0) bytes;
+    flags = λ f.
+        let a : bit_at 0 h.mask ≤ 1 = omega arith in
+        let b : bit_at 1 h.mask ≤ 1 = omega arith in
+        (omega (arith, added.0.kept 0 (omega arith), f.0, a), omega (arith, added.0.kept 1 (omega arith), f.1, b));
+  },
+  added_kept gs hs added.1 (ap (λ (bs : List ℕ). drop 1 bs) bytes),
+)
+
+pub flagged_kept : (breaks : BreakFlags) (kept : PlanData) (m : Map) → FormsOffFlags (arabic_of kept) m → (gs : Glyphs)
+    → KeepShapes gs (forms_flagged (arabic_of kept) breaks m (with_syllable_masks kept m gs))
+flagged_kept breaks kept m off gs =
+    let masked = with_syllable_masks kept m gs in
+    let flagged = forms_flagged (arabic_of kept) breaks m masked in
+    all_on gs masked flagged (set_up_kept kept m off gs)
+    (added_kept masked flagged (forms_flagged_added (arabic_of kept) breaks m masked)
+    (map-forms_flagged (λ g. g.syllable) (λ g. refl) (arabic_of kept) breaks m masked))
 
 -- clusters and syllables
 pub clusters_kept : (gs hs : Glyphs) → KeepShapes gs hs → clusters hs ≡ clusters gs

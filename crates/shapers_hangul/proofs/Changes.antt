@@ -14,11 +14,11 @@ use Rattle.shapers_base.specs.Font.{Font}
 use Rattle.shapers_base.specs.declared.plan.breaks.BreakFlags.{BreakFlags}
 use Rattle.shapers_base.specs.declared.plan.breaks.BreakFlags.TheVariants.{AsCode, Sound}
 use Rattle.shapers_hangul.specs.declared.ot_shaper_hangul.item.Item.{Item}
-use Rattle.shapers_hangul.specs.Hangul.{item_len, output_len, tone_len, is_kept, first_item, items_from, items_at, Fit, item_output, outputs, item_joined, all_joined, character_copies, glyph_copies, preprocessed, rewritten, allows_circles, items, items_flagged, whole_items, with_items_flagged, KeptBefore}
+use Rattle.shapers_hangul.specs.Hangul.{item_len, output_len, tone_len, is_kept, first_item, items_from, items_at, Fit, item_output, outputs, item_joined, all_joined, character_copies, glyph_copies, allows_circles, items, items_flagged, rewritten, rewritten_by, text_rewritten, whole_items, KeptBefore}
 use Rattle.shapers_hangul.specs.RewritingWalk.{rewritten_items, InTurn, change_output, changed_from}
-use Rattle.shapers_hangul.proofs.ItemFlags.{characters-items_flagged}
+use Rattle.shapers_hangul.proofs.ItemFlags.{characters-items_flagged, length-items_flagged}
 use Rattle.shapers_hangul.proofs.Items.{taken_some, first_item-within, items_at_fit}
-use Rattle.shapers_hangul.proofs.Outputs.{characters-outputs, length-preprocessed, preprocessed-kept}
+use Rattle.shapers_hangul.proofs.Outputs.{characters-outputs}
 use Rattle.shapers_hangul.proofs.Walks.{kept_stays, one_unflagged, staying_next, glyphs_end, glyphs_next, length-characters, length-all_joined, length-item_output}
 
 -- a choice by whether an item is kept
@@ -250,38 +250,58 @@ room_left list rest start whole room wide same fits more =
     omega (arith, ap length same, length-append list rest, length-append start whole, fits, more)
 
 -- THE WHOLE
-pub changed_text : (font : Font) (circles : Bool) (level : BufferClusterLevel) (gs : List hb_glyph_info_t) (place : ℕ)
-    (cut : List (ℕ × Item)) (list : List hb_glyph_info_t) → KeptBefore font circles gs place
-    → cut ≡ rewritten_items (items_at font circles (characters gs) place) → list ≡ take place (all_joined level cut gs)
-    ++ changed_from place cut (all_joined level cut gs) → list ≡ preprocessed font circles level gs
-changed_text font circles level gs place cut list kept same is =
-    let us = characters gs in
-    let whole = items_at font circles us place in
-    let joined = all_joined level whole gs in
-    let here : place + 0 ≡ place = omega arith in
-    let long : length joined ≡ place + length (drop place us) =
-    omega (arith, length-all_joined level whole gs, length-drop place us, length-characters gs, kept.within) in
-    let all : changed_from place (rewritten_items whole) joined ≡ outputs glyph_copies whole joined =
-    ap (λ m. changed_from m (rewritten_items whole) joined) (sym here)
-    ∙ changed_all font circles place 0 (drop place us) joined (omega arith) long in
-    is
-    ∙ ap (λ (l : List (ℕ × Item)). take place (all_joined level l gs) ++ changed_from place l (all_joined level l gs))
-    same
-    ∙ ap (λ (j : List hb_glyph_info_t). take place j ++ changed_from place (rewritten_items whole) j)
-    (joined_changes level whole gs)
-    ∙ ap (λ l. take place joined ++ l) all
-    ∙ sym (preprocessed-kept font circles level gs place kept)
+-- the flags of the items that the code listed are those of all
+flagged_listed : (breaks : BreakFlags) (cut : List (ℕ × Item)) (gs : List hb_glyph_info_t)
+    → items_flagged breaks (rewritten_items cut) gs ≡ items_flagged breaks cut gs
+flagged_listed AsCode cut gs = refl
+flagged_listed Sound cut gs = flagged_changes cut gs
 
-pub changed_whole : (font : Font) (circles : Bool) (level : BufferClusterLevel) (gs : List hb_glyph_info_t) (place : ℕ)
-    (cut : List (ℕ × Item)) → KeptBefore font circles gs place
-    → cut ≡ rewritten_items (items_at font circles (characters gs) place) → changed_from 0 cut (all_joined level cut gs)
-    ≡ preprocessed font circles level gs
-changed_whole font circles level gs place cut kept same =
-    let joined = all_joined level cut gs in
+flagged_kept : (breaks : BreakFlags) (font : Font) (circles : Bool) (gs : List hb_glyph_info_t) (place : ℕ)
+    → KeptBefore font circles gs place → (xs : List hb_glyph_info_t)
+    → items_flagged breaks (items font circles (characters gs)) xs
+    ≡ items_flagged breaks (items_at font circles (characters gs) place) xs
+flagged_kept AsCode font circles gs place kept xs = refl
+flagged_kept Sound font circles gs place kept xs = kept.unflagged xs
+
+pub changed_whole : (breaks : BreakFlags) (font : Font) (circles : Bool) (level : BufferClusterLevel)
+    (gs : List hb_glyph_info_t) (place : ℕ) (cut : List (ℕ × Item)) → KeptBefore font circles gs place
+    → cut ≡ rewritten_items (items_at font circles (characters gs) place)
+    → changed_from 0 cut (items_flagged breaks cut (all_joined level cut gs)) ≡ text_rewritten breaks font circles level gs
+changed_whole breaks font circles level gs place cut kept same =
+    let us = characters gs in
+    let at = items_at font circles us place in
+    let whole = items font circles us in
+    let joined = all_joined level at gs in
+    let flagged = items_flagged breaks at joined in
+    let all = all_joined level whole gs in
+    let here : place + 0 ≡ place = omega arith in
+    let is_flagged : items_flagged breaks cut (all_joined level cut gs) ≡ flagged =
+    ap (λ (l : List (ℕ × Item)). items_flagged breaks l (all_joined level l gs)) same
+    ∙ flagged_listed breaks at (all_joined level (rewritten_items at) gs)
+    ∙ ap (items_flagged breaks at) (joined_changes level at gs) in
+    let long : length flagged ≡ place + length (drop place us) =
+    omega (
+      arith,
+      length-items_flagged breaks at joined,
+      length-all_joined level at gs,
+      length-drop place us,
+      length-characters gs,
+      kept.within,
+    ) in
     let turn : InTurn (length gs) place cut =
     subst (InTurn (length gs) place) (sym same) (items_at_turn font circles gs place kept.within) in
-    changed_text font circles level gs place cut (changed_from 0 cut joined) kept same
-    (changed_from-start (length gs) place cut joined turn)
+    let written : changed_from place (rewritten_items at) flagged ≡ outputs glyph_copies at flagged =
+    ap (λ m. changed_from m (rewritten_items at) flagged) (sym here)
+    ∙ changed_all font circles place 0 (drop place us) flagged (omega arith) long in
+    let is_whole : flagged ≡ items_flagged breaks whole all =
+    ap (items_flagged breaks at) (sym (kept.unjoined level gs))
+    ∙ sym (flagged_kept breaks font circles gs place kept all) in
+    ap (changed_from 0 cut) is_flagged
+    ∙ changed_from-start (length gs) place cut flagged turn
+    ∙ ap (λ (l : List (ℕ × Item)). take place flagged ++ changed_from place l flagged) same
+    ∙ ap (λ l. take place flagged ++ l) written
+    ∙ sym (kept.same flagged)
+    ∙ ap (outputs glyph_copies whole) is_whole
 
 -- what the code asks of the items that it listed, and what it makes of a buffer by them
 pub changes_stand : (font : Font) (circles : Bool) (gs : List hb_glyph_info_t) (place : ℕ) (cut : List (ℕ × Item))
@@ -298,89 +318,42 @@ changes_stand font circles gs place cut within same =
     subst (λ (l : List (ℕ × Item)). Fit (length gs) l × InTurn (length gs) 0 l) (sym same)
     (changes_fit (length gs) whole fit, turn)
 
--- the flags of the items that the code listed are those of all
-pub flagged_listed : (breaks : BreakFlags) (font : Font) (circles : Bool) (gs : List hb_glyph_info_t) (place : ℕ)
-    (cut : List (ℕ × Item)) → KeptBefore font circles gs place
-    → cut ≡ rewritten_items (items_at font circles (characters gs) place)
-    → items_flagged breaks cut gs ≡ items_flagged breaks (items font circles (characters gs)) gs
-flagged_listed AsCode font circles gs place cut kept same = refl
-flagged_listed Sound font circles gs place cut kept same =
-    ap (λ (l : List (ℕ × Item)). unsafe_all (whole_items l) gs) same
-    ∙ flagged_changes (items_at font circles (characters gs) place) gs
-    ∙ sym (kept.unflagged gs)
-
--- what is kept of a text is so of another with its characters
-kept_alike : (font : Font) (circles : Bool) (gs hs : List hb_glyph_info_t) (place : ℕ)
-    → characters hs ≡ characters gs → KeptBefore font circles gs place → KeptBefore font circles hs place
-kept_alike font circles gs hs place same kept =
-    let long : length hs ≡ length gs = sym (length-characters hs) ∙ ap length same ∙ length-characters gs in
-    record {
-      within = omega (arith, kept.within, long);
-      unjoined = λ level xs. subst (λ us. all_joined level (items font circles us) xs
-          ≡ all_joined level (items_at font circles us place) xs) (sym same) (kept.unjoined level xs);
-      unflagged = λ xs. subst (λ us. unsafe_all (whole_items (items font circles us)) xs
-          ≡ unsafe_all (whole_items (items_at font circles us place)) xs) (sym same) (kept.unflagged xs);
-      same = λ xs. subst (λ us. outputs glyph_copies (items font circles us) xs
-          ≡ take place xs ++ outputs glyph_copies (items_at font circles us place) xs) (sym same) (kept.same xs);
-      stays = subst (λ us. AllByRecursion (λ (p : ℕ × Item). is_kept p.1 ≡ true) (items_at font circles us place)
-          → AllByRecursion (λ (p : ℕ × Item). is_kept p.1 ≡ true) (items font circles us)) (sym same) kept.stays;
-    }
-
-flagged_whole : (breaks : BreakFlags) (font : Font) (circles : Bool) (level : BufferClusterLevel)
-    (gs : List hb_glyph_info_t) (place : ℕ) (cut : List (ℕ × Item)) → KeptBefore font circles gs place
-    → cut ≡ rewritten_items (items_at font circles (characters gs) place)
-    → changed_from 0 cut (all_joined level cut (items_flagged breaks cut gs))
-    ≡ preprocessed font circles level (items_flagged breaks (items font circles (characters gs)) gs)
-flagged_whole breaks font circles level gs place cut kept same =
-    let flagged = items_flagged breaks (items font circles (characters gs)) gs in
-    let text = characters-items_flagged breaks (items font circles (characters gs)) gs in
-    ap (λ (xs : List hb_glyph_info_t). changed_from 0 cut (all_joined level cut xs))
-    (flagged_listed breaks font circles gs place cut kept same)
-    ∙ changed_whole font circles level flagged place cut (kept_alike font circles gs flagged place text kept)
-    (same ∙ ap (λ us. rewritten_items (items_at font circles us place)) (sym text))
-
 pub buffer_changed : (breaks : BreakFlags) (font : Font) (b : Buffer) (circles : Bool) (level : BufferClusterLevel)
     (read : List hb_glyph_info_t) (place : ℕ) (cut : List (ℕ × Item)) → circles ≡ allows_circles b → level ≡ b.level
     → read ≡ b.glyphs → KeptBefore font circles read place
     → cut ≡ rewritten_items (items_at font circles (characters read) place)
-    → changed_from 0 cut (all_joined level cut (items_flagged breaks cut b.glyphs))
-    ≡ (rewritten font (with_items_flagged breaks font b)).glyphs
+    → changed_from 0 cut (items_flagged breaks cut (all_joined level cut b.glyphs)) ≡ (rewritten_by breaks font b).glyphs
 buffer_changed breaks font b circles level read place cut same_circles same_level same_glyphs kept same =
-    ap (λ (xs : List hb_glyph_info_t). changed_from 0 cut (all_joined level cut (items_flagged breaks cut xs)))
+    ap (λ (xs : List hb_glyph_info_t). changed_from 0 cut (items_flagged breaks cut (all_joined level cut xs)))
     (sym same_glyphs)
-    ∙ flagged_whole breaks font circles level read place cut kept same
-    ∙ ap (λ c. preprocessed font c level (items_flagged breaks (items font c (characters read)) read)) same_circles
-    ∙ ap (λ l. preprocessed font (allows_circles b) l
-    (items_flagged breaks (items font (allows_circles b) (characters read)) read)) same_level
-    ∙ ap (λ (xs : List hb_glyph_info_t). preprocessed font (allows_circles b) b.level
-    (items_flagged breaks (items font (allows_circles b) (characters xs)) xs)) same_glyphs
+    ∙ changed_whole breaks font circles level read place cut kept same
+    ∙ ap (λ c. text_rewritten breaks font c level read) same_circles
+    ∙ ap (λ l. text_rewritten breaks font (allows_circles b) l read) same_level
+    ∙ ap (text_rewritten breaks font (allows_circles b) b.level) same_glyphs
 
 -- flags change no length
 pub length-flagged : (breaks : BreakFlags) (font : Font) (b : Buffer)
-    → length (rewritten font (with_items_flagged breaks font b)).glyphs ≡ length (rewritten font b).glyphs
+    → length (rewritten_by breaks font b).glyphs ≡ length (rewritten font b).glyphs
 length-flagged breaks font b =
-    let circles = allows_circles b in
-    let cut = items font circles (characters b.glyphs) in
-    let flagged = items_flagged breaks cut b.glyphs in
-    let text = characters-items_flagged breaks cut b.glyphs in
-    length-preprocessed font circles b.level flagged
-    ∙ sym (length-characters (outputs glyph_copies (items font circles (characters flagged)) flagged))
-    ∙ ap length (characters-outputs (items font circles (characters flagged)) flagged)
-    ∙ ap (λ us. length (outputs character_copies (items font circles us) us)) text
-    ∙ sym (ap length (characters-outputs cut b.glyphs))
-    ∙ length-characters (outputs glyph_copies cut b.glyphs)
-    ∙ sym (length-preprocessed font circles b.level b.glyphs)
+    let cut = items font (allows_circles b) (characters b.glyphs) in
+    let joined = all_joined b.level cut b.glyphs in
+    let flagged = items_flagged breaks cut joined in
+    sym (length-characters (outputs glyph_copies cut flagged))
+    ∙ ap length (characters-outputs cut flagged
+    ∙ ap (outputs character_copies cut) (characters-items_flagged breaks cut joined)
+    ∙ sym (characters-outputs cut joined))
+    ∙ length-characters (outputs glyph_copies cut joined)
 
 -- where all is kept
 pub all_unchanged : (breaks : BreakFlags) (font : Font) (b : Buffer) (circles : Bool) (read : List hb_glyph_info_t)
     (place : ℕ) → circles ≡ allows_circles b → read ≡ b.glyphs → length read ≤ place
-    → KeptBefore font circles read place → b ≡ rewritten font (with_items_flagged breaks font b)
+    → KeptBefore font circles read place → b ≡ rewritten_by breaks font b
 all_unchanged breaks font b circles read place same_circles same_glyphs past kept =
     let none : items_at font circles (characters read) place ≡ [] =
     glyphs_end font circles read (characters read) place refl past in
     let same : [] ≡ rewritten_items (items_at font circles (characters read) place) = sym (ap rewritten_items none) in
-    let empty : items_flagged breaks [] b.glyphs ≡ b.glyphs = none_flagged breaks b.glyphs in
-    ap (λ (xs : List hb_glyph_info_t). let new : Buffer = record b { glyphs = xs } in new) (sym empty
+    ap (λ (xs : List hb_glyph_info_t). let new : Buffer = record b { glyphs = xs } in new)
+    (sym (none_flagged breaks b.glyphs)
     ∙ buffer_changed breaks font b circles b.level read place [] same_circles refl same_glyphs kept same)
 
 -- a buffer that took another text

@@ -13,6 +13,7 @@ use Rattle.shapers_buffer.specs.declared.buffer.refusal.ShaperError.{ShaperError
 use Rattle.shapers_buffer.specs.Buffer.{Buffer}
 use Rattle.shapers_buffer.specs.Clusters.{merge_all, merges}
 use Rattle.shapers_base.specs.Font.{Font}
+use Rattle.shapers_base.specs.declared.plan.breaks.BreakFlags.{BreakFlags}
 use Rattle.shapers_buffer.specs.Glyph.{clusters, characters}
 use Rattle.shapers_buffer.specs.Places.{pick}
 use Rattle.shapers_buffer.proofs.MappedLists.{all-append, all-flat_map, drop-range, places-enumerate_from, Contains-flat_map}
@@ -27,9 +28,10 @@ use Rattle.shapers_hangul.specs.declared.ot_shaper_hangul.item.JoinedTone.{Joine
 use Rattle.shapers_hangul.specs.declared.ot_shaper_hangul.item.JoinedTone.TheVariants.{Absent, Before, Behind}
 use Rattle.shapers_hangul.specs.declared.ot_shaper_hangul.item.Unit.{Unit}
 use Rattle.shapers_hangul.specs.declared.ot_shaper_hangul.item.Unit.TheVariants.{ComposedTwo, ComposedThree, JamoTwo, JamoThree, PartsTwo, PartsThree, PartsBeforeT, Syllable, ToneCircle, CircleTone, Other}
-use Rattle.shapers_hangul.specs.Hangul.{taken, output_len, tone_len, item_len, items, Fit, Copying, unit_output, with_tone, item_output, outputs, is_merged, unit_stretch, tone_stretch, item_stretches, stretches, all_joined, glyph_copies, rewritten, allows_circles}
-use Rattle.shapers_hangul.specs.HangulLaws.{place_copies, hangul_sources, KeepsClusters, unnamed, RewrittenLaw}
+use Rattle.shapers_hangul.specs.Hangul.{taken, output_len, tone_len, item_len, items, Fit, Copying, unit_output, with_tone, item_output, outputs, is_merged, unit_stretch, tone_stretch, item_stretches, stretches, all_joined, glyph_copies, allows_circles, items_flagged, preprocessed, rewritten_by, text_rewritten}
+use Rattle.shapers_hangul.specs.HangulLaws.{place_copies, hangul_sources, ClustersRewritten, KeepsClusters, unnamed, RewrittenLaw}
 use Rattle.shapers_hangul.proofs.Items.{items_fit}
+use Rattle.shapers_hangul.proofs.ItemFlags.{clusters-items_flagged}
 use Rattle.shapers_hangul.proofs.Outputs.{Leads, outputs-map}
 use Rattle.shapers_hangul.proofs.Walks.{length-characters, length-item_output, length-all_joined, clusters-all_joined}
 
@@ -252,9 +254,31 @@ rewritten_holds font circles level gs =
           as_merged;
     }
 
--- the whole hook
-pub on_rewritten : {T : Type 0} (r : Result T ShaperError) (font : Font) (old new : Buffer)
-    → OnOk r (new ≡ rewritten font old) → OnOk r (KeepsClusters font old new)
-on_rewritten (Ok x) font old new is =
-    subst (KeepsClusters font old) (sym is) (rewritten_holds font (allows_circles old) old.level old.glyphs).in_clusters
-on_rewritten (Err e) font old new is = tt
+-- glyphs written from any that stand in their places, each but for its name its source
+pub written_as : (cut : List (ℕ × Item)) (ms : List hb_glyph_info_t) → map unnamed (outputs glyph_copies cut ms)
+    ≡ map unnamed (pick (hangul_sources cut (length ms)) ms)
+written_as cut ms =
+    let joined = written_from cut ms in
+    (subst (λ ps. AreMade unnamed ms ps (outputs glyph_copies cut ms)) joined.from
+    (subst (AreMade unnamed ms (map (λ m. m.place) joined.made)) joined.glyphs
+    (are_made unnamed ms joined.made))).same
+
+-- the whole hook: the choice leaves the clusters
+pub clusters-rewritten : (breaks : BreakFlags) (font : Font) (circles : Bool) (level : BufferClusterLevel)
+    (gs : List hb_glyph_info_t) → clusters (text_rewritten breaks font circles level gs)
+    ≡ clusters (preprocessed font circles level gs)
+clusters-rewritten breaks font circles level gs =
+    let cut = items font circles (characters gs) in
+    let joined = all_joined level cut gs in
+    clusters-outputs cut (items_flagged breaks cut joined)
+    ∙ ap (outputs place_copies cut) (clusters-items_flagged breaks cut joined)
+    ∙ sym (clusters-outputs cut joined)
+
+pub on_rewritten : {T : Type 0} (r : Result T ShaperError) (breaks : BreakFlags) (font : Font) (old new : Buffer)
+    → OnOk r (new ≡ rewritten_by breaks font old) → OnOk r (KeepsClusters font old new)
+on_rewritten (Ok x) breaks font old new is =
+    let circles = allows_circles old in
+    subst (λ cs. ClustersRewritten font circles old.level (characters old.glyphs) (clusters old.glyphs) cs)
+    (sym (ap (λ (b : Buffer). clusters b.glyphs) is ∙ clusters-rewritten breaks font circles old.level old.glyphs))
+    (rewritten_holds font circles old.level old.glyphs).in_clusters
+on_rewritten (Err e) breaks font old new is = tt

@@ -12,17 +12,19 @@ use Rattle.shapers_buffer.specs.Glyph.{clusters, characters}
 use Rattle.shapers_buffer.specs.GlyphFlags.{unsafe_all}
 use Rattle.shapers_buffer.specs.Places.{pick}
 use Rattle.shapers_base.specs.Font.{Font}
+use Rattle.shapers_base.specs.declared.plan.breaks.BreakFlags.{BreakFlags}
 use Rattle.shapers_clusters.specs.Cuts.{EndWithin}
 use Rattle.shapers_clusters.specs.FlagLaw.{AllFlagsStay, FlagsAdded}
 use Rattle.shapers_clusters.proofs.FlagCalls.{keeps-with_bits}
 use Rattle.shapers_clusters.proofs.FlagLaw.{all_stay_as, all_stay_on, all_stay_picked, all_stay_same, merge_all_stays, unsafe_all_stays}
 use Rattle.shapers_hangul.specs.declared.ot_shaper_hangul.item.Item.{Item}
-use Rattle.shapers_hangul.specs.Hangul.{Fit, all_joined, is_merged, item_joined, item_stretches, items, preprocessed, rewritten, taken, unsafe_stretches, allows_circles}
+use Rattle.shapers_hangul.specs.Hangul.{Fit, all_joined, is_merged, item_joined, item_stretches, items, items_flagged, rewritten_by, taken, text_rewritten, unsafe_stretches, allows_circles}
 use Rattle.shapers_hangul.specs.HangulLaws.{KeepsGlyphFlags, hangul_sources, unnamed}
 use Rattle.shapers_base.specs.Masks.{with_numbered_mask}
-use Rattle.shapers_hangul.proofs.HangulClusters.{item_ends, rewritten_holds}
+use Rattle.shapers_hangul.proofs.HangulClusters.{item_ends, written_as}
+use Rattle.shapers_hangul.proofs.ItemFlags.{items_flagged_stay, length-items_flagged}
 use Rattle.shapers_hangul.proofs.Items.{items_fit}
-use Rattle.shapers_hangul.proofs.Walks.{length-characters, length-item_joined, map-unsafe}
+use Rattle.shapers_hangul.proofs.Walks.{length-all_joined, length-characters, length-item_joined, map-unsafe}
 
 one_in_order : (b : Bool) (s n : ℕ) → AllByRecursion (λ (st : ℕ × ℕ). st.0 ≤ st.1) (cond b ((s, s + n) ∷ []) [])
 one_in_order true s n = (omega arith, tt)
@@ -53,29 +55,35 @@ all_joined_stays level (p ∷ cut) gs fit =
     (item_joined_stays level p.0 p.1 gs (item_ends level p.1.unit p.1.tone p.0 (length gs) fit.0.0))
     (all_joined_stays level cut once (subst (λ n. Fit n cut) (sym (length-item_joined level p.0 p.1 gs)) fit.1))
 
-rewritten_flags : (font : Font) (circles : Bool) (level : BufferClusterLevel) (gs : List hb_glyph_info_t)
+rewritten_flags : (breaks : BreakFlags) (font : Font) (circles : Bool) (level : BufferClusterLevel)
+    (gs : List hb_glyph_info_t)
     → AllFlagsStay (pick (hangul_sources (items font circles (characters gs)) (length gs)) gs)
-    (preprocessed font circles level gs)
-rewritten_flags font circles level gs =
+    (text_rewritten breaks font circles level gs)
+rewritten_flags breaks font circles level gs =
     let cut = items font circles (characters gs) in
-    let ns = all_joined level cut gs in
+    let joined = all_joined level cut gs in
+    let ns = items_flagged breaks cut joined in
     let places = hangul_sources cut (length gs) in
-    let rs = preprocessed font circles level gs in
-    let made = (rewritten_holds font circles level gs).made in
+    let rs = text_rewritten breaks font circles level gs in
+    let long : length ns ≡ length gs = length-items_flagged breaks cut joined ∙ length-all_joined level cut gs in
+    let made : map unnamed rs ≡ map unnamed (pick places ns) = written_as cut ns
+    ∙ ap (λ n. map unnamed (pick (hangul_sources cut n) ns)) long in
     all_stay_as (pick places gs) (pick places ns) rs
     (sym (map-map (λ g. g.cluster) unnamed rs) ∙ ap clusters made ∙ map-map (λ g. g.cluster) unnamed (pick places ns))
     (sym (map-map (λ g. g.mask) unnamed rs) ∙ ap (map (λ g. g.mask)) made
     ∙ map-map (λ g. g.mask) unnamed (pick places ns))
     (all_stay_picked places gs ns
+    (all_stay_on gs joined ns
     (all_joined_stays level cut gs
-    (subst (λ n. Fit n cut) (length-characters gs) (items_fit font circles (characters gs)))))
+    (subst (λ n. Fit n cut) (length-characters gs) (items_fit font circles (characters gs))))
+    (items_flagged_stay breaks cut joined)))
 
 -- the whole hook
-pub on_flags : {T : Type 0} (r : Result T ShaperError) (font : Font) (old new : Buffer)
-    → OnOk r (new ≡ rewritten font old) → OnOk r (KeepsGlyphFlags font old new)
-on_flags (Ok x) font old new is =
-    subst (KeepsGlyphFlags font old) (sym is) (rewritten_flags font (allows_circles old) old.level old.glyphs)
-on_flags (Err e) font old new is = tt
+pub on_flags : {T : Type 0} (r : Result T ShaperError) (breaks : BreakFlags) (font : Font) (old new : Buffer)
+    → OnOk r (new ≡ rewritten_by breaks font old) → OnOk r (KeepsGlyphFlags font old new)
+on_flags (Ok x) breaks font old new is =
+    subst (KeepsGlyphFlags font old) (sym is) (rewritten_flags breaks font (allows_circles old) old.level old.glyphs)
+on_flags (Err e) breaks font old new is = tt
 
 -- the masks of jamo
 pub jamo_mask_added : (masks : List ℕ) (g : hb_glyph_info_t) → FlagsAdded g (with_numbered_mask masks g)

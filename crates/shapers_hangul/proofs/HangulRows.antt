@@ -8,7 +8,7 @@ use Rattle.shapers_buffer.specs.declared.buffer.category.hb_unicode_general_cate
 use Rattle.shapers_base.specs.Font.{Font}
 use Rattle.shapers_base.specs.declared.plan.breaks.BreakFlags.TheVariants.{AsCode, Sound}
 use Rattle.shapers_buffer.specs.Glyph.{default_glyph}
-use Rattle.shapers_hangul.specs.Hangul.{is_l, is_v, is_t, combines_l, combines_v, combines_t, is_s, is_lv, is_tone, with_v, with_t, lead, vowel, trail, preprocessed, items, items_flagged, stretches, whole_items}
+use Rattle.shapers_hangul.specs.Hangul.{is_l, is_v, is_t, combines_l, combines_v, combines_t, is_s, is_lv, is_tone, with_v, with_t, lead, vowel, trail, preprocessed, items, items_flagged, stretches, text_rewritten, whole_items}
 use Rattle.shapers_hangul.specs.HangulLaws.{hangul_sources, full, spelled}
 use Rattle.shapers_hangul.specs.Masks.{jamo_masks}
 use Rattle.shapers_base.specs.Masks.{with_numbered_mask}
@@ -334,8 +334,7 @@ whole : whole_items (items (narrow (0x1100 ∷ 0x1161 ∷ 0xAC00 ∷ 0x302E ∷ 
 whole = refl
 
 abbrev sound_flags_at : Font → List ℕ → BufferClusterLevel → List ℕ
-sound_flags_at font us level =
-    map (λ g. g.mask) (preprocessed font true level (items_flagged Sound (items font true us) (text us)))
+sound_flags_at font us level = map (λ g. g.mask) (text_rewritten Sound font true level (text us))
 
 abbrev sound_flags : Font → List ℕ → List (List ℕ)
 sound_flags font us = map (sound_flags_at font us) (MonotoneGraphemes ∷ MonotoneCharacters ∷ Characters ∷ [])
@@ -361,6 +360,15 @@ sound_old_t_narrow_tone = refl
 sound_moved_tone : sound_flags (wide (0xAC00 ∷ [])) (0xAC00 ∷ 0x302E ∷ []) ≡ (0 ∷ 0 ∷ []) ∷ (0 ∷ 0 ∷ []) ∷ (3 ∷ 0 ∷ [])
     ∷ []
 sound_moved_tone = refl
+
+-- where clusters fall, the syllable in one keeps its flag: its merge comes first
+abbrev falling : List hb_glyph_info_t
+falling = record default_glyph { glyph_id = 0x1100; cluster = 2 } ∷ record default_glyph { glyph_id = 0x1161; cluster = 1 }
+    ∷ record default_glyph { glyph_id = 0x302E } ∷ []
+
+sound_falling : text_rewritten Sound (narrow (0xAC00 ∷ 0x302E ∷ [])) true MonotoneCharacters falling
+    ≡ record default_glyph { glyph_id = 0xAC00; cluster = 1; mask = 3 } ∷ record default_glyph { glyph_id = 0x302E } ∷ []
+sound_falling = refl
 
 -- between items nothing is flagged
 sound_apart : sound_flags (wide (0xAC00 ∷ [])) (0xAC00 ∷ 0x41 ∷ 0xAC00 ∷ []) ≡ map (λ level. 0 ∷ 0 ∷ 0 ∷ [])

@@ -14,12 +14,14 @@ use Rattle.shapers_buffer.specs.declared.buffer.glyph.hb_glyph_info_t.{hb_glyph_
 use Rattle.shapers_buffer.specs.declared.buffer.level.BufferClusterLevel.{BufferClusterLevel}
 use Rattle.shapers_buffer.specs.declared.buffer.refusal.ShaperError.{ShaperError}
 use Rattle.shapers_base.specs.Font.{Font, has_nominal}
+use Rattle.shapers_base.specs.declared.plan.breaks.BreakFlags.{BreakFlags}
 use Rattle.shapers_hangul.specs.declared.ot_shaper_hangul.item.JoinedTone.TheVariants.{Absent, Before, Behind}
 use Rattle.shapers_hangul.specs.declared.ot_shaper_hangul.item.Unit.{Unit}
 use Rattle.shapers_hangul.specs.declared.ot_shaper_hangul.item.Unit.TheVariants.{ComposedTwo, ComposedThree, JamoTwo, JamoThree, PartsTwo, PartsThree, PartsBeforeT, Syllable, ToneCircle, CircleTone, Other}
-use Rattle.shapers_hangul.specs.Hangul.{is_between, is_l, is_v, is_t, combines_l, combines_v, combines_t, is_s, is_lv, is_tone, with_v, with_t, lead, vowel, trail, has_jamo_of, is_narrow, jamo_two, jamo_three, jamo_parts, syllable_unit, lone_tone, opening_unit, taken, is_syllable, joined_tone, first_item, tone_len, item_len, items_from, items, marked_from, unit_output, with_tone, item_output, outputs, all_joined, glyph_copies, character_copies, preprocessed, allows_circles, rewritten}
+use Rattle.shapers_hangul.specs.Hangul.{is_between, is_l, is_v, is_t, combines_l, combines_v, combines_t, is_s, is_lv, is_tone, with_v, with_t, lead, vowel, trail, has_jamo_of, is_narrow, jamo_two, jamo_three, jamo_parts, syllable_unit, lone_tone, opening_unit, taken, is_syllable, joined_tone, first_item, tone_len, item_len, items_from, items, marked_from, unit_output, with_tone, item_output, outputs, all_joined, glyph_copies, character_copies, preprocessed, allows_circles, items_flagged, rewritten_by, text_rewritten}
 use Rattle.shapers_hangul.specs.HangulLaws.{jamo_of, full, spelled, SpellingLaw, SpellsByUnits, SpellsSame, UnitSpells}
-use Rattle.shapers_hangul.proofs.Outputs.{Leads, outputs-map}
+use Rattle.shapers_hangul.proofs.ItemFlags.{characters-items_flagged}
+use Rattle.shapers_hangul.proofs.Outputs.{Leads, characters-outputs, outputs-map}
 use Rattle.shapers_hangul.proofs.Walks.{characters-all_joined}
 use Rattle.shapers_hangul.proofs.Items.{both, either, taken_some, there, above, unit_within}
 
@@ -363,11 +365,25 @@ same_spelled font circles level gs =
     ∙ ap (outputs character_copies cut) (characters-all_joined level cut gs))
     ∙ (spells font circles (characters gs)).whole
 
-pub on_spelled : {T : Type 0} (r : Result T ShaperError) (font : Font) (old new : Buffer)
-    → OnOk r (new ≡ rewritten font old) → OnOk r (SpellsSame old new)
-on_spelled (Ok x) font old new is =
-    subst (SpellsSame old) (sym is) (same_spelled font (allows_circles old) old.level old.glyphs)
-on_spelled (Err e) font old new is = tt
+-- the choice leaves the characters
+characters-rewritten : (breaks : BreakFlags) (font : Font) (circles : Bool) (level : BufferClusterLevel)
+    (gs : List hb_glyph_info_t) → characters (text_rewritten breaks font circles level gs)
+    ≡ characters (preprocessed font circles level gs)
+characters-rewritten breaks font circles level gs =
+    let cut = items font circles (characters gs) in
+    let joined = all_joined level cut gs in
+    characters-outputs cut (items_flagged breaks cut joined)
+    ∙ ap (outputs character_copies cut) (characters-items_flagged breaks cut joined)
+    ∙ sym (characters-outputs cut joined)
+
+pub on_spelled : {T : Type 0} (r : Result T ShaperError) (breaks : BreakFlags) (font : Font) (old new : Buffer)
+    → OnOk r (new ≡ rewritten_by breaks font old) → OnOk r (SpellsSame old new)
+on_spelled (Ok x) breaks font old new is =
+    let circles = allows_circles old in
+    ap (λ (b : Buffer). spelled (characters b.glyphs)) is
+    ∙ ap spelled (characters-rewritten breaks font circles old.level old.glyphs)
+    ∙ same_spelled font circles old.level old.glyphs
+on_spelled (Err e) breaks font old new is = tt
 
 -- each unit by itself
 units_spell : (font : Font) (circles : Bool) (all : List ℕ) (place skip : ℕ) (us : List ℕ) → drop place all ≡ us
@@ -383,20 +399,19 @@ units_spell font circles all place zero (u ∷ us) is =
 units_spell font circles all place (suc skip) (u ∷ us) is =
     units_spell font circles all (place + 1) skip us (sym (drop-drop 1 place all) ∙ ap (drop 1) is)
 
-by_units : (font : Font) (b : Buffer) → SpellsByUnits font b (rewritten font b)
-by_units font b =
+by_units : (breaks : BreakFlags) (font : Font) (b : Buffer) → SpellsByUnits font b (rewritten_by breaks font b)
+by_units breaks font b =
     let us = characters b.glyphs in
     let cut = items font (allows_circles b) us in
     let ms = all_joined b.level cut b.glyphs in
-    let leads : Leads (λ g. g.glyph_id) glyph_copies character_copies =
-    record { character = λ u g. refl; jamo = λ n g. refl } in
     record {
-      outputs = outputs-map (λ g. g.glyph_id) glyph_copies character_copies leads cut ms
+      outputs = characters-rewritten breaks font (allows_circles b) b.level b.glyphs
+          ∙ characters-outputs cut ms
           ∙ ap (outputs character_copies cut) (characters-all_joined b.level cut b.glyphs);
       units = units_spell font (allows_circles b) us 0 0 us refl;
     }
 
-pub on_units : {T : Type 0} (r : Result T ShaperError) (font : Font) (old new : Buffer)
-    → OnOk r (new ≡ rewritten font old) → OnOk r (SpellsByUnits font old new)
-on_units (Ok x) font old new is = subst (SpellsByUnits font old) (sym is) (by_units font old)
-on_units (Err e) font old new is = tt
+pub on_units : {T : Type 0} (r : Result T ShaperError) (breaks : BreakFlags) (font : Font) (old new : Buffer)
+    → OnOk r (new ≡ rewritten_by breaks font old) → OnOk r (SpellsByUnits font old new)
+on_units (Ok x) breaks font old new is = subst (SpellsByUnits font old) (sym is) (by_units breaks font old)
+on_units (Err e) breaks font old new is = tt

@@ -115,16 +115,7 @@ length-preprocessed font circles level gs =
     ∙ sym (outputs-map (λ g. g.glyph_id) glyph_copies character_copies leads cut gs))
     ∙ length-characters (outputs glyph_copies cut gs)
 
--- behind what stays, the text is what the items from there on make of it
-pub preprocessed-kept : (font : Font) (circles : Bool) (level : BufferClusterLevel) (gs : List hb_glyph_info_t)
-    (place : ℕ) → KeptBefore font circles gs place → let cut =
-    items_at font circles (characters gs) place in preprocessed font circles level gs
-    ≡ take place (all_joined level cut gs) ++ outputs glyph_copies cut (all_joined level cut gs)
-preprocessed-kept font circles level gs place kept =
-    ap (outputs glyph_copies (items font circles (characters gs))) (kept.unjoined level gs)
-    ∙ kept.same (all_joined level (items_at font circles (characters gs) place) gs)
-
--- its length
+-- the length of the result, by what stays
 pub length-kept : (font : Font) (circles : Bool) (level : BufferClusterLevel) (gs : List hb_glyph_info_t) (place : ℕ)
     → KeptBefore font circles gs place → length (preprocessed font circles level gs)
     ≡ place + length (outputs glyph_copies (items_at font circles (characters gs) place) gs)
@@ -150,10 +141,3 @@ pub told_by_text : {T : Type 0} (limit most wanted len : ℕ) (r : Result T Shap
     → RefusesLength most len r → RefusesLength limit wanted r
 told_by_text limit most wanted len r same_limit same_length told =
     subst (λ n. RefusesLength limit n r) (sym same_length) (subst (λ n. RefusesLength n len r) same_limit told)
-
-pub preprocessed-read : (font : Font) (circles asked : Bool) (level kept : BufferClusterLevel)
-    (gs read list : List hb_glyph_info_t) → asked ≡ circles → kept ≡ level → read ≡ gs
-    → list ≡ preprocessed font asked kept read → list ≡ preprocessed font circles level gs
-preprocessed-read font circles asked level kept gs read list same_circles same_level same_glyphs is =
-    is ∙ ap (λ b. preprocessed font b kept read) same_circles ∙ ap (λ l. preprocessed font circles l read) same_level
-    ∙ ap (preprocessed font circles level) same_glyphs

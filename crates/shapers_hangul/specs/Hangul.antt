@@ -319,7 +319,7 @@ abbrev pub all_joined : BufferClusterLevel → List (ℕ × Item) → List hb_gl
 all_joined level [] gs = gs
 all_joined level (p ∷ cut) gs = all_joined level cut (item_joined level p.0 p.1 gs)
 
--- what the choice flags besides, before anything merges: with Sound no break inside an item, its
+-- what the choice flags besides, once all items are joined: with Sound no break inside an item, its
 -- tone with it
 abbrev pub whole_items : List (ℕ × Item) → List (ℕ × ℕ)
 whole_items cut = map (λ p. (p.0, p.0 + item_len p.1)) cut
@@ -340,7 +340,14 @@ glyph_copies = record {
 abbrev pub character_copies : Copying ℕ
 character_copies = record { as_character = λ u v. u; as_jamo = λ feature u. u }
 
--- all items joined, on the old places, and then their outputs
+-- all items joined, on the old places, and flagged by the choice, and then their outputs
+abbrev pub text_rewritten : BreakFlags → Font → Bool → BufferClusterLevel → List hb_glyph_info_t →
+    List hb_glyph_info_t
+text_rewritten breaks font circles level gs =
+    let cut = items font circles (characters gs) in
+    outputs glyph_copies cut (items_flagged breaks cut (all_joined level cut gs))
+
+-- the same with the code's flags
 abbrev pub preprocessed : Font → Bool → BufferClusterLevel → List hb_glyph_info_t →
     List hb_glyph_info_t
 preprocessed font circles level gs =
@@ -351,15 +358,13 @@ preprocessed font circles level gs =
 abbrev pub allows_circles : Buffer → Bool
 allows_circles b = not (asks no_dotted_circle b)
 
--- the buffer with its text rewritten
+-- the buffer with its text rewritten, by the choice and with the code's flags
+abbrev pub rewritten_by : BreakFlags → Font → Buffer → Buffer
+rewritten_by breaks font b =
+    record b { glyphs = text_rewritten breaks font (allows_circles b) b.level b.glyphs }
+
 abbrev pub rewritten : Font → Buffer → Buffer
 rewritten font b = record b { glyphs = preprocessed font (allows_circles b) b.level b.glyphs }
-
--- the buffer with what the choice flags
-abbrev pub with_items_flagged : BreakFlags → Font → Buffer → Buffer
-with_items_flagged breaks font b =
-    let cut = items font (allows_circles b) (characters b.glyphs) in
-    record b { glyphs = items_flagged breaks cut b.glyphs }
 
 -- in the code: up to this place every item is one character that stays as it is
 pub record KeptBefore (font : Font) (circles : Bool) (gs : List hb_glyph_info_t) (place :

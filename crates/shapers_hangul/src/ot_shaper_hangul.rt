@@ -5,7 +5,7 @@ ghost use Rattle.shapers_base.specs.Planner.{with_requests};
 ghost use Rattle.std.specs.List.{All};
 ghost use Rattle.shapers_base.specs.declared.plan.PlanData.TheVariants.{Hangul};
 ghost use Rattle.shapers_buffer.specs.Refusals.{RefusesLength};
-ghost use Rattle.shapers_hangul.specs.Hangul.{rewritten, with_items_flagged};
+ghost use Rattle.shapers_hangul.specs.Hangul.{rewritten, rewritten_by};
 ghost use Rattle.shapers_hangul.specs.HangulLaws.{AllKept, KeepsClusters, KeepsGlyphFlags, SpellsByUnits, SpellsSame};
 ghost use Rattle.shapers_clusters.specs.FlagLaw.{OnlyFlagsAdded};
 ghost use Rattle.shapers_hangul.specs.Masks.{jamo_masks, is_hangul_data, with_jamo_masks};
@@ -71,8 +71,7 @@ pub fn preprocess_text<F: hb_font_t>(
 ) -> Result<(), ShaperError>
     requires { buffer.old.positions ≡ [] }
     ensures ok { let breaks = plan.now.break_flags in
-        let flagged = with_items_flagged breaks (F.font face.now) buffer.old in
-        OnOk result (buffer.new ≡ rewritten (F.font face.now) flagged) }
+        OnOk result (buffer.new ≡ rewritten_by breaks (F.font face.now) buffer.old) }
     ensures clusters { OnOk result (KeepsClusters (F.font face.now) buffer.old buffer.new) }
     ensures flags { OnOk result (KeepsGlyphFlags (F.font face.now) buffer.old buffer.new) }
     ensures spelling { OnOk result (SpellsSame buffer.old buffer.new) }
@@ -100,8 +99,7 @@ pub fn preprocess_text_changes<F: hb_font_t>(
 ) -> Result<bool, ShaperError>
     requires { buffer.old.positions ≡ [] }
     ensures ok { let breaks = plan.now.break_flags in
-        let flagged = with_items_flagged breaks (F.font face.now) buffer.old in
-        OnOk result (buffer.new ≡ rewritten (F.font face.now) flagged) }
+        OnOk result (buffer.new ≡ rewritten_by breaks (F.font face.now) buffer.old) }
     ensures clusters { OnOk result (KeepsClusters (F.font face.now) buffer.old buffer.new) }
     ensures flags { OnOk result (KeepsGlyphFlags (F.font face.now) buffer.old buffer.new) }
     ensures spelling { OnOk result (SpellsSame buffer.old buffer.new) }
@@ -140,7 +138,7 @@ struct JamoMasks {
 impl GlyphChange for JamoMasks {
     ghost use Rattle.std.specs.Prelude.{◌≡◌};
     ghost use Rattle.shapers_buffer.specs.Refusals.{RefusesLength};
-    ghost use Rattle.shapers_hangul.specs.Hangul.{rewritten, with_items_flagged};
+    ghost use Rattle.shapers_hangul.specs.Hangul.{rewritten};
     ghost use Rattle.shapers_base.specs.Masks.{with_numbered_mask};
 
     ghost changed = { λ m g. with_numbered_mask m.masks g };

@@ -1,6 +1,6 @@
 -- Each step before the lookups keeps the clusters of a text.
 use Rattle.std.proofs.Common.{◌≡◌, ◌∙◌, ℕ, zero, suc, ◌+◌, ◌-◌, ◌≤◌, ◌==◌, ◌||◌, Bool, true, false, not, List, [], ◌∷◌, ◌++◌, length, map, refl, sym, ap, subst, arith}
-use Rattle.std.specs.Prelude.{◌&&◌, bit_and, bit_or, get_or, nat_le, nat_lt, Option, None, Some, if◌then◌else◌}
+use Rattle.std.specs.Prelude.{◌&&◌, bit_and, bit_or, get_or, nat_le, nat_lt, Ok, Option, None, Some, if◌then◌else◌}
 use Rattle.std.specs.Int.{bit_not, w32}
 use Rattle.std.specs.Option.{option_map_or}
 use Rattle.shapers_arabic.specs.PlanData.{breaks_of, masks_of}
@@ -19,8 +19,9 @@ use Rattle.shapers_buffer.specs.declared.buffer.level.Direction.{Direction}
 use Rattle.shapers_buffer.specs.declared.buffer.tag.Script.{Script}
 use Rattle.shapers_clusters.proofs.FlagCalls.{map-unsafe_inside, map-unsafe_to_concat_in, map-with_stretch}
 use Rattle.shapers_clusters.proofs.Halves.{Each}
-use Rattle.shapers_hangul.specs.Hangul.{allows_circles, rewritten}
-use Rattle.shapers_hangul.proofs.HangulClusters.{rewritten_holds}
+use Rattle.shapers_hangul.specs.Hangul.{rewritten_by}
+use Rattle.shapers_hangul.specs.HangulLaws.{KeepsClusters}
+use Rattle.shapers_hangul.proofs.HangulClusters.{on_rewritten}
 use Rattle.shapers_normal.specs.Laws.{MakesNoCluster, NormalizesMonotone}
 use Rattle.shapers_normal.proofs.Pairs.{Pairs}
 use Rattle.shapers_normalize.specs.Laws.{ShapersOrderAlone, ShapersOrderMonotone}
@@ -36,11 +37,11 @@ use Rattle.shapers_prepare.specs.Rotation.{as_other_character, mirrored_glyph, r
 use Rattle.shapers_prepare.specs.Vowels.{circle_before_last, left_behind, vowel_circle, vowel_script_of, vowels_parted, vowels_parted_from, vowels_parted_in}
 use Rattle.shapers_prepare.specs.declared.ot_shape_prepare.rotation.CharRotation.{CharRotation}
 use Rattle.shapers_syllabic.specs.Characters.{with_category, with_category_and_position}
-use Rattle.shapers_text.specs.ThaiForms.{asks_for_forms, preprocessed_in_thai, preprocessed_text, pua_shaped}
+use Rattle.shapers_text.specs.ThaiForms.{asks_for_forms, marks_flagged, preprocessed_flagged, preprocessed_in_thai, preprocessed_text, pua_shaped}
 use Rattle.shapers_text.specs.ThaiLaws.{ClustersInTwo, FlagsInTwo, KeptInTwo}
 use Rattle.shapers_text.proofs.ThaiClusters.{plain_in_two, shaped_in_two}
 use Rattle.shapers_text.proofs.ThaiFlags.{plain_flags, shaped_flags}
-use Rattle.shapers_text.proofs.ThaiKept.{kept_in_two}
+use Rattle.shapers_text.proofs.ThaiKept.{kept_in_two, shaped_kept}
 use Rattle.shapers_universal.specs.PlanData.{arabic_of}
 use Rattle.shapers_universal.specs.UniversalMasks.{categorized, with_categories}
 use Rattle.rustybuzz_shapers.specs.Hooks.{PreprocessKeeps}
@@ -132,15 +133,15 @@ thai_keeps plan font b =
     let has = has_nominal font in
     let gs = b.glyphs in
     let plain = preprocessed_text false has b.level gs in
-    let shaped = pua_shaped has plain in
+    let breaks = plan.break_flags in
+    let shaped = pua_shaped has (marks_flagged breaks plain) in
     elim (asks_for_forms plan) as (λ forms.
-    let new = preprocessed_text forms has b.level gs in
+    let new = preprocessed_flagged breaks forms has b.level gs in
     ClustersInTwo b.level (characters gs) (clusters gs) (clusters new) × KeptInTwo forms gs new × FlagsInTwo gs new) [
       | true ↦ (
-        shaped_in_two has b.level gs plain shaped refl refl,
-        kept_in_two true has b.level gs,
-        shaped_flags has
-            b.level gs plain shaped refl refl,
+        shaped_in_two breaks has b.level gs plain shaped refl refl,
+        shaped_kept true refl breaks has b.level gs plain shaped refl refl,
+        shaped_flags breaks has b.level gs plain shaped refl refl,
       )
       | false ↦ (
         plain_in_two b.level gs plain refl,
@@ -204,12 +205,15 @@ unchanged b = record { level = refl; glyphs = itself (merges b.level) b.glyphs }
 
 preprocessed_keeps : ThaiStaysMonotone → HangulStaysMonotone → (plan : hb_ot_shape_plan_t) (font : Font) (b : Buffer)
     (shaper : hb_ot_shaper_t) → Keeps b (preprocessed_by plan font b shaper)
-preprocessed_keeps thai hangul plan font b Hangul = record {
-  level = refl;
-  glyphs = kept_sorted (merges b.level) b.glyphs (rewritten font b).glyphs
-      (rewritten_holds font (allows_circles b) b.level b.glyphs).in_clusters.made.old_clusters
-      (λ merging. hangul plan font b (rewritten font b) merging refl);
-}
+preprocessed_keeps thai hangul plan font b Hangul =
+    let breaks = plan.break_flags in
+    let new : Buffer = rewritten_by breaks font b in
+    let keeps : KeepsClusters font b new = on_rewritten (Ok 0) breaks font b new refl in
+    record {
+      level = refl;
+      glyphs = kept_sorted (merges b.level) b.glyphs new.glyphs keeps.made.old_clusters
+          (λ merging. hangul plan font b new merging refl);
+    }
 preprocessed_keeps thai hangul plan font b Thai =
     let keeps = thai_keeps plan font b in
     record {

@@ -9,7 +9,7 @@ use Rattle.shapers_base.specs.declared.plan.hb_ot_shape_plan_t.{hb_ot_shape_plan
 use Rattle.shapers_buffer.specs.Buffer.{Buffer}
 use Rattle.shapers_buffer.specs.declared.buffer.glyph.hb_glyph_info_t.{hb_glyph_info_t}
 use Rattle.shapers_buffer.specs.declared.buffer.tag.Script.{Script}
-use Rattle.shapers_hangul.specs.Hangul.{rewritten}
+use Rattle.shapers_hangul.specs.Hangul.{rewritten, rewritten_by}
 use Rattle.shapers_hangul.specs.Masks.{with_jamo_masks}
 use Rattle.shapers_prepare.specs.Vowels.{vowels_parted}
 use Rattle.shapers_syllabic.specs.Characters.{with_category, with_category_and_position}
@@ -23,7 +23,7 @@ use Rattle.rustybuzz_shapers.specs.declared.shaper.hb_ot_shaper_t.TheVariants.{A
 
 -- the text that a shaper's preprocessing makes: jamo and SARA AM, and circles between vowels
 abbrev pub preprocessed_by : hb_ot_shape_plan_t → Font → Buffer → hb_ot_shaper_t → Buffer
-preprocessed_by plan font b Hangul = rewritten font b
+preprocessed_by plan font b Hangul = rewritten_by plan.break_flags font b
 preprocessed_by plan font b Thai = preprocessed_in_thai plan font b
 preprocessed_by plan font b Indic = record b { glyphs = vowels_parted b }
 preprocessed_by plan font b Universal = record b { glyphs = vowels_parted b }

@@ -13,7 +13,7 @@ use Rattle.shapers_text.specs.declared.ot_shaper_thai.forms.Consonant.{Consonant
 use Rattle.shapers_text.specs.declared.ot_shaper_thai.forms.Consonant.TheVariants.{NC, AC, RC, DC, NotConsonant}
 use Rattle.shapers_text.specs.declared.ot_shaper_thai.forms.Mark.{Mark}
 use Rattle.shapers_text.specs.declared.ot_shaper_thai.forms.Mark.TheVariants.{AV, BV, T, NotMark}
-use Rattle.shapers_text.specs.ThaiForms.{action_after, action_of, thai_base_place, base_type, consonant_type, form_between, forms_between, mark_stretches, mark_type, marks_above, marks_below, preprocessed_by, pua_shaped, shaped_by, whole_mark_stretches}
+use Rattle.shapers_text.specs.ThaiForms.{action_after, action_of, thai_base_place, base_type, consonant_type, form_between, forms_between, mark_stretches, mark_type, marks_above, marks_below, preprocessed_flagged, pua_shaped, shaped_by, whole_mark_stretches}
 
 -- the forms of characters under an action with a font that has them all, and with one that has but these
 abbrev all_forms : Action → List ℕ → List ℕ
@@ -340,7 +340,7 @@ own_cluster p = record default_glyph { glyph_id = p.0; cluster = p.1 }
 
 abbrev forms_by : BreakFlags → List (ℕ × ℕ) → List (ℕ × ℕ)
 forms_by breaks us =
-    map (λ (g : hb_glyph_info_t). (g.glyph_id, g.mask)) (preprocessed_by breaks true has_all MonotoneCharacters (map own_cluster us))
+    map (λ (g : hb_glyph_info_t). (g.glyph_id, g.mask)) (preprocessed_flagged breaks true has_all MonotoneCharacters (map own_cluster us))
 
 -- one mark behind its base
 one_mark : map (λ breaks. forms_by breaks ((0x0E1B, 0) ∷ (0x0E31, 1) ∷ [])) (AsCode ∷ Sound ∷ [])
@@ -367,7 +367,7 @@ no_base : map (λ breaks. forms_by breaks ((0x0E38, 0) ∷ (0x0E48, 1) ∷ [])) 
 no_base = refl
 
 -- without forms the choice adds nothing
-no_forms : map (λ breaks. preprocessed_by breaks false has_all MonotoneCharacters (own_cluster (0x0E1B, 0) ∷ own_cluster (0x0E31, 1) ∷ [])) (AsCode ∷ Sound ∷ [])
+no_forms : map (λ breaks. preprocessed_flagged breaks false has_all MonotoneCharacters (own_cluster (0x0E1B, 0) ∷ own_cluster (0x0E31, 1) ∷ [])) (AsCode ∷ Sound ∷ [])
     ≡ (own_cluster (0x0E1B, 0) ∷ own_cluster (0x0E31, 1) ∷ []) ∷ (own_cluster (0x0E1B, 0) ∷ own_cluster (0x0E31, 1) ∷ []) ∷ []
 no_forms = refl
 

@@ -22,7 +22,7 @@ use Rattle.shapers_base.specs.declared.plan.breaks.BreakFlags.{BreakFlags}
 use Rattle.shapers_text.specs.Thai.{is_sara_am, is_above_base, glyph_rule, glyphs_in_two, stretch_of_sara_am, stretches_at, stretches_of_each, sara_am_stretches, joins_before}
 use Rattle.shapers_text.specs.ThaiWalk.{above_marks_before, merged_front, HasRoomForSaraAms}
 use Rattle.shapers_text.proofs.ThaiInTwo.{in_two_plain, lengths, above_marks_before-characters}
-use Rattle.shapers_text.specs.ThaiForms.{preprocessed_by}
+use Rattle.shapers_text.specs.ThaiForms.{preprocessed_flagged}
 
 -- merging leaves the characters
 pub characters-merge_all : (level : BufferClusterLevel) (sts : List (ℕ × ℕ)) (gs : List hb_glyph_info_t)
@@ -164,7 +164,7 @@ unchanged level gs count =
 -- and without private use forms the whole rewriting leaves it
 pub unchanged_plain : (breaks : BreakFlags) (forms : Bool) (has : ℕ → Bool) (level : BufferClusterLevel)
     (gs : List hb_glyph_info_t) → forms ≡ false → count_by (λ g. is_sara_am g.glyph_id) gs ≡ 0
-    → gs ≡ preprocessed_by breaks forms has level gs
+    → gs ≡ preprocessed_flagged breaks forms has level gs
 unchanged_plain breaks forms has level gs off none = rw off (unchanged level gs none)
 
 pub length-glyphs_in_two : (gs : List hb_glyph_info_t)

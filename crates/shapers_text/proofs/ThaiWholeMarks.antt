@@ -2,6 +2,7 @@
 use Rattle.std.proofs.Common.{◌≡◌, ℕ, ◌-◌, ◌+◌, ◌<◌, ◌≤◌, Bool, true, false, cond, List, [], ◌∷◌, ◌++◌, length, take, drop, get_or, map, refl, sym, ap, ◌∙◌, arith}
 use Rattle.std.specs.List.{AllByRecursion, zip}
 use Rattle.std.proofs.lemmas.List.{drop_all, length-map, length-take-le, map-append}
+use Rattle.std.proofs.lemmas.Simd.{map-map}
 use Rattle.shapers_buffer.specs.declared.buffer.glyph.hb_glyph_info_t.{hb_glyph_info_t}
 use Rattle.shapers_buffer.specs.declared.buffer.level.BufferClusterLevel.{BufferClusterLevel}
 use Rattle.shapers_buffer.specs.Clusters.{merge_all}
@@ -15,10 +16,10 @@ use Rattle.shapers_clusters.proofs.FlagCalls.{map-unsafe_all, map-unsafe_inside,
 use Rattle.shapers_clusters.proofs.FlagLaw.{all_stay_same, unsafe_all_stays}
 use Rattle.shapers_clusters.proofs.Flagging.{unsafe_all-append, unsafe_few, unsafe_longer, unsafe_nothing}
 use Rattle.shapers_text.specs.Thai.{glyphs_in_two, sara_am_stretches}
-use Rattle.shapers_text.specs.ThaiForms.{forms_between, is_thai_mark, mark_stretches, mark_stretches_of_each, marks_flagged, preprocessed_by, preprocessed_text, pua_shaped, stretch_of_mark, thai_base_place, whole_mark_stretches, with_character, with_characters}
+use Rattle.shapers_text.specs.ThaiForms.{forms_between, is_thai_mark, mark_stretches, mark_stretches_of_each, marks_flagged, preprocessed_flagged, preprocessed_text, pua_shaped, stretch_of_mark, thai_base_place, whole_mark_stretches, with_character, with_characters}
 use Rattle.shapers_text.specs.ThaiLaws.{without_form}
 use Rattle.shapers_text.proofs.ThaiFormLaws.{base_place_push}
-use Rattle.shapers_text.proofs.ThaiFormWalks.{in_order, splits}
+use Rattle.shapers_text.proofs.ThaiFormWalks.{in_order, splits, without_form-pua}
 
 abbrev with_mark : ℕ × ℕ → ℕ × ℕ
 with_mark st = (st.0, st.1 + 1)
@@ -166,14 +167,30 @@ shaped_view has gs =
     (map-unsafe_all (λ g. g.glyph_id) (λ g. refl) sts gs sorted)
     ∙ ap (with_characters (forms_between has [] (characters gs) [])) (map-unsafe_all plain plain_flagged sts gs sorted)
 
-pub order_view-by : (breaks : BreakFlags) (forms : Bool) (has : ℕ → Bool) (level : BufferClusterLevel)
-    (gs : List hb_glyph_info_t) → order_view (preprocessed_by breaks forms has level gs)
+pub order_view-flagged : (breaks : BreakFlags) (forms : Bool) (has : ℕ → Bool) (level : BufferClusterLevel)
+    (gs : List hb_glyph_info_t) → order_view (preprocessed_flagged breaks forms has level gs)
     ≡ order_view (preprocessed_text forms has level gs)
-order_view-by breaks false has level gs = refl
-order_view-by breaks true has level gs =
+order_view-flagged breaks false has level gs = refl
+order_view-flagged breaks true has level gs =
     let text = glyphs_in_two (merge_all level (sara_am_stretches level (characters gs)) gs) in
     shaped_view has (marks_flagged breaks text)
     ∙ ap (λ us. with_characters (forms_between has [] us []) (order_view (marks_flagged breaks text)))
     (map-marks_flagged (λ g. g.glyph_id) (λ g. refl) breaks text)
     ∙ ap (with_characters (forms_between has [] (characters text) [])) (map-marks_flagged plain plain_flagged breaks text)
     ∙ sym (shaped_view has text)
+
+pub clusters-flagged : (breaks : BreakFlags) (forms : Bool) (has : ℕ → Bool) (level : BufferClusterLevel)
+    (gs : List hb_glyph_info_t) → clusters (preprocessed_flagged breaks forms has level gs)
+    ≡ clusters (preprocessed_text forms has level gs)
+clusters-flagged breaks false has level gs = refl
+clusters-flagged breaks true has level gs =
+    let text = glyphs_in_two (merge_all level (sara_am_stretches level (characters gs)) gs) in
+    let flagged = marks_flagged breaks text in
+    let cluster : hb_glyph_info_t → ℕ = λ g. g.cluster in
+    sym (map-map cluster without_form (pua_shaped has flagged))
+    ∙ ap clusters (without_form-pua has flagged)
+    ∙ map-map cluster without_form flagged
+    ∙ map-marks_flagged cluster (λ g. refl) breaks text
+    ∙ sym (map-map cluster without_form text)
+    ∙ sym (ap clusters (without_form-pua has text))
+    ∙ map-map cluster without_form (pua_shaped has text)

@@ -202,15 +202,15 @@ marks_flagged AsCode gs = gs
 marks_flagged Sound gs = unsafe_all (whole_mark_stretches (characters gs)) gs
 
 -- the whole rewriting by the choice, with the private use forms or without; with the code's flags
-abbrev pub preprocessed_by : BreakFlags → Bool → (ℕ → Bool) → BufferClusterLevel →
+abbrev pub preprocessed_flagged : BreakFlags → Bool → (ℕ → Bool) → BufferClusterLevel →
     List hb_glyph_info_t → List hb_glyph_info_t
-preprocessed_by breaks forms has level gs =
+preprocessed_flagged breaks forms has level gs =
     let text = glyphs_in_two (merge_all level (sara_am_stretches level (characters gs)) gs) in
     if forms then pua_shaped has (marks_flagged breaks text) else text
 
 abbrev pub preprocessed_text : Bool → (ℕ → Bool) → BufferClusterLevel → List hb_glyph_info_t →
     List hb_glyph_info_t
-preprocessed_text forms has level gs = preprocessed_by AsCode forms has level gs
+preprocessed_text forms has level gs = preprocessed_flagged AsCode forms has level gs
 
 -- whether a plan wants the forms (the Thai note: for fonts without OpenType rules)
 abbrev pub asks_for_forms : hb_ot_shape_plan_t → Bool
@@ -220,6 +220,6 @@ asks_for_forms plan = wants_forms plan.script plan.ot_map.found
 abbrev pub preprocessed_in_thai : hb_ot_shape_plan_t → Font → Buffer → Buffer
 preprocessed_in_thai plan font b =
     record b {
-      glyphs = preprocessed_by plan.break_flags (asks_for_forms plan) (has_nominal font) b.level
+      glyphs = preprocessed_flagged plan.break_flags (asks_for_forms plan) (has_nominal font) b.level
           b.glyphs;
     }

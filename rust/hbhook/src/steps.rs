@@ -39,7 +39,7 @@ pub struct Choices {
     pub level: u8,
     /// The buffer's flags by HarfBuzz's bits: of 20, 40 and 80 those that are set.
     pub flags: u32,
-    /// Whether joining flags what either half of a broken text needs (`BreakFlags::Sound`).
+    /// Whether hooks flag what either half of a broken text needs (`BreakFlags::Sound`).
     pub is_sound: bool,
     /// Whether all rounds of normalization run (`Rounds::Always`).
     pub has_all_rounds: bool,

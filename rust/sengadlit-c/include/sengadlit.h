@@ -472,7 +472,7 @@ typedef struct sengadlit_plan_input_t {
     sengadlit_bool_t found_script;   /* Whether that is one of the script's own tags; read for Thai alone. */
     sengadlit_bool_t has_gpos_mark;  /* Whether GPOS has the feature `mark`: read by Hebrew's compose. */
     sengadlit_bool_t centres_stretch; /* Whether the tiles of stretched marks are centred; else as rustybuzz lays them. */
-    sengadlit_bool_t sound_breaks;   /* Whether joining flags each place where a broken text would be shaped otherwise. */
+    sengadlit_bool_t sound_breaks;   /* Whether breaks are flagged too that change a text though HarfBuzz calls them safe. */
     uint32_t global_mask;            /* As hb_ot_map_t::global_mask. */
     sengadlit_bool_t searches_medials; /* Whether Indic looks for a base among medial consonants too, as HarfBuzz does. */
     const sengadlit_feature_t *features; /* Of two with one tag the first counts. Each list may be null if its length is 0. */

@@ -201,7 +201,8 @@ impl<'a> PlanBuilder<'a> {
         }
     }
 
-    /// Which places are flagged unsafe to break.
+    /// Which places are flagged unsafe to break, where letters join, in Thai with private use forms, in
+    /// Hangul, and between syllables with forms by their places.
     #[inline]
     pub fn break_flags(self, break_flags: BreakFlags) -> Self {
         PlanBuilder {

@@ -9,6 +9,7 @@ use sengadlit::map::FeatureMap;
 use sengadlit::ot_shaper_arabic::arabic_action_t::{
     ISOL, NONE, STRETCHING_FIXED, STRETCHING_REPEATING,
 };
+use sengadlit::plan::BreakFlags;
 use sengadlit::{
     Buffer, BufferClusterLevel, Font, GlyphId, GlyphInfo, GlyphPosition, Pause, Plan, Script,
     Shaper, Span, Tag, run_pause, script,
@@ -204,11 +205,22 @@ fn circles(numbers: &mut Numbers) -> impl Font {
 }
 
 fn plan_of(shaper: Shaper, script: Script, features: &[FeatureMap]) -> Plan {
+    flagging(shaper, script, features, BreakFlags::AsCode)
+}
+
+/// A plan that flags breaks by this choice.
+fn flagging(
+    shaper: Shaper,
+    script: Script,
+    features: &[FeatureMap],
+    break_flags: BreakFlags,
+) -> Plan {
     let stages = vec![0..0; features.len()];
     let plan = Plan::builder()
         .script(script)
         .features(features)
-        .stages(&stages);
+        .stages(&stages)
+        .break_flags(break_flags);
     plan.build_for(shaper).unwrap()
 }
 
@@ -295,8 +307,8 @@ fn part_rephas(spans: &[Span], glyphs: &mut [GlyphInfo]) {
     }
 }
 
-#[test]
-fn universal_breaks_at_every_clear_place_but_for_masks_of_forms() {
+/// Glyphs of the universal shaper in spans of all kinds.
+fn universal_text(numbers: &mut Numbers) -> (Vec<Span>, Buffer) {
     use universal::{
         B, CS, FAbv, H, HVM, IS, J, MPre, O, R, SUB, VAbv, VBlw, VMPre, VPre, VPst, ZWNJ,
     };
@@ -304,24 +316,89 @@ fn universal_breaks_at_every_clear_place_but_for_masks_of_forms() {
         B, B, CS, FAbv, H, HVM, IS, J, MPre, O, R, R, SUB, VAbv, VBlw, VMPre, VPre, VPre, VPst,
         ZWNJ,
     ];
-    let tags = features(&[b"isol", b"init", b"medi", b"fina", b"rphf", b"pref"]);
-    let plan = plan_of(Shaper::Universal, script::BALINESE, &tags);
+    let mut glyphs = random_glyphs(numbers, &categories, &[0]);
+    let spans = random_spans(numbers, glyphs.len(), 9);
+    part_rephas(&spans, &mut glyphs);
+    let buffer = buffer_of(numbers, &glyphs);
+    (spans, buffer)
+}
+
+/// Breaks texts of the universal shaper, by a plan of these features.
+fn universal_breaks(tags: &[FeatureMap], break_flags: BreakFlags, hidden: u32, seed: u64) {
+    let plan = flagging(Shaper::Universal, script::BALINESE, tags, break_flags);
     let mut counts = Counts::default();
-    let mut numbers = Numbers::new(3);
+    let mut numbers = Numbers::new(seed);
     for _ in 0..texts() {
-        let mut glyphs = random_glyphs(&mut numbers, &categories, &[0]);
-        let spans = random_spans(&mut numbers, glyphs.len(), 9);
-        part_rephas(&spans, &mut glyphs);
-        let buffer = buffer_of(&mut numbers, &glyphs);
+        let (spans, buffer) = universal_text(&mut numbers);
         let pauses = Pauses {
             pauses: &[Pause::SetupSyllablesUse, Pause::ReorderUse],
             plan: &plan,
             font: &circles(&mut numbers),
-            hidden: 8 | 16 | 32 | 64,
+            hidden,
         };
         pauses.break_text(&spans, &buffer, &mut counts);
     }
     assert!(counts.clear > 1000 && counts.flagged > 1000, "{counts:?}");
+}
+
+#[test]
+fn universal_breaks_at_every_clear_place_but_for_masks_of_forms() {
+    let tags = features(&[b"isol", b"init", b"medi", b"fina", b"rphf", b"pref"]);
+    universal_breaks(&tags, BreakFlags::AsCode, 8 | 16 | 32 | 64, 3);
+}
+
+#[test]
+fn universal_breaks_with_sound_flags_at_every_clear_place() {
+    let four = features(&[b"isol", b"init", b"medi", b"fina", b"rphf", b"pref"]);
+    universal_breaks(&four, BreakFlags::Sound, 0, 12);
+    let last = features(&[b"fina", b"rphf"]);
+    universal_breaks(&last, BreakFlags::Sound, 0, 13);
+}
+
+/// Where two syllables meet that a set-up leaves clear by the code's flags and not by those of Sound,
+/// a break there changes a mask.
+#[test]
+fn no_flag_by_forms_is_needless() {
+    let font = NominalOnly(|_| None);
+    let mut numbers = Numbers::new(14);
+    let mut added = 0;
+    for tags in [
+        &[b"isol", b"init", b"medi", b"fina"][..],
+        &[b"fina"],
+        &[b"init", b"medi"],
+    ] {
+        let tags = features(tags);
+        let of = |flags| flagging(Shaper::Universal, script::BALINESE, &tags, flags);
+        let (code, sound) = (of(BreakFlags::AsCode), of(BreakFlags::Sound));
+        for _ in 0..texts() {
+            let (spans, buffer) = universal_text(&mut numbers);
+            let set_up = |plan: &Plan, buffer: &mut Buffer, spans: &[Span]| {
+                run_pause(Pause::SetupSyllablesUse, plan, &font, spans, buffer).unwrap();
+            };
+            let mut flagged = buffer.copy().unwrap();
+            let mut whole = buffer.copy().unwrap();
+            set_up(&sound, &mut flagged, &spans);
+            set_up(&code, &mut whole, &spans);
+            let mut cut = 0;
+            for (count, span) in spans.iter().enumerate().skip(1) {
+                cut += spans[count - 1].len;
+                if !is_clear(whole.glyphs(), cut) || is_clear(flagged.glyphs(), cut) {
+                    continue;
+                }
+                added += 1;
+                let mut front = piece(&buffer, 0..cut);
+                let mut back = piece(&buffer, cut..buffer.len());
+                set_up(&code, &mut front, &spans[..count]);
+                set_up(&code, &mut back, &spans[count..]);
+                assert!(
+                    !is_joined(&whole, &front, &back, 0),
+                    "{:x?} by {spans:?} before {span:?}",
+                    buffer.glyphs()
+                );
+            }
+        }
+    }
+    assert!(added > 1000, "{added}");
 }
 
 /// A font whose results are those of these functions.
@@ -558,13 +635,32 @@ fn thai_forms_break_where_marks_share_the_cluster_before_them() {
     assert!(counts.clear > 1000, "{counts:?}");
 }
 
+#[test]
+fn thai_forms_break_with_sound_flags_at_every_clear_place() {
+    let plan = flagging(Shaper::Thai, script::THAI, &[], BreakFlags::Sound);
+    let mut numbers = Numbers::new(15);
+    let mut counts = Counts::default();
+    for _ in 0..texts() {
+        let glyphs = thai_text(&mut numbers, false);
+        let buffer = buffer_of(&mut numbers, &glyphs);
+        let seed = numbers.draw();
+        let font =
+            NominalOnly(move |c| (mixed(seed ^ u64::from(c)) & 3 != 0).then_some(GlyphId(1)));
+        let hook = |buffer: &mut Buffer| {
+            Shaper::Thai.preprocess_text(&plan, &font, buffer).unwrap();
+        };
+        break_text(&buffer, &mut counts, hook);
+    }
+    assert!(counts.clear > 1000 && counts.flagged > 1000, "{counts:?}");
+}
+
 /// Whether the character takes part in the choice of forms, as a mark.
 fn is_thai_mark(c: u32) -> bool {
     matches!(c, 0x0E31 | 0x0E34..=0x0E3A | 0x0E47..=0x0E4E)
 }
 
-/// A text of Hangul, each tone in the cluster of the glyph before it.
-fn hangul_text(numbers: &mut Numbers) -> Vec<GlyphInfo> {
+/// A text of Hangul; where tones join, each is in the cluster of the glyph before it.
+fn hangul_text(numbers: &mut Numbers, tones_join: bool) -> Vec<GlyphInfo> {
     const CHARACTERS: [u32; 16] = [
         0x1100, 0x1101, 0x115F, 0xA960, 0x1161, 0x1162, 0x1160, 0xD7B0, 0x11A8, 0x11A9, 0x11C3,
         0xD7CB, 0xAC00, 0xAC01, 0xAC1C, 0x41,
@@ -575,7 +671,9 @@ fn hangul_text(numbers: &mut Numbers) -> Vec<GlyphInfo> {
         let mut glyph_id = numbers.one_of(&CHARACTERS);
         if numbers.once_in(4) {
             glyph_id = numbers.one_of(&[0x302E, 0x302F]);
-            cluster = glyphs.last().map_or(cluster, |last| last.cluster);
+            if let (true, Some(last)) = (tones_join, glyphs.last()) {
+                cluster = last.cluster;
+            }
         }
         glyphs.push(GlyphInfo {
             glyph_id,
@@ -592,7 +690,7 @@ fn hangul_breaks_by_graphemes_where_tones_share_the_cluster_before_them() {
     let mut numbers = Numbers::new(8);
     let mut counts = Counts::default();
     for _ in 0..texts() {
-        let glyphs = hangul_text(&mut numbers);
+        let glyphs = hangul_text(&mut numbers, true);
         if !is_monotone(&glyphs) {
             continue;
         }
@@ -607,6 +705,25 @@ fn hangul_breaks_by_graphemes_where_tones_share_the_cluster_before_them() {
         break_text(&buffer, &mut counts, hook);
     }
     assert!(counts.clear > 1000, "{counts:?}");
+}
+
+#[test]
+fn hangul_breaks_with_sound_flags_at_every_clear_place() {
+    let plan = flagging(Shaper::Hangul, Script(*b"Hang"), &[], BreakFlags::Sound);
+    let mut numbers = Numbers::new(16);
+    let mut counts = Counts::default();
+    for _ in 0..texts() {
+        let glyphs = hangul_text(&mut numbers, false);
+        let mut buffer = buffer_of(&mut numbers, &glyphs);
+        buffer.set_flags(BufferFlags(numbers.one_of(&[0, 0x10])));
+        let font = hangul_font(&mut numbers);
+        let hook = |buffer: &mut Buffer| {
+            let done = Shaper::Hangul.preprocess_text(&plan, &font, buffer);
+            done.unwrap();
+        };
+        break_text(&buffer, &mut counts, hook);
+    }
+    assert!(counts.clear > 1000 && counts.flagged > 1000, "{counts:?}");
 }
 
 /// A text with a run of marks of these classes, in order; the run is in one cluster, or flagged.

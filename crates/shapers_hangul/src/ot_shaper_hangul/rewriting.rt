@@ -6,7 +6,7 @@ ghost use Rattle.shapers_hangul.specs.HangulLaws.{AllKept};
 ghost use Rattle.shapers_hangul.specs.RewritingWalk.{rewritten_items, InTurn, change_output, changed_from};
 ghost use Rattle.shapers_buffer.specs.Refusals.{RefusesLength};
 ghost use Rattle.shapers_buffer.specs.declared.buffer.refusal.ShaperError.TheVariants.{TooLong};
-ghost use Rattle.shapers_hangul.specs.Hangul.{first_item, item_len, items_at, items_flagged, glyph_copies, outputs, Fit, all_joined, rewritten, allows_circles, is_kept, whole_items, with_items_flagged, KeptBefore};
+ghost use Rattle.shapers_hangul.specs.Hangul.{first_item, item_len, items_at, items_flagged, glyph_copies, outputs, Fit, all_joined, rewritten, allows_circles, is_kept, whole_items, KeptBefore, rewritten_by};
 
 use super::item::{Item, first_item, stays_alone};
 use bitflags::Flags;
@@ -254,14 +254,15 @@ impl<'a> GlyphRewriting for Rewriting<'a> {
 
     ghost can_rewrite = { λ r gs. Fit (length gs) r.cut.now × InTurn (length gs) 0 r.cut.now };
 
-    ghost rewrites = { λ r gs. let flagged = items_flagged r.breaks r.cut.now gs in
-        changed_from 0 r.cut.now (all_joined r.level r.cut.now flagged) };
+    ghost rewrites = { λ r gs. let joined = all_joined r.level r.cut.now gs in
+        changed_from 0 r.cut.now (items_flagged r.breaks r.cut.now joined) };
 
-    // What is flagged and merged, on the old places, and then what the items become.
+    // What is merged and flagged, on the old places, and then what the items become. (A merge would
+    // take flags of falling clusters away.)
     #[inline]
     fn rewrite(&self, glyphs: &mut [hb_glyph_info_t], to: &mut Vec<hb_glyph_info_t>) {
-        flag_breaks(self.breaks, self.cut, glyphs);
         join_items(self.cut, self.level, glyphs);
+        flag_breaks(self.breaks, self.cut, glyphs);
         write_changes(self.cut, glyphs, to);
     }
 }
@@ -284,8 +285,7 @@ pub(super) fn rewrite_changes<F: hb_font_t>(
     buffer: &mut hb_buffer_t,
 ) -> Result<bool, ShaperError>
     requires { buffer.old.positions ≡ [] }
-    ensures ok { let flagged = with_items_flagged breaks (F.font face.now) buffer.old in
-        OnOk result (buffer.new ≡ rewritten (F.font face.now) flagged) }
+    ensures ok { OnOk result (buffer.new ≡ rewritten_by breaks (F.font face.now) buffer.old) }
     ensures kept { AllKept (F.font face.now) buffer.old → result ≡ Ok false }
     ensures changes { result ≡ Ok false → AllKept (F.font face.now) buffer.old }
     ensures unchanged { result ≡ Ok false → buffer.new ≡ buffer.old }
@@ -310,8 +310,7 @@ pub(super) fn rewrite<F: hb_font_t>(
     buffer: &mut hb_buffer_t,
 ) -> Result<(), ShaperError>
     requires { buffer.old.positions ≡ [] }
-    ensures ok { let flagged = with_items_flagged breaks (F.font face.now) buffer.old in
-        OnOk result (buffer.new ≡ rewritten (F.font face.now) flagged) }
+    ensures ok { OnOk result (buffer.new ≡ rewritten_by breaks (F.font face.now) buffer.old) }
     ensures length { let text = (rewritten (F.font face.now) buffer.old).glyphs in
         RefusesLength buffer.old.max_len (length text) result }
     ensures err { OnErr result (buffer.new ≡ buffer.old) }

@@ -74,7 +74,7 @@ pub fn override_features(planner: &mut Planner) -> Result<(), ShaperError> {
 /// become one syllable character where the font has it, else they are marked for the features of
 /// jamo; so are the jamo of a syllable character that the font lacks. A tone moves before the
 /// syllable that it follows, unless it has advance 0; without one it gets a dotted circle. What a
-/// break would tear apart is flagged. Refuses as a growth to the length of the result does, and
+/// break would tear apart is flagged, by the plan's `break_flags`. Refuses as a growth to the length of the result does, and
 /// never where every character stays as it is. (The Unicode Standard, "Conjoining Jamo
 /// Behavior"; OpenType's notes on Hangul.)
 ///
@@ -84,7 +84,8 @@ pub fn override_features(planner: &mut Planner) -> Result<(), ShaperError> {
 ///
 /// ```text
 /// requires { buffer.old.positions ≡ [] }
-/// ensures ok { OnOk result (buffer.new ≡ rewritten (F.font face.now) buffer.old) }
+/// ensures ok { let breaks = plan.now.break_flags in
+///     OnOk result (buffer.new ≡ rewritten_by breaks (F.font face.now) buffer.old) }
 /// ensures clusters { OnOk result (KeepsClusters (F.font face.now) buffer.old buffer.new) }
 /// ensures flags { OnOk result (KeepsGlyphFlags (F.font face.now) buffer.old buffer.new) }
 /// ensures spelling { OnOk result (SpellsSame buffer.old buffer.new) }
@@ -96,17 +97,17 @@ pub fn override_features(planner: &mut Planner) -> Result<(), ShaperError> {
 /// ```
 ///
 /// - `RefusesLength`: `crates/shapers_buffer/specs/Refusals.antt`
-/// - `rewritten`: `crates/shapers_hangul/specs/Hangul.antt`
+/// - `rewritten`, `rewritten_by`: `crates/shapers_hangul/specs/Hangul.antt`
 /// - `AllKept`, `KeepsClusters`, `KeepsGlyphFlags`, `SpellsByUnits`, `SpellsSame`: `crates/shapers_hangul/specs/HangulLaws.antt`
 ///
 /// </details>
 #[inline]
 pub fn preprocess_text<F: Font>(
-    _plan: &Plan,
+    plan: &Plan,
     face: &F,
     buffer: &mut Buffer,
 ) -> Result<(), ShaperError> {
-    rewrite(face, buffer)
+    rewrite(plan.break_flags, face, buffer)
 }
 
 /// [`preprocess_text`], which returns whether it rewrote the text: just where every character stays as
@@ -127,7 +128,8 @@ pub fn preprocess_text<F: Font>(
 ///
 /// ```text
 /// requires { buffer.old.positions ≡ [] }
-/// ensures ok { OnOk result (buffer.new ≡ rewritten (F.font face.now) buffer.old) }
+/// ensures ok { let breaks = plan.now.break_flags in
+///     OnOk result (buffer.new ≡ rewritten_by breaks (F.font face.now) buffer.old) }
 /// ensures clusters { OnOk result (KeepsClusters (F.font face.now) buffer.old buffer.new) }
 /// ensures flags { OnOk result (KeepsGlyphFlags (F.font face.now) buffer.old buffer.new) }
 /// ensures spelling { OnOk result (SpellsSame buffer.old buffer.new) }
@@ -141,7 +143,7 @@ pub fn preprocess_text<F: Font>(
 /// ```
 ///
 /// - `RefusesLength`: `crates/shapers_buffer/specs/Refusals.antt`
-/// - `rewritten`: `crates/shapers_hangul/specs/Hangul.antt`
+/// - `rewritten`, `rewritten_by`: `crates/shapers_hangul/specs/Hangul.antt`
 /// - `AllKept`, `KeepsClusters`, `KeepsGlyphFlags`, `SpellsByUnits`, `SpellsSame`: `crates/shapers_hangul/specs/HangulLaws.antt`
 ///
 /// </details>
@@ -152,11 +154,11 @@ pub fn preprocess_text<F: Font>(
 /// [`preprocess_text`]: crate::Shaper::preprocess_text
 #[inline]
 pub fn preprocess_text_changes<F: Font>(
-    _plan: &Plan,
+    plan: &Plan,
     face: &F,
     buffer: &mut Buffer,
 ) -> Result<bool, ShaperError> {
-    rewrite_changes(face, buffer)
+    rewrite_changes(plan.break_flags, face, buffer)
 }
 
 /// Keeps the masks of the features of jamo in the plan. None of them touches a glyph flag bit.

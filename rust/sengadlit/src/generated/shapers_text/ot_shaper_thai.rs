@@ -20,7 +20,7 @@ const THAI: Script = Script(*b"Thai");
 /// Rewrites a Thai or Lao text before its characters become glyphs: each SARA AM becomes NIKHAHIT,
 /// which goes before the above-base marks there, and SARA AA. Then, where the plan's script is Thai
 /// and GSUB doesn't have it, marks and bases get their private use forms, as far as the font has
-/// them.
+/// them, and are flagged by the plan's `break_flags`.
 /// Refuses as a growth does, and takes no memory for a text without SARA AM. (OpenType's notes on
 /// Thai and Lao, and the note on Thai OpenType shaping.)
 ///
@@ -59,7 +59,7 @@ pub fn preprocess_text<F: Font>(
 ) -> Result<(), ShaperError> {
     rewrite_sara_am(buffer)?;
     if wants_forms(plan) {
-        do_pua_shaping(face, buffer);
+        do_pua_shaping(plan.break_flags, face, buffer);
     }
     Ok(())
 }

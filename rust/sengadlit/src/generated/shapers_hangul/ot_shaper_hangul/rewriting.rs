@@ -7,8 +7,10 @@ use crate::support::prelude::*;
 use super::item::{Item, first_item, stays_alone};
 use crate::generated::shapers_base::buffer::{
     Buffer, BufferClusterLevel, BufferFlags, GlyphInfo, GlyphRewriting, ShaperError,
+    unsafe_to_break_in,
 };
 use crate::generated::shapers_base::font::Font;
+use crate::generated::shapers_base::plan::BreakFlags;
 use crate::support::alloc::Global;
 
 // The item at a place of the text.
@@ -104,6 +106,23 @@ fn measure<F: Font>(
     Ok(limit - room)
 }
 
+// Flags each item, its tone with it.
+#[inline]
+fn flag_items(cut: &[(usize, Item)], glyphs: &mut [GlyphInfo]) {
+    for entry in cut {
+        unsafe_to_break_in(glyphs, entry.0, entry.0 + entry.1.len());
+    }
+}
+
+// Flags what the choice adds.
+#[inline]
+fn flag_breaks(breaks: BreakFlags, cut: &[(usize, Item)], glyphs: &mut [GlyphInfo]) {
+    match breaks {
+        BreakFlags::AsCode => {}
+        BreakFlags::Sound => flag_items(cut, glyphs),
+    }
+}
+
 // Flags and merges what the items flag and merge, one after another.
 #[inline]
 fn join_items(cut: &[(usize, Item)], level: BufferClusterLevel, glyphs: &mut [GlyphInfo]) {
@@ -145,15 +164,18 @@ fn write_changes(cut: &[(usize, Item)], glyphs: &[GlyphInfo], list: &mut Vec<Gly
 
 // What rewrites a text: the items that change it.
 struct Rewriting<'a> {
+    breaks: BreakFlags,
     cut: &'a [(usize, Item)],
     level: BufferClusterLevel,
 }
 
 impl<'a> GlyphRewriting for Rewriting<'a> {
-    // What the items flag and merge, on the old places, and then what they become.
+    // What is merged and flagged, on the old places, and then what the items become. (A merge would
+    // take flags of falling clusters away.)
     #[inline]
     fn rewrite(&self, glyphs: &mut [GlyphInfo], to: &mut Vec<GlyphInfo>) {
         join_items(self.cut, self.level, glyphs);
+        flag_breaks(self.breaks, self.cut, glyphs);
         write_changes(self.cut, glyphs, to);
     }
 }
@@ -168,19 +190,27 @@ fn wants_circles(buffer: &Buffer) -> bool {
 
 /// Rewrites the text, unless every character stays as it is, and returns whether it did.
 #[inline]
-pub(super) fn rewrite_changes<F: Font>(face: &F, buffer: &mut Buffer) -> Result<bool, ShaperError> {
+pub(super) fn rewrite_changes<F: Font>(
+    breaks: BreakFlags,
+    face: &F,
+    buffer: &mut Buffer,
+) -> Result<bool, ShaperError> {
     let circles = wants_circles(buffer);
     let glyphs = buffer.glyphs();
     if kept_len(face, circles, glyphs) == buffer.len() {
         return Ok(false);
     }
-    rewrite(face, buffer)?;
+    rewrite(breaks, face, buffer)?;
     Ok(true)
 }
 
 // Rewrites the text.
 #[inline]
-pub(super) fn rewrite<F: Font>(face: &F, buffer: &mut Buffer) -> Result<(), ShaperError> {
+pub(super) fn rewrite<F: Font>(
+    breaks: BreakFlags,
+    face: &F,
+    buffer: &mut Buffer,
+) -> Result<(), ShaperError> {
     let circles = wants_circles(buffer);
     let (level, alloc) = (buffer.cluster_level(), buffer.alloc());
     let glyphs = buffer.glyphs();
@@ -194,6 +224,7 @@ pub(super) fn rewrite<F: Font>(face: &F, buffer: &mut Buffer) -> Result<(), Shap
         return Err(ShaperError::Memory);
     }
     let rewriting = Rewriting {
+        breaks,
         cut: cut.items.as_slice(),
         level,
     };

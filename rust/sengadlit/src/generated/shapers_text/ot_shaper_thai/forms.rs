@@ -5,6 +5,7 @@
 
 use crate::generated::shapers_base::buffer::{Buffer, GlyphInfo, GlyphWalk, unsafe_to_break_in};
 use crate::generated::shapers_base::font::Font;
+use crate::generated::shapers_base::plan::BreakFlags;
 use core::mem;
 
 /// The type of a consonant.
@@ -259,20 +260,52 @@ fn shape_marks<F: Font>(face: &F, glyphs: &mut [GlyphInfo]) {
     flag_marks(glyphs, base.place, end);
 }
 
+// Whether a character is a mark.
+#[inline]
+fn is_mark(u: u32) -> bool {
+    let Types(_, mark) = types_of(u);
+    !matches!(mark, Mark::NotMark)
+}
+
+// Flags each base with all its marks.
+fn flag_whole_marks(glyphs: &mut [GlyphInfo]) {
+    let mut base = 0;
+    for i in 0..glyphs.len() {
+        if !is_mark(glyphs[i].glyph_id) {
+            unsafe_to_break_in(glyphs, base, i);
+            base = i;
+        }
+    }
+    let end = glyphs.len();
+    unsafe_to_break_in(glyphs, base, end);
+}
+
+// Flags what the choice adds, in glyphs without their forms.
+#[inline]
+fn flag_breaks(breaks: BreakFlags, glyphs: &mut [GlyphInfo]) {
+    match breaks {
+        BreakFlags::AsCode => {}
+        BreakFlags::Sound => flag_whole_marks(glyphs),
+    }
+}
+
 // The walk over a buffer.
 #[derive(Clone, Copy)]
 struct PuaShaping<'a, F> {
+    breaks: BreakFlags,
     face: &'a F,
 }
 
 impl<'a, F: Font> GlyphWalk for PuaShaping<'a, F> {
     #[inline]
     fn walk(&mut self, glyphs: &mut [GlyphInfo]) {
+        flag_breaks(self.breaks, glyphs);
         shape_marks(self.face, glyphs);
     }
 }
 
-/// Gives the marks of a Thai text, and bases with descenders, their private use forms.
+/// Gives the marks of a Thai text, and bases with descenders, their private use forms, and flags
+/// what the choice adds.
 ///
 /// <details><summary>Contract</summary>
 ///
@@ -280,17 +313,18 @@ impl<'a, F: Font> GlyphWalk for PuaShaping<'a, F> {
 ///
 /// ```text
 /// ensures { let has = has_nominal (F.font face.now) in
-///     buffer.new ≡ record buffer.old { glyphs = pua_shaped has buffer.old.glyphs } }
+///     let flagged = marks_flagged breaks buffer.old.glyphs in
+///     buffer.new ≡ record buffer.old { glyphs = pua_shaped has flagged } }
 /// ```
 ///
 /// - `has_nominal`: `crates/shapers_base/specs/Font.antt`
-/// - `pua_shaped`: `crates/shapers_text/specs/ThaiForms.antt`
+/// - `marks_flagged`, `pua_shaped`: `crates/shapers_text/specs/ThaiForms.antt`
 ///
 /// </details>
-pub fn do_pua_shaping<F: Font>(face: &F, buffer: &mut Buffer) {
+pub fn do_pua_shaping<F: Font>(breaks: BreakFlags, face: &F, buffer: &mut Buffer) {
     // (a font that panics leaves the empty buffer, and no text with some of the forms)
     let empty = Buffer::new(buffer.alloc(), buffer.max_len());
     let mut text = mem::replace(buffer, empty);
-    text.walk(&mut PuaShaping { face });
+    text.walk(&mut PuaShaping { breaks, face });
     *buffer = text;
 }

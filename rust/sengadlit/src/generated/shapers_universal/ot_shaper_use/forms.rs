@@ -3,9 +3,10 @@
 //! The forms of syllables by their places in runs.
 
 use crate::generated::shapers_base::buffer::{
-    Buffer, GlyphInfo, GlyphWalk, Tag, first_syllable_len,
+    Buffer, GlyphInfo, GlyphWalk, Tag, first_syllable_len, unsafe_to_break_in,
 };
 use crate::generated::shapers_base::map::Map;
+use crate::generated::shapers_base::plan::BreakFlags;
 use crate::generated::shapers_syllabic::ot_shaper_syllabic::use_syllable::{
     HIEROGLYPH_CLUSTER, NON_CLUSTER,
 };
@@ -26,6 +27,18 @@ pub(super) fn set_forms(map: &Map, buffer: &mut Buffer) {
     let mut masks = FormMasks::of(map);
     if masks.all() != 0 {
         buffer.walk(&mut masks);
+    }
+}
+
+// Flags what the choice adds, in a text whose syllables have their forms: with Sound any two
+// neighbours of a run between which a break would change a mask.
+#[inline]
+pub(super) fn flag_forms(breaks: BreakFlags, map: &Map, buffer: &mut Buffer) {
+    match breaks {
+        BreakFlags::AsCode => {}
+        BreakFlags::Sound => buffer.walk(&mut TornPairs {
+            masks: FormMasks::of(map),
+        }),
     }
 }
 
@@ -79,6 +92,47 @@ impl FormMasks {
         self.set(&mut glyphs[s..e], before, behind);
     }
 
+    // Whether a break between two syllables of a run would change the mask of one, by whether one
+    // of it stands before them and whether one stands behind.
+    #[inline]
+    fn is_torn(self, before: bool, behind: bool) -> bool {
+        self.between(before, true) != self.between(before, false)
+            || self.between(true, behind) != self.between(false, behind)
+    }
+
+    // Whether a break between a syllable and the one that opens the rest would do so.
+    #[inline]
+    fn tears(self, syllable: &[GlyphInfo], rest: &[GlyphInfo], before: bool, behind: bool) -> bool {
+        joins_runs(syllable) && joins_runs(rest) && self.is_torn(before, behind)
+    }
+
+    // Flags the syllable from `s` to `e` and the next one, where a break between them would do so.
+    #[inline]
+    fn flag_pair(self, glyphs: &mut [GlyphInfo], s: usize, e: usize, before: bool) {
+        if e == glyphs.len() {
+            return;
+        }
+        let end = e + first_syllable_len(&glyphs[e..]);
+        let behind = joins_runs(&glyphs[end..]);
+        if self.tears(&glyphs[s..e], &glyphs[e..], before, behind) {
+            unsafe_to_break_in(glyphs, s, end);
+        }
+    }
+
+    // Flags each such pair.
+    #[inline]
+    fn flag_pairs(self, glyphs: &mut [GlyphInfo]) {
+        let mut start = 0;
+        let mut before = false;
+        while start < glyphs.len() {
+            let end = start + first_syllable_len(&glyphs[start..]);
+            let joins = joins_runs(&glyphs[start..end]);
+            self.flag_pair(glyphs, start, end, before);
+            before = joins;
+            start = end;
+        }
+    }
+
     // Gives a syllable the mask of its form.
     #[inline]
     fn set(self, syllable: &mut [GlyphInfo], before: bool, behind: bool) {
@@ -92,6 +146,19 @@ impl GlyphWalk for FormMasks {
     #[inline]
     fn walk(&mut self, glyphs: &mut [GlyphInfo]) {
         self.set_in(glyphs);
+    }
+}
+
+// The walk that flags pairs by the masks of forms.
+#[derive(Clone, Copy)]
+struct TornPairs {
+    masks: FormMasks,
+}
+
+impl GlyphWalk for TornPairs {
+    #[inline]
+    fn walk(&mut self, glyphs: &mut [GlyphInfo]) {
+        self.masks.flag_pairs(glyphs);
     }
 }
 

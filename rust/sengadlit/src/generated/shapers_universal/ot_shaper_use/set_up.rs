@@ -3,7 +3,7 @@
 //! Cutting a text into the syllables of the universal shaper.
 
 use super::category;
-use super::forms::set_forms;
+use super::forms::{flag_forms, set_forms};
 use super::syllable_walk::{EachSyllable, SyllableChange};
 use crate::generated::shapers_base::buffer::{Buffer, GlyphInfo, ShaperError, Span};
 use crate::generated::shapers_base::plan::{Plan, PlanData};
@@ -12,7 +12,8 @@ use crate::generated::shapers_syllabic::ot_shaper_syllabic::{set_up_by_bytes, se
 
 /// Cuts the text into the syllables of these spans and flags the inside of each as unsafe to break.
 /// Gives the mask of `rphf` to the first glyph of each syllable if it is a reph, else to its first
-/// three, and, where the plan has no plan of Arabic, the masks of forms by the places of syllables.
+/// three, and, where the plan has no plan of Arabic, the masks of forms by the places of syllables,
+/// with what the plan's `break_flags` flag by them.
 /// Refuses with [`SpansDontCover`] where a span is empty or the lengths don't add up to the buffer's.
 /// It takes no memory, leaves the clusters as they are and only adds glyph flags.
 ///
@@ -33,10 +34,13 @@ use crate::generated::shapers_syllabic::ot_shaper_syllabic::{set_up_by_bytes, se
 /// requires kinds { All (λ span. span.kind ≤ 15) spans.now }
 /// ensures refusal { RefusesInput (spans_refusal spans.now buffer.old) result }
 /// ensures ok { let kept = plan.now.plan_data in
-///     OnOk result (buffer.new ≡ syllables_set_up kept plan.now.ot_map spans.now buffer.old) }
-/// ensures cut { let kept = plan.now.plan_data in
+///     let set_up = syllables_set_up kept plan.now.ot_map spans.now buffer.old in
+///     let flagged = with_forms_flagged plan.now.break_flags kept plan.now.ot_map set_up in
+///     OnOk result (buffer.new ≡ flagged) }
+/// ensures cut { let breaks = plan.now.break_flags in
+///     let kept = plan.now.plan_data in
 ///     OnOk result
-///     (UniversalSetUpCutsAtSpans kept plan.now.ot_map spans.now buffer.old buffer.new) }
+///     (UniversalSetUpCutsAtSpans breaks kept plan.now.ot_map spans.now buffer.old buffer.new) }
 /// ensures clusters { clusters buffer.new.glyphs ≡ clusters buffer.old.glyphs }
 /// ensures flags { OnOk result (OnlyFlagsAdded buffer.old.glyphs buffer.new.glyphs) }
 /// ensures err { OnErr result (buffer.new ≡ buffer.old) }
@@ -48,7 +52,7 @@ use crate::generated::shapers_syllabic::ot_shaper_syllabic::{set_up_by_bytes, se
 /// - `OnlyFlagsAdded`: `crates/shapers_clusters/specs/FlagLaw.antt`
 /// - `is_universal`: `crates/shapers_universal/specs/PlanData.antt`
 /// - `UniversalSetUpCutsAtSpans`: `crates/shapers_universal/specs/UniversalCuts.antt`
-/// - `syllables_set_up`: `crates/shapers_universal/specs/UniversalSyllables.antt`
+/// - `syllables_set_up`, `with_forms_flagged`: `crates/shapers_universal/specs/UniversalSyllables.antt`
 ///
 /// </details>
 ///
@@ -78,11 +82,12 @@ pub fn setup_syllables_use(
 /// ```text
 /// requires { is_universal plan.now.plan_data ≡ true }
 /// ensures { let kept = plan.now.plan_data in
-///     buffer.new ≡ set_up_by_its_bytes kept plan.now.ot_map buffer.old }
+///     let set_up = set_up_by_its_bytes kept plan.now.ot_map buffer.old in
+///     buffer.new ≡ with_forms_flagged plan.now.break_flags kept plan.now.ot_map set_up }
 /// ```
 ///
 /// - `is_universal`: `crates/shapers_universal/specs/PlanData.antt`
-/// - `set_up_by_its_bytes`: `crates/shapers_universal/specs/UniversalSyllables.antt`
+/// - `set_up_by_its_bytes`, `with_forms_flagged`: `crates/shapers_universal/specs/UniversalSyllables.antt`
 ///
 /// </details>
 #[inline]
@@ -91,7 +96,7 @@ pub fn setup_syllables_use_by_bytes(plan: &Plan, buffer: &mut Buffer) {
     set_masks(plan, buffer);
 }
 
-// Gives each syllable its masks.
+// Gives each syllable its masks, and flags what the plan's choice adds.
 #[inline]
 fn set_masks(plan: &Plan, buffer: &mut Buffer) {
     match &plan.plan_data {
@@ -99,6 +104,7 @@ fn set_masks(plan: &Plan, buffer: &mut Buffer) {
             set_rphf(universal_plan.rphf_mask, buffer);
             if universal_plan.arabic_plan.is_none() {
                 set_forms(&plan.ot_map, buffer);
+                flag_forms(plan.break_flags, &plan.ot_map, buffer);
             }
         }
         _ => unreachable!("the plan has no data of the universal shaper"),
