@@ -16,11 +16,11 @@ use Rattle.shapers_clusters.specs.ClusterMerges.{joined_all}
 use Rattle.shapers_clusters.specs.Cuts.{EndWithin, held}
 use Rattle.shapers_hangul.specs.Hangul.{allows_circles, first_item, is_narrow, is_syllable, is_tone, item_len, item_stretches, items, items_from, opening_unit, preprocessed, stretches, taken, tone_len, tone_stretch}
 use Rattle.shapers_hangul.specs.HangulLaws.{hangul_sources}
-use Rattle.shapers_hangul.proofs.HangulClusters.{rewritten_holds}
+use Rattle.shapers_hangul.proofs.HangulClusters.{clusters-rewritten, rewritten_holds}
 use Rattle.rustybuzz_shapers.specs.Hooks.{Preprocessed}
 use Rattle.rustybuzz_shapers.specs.TextCuts.{IsBetweenItems}
 use Rattle.rustybuzz_shapers.specs.declared.shaper.hb_ot_shaper_t.TheVariants.{Hangul}
-use Rattle.rustybuzz_shapers.proofs.HangulHalves.{ends_within, hangul_clusters_halves, hangul_order_halves}
+use Rattle.rustybuzz_shapers.proofs.HangulHalves.{ends_within, hangul_clusters_halves, hangul_order-flagged, hangul_order_halves}
 use Rattle.rustybuzz_shapers.proofs.HangulMonotone.{hangul_stays_monotone}
 use Rattle.shapers_breaks.specs.HangulBreaks.{HangulBreaksLaw}
 use Rattle.shapers_breaks.specs.TextBreaks.{JoinsOrder, back_half, front_half}
@@ -116,10 +116,12 @@ between_from font circles all before q (suc skip) (u ∷ us) text none free =
 made_clusters : (plan : hb_ot_shape_plan_t) (font : Font) (b c : Buffer) → Preprocessed Hangul plan font b c
     → clusters c.glyphs ≡ clusters (preprocessed font (allows_circles b) b.level b.glyphs)
 made_clusters plan font b c is = ap (λ (d : Buffer). clusters d.glyphs) is
+    ∙ clusters-rewritten plan.break_flags font (allows_circles b) b.level b.glyphs
 
 made_order : (plan : hb_ot_shape_plan_t) (font : Font) (b c : Buffer) → Preprocessed Hangul plan font b c
     → order_view c.glyphs ≡ order_view (preprocessed font (allows_circles b) b.level b.glyphs)
 made_order plan font b c is = ap (λ (d : Buffer). order_view d.glyphs) is
+    ∙ hangul_order-flagged plan.break_flags font (allows_circles b) b.level b.glyphs
 
 pub hangul_breaks : HangulBreaksLaw
 hangul_breaks plan font old new graphemes mono join is p z l differ =

@@ -13,10 +13,11 @@ use Rattle.shapers_buffer.specs.Glyph.{characters, clusters, order_view, plain}
 use Rattle.shapers_clusters.specs.ClusterMerges.{joined_all}
 use Rattle.shapers_clusters.specs.Cuts.{EndWithin, IsMonotone, ShareNone, held}
 use Rattle.shapers_text.specs.Thai.{sara_am_sources, sara_am_stretches}
-use Rattle.shapers_text.specs.ThaiForms.{asks_for_forms, is_thai_mark, preprocessed_text, with_thai_forms}
+use Rattle.shapers_text.specs.ThaiForms.{asks_for_forms, is_thai_mark, preprocessed_flagged, with_thai_forms}
 use Rattle.shapers_text.proofs.ThaiClusters.{in_two_holds}
 use Rattle.shapers_text.proofs.ThaiFormWalks.{forms_hold}
 use Rattle.shapers_text.proofs.ThaiStretches.{stretches_within}
+use Rattle.shapers_text.proofs.ThaiWholeMarks.{clusters-flagged, order_view-flagged}
 use Rattle.rustybuzz_shapers.specs.Hooks.{Preprocessed}
 use Rattle.rustybuzz_shapers.specs.declared.shaper.hb_ot_shaper_t.TheVariants.{Thai}
 use Rattle.rustybuzz_shapers.proofs.ThaiHalves.{forms_halves, text_view}
@@ -55,7 +56,7 @@ two_unheld level m gs mono p z l differ =
 two_of : (plan : hb_ot_shape_plan_t) (font : Font) → asks_for_forms plan ≡ false → (b c : Buffer)
     → Preprocessed Thai plan font b c → c.glyphs ≡ sara_ams_taken b.level b.glyphs
 two_of plan font none b c is = ap (λ (d : Buffer). d.glyphs) is
-    ∙ ap (λ f. preprocessed_text f (has_nominal font) b.level b.glyphs) none
+    ∙ ap (λ f. preprocessed_flagged plan.break_flags f (has_nominal font) b.level b.glyphs) none
 
 -- cut where no stretch holds both sides
 pub two_cut : (level : BufferClusterLevel) (gs : List hb_glyph_info_t) (q : ℕ) → 0 < q → q < length gs
@@ -92,15 +93,18 @@ sara_ams_break plan font old new none m mono is p z l differ =
 
 -- PRIVATE USE FORMS
 formed_of : (plan : hb_ot_shape_plan_t) (font : Font) → asks_for_forms plan ≡ true → (b c : Buffer)
-    → Preprocessed Thai plan font b c → c.glyphs ≡ preprocessed_text true (has_nominal font) b.level b.glyphs
+    → Preprocessed Thai plan font b c
+    → c.glyphs ≡ preprocessed_flagged plan.break_flags true (has_nominal font) b.level b.glyphs
 formed_of plan font asked b c is = ap (λ (d : Buffer). d.glyphs) is
-    ∙ ap (λ f. preprocessed_text f (has_nominal font) b.level b.glyphs) asked
+    ∙ ap (λ f. preprocessed_flagged plan.break_flags f (has_nominal font) b.level b.glyphs) asked
 
 -- they change no cluster, and in the order view they are those of the text with its SARA AMs in two
 formed_clusters : (plan : hb_ot_shape_plan_t) (font : Font) → asks_for_forms plan ≡ true → (b c : Buffer)
     → Preprocessed Thai plan font b c → clusters c.glyphs ≡ clusters (sara_ams_taken b.level b.glyphs)
 formed_clusters plan font asked b c is =
-    ap clusters (formed_of plan font asked b c is) ∙ (forms_hold (has_nominal font) b.level b.glyphs).clusters_stay
+    ap clusters (formed_of plan font asked b c is)
+    ∙ clusters-flagged plan.break_flags true (has_nominal font) b.level b.glyphs
+    ∙ (forms_hold (has_nominal font) b.level b.glyphs).clusters_stay
 
 formed_view : (plan : hb_ot_shape_plan_t) (font : Font) → asks_for_forms plan ≡ true → (b c : Buffer)
     → Preprocessed Thai plan font b c → order_view c.glyphs
@@ -108,6 +112,7 @@ formed_view : (plan : hb_ot_shape_plan_t) (font : Font) → asks_for_forms plan 
 formed_view plan font asked b c is =
     let has = has_nominal font in
     ap order_view (formed_of plan font asked b c is)
+    ∙ order_view-flagged plan.break_flags true has b.level b.glyphs
     ∙ text_view true has b.level b.glyphs
     ∙ ap (with_thai_forms has) (sym (text_view false has b.level b.glyphs))
 
