@@ -7,7 +7,8 @@ use hbhook_commands::{Expected, HookCall, LineFault};
 use rustybuzz_shapers::buffer::{Span, hb_glyph_info_t};
 use rustybuzz_shapers::plan::hb_ot_shape_plan_t;
 use rustybuzz_shapers::shaper::{
-    Composition, Decomposition, HookOutcome, Pause, Preprocess, hb_ot_shaper_t, pause_fits, run_pause,
+    Composition, Decomposition, HookOutcome, Pause, Preprocess, hb_ot_shaper_t, pause_fits,
+    run_pause,
 };
 
 // The conditions of calls.
