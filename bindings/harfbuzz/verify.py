@@ -37,10 +37,10 @@ def joined(tables):
     return directory + body
 
 
-def single_substitutions(features):
-    """The table GSUB with one substitution for each feature, whatever the script."""
+def single_substitutions(script, features):
+    """The table GSUB of a script, with one substitution for each feature."""
     count = len(features)
-    scripts = of_table("H4sHHHHHH", 1, b"DFLT", 8, 4, 0, 0, 0xFFFF, count) + of_table(f"{count}H", *range(count))
+    scripts = of_table("H4sHHHHHH", 1, script, 8, 4, 0, 0, 0xFFFF, count) + of_table(f"{count}H", *range(count))
     records = b"".join(of_table("4sH", tag.encode(), 2 + 6 * count + 6 * i) for i, tag in enumerate(sorted(features)))
     feature_list = of_table("H", count) + records + b"".join(of_table("HHH", 0, 1, i) for i in range(count))
     lookups = of_table("H", count) + of_table(f"{count}H", *(2 + 2 * count + 22 * i for i in range(count)))
@@ -51,7 +51,7 @@ def single_substitutions(features):
 
 
 def font(characters, more=0, features=None):
-    """A font whose glyphs are these characters', from 1 on, and so many more; with substitutions by feature."""
+    """A font whose glyphs are these characters', from 1 on, and so many more; with substitutions by feature, for Balinese."""
     glyphs = 1 + len(characters) + more
     groups = b"".join(of_table("III", c, c, 1 + i) for i, c in enumerate(characters))
     tables = {
@@ -62,7 +62,7 @@ def font(characters, more=0, features=None):
         "cmap": of_table("HHHHIHHIII", 0, 1, 3, 10, 12, 12, 0, 16 + len(groups), 0, len(characters)) + groups,
     }
     if features:
-        tables["GSUB"] = single_substitutions(features)
+        tables["GSUB"] = single_substitutions(b"bali", features)
     return joined(tables)
 
 

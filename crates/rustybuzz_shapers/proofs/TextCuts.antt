@@ -67,7 +67,8 @@ thai_cuts plan font gs hs old one two new free first second whole =
       order =
           ap (λ b. order_view (glyphs b)) whole
           ∙ made.order
-          ∙ ap (λ b. order_view (glyphs b) ++ order_view (preprocessed_flagged breaks forms has old.level hs)) (sym first)
+          ∙ ap (λ b. order_view (glyphs b) ++ order_view (preprocessed_flagged breaks forms has old.level hs))
+          (sym first)
           ∙ ap (λ b. order_view one.glyphs ++ order_view (glyphs b)) (sym second);
       in_clusters = λ none.
           ap (λ b. clusters (glyphs b)) whole

@@ -1,7 +1,6 @@
 -- The items that change the text, and what stands between them.
 use Rattle.std.proofs.Common.{◌≡◌, ℕ, zero, suc, ◌+◌, ◌-◌, ◌<◌, ◌≤◌, Bool, true, false, cond, List, [], ◌∷◌, ◌++◌, length, take, drop, refl, sym, ap, subst, ◌∙◌, arith}
 use Rattle.std.specs.Prelude.{slice_index_or, Result, OnOk}
-use Rattle.std.specs.List.{AllByRecursion}
 use Rattle.shapers_buffer.specs.Glyph.{characters}
 use Rattle.shapers_buffer.specs.Buffer.{Buffer}
 use Rattle.shapers_buffer.specs.declared.buffer.refusal.ShaperError.{ShaperError}
@@ -266,7 +265,8 @@ flagged_kept Sound font circles gs place kept xs = kept.unflagged xs
 pub changed_whole : (breaks : BreakFlags) (font : Font) (circles : Bool) (level : BufferClusterLevel)
     (gs : List hb_glyph_info_t) (place : ℕ) (cut : List (ℕ × Item)) → KeptBefore font circles gs place
     → cut ≡ rewritten_items (items_at font circles (characters gs) place)
-    → changed_from 0 cut (items_flagged breaks cut (all_joined level cut gs)) ≡ text_rewritten breaks font circles level gs
+    → changed_from 0 cut (items_flagged breaks cut (all_joined level cut gs))
+    ≡ text_rewritten breaks font circles level gs
 changed_whole breaks font circles level gs place cut kept same =
     let us = characters gs in
     let at = items_at font circles us place in
@@ -322,7 +322,8 @@ pub buffer_changed : (breaks : BreakFlags) (font : Font) (b : Buffer) (circles :
     (read : List hb_glyph_info_t) (place : ℕ) (cut : List (ℕ × Item)) → circles ≡ allows_circles b → level ≡ b.level
     → read ≡ b.glyphs → KeptBefore font circles read place
     → cut ≡ rewritten_items (items_at font circles (characters read) place)
-    → changed_from 0 cut (items_flagged breaks cut (all_joined level cut b.glyphs)) ≡ (rewritten_by breaks font b).glyphs
+    → changed_from 0 cut (items_flagged breaks cut (all_joined level cut b.glyphs))
+    ≡ (rewritten_by breaks font b).glyphs
 buffer_changed breaks font b circles level read place cut same_circles same_level same_glyphs kept same =
     ap (λ (xs : List hb_glyph_info_t). changed_from 0 cut (items_flagged breaks cut (all_joined level cut xs)))
     (sym same_glyphs)

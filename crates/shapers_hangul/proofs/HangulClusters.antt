@@ -255,9 +255,9 @@ rewritten_holds font circles level gs =
     }
 
 -- glyphs written from any that stand in their places, each but for its name its source
-pub written_as : (cut : List (ℕ × Item)) (ms : List hb_glyph_info_t) → map unnamed (outputs glyph_copies cut ms)
+pub unnamed_written : (cut : List (ℕ × Item)) (ms : List hb_glyph_info_t) → map unnamed (outputs glyph_copies cut ms)
     ≡ map unnamed (pick (hangul_sources cut (length ms)) ms)
-written_as cut ms =
+unnamed_written cut ms =
     let joined = written_from cut ms in
     (subst (λ ps. AreMade unnamed ms ps (outputs glyph_copies cut ms)) joined.from
     (subst (AreMade unnamed ms (map (λ m. m.place) joined.made)) joined.glyphs

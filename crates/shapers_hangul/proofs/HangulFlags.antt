@@ -21,7 +21,7 @@ use Rattle.shapers_hangul.specs.declared.ot_shaper_hangul.item.Item.{Item}
 use Rattle.shapers_hangul.specs.Hangul.{Fit, all_joined, is_merged, item_joined, item_stretches, items, items_flagged, rewritten_by, taken, text_rewritten, unsafe_stretches, allows_circles}
 use Rattle.shapers_hangul.specs.HangulLaws.{KeepsGlyphFlags, hangul_sources, unnamed}
 use Rattle.shapers_base.specs.Masks.{with_numbered_mask}
-use Rattle.shapers_hangul.proofs.HangulClusters.{item_ends, written_as}
+use Rattle.shapers_hangul.proofs.HangulClusters.{item_ends, unnamed_written}
 use Rattle.shapers_hangul.proofs.ItemFlags.{items_flagged_stay, length-items_flagged}
 use Rattle.shapers_hangul.proofs.Items.{items_fit}
 use Rattle.shapers_hangul.proofs.Walks.{length-all_joined, length-characters, length-item_joined, map-unsafe}
@@ -66,7 +66,7 @@ rewritten_flags breaks font circles level gs =
     let places = hangul_sources cut (length gs) in
     let rs = text_rewritten breaks font circles level gs in
     let long : length ns ≡ length gs = length-items_flagged breaks cut joined ∙ length-all_joined level cut gs in
-    let made : map unnamed rs ≡ map unnamed (pick places ns) = written_as cut ns
+    let made : map unnamed rs ≡ map unnamed (pick places ns) = unnamed_written cut ns
     ∙ ap (λ n. map unnamed (pick (hangul_sources cut n) ns)) long in
     all_stay_as (pick places gs) (pick places ns) rs
     (sym (map-map (λ g. g.cluster) unnamed rs) ∙ ap clusters made ∙ map-map (λ g. g.cluster) unnamed (pick places ns))

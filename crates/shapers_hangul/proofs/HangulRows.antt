@@ -329,7 +329,8 @@ flags_of_others : flags (wide (0xAC01 ∷ 0x1100 ∷ 0x1161 ∷ 0x11A9 ∷ 0x25C
 flags_of_others = refl
 
 -- with Sound each item is flagged, its tone with it: from its first character on
-whole : whole_items (items (narrow (0x1100 ∷ 0x1161 ∷ 0xAC00 ∷ 0x302E ∷ [])) true (0x41 ∷ 0xAC00 ∷ 0x302E ∷ 0xAC00 ∷ 0x11C3 ∷ []))
+whole : whole_items (items (narrow (0x1100 ∷ 0x1161 ∷ 0xAC00 ∷ 0x302E ∷ [])) true (0x41 ∷ 0xAC00 ∷ 0x302E ∷ 0xAC00
+    ∷ 0x11C3 ∷ []))
     ≡ (0, 1) ∷ (1, 3) ∷ (3, 5) ∷ []
 whole = refl
 
@@ -363,11 +364,13 @@ sound_moved_tone = refl
 
 -- where clusters fall, the syllable in one keeps its flag: its merge comes first
 abbrev falling : List hb_glyph_info_t
-falling = record default_glyph { glyph_id = 0x1100; cluster = 2 } ∷ record default_glyph { glyph_id = 0x1161; cluster = 1 }
+falling = record default_glyph { glyph_id = 0x1100; cluster = 2 }
+    ∷ record default_glyph { glyph_id = 0x1161; cluster = 1 }
     ∷ record default_glyph { glyph_id = 0x302E } ∷ []
 
 sound_falling : text_rewritten Sound (narrow (0xAC00 ∷ 0x302E ∷ [])) true MonotoneCharacters falling
-    ≡ record default_glyph { glyph_id = 0xAC00; cluster = 1; mask = 3 } ∷ record default_glyph { glyph_id = 0x302E } ∷ []
+    ≡ record default_glyph { glyph_id = 0xAC00; cluster = 1; mask = 3 }
+    ∷ record default_glyph { glyph_id = 0x302E } ∷ []
 sound_falling = refl
 
 -- between items nothing is flagged
@@ -376,7 +379,8 @@ sound_apart : sound_flags (wide (0xAC00 ∷ [])) (0xAC00 ∷ 0x41 ∷ 0xAC00 ∷
 sound_apart = refl
 
 -- the code's choice flags nothing before
-as_code : items_flagged AsCode (items (narrow (0xAC00 ∷ 0x302E ∷ [])) true (0xAC00 ∷ 0x302E ∷ [])) (text (0xAC00 ∷ 0x302E ∷ []))
+as_code : items_flagged AsCode (items (narrow (0xAC00 ∷ 0x302E ∷ [])) true (0xAC00 ∷ 0x302E ∷ [])) (text (0xAC00
+    ∷ 0x302E ∷ []))
     ≡ text (0xAC00 ∷ 0x302E ∷ [])
 as_code = refl
 

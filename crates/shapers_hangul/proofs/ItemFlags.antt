@@ -1,6 +1,5 @@
 -- What the choice flags of a Hangul text once its items are joined: glyph flags alone, and none is lost.
-use Rattle.std.proofs.Common.{◌≡◌, ℕ, ◌≤◌, List, [], ◌∷◌, length, map, refl, sym, ap, subst, ◌∙◌, arith}
-use Rattle.std.specs.Prelude.{Result, Ok, Err, OnOk}
+use Rattle.std.proofs.Common.{◌≡◌, ℕ, ◌≤◌, List, [], ◌∷◌, length, map, refl, sym, ap, ◌∙◌, arith}
 use Rattle.std.specs.List.{AllByRecursion}
 use Rattle.shapers_buffer.specs.declared.buffer.glyph.hb_glyph_info_t.{hb_glyph_info_t}
 use Rattle.shapers_buffer.specs.Glyph.{characters, clusters}
@@ -11,7 +10,7 @@ use Rattle.shapers_clusters.specs.FlagLaw.{AllFlagsStay}
 use Rattle.shapers_clusters.proofs.FlagCalls.{map-unsafe_all}
 use Rattle.shapers_clusters.proofs.FlagLaw.{all_stay_same, unsafe_all_stays}
 use Rattle.shapers_hangul.specs.declared.ot_shaper_hangul.item.Item.{Item}
-use Rattle.shapers_hangul.specs.Hangul.{item_len, items_flagged, whole_items}
+use Rattle.shapers_hangul.specs.Hangul.{items_flagged, whole_items}
 use Rattle.shapers_hangul.proofs.Walks.{length-characters}
 
 whole_in_order : (cut : List (ℕ × Item)) → AllByRecursion (λ st. st.0 ≤ st.1) (whole_items cut)

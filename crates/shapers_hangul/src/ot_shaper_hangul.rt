@@ -60,9 +60,9 @@ pub fn override_features(planner: &mut hb_ot_shape_planner_t) -> Result<(), Shap
 /// become one syllable character where the font has it, else they are marked for the features of
 /// jamo; so are the jamo of a syllable character that the font lacks. A tone moves before the
 /// syllable that it follows, unless it has advance 0; without one it gets a dotted circle. What a
-/// break would tear apart is flagged, by the plan's `break_flags`. Refuses as a growth to the length of the result does, and
-/// never where every character stays as it is. (The Unicode Standard, "Conjoining Jamo
-/// Behavior"; OpenType's notes on Hangul.)
+/// break would tear apart is flagged, by the plan's `break_flags`. Refuses as a growth to the length
+/// of the result does, and never where every character stays as it is. (The Unicode Standard,
+/// "Conjoining Jamo Behavior"; OpenType's notes on Hangul.)
 #[inline]
 pub fn preprocess_text<F: hb_font_t>(
     plan: &hb_ot_shape_plan_t,

@@ -208,7 +208,7 @@ preprocessed_keeps : ThaiStaysMonotone → HangulStaysMonotone → (plan : hb_ot
 preprocessed_keeps thai hangul plan font b Hangul =
     let breaks = plan.break_flags in
     let new : Buffer = rewritten_by breaks font b in
-    let keeps : KeepsClusters font b new = on_rewritten (Ok 0) breaks font b new refl in
+    let keeps : KeepsClusters font b new = on_rewritten {T = ℕ} (Ok 0) breaks font b new refl in
     record {
       level = refl;
       glyphs = kept_sorted (merges b.level) b.glyphs new.glyphs keeps.made.old_clusters

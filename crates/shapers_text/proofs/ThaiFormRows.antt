@@ -340,7 +340,8 @@ own_cluster p = record default_glyph { glyph_id = p.0; cluster = p.1 }
 
 abbrev forms_by : BreakFlags → List (ℕ × ℕ) → List (ℕ × ℕ)
 forms_by breaks us =
-    map (λ (g : hb_glyph_info_t). (g.glyph_id, g.mask)) (preprocessed_flagged breaks true has_all MonotoneCharacters (map own_cluster us))
+    map (λ (g : hb_glyph_info_t). (g.glyph_id, g.mask)) (preprocessed_flagged breaks true has_all MonotoneCharacters
+    (map own_cluster us))
 
 -- one mark behind its base
 one_mark : map (λ breaks. forms_by breaks ((0x0E1B, 0) ∷ (0x0E31, 1) ∷ [])) (AsCode ∷ Sound ∷ [])
@@ -348,8 +349,10 @@ one_mark : map (λ breaks. forms_by breaks ((0x0E1B, 0) ∷ (0x0E31, 1) ∷ []))
 one_mark = refl
 
 -- two marks, and a base behind them that stays clear
-two_marks : map (λ breaks. forms_by breaks ((0x0E14, 0) ∷ (0x0E38, 1) ∷ (0x0E48, 2) ∷ (0x0E01, 3) ∷ [])) (AsCode ∷ Sound ∷ [])
-    ≡ ((0x0E14, 0) ∷ (0x0E38, 3) ∷ (0xF70A, 0) ∷ (0x0E01, 0) ∷ []) ∷ ((0x0E14, 0) ∷ (0x0E38, 3) ∷ (0xF70A, 3) ∷ (0x0E01, 0) ∷ []) ∷ []
+two_marks : map (λ breaks. forms_by breaks ((0x0E14, 0) ∷ (0x0E38, 1) ∷ (0x0E48, 2) ∷ (0x0E01, 3) ∷ [])) (AsCode
+    ∷ Sound ∷ [])
+    ≡ ((0x0E14, 0) ∷ (0x0E38, 3) ∷ (0xF70A, 0) ∷ (0x0E01, 0) ∷ []) ∷ ((0x0E14, 0) ∷ (0x0E38, 3) ∷ (0xF70A, 3)
+    ∷ (0x0E01, 0) ∷ []) ∷ []
 two_marks = refl
 
 -- the mark of a SARA AM, taken apart; the clusters are 0 1 1
@@ -367,8 +370,10 @@ no_base : map (λ breaks. forms_by breaks ((0x0E38, 0) ∷ (0x0E48, 1) ∷ [])) 
 no_base = refl
 
 -- without forms the choice adds nothing
-no_forms : map (λ breaks. preprocessed_flagged breaks false has_all MonotoneCharacters (own_cluster (0x0E1B, 0) ∷ own_cluster (0x0E31, 1) ∷ [])) (AsCode ∷ Sound ∷ [])
-    ≡ (own_cluster (0x0E1B, 0) ∷ own_cluster (0x0E31, 1) ∷ []) ∷ (own_cluster (0x0E1B, 0) ∷ own_cluster (0x0E31, 1) ∷ []) ∷ []
+no_forms : map (λ breaks. preprocessed_flagged breaks false has_all MonotoneCharacters (own_cluster (0x0E1B, 0)
+    ∷ own_cluster (0x0E31, 1) ∷ [])) (AsCode ∷ Sound ∷ [])
+    ≡ (own_cluster (0x0E1B, 0) ∷ own_cluster (0x0E31, 1) ∷ []) ∷ (own_cluster (0x0E1B, 0) ∷ own_cluster (0x0E31, 1)
+    ∷ []) ∷ []
 no_forms = refl
 
 -- forms and flags change characters and masks alone

@@ -1,6 +1,6 @@
 -- What Sound flags in a Thai text: the walk, and what it leaves.
 use Rattle.std.proofs.Common.{◌≡◌, ℕ, ◌-◌, ◌+◌, ◌<◌, ◌≤◌, Bool, true, false, cond, List, [], ◌∷◌, ◌++◌, length, take, drop, get_or, map, refl, sym, ap, ◌∙◌, arith}
-use Rattle.std.specs.List.{AllByRecursion, zip}
+use Rattle.std.specs.List.{AllByRecursion}
 use Rattle.std.proofs.lemmas.List.{drop_all, length-map, length-take-le, map-append}
 use Rattle.std.proofs.lemmas.Simd.{map-map}
 use Rattle.shapers_buffer.specs.declared.buffer.glyph.hb_glyph_info_t.{hb_glyph_info_t}
@@ -28,7 +28,8 @@ with_mark st = (st.0, st.1 + 1)
 pub record FlaggingWhole (start now : List hb_glyph_info_t) (i base : ℕ) : Type 0 where
   pub same_text : characters now ≡ characters start
   pub base_is : base ≡ thai_base_place (take i (characters start))
-  pub rest : unsafe_all (map with_mark (mark_stretches_of_each (each_after (take i (characters start)) (drop i (characters start)))))
+  pub rest : unsafe_all (map with_mark (mark_stretches_of_each (each_after (take i (characters start)) (drop i
+      (characters start)))))
       (unsafe_inside base i now) ≡ unsafe_all (whole_mark_stretches (characters start)) start
 
 pub whole_none : (start : List hb_glyph_info_t) → FlaggingWhole start start 0 0
@@ -53,12 +54,12 @@ whole_length start now i base f = sym (length-map now (λ g. g.glyph_id)) ∙ ap
 abbrev to_come : List ℕ → ℕ → List (ℕ × ℕ)
 to_come us i = map with_mark (mark_stretches_of_each (each_after (take (i + 1) us) (drop (i + 1) us)))
 
-passed : (start now : List hb_glyph_info_t) (i base u : ℕ) (b : Bool) → i < length start
+one_passed : (start now : List hb_glyph_info_t) (i base u : ℕ) (b : Bool) → i < length start
     → FlaggingWhole start now i base → u ≡ get_or (characters start) i 0 → is_thai_mark u ≡ b
     → unsafe_all (to_come (characters start) i)
     (unsafe_all (map with_mark (cond b ((base, i) ∷ []) [])) (unsafe_inside base i now))
     ≡ unsafe_all (whole_mark_stretches (characters start)) start
-passed start now i base u b inside f read is =
+one_passed start now i base u b inside f read is =
     let us = characters start in
     let s = splits us i u (omega (arith, length-map start (λ x. x.glyph_id))) read in
     let before = take i us in
@@ -101,7 +102,7 @@ whole_mark start now i base u inside f read is =
       same_text = f.same_text;
       base_is = next_place start i base u true inside f.base_is read is;
       rest = sym (ap (unsafe_all (to_come (characters start) i)) (unsafe_longer base i (i + 1) now low (omega arith)
-          (omega arith))) ∙ passed start now i base u true inside f read is;
+          (omega arith))) ∙ one_passed start now i base u true inside f read is;
     }
 
 -- another character
@@ -113,8 +114,9 @@ whole_other start now i base u inside f read is =
     record {
       same_text = map-unsafe_inside (λ g. g.glyph_id) (λ g. refl) base i now low ∙ f.same_text;
       base_is = next_place start i base u false inside f.base_is read is;
-      rest = ap (unsafe_all (to_come (characters start) i)) (unsafe_few i (i + 1) (unsafe_inside base i now) (omega arith)
-          (omega arith)) ∙ passed start now i base u false inside f read is;
+      rest = ap (unsafe_all (to_come (characters start) i)) (unsafe_few i (i + 1) (unsafe_inside base i now)
+          (omega arith)
+          (omega arith)) ∙ one_passed start now i base u false inside f read is;
     }
 
 pub whole_all : (start now : List hb_glyph_info_t) (i base : ℕ) → length start ≤ i → FlaggingWhole start now i base
@@ -142,7 +144,8 @@ map-marks_flagged f keeps Sound gs =
 
 pub marks_flagged_stay : (breaks : BreakFlags) (gs : List hb_glyph_info_t) → AllFlagsStay gs (marks_flagged breaks gs)
 marks_flagged_stay AsCode gs = all_stay_same gs
-marks_flagged_stay Sound gs = unsafe_all_stays (whole_mark_stretches (characters gs)) gs (whole_in_order (characters gs))
+marks_flagged_stay Sound gs = unsafe_all_stays (whole_mark_stretches (characters gs)) gs (whole_in_order
+    (characters gs))
 
 plain_flagged : (g : hb_glyph_info_t) → plain (with_bits 3 g) ≡ plain g
 plain_flagged g =
@@ -176,7 +179,8 @@ order_view-flagged breaks true has level gs =
     shaped_view has (marks_flagged breaks text)
     ∙ ap (λ us. with_characters (forms_between has [] us []) (order_view (marks_flagged breaks text)))
     (map-marks_flagged (λ g. g.glyph_id) (λ g. refl) breaks text)
-    ∙ ap (with_characters (forms_between has [] (characters text) [])) (map-marks_flagged plain plain_flagged breaks text)
+    ∙ ap (with_characters (forms_between has [] (characters text) []))
+    (map-marks_flagged plain plain_flagged breaks text)
     ∙ sym (shaped_view has text)
 
 pub clusters-flagged : (breaks : BreakFlags) (forms : Bool) (has : ℕ → Bool) (level : BufferClusterLevel)

@@ -220,6 +220,6 @@ asks_for_forms plan = wants_forms plan.script plan.ot_map.found
 abbrev pub preprocessed_in_thai : hb_ot_shape_plan_t → Font → Buffer → Buffer
 preprocessed_in_thai plan font b =
     record b {
-      glyphs = preprocessed_flagged plan.break_flags (asks_for_forms plan) (has_nominal font) b.level
-          b.glyphs;
+      glyphs = preprocessed_flagged plan.break_flags (asks_for_forms plan) (has_nominal font)
+          b.level b.glyphs;
     }

@@ -96,7 +96,8 @@ between = refl
 abbrev last_only : FormMasks
 last_only = record no_forms { fina = 0x80 }
 
-torn : map (λ masks. is_torn masks false false ∷ is_torn masks false true ∷ is_torn masks true false ∷ is_torn masks true true ∷ [])
+torn : map (λ masks. is_torn masks false false ∷ is_torn masks false true ∷ is_torn masks true false
+    ∷ is_torn masks true true ∷ [])
     (four ∷ last_only ∷ no_forms ∷ []) ≡ (true ∷ true ∷ true ∷ true ∷ []) ∷ (true ∷ false ∷ true ∷ true ∷ [])
     ∷ (false ∷ false ∷ false ∷ false ∷ []) ∷ []
 torn = refl
@@ -112,7 +113,8 @@ pairs = refl
 pairs_of_last : pairs_of last_only (0x12 ∷ 0x22 ∷ 0x32 ∷ []) ≡ (1, 3) ∷ []
 pairs_of_last = refl
 
-pair_of_none : pairs_of no_forms (0x12 ∷ 0x22 ∷ []) ∷ pairs_of four (0x12 ∷ 0x12 ∷ []) ∷ pairs_of four [] ∷ [] ≡ [] ∷ [] ∷ [] ∷ []
+pair_of_none : pairs_of no_forms (0x12 ∷ 0x22 ∷ []) ∷ pairs_of four (0x12 ∷ 0x12 ∷ []) ∷ pairs_of four [] ∷ []
+    ≡ [] ∷ [] ∷ [] ∷ []
 pair_of_none = refl
 
 -- the masks in a map: 0 where there is no feature, and where it holds for the whole text
@@ -290,13 +292,15 @@ selectors : mongolian [] (0x1820 ∷ 0x180B ∷ 0x1820 ∷ []) ∷ mongolian (0x
 selectors = refl
 
 -- a mask without what Sound flags by forms
-flagless : flagless_for None breaks.AsCode 0xFF ∷ flagless_for None breaks.Sound 0xFF ∷ flagless_for (Some (arabic_plan starts.AsCode breaks.Sound font)) breaks.Sound 0xFF ∷ []
+flagless : flagless_for None breaks.AsCode 0xFF ∷ flagless_for None breaks.Sound 0xFF
+    ∷ flagless_for (Some (arabic_plan starts.AsCode breaks.Sound font)) breaks.Sound 0xFF ∷ []
     ≡ 0xFF ∷ 0xF8 ∷ 0xFF ∷ []
 flagless = refl
 
 -- the choice of the code flags nothing; where clusters fall, Sound flags the first of two
 abbrev two_falling : BreakFlags → List ℕ
-two_falling choice = map (λ g. g.mask) (forms_flagged None choice font (record (of_byte 0x12) { cluster = 1 } ∷ of_byte 0x22 ∷ []))
+two_falling choice = map (λ g. g.mask) (forms_flagged None choice font (record (of_byte 0x12) { cluster = 1 }
+    ∷ of_byte 0x22 ∷ []))
 
 falling : two_falling breaks.AsCode ∷ two_falling breaks.Sound ∷ [] ≡ (0 ∷ 0 ∷ []) ∷ (3 ∷ 0 ∷ []) ∷ []
 falling = refl

@@ -31,12 +31,13 @@ nothing_and true sts = refl
 nothing_and false sts = refl
 
 -- the stretch of a pair, by the rest of the text behind its first syllable
-pair_of : (masks : FormMasks) (before : Bool) (i : ℕ) (syl rest : Glyphs)
+rest_pair : (masks : FormMasks) (before : Bool) (i : ℕ) (syl rest : Glyphs)
     → torn_pair masks before i syl (syllables rest)
-    ≡ cond (joins_runs syl && (joins_runs rest && is_torn masks before (joins_runs (drop (first_syllable_len rest) rest))))
+    ≡ cond (joins_runs syl && (joins_runs rest && is_torn masks before (joins_runs (drop
+    (first_syllable_len rest) rest))))
     ((i, i + (length syl + first_syllable_len rest)) ∷ []) []
-pair_of masks before i syl [] = sym (nothing_and (joins_runs syl) ((i, i + (length syl + 0)) ∷ []))
-pair_of masks before i syl (g ∷ gs) =
+rest_pair masks before i syl [] = sym (nothing_and (joins_runs syl) ((i, i + (length syl + 0)) ∷ []))
+rest_pair masks before i syl (g ∷ gs) =
     let n = prefix_len (has_byte g.syllable) gs in
     let long : length (take n gs) ≡ n = length-take-le n gs (prefix_len-le-length (has_byte g.syllable) gs) in
     let joins = joins_runs (g ∷ gs) in
@@ -51,7 +52,8 @@ pair_of masks before i syl (g ∷ gs) =
 
 pair_at : (masks : FormMasks) (before : Bool) (s e : ℕ) (gs : Glyphs) → s ≤ e → e ≤ length gs → let end =
     e + first_syllable_len (drop e gs) in torn_pair masks before s (stretch_of s e gs) (syllables (drop e gs))
-    ≡ cond (joins_runs (stretch_of s e gs) && (joins_runs (drop e gs) && is_torn masks before (joins_runs (drop end gs))))
+    ≡ cond (joins_runs (stretch_of s e gs) && (joins_runs (drop e gs) && is_torn masks before (joins_runs
+    (drop end gs))))
     ((s, end) ∷ []) []
 pair_at masks before s e gs order inside =
     let rest = drop e gs in
@@ -59,7 +61,7 @@ pair_at masks before s e gs order inside =
     let syl = stretch_of s e gs in
     let long : length syl ≡ e - s = length-take-le (e - s) (drop s gs) (omega (arith, length-drop s gs)) in
     let there : s + (length syl + n) ≡ e + n = omega (arith, long) in
-    pair_of masks before s syl rest
+    rest_pair masks before s syl rest
     ∙ ap (λ xs. cond (joins_runs syl && (joins_runs rest && is_torn masks before (joins_runs xs)))
     ((s, s + (length syl + n)) ∷ []) []) (drop-drop n e gs)
     ∙ ap (λ k. cond (joins_runs syl && (joins_runs rest && is_torn masks before (joins_runs (drop (e + n) gs))))
@@ -69,7 +71,8 @@ pair_at masks before s e gs order inside =
 pub pair_read : (masks : FormMasks) (before : Bool) (s e n : ℕ) (behind tears : Bool) (gs : Glyphs) → s ≤ e
     → e ≤ length gs → n ≡ first_syllable_len (take (length gs - e) (drop e gs))
     → behind ≡ joins_runs (take (length gs - (e + n)) (drop (e + n) gs))
-    → tears ≡ (joins_runs (stretch_of s e gs) && (joins_runs (take (length gs - e) (drop e gs)) && is_torn masks before behind))
+    → tears ≡ (joins_runs (stretch_of s e gs) && (joins_runs (take (length gs - e)
+    (drop e gs)) && is_torn masks before behind))
     → torn_pair masks before s (stretch_of s e gs) (syllables (drop e gs)) ≡ cond tears ((s, e + n) ∷ []) []
 pair_read masks before s e n behind tears gs order inside len_is behind_is tears_is =
     let syl = stretch_of s e gs in
@@ -81,14 +84,16 @@ pair_read masks before s e n behind tears gs order inside len_is behind_is tears
     let test = tears_is ∙ ap (λ xs. joins_runs syl && (joins_runs xs && is_torn masks before behind)) whole
     ∙ ap (λ c. joins_runs syl && (joins_runs rest && is_torn masks before c)) b in
     pair_at masks before s e gs order inside
-    ∙ ap (λ k. cond (joins_runs syl && (joins_runs rest && is_torn masks before (joins_runs (drop (e + first_syllable_len
+    ∙ ap (λ k. cond (joins_runs syl && (joins_runs rest && is_torn masks before (joins_runs (drop
+    (e + first_syllable_len
     rest) gs)))) ((s, k) ∷ []) []) (sym there)
     ∙ ap (λ t. cond t ((s, e + n) ∷ []) []) (sym test)
 
 -- at the end of the text there is none
 pub no_pair : (masks : FormMasks) (before : Bool) (s e : ℕ) (gs : Glyphs) → length gs ≤ e
     → torn_pair masks before s (stretch_of s e gs) (syllables (drop e gs)) ≡ []
-no_pair masks before s e gs past = ap (λ xs. torn_pair masks before s (stretch_of s e gs) (syllables xs)) (drop_all e gs past)
+no_pair masks before s e gs past = ap (λ xs. torn_pair masks before s (stretch_of s e gs) (syllables xs))
+    (drop_all e gs past)
 
 -- masks tell nothing of them
 abbrev bare : hb_glyph_info_t → hb_glyph_info_t
@@ -121,7 +126,8 @@ bare_pairs : (masks : FormMasks) (before : Bool) (i : ℕ) (ps : List Glyphs)
 bare_pairs masks before i [] = refl
 bare_pairs masks before i (p ∷ ps) =
     let rest = map (map bare) ps in
-    ap (λ l. l ++ torn_pairs masks (joins_runs (map bare p)) (i + length (map bare p)) rest) (bare_pair masks before i p ps)
+    ap (λ l. l ++ torn_pairs masks (joins_runs (map bare p)) (i + length (map bare p)) rest)
+    (bare_pair masks before i p ps)
     ∙ ap (λ b. torn_pair masks before i p ps ++ torn_pairs masks b (i + length (map bare p)) rest) (bare_joins p)
     ∙ ap (λ n. torn_pair masks before i p ps ++ torn_pairs masks (joins_runs p) (i + n) rest) (length-map p bare)
     ∙ ap (λ l. torn_pair masks before i p ps ++ l) (bare_pairs masks (joins_runs p) (i + length p) ps)

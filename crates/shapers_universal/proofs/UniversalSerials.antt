@@ -71,14 +71,16 @@ opened_view : (circles : Option DottedCircles) (gs hs : List hb_glyph_info_t) �
     → order_view (circled circles gs) ≡ order_view (circled circles hs)
 opened_view circles gs hs alike =
     let told : (xs : List hb_glyph_info_t) → order_view (circled circles (map flagless xs)) ≡ order_view
-    (circled circles xs) = λ xs. ap order_view (circled-by without_flags circles xs) ∙ view-flagless (circled circles xs)
+    (circled circles xs) = λ xs. ap order_view (circled-by without_flags circles xs)
+    ∙ view-flagless (circled circles xs)
     in
     sym (told gs) ∙ ap (λ xs. order_view (circled circles xs)) alike ∙ told hs
 
 opened_clusters : (circles : Option DottedCircles) (gs hs : List hb_glyph_info_t) → map flagless gs ≡ map flagless hs
     → clusters (circled circles gs) ≡ clusters (circled circles hs)
 opened_clusters circles gs hs alike =
-    let told : (xs : List hb_glyph_info_t) → clusters (circled circles (map flagless xs)) ≡ clusters (circled circles xs) =
+    let told : (xs : List hb_glyph_info_t) → clusters (circled circles (map flagless xs))
+    ≡ clusters (circled circles xs) =
     λ xs. ap clusters (circled-by without_flags circles xs) ∙ clusters-by without_flags (circled circles xs) in
     sym (told gs) ∙ ap (λ xs. clusters (circled circles xs)) alike ∙ told hs
 
@@ -87,15 +89,18 @@ order_alike : (circles : Option DottedCircles) (meaning : List hb_glyph_info_t �
     ≡ paused_order circles meaning hs
 order_alike circles meaning gs hs alike = ap (text_order meaning) (opened_view circles gs hs alike)
 
-clusters_alike : (circles : Option DottedCircles) (steps : List hb_glyph_info_t → List Step) (level : BufferClusterLevel)
+clusters_alike : (circles : Option DottedCircles) (steps : List hb_glyph_info_t
+    → List Step) (level : BufferClusterLevel)
     (gs hs : List hb_glyph_info_t) → map flagless gs ≡ map flagless hs → paused_clusters circles steps level gs
     ≡ paused_clusters circles steps level hs
 clusters_alike circles steps level gs hs alike =
-    ap (λ xs. joined_steps level (text_steps steps xs) (clusters (circled circles gs))) (opened_view circles gs hs alike)
+    ap (λ xs. joined_steps level (text_steps steps xs) (clusters (circled circles gs)))
+    (opened_view circles gs hs alike)
     ∙ ap (joined_steps level (text_steps steps (order_view (circled circles hs)))) (opened_clusters circles gs hs alike)
 
 pub universal_cuts_between_spans : UniversalCutsBetweenSpans
-universal_cuts_between_spans breaks kept m circles spans old new kinds done ss ts gs hs xs ys split text first second one two =
+universal_cuts_between_spans breaks kept m circles spans old new kinds done ss ts gs hs xs ys split text first second
+    one two =
     let f = without_forms (arabic_of kept) m in
     let set = set_up_by_spans kept m in
     let cut = formless_cuts kept m spans old kinds ss ts gs hs split text first second in
@@ -125,7 +130,8 @@ universal_cuts_between_spans breaks kept m circles spans old new kinds done ss t
     new.glyphs) (sym is)
     (joined_halves f (keeps_flags (arabic_of kept) m) circles universal_order universal_steps old.level universal_laws
     universal_reads_no_serials (read.meant f) (read.led f)
-    gs hs whole front back xs ys new.glyphs parts one two (done.order ∙ order_alike circles universal_order flagged.glyphs
+    gs hs whole front back xs ys new.glyphs parts one two (done.order
+    ∙ order_alike circles universal_order flagged.glyphs
     whole alike)
     (paused_clusters_are circles universal_order universal_steps flagged new done
     ∙ clusters_alike circles universal_steps old.level flagged.glyphs whole alike))

@@ -6,12 +6,14 @@ use Rattle.shapers_hangul.proofs.ot_shaper_hangul.preprocess_text_changes.Goals 
 
 pub returns-clause-clusters : goal.returns-clause-clusters
 returns-clause-clusters g c =
-    on_rewritten c.rewrite_changes.result c.args.plan.now.break_flags (g.F.hb_font_t.font c.args.face.now) c.args.buffer.now
+    on_rewritten c.rewrite_changes.result c.args.plan.now.break_flags
+    (g.F.hb_font_t.font c.args.face.now) c.args.buffer.now
     c.rewrite_changes.new.buffer c.rewrite_changes.ensures.ok
 
 pub returns-clause-spelling : goal.returns-clause-spelling
 returns-clause-spelling g c =
-    on_spelled c.rewrite_changes.result c.args.plan.now.break_flags (g.F.hb_font_t.font c.args.face.now) c.args.buffer.now
+    on_spelled c.rewrite_changes.result c.args.plan.now.break_flags
+    (g.F.hb_font_t.font c.args.face.now) c.args.buffer.now
     c.rewrite_changes.new.buffer c.rewrite_changes.ensures.ok
 
 pub returns-clause-flags : goal.returns-clause-flags

@@ -18,7 +18,8 @@ returns-then-not-wants_forms-clause-ok g c =
     let none = count_from_none (λ g. is_sara_am g.glyph_id) b.glyphs (sym c.has_sara_am.ensures
     ∙ c.if-not-has_sara_am.true) in
     ap (λ gs. let r : Buffer = record b { glyphs = gs } in r)
-    (unchanged_plain c.args.plan.now.break_flags (asks_for_forms c.args.plan.now) (has_nominal (g.F.hb_font_t.font c.args.face.now)) b.level
+    (unchanged_plain c.args.plan.now.break_flags (asks_for_forms c.args.plan.now) (has_nominal
+    (g.F.hb_font_t.font c.args.face.now)) b.level
     b.glyphs (sym c.wants_forms.ensures ∙ c.if-not-wants_forms.true) none)
 
 pub returns-then-not-wants_forms-clause-length : goal.returns-then-not-wants_forms-clause-length

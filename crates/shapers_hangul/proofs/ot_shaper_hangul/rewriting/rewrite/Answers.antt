@@ -57,7 +57,8 @@ rewrite-requires-clause-length g c =
     let read = c.glyphs-glyphs.result.now in
     let kept = c.kept_len-kept.result in
     let cut = c.as_slice.result.now in
-    ap length (buffer_changed c.args.breaks font b circles c.cluster_level-level.result read kept cut c.wants_circles-circles.ensures
+    ap length (buffer_changed c.args.breaks font b circles c.cluster_level-level.result read kept cut
+    c.wants_circles-circles.ensures
     c.cluster_level-level.ensures c.glyphs-glyphs.ensures c.kept_len-kept.ensures.kept (c.as_slice.ensures.value
     ∙ c.in_ok-len.ensures.items c.if-not-cut.false))
     ∙ length-flagged c.args.breaks font b
@@ -74,7 +75,8 @@ returns-clause-ok g c =
     let kept = c.kept_len-kept.result in
     let cut = c.as_slice.result.now in
     replaced_by b c.rewrite.new.self c.rewrite.result
-    (buffer_changed c.args.breaks font b circles c.cluster_level-level.result read kept cut c.wants_circles-circles.ensures
+    (buffer_changed c.args.breaks font b circles c.cluster_level-level.result read kept cut
+    c.wants_circles-circles.ensures
     c.cluster_level-level.ensures c.glyphs-glyphs.ensures c.kept_len-kept.ensures.kept (c.as_slice.ensures.value
     ∙ c.in_ok-len.ensures.items c.if-not-cut.false)) c.rewrite.ensures.ok
 

@@ -1,5 +1,5 @@
 -- One more character: a mark, or another that flags the marks before it.
-use Rattle.std.proofs.Common.{◌≡◌, ◌∙◌, ℕ, List, length, sym, ap, get_or, arith}
+use Rattle.std.proofs.Common.{◌∙◌, ℕ, List, sym, ap, get_or, arith}
 use Rattle.std.proofs.lemmas.List.{get_or-map}
 use Rattle.shapers_text.proofs.ThaiWholeMarks.{whole_length, whole_mark, whole_none, whole_other}
 use Rattle.shapers_text.proofs.ot_shaper_thai.forms.flag_whole_marks.Goals as goal

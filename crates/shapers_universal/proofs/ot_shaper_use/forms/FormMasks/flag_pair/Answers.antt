@@ -1,5 +1,5 @@
 -- The stretch of the pair, where a break would tear it.
-use Rattle.std.proofs.Common.{◌≡◌, ◌+◌, ◌∷◌, [], List, ℕ, cond, sym, ap, ◌∙◌, arith}
+use Rattle.std.proofs.Common.{◌+◌, ◌∷◌, [], List, ℕ, cond, sym, ap, ◌∙◌, arith}
 use Rattle.shapers_buffer.specs.GlyphFlags.{unsafe_all}
 use Rattle.shapers_universal.proofs.TornPairs.{no_pair, pair_read}
 use Rattle.shapers_universal.proofs.ot_shaper_use.forms.FormMasks.flag_pair.Goals as goal
@@ -8,7 +8,8 @@ pub returns-then-e-glyphs : goal.returns-then-e-glyphs
 returns-then-e-glyphs c =
     let a = c.args in
     let gs = a.glyphs.now in
-    sym (ap (λ (sts : List (ℕ × ℕ)). unsafe_all sts gs) (no_pair a.self a.before a.s a.e gs (omega (arith, c.if-e-glyphs.true))))
+    sym (ap (λ (sts : List (ℕ × ℕ)). unsafe_all sts gs) (no_pair a.self a.before a.s a.e gs (omega
+    (arith, c.if-e-glyphs.true))))
 
 pub returns-then-tears : goal.returns-then-tears
 returns-then-tears c =
