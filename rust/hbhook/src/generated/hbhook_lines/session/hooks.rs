@@ -4,8 +4,11 @@
 
 use super::Session;
 use crate::generated::hbhook_commands::{Expected, HookCall, LineFault};
+use crate::generated::hbhook_lines::text::{driver_masks, prepare};
 use sengadlit::buffer::{GlyphInfo, Span};
+use sengadlit::ot_shape::TextPlan;
 use sengadlit::plan::Plan;
+use sengadlit::shaper::checked::{CallError, Condition};
 use sengadlit::shaper::{Pause, Preprocess, Shaper, pause_fits, run_pause};
 
 // The conditions of calls.
@@ -39,6 +42,7 @@ impl Session {
         let shaper = self.shaper().ok_or(LineFault::Unreadable(SHAPER))?;
         let plan = shaper.with_data(self.settings.plan()?);
         match call {
+            HookCall::Text => self.prepare(shaper, &plan),
             HookCall::Preprocess => self.preprocess(shaper, &plan),
             HookCall::Masks => self.set_masks(shaper, &plan),
             HookCall::Postprocess => self.postprocess(shaper, &plan),
@@ -46,6 +50,25 @@ impl Session {
             HookCall::Compose(a, b) => self.compose(shaper, &plan, a, b),
             HookCall::Decompose(ab) => self.decompose(shaper, &plan, ab),
             HookCall::Pause(pause) => self.pause(&plan, pause),
+        }
+    }
+
+    // All that comes before the font's lookups.
+    fn prepare(&mut self, shaper: Shaper, plan: &Plan) -> Result<(), LineFault> {
+        let plan = TextPlan {
+            shaper: Some(shaper),
+            plan,
+            masks: driver_masks(&plan.ot_map),
+            ranges: &[],
+        };
+        let (font, tables) = (&self.settings.font, &self.settings.tables);
+        match prepare(&plan, font, tables, &mut self.buffer) {
+            Ok(()) => Ok(()),
+            Err(CallError::Condition(Condition::Positions)) => {
+                Err(LineFault::Unreadable(NO_POSITIONS))
+            }
+            Err(CallError::Condition(_)) => Err(LineFault::Unreadable(CHARACTERS)),
+            Err(CallError::Refused(refusal)) => Err(LineFault::Refused(refusal)),
         }
     }
 
