@@ -3,6 +3,7 @@
 
 mod session;
 mod shapers;
+mod text;
 
 ghost use Rattle.std.specs.Prelude.{◌≤◌};
 

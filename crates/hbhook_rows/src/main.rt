@@ -11,7 +11,7 @@ use std::alloc::{AllocError, Global};
 use std::{fs, io};
 
 /// The files of rows.
-const FILES: [&str; 15] = [
+const FILES: [&str; 16] = [
     "arabic.rows",
     "hangul.rows",
     "hebrew.rows",
@@ -25,6 +25,7 @@ const FILES: [&str; 15] = [
     "long.rows",
     "myanmar.rows",
     "stretch.rows",
+    "text.rows",
     "thai.rows",
     "universal.rows",
 ];

@@ -70,7 +70,7 @@ fn words_are_listed_or_in_lower_case() {
         "run pause REORDER_USE",
         "field 3, `REORDER_USE`: expected `reorder_use`, in lower case",
     );
-    let hooks = "preprocess, masks, marks, postprocess, compose, decompose, pause";
+    let hooks = "text, preprocess, masks, marks, postprocess, compose, decompose, pause";
     expect(
         "run all",
         &format!("field 2, `all`: expected one of these words: {hooks}"),

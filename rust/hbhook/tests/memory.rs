@@ -106,6 +106,7 @@ fn script() -> Vec<u8> {
     script.extend(b"run decompose C0\nrun decompose C1\nrun compose 41 41\nset shaper hangul\n");
     script.extend(b"font 1100 1 1\nfont 1161 2 1\nfont AC00 3 1\ntext 1100 1161\nrun preprocess\n");
     script.extend(b"run masks\ntext 41 0E33\nset shaper thai\nrun preprocess\nrun masks\n");
+    script.extend(b"text 41 0E33 C0\nrun text\n");
     script
 }
 

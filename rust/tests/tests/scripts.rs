@@ -87,6 +87,6 @@ fn both_ways_end_alike() {
 fn scripts_reach_every_hook() {
     let runs = &TALLY.runs;
     println!("{runs:?}");
-    assert_eq!(runs.len(), 6 + 15);
+    assert_eq!(runs.len(), 7 + 15);
     assert!(runs.values().all(|count| *count > 60));
 }

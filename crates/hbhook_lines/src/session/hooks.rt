@@ -3,13 +3,16 @@ ghost use Rattle.std.specs.Prelude.{◌≡◌, ◌≤◌, ◌↔◌, [], is_ok, 
 ghost use Rattle.rustybuzz_shapers.specs.Hooks.{PlanFits};
 
 use super::Session;
+use crate::text::{driver_masks, prepare};
 use hbhook_commands::{Expected, HookCall, LineFault};
 use rustybuzz_shapers::buffer::{Span, hb_glyph_info_t};
 use rustybuzz_shapers::plan::hb_ot_shape_plan_t;
+use rustybuzz_shapers::shaper::checked::{CallError, Condition};
 use rustybuzz_shapers::shaper::{
     Composition, Decomposition, HookOutcome, Pause, Preprocess, hb_ot_shaper_t, pause_fits,
     run_pause,
 };
+use shapers_pipeline::TextPlan;
 
 // The conditions of calls.
 const SHAPER: Expected = Expected::Condition("a line `set shaper` before it");
@@ -45,6 +48,7 @@ impl Session {
         let shaper = self.shaper().ok_or(LineFault::Unreadable(SHAPER))?;
         let plan = shaper.with_data(self.settings.plan()?);
         match call {
+            HookCall::Text => self.prepare(shaper, &plan),
             HookCall::Preprocess => self.preprocess(shaper, &plan),
             HookCall::Masks => self.set_masks(shaper, &plan),
             HookCall::Postprocess => self.postprocess(shaper, &plan),
@@ -52,6 +56,29 @@ impl Session {
             HookCall::Compose(a, b) => self.compose(shaper, &plan, a, b),
             HookCall::Decompose(ab) => self.decompose(shaper, &plan, ab),
             HookCall::Pause(pause) => self.pause(&plan, pause),
+        }
+    }
+
+    // All that comes before the font's lookups.
+    fn prepare(
+        &mut self,
+        shaper: hb_ot_shaper_t,
+        plan: &hb_ot_shape_plan_t,
+    ) -> Result<(), LineFault> {
+        let plan = TextPlan {
+            shaper: Some(shaper),
+            plan,
+            masks: driver_masks(&plan.ot_map),
+            ranges: &[],
+        };
+        let (font, tables) = (&self.settings.font, &self.settings.tables);
+        match prepare(&plan, font, tables, &mut self.buffer) {
+            Ok(()) => Ok(()),
+            Err(CallError::Condition(Condition::Positions)) => {
+                Err(LineFault::Unreadable(NO_POSITIONS))
+            }
+            Err(CallError::Condition(_)) => Err(LineFault::Unreadable(CHARACTERS)),
+            Err(CallError::Refused(refusal)) => Err(LineFault::Refused(refusal)),
         }
     }
 

@@ -37,7 +37,8 @@ const COMMANDS: [&str; 13] = [
     "spans", "run",
 ];
 
-const HOOKS: [&str; 7] = [
+const HOOKS: [&str; 8] = [
+    "text",
     "preprocess",
     "masks",
     "marks",
@@ -391,7 +392,7 @@ mod tests {
     ];
 
     // Lines that the program takes, of each form.
-    const LINES: [&str; 42] = [
+    const LINES: [&str; 43] = [
         "font 41 1 -5",
         "applies 1 2 3",
         "applies 1 2 3 4",
@@ -429,6 +430,7 @@ mod tests {
         "at 0 marks sl",
         "at 0 marks -",
         "span 2 15",
+        "run text",
         "run preprocess",
         "run marks 0 1",
         "run compose 41 42",

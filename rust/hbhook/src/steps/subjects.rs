@@ -7,6 +7,7 @@ pub(super) fn subject_of(line: &str, shaper: ShaperName) -> Option<(&'static str
     let mut fields = line.strip_prefix("run ")?.split(' ');
     match fields.next()? {
         "pause" => subject_of_pause(fields.next()?),
+        "text" => Some(("shapers_pipeline", "Prepared")),
         "preprocess" => match shaper {
             ShaperName::Thai => Some(("shapers_text", "Thai")),
             ShaperName::Hangul => Some(("shapers_hangul", "Hangul")),

@@ -1,5 +1,6 @@
 //! The font that the lines `font` and `applies` describe.
 
+use sengadlit::ot_shape_normalize::NormalizeFont;
 use sengadlit::{Font, GlyphId, Tag};
 use std::collections::{HashMap, HashSet};
 
@@ -43,5 +44,11 @@ impl Font for LineFont {
 
     fn has_feature(&self, _tag: Tag) -> bool {
         false
+    }
+}
+
+impl NormalizeFont for LineFont {
+    fn variation_glyph(&self, _c: u32, _selector: u32) -> Option<GlyphId> {
+        None
     }
 }

@@ -4,9 +4,13 @@ use super::fault::{Fault, check};
 use super::fields::{character, decimal};
 use super::session::Session;
 use crate::pieces::{breaks_at, is_clear, piece};
+use sengadlit::ot_shape::{TextPlan, prepare_text};
+use sengadlit::ot_shape_normalize::NormalizeSettings;
+use sengadlit::ot_shape_plan::DriverMasks;
 use sengadlit::plan::Preprocess;
+use sengadlit::shaper::checked::CallError;
 use sengadlit::shaper::{Composition, Decomposition, HookOutcome, pause_fits};
-use sengadlit::{Buffer, Pause, Plan, Shaper, run_pause};
+use sengadlit::{Buffer, Pause, Plan, Shaper, Tag, run_pause};
 
 impl Session {
     /// Calls a hook of the shaper, or runs a pause.
@@ -15,6 +19,7 @@ impl Session {
         let shaper = self.settings.shaper.ok_or(Fault::Unreadable)?;
         let plan = self.settings.plan(shaper)?;
         match call {
+            Call::Text => self.prepare(shaper, &plan),
             Call::Preprocess => self.preprocess(shaper, &plan),
             Call::Masks => self.masks(shaper, &plan),
             Call::Postprocess => self.postprocess(shaper, &plan),
@@ -36,6 +41,30 @@ impl Session {
                 Ok(())
             }
             Call::Pause(pause) => self.pause(pause, &plan),
+        }
+    }
+
+    fn prepare(&mut self, shaper: Shaper, plan: &Plan) -> Result<(), Fault> {
+        let mask = |tag| plan.ot_map.one_mask(Tag(tag));
+        let masks = DriverMasks {
+            frac: mask(*b"frac"),
+            numr: mask(*b"numr"),
+            dnom: mask(*b"dnom"),
+            rtlm: mask(*b"rtlm"),
+            vert: mask(*b"vert"),
+        };
+        let plan = TextPlan {
+            shaper: Some(shaper),
+            plan,
+            masks,
+            ranges: &[],
+        };
+        let settings = NormalizeSettings::default();
+        let (font, tables) = (&self.font, &self.tables);
+        match prepare_text(&plan, &settings, font, tables, &mut self.buffer) {
+            Ok(()) => Ok(()),
+            Err(CallError::Refused(error)) => Err(error.into()),
+            Err(CallError::Condition(_)) => Err(Fault::Unreadable),
         }
     }
 
@@ -134,6 +163,7 @@ impl Session {
 
 /// What a line `run ..` calls.
 enum Call {
+    Text,
     Preprocess,
     Masks,
     Postprocess,
@@ -146,6 +176,7 @@ enum Call {
 impl Call {
     fn parse(fields: &[&str]) -> Result<Self, Fault> {
         match *fields {
+            ["text"] => Ok(Call::Text),
             ["preprocess"] => Ok(Call::Preprocess),
             ["masks"] => Ok(Call::Masks),
             ["postprocess"] => Ok(Call::Postprocess),

@@ -2,8 +2,10 @@
 
 use sengadlit::Tables;
 use sengadlit::buffer::GeneralCategory;
+use sengadlit::ot_shape_normalize::NormalizeTables;
+use sengadlit::ot_shape_prepare::UnicodeProperties;
 use sengadlit::plan::{Category, JoiningType, Position};
-use sengadlit::unicode::UnicodeTables;
+use sengadlit::unicode::{self, UnicodeTables};
 use std::collections::HashMap;
 
 /// What a line `table` says of a character.
@@ -51,7 +53,7 @@ impl LineTables {
         line.unwrap_or_else(|| match char::from_u32(c) {
             Some(character) if self.has_unicode => Entry {
                 joining_type: UnicodeTables.joining_type(character),
-                general_category: UnicodeTables.general_category(character),
+                general_category: unicode::general_category(character),
                 indic_categories: UnicodeTables.indic_categories(c),
                 use_category: UnicodeTables.use_category(c),
             },
@@ -96,4 +98,45 @@ impl Tables for LineTables {
         let pair = self.decompositions.get(&ab).copied();
         pair.or_else(|| self.unicode()?.decompose(ab))
     }
+}
+
+impl NormalizeTables for LineTables {
+    fn modified_combining_class(&self, c: char) -> u8 {
+        unicode::modified_combining_class(c)
+    }
+
+    fn is_default_ignorable(&self, c: char) -> bool {
+        unicode::is_default_ignorable(c)
+    }
+}
+
+// General categories are those of the lines, and all else Unicode's.
+impl UnicodeProperties for LineTables {
+    fn general_category(&self, c: u32) -> GeneralCategory {
+        Tables::general_category(self, character_of(c))
+    }
+
+    fn modified_combining_class(&self, c: u32) -> u8 {
+        unicode::modified_combining_class(character_of(c))
+    }
+
+    fn is_default_ignorable(&self, c: u32) -> bool {
+        unicode::is_default_ignorable(character_of(c))
+    }
+
+    fn is_extended_pictographic(&self, c: u32) -> bool {
+        unicode::is_extended_pictographic(character_of(c))
+    }
+
+    fn mirrored(&self, c: u32) -> Option<u32> {
+        unicode::mirrored(character_of(c)).map(u32::from)
+    }
+
+    fn vertical_form(&self, c: u32) -> Option<u32> {
+        unicode::vertical_form(character_of(c)).map(u32::from)
+    }
+}
+
+fn character_of(c: u32) -> char {
+    char::from_u32(c).unwrap_or(char::REPLACEMENT_CHARACTER)
 }

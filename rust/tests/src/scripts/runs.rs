@@ -146,6 +146,7 @@ fn run_any(draft: &mut Draft, length: usize) {
 
 fn take(draft: &mut Draft, step: Step, length: usize) {
     match step {
+        Run("preprocess" | "masks") if draft.percent(10) => draft.add(format_args!("run text")),
         Run(hook) => draft.add(format_args!("run {hook}")),
         Spans => add_spans(draft, length),
         Substitutions => substitute_some(draft, length),

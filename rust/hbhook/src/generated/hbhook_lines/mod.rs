@@ -4,6 +4,7 @@
 
 mod session;
 mod shapers;
+mod text;
 
 use crate::generated::hbhook_commands::{Fault, explain, lines_of, read_input, report, write_text};
 use crate::support::alloc::Global;

@@ -8,7 +8,7 @@ use crate::generated::hbhook_commands::fault::LineFault;
 use sengadlit::plan::Pause;
 
 // What may follow `run`.
-const CALLS: &str = "run preprocess, run masks, run postprocess, run marks S E, run compose A B, \
+const CALLS: &str = "run text, run preprocess, run masks, run postprocess, run marks S E, run compose A B, \
     run decompose A, run pause NAME";
 
 // The names of the pauses.
@@ -20,6 +20,8 @@ const PAUSES: &str = "setup_syllables_indic, setup_syllables_khmer, setup_syllab
 /// A hook or a pause, and its arguments.
 #[derive(Clone, Copy)]
 pub enum HookCall {
+    /// All that comes before the font's lookups.
+    Text,
     Preprocess,
     Masks,
     Postprocess,
@@ -34,6 +36,7 @@ impl HookCall {
     /// The hook that the first field names, with the others as its arguments.
     pub(super) fn parse(fields: &[&str]) -> Result<HookCall, LineFault> {
         match *fields {
+            ["text"] => Ok(HookCall::Text),
             ["preprocess"] => Ok(HookCall::Preprocess),
             ["masks"] => Ok(HookCall::Masks),
             ["postprocess"] => Ok(HookCall::Postprocess),

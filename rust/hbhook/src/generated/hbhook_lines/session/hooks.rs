@@ -4,11 +4,12 @@
 
 use super::Session;
 use crate::generated::hbhook_commands::{Expected, HookCall, LineFault};
+use crate::generated::hbhook_lines::text::{driver_masks, prepare};
 use sengadlit::buffer::{GlyphInfo, Span};
+use sengadlit::ot_shape::TextPlan;
 use sengadlit::plan::Plan;
-use sengadlit::shaper::{
-    Composition, Decomposition, HookOutcome, Pause, Preprocess, Shaper, pause_fits, run_pause,
-};
+use sengadlit::shaper::checked::{CallError, Condition};
+use sengadlit::shaper::{Pause, Preprocess, Shaper, pause_fits, run_pause};
 
 // The conditions of calls.
 const SHAPER: Expected = Expected::Condition("a line `set shaper` before it");
@@ -41,6 +42,7 @@ impl Session {
         let shaper = self.shaper().ok_or(LineFault::Unreadable(SHAPER))?;
         let plan = shaper.with_data(self.settings.plan()?);
         match call {
+            HookCall::Text => self.prepare(shaper, &plan),
             HookCall::Preprocess => self.preprocess(shaper, &plan),
             HookCall::Masks => self.set_masks(shaper, &plan),
             HookCall::Postprocess => self.postprocess(shaper, &plan),
@@ -48,6 +50,25 @@ impl Session {
             HookCall::Compose(a, b) => self.compose(shaper, &plan, a, b),
             HookCall::Decompose(ab) => self.decompose(shaper, &plan, ab),
             HookCall::Pause(pause) => self.pause(&plan, pause),
+        }
+    }
+
+    // All that comes before the font's lookups.
+    fn prepare(&mut self, shaper: Shaper, plan: &Plan) -> Result<(), LineFault> {
+        let plan = TextPlan {
+            shaper: Some(shaper),
+            plan,
+            masks: driver_masks(&plan.ot_map),
+            ranges: &[],
+        };
+        let (font, tables) = (&self.settings.font, &self.settings.tables);
+        match prepare(&plan, font, tables, &mut self.buffer) {
+            Ok(()) => Ok(()),
+            Err(CallError::Condition(Condition::Positions)) => {
+                Err(LineFault::Unreadable(NO_POSITIONS))
+            }
+            Err(CallError::Condition(_)) => Err(LineFault::Unreadable(CHARACTERS)),
+            Err(CallError::Refused(refusal)) => Err(LineFault::Refused(refusal)),
         }
     }
 
@@ -69,16 +90,16 @@ impl Session {
         check(shaper.glyphs_fit(plan, &self.buffer), CHARACTERS)?;
         check(auxiliary_bytes_fit(shaper, self.buffer.glyphs()), JAMO)?;
         let (font, tables) = (&self.settings.font, &self.settings.tables);
-        let outcome = shaper.setup_masks(plan, font, tables, &mut self.buffer);
-        self.answer_if_absent(outcome)
+        let answer = shaper.setup_masks(plan, font, tables, &mut self.buffer);
+        self.answer_if_absent(answer)
     }
 
     // The hook after positioning.
     fn postprocess(&mut self, shaper: Shaper, plan: &Plan) -> Result<(), LineFault> {
         check(self.buffer.positions_len() == self.buffer.len(), POSITIONS)?;
         check(shaper.postprocess_fits(plan, &self.buffer), GLYPH_NUMBERS)?;
-        let outcome = shaper.postprocess_glyphs(plan, &self.settings.font, &mut self.buffer)?;
-        self.answer_if_absent(outcome)
+        let answer = shaper.postprocess_glyphs(plan, &self.settings.font, &mut self.buffer)?;
+        self.answer_if_absent(answer)
     }
 
     // The hook that reorders the marks from `start` to `end`.
@@ -92,28 +113,28 @@ impl Session {
         self.check_no_positions()?;
         check(start <= end && end <= self.buffer.len(), PLACES)?;
         check(shaper.marks_fit(start, end), MARKS)?;
-        let outcome = shaper.reorder_marks(plan, &mut self.buffer, start, end);
-        self.answer_if_absent(outcome)
+        let answer = shaper.reorder_marks(plan, &mut self.buffer, start, end);
+        self.answer_if_absent(answer)
     }
 
     // The hook that composes two characters.
     fn compose(&mut self, shaper: Shaper, plan: &Plan, a: char, b: char) -> Result<(), LineFault> {
         match shaper.compose(plan, &self.settings.tables, a, b) {
-            Composition::Whole(ab) => Ok(writeln!(self.answers, "{:04x}", u32::from(ab))?),
-            Composition::Apart => self.answer("none"),
-            Composition::NoHook => self.answer("absent"),
+            Some(Some(ab)) => Ok(writeln!(self.answers, "{:04x}", u32::from(ab))?),
+            Some(None) => self.answer("none"),
+            None => self.answer("absent"),
         }
     }
 
     // The hook that decomposes a character.
     fn decompose(&mut self, shaper: Shaper, plan: &Plan, ab: char) -> Result<(), LineFault> {
         match shaper.decompose(plan, &self.settings.tables, ab) {
-            Decomposition::Parts(a, b) => {
+            Some(Some((a, b))) => {
                 writeln!(self.answers, "{:04x} {:04x}", u32::from(a), u32::from(b))?;
                 Ok(())
             }
-            Decomposition::Whole => self.answer("none"),
-            Decomposition::NoHook => self.answer("absent"),
+            Some(None) => self.answer("none"),
+            None => self.answer("absent"),
         }
     }
 
@@ -137,10 +158,10 @@ impl Session {
     }
 
     // Prints that a hook is absent, where it is.
-    fn answer_if_absent(&mut self, outcome: HookOutcome) -> Result<(), LineFault> {
-        match outcome {
-            HookOutcome::Done => Ok(()),
-            HookOutcome::NoHook => self.answer("absent"),
+    fn answer_if_absent(&mut self, answer: Option<()>) -> Result<(), LineFault> {
+        match answer {
+            Some(()) => Ok(()),
+            None => self.answer("absent"),
         }
     }
 
