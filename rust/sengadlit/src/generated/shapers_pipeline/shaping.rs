@@ -23,7 +23,8 @@ use crate::generated::shapers_prepare::ot_shape_prepare::UnicodeProperties;
 ///
 /// # Errors
 ///
-/// Those of `substitute_text`; [`Memory`] for the positions, and nothing has changed then since the
+/// Those of `substitute_text`, so that with the [`max_len`] of `length_bound` [`TooLong`] comes behind the
+/// lookups of GSUB alone; [`Memory`] for the positions, and nothing has changed then since the
 /// last lookup of GSUB; the refusal of a lookup of GPOS, with the text as it was before that one;
 /// the condition `Glyphs` where a number above 65535 stands in a text whose marks may stretch, and
 /// the refusal of stretching them, and the text has all its positions then.
@@ -53,9 +54,23 @@ use crate::generated::shapers_prepare::ot_shape_prepare::UnicodeProperties;
 ///     ⊎ (StagesStopped r plan.now.stages noted buffer.new
 ///     ⊎ ((mid : Buffer) × (StagesRun r plan.now.stages noted mid
 ///     × FinishStopped q mid buffer.new e)))) }
+/// ensures room { let p = preparation_by plan.now settings.now.normalize (F.font font.now)
+///     (F.variants font.now) (T.properties tables.now) (T.tables tables.now)
+///     (T.texts tables.now) in
+///     let r = substitution_by plan.now (F.font font.now) (L.substituted lookups.now) in
+///     let q = positioning_by plan.now settings.now (F.font font.now)
+///     (L.marks lookups.now) (L.positioned lookups.now) (L.finished lookups.now) in
+///     let noted = text_noted (L.noted lookups.now) (text_prepared p buffer.old) in
+///     let growth = L.growth_of lookups.now in
+///     PreparationGrows → PreparationHasRoom →
+///     shaped_bound plan.now.shaper growth plan.now.lookups plan.now.stages
+///     (length buffer.old.glyphs) ≤ buffer.old.max_len →
+///     IfErr result (λ e. e ≡ call.Refused TooLong → (mid : Buffer)
+///     × (StagesRun r plan.now.stages noted mid × FinishStopped q mid buffer.new e)) }
 /// ```
 ///
 /// - `Buffer`: `crates/shapers_buffer/specs/Buffer.antt`
+/// - `PreparationGrows`, `PreparationHasRoom`, `shaped_bound`: `crates/shapers_pipeline/specs/Lengths.antt`
 /// - `text_noted`: `crates/shapers_pipeline/specs/Lookups.antt`
 /// - `text_shaped`: `crates/shapers_pipeline/specs/Positioned.antt`
 /// - `text_prepared`: `crates/shapers_pipeline/specs/Prepared.antt`
@@ -67,6 +82,8 @@ use crate::generated::shapers_prepare::ot_shape_prepare::UnicodeProperties;
 /// </details>
 ///
 /// [`Memory`]: crate::ShaperError::Memory
+/// [`TooLong`]: crate::ShaperError::TooLong
+/// [`max_len`]: crate::Buffer::max_len
 pub fn shape<F: NormalizeFont, T: NormalizeTables + UnicodeProperties, L: Lookups>(
     plan: &ShapePlan,
     settings: &ShapeSettings,
