@@ -256,7 +256,10 @@ mod tests {
     fn a_bound_has_all_steps() {
         let plan = khmer_plan();
         let lookups = u32::try_from(plan.lookups().len()).unwrap();
-        assert_eq!(length_bound(&plan, &Khmer, 4), 5 * 9 * 3_usize.pow(lookups) * 2);
+        assert_eq!(
+            length_bound(&plan, &Khmer, 4),
+            5 * 9 * 3_usize.pow(lookups) * 2
+        );
         assert_eq!(length_bound(&plan, &Khmer, usize::MAX), usize::MAX);
     }
 
