@@ -1,6 +1,8 @@
 -- Spans that two texts share, and how far a grammar reads on.
-use Rattle.std.proofs.Common.{◌≡◌, ℕ, true, false, [], ◌∷◌, map, refl}
+use Rattle.std.proofs.Common.{◌≡◌, ℕ, true, false, [], ◌∷◌, ◌++◌, map, refl}
+use Rattle.shapers_buffer.specs.declared.buffer.glyph.hb_glyph_info_t.{hb_glyph_info_t}
 use Rattle.shapers_buffer.specs.declared.buffer.syllables.Span.{Span}
+use Rattle.shapers_buffer.specs.Glyph.{default_glyph}
 use Rattle.shapers_spans.specs.Indic.{indic_grammar, indic_rules}
 use Rattle.shapers_spans.specs.Khmer.{khmer_grammar, khmer_rules}
 use Rattle.shapers_spans.specs.Universal.{universal_grammar, universal_rules}
@@ -9,6 +11,8 @@ use Rattle.shapers_spans.proofs.Steps.{nullable, same, chain, member, before, in
 use Rattle.shapers_spans.proofs.Tables.{first_kind, after}
 use Rattle.shapers_editing.specs.Affected.{glyphs_in, is_same, shared, shared_back, from_either_end}
 use Rattle.shapers_editing.specs.EditedSyllables.{last_n}
+use Rattle.shapers_editing.specs.EditedTexts.{with_edit}
+use Rattle.shapers_editing.specs.declared.edits.Edit.{Edit}
 
 abbrev span : ℕ → ℕ → Span
 span n k = record { len = n; kind = k }
@@ -56,6 +60,18 @@ from_start = refl
 
 last_two : last_n {X = ℕ} 2 (1 ∷ 2 ∷ 3 ∷ []) ≡ 2 ∷ 3 ∷ []
 last_two = refl
+
+-- what stands before an edit, its glyphs, and what stands from its end on; an edit that takes nothing away
+abbrev glyph : ℕ → hb_glyph_info_t
+glyph n = record default_glyph { glyph_id = n }
+
+replaced : (e : Edit) → with_edit (record e { start = 1; end = 3 }) (glyph 1 ∷ (glyph 2 ∷ (glyph 3 ∷ (glyph 4 ∷ []))))
+    ≡ glyph 1 ∷ (e.glyphs.now ++ (glyph 4 ∷ []))
+replaced e = refl
+
+put_in : (e : Edit) → with_edit (record e { start = 1; end = 1 }) (glyph 1 ∷ (glyph 2 ∷ []))
+    ≡ glyph 1 ∷ (e.glyphs.now ++ (glyph 2 ∷ []))
+put_in e = refl
 
 -- The syllable in front of an edit isn't enough. Of two glyphs no rule takes both (255), and so the
 -- first is a syllable of its own; with a third behind them they are one syllable. Khmer: a consonant,

@@ -2,8 +2,11 @@ pub mod AddedBits
 mod CaretRows
 pub mod Carets
 mod EditRows
+pub mod EditedNormal
 pub mod EditedSyllables
+pub mod EditedTexts
 pub mod MasksAgain
+pub mod ShapedCarets
 pub mod Shared
 pub mod SpanEdits
 pub mod Stops

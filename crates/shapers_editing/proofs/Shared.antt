@@ -93,7 +93,7 @@ shared-most n (s ∷ ss) (t ∷ ts) =
         (and_from (is_same s t) (nat_le s.len n) same (le-leb s.len n fits)) h)
 
 -- AT BOTH ENDS
-glyphs-reverse : (xs : List Span) → glyphs_in (reverse xs) ≡ glyphs_in xs
+pub glyphs-reverse : (xs : List Span) → glyphs_in (reverse xs) ≡ glyphs_in xs
 glyphs-reverse [] = refl
 glyphs-reverse (x ∷ xs) =
     ap glyphs_in (reverse_onto xs x [])

@@ -1,5 +1,5 @@
 //! Where a caret may stand in a shaped text.
-ghost use Rattle.std.specs.Prelude.{◌≡◌, List, ◌∷◌, [], ℕ, map, nat_lt, reverse, IsOkUnless, OnOk};
+ghost use Rattle.std.specs.Prelude.{◌≡◌, List, ◌∷◌, [], ℕ, map, nat_lt, reverse, IsOkUnless, OnErr, OnOk};
 ghost use Rattle.std.specs.List.{list_all};
 ghost use Rattle.shapers_buffer.specs.declared.buffer.refusal.ShaperError.TheVariants.{Memory};
 ghost use Rattle.shapers_buffer.specs.Glyph.{clusters};
@@ -20,7 +20,7 @@ use shapers_buffer::buffer::{Direction, ShaperError, hb_glyph_info_t};
 ///
 /// # Errors
 ///
-/// `Memory`; the list holds some of the stops then.
+/// `Memory`; the list is empty then.
 ///
 /// Source: HarfBuzz's manual, "Clusters".
 pub fn caret_stops(
@@ -30,14 +30,18 @@ pub fn caret_stops(
 ) -> Result<(), ShaperError>
     ensures stops { OnOk result (stops.new.items ≡ caret_stops direction glyphs.now) }
     ensures refusal { IsOkUnless result Memory }
+    ensures err { OnErr result (stops.new.items ≡ []) }
 {
     stops.clear();
-    match direction {
-        Direction::RightToLeft | Direction::BottomToTop => push_from_start(glyphs, stops)?,
-        _ => push_from_end(glyphs, stops)?,
+    let pushed = match direction {
+        Direction::RightToLeft | Direction::BottomToTop => push_from_start(glyphs, stops),
+        _ => push_from_end(glyphs, stops),
+    };
+    if pushed.is_err() {
+        stops.clear();
     }
     stops.reverse();
-    Ok(())
+    pushed
 }
 
 // Pushes the stops of a text whose last glyph is the list's first, the last stop first.

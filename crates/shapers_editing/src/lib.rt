@@ -5,7 +5,11 @@
 mod caret;
 mod edits;
 mod masks;
+mod pipeline;
 
 pub use caret::{caret_law, caret_stops};
-pub use edits::{Unaffected, affected, affected_law, span_edits_law, syllable_edits_law};
+pub use edits::{
+    Edit, Unaffected, affected, affected_law, affected_spans, span_edits_law, syllable_edits_law,
+};
 pub use masks::masks_again_law;
+pub use pipeline::{normalization_edits_law, pipeline_carets_law};

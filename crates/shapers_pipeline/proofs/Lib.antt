@@ -3,6 +3,8 @@ mod Directed
 mod FractionRows
 mod Growing
 mod HookResults
+mod LengthBounds
+mod LengthRows
 mod LookupRows
 mod MaskRows
 mod Pausing
@@ -13,4 +15,6 @@ mod PreparedClusters
 mod PreparedRows
 mod StageClusters
 pub mod Substituting
+mod StageLengths
+mod TextLengths
 mod TurnedGraphemes

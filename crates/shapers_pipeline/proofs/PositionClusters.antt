@@ -1,9 +1,11 @@
 -- Positions, hidden glyphs and stretched marks keep the clusters of a text.
-use Rattle.std.proofs.Common.{◌≡◌, ◌∙◌, suc, Bool, true, false, not, cond, List, [], ◌∷◌, length, map, filter, reverse, refl, sym, ap, arith}
+use Rattle.std.proofs.Common.{◌≡◌, ◌∙◌, ◌+◌, ◌≤◌, suc, Bool, true, false, not, cond, List, [], ◌∷◌, length, map, filter, reverse, refl, sym, ap, arith}
 use Rattle.std.specs.Prelude.{Option, None, Some, Ok, if◌then◌else◌}
 use Rattle.std.specs.List.{zip}
 use Rattle.std.specs.Option.{option_map_or, option_or}
+use Rattle.std.proofs.Math.Nat.{le_of_eq, le_refl, le_trans}
 use Rattle.std.proofs.lemmas.List.{length-map, length-reverse}
+use Rattle.std.proofs.lemmas.List.Sums.{count_by-le-length, length-filter}
 use Rattle.shapers_base.specs.Font.{Font}
 use Rattle.shapers_base.specs.declared.font.GlyphId.{GlyphId}
 use Rattle.shapers_base.specs.declared.plan.hb_ot_shape_plan_t.{hb_ot_shape_plan_t}
@@ -23,32 +25,45 @@ use Rattle.shapers_choice.specs.Choice.{is_horizontal}
 use Rattle.shapers_prepare.specs.Rotation.{runs_backward}
 use Rattle.shapers_stretch.specs.Recorded.{start_of}
 use Rattle.shapers_stretch.specs.Stretch.{marks_stretched, stretched_cells, with_cells}
+use Rattle.shapers_stretch.proofs.LaidText.{marks_longer}
 use Rattle.shapers_stretch.proofs.StretchFlags.{on_copies, on_widths}
 use Rattle.rustybuzz_shapers.specs.Apart.{HooksMakeNoCluster}
 use Rattle.rustybuzz_shapers.specs.Hooks.{PostprocessKeeps}
 use Rattle.rustybuzz_shapers.specs.Monotone.{StretchStaysMonotone}
+use Rattle.rustybuzz_shapers.specs.Stretched.{glyphs_added}
 use Rattle.rustybuzz_shapers.specs.declared.shaper.hb_ot_shaper_t.{hb_ot_shaper_t}
 use Rattle.rustybuzz_shapers.specs.declared.shaper.hb_ot_shaper_t.TheVariants.{Arabic, Hangul, Hebrew, Indic, Khmer, Myanmar, MyanmarZawgyi, Thai, Universal}
 use Rattle.shapers_pipeline.specs.ClusterLaws.{PreparationKeepsClusters, StagesKeepClusters}
+use Rattle.shapers_pipeline.specs.Lengths.{FinishGrows}
 use Rattle.shapers_pipeline.specs.Lookups.{PositionKeeps, looked_up, text_noted, unplaced}
 use Rattle.shapers_pipeline.specs.Positioned.{Positioning, hangs_marks, ordered_for_drawing, is_early, is_late, lookups_if, marks_zeroed_if, postprocessed_by, text_advanced, text_looked_up, text_narrowed, text_positioned, text_postprocessed, text_shaped, text_spaced, zeroing_of}
 use Rattle.shapers_pipeline.specs.Prepared.{text_prepared}
 use Rattle.shapers_pipeline.specs.ShapeLaws.{FinishKeepsClusters, PositionsKeep, ShapingKeepsClusters}
 use Rattle.shapers_pipeline.proofs.ClustersKept.{clusters-map, itself, kept_sorted, same, turned}
-use Rattle.shapers_pipeline.proofs.Placing.{Paired, length-changed, paired_stays}
+use Rattle.shapers_pipeline.proofs.Placing.{Paired, length-changed, paired_stays, same_length}
 use Rattle.shapers_pipeline.proofs.PreparedClusters.{Keeps, after}
+use Rattle.shapers_pipeline.proofs.TextLengths.{same_long}
 use Rattle.shapers_pipeline.proofs.StageClusters.{none_after, sorted_after}
 
--- clusters are kept, and positions stay one for each glyph
+-- clusters are kept, positions stay one for each glyph, and no glyph is added
 pub record Placed (old new : Buffer) : Type 0 where
   pub keeps : Keeps old new
   pub paired : Paired old → Paired new
+  pub few : length new.glyphs ≤ length old.glyphs
 
 on : (a b c : Buffer) → Placed a b → Placed b c → Placed a c
-on a b c one two = record { keeps = after a b c one.keeps two.keeps; paired = λ pairs. two.paired (one.paired pairs) }
+on a b c one two = record {
+  keeps = after a b c one.keeps two.keeps;
+  paired = λ pairs. two.paired (one.paired pairs);
+  few = le_trans two.few one.few;
+}
 
 stays : (b : Buffer) → Placed b b
-stays b = record { keeps = record { level = refl; glyphs = itself (merges b.level) b.glyphs }; paired = λ pairs. pairs }
+stays b = record {
+  keeps = record { level = refl; glyphs = itself (merges b.level) b.glyphs };
+  paired = λ pairs. pairs;
+  few = le_refl (length b.glyphs);
+}
 
 -- ---- positions changed, each by its glyph
 
@@ -57,6 +72,7 @@ changed : (f : hb_glyph_info_t → GlyphPosition → GlyphPosition) (b : Buffer)
 changed f b = record {
   keeps = record { level = refl; glyphs = itself (merges b.level) b.glyphs };
   paired = length-changed f b.glyphs b.positions;
+  few = le_refl (length b.glyphs);
 }
 
 zeroed_if : (now : Bool) (is_mark : hb_glyph_info_t → Bool) (applies : Bool) (b : Buffer) → Placed b
@@ -82,6 +98,7 @@ by_promise old new keeps =
             (λ g. refl) old.glyphs);
       };
       paired = paired_stays old new keeps;
+      few = le_of_eq (same_length old new keeps);
     }
 
 looked : (f : StageLookup → Buffer → Buffer) →
@@ -101,6 +118,7 @@ in_order b =
       | true ↦ record {
         keeps = record { level = refl; glyphs = turned (merges b.level) b.glyphs };
         paired = λ pairs. length-reverse b.positions ∙ pairs ∙ sym (length-reverse b.glyphs);
+        few = le_of_eq (length-reverse b.glyphs);
       }
       | false ↦ stays b
     ]
@@ -134,6 +152,7 @@ ignorables_go law b =
       keeps = record { level = refl; glyphs = record { none = r.old_clusters; mono = λ merging. r.monotone } };
       paired = λ pairs. length-map (filter (λ c. stay c.0) (zip b.glyphs b.positions)) (λ c. c.1)
           ∙ length-paired stay b.glyphs b.positions pairs ∙ sym long;
+      few = omega (arith, long, length-filter stay b.glyphs, count_by-le-length stay b.glyphs);
     }
 
 hidden : RemovalLaw → (wanted : DefaultIgnorables) (glyph : Option GlyphId) (b : Buffer) → Placed b
@@ -145,6 +164,7 @@ hidden law Hide (Some glyph) b = record {
         (clusters-map (drawn_by glyph) (drawn_cluster glyph) b.glyphs);
   };
   paired = λ pairs. pairs ∙ sym (length-map b.glyphs (drawn_by glyph));
+  few = le_of_eq (length-map b.glyphs (drawn_by glyph));
 }
 hidden law Hide None b = ignorables_go law b
 hidden law Preserve glyph b = stays b
@@ -165,18 +185,23 @@ advanced_pairs p b =
     let t : Buffer = record b { positions = map f b.glyphs } in
     (changed (space_placed p.font p.metrics (is_horizontal b.direction)) t).paired (length-map b.glyphs f)
 
+-- what is made of a text, with positions whatever it had
+record Made (old new : Buffer) : Type 0 where
+  keeps : Keeps old new
+  pairs : Paired new
+  few : length new.glyphs ≤ length old.glyphs
+
 -- before GPOS, with a position for each glyph
-begun : (p : Positioning) (b : Buffer) → Keeps b (text_advanced p b) × Paired (text_advanced p b)
+begun : (p : Positioning) (b : Buffer) → Made b (text_advanced p b)
 begun p b =
     let t = text_spaced p.font p.metrics b in
-    let zeroed = zeroed_if (is_early (zeroing_of p.shaper)) p.is_mark p.applies_gpos t in (
-      after b t (text_advanced p b) (record {
-        level = refl;
-        glyphs = itself
-            (merges b.level) b.glyphs;
-      }) zeroed.keeps,
-      zeroed.paired (advanced_pairs p b),
-    )
+    let zeroed = zeroed_if (is_early (zeroing_of p.shaper)) p.is_mark p.applies_gpos t in
+    record {
+      keeps = after b t (text_advanced p b) (record { level = refl; glyphs = itself (merges b.level) b.glyphs })
+          zeroed.keeps;
+      pairs = zeroed.paired (advanced_pairs p b);
+      few = zeroed.few;
+    }
 
 behind_gpos : (p : Positioning) → PositionsKeep p → (b : Buffer) → Paired b → Placed b
     (looked_up p.positioned (lookups_if p.applies_gpos p.list) b)
@@ -190,23 +215,23 @@ narrowed p b =
     let r : Buffer = record t { positions = ignorables_zeroed p.ignorables t.direction t.glyphs t.positions } in
     on b t r (zeroed_if (is_late (zeroing_of p.shaper)) p.is_mark p.applies_gpos b) (ignorables_kept p.ignorables t)
 
-text_placed : Laws → (p : Positioning) → PositionsKeep p → (b : Buffer) → Keeps b (text_positioned p b) × Paired
-    (text_positioned p b)
-text_placed laws p keeps b =
+text_placed : RemovalLaw → (p : Positioning) → PositionsKeep p → (b : Buffer) → Made b (text_positioned p b)
+text_placed removal p keeps b =
     let a = text_advanced p b in
     let l = text_looked_up p b in
     let n = text_narrowed p b in
     let f = p.finished n in
     let o = ordered_for_drawing f in
     let h = text_positioned p b in
-    let (first, pairs) = begun p b in
+    let first = begun p b in
+    let pairs = first.pairs in
     let looked = behind_gpos p keeps a pairs in
     let narrow = narrowed p l in
     let npairs : Paired n = narrow.paired (looked.paired pairs) in
     let rest = on n f h (by_promise n f (keeps.finishing n npairs))
-    (on f o h (in_order f) (hidden laws.removal p.ignorables (option_or p.invisible (p.font.nominal 0x20)) o)) in
+    (on f o h (in_order f) (hidden removal p.ignorables (option_or p.invisible (p.font.nominal 0x20)) o)) in
     let all = on a l h looked (on l n h narrow rest) in
-    (after b a h first all.keeps, all.paired pairs)
+    record { keeps = after b a h first.keeps all.keeps; pairs = all.paired pairs; few = le_trans all.few first.few }
 
 -- ---- stretched marks
 
@@ -251,14 +276,44 @@ finish_keeps laws p direction b keeps =
     let t = text_positioned p b in
     let u = text_postprocessed p b in
     let new = text_shaped p direction b in
-    let (first, pairs) = text_placed laws p keeps b in
+    let first = text_placed laws.removal p keeps b in
     let flags : Keeps u new = record {
       level = refl;
       glyphs = same (merges u.level) u.glyphs new.glyphs
           (laws.flags u.flags u.glyphs).same_clusters;
     } in
-    let all = after b u new (after b t u first (by_shaper_if laws p.shaper p.plan p.font t pairs)) flags in
+    let all = after b u new (after b t u first.keeps (by_shaper_if laws p.shaper p.plan p.font t first.pairs)) flags in
     (record { level = all.level; old_clusters = all.glyphs.none }, all.glyphs.mono)
+
+-- ---- lengths
+
+stretched_long : (plan : hb_ot_shape_plan_t) (font : Font) (b : Buffer) → Paired b → (shaper : hb_ot_shaper_t) →
+    length (postprocessed_by plan font b shaper).glyphs ≡ length b.glyphs + glyphs_added shaper font b
+stretched_long plan font b pairs Arabic = marks_longer font (start_of plan.plan_data) b pairs
+stretched_long plan font b pairs Hangul = omega arith
+stretched_long plan font b pairs Hebrew = omega arith
+stretched_long plan font b pairs Indic = omega arith
+stretched_long plan font b pairs Khmer = omega arith
+stretched_long plan font b pairs Myanmar = omega arith
+stretched_long plan font b pairs MyanmarZawgyi = omega arith
+stretched_long plan font b pairs Thai = omega arith
+stretched_long plan font b pairs Universal = omega arith
+
+postprocessed_long : (o : Option hb_ot_shaper_t) (plan : hb_ot_shape_plan_t) (font : Font) (b : Buffer) → Paired b →
+    length (option_map_or (postprocessed_by plan font b) o b).glyphs
+    ≡ length b.glyphs + option_map_or (λ shaper. glyphs_added shaper font b) o 0
+postprocessed_long None plan font b pairs = omega arith
+postprocessed_long (Some shaper) plan font b pairs = stretched_long plan font b pairs shaper
+
+pub finish_grows : RemovalLaw → FlagsLaw → FinishGrows
+finish_grows removal flags p direction b keeps =
+    let t = text_positioned p b in
+    let u = text_postprocessed p b in
+    let placed = text_placed removal p keeps b in (
+      placed.few,
+      same_long u.glyphs (text_shaped p direction b).glyphs (flags u.flags u.glyphs).same_clusters
+          ∙ postprocessed_long p.shaper p.plan p.font t placed.pairs,
+    )
 
 -- ---- all the way
 

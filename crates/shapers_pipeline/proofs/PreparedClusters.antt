@@ -73,7 +73,7 @@ after a b c one two = record {
 
 -- ---- the features of the whole text, and the properties of its characters
 
-clusters-properties : (p : CharacterProperties) (before gs : List hb_glyph_info_t) → clusters
+pub clusters-properties : (p : CharacterProperties) (before gs : List hb_glyph_info_t) → clusters
     (map (λ x. with_properties_behind p x.0 x.1) (each_after before gs)) ≡ clusters gs
 clusters-properties p before [] = refl
 clusters-properties p before (g ∷ gs) = ap (λ ks. g.cluster ∷ ks) (clusters-properties p (before ++ g ∷ []) gs)
@@ -152,11 +152,12 @@ thai_keeps plan font b =
     ]
 
 -- A walk that puts a circle before some glyphs, by a table of any kind X.
-record Parts {X : Type 0} (walk : X → ℕ → List hb_glyph_info_t → List hb_glyph_info_t)
+pub record Parts {X : Type 0} (walk : X → ℕ → List hb_glyph_info_t → List hb_glyph_info_t)
     (left : X → ℕ → hb_glyph_info_t → List hb_glyph_info_t → ℕ)
     : Type 0 where
-  nil : (s : X) (n : ℕ) → walk s n [] ≡ []
-  cons : (s : X) (n : ℕ) (g : hb_glyph_info_t) (gs : List hb_glyph_info_t) → walk s n (g ∷ gs) ≡ circle_before_last n g
+  pub nil : (s : X) (n : ℕ) → walk s n [] ≡ []
+  pub cons : (s : X) (n : ℕ) (g : hb_glyph_info_t) (gs : List hb_glyph_info_t) →
+      walk s n (g ∷ gs) ≡ circle_before_last n g
       ++ g ∷ walk s (left s n g gs) gs
 
 module _ {X : Type 0} (walk : X → ℕ → List hb_glyph_info_t → List hb_glyph_info_t)
@@ -359,7 +360,7 @@ all_around_clusters m concat zero gs = refl
 all_around_clusters m concat (suc n) gs = around_clusters m concat n (fractions_around m concat n gs)
     ∙ all_around_clusters m concat n gs
 
-fraction_clusters : (m : DriverMasks) (b : Buffer) → clusters (fractions_set m b) ≡ clusters b.glyphs
+pub fraction_clusters : (m : DriverMasks) (b : Buffer) → clusters (fractions_set m b) ≡ clusters b.glyphs
 fraction_clusters m b =
     let set = fractions_around (slash_masks b.direction m) (asks flags_concat b) (length b.glyphs) b.glyphs in
     elim (has_fractions m) as (λ test. clusters (if test then set else b.glyphs) ≡ clusters b.glyphs) [

@@ -11,15 +11,15 @@ use Rattle.shapers_buffer.specs.declared.buffer.category.hb_unicode_general_cate
 use Rattle.shapers_buffer.specs.declared.buffer.glyph.hb_glyph_info_t.{hb_glyph_info_t}
 use Rattle.shapers_buffer.specs.declared.buffer.level.Direction.{Direction}
 use Rattle.shapers_buffer.specs.declared.buffer.level.Direction.TheVariants.{LeftToRight, RightToLeft}
-use Rattle.shapers_normal.specs.declared.ot_shape_normalize.normalizing.Rounds.TheVariants.{AsCode}
+use Rattle.shapers_normal.specs.declared.ot_shape_normalize.normalizing.Rounds.TheVariants.{Always, AsCode}
 use Rattle.shapers_prepare.specs.VowelRows.{devanagari_pairs}
 use Rattle.rustybuzz_shapers.specs.declared.shaper.hb_ot_shaper_t.{hb_ot_shaper_t}
-use Rattle.rustybuzz_shapers.specs.declared.shaper.hb_ot_shaper_t.TheVariants.{Indic}
+use Rattle.rustybuzz_shapers.specs.declared.shaper.hb_ot_shaper_t.TheVariants.{Indic, Myanmar}
 use Rattle.shapers_pipeline.specs.Prepared.{Preparation, text_prepared}
 
--- 1, 2 are decimal numbers, 0x300 is a mark, all else is a letter; ( and ) are mirrored
+-- 1, 2 are decimal numbers, 0x300, 0x102E and 0x102F are marks, all else is a letter; ( and ) are mirrored
 abbrev general : ℕ → hb_unicode_general_category_t
-general c = if c == 0x31 || c == 0x32 then Nd else if c == 0x300 then Mn else Lo
+general c = if c == 0x31 || c == 0x32 then Nd else if c == 0x300 || c == 0x102E || c == 0x102F then Mn else Lo
 
 -- the glyph of each character is numbered by 1000 more
 abbrev font : Font
@@ -52,8 +52,8 @@ prepared_for shaper = record {
     general = general;
     indic = λ c. (5, 7);
     universal = λ c. 0;
-    composed = λ a b. if a == 0x61 then Some 0xE0 else None;
-    decomposed = λ c. None;
+    composed = λ a b. if a == 0x61 then Some 0xE0 else if a == 0x1025 then Some 0x1026 else None;
+    decomposed = λ c. if c == 0x1026 then Some (0x1025, 0x102E) else None;
   };
   texts = record { class = λ c. if c == 0x300 then 230 else 0; ignorable = λ c. false };
   settings = record { rounds = AsCode; invisible_glyph = None; draws_selectors = false };
@@ -103,3 +103,29 @@ vowels : seen (Some Indic) (buffer LeftToRight (codes "Deva") (0x905 ∷ 0x946 �
     ∷ (0x946 + 1000, (1, (0x80000000, 5))) ∷ []
 unfolding devanagari_pairs
 vowels = refl
+
+-- An edit behind a syllable that it doesn't meet: Myanmar 1026 comes apart, and composes again only in a text with a
+-- mark behind its first place. So 102F behind 1000 changes what the lookups see of the letter before; with rounds in
+-- each text it doesn't.
+abbrev numbers : Preparation → List ℕ → List ℕ
+numbers p cs = map (λ g. g.glyph_id) (text_prepared p (buffer LeftToRight (codes "Mymr") cs)).glyphs
+
+before_edit : numbers (prepared_for (Some Myanmar)) (0x1026 ∷ 0x1000 ∷ [])
+    ≡ (0x1025 + 1000) ∷ (0x102E + 1000) ∷ (0x1000 + 1000) ∷ []
+before_edit = refl
+
+behind_edit : numbers (prepared_for (Some Myanmar)) (0x1026 ∷ 0x1000 ∷ 0x102F ∷ [])
+    ≡ (0x1026 + 1000) ∷ (0x1000 + 1000) ∷ (0x102F + 1000) ∷ []
+behind_edit = refl
+
+abbrev in_each_text : Preparation
+in_each_text = record (prepared_for (Some Myanmar)) {
+  settings = record { rounds = Always; invisible_glyph = None; draws_selectors = false };
+}
+
+before_with_rounds : numbers in_each_text (0x1026 ∷ 0x1000 ∷ []) ≡ (0x1026 + 1000) ∷ (0x1000 + 1000) ∷ []
+before_with_rounds = refl
+
+behind_with_rounds : numbers in_each_text (0x1026 ∷ 0x1000 ∷ 0x102F ∷ [])
+    ≡ (0x1026 + 1000) ∷ (0x1000 + 1000) ∷ (0x102F + 1000) ∷ []
+behind_with_rounds = refl

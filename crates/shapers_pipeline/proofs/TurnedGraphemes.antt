@@ -33,7 +33,7 @@ ends_from s i n [] within = (omega arith, tt)
 ends_from s i n (true ∷ cs) within = ends_from s (i + 1) n cs (omega arith)
 ends_from s i n (false ∷ cs) within = (omega arith, ends_from i (i + 1) n cs (omega arith))
 
-ends_within : (gs : List hb_glyph_info_t) → EndWithin (length gs) (graphemes gs)
+pub ends_within : (gs : List hb_glyph_info_t) → EndWithin (length gs) (graphemes gs)
 ends_within [] = tt
 ends_within (g ∷ gs) = ends_from 0 1 (suc (length gs)) (continuations gs)
     (omega (arith, length-map gs (λ (h : hb_glyph_info_t). is_continuation h.marks)))
@@ -63,7 +63,7 @@ graphemes_merge level gs =
       mono = λ merging rises. (exact_cuts_hold level sts gs merging (ends_within gs) rises).1;
     }
 
-flagged_same : (gs : List hb_glyph_info_t) → clusters (unsafe_all (graphemes gs) gs) ≡ clusters gs
+pub flagged_same : (gs : List hb_glyph_info_t) → clusters (unsafe_all (graphemes gs) gs) ≡ clusters gs
 flagged_same gs = map-unsafe_all (λ g. g.cluster) (λ g. refl) (graphemes gs) gs (rise gs)
 
 pub clusters_form : (level : BufferClusterLevel) (gs : List hb_glyph_info_t) → Kept (merges level) gs

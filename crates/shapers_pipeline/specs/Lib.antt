@@ -1,5 +1,6 @@
 pub mod ClusterLaws
 pub mod Fractions
+pub mod Lengths
 pub mod Lookups
 pub mod Masks
 pub mod Positioned

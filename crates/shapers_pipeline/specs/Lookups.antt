@@ -1,5 +1,5 @@
 -- What lookups keep of a text, and stages of them, each with a pause behind it.
-use Rattle.std.specs.Prelude.{ℕ, ◌≡◌, ◌-◌, ◌⊎◌, true, List, [], ◌∷◌, drop, fold, length, map, take}
+use Rattle.std.specs.Prelude.{ℕ, ◌≡◌, ◌≤◌, ◌-◌, ◌*◌, ◌⊎◌, true, List, [], ◌∷◌, drop, fold, length, map, take}
 use Rattle.shapers_base.specs.declared.plan.pause.Pause.{Pause}
 use Rattle.shapers_base.specs.declared.plan.pause.Pause.TheVariants.{SetupSyllablesIndic, SetupSyllablesKhmer, SetupSyllablesMyanmar, SetupSyllablesUse}
 use Rattle.shapers_buffer.specs.Buffer.{Buffer}
@@ -24,6 +24,11 @@ pub record LookupKeeps (old new : Buffer) : Type 0 where
   pub old_clusters : NoNewCluster old.glyphs new.glyphs
   pub monotone : merges old.level ≡ true → IsMonotone (clusters old.glyphs) →
       IsMonotone (clusters new.glyphs)
+
+-- a lookup of GSUB makes a text at most so many times as long, and they are one at least
+pub record LookupGrows (times : ℕ) (old new : Buffer) : Type 0 where
+  pub one : 1 ≤ times
+  pub few : length new.glyphs ≤ length old.glyphs * times
 
 -- What a lookup of GPOS keeps of a text with positions: everything but positions, notes and glyph
 -- flags.

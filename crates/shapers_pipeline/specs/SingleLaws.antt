@@ -1,15 +1,17 @@
--- Single substitutions keep what a lookup is to keep: they change no cluster.
+-- Single substitutions keep what a lookup is to keep: they change no cluster, and add no glyph.
 use Rattle.std.proofs.Common.{◌≡◌, ◌∙◌, ◌==◌, true, false, List, [], ◌∷◌, refl, sym, ap, subst}
-use Rattle.std.specs.Prelude.{bit_and, find, map, Option, None, Some, if◌then◌else◌}
+use Rattle.std.specs.Prelude.{bit_and, find, length, map, Option, None, Some, if◌then◌else◌}
 use Rattle.std.specs.List.{All, Contains}
 use Rattle.std.specs.Option.{option_map_or}
+use Rattle.std.proofs.Math.Nat.{le_of_eq, le_refl, mul-one}
+use Rattle.std.proofs.lemmas.List.{length-map}
 use Rattle.std.proofs.lemmas.List.Elements.{All-contains_itself}
 use Rattle.shapers_buffer.specs.Buffer.{Buffer}
 use Rattle.shapers_buffer.specs.Glyph.{clusters}
 use Rattle.shapers_buffer.specs.declared.buffer.glyph.hb_glyph_info_t.{hb_glyph_info_t}
 use Rattle.shapers_clusters.specs.Cuts.{IsMonotone}
 use Rattle.shapers_plan.specs.declared.ot_map.lookups.StageLookup.{StageLookup}
-use Rattle.shapers_pipeline.specs.Lookups.{LookupKeeps}
+use Rattle.shapers_pipeline.specs.Lookups.{LookupGrows, LookupKeeps}
 use Rattle.shapers_pipeline.specs.Singles.{is_single_for, single_applied, singles_applied, with_single}
 use Rattle.shapers_pipeline.specs.declared.singles.Single.{Single}
 
@@ -46,3 +48,11 @@ singles_keep singles lookup b =
       old_clusters = subst (λ cs. All (Contains old) cs) same (All-contains_itself old);
       monotone = λ merging rises. subst IsMonotone same rises;
     }
+
+pub singles_grow : (singles : List Single) (lookup : StageLookup) (b : Buffer) →
+    LookupGrows 1 b (singles_applied singles lookup b)
+singles_grow singles lookup b = record {
+  one = le_refl 1;
+  few = le_of_eq (length-map b.glyphs (single_applied singles lookup)
+      ∙ sym (mul-one (length b.glyphs)));
+}

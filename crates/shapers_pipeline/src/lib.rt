@@ -4,6 +4,7 @@
 
 mod fractions;
 mod laws;
+mod lengths;
 mod lookups;
 mod masks;
 mod plan;
@@ -17,6 +18,7 @@ mod stages;
 mod substitution;
 
 pub use laws::pipeline_clusters_law;
+pub use lengths::{length_bound, pipeline_lengths_law};
 pub use lookups::Lookups;
 pub use plan::{StagePlan, TextPlan};
 pub use prepare::prepare_text;

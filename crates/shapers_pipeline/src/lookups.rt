@@ -1,6 +1,7 @@
 //! The lookups of a font, stage by stage, with what the shaper does behind each stage.
-ghost use Rattle.std.specs.Prelude.{ℕ, ◌≡◌, [], length, IfOk, IsOkUnless, OnErr, OnOk};
-ghost use Rattle.shapers_buffer.specs.declared.buffer.refusal.ShaperError.TheVariants.{Memory};
+ghost use Rattle.std.specs.Prelude.{ℕ, ◌≡◌, ◌≢◌, ◌≤◌, ◌*◌, [], length, Err, IfOk, IsOkUnless, OnErr, OnOk};
+ghost use Rattle.shapers_buffer.specs.declared.buffer.refusal.ShaperError.TheVariants.{Memory, TooLong};
+ghost use Rattle.shapers_pipeline.specs.Lengths.{looked_up_bound};
 ghost use Rattle.shapers_pipeline.specs.Lookups.{FoundSpans, StoppedIn, looked_up, text_noted};
 
 use shapers_base::buffer::{GlyphChange, ShaperError, Span, hb_buffer_t, hb_glyph_info_t};
@@ -16,7 +17,7 @@ use std::mem;
 pub trait Lookups: GlyphClasses {
     ghost use Rattle.shapers_buffer.specs.Buffer.{Buffer};
     ghost use Rattle.shapers_buffer.specs.declared.buffer.glyph.hb_glyph_info_t.{hb_glyph_info_t};
-    ghost use Rattle.shapers_pipeline.specs.Lookups.{LookupKeeps, PositionKeeps};
+    ghost use Rattle.shapers_pipeline.specs.Lookups.{LookupGrows, LookupKeeps, PositionKeeps};
     ghost use Rattle.shapers_plan.specs.declared.ot_map.lookups.StageLookup.{StageLookup};
 
     /// What is kept beside a glyph.
@@ -24,6 +25,9 @@ pub trait Lookups: GlyphClasses {
 
     /// What a lookup of GSUB makes of a text.
     ghost substituted: { Self → StageLookup → Buffer → Buffer };
+
+    /// How many times as long it makes a text at most.
+    ghost growth_of: { Self → StageLookup → ℕ };
 
     /// What one of GPOS makes of it, and what attachments do behind the last one.
     ghost positioned: { Self → StageLookup → Buffer → Buffer };
@@ -35,16 +39,24 @@ pub trait Lookups: GlyphClasses {
     fn note(&self, glyph: &hb_glyph_info_t) -> u32
         ensures { result ≡ noted self.now glyph.now };
 
+    /// How many times as long a lookup of GSUB makes a text at most: 1 where none gets longer, and the
+    /// greatest number where no bound is known.
+    fn growth(&self, lookup: &StageLookup) -> usize
+        ensures { result ≡ growth_of self.now lookup.now };
+
     /// Applies a lookup of GSUB to a text of glyphs without positions. It reads and writes glyphs alone. Each
     /// cluster that it leaves is one that the text had, and at the levels that merge clusters that
     /// rise along the text, or fall, still do.
     ///
     /// # Errors
     ///
-    /// Why the text couldn't become longer; nothing has changed then.
+    /// Why the text couldn't become longer; nothing has changed then. `TooLong` doesn't come where
+    /// the buffer has room for the text's growth.
     fn substitute(&self, lookup: &StageLookup, buffer: &mut hb_buffer_t) -> Result<(), ShaperError>
         requires { buffer.old.positions ≡ [] }
         ensures ok { OnOk result (buffer.new ≡ substituted self.now lookup.now buffer.old) }
+        ensures room { let times = growth_of self.now lookup.now in
+            length buffer.old.glyphs * times ≤ buffer.old.max_len → result ≢ Err TooLong }
         ensures err { OnErr result (buffer.new ≡ buffer.old) };
 
     /// Applies a lookup of GPOS to a text of glyphs with positions. It writes these, `var` and glyph
@@ -67,6 +79,9 @@ pub trait Lookups: GlyphClasses {
     // What they keep of a text.
     ghost substituting_keeps: { (it : Self) (lookup : StageLookup) (b : Buffer) → b.positions ≡ [] →
         LookupKeeps b (substituted it lookup b) };
+
+    ghost substituting_grows: { (it : Self) (lookup : StageLookup) (b : Buffer) → b.positions ≡ [] →
+        LookupGrows (growth_of it lookup) b (substituted it lookup b) };
 
     ghost positioning_keeps: { (it : Self) (lookup : StageLookup) (b : Buffer) →
         length b.positions ≡ length b.glyphs → PositionKeeps b (positioned it lookup b) };
@@ -115,7 +130,14 @@ pub(crate) fn apply_lookups<L: Lookups>(
         OnOk result (buffer.new ≡ looked_up f list.now buffer.old) }
     ensures err { let f = L.substituted lookups.now in
         OnErr result (StoppedIn f list.now buffer.old buffer.new) }
+    ensures length { let growth = L.growth_of lookups.now in
+        OnOk result (length buffer.new.glyphs
+        ≤ looked_up_bound growth list.now (length buffer.old.glyphs)) }
+    ensures room { let growth = L.growth_of lookups.now in
+        looked_up_bound growth list.now (length buffer.old.glyphs) ≤ buffer.old.max_len →
+        result ≢ Err TooLong }
     ensures positions { OnOk result (buffer.new.positions ≡ []) }
+    ensures limit { buffer.new.max_len ≡ buffer.old.max_len }
 {
     for lookup in list {
         lookups.substitute(lookup, buffer)?;

@@ -1,5 +1,8 @@
 //! From characters to glyphs with positions.
-ghost use Rattle.std.specs.Prelude.{◌≡◌, ◌⊎◌, IfErr, OnOk};
+ghost use Rattle.std.specs.Prelude.{◌≡◌, ◌≤◌, ◌⊎◌, length, IfErr, OnOk};
+ghost use Rattle.rustybuzz_shapers.specs.declared.shaper.checked.CallError.TheVariants as call;
+ghost use Rattle.shapers_buffer.specs.declared.buffer.refusal.ShaperError.TheVariants.{TooLong};
+ghost use Rattle.shapers_pipeline.specs.Lengths.{PreparationGrows, PreparationHasRoom, shaped_bound};
 ghost use Rattle.shapers_buffer.specs.Buffer.{Buffer};
 ghost use Rattle.shapers_pipeline.specs.Lookups.{text_noted};
 ghost use Rattle.shapers_pipeline.specs.Positioned.{text_postprocessed, text_shaped};
@@ -29,7 +32,8 @@ use shapers_prepare::ot_shape_prepare::UnicodeProperties;
 ///
 /// # Errors
 ///
-/// Those of `substitute_text`; `Memory` for the positions, and nothing has changed then since the
+/// Those of `substitute_text`, so that with the `max_len` of `length_bound` `TooLong` comes behind the
+/// lookups of GSUB alone; `Memory` for the positions, and nothing has changed then since the
 /// last lookup of GSUB; the refusal of a lookup of GPOS, with the text as it was before that one;
 /// the condition `Glyphs` where a number above 65535 stands in a text whose marks may stretch, and
 /// the refusal of stretching them, and the text has all its positions then.
@@ -61,6 +65,19 @@ pub fn shape<F: NormalizeFont + MetricsFont, T: NormalizeTables + UnicodePropert
         ⊎ (StagesStopped r plan.now.stages noted buffer.new
         ⊎ ((mid : Buffer) × (StagesRun r plan.now.stages noted mid
         × FinishStopped q mid buffer.new e)))) }
+    ensures room { let p = preparation_by plan.now settings.now.normalize (F.font font.now)
+        (F.variants font.now) (T.properties tables.now) (T.tables tables.now)
+        (T.texts tables.now) in
+        let r = substitution_by plan.now (F.font font.now) (L.substituted lookups.now) in
+        let q = positioning_by plan.now settings.now (F.font font.now)
+        (L.marks lookups.now) (L.positioned lookups.now) (L.finished lookups.now) in
+        let noted = text_noted (L.noted lookups.now) (text_prepared p buffer.old) in
+        let growth = L.growth_of lookups.now in
+        PreparationGrows → PreparationHasRoom →
+        shaped_bound plan.now.shaper growth plan.now.lookups plan.now.stages
+        (length buffer.old.glyphs) ≤ buffer.old.max_len →
+        IfErr result (λ e. e ≡ call.Refused TooLong → (mid : Buffer)
+        × (StagesRun r plan.now.stages noted mid × FinishStopped q mid buffer.new e)) }
 {
     let direction = buffer.direction();
     substitute_text(plan, &settings.normalize, font, tables, lookups, buffer)?;

@@ -41,11 +41,13 @@ impl<'a> GlyphClasses for SingleLookups<'a> {
 impl<'a> Lookups for SingleLookups<'a> {
     ghost use Rattle.std.specs.Prelude.{refl};
     ghost use Rattle.shapers_pipeline.specs.Singles.{singles_applied};
-    ghost use Rattle.shapers_pipeline.specs.SingleLaws.{singles_keep};
+    ghost use Rattle.shapers_pipeline.specs.SingleLaws.{singles_grow, singles_keep};
 
     ghost noted = { λ it g. 0 };
 
     ghost substituted = { λ it lookup b. singles_applied it.singles.now lookup b };
+
+    ghost growth_of = { λ it lookup. 1 };
 
     ghost positioned = { λ it lookup b. b };
 
@@ -54,6 +56,11 @@ impl<'a> Lookups for SingleLookups<'a> {
     #[inline]
     fn note(&self, _glyph: &hb_glyph_info_t) -> u32 {
         0
+    }
+
+    #[inline]
+    fn growth(&self, _lookup: &StageLookup) -> usize {
+        1
     }
 
     fn substitute(
@@ -81,6 +88,8 @@ impl<'a> Lookups for SingleLookups<'a> {
     fn finish_positions(&self, _buffer: &mut hb_buffer_t) {}
 
     ghost substituting_keeps = { λ it lookup b none. singles_keep it.singles.now lookup b };
+
+    ghost substituting_grows = { λ it lookup b none. singles_grow it.singles.now lookup b };
 
     ghost positioning_keeps = { λ it lookup b paired.
         record { others = refl; glyphs = refl; positions = refl } };

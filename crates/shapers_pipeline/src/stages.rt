@@ -1,5 +1,7 @@
 //! The stages of a plan: the lookups of each, and what the shaper does behind them.
-ghost use Rattle.std.specs.Prelude.{◌≡◌, [], OnErr, OnOk};
+ghost use Rattle.std.specs.Prelude.{◌≡◌, ◌≤◌, ◌*◌, [], length, OnErr, OnOk};
+ghost use Rattle.rustybuzz_shapers.specs.Lengths.{pause_growth};
+ghost use Rattle.shapers_pipeline.specs.Lengths.{NotTooLong, stage_bound, stages_bound};
 ghost use Rattle.shapers_pipeline.specs.Lookups.{lookups_of_stage};
 ghost use Rattle.shapers_pipeline.specs.Stages.{PauseRun, StageRun, StageStopped, StagesRun, StagesStopped, Substitution};
 
@@ -18,7 +20,7 @@ use shapers_plan::ot_map::{Stage, StageLookup};
 /// # Errors
 ///
 /// A condition of a pause that isn't met, or the refusal of a lookup or a pause. The buffer is as
-/// it was before that one.
+/// it was before that one. `TooLong` doesn't come where `max_len` is as much as the text may grow.
 pub fn run_stages<F: hb_font_t, L: Lookups>(
     plan: &StagePlan,
     font: &F,
@@ -40,6 +42,9 @@ pub fn run_stages<F: hb_font_t, L: Lookups>(
       list = plan.now.lookups.now;
     } in
         OnErr result (StagesStopped r plan.now.stages.now buffer.old buffer.new) }
+    ensures room { let growth = L.growth_of lookups.now in
+        stages_bound growth plan.now.lookups.now plan.now.stages.now (length buffer.old.glyphs)
+        ≤ buffer.old.max_len → NotTooLong result }
     ensures positions { OnOk result (buffer.new.positions ≡ []) }
 {
     for stage in plan.stages {
@@ -71,7 +76,14 @@ fn run_stage<F: hb_font_t, L: Lookups>(
       list = plan.now.lookups.now;
     } in
         OnErr result (StageStopped r stage buffer.old buffer.new) }
+    ensures length { let growth = L.growth_of lookups.now in
+        OnOk result (length buffer.new.glyphs
+        ≤ stage_bound growth plan.now.lookups.now (length buffer.old.glyphs) stage) }
+    ensures room { let growth = L.growth_of lookups.now in
+        stage_bound growth plan.now.lookups.now (length buffer.old.glyphs) stage
+        ≤ buffer.old.max_len → NotTooLong result }
     ensures positions { OnOk result (buffer.new.positions ≡ []) }
+    ensures limit { buffer.new.max_len ≡ buffer.old.max_len }
 {
     apply_lookups(lookups, lookups_of_stage(stage, plan.lookups), buffer)?;
     match stage.pause {
@@ -82,7 +94,7 @@ fn run_stage<F: hb_font_t, L: Lookups>(
 
 // The lookups of a stage, as far as the list goes.
 #[inline]
-fn lookups_of_stage(stage: Stage, list: &[StageLookup]) -> &[StageLookup]
+pub(crate) fn lookups_of_stage(stage: Stage, list: &[StageLookup]) -> &[StageLookup]
     ensures { result.now ≡ lookups_of_stage stage list.now }
 {
     let end = stage.end.min(list.len());
@@ -101,7 +113,12 @@ fn pause_with_spans<F: hb_font_t>(
     requires { buffer.old.positions ≡ [] }
     ensures ok { OnOk result (PauseRun pause plan.now (F.font font.now) buffer.old buffer.new) }
     ensures err { OnErr result (buffer.new ≡ buffer.old) }
+    ensures length { OnOk result
+        (length buffer.new.glyphs ≤ length buffer.old.glyphs * pause_growth pause) }
+    ensures room { length buffer.old.glyphs * pause_growth pause ≤ buffer.old.max_len →
+        NotTooLong result }
     ensures positions { OnOk result (buffer.new.positions ≡ []) }
+    ensures limit { buffer.new.max_len ≡ buffer.old.max_len }
 {
     let spans = found_spans(pause, buffer.glyphs(), buffer.alloc())?;
     checked_run_pause(pause, plan, font, spans.as_slice(), buffer)?;

@@ -1,5 +1,6 @@
 //! From characters to the glyphs behind the last stage of lookups.
-ghost use Rattle.std.specs.Prelude.{◌≡◌, ◌⊎◌, [], IfErr, OnOk};
+ghost use Rattle.std.specs.Prelude.{◌≡◌, ◌⊎◌, ◌≤◌, [], length, IfErr, OnOk};
+ghost use Rattle.shapers_pipeline.specs.Lengths.{NotTooLong, PreparationGrows, PreparationHasRoom, shaped_bound};
 ghost use Rattle.shapers_pipeline.specs.Lookups.{text_noted};
 ghost use Rattle.shapers_pipeline.specs.Prepared.{text_prepared};
 ghost use Rattle.shapers_pipeline.specs.Refusals.{IsStopped};
@@ -21,7 +22,8 @@ use shapers_prepare::ot_shape_prepare::UnicodeProperties;
 ///
 /// # Errors
 ///
-/// Those of both, with the buffer as they leave it.
+/// Those of both, with the buffer as they leave it; by `pipeline_lengths_law` never `TooLong` with
+/// the `max_len` that `length_bound` tells.
 pub fn substitute_text<F: NormalizeFont, T: NormalizeTables + UnicodeProperties, L: Lookups>(
     plan: &ShapePlan,
     settings: &NormalizeSettings,
@@ -43,6 +45,10 @@ pub fn substitute_text<F: NormalizeFont, T: NormalizeTables + UnicodeProperties,
         let noted = text_noted (L.noted lookups.now) (text_prepared p buffer.old) in
         IfErr result (λ e. IsStopped p buffer.old buffer.new e
         ⊎ StagesStopped r plan.now.stages noted buffer.new) }
+    ensures room { let growth = L.growth_of lookups.now in
+        PreparationGrows → PreparationHasRoom →
+        shaped_bound plan.now.shaper growth plan.now.lookups plan.now.stages
+        (length buffer.old.glyphs) ≤ buffer.old.max_len → NotTooLong result }
     ensures positions { OnOk result (buffer.new.positions ≡ []) }
 {
     let text = TextPlan {

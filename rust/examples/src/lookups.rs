@@ -37,6 +37,11 @@ impl Lookups for Layout<'_> {
         noted.var
     }
 
+    // No bound is known: contexts apply lookups within lookups.
+    fn growth(&self, _: &StageLookup) -> usize {
+        usize::MAX
+    }
+
     fn substitute(&self, lookup: &StageLookup, buffer: &mut Buffer) -> Result<(), ShaperError> {
         let mut text = buffer.copy()?;
         Pass::new(self, TableIndex::GSUB, *lookup, &mut text).run()?;

@@ -16,17 +16,27 @@
 //! # Ok::<(), ShaperError>(())
 //! ```
 //!
-//! [`affected`] takes the spans of a text before and after an edit, as
-//! [`Shaper::spans_of`](crate::Shaper::spans_of) gives them:
+//! [`affected`] takes a text and an edit of it:
 //!
 //! ```
-//! use sengadlit::Span;
-//! use sengadlit::editing::{Unaffected, affected};
+//! use sengadlit::alloc::Global;
+//! use sengadlit::editing::{Edit, Unaffected, affected};
+//! use sengadlit::spans::Khmer;
+//! use sengadlit::{GlyphInfo, ShaperError};
 //!
-//! // the third of five glyphs is replaced, and takes the second into its syllable
-//! let before = [(1, 0), (1, 0), (1, 8), (2, 0)].map(|(len, kind)| Span { len, kind });
-//! let after = [(1, 0), (2, 0), (2, 0)].map(|(len, kind)| Span { len, kind });
-//! assert_eq!(affected(&before, &after, 2, 2), Unaffected { front: 1, back: 2 });
+//! // KA, KA and ZWNJ, and KA; a vowel sign comes behind the joiner, and the middle KA and ZWNJ become
+//! // one syllable with it
+//! let glyph = |category| GlyphInfo { category, ..GlyphInfo::DEFAULT };
+//! let text = [1, 1, 5, 1].map(glyph);
+//! let edit = Edit { start: 3, end: 3, glyphs: &[glyph(20)] };
+//! let left = affected(&Khmer, &text, &edit, Global)?;
+//! assert_eq!(left, Unaffected { front: 1, back: 1 });
+//! # Ok::<(), ShaperError>(())
 //! ```
+//!
+//! [`affected_spans`] does with the spans of the text before and after, as
+//! [`Shaper::spans_of`](crate::Shaper::spans_of) gives them.
 
-pub use crate::generated::shapers_editing::{Unaffected, affected, caret_stops};
+pub use crate::generated::shapers_editing::{
+    Edit, Unaffected, affected, affected_spans, caret_stops,
+};

@@ -1,7 +1,8 @@
 //! From a text to glyphs with positions, in the order of HarfBuzz's hb-ot-shape, by a
 //! [`ShapePlan`](crate::ot_shape_plan::ShapePlan) and a caller's [`Lookups`]: [`shape`] does it all.
 //! [`prepare_text`] does what comes before the font's lookups, [`run_stages`] runs those of GSUB,
-//! with what the shaper does behind each stage, and [`substitute_text`] does both.
+//! with what the shaper does behind each stage, and [`substitute_text`] does both. [`length_bound`]
+//! tells for how many glyphs a text needs room.
 //!
 //! A Khmer word, in a font of the caller's, whose lookup makes one glyph of COENG and MO:
 //!
@@ -44,6 +45,7 @@
 //! #     fn is_mark(&self, _: &sengadlit::GlyphInfo) -> bool { false }
 //! # }
 //! # impl Lookups for MyFont {
+//! #     fn growth(&self, _: &StageLookup) -> usize { 1 }
 //! #     fn position(&self, _: &StageLookup, _: &mut Buffer) -> Result<(), ShaperError> { Ok(()) }
 //! #     fn finish_positions(&self, _: &mut Buffer) {}
 //! #     fn note(&self, _: &sengadlit::GlyphInfo) -> u32 { 0 }
@@ -127,13 +129,15 @@
 //! ```
 
 pub use crate::generated::shapers_pipeline::{
-    Lookups, ShapeSettings, Single, SingleLookups, StagePlan, TextPlan, prepare_text, run_stages,
-    shape, substitute_text,
+    Lookups, ShapeSettings, Single, SingleLookups, StagePlan, TextPlan, length_bound, prepare_text,
+    run_stages, shape, substitute_text,
 };
 
 #[cfg(test)]
 mod tests {
-    use super::{Lookups, ShapeSettings, Single, SingleLookups, shape, substitute_text};
+    use super::{
+        Lookups, ShapeSettings, Single, SingleLookups, length_bound, shape, substitute_text,
+    };
     use crate::alloc::Global;
     use crate::buffer::{Buffer, Direction, GlyphInfo, GlyphPosition, Script, ShaperError, Tag};
     use crate::font::{Font, GlyphId};
@@ -228,6 +232,11 @@ mod tests {
             if glyph.glyph_id == 0x17C6 { 3 } else { 1 }
         }
 
+        fn growth(&self, lookup: &StageLookup) -> usize {
+            assert_eq!(lookup.index, 7);
+            3
+        }
+
         fn position(&self, _: &StageLookup, _: &mut Buffer) -> Result<(), ShaperError> {
             panic!("the font has no GPOS")
         }
@@ -260,6 +269,19 @@ mod tests {
         assert_eq!(glyphs, [0x17C3, 0x1782, 0x1785]);
         let clusters: Vec<u32> = text.glyphs().iter().map(|glyph| glyph.cluster).collect();
         assert_eq!(clusters, [0, 0, 6]);
+    }
+
+    /// A circle in front, nine for each in normalization, three by each lookup that is listed, and two
+    /// by the reordering.
+    #[test]
+    fn a_bound_has_all_steps() {
+        let plan = khmer_plan();
+        let lookups = u32::try_from(plan.lookups().len()).unwrap();
+        assert_eq!(
+            length_bound(&plan, &Khmer, 4),
+            5 * 9 * 3_usize.pow(lookups) * 2
+        );
+        assert_eq!(length_bound(&plan, &Khmer, usize::MAX), usize::MAX);
     }
 
     const SETTINGS: ShapeSettings = ShapeSettings {

@@ -284,6 +284,11 @@ impl AnswersLookups for AskedLookups<'_> {
         call_back(|| unsafe { note(self.user_data, &glyph) })
     }
 
+    // C's callbacks tell no bound.
+    fn growth(&self, _: &StageLookup) -> usize {
+        usize::MAX
+    }
+
     fn substitute(&self, lookup: &StageLookup, buffer: &mut Inner) -> Result<(), ShaperError> {
         let Some(substitute) = self.funcs.substitute else {
             return Ok(());

@@ -4,6 +4,7 @@ use Rattle.shapers_buffer.specs.Buffer.{Buffer}
 use Rattle.shapers_position.specs.ClusterFlags.{flags_propagated}
 use Rattle.shapers_pipeline.specs.Positioned.{text_postprocessed}
 use Rattle.shapers_pipeline.specs.Shaped.{positioning_by}
+use Rattle.shapers_pipeline.proofs.StageLengths.{passed_error, told_error}
 use Rattle.shapers_pipeline.proofs.shaping.shape.Goals as goal
 
 pub returns-clause-ok : goal.returns-clause-ok
@@ -22,3 +23,9 @@ returns-clause-ok g c =
             ∙ ap (λ w. let t = text_postprocessed q mid in let r : Buffer = record t { glyphs = flags_propagated t.flags t.glyphs; direction = w } in r) c.direction-direction.ensures,
       ),
     )
+
+pub returns-in_err-substitute_text-clause-room : goal.returns-in_err-substitute_text-clause-room
+returns-in_err-substitute_text-clause-room g c grows room fits =
+    let x = c.in_err-substitute_text.field-0.0 in
+    told_error c.from_residual.result x _ c.from_residual.ensures.1
+    (λ e. absurd (c.in_err-substitute_text.ensures.room grows room fits (passed_error x e)))

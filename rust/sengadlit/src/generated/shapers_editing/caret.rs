@@ -19,7 +19,7 @@ use crate::generated::shapers_buffer::buffer::{Direction, GlyphInfo, ShaperError
 ///
 /// # Errors
 ///
-/// [`Memory`]; the list holds some of the stops then.
+/// [`Memory`]; the list is empty then.
 ///
 /// Source: HarfBuzz's manual, "Clusters".
 ///
@@ -30,6 +30,7 @@ use crate::generated::shapers_buffer::buffer::{Direction, GlyphInfo, ShaperError
 /// ```text
 /// ensures stops { OnOk result (stops.new.items ≡ caret_stops direction glyphs.now) }
 /// ensures refusal { IsOkUnless result Memory }
+/// ensures err { OnErr result (stops.new.items ≡ []) }
 /// ```
 ///
 /// - `caret_stops`: `crates/shapers_editing/specs/Carets.antt`
@@ -43,12 +44,15 @@ pub fn caret_stops(
     stops: &mut Vec<u32>,
 ) -> Result<(), ShaperError> {
     stops.clear();
-    match direction {
-        Direction::RightToLeft | Direction::BottomToTop => push_from_start(glyphs, stops)?,
-        _ => push_from_end(glyphs, stops)?,
+    let pushed = match direction {
+        Direction::RightToLeft | Direction::BottomToTop => push_from_start(glyphs, stops),
+        _ => push_from_end(glyphs, stops),
+    };
+    if pushed.is_err() {
+        stops.clear();
     }
     stops.reverse();
-    Ok(())
+    pushed
 }
 
 // Pushes the stops of a text whose last glyph is the list's first, the last stop first.

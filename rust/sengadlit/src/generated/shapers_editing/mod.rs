@@ -7,4 +7,4 @@ mod caret;
 mod edits;
 
 pub use caret::caret_stops;
-pub use edits::{Unaffected, affected};
+pub use edits::{Edit, Unaffected, affected, affected_spans};

@@ -29,13 +29,28 @@ pub trait Lookups: GlyphClasses {
     /// </details>
     fn note(&self, glyph: &GlyphInfo) -> u32;
 
+    /// How many times as long a lookup of GSUB makes a text at most: 1 where none gets longer, and the
+    /// greatest number where no bound is known.
+    ///
+    /// <details><summary>Contract</summary>
+    ///
+    /// # Contract
+    ///
+    /// ```text
+    /// ensures { result ≡ growth_of self.now lookup.now }
+    /// ```
+    ///
+    /// </details>
+    fn growth(&self, lookup: &StageLookup) -> usize;
+
     /// Applies a lookup of GSUB to a text of glyphs without positions. It reads and writes glyphs alone. Each
     /// cluster that it leaves is one that the text had, and at the levels that merge clusters that
     /// rise along the text, or fall, still do.
     ///
     /// # Errors
     ///
-    /// Why the text couldn't become longer; nothing has changed then.
+    /// Why the text couldn't become longer; nothing has changed then. [`TooLong`] doesn't come where
+    /// the buffer has room for the text's growth.
     ///
     /// <details><summary>Contract</summary>
     ///
@@ -44,10 +59,14 @@ pub trait Lookups: GlyphClasses {
     /// ```text
     /// requires { buffer.old.positions ≡ [] }
     /// ensures ok { OnOk result (buffer.new ≡ substituted self.now lookup.now buffer.old) }
+    /// ensures room { let times = growth_of self.now lookup.now in
+    ///     length buffer.old.glyphs * times ≤ buffer.old.max_len → result ≢ Err TooLong }
     /// ensures err { OnErr result (buffer.new ≡ buffer.old) }
     /// ```
     ///
     /// </details>
+    ///
+    /// [`TooLong`]: crate::ShaperError::TooLong
     fn substitute(&self, lookup: &StageLookup, buffer: &mut Buffer) -> Result<(), ShaperError>;
 
     /// Applies a lookup of GPOS to a text of glyphs with positions. It writes these, `var` and glyph

@@ -4,6 +4,7 @@
 //! lookups with what the shaper does behind them.
 
 mod fractions;
+mod lengths;
 mod lookups;
 mod masks;
 mod plan;
@@ -15,6 +16,7 @@ mod shaping;
 mod singles;
 mod stages;
 mod substitution;
+pub use lengths::length_bound;
 pub use lookups::Lookups;
 pub use plan::{StagePlan, TextPlan};
 pub use prepare::prepare_text;

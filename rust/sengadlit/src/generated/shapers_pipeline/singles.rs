@@ -40,6 +40,11 @@ impl<'a> Lookups for SingleLookups<'a> {
         0
     }
 
+    #[inline]
+    fn growth(&self, _lookup: &StageLookup) -> usize {
+        1
+    }
+
     fn substitute(&self, lookup: &StageLookup, buffer: &mut Buffer) -> Result<(), ShaperError> {
         let end = buffer.len();
         let change = SingleChange {

@@ -17,7 +17,7 @@ use crate::generated::shapers_plan::ot_map::{Stage, StageLookup};
 /// # Errors
 ///
 /// A condition of a pause that isn't met, or the refusal of a lookup or a pause. The buffer is as
-/// it was before that one.
+/// it was before that one. [`TooLong`] doesn't come where [`max_len`] is as much as the text may grow.
 ///
 /// # Panics
 ///
@@ -43,12 +43,19 @@ use crate::generated::shapers_plan::ot_map::{Stage, StageLookup};
 ///   list = plan.now.lookups.now;
 /// } in
 ///     OnErr result (StagesStopped r plan.now.stages.now buffer.old buffer.new) }
+/// ensures room { let growth = L.growth_of lookups.now in
+///     stages_bound growth plan.now.lookups.now plan.now.stages.now (length buffer.old.glyphs)
+///     ≤ buffer.old.max_len → NotTooLong result }
 /// ensures positions { OnOk result (buffer.new.positions ≡ []) }
 /// ```
 ///
+/// - `NotTooLong`, `stages_bound`: `crates/shapers_pipeline/specs/Lengths.antt`
 /// - `StagesRun`, `StagesStopped`, `Substitution`: `crates/shapers_pipeline/specs/Stages.antt`
 ///
 /// </details>
+///
+/// [`TooLong`]: crate::ShaperError::TooLong
+/// [`max_len`]: crate::Buffer::max_len
 pub fn run_stages<F: Font, L: Lookups>(
     plan: &StagePlan,
     font: &F,
@@ -78,7 +85,7 @@ fn run_stage<F: Font, L: Lookups>(
 
 // The lookups of a stage, as far as the list goes.
 #[inline]
-fn lookups_of_stage(stage: Stage, list: &[StageLookup]) -> &[StageLookup] {
+pub(crate) fn lookups_of_stage(stage: Stage, list: &[StageLookup]) -> &[StageLookup] {
     let end = stage.end.min(list.len());
     let start = stage.start.min(end);
     &list[start..end]

@@ -17,7 +17,8 @@ use crate::generated::shapers_prepare::ot_shape_prepare::UnicodeProperties;
 ///
 /// # Errors
 ///
-/// Those of both, with the buffer as they leave it.
+/// Those of both, with the buffer as they leave it; by `pipeline_lengths_law` never [`TooLong`] with
+/// the [`max_len`] that `length_bound` tells.
 ///
 /// <details><summary>Contract</summary>
 ///
@@ -37,9 +38,14 @@ use crate::generated::shapers_prepare::ot_shape_prepare::UnicodeProperties;
 ///     let noted = text_noted (L.noted lookups.now) (text_prepared p buffer.old) in
 ///     IfErr result (λ e. IsStopped p buffer.old buffer.new e
 ///     ⊎ StagesStopped r plan.now.stages noted buffer.new) }
+/// ensures room { let growth = L.growth_of lookups.now in
+///     PreparationGrows → PreparationHasRoom →
+///     shaped_bound plan.now.shaper growth plan.now.lookups plan.now.stages
+///     (length buffer.old.glyphs) ≤ buffer.old.max_len → NotTooLong result }
 /// ensures positions { OnOk result (buffer.new.positions ≡ []) }
 /// ```
 ///
+/// - `NotTooLong`, `PreparationGrows`, `PreparationHasRoom`, `shaped_bound`: `crates/shapers_pipeline/specs/Lengths.antt`
 /// - `text_noted`: `crates/shapers_pipeline/specs/Lookups.antt`
 /// - `text_prepared`: `crates/shapers_pipeline/specs/Prepared.antt`
 /// - `IsStopped`: `crates/shapers_pipeline/specs/Refusals.antt`
@@ -47,6 +53,9 @@ use crate::generated::shapers_prepare::ot_shape_prepare::UnicodeProperties;
 /// - `preparation_by`, `substitution_by`: `crates/shapers_pipeline/specs/Substituted.antt`
 ///
 /// </details>
+///
+/// [`TooLong`]: crate::ShaperError::TooLong
+/// [`max_len`]: crate::Buffer::max_len
 pub fn substitute_text<F: NormalizeFont, T: NormalizeTables + UnicodeProperties, L: Lookups>(
     plan: &ShapePlan,
     settings: &NormalizeSettings,

@@ -1,0 +1,25 @@
+//! Carets and edits of a text that is shaped all the way.
+ghost use Rattle.shapers_editing.specs.EditedNormal.{NormalizedOutside};
+ghost use Rattle.shapers_editing.specs.ShapedCarets.{ShapedTextHasCarets};
+
+use shapers_normal::ot_shape_normalize::normalization_halves_law;
+use shapers_pipeline::pipeline_clusters_law;
+
+/// The stops of a text whose clusters rose before it was shaped, from its characters to its glyphs
+/// with positions, map the text for a caret, and each was a border of clusters before; at the levels
+/// that merge, where each pause keeps clusters rising or falling, each cluster is a stop, in the
+/// direction that the clusters run in.
+pub fn pipeline_carets_law()
+    ensures { ShapedTextHasCarets }
+{
+    pipeline_clusters_law();
+}
+
+/// What normalization makes of a text around an edit, with the later rounds in each text: the glyphs
+/// outside the edited part come out as before, where the parts may be cut. Where the rounds run as
+/// in the code they needn't: a mark at the text's end decides whether a first letter is composed.
+pub fn normalization_edits_law()
+    ensures { NormalizedOutside }
+{
+    normalization_halves_law();
+}
