@@ -224,7 +224,7 @@ pub fn affected(
     if outside > covered(before).min(covered(after)) {
         return Err(Error::argument(Argument::Range));
     }
-    let found = editing::affected(before, after, front as usize, back as usize);
+    let found = editing::affected_spans(before, after, front as usize, back as usize);
     // (these are at most what was given)
     Ok(Unaffected {
         front: found.front as u32,

@@ -4,14 +4,13 @@
 
 use crate::generated::rustybuzz_shapers::shaper::checked::CallError;
 use crate::generated::shapers_base::buffer::Buffer;
-use crate::generated::shapers_base::font::Font;
 use crate::generated::shapers_normalize::{NormalizeFont, NormalizeTables};
 use crate::generated::shapers_pipeline::lookups::Lookups;
 use crate::generated::shapers_pipeline::positions::position_text;
 use crate::generated::shapers_pipeline::settings::ShapeSettings;
 use crate::generated::shapers_pipeline::substitution::substitute_text;
 use crate::generated::shapers_plan::ot_shape_plan::ShapePlan;
-use crate::generated::shapers_position::ot_shape_position::propagate_flags;
+use crate::generated::shapers_position::ot_shape_position::{MetricsFont, propagate_flags};
 use crate::generated::shapers_prepare::ot_shape_prepare::UnicodeProperties;
 
 /// Shapes a text, in HarfBuzz's order: its characters become glyphs, which lookups substitute;
@@ -19,7 +18,7 @@ use crate::generated::shapers_prepare::ot_shape_prepare::UnicodeProperties;
 /// hidden, Arabic marks stretch, and the glyph flags of each cluster are spread over it. The
 /// direction of the buffer is then the one that it had.
 ///
-/// Positions are those of horizontal text. Marks that GPOS doesn't place stay where they are.
+/// Without GPOS no mark is placed by its class, as HarfBuzz places some.
 ///
 /// # Errors
 ///
@@ -38,7 +37,7 @@ use crate::generated::shapers_prepare::ot_shape_prepare::UnicodeProperties;
 ///     (F.variants font.now) (T.properties tables.now) (T.tables tables.now)
 ///     (T.texts tables.now) in
 ///     let r = substitution_by plan.now (F.font font.now) (L.substituted lookups.now) in
-///     let q = positioning_by plan.now settings.now (F.font font.now)
+///     let q = positioning_by plan.now settings.now (F.font font.now) (F.metrics font.now)
 ///     (L.marks lookups.now) (L.positioned lookups.now) (L.finished lookups.now) in
 ///     let noted = text_noted (L.noted lookups.now) (text_prepared p buffer.old) in
 ///     OnOk result ((mid : Buffer) × (StagesRun r plan.now.stages noted mid
@@ -47,7 +46,7 @@ use crate::generated::shapers_prepare::ot_shape_prepare::UnicodeProperties;
 ///     (F.variants font.now) (T.properties tables.now) (T.tables tables.now)
 ///     (T.texts tables.now) in
 ///     let r = substitution_by plan.now (F.font font.now) (L.substituted lookups.now) in
-///     let q = positioning_by plan.now settings.now (F.font font.now)
+///     let q = positioning_by plan.now settings.now (F.font font.now) (F.metrics font.now)
 ///     (L.marks lookups.now) (L.positioned lookups.now) (L.finished lookups.now) in
 ///     let noted = text_noted (L.noted lookups.now) (text_prepared p buffer.old) in
 ///     IfErr result (λ e. IsStopped p buffer.old buffer.new e
@@ -84,7 +83,7 @@ use crate::generated::shapers_prepare::ot_shape_prepare::UnicodeProperties;
 /// [`Memory`]: crate::ShaperError::Memory
 /// [`TooLong`]: crate::ShaperError::TooLong
 /// [`max_len`]: crate::Buffer::max_len
-pub fn shape<F: NormalizeFont, T: NormalizeTables + UnicodeProperties, L: Lookups>(
+pub fn shape<F: NormalizeFont + MetricsFont, T: NormalizeTables + UnicodeProperties, L: Lookups>(
     plan: &ShapePlan,
     settings: &ShapeSettings,
     font: &F,
@@ -101,7 +100,7 @@ pub fn shape<F: NormalizeFont, T: NormalizeTables + UnicodeProperties, L: Lookup
 }
 
 // Gives glyphs positions, and stretches marks.
-fn finish_text<F: Font, L: Lookups>(
+fn finish_text<F: MetricsFont, L: Lookups>(
     plan: &ShapePlan,
     settings: &ShapeSettings,
     font: &F,

@@ -9,7 +9,9 @@ use sengadlit::buffer::{GlyphInfo, Span};
 use sengadlit::ot_shape::TextPlan;
 use sengadlit::plan::Plan;
 use sengadlit::shaper::checked::{CallError, Condition};
-use sengadlit::shaper::{Pause, Preprocess, Shaper, pause_fits, run_pause};
+use sengadlit::shaper::{
+    Composition, Decomposition, HookOutcome, Pause, Preprocess, Shaper, pause_fits, run_pause,
+};
 
 // The conditions of calls.
 const SHAPER: Expected = Expected::Condition("a line `set shaper` before it");
@@ -90,16 +92,16 @@ impl Session {
         check(shaper.glyphs_fit(plan, &self.buffer), CHARACTERS)?;
         check(auxiliary_bytes_fit(shaper, self.buffer.glyphs()), JAMO)?;
         let (font, tables) = (&self.settings.font, &self.settings.tables);
-        let answer = shaper.setup_masks(plan, font, tables, &mut self.buffer);
-        self.answer_if_absent(answer)
+        let outcome = shaper.setup_masks(plan, font, tables, &mut self.buffer);
+        self.answer_if_absent(outcome)
     }
 
     // The hook after positioning.
     fn postprocess(&mut self, shaper: Shaper, plan: &Plan) -> Result<(), LineFault> {
         check(self.buffer.positions_len() == self.buffer.len(), POSITIONS)?;
         check(shaper.postprocess_fits(plan, &self.buffer), GLYPH_NUMBERS)?;
-        let answer = shaper.postprocess_glyphs(plan, &self.settings.font, &mut self.buffer)?;
-        self.answer_if_absent(answer)
+        let outcome = shaper.postprocess_glyphs(plan, &self.settings.font, &mut self.buffer)?;
+        self.answer_if_absent(outcome)
     }
 
     // The hook that reorders the marks from `start` to `end`.
@@ -113,28 +115,28 @@ impl Session {
         self.check_no_positions()?;
         check(start <= end && end <= self.buffer.len(), PLACES)?;
         check(shaper.marks_fit(start, end), MARKS)?;
-        let answer = shaper.reorder_marks(plan, &mut self.buffer, start, end);
-        self.answer_if_absent(answer)
+        let outcome = shaper.reorder_marks(plan, &mut self.buffer, start, end);
+        self.answer_if_absent(outcome)
     }
 
     // The hook that composes two characters.
     fn compose(&mut self, shaper: Shaper, plan: &Plan, a: char, b: char) -> Result<(), LineFault> {
         match shaper.compose(plan, &self.settings.tables, a, b) {
-            Some(Some(ab)) => Ok(writeln!(self.answers, "{:04x}", u32::from(ab))?),
-            Some(None) => self.answer("none"),
-            None => self.answer("absent"),
+            Composition::Whole(ab) => Ok(writeln!(self.answers, "{:04x}", u32::from(ab))?),
+            Composition::Apart => self.answer("none"),
+            Composition::NoHook => self.answer("absent"),
         }
     }
 
     // The hook that decomposes a character.
     fn decompose(&mut self, shaper: Shaper, plan: &Plan, ab: char) -> Result<(), LineFault> {
         match shaper.decompose(plan, &self.settings.tables, ab) {
-            Some(Some((a, b))) => {
+            Decomposition::Parts(a, b) => {
                 writeln!(self.answers, "{:04x} {:04x}", u32::from(a), u32::from(b))?;
                 Ok(())
             }
-            Some(None) => self.answer("none"),
-            None => self.answer("absent"),
+            Decomposition::Whole => self.answer("none"),
+            Decomposition::NoHook => self.answer("absent"),
         }
     }
 
@@ -158,10 +160,10 @@ impl Session {
     }
 
     // Prints that a hook is absent, where it is.
-    fn answer_if_absent(&mut self, answer: Option<()>) -> Result<(), LineFault> {
-        match answer {
-            Some(()) => Ok(()),
-            None => self.answer("absent"),
+    fn answer_if_absent(&mut self, outcome: HookOutcome) -> Result<(), LineFault> {
+        match outcome {
+            HookOutcome::Done => Ok(()),
+            HookOutcome::NoHook => self.answer("absent"),
         }
     }
 
