@@ -10,3 +10,12 @@ pub mod MergedHalves
 pub mod MarkBreaks
 mod MarkBreakRows
 pub mod KeptFlags
+pub mod Keepers
+pub mod KeptFlagsInside
+pub mod ApartPieces
+pub mod KeptBorders
+pub mod TextBreaks
+pub mod IndicSteps
+pub mod IndicBreaks
+mod IndicBreakRows
+pub mod ChainBreaks

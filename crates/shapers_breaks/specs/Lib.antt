@@ -4,3 +4,6 @@ pub mod PauseBreaks
 pub mod ScriptBreaks
 pub mod MarkBreaks
 pub mod KeptFlags
+pub mod TextBreaks
+pub mod IndicBreaks
+pub mod ChainBreaks
