@@ -37,18 +37,18 @@ apart_rest q qs apart k i j il jl same =
     apart (suc k) (length q + i) j (omega (arith, length-append q xs)) jl (there ∙ same)
 
 -- the steps of each piece of a text
-abbrev pub piece_steps : (List hb_glyph_info_t → List Step) → List (List hb_glyph_info_t) → List (ℕ × List Step)
-piece_steps steps pieces = map (λ q. (length q, steps (order_view q))) pieces
+abbrev pub steps_by_piece : (List hb_glyph_info_t → List Step) → List (List hb_glyph_info_t) → List (ℕ × List Step)
+steps_by_piece steps pieces = map (λ q. (length q, steps (order_view q))) pieces
 
 sum_pieces : (steps : List hb_glyph_info_t → List Step) (pieces : List (List hb_glyph_info_t)) → sum_by
-    (λ piece. piece.0) (piece_steps steps pieces) ≡ length (flat_map (λ q. q) pieces)
+    (λ piece. piece.0) (steps_by_piece steps pieces) ≡ length (flat_map (λ q. q) pieces)
 sum_pieces steps [] = refl
-sum_pieces steps (q ∷ qs) = sum_by-cons (λ piece. piece.0) (length q, steps (order_view q)) (piece_steps steps qs)
+sum_pieces steps (q ∷ qs) = sum_by-cons (λ piece. piece.0) (length q, steps (order_view q)) (steps_by_piece steps qs)
     ∙ ap (λ k. length q + k) (sum_pieces steps qs) ∙ sym (length-append q (flat_map (λ q. q) qs))
 
 fit_pieces : (steps : List hb_glyph_info_t → List Step) → ((gs : List hb_glyph_info_t) → FitSteps (length gs) (steps gs))
     → (pieces : List (List hb_glyph_info_t)) → AllByRecursion (λ piece. FitSteps piece.0 piece.1)
-    (piece_steps steps pieces)
+    (steps_by_piece steps pieces)
 fit_pieces steps fits [] = tt
 fit_pieces steps fits (q ∷ qs) = (
   subst (λ n. FitSteps n (steps (order_view q))) (length-map q plain) (fits (order_view q)),
@@ -73,7 +73,7 @@ one_piece level xs q fits =
 pub run_apart : (steps : List hb_glyph_info_t → List Step) → ((gs : List hb_glyph_info_t)
     → FitSteps (length gs) (steps gs)) → (level : BufferClusterLevel) (pieces : List (List hb_glyph_info_t))
     → ApartAtBorders pieces → let all = flat_map (λ q. q) pieces in
-    run_steps level (steps_along (length all) 0 (piece_steps steps pieces)) all ≡ flat_map
+    run_steps level (steps_along (length all) 0 (steps_by_piece steps pieces)) all ≡ flat_map
     (λ q. run_steps level (steps (order_view q)) q) pieces
 run_apart steps fits level [] apart = refl
 run_apart steps fits level (q ∷ qs) apart =
@@ -82,7 +82,7 @@ run_apart steps fits level (q ∷ qs) apart =
     let xs = steps (order_view q) in
     let own : FitSteps (length q) xs = subst (λ n. FitSteps n xs) (length-map q plain) (fits (order_view q)) in
     let one : List (ℕ × List Step) = (length q, xs) ∷ [] in
-    let more = piece_steps steps qs in
+    let more = steps_by_piece steps qs in
     let sum : sum_by (λ piece. piece.0) one ≡ length q = omega arith in
     ap (λ n. run_steps level (steps_along n 0 (one ++ more)) (q ++ rest)) (length-append q rest)
     ∙ halves_hold level one more q rest sum (sum_pieces steps qs) (own, tt) (fit_pieces steps fits qs)
@@ -92,7 +92,7 @@ run_apart steps fits level (q ∷ qs) apart =
 
 -- and of a text cut into its syllables
 steps_of_pieces : (steps : List hb_glyph_info_t → List Step) (pieces : List (List hb_glyph_info_t)) → map
-    (λ syl. (length syl, steps syl)) (map order_view pieces) ≡ piece_steps steps pieces
+    (λ syl. (length syl, steps syl)) (map order_view pieces) ≡ steps_by_piece steps pieces
 steps_of_pieces steps [] = refl
 steps_of_pieces steps (q ∷ qs) = ap (λ (n : ℕ). (n, steps (order_view q)) ∷ map (λ syl. (length syl, steps syl))
     (map order_view qs)) (length-map q plain) ∙ ap (λ l. (length q, steps (order_view q)) ∷ l) (steps_of_pieces steps qs)
@@ -106,9 +106,9 @@ text_apart steps fits level gs apart =
     let is = joined-syllables gs in
     let along : List (ℕ × List Step) → ℕ → List hb_glyph_info_t → List hb_glyph_info_t = λ ps n xs. run_steps level
     (steps_along n 0 ps) xs in
-    let cut : map (λ syl. (length syl, steps syl)) (syllables (order_view gs)) ≡ piece_steps steps (syllables gs) = ap
+    let cut : map (λ syl. (length syl, steps syl)) (syllables (order_view gs)) ≡ steps_by_piece steps (syllables gs) = ap
     (map (λ syl. (length syl, steps syl))) (syllables-viewed plain (λ g. refl) gs) ∙ steps_of_pieces steps (syllables gs) in
     ap (λ n. along (map (λ syl. (length syl, steps syl)) (syllables (order_view gs))) n gs) (length-map gs plain)
     ∙ ap (λ ps. along ps (length gs) gs) cut
-    ∙ ap (λ xs. along (piece_steps steps (syllables gs)) (length xs) xs) (sym is)
+    ∙ ap (λ xs. along (steps_by_piece steps (syllables gs)) (length xs) xs) (sym is)
     ∙ run_apart steps fits level (syllables gs) apart

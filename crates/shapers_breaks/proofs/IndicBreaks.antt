@@ -66,9 +66,9 @@ cut_apart spans old gs k mono part long text = halves_apart spans old text.n mon
 })
 
 -- the initial reordering keeps flags
-keeps : OrderByFontLaws → (font : Font) (m : Map) (p : indic_shape_plan_t) (script : Option Script)
+flags_kept : OrderByFontLaws → (font : Font) (m : Map) (p : indic_shape_plan_t) (script : Option Script)
     (level : BufferClusterLevel) → KeepFlags (JoinerShares script) level (steps_by_font font m p script)
-keeps laws font m p script level least piece good all = initial_keeps font m p script level (LeastOrFlagged least) piece good
+flags_kept laws font m p script level least piece good all = initial_keeps font m p script level (LeastOrFlagged least) piece good
     (subst (λ n. FitSteps n (steps_by_font font m p script (order_view piece))) (length-map piece plain)
     ((laws font m p script).fits (order_view piece))) all
 
@@ -79,7 +79,7 @@ initial_text_breaks laws plan font unread old new m kept apart joiners done p z 
     let gs = old.glyphs in
     let pieces = apart_pieces gs apart in
     let border = kept_border (JoinerShares old.script) old.level r.steps law.fits
-    (keeps laws font plan.ot_map (indic_in plan) old.script old.level) r.circles gs new.glyphs
+    (flags_kept laws font plan.ot_map (indic_in plan) old.script old.level) r.circles gs new.glyphs
     (all_whole (syllables gs) kept) pieces joiners done.0.moved p z l clear in
     broken_there r.order r.steps law r.circles old new done.0 p border (pieces border.count)
 
@@ -104,7 +104,7 @@ initial_pauses_break laws reads plan font spans unread old mid new can part join
     let shares : AllByRecursion (JoinerShares mid.script) (syllables (circled circles bare)) =
     subst (λ (b : Buffer). AllByRecursion (JoinerShares mid.script) (syllables (circled circles b.glyphs))) set_up joiners in
     let border = kept_border (JoinerShares mid.script) old.level by.steps law.fits
-    (keeps laws font plan.ot_map indic mid.script old.level) circles bare new.glyphs under.whole apart shares done.moved
+    (flags_kept laws font plan.ot_map indic mid.script old.level) circles bare new.glyphs under.whole apart shares done.moved
     p z l clear in
     let k = border.count in
     let t = cut k in

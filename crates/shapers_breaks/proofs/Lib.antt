@@ -19,3 +19,4 @@ pub mod IndicSteps
 pub mod IndicBreaks
 mod IndicBreakRows
 pub mod ChainBreaks
+mod ChainBreakRows

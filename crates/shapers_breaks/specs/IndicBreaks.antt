@@ -53,7 +53,8 @@ InitialPausesBreak = (plan : hb_ot_shape_plan_t) (font : Font) (spans unread : L
 -- share no cluster.
 abbrev pub InitialTextBreaks : Type 0
 InitialTextBreaks = (plan : hb_ot_shape_plan_t) (font : Font) (unread : List Span)
-    (old new : Buffer) → merges old.level ≡ true → FlagsKept old.glyphs → SyllablesApart old.glyphs →
+    (old new : Buffer) → merges old.level ≡ true → FlagsKept old.glyphs →
+    SyllablesApart old.glyphs →
     let r = by_initial plan font old in
     JoinersShare r old →
     Paused InitialReordering plan font unread old new →
