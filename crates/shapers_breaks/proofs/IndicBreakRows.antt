@@ -1,6 +1,6 @@
 -- Clear places after Indic's initial reordering, and what its laws require, written out from the rules.
 use Prim.Native.String.{String}
-use Rattle.std.proofs.Common.{ℕ, ◌<◌, ◌≡◌, false, List, [], ◌∷◌, map, refl, sym, arith}
+use Rattle.std.proofs.Common.{ℕ, ◌<◌, ◌≡◌, false, List, [], ◌∷◌, ◌++◌, length, map, refl, sym, arith}
 use Rattle.std.proofs.lemmas.Bool.{false≢true}
 use Rattle.std.proofs.lemmas.List.Elements.{All-cons, All-head, All-nil, All-tail}
 use Rattle.shapers_buffer.specs.declared.buffer.glyph.hb_glyph_info_t.{hb_glyph_info_t}
@@ -12,10 +12,13 @@ use Rattle.shapers_clusters.specs.Breaks.{IsClear}
 use Rattle.shapers_clusters.specs.Steps.{run_steps}
 use Rattle.shapers_indic.specs.Plan.{config_of}
 use Rattle.shapers_indic.proofs.RowWords.{C, H, M, Ra, SM, ZWJ, script}
+use Rattle.shapers_indic_final.proofs.FinalWords.{rules as final_of}
+use Rattle.shapers_indic_final.specs.FinalMatras.{parting_steps}
 use Rattle.shapers_indic_initial.specs.InitialReordering.{initial_steps}
 use Rattle.shapers_indic_initial.specs.InitialRules.{Rules}
 use Rattle.shapers_syllabic.specs.Reordering.{text_steps}
 use Rattle.shapers_syllabic.specs.Syllabic.{unsafe_spans}
+use Rattle.shapers_breaks.specs.FinalBreaks.{OneMatraMoves}
 use Rattle.shapers_breaks.specs.IndicBreaks.{JoinerShares, SpansPartClusters}
 use Rattle.shapers_breaks.specs.SetUp.{IsFlagged}
 use Rattle.shapers_breaks.specs.TextBreaks.{FlaggedInside}
@@ -134,3 +137,37 @@ row_one_bit all =
     let rest = All-tail P (typed 1 C 4) (record (typed 2 M 2) { mask = 1 } ∷ []) all in
     let flags = All-head P (record (typed 2 M 2) { mask = 1 }) [] rest (omega arith) in
     absurd (omega (arith, flags.1))
+
+-- The final reordering: two left matras before C H and C, as the initial one leaves them, of clusters 0 2 2 2 1. The
+-- first to move takes C H along as it falls to 1, the second parts them from the last C, whose flag kept cluster 1
+-- unsafe: place 2 is clear. One left matra parts nothing that lost its flag
+kept_one : List hb_glyph_info_t
+kept_one = typed 0 M 2 ∷ record (typed 2 C 3) { mask = 3 } ∷ record (typed 2 H 3) { mask = 3 }
+    ∷ record (typed 1 C 4) { mask = 3 } ∷ []
+
+kept_two : List hb_glyph_info_t
+kept_two = typed 0 M 2 ∷ record (typed 2 M 2) { mask = 3 } ∷ record (typed 2 C 3) { mask = 3 }
+    ∷ record (typed 2 H 3) { mask = 3 } ∷ record (typed 1 C 4) { mask = 3 } ∷ []
+
+row_one_matra : pairs (run_steps MonotoneGraphemes (parting_steps 2 4 kept_one) kept_one)
+    ≡ (2, 3) ∷ (2, 3) ∷ (0, 0) ∷ (0, 0) ∷ []
+unfolding typed pairs kept_one
+row_one_matra = refl
+
+row_two_matras : pairs (run_steps MonotoneGraphemes (parting_steps 3 5 kept_two) kept_two)
+    ≡ (1, 0) ∷ (1, 0) ∷ (0, 0) ∷ (0, 0) ∷ (0, 0) ∷ []
+unfolding typed pairs kept_two
+row_two_matras = refl
+
+row_both_move : map (λ gs. length (parting_steps 2 4 gs)) (kept_one ∷ []) ++ map (λ gs. length (parting_steps 3 5 gs))
+    (kept_two ∷ []) ≡ 1 ∷ 2 ∷ []
+unfolding typed kept_one kept_two
+row_both_move = refl
+
+row_moves_one : OneMatraMoves (final_of "Deva") (script "Deva") kept_one
+unfolding typed kept_one
+row_moves_one = omega arith
+
+row_moves_two : OneMatraMoves (final_of "Deva") (script "Deva") kept_two → ⊥
+unfolding typed kept_two
+row_moves_two h = absurd (omega (arith, h))

@@ -93,7 +93,7 @@ abbrev pub KeepFlags : (Glyphs → Type 0) → BufferClusterLevel → (Glyphs �
 KeepFlags Good level steps = (m : ℕ) (piece : Glyphs) → Good piece → AllAt (LeastOrFlagged m) piece → HaveKeepers
     (LeastOrFlagged m) (run_steps level (steps (order_view piece)) piece)
 
-all_kept : (Good : Glyphs → Type 0) (level : BufferClusterLevel) (steps : Glyphs → List Step)
+pub all_kept : (Good : Glyphs → Type 0) (level : BufferClusterLevel) (steps : Glyphs → List Step)
     → KeepFlags Good level steps → (pieces : List Glyphs) → AllByRecursion IsWhole pieces → AllByRecursion Good pieces
     → AllByRecursion GreaterKept (map (λ q. run_steps level (steps (order_view q)) q) pieces)
 all_kept Good level steps keep [] whole good = tt
@@ -104,7 +104,7 @@ all_kept Good level steps keep (q ∷ qs) whole good = (
 )
 
 -- steps keep the length
-length_run : (steps : Glyphs → List Step) → ((gs : Glyphs) → FitSteps (length gs) (steps gs)) →
+pub length_run : (steps : Glyphs → List Step) → ((gs : Glyphs) → FitSteps (length gs) (steps gs)) →
     (level : BufferClusterLevel) (pieces : List Glyphs) → length
     (flat_map (λ q. run_steps level (steps (order_view q)) q) pieces) ≡ length (flat_map (λ q. q) pieces)
 length_run steps fits level [] = refl

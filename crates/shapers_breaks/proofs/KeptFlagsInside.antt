@@ -162,14 +162,16 @@ same_at xs ys same k a b =
     (ap (λ (g : hb_glyph_info_t). g.cluster) each, ap (λ (g : hb_glyph_info_t). g.mask) each)
 
 -- so a clear place is a border of pieces
-pub clear_at_border : (pieces : List (List hb_glyph_info_t)) → AllByRecursion GreaterKept pieces →
-    (new : List hb_glyph_info_t) → map carried new ≡ map carried (flat_map (λ piece. piece) pieces) → (p : ℕ) → 0 < p
-    → p < length new → IsClear new p → PieceBorder pieces p
-clear_at_border pieces kept new same p z l clear =
+pub clear_at_border_by : (pieces : List (List hb_glyph_info_t)) → AllByRecursion GreaterKept pieces →
+    (new : List hb_glyph_info_t) → let all = flat_map (λ piece. piece) pieces in
+    length new ≡ length all → ((k : ℕ) → k < length all → cluster_of new k ≡ cluster_of all k) →
+    ((k : ℕ) → k < length all → IsFlagged (get_or all k default_glyph)
+    → bit_at 0 (get_or new k default_glyph).mask ≡ 1) → (p : ℕ) → 0 < p → p < length new → IsClear new p
+    → PieceBorder pieces p
+clear_at_border_by pieces kept new long same flagged p z l clear =
     let all = flat_map (λ piece. piece) pieces in
-    let long : length new ≡ length all = sym (length-map new carried) ∙ ap length same ∙ length-map all carried in
-    let (a, am) = same_at new all same (p - 1) (omega arith) (omega arith) in
-    let (b, bm) = same_at new all same p l (omega arith) in
+    let a = same (p - 1) (omega arith) in
+    let b = same p (omega arith) in
     let x = cluster_at new (p - 1) (omega arith) in
     let y = cluster_at new p l in
     elim (border_or_greater pieces kept p z (omega arith) (λ e. clear.differ (x ∙ a ∙ e ∙ sym b ∙ sym y))) [
@@ -178,11 +180,21 @@ clear_at_border pieces kept new same p z l clear =
           let k = there.at in
           let kw = there.within in
           let kl : k < length new = omega arith in
-          let (c, cm) = same_at new all same k kl kw in
+          let c = same k kw in
           let is = there.is in
           let g = get_or new k default_glyph in
           let own : g.cluster ≡ greater new p = omega (arith, c, is, a, b, x, y) in
-          let bad : bit_at 0 g.mask ≡ 1 = bits_same (get_or all k default_glyph).mask g.mask cm there.flags.0 in
+          let bad : bit_at 0 g.mask ≡ 1 = flagged k kw there.flags in
           absurd (both_ways _ clear.unflagged (list_any_at (λ g. g.cluster == greater new p && is_unsafe g) new k
           default_glyph kl (and_from _ _ (eq-eqb _ _ own) (or_left _ _ (eq-eqb _ _ bad)))))
     ]
+
+pub clear_at_border : (pieces : List (List hb_glyph_info_t)) → AllByRecursion GreaterKept pieces →
+    (new : List hb_glyph_info_t) → map carried new ≡ map carried (flat_map (λ piece. piece) pieces) → (p : ℕ) → 0 < p
+    → p < length new → IsClear new p → PieceBorder pieces p
+clear_at_border pieces kept new same p z l clear =
+    let all = flat_map (λ piece. piece) pieces in
+    let long : length new ≡ length all = sym (length-map new carried) ∙ ap length same ∙ length-map all carried in
+    clear_at_border_by pieces kept new long (λ k kl. (same_at new all same k (omega arith) kl).0)
+    (λ k kl flags. bits_same (get_or all k default_glyph).mask (get_or new k default_glyph).mask
+    (same_at new all same k (omega arith) kl).1 flags.0) p z l clear

@@ -20,3 +20,5 @@ pub mod IndicBreaks
 mod IndicBreakRows
 pub mod ChainBreaks
 mod ChainBreakRows
+pub mod KeptInside
+pub mod FinalBreaks

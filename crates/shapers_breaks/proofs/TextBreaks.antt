@@ -1,5 +1,5 @@
 -- A text that kept its flags may be broken at every clear place of what a pause makes of it.
-use Rattle.std.proofs.Common.{ℕ, ◌-◌, ◌<◌, ◌≤◌, ◌≡◌, ◌≢◌, List, [], ◌∷◌, ◌++◌, length, take, drop, get_or, sym, ap, ◌∙◌, subst, arith, inl, inr, length-append}
+use Rattle.std.proofs.Common.{ℕ, ◌-◌, ◌<◌, ◌≤◌, ◌≡◌, ◌≢◌, true, List, [], ◌∷◌, ◌++◌, length, take, drop, get_or, sym, ap, ◌∙◌, subst, arith, inl, inr, length-append}
 use Rattle.std.specs.Prelude.{Option}
 use Rattle.std.specs.List.{AllByRecursion, flat_map}
 use Rattle.std.proofs.lemmas.Bool.{cases_lt}
@@ -7,24 +7,27 @@ use Rattle.std.proofs.lemmas.List.{get_or-map, length-map, map-append, take-appe
 use Rattle.std.proofs.lemmas.List.Concat.{flat_map-append}
 use Rattle.std.proofs.lemmas.List.Elements.{All-from_get_or, All-get_or}
 use Rattle.shapers_buffer.specs.declared.buffer.glyph.hb_glyph_info_t.{hb_glyph_info_t}
+use Rattle.shapers_buffer.specs.declared.buffer.level.BufferClusterLevel.{BufferClusterLevel}
 use Rattle.shapers_buffer.specs.Buffer.{Buffer}
-use Rattle.shapers_buffer.specs.Clusters.{least}
-use Rattle.shapers_buffer.specs.Glyph.{clusters, default_glyph}
+use Rattle.shapers_buffer.specs.Clusters.{least, merges}
+use Rattle.shapers_buffer.specs.Glyph.{clusters, default_glyph, order_view, plain}
 use Rattle.shapers_buffer.specs.Syllables.{syllables}
 use Rattle.shapers_clusters.specs.Cuts.{IsMonotone, ShareNone}
-use Rattle.shapers_clusters.specs.Steps.{Step}
+use Rattle.shapers_clusters.specs.Steps.{MovesMerged, Permutes, Step}
 use Rattle.shapers_clusters.proofs.ClusterMerges.{least-le}
 use Rattle.shapers_syllabic.specs.Circles.{circled}
 use Rattle.shapers_syllabic.specs.Reordering.{PauseReordered}
-use Rattle.shapers_syllabic.specs.ReorderingLaws.{ReorderLaws}
+use Rattle.shapers_syllabic.specs.ReorderingLaws.{MoveMerged, ReorderLaws}
 use Rattle.shapers_syllabic.specs.declared.ot_shaper_syllabic.circles.DottedCircles.{DottedCircles}
 use Rattle.shapers_syllabic.proofs.ReorderingCuts.{cuts_at_borders}
 use Rattle.shapers_breaks.specs.SetUp.{IsFlagged}
-use Rattle.shapers_breaks.specs.TextBreaks.{FlaggedInside, SyllablesApart, TextBreaksLaw, TextBroken}
+use Rattle.shapers_breaks.specs.TextBreaks.{FlaggedInside, SyllablesApart, TextBreaksApartLaw, TextBreaksLaw, TextBroken}
 use Rattle.shapers_breaks.proofs.ApartPieces.{ApartAtBorders}
 use Rattle.shapers_breaks.proofs.CircledBorders.{OpenedBorder, apart_at, circled_is, length-paused, opened_piece, reordered_border}
 use Rattle.shapers_breaks.proofs.Guarded.{IsWhole, LeastOrFlagged}
-use Rattle.shapers_breaks.proofs.KeptBorders.{syllable_cut}
+use Rattle.shapers_breaks.proofs.Keepers.{own_keepers}
+use Rattle.shapers_breaks.proofs.KeptBorders.{KeepFlags, kept_border, syllable_cut}
+use Rattle.shapers_breaks.proofs.KeptInside.{keepers_inside}
 use Rattle.shapers_breaks.proofs.PauseBreaks.{apart_erased, length-moved}
 use Rattle.shapers_breaks.proofs.SetUp.{Glyphs}
 
@@ -117,3 +120,27 @@ text_breaks meaning steps laws inside circles old new m kept mono done p z l cle
     (all_whole (syllables gs) kept) mono done.moved p z l clear long in
     broken_there meaning steps laws circles old new done p border
     (apart_where_clear circles gs p border mono (omega arith) z was.differ)
+
+-- where syllables share no cluster, whatever the clusters are
+any_piece : (pieces : List Glyphs) → AllByRecursion (λ q. Unit {0}) pieces
+any_piece [] = tt
+any_piece (q ∷ qs) = (tt, any_piece qs)
+
+moves_keep : (meaning : Glyphs → Glyphs) (steps : Glyphs → List Step) → ReorderLaws meaning steps → MoveMerged steps →
+    (level : BufferClusterLevel) → merges level ≡ true → KeepFlags (λ q. Unit {0}) level steps
+moves_keep meaning steps laws inside level m least piece good all =
+    let xs = order_view piece in
+    let same : length xs ≡ length piece = length-map piece plain in
+    keepers_inside (LeastOrFlagged least) level m (steps xs) piece
+    (subst (λ k. AllByRecursion (MovesMerged k) (steps xs)) same (inside xs))
+    (subst (λ k. AllByRecursion (Permutes k) (steps xs)) same (laws.permutes xs))
+    (own_keepers (LeastOrFlagged least) piece all)
+
+pub text_breaks_apart : TextBreaksApartLaw
+text_breaks_apart meaning steps laws inside circles old new m kept apart done p z l clear =
+    let gs = old.glyphs in
+    let pieces = apart_pieces gs apart in
+    let border = kept_border (λ q. Unit {0}) old.level steps laws.fits
+    (moves_keep meaning steps laws inside old.level m) circles gs new.glyphs (all_whole (syllables gs) kept) pieces
+    (any_piece (syllables (circled circles gs))) done.moved p z l clear in
+    broken_there meaning steps laws circles old new done p border (pieces border.count)

@@ -7,3 +7,4 @@ pub mod KeptFlags
 pub mod TextBreaks
 pub mod IndicBreaks
 pub mod ChainBreaks
+pub mod FinalBreaks

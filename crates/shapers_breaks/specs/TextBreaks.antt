@@ -63,3 +63,12 @@ TextBreaksLaw = (meaning : List hb_glyph_info_t → List hb_glyph_info_t)
     FlagsKept old.glyphs → IsMonotone (clusters (circled circles old.glyphs)) →
     PauseReordered circles meaning steps old new →
     TextBreaks circles meaning steps old.level old.glyphs new.glyphs
+
+-- The same, whatever the clusters and the circles, where syllables share no cluster.
+abbrev pub TextBreaksApartLaw : Type 0
+TextBreaksApartLaw = (meaning : List hb_glyph_info_t → List hb_glyph_info_t)
+    (steps : List hb_glyph_info_t → List Step) → ReorderLaws meaning steps → MoveMerged steps →
+    (circles : Option DottedCircles) (old new : Buffer) → merges old.level ≡ true →
+    FlagsKept old.glyphs → SyllablesApart old.glyphs →
+    PauseReordered circles meaning steps old new →
+    TextBreaks circles meaning steps old.level old.glyphs new.glyphs

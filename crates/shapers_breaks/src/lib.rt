@@ -6,14 +6,16 @@ ghost use Rattle.rustybuzz_shapers.specs.Pauses.{by_khmer, by_myanmar};
 ghost use Rattle.shapers_base.specs.declared.plan.pause.Pause.TheVariants.{ReorderKhmer, ReorderMyanmar, SetupSyllablesKhmer, SetupSyllablesMyanmar};
 ghost use Rattle.shapers_breaks.specs.ChainBreaks.{ChainBreaksBy, InitialChainBreaks};
 ghost use Rattle.shapers_breaks.specs.ClearSteps.{ClearBeforeLaw};
+ghost use Rattle.shapers_breaks.specs.FinalBreaks.{FinalTextBreaks};
 ghost use Rattle.shapers_breaks.specs.IndicBreaks.{InitialPausesBreak, InitialTextBreaks};
 ghost use Rattle.shapers_breaks.specs.KeptFlags.{AddedFlagsClearNone, PausesClearNone};
 ghost use Rattle.shapers_breaks.specs.MarkBreaks.{MarksBreakLaw};
 ghost use Rattle.shapers_breaks.specs.PauseBreaks.{PausesBreakLaw};
 ghost use Rattle.shapers_breaks.specs.ScriptBreaks.{MyanmarHasNoRepha, PausesBreakBy, UniversalPausesBreak};
 ghost use Rattle.shapers_breaks.specs.SetUp.{SetUpBreaksLaw};
-ghost use Rattle.shapers_breaks.specs.TextBreaks.{TextBreaksLaw};
+ghost use Rattle.shapers_breaks.specs.TextBreaks.{TextBreaksApartLaw, TextBreaksLaw};
 
+use shapers_indic_final::ot_shaper_indic_final::laws::{final_reorder_laws, final_text_laws};
 use shapers_indic_initial::ot_shaper_indic_initial::laws::{
     initial_reorder_laws, order_by_font_reads_no_serials,
 };
@@ -77,9 +79,10 @@ pub fn kept_flags_law()
 
 /// A pause that moves only inside what it merged may be broken at every clear place of what it makes
 /// of a text, whatever made the text what it is: where syllables kept the flags that forbid a break
-/// inside them, and clusters rise or fall, at the levels that merge.
+/// inside them, and clusters rise or fall, or syllables share none, at the levels that merge.
 pub fn text_breaks_law()
-    ensures { TextBreaksLaw }
+    ensures monotone { TextBreaksLaw }
+    ensures apart { TextBreaksApartLaw }
 {}
 
 /// Where each border of spans is one of clusters, the set-up and the initial reordering of Indic may
@@ -107,4 +110,13 @@ pub fn chain_breaks_law()
     myanmar_reads_no_serials();
     initial_reorder_laws();
     order_by_font_reads_no_serials();
+}
+
+/// The final reordering of Indic may be broken at every clear place, of any text whose syllables
+/// kept their flags and share no cluster, where in each syllable at most one left matra moves.
+pub fn final_breaks_law()
+    ensures { FinalTextBreaks }
+{
+    final_reorder_laws();
+    final_text_laws();
 }

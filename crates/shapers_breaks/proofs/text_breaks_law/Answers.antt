@@ -1,5 +1,8 @@
-use Rattle.shapers_breaks.proofs.TextBreaks.{text_breaks}
+use Rattle.shapers_breaks.proofs.TextBreaks.{text_breaks, text_breaks_apart}
 use Rattle.shapers_breaks.proofs.text_breaks_law.Goals as goal
 
-pub returns : goal.returns
-returns c = text_breaks
+pub returns-clause-monotone : goal.returns-clause-monotone
+returns-clause-monotone c = text_breaks
+
+pub returns-clause-apart : goal.returns-clause-apart
+returns-clause-apart c = text_breaks_apart
