@@ -39,9 +39,9 @@ share_back : (cs : List ℕ) (p q : ℕ) → ShareCluster cs p q → ShareCluste
 share_back cs p q a r x y = a r (omega arith) (omega arith) ∙ sym (a q (omega arith) (omega arith))
 
 -- a place of a permutation
-place_of : (n k : ℕ) (olds : List ℕ) → IsPermutation (range_with_len 0 n) olds → k < n → (t : ℕ) × (t < length olds)
+place_found : (n k : ℕ) (olds : List ℕ) → IsPermutation (range_with_len 0 n) olds → k < n → (t : ℕ) × (t < length olds)
     × (get_or olds t 0 ≡ k)
-place_of n k olds perm l =
+place_found n k olds perm l =
     let range = range_with_len 0 n in
     let long = length-range_with_len 0 n in
     let own : Contains range (get_or range k 0) = All-get_or (Contains range) range k 0 (omega arith)
@@ -78,7 +78,7 @@ keepers_inside P level m steps gs moves permutes keepers =
     λ i il.
     let k = have i (omega arith) in
     let kl = k.within in
-    let (t, tl, is) = place_of n k.at olds perm (omega arith) in
+    let (t, tl, is) = place_found n k.at olds perm (omega arith) in
     let first : ShareCluster (clusters rs) i k.at = subst (λ js. ShareCluster js i k.at) same k.shares in
     let back : ShareCluster (clusters rs) t (get_or (old_places (length cs) steps) t 0) =
     subst (λ js. ShareCluster js t (get_or (old_places (length cs) steps) t 0)) (sym hold.clusters_are)
