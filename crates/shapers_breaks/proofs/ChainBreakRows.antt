@@ -3,7 +3,7 @@ use Rattle.std.proofs.Common.{ℕ, ◌≡◌, List, [], ◌∷◌, ◌++◌, len
 use Rattle.shapers_buffer.specs.declared.buffer.glyph.hb_glyph_info_t.{hb_glyph_info_t}
 use Rattle.shapers_buffer.specs.Glyph.{default_glyph}
 use Rattle.shapers_breaks.specs.ChainBreaks.{LeavesSideBySide, MadeOfHalves}
-use Rattle.shapers_breaks.specs.TextBreaks.{SyllablesApart}
+use Rattle.shapers_breaks.specs.KeptTextBreaks.{SyllablesApart}
 
 -- nothing in between is a case
 still : (gs : List hb_glyph_info_t) → LeavesSideBySide (λ gs. gs) gs

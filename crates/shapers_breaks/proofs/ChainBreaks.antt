@@ -34,11 +34,11 @@ use Rattle.shapers_syllabic.proofs.SpanCuts.{spans_cut}
 use Rattle.rustybuzz_shapers.specs.Pauses.{by_initial, by_khmer, by_myanmar}
 use Rattle.shapers_breaks.specs.ChainBreaks.{ChainBreaksBy, InitialChainBreaks, IsSpanned, LeavesSideBySide, LookedUp}
 use Rattle.shapers_breaks.specs.PauseBreaks.{BrokenBetweenSpans, SpanCut}
-use Rattle.shapers_breaks.specs.TextBreaks.{TextBroken}
+use Rattle.shapers_breaks.specs.KeptTextBreaks.{KeptTextBroken}
 use Rattle.shapers_breaks.proofs.IndicBreaks.{initial_text_breaks}
 use Rattle.shapers_breaks.proofs.PauseBreaks.{front_is, text_cut}
 use Rattle.shapers_breaks.proofs.SetUp.{Glyphs, set_up_guarded}
-use Rattle.shapers_breaks.proofs.TextBreaks.{text_breaks}
+use Rattle.shapers_breaks.proofs.KeptTextBreaks.{text_breaks}
 
 -- where a text is broken that lookups made, the text before them is
 chain_broken : (meaning : Glyphs → Glyphs) (steps : Glyphs → List Step) (broken_kind : ℕ) → ReorderLaws meaning steps
@@ -46,7 +46,7 @@ chain_broken : (meaning : Glyphs → Glyphs) (steps : Glyphs → List Step) (bro
     (old between new : Buffer) → All (λ span. span.kind ≤ 15) spans → spans_cover (length old.glyphs) spans ≡ true
     → between.level ≡ old.level → between.glyphs ≡ lookups (unsafe_spans spans old.glyphs) → LeavesSideBySide lookups
     (unsafe_spans spans old.glyphs) → PauseReordered circles meaning steps between new → (p : ℕ)
-    → TextBroken circles meaning steps between.level between.glyphs new.glyphs p → BrokenBetweenSpans unnumbered
+    → KeptTextBroken circles meaning steps between.level between.glyphs new.glyphs p → BrokenBetweenSpans unnumbered
     (λ spans gs. lookups (unsafe_spans spans gs)) (paused_order circles meaning)
     (paused_clusters circles steps old.level) spans old.glyphs new.glyphs p
 chain_broken meaning steps broken_kind laws reads circles lookups spans old between new kinds covers height glyphs side

@@ -42,7 +42,7 @@ use Rattle.shapers_breaks.proofs.KeptBorders.{KeepFlags, all_kept, length_run, s
 use Rattle.shapers_breaks.proofs.KeptFlagsInside.{clear_at_border_by, cluster_of}
 use Rattle.shapers_breaks.proofs.KeptInside.{one_moves}
 use Rattle.shapers_breaks.proofs.SetUp.{Glyphs}
-use Rattle.shapers_breaks.proofs.TextBreaks.{all_whole, apart_pieces}
+use Rattle.shapers_breaks.proofs.KeptTextBreaks.{all_whole, apart_pieces}
 
 -- the steps of reph and pref merge before they move
 abbrev MergeFirst : List Step → Type 0

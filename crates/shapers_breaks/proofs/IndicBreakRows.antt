@@ -21,7 +21,7 @@ use Rattle.shapers_syllabic.specs.Syllabic.{unsafe_spans}
 use Rattle.shapers_breaks.specs.FinalBreaks.{OneMatraMoves}
 use Rattle.shapers_breaks.specs.IndicBreaks.{JoinerShares, SpansPartClusters}
 use Rattle.shapers_breaks.specs.SetUp.{IsFlagged}
-use Rattle.shapers_breaks.specs.TextBreaks.{FlaggedInside}
+use Rattle.shapers_breaks.specs.KeptTextBreaks.{FlaggedInside}
 
 -- a glyph in this cluster, of a category and a position
 typed : ℕ → ℕ → ℕ → hb_glyph_info_t

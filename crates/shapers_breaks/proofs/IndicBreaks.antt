@@ -33,7 +33,7 @@ use Rattle.shapers_breaks.proofs.IndicSteps.{initial_keeps}
 use Rattle.shapers_breaks.proofs.KeptBorders.{KeepFlags, kept_border}
 use Rattle.shapers_breaks.proofs.PauseBreaks.{PauseCut, TextCut, broken_at, text_cut}
 use Rattle.shapers_breaks.proofs.SetUp.{AllAsLong, Glyphs, set_up_guarded, sum-as_long, taken_as_long}
-use Rattle.shapers_breaks.proofs.TextBreaks.{all_whole, apart_pieces, broken_there}
+use Rattle.shapers_breaks.proofs.KeptTextBreaks.{all_whole, apart_pieces, broken_there}
 
 -- halves of spans at a border of clusters that rise or fall
 halves_apart : (spans : List Span) (gs : Glyphs) (n : ℕ) → IsMonotone (clusters gs) → SpansPartClusters spans gs

@@ -14,7 +14,7 @@ pub mod Keepers
 pub mod KeptFlagsInside
 pub mod ApartPieces
 pub mod KeptBorders
-pub mod TextBreaks
+pub mod KeptTextBreaks
 pub mod IndicSteps
 pub mod IndicBreaks
 mod IndicBreakRows

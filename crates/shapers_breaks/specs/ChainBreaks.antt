@@ -18,7 +18,7 @@ use Rattle.shapers_syllabic.specs.Syllabic.{unsafe_spans}
 use Rattle.rustybuzz_shapers.specs.Pauses.{Paused, Reordering, by_initial}
 use Rattle.shapers_breaks.specs.IndicBreaks.{JoinersShare}
 use Rattle.shapers_breaks.specs.PauseBreaks.{BreaksBetweenSpans}
-use Rattle.shapers_breaks.specs.TextBreaks.{FlagsKept, SyllablesApart}
+use Rattle.shapers_breaks.specs.KeptTextBreaks.{FlagsKept, SyllablesApart}
 
 -- The halves of a text, cut between two syllables and sharing no cluster, of which lookups make
 -- these.

@@ -22,7 +22,7 @@ use Rattle.shapers_indic_final.specs.FinalRules.{final_rules}
 use Rattle.shapers_indic_final.specs.declared.ot_shaper_indic_final.rules.Rules.{Rules}
 use Rattle.shapers_syllabic.specs.Borders.{MeetAtBorder}
 use Rattle.rustybuzz_shapers.specs.Pauses.{Paused}
-use Rattle.shapers_breaks.specs.TextBreaks.{FlagsKept, SyllablesApart}
+use Rattle.shapers_breaks.specs.KeptTextBreaks.{FlagsKept, SyllablesApart}
 
 -- at most one left matra of a syllable moves to its place before the base
 abbrev pub OneMatraMoves : Rules → Option Script → List hb_glyph_info_t → Type 0

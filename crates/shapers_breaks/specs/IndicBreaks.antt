@@ -20,7 +20,7 @@ use Rattle.rustybuzz_shapers.specs.Pauses.{Paused, Reordering, by_initial}
 use Rattle.shapers_breaks.specs.PauseBreaks.{BreaksBetweenSpans}
 use Rattle.shapers_breaks.specs.ScriptBreaks.{CanBreak}
 use Rattle.shapers_breaks.specs.SetUp.{SpanBorder}
-use Rattle.shapers_breaks.specs.TextBreaks.{FlagsKept, SyllablesApart, TextBreaks}
+use Rattle.shapers_breaks.specs.KeptTextBreaks.{FlagsKept, SyllablesApart, KeptTextBreaks}
 
 -- each border of spans is one of clusters: the two glyphs that meet there are in different ones
 abbrev pub SpansPartClusters : List Span → List hb_glyph_info_t → Type 0
@@ -58,4 +58,4 @@ InitialTextBreaks = (plan : hb_ot_shape_plan_t) (font : Font) (unread : List Spa
     let r = by_initial plan font old in
     JoinersShare r old →
     Paused InitialReordering plan font unread old new →
-    TextBreaks r.circles r.order r.steps old.level old.glyphs new.glyphs
+    KeptTextBreaks r.circles r.order r.steps old.level old.glyphs new.glyphs

@@ -4,7 +4,7 @@ pub mod PauseBreaks
 pub mod ScriptBreaks
 pub mod MarkBreaks
 pub mod KeptFlags
-pub mod TextBreaks
+pub mod KeptTextBreaks
 pub mod IndicBreaks
 pub mod ChainBreaks
 pub mod FinalBreaks

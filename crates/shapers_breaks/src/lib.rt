@@ -13,7 +13,7 @@ ghost use Rattle.shapers_breaks.specs.MarkBreaks.{MarksBreakLaw};
 ghost use Rattle.shapers_breaks.specs.PauseBreaks.{PausesBreakLaw};
 ghost use Rattle.shapers_breaks.specs.ScriptBreaks.{MyanmarHasNoRepha, PausesBreakBy, UniversalPausesBreak};
 ghost use Rattle.shapers_breaks.specs.SetUp.{SetUpBreaksLaw};
-ghost use Rattle.shapers_breaks.specs.TextBreaks.{TextBreaksApartLaw, TextBreaksLaw};
+ghost use Rattle.shapers_breaks.specs.KeptTextBreaks.{KeptTextBreaksApartLaw, KeptTextBreaksLaw};
 
 use shapers_indic_final::ot_shaper_indic_final::laws::{final_reorder_laws, final_text_laws};
 use shapers_indic_initial::ot_shaper_indic_initial::laws::{
@@ -80,9 +80,9 @@ pub fn kept_flags_law()
 /// A pause that moves only inside what it merged may be broken at every clear place of what it makes
 /// of a text, whatever made the text what it is: where syllables kept the flags that forbid a break
 /// inside them, and clusters rise or fall, or syllables share none, at the levels that merge.
-pub fn text_breaks_law()
-    ensures monotone { TextBreaksLaw }
-    ensures apart { TextBreaksApartLaw }
+pub fn kept_text_breaks_law()
+    ensures monotone { KeptTextBreaksLaw }
+    ensures apart { KeptTextBreaksApartLaw }
 {}
 
 /// Where each border of spans is one of clusters, the set-up and the initial reordering of Indic may

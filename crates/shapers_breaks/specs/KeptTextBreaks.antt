@@ -35,7 +35,7 @@ SyllablesApart gs = (before behind : List hb_glyph_info_t) → gs ≡ before ++ 
 -- syllables, into halves that share no cluster, of which the first one becomes the p glyphs before
 -- that place; and the whole, clusters and glyph flags among it, is what the pause makes of the
 -- halves, one after the other.
-pub record TextBroken (circles : Option DottedCircles) (meaning : List hb_glyph_info_t →
+pub record KeptTextBroken (circles : Option DottedCircles) (meaning : List hb_glyph_info_t →
     List hb_glyph_info_t) (steps : List hb_glyph_info_t →
     List Step) (level : BufferClusterLevel) (old new : List hb_glyph_info_t) (p : ℕ) : Type 0 where
   pub before : List hb_glyph_info_t
@@ -47,28 +47,28 @@ pub record TextBroken (circles : Option DottedCircles) (meaning : List hb_glyph_
   pub halves : PauseOfHalves circles meaning steps level before behind new
 
 -- so at every clear place
-abbrev pub TextBreaks : Option DottedCircles → (List hb_glyph_info_t → List hb_glyph_info_t) →
+abbrev pub KeptTextBreaks : Option DottedCircles → (List hb_glyph_info_t → List hb_glyph_info_t) →
     (List hb_glyph_info_t → List Step) → BufferClusterLevel → List hb_glyph_info_t →
     List hb_glyph_info_t → Type 0
-TextBreaks circles meaning steps level old new =
+KeptTextBreaks circles meaning steps level old new =
     (p : ℕ) → 0 < p → p < length new → IsClear new p →
-    TextBroken circles meaning steps level old new p
+    KeptTextBroken circles meaning steps level old new p
 
 -- A pause that moves only inside what it merged, of any text that kept its flags, where clusters
 -- rise or fall along it with its circles, at the levels that merge: whatever lookups did before.
-abbrev pub TextBreaksLaw : Type 0
-TextBreaksLaw = (meaning : List hb_glyph_info_t → List hb_glyph_info_t)
+abbrev pub KeptTextBreaksLaw : Type 0
+KeptTextBreaksLaw = (meaning : List hb_glyph_info_t → List hb_glyph_info_t)
     (steps : List hb_glyph_info_t → List Step) → ReorderLaws meaning steps → MoveMerged steps →
     (circles : Option DottedCircles) (old new : Buffer) → merges old.level ≡ true →
     FlagsKept old.glyphs → IsMonotone (clusters (circled circles old.glyphs)) →
     PauseReordered circles meaning steps old new →
-    TextBreaks circles meaning steps old.level old.glyphs new.glyphs
+    KeptTextBreaks circles meaning steps old.level old.glyphs new.glyphs
 
 -- The same, whatever the clusters and the circles, where syllables share no cluster.
-abbrev pub TextBreaksApartLaw : Type 0
-TextBreaksApartLaw = (meaning : List hb_glyph_info_t → List hb_glyph_info_t)
+abbrev pub KeptTextBreaksApartLaw : Type 0
+KeptTextBreaksApartLaw = (meaning : List hb_glyph_info_t → List hb_glyph_info_t)
     (steps : List hb_glyph_info_t → List Step) → ReorderLaws meaning steps → MoveMerged steps →
     (circles : Option DottedCircles) (old new : Buffer) → merges old.level ≡ true →
     FlagsKept old.glyphs → SyllablesApart old.glyphs →
     PauseReordered circles meaning steps old new →
-    TextBreaks circles meaning steps old.level old.glyphs new.glyphs
+    KeptTextBreaks circles meaning steps old.level old.glyphs new.glyphs

@@ -21,7 +21,7 @@ use Rattle.shapers_syllabic.specs.ReorderingLaws.{MoveMerged, ReorderLaws}
 use Rattle.shapers_syllabic.specs.declared.ot_shaper_syllabic.circles.DottedCircles.{DottedCircles}
 use Rattle.shapers_syllabic.proofs.ReorderingCuts.{cuts_at_borders}
 use Rattle.shapers_breaks.specs.SetUp.{IsFlagged}
-use Rattle.shapers_breaks.specs.TextBreaks.{FlaggedInside, SyllablesApart, TextBreaksApartLaw, TextBreaksLaw, TextBroken}
+use Rattle.shapers_breaks.specs.KeptTextBreaks.{FlaggedInside, SyllablesApart, KeptTextBreaksApartLaw, KeptTextBreaksLaw, KeptTextBroken}
 use Rattle.shapers_breaks.proofs.ApartPieces.{ApartAtBorders}
 use Rattle.shapers_breaks.proofs.CircledBorders.{OpenedBorder, apart_at, circled_is, length-paused, opened_piece, reordered_border}
 use Rattle.shapers_breaks.proofs.Guarded.{IsWhole, LeastOrFlagged}
@@ -63,7 +63,7 @@ pub broken_there : (meaning : Glyphs → Glyphs) (steps : Glyphs → List Step) 
     (circles : Option DottedCircles) (old new : Buffer) → PauseReordered circles meaning steps old new → (p : ℕ) →
     (border : OpenedBorder circles old.glyphs p) → (let pieces = syllables old.glyphs
     in ShareNone (flat_map (λ q. q) (take border.count pieces)) (flat_map (λ q. q) (drop border.count pieces)))
-    → TextBroken circles meaning steps old.level old.glyphs new.glyphs p
+    → KeptTextBroken circles meaning steps old.level old.glyphs new.glyphs p
 broken_there meaning steps laws circles old new done p border apart =
     let gs = old.glyphs in
     let k = border.count in
@@ -111,7 +111,7 @@ apart_where_clear circles gs p border mono l z ne =
     apart_erased circles (take k pieces) (drop k pieces) (λ i j il jl. apart_at (clusters fr) (clusters bh)
     (subst IsMonotone all mono) (omega arith) some differ i j (omega (arith, il, fn, place)) (omega (arith, jl, bn)))
 
-pub text_breaks : TextBreaksLaw
+pub text_breaks : KeptTextBreaksLaw
 text_breaks meaning steps laws inside circles old new m kept mono done p z l clear =
     let gs = old.glyphs in
     let opened_text : Buffer = record old { glyphs = circled circles gs } in
@@ -136,7 +136,7 @@ moves_keep meaning steps laws inside level m least piece good all =
     (subst (λ k. AllByRecursion (Permutes k) (steps xs)) same (laws.permutes xs))
     (own_keepers (LeastOrFlagged least) piece all)
 
-pub text_breaks_apart : TextBreaksApartLaw
+pub text_breaks_apart : KeptTextBreaksApartLaw
 text_breaks_apart meaning steps laws inside circles old new m kept apart done p z l clear =
     let gs = old.glyphs in
     let pieces = apart_pieces gs apart in

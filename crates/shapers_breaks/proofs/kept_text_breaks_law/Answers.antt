@@ -1,5 +1,5 @@
-use Rattle.shapers_breaks.proofs.TextBreaks.{text_breaks, text_breaks_apart}
-use Rattle.shapers_breaks.proofs.text_breaks_law.Goals as goal
+use Rattle.shapers_breaks.proofs.KeptTextBreaks.{text_breaks, text_breaks_apart}
+use Rattle.shapers_breaks.proofs.kept_text_breaks_law.Goals as goal
 
 pub returns-clause-monotone : goal.returns-clause-monotone
 returns-clause-monotone c = text_breaks
