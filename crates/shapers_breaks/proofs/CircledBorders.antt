@@ -49,7 +49,7 @@ pub syllables-circled : (circles : Option DottedCircles) (gs : Glyphs) → sylla
 syllables-circled None gs = sym (map_same (syllables gs))
 syllables-circled (Some rule) gs = syllables-mapped (circled_syllable rule) (circled_syllable_byte rule) gs
 
-opened_whole : (circles : Option DottedCircles) (pieces : List Glyphs) → AllByRecursion IsWhole pieces
+pub opened_whole : (circles : Option DottedCircles) (pieces : List Glyphs) → AllByRecursion IsWhole pieces
     → AllByRecursion IsWhole (map (opened_piece circles) pieces)
 opened_whole circles [] h = tt
 opened_whole None (p ∷ ps) h = (h.0, opened_whole None ps h.1)
@@ -179,7 +179,7 @@ each_parts : (P : ℕ → Type 0) (gs hs : Glyphs) → Each P (gs ++ hs) → Eac
 each_parts P [] hs h = (tt, h)
 each_parts P (g ∷ gs) hs h = let (a, b) = each_parts P gs hs h.1 in ((h.0, a), b)
 
-each_both : (P : ℕ → Type 0) (gs hs : Glyphs) → Each P gs → Each P hs → Each P (gs ++ hs)
+pub each_both : (P : ℕ → Type 0) (gs hs : Glyphs) → Each P gs → Each P hs → Each P (gs ++ hs)
 each_both P [] hs h k = k
 each_both P (g ∷ gs) hs h k = (h.0, each_both P gs hs h.1 k)
 

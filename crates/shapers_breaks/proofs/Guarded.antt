@@ -27,7 +27,7 @@ abbrev pub IsWhole : List hb_glyph_info_t → Type 0
 IsWhole gs = (m : ℕ) × All (LeastOrFlagged m) gs
 
 -- a flag call over all of them
-three_flags : (mask : ℕ) → (bit_at 0 (bit_or mask 3) ≡ 1) × (bit_at 1 (bit_or mask 3) ≡ 1)
+pub three_flags : (mask : ℕ) → (bit_at 0 (bit_or mask 3) ≡ 1) × (bit_at 1 (bit_or mask 3) ≡ 1)
 three_flags mask =
     let a : bit_at 0 3 ≡ 1 = refl in
     let b : bit_at 1 3 ≡ 1 = refl in

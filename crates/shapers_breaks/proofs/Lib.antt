@@ -18,3 +18,15 @@ pub mod StretchBreaks
 mod MarkBreakRows
 mod TextBreakRows
 pub mod KeptFlags
+pub mod Keepers
+pub mod KeptFlagsInside
+pub mod ApartPieces
+pub mod KeptBorders
+pub mod KeptTextBreaks
+pub mod IndicSteps
+pub mod IndicBreaks
+mod IndicBreakRows
+pub mod ChainBreaks
+mod ChainBreakRows
+pub mod KeptInside
+pub mod FinalBreaks

@@ -27,7 +27,7 @@ use Rattle.shapers_syllabic.proofs.HiddenCuts.{pauses_cut_between_spans}
 use Rattle.shapers_syllabic.proofs.PauseCuts.{apart_by, clusters-set_up}
 use Rattle.shapers_syllabic.proofs.ReorderingLaws.{text_reordered}
 use Rattle.shapers_syllabic.proofs.SpanCuts.{spans_cut}
-use Rattle.shapers_breaks.specs.PauseBreaks.{BreaksBetweenSpans, SpanCut}
+use Rattle.shapers_breaks.specs.PauseBreaks.{BreaksBetweenSpans, BrokenBetweenSpans, SpanCut}
 use Rattle.shapers_breaks.proofs.CircledBorders.{Each, apart_at, circled_is, length-paused, opened_piece, pieces_erased, reordered_border}
 use Rattle.shapers_breaks.proofs.SetUp.{AllAsLong, Glyphs, IsGuarded, cover_cut, set_up_guarded, sum-as_long, taken_as_long}
 
@@ -85,12 +85,12 @@ text_cut spans old gs k covers same long =
     }
 
 -- all clusters of glyphs, at places
-each_at : (P : ℕ → Type 0) (gs : Glyphs) → Each P gs → (i : ℕ) → i < length gs → P (slice_index (clusters gs) i)
+pub each_at : (P : ℕ → Type 0) (gs : Glyphs) → Each P gs → (i : ℕ) → i < length gs → P (slice_index (clusters gs) i)
 each_at P [] h i l = absurd (omega arith)
 each_at P (g ∷ gs) h zero l = h.0
 each_at P (g ∷ gs) h (suc i) l = each_at P gs h.1 i (omega arith)
 
-each_from : (P : ℕ → Type 0) (gs : Glyphs) → ((i : ℕ) → i < length gs → P (slice_index (clusters gs) i)) → Each P gs
+pub each_from : (P : ℕ → Type 0) (gs : Glyphs) → ((i : ℕ) → i < length gs → P (slice_index (clusters gs) i)) → Each P gs
 each_from P [] h = tt
 each_from P (g ∷ gs) h = (h 0 (omega arith), each_from P gs (λ i l. h (suc i) (omega arith)))
 
@@ -193,22 +193,16 @@ front_is spans broken_kind k old kinds covers text within =
     let size : length (syllables front) ≡ k = few ∙ length-take-le k spans (omega (arith, many, within)) in
     sym (ap (take k) whole ∙ take_at (syllables front) (syllables behind) k size)
 
-pub pauses_break_by : (meaning : Glyphs → Glyphs) (steps : Glyphs → List Step) (broken_kind : ℕ)
-    → ReorderLaws meaning steps → MoveMerged steps → ReadsNoSerials meaning steps →
+-- the text is broken where it is cut
+pub broken_at : (meaning : Glyphs → Glyphs) (steps : Glyphs → List Step) (broken_kind : ℕ)
+    → ReorderLaws meaning steps → ReadsNoSerials meaning steps →
     (circles : Option DottedCircles) (spans : List Span) (old new : Buffer) → All (λ span. span.kind ≤ 15) spans
-    → spans_cover (length old.glyphs) spans ≡ true → merges old.level ≡ true → IsMonotone
-    (clusters (circled circles (unsafe_spans spans old.glyphs))) → PauseReordered circles meaning steps
-    (spans_set_up spans broken_kind old) new →
-    BreaksBetweenSpans unnumbered unsafe_spans (paused_order circles meaning)
-    (paused_clusters circles steps old.level) spans old.glyphs new.glyphs
-pauses_break_by meaning steps broken_kind laws inside reads circles spans old new kinds covers m mono done p z l clear =
+    → spans_cover (length old.glyphs) spans ≡ true → PauseReordered circles meaning steps
+    (spans_set_up spans broken_kind old) new → (p : ℕ) → PauseCut circles spans old.glyphs
+    (unsafe_spans spans old.glyphs) p → BrokenBetweenSpans unnumbered unsafe_spans (paused_order circles meaning)
+    (paused_clusters circles steps old.level) spans old.glyphs new.glyphs p
+broken_at meaning steps broken_kind laws reads circles spans old new kinds covers done p c =
     let gs = old.glyphs in
-    let mid = unsafe_spans spans gs in
-    let opened_text : Buffer = record (spans_set_up spans broken_kind old) { glyphs = circled circles mid } in
-    let long = length-moved meaning steps opened_text new laws done in
-    let guarded = set_up_guarded spans gs kinds covers in
-    let c = pause_cut meaning steps laws inside circles old.level m spans gs mid new.glyphs covers
-    (clusters-set_up spans broken_kind old) guarded mono done.moved long p z l clear in
     let k = c.count in
     let n = c.text.n in
     let front = unsafe_spans (take k spans) (take n gs) in
@@ -233,3 +227,21 @@ pauses_break_by meaning steps broken_kind laws inside reads circles spans old ne
     (take k spans) (drop k spans) (take n gs)
     (drop n gs) front back c.text.split c.text.text c.text.first c.text.second refl refl in
     record { cut = cut; order = halves.order; in_clusters = halves.in_clusters c.apart }
+
+pub pauses_break_by : (meaning : Glyphs → Glyphs) (steps : Glyphs → List Step) (broken_kind : ℕ)
+    → ReorderLaws meaning steps → MoveMerged steps → ReadsNoSerials meaning steps →
+    (circles : Option DottedCircles) (spans : List Span) (old new : Buffer) → All (λ span. span.kind ≤ 15) spans
+    → spans_cover (length old.glyphs) spans ≡ true → merges old.level ≡ true → IsMonotone
+    (clusters (circled circles (unsafe_spans spans old.glyphs))) → PauseReordered circles meaning steps
+    (spans_set_up spans broken_kind old) new →
+    BreaksBetweenSpans unnumbered unsafe_spans (paused_order circles meaning)
+    (paused_clusters circles steps old.level) spans old.glyphs new.glyphs
+pauses_break_by meaning steps broken_kind laws inside reads circles spans old new kinds covers m mono done p z l clear =
+    let gs = old.glyphs in
+    let mid = unsafe_spans spans gs in
+    let opened_text : Buffer = record (spans_set_up spans broken_kind old) { glyphs = circled circles mid } in
+    let long = length-moved meaning steps opened_text new laws done in
+    let guarded = set_up_guarded spans gs kinds covers in
+    let c = pause_cut meaning steps laws inside circles old.level m spans gs mid new.glyphs covers
+    (clusters-set_up spans broken_kind old) guarded mono done.moved long p z l clear in
+    broken_at meaning steps broken_kind laws reads circles spans old new kinds covers done p c

@@ -8,3 +8,7 @@ pub mod TextBreaks
 pub mod ThaiBreaks
 pub mod HangulBreaks
 pub mod StretchBreaks
+pub mod KeptTextBreaks
+pub mod IndicBreaks
+pub mod ChainBreaks
+pub mod FinalBreaks

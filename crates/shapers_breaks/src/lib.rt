@@ -4,8 +4,11 @@
 
 ghost use Rattle.rustybuzz_shapers.specs.Pauses.{by_khmer, by_myanmar};
 ghost use Rattle.shapers_base.specs.declared.plan.pause.Pause.TheVariants.{ReorderKhmer, ReorderMyanmar, SetupSyllablesKhmer, SetupSyllablesMyanmar};
+ghost use Rattle.shapers_breaks.specs.ChainBreaks.{ChainBreaksBy, InitialChainBreaks};
 ghost use Rattle.shapers_breaks.specs.ClearSteps.{ClearBeforeLaw};
+ghost use Rattle.shapers_breaks.specs.FinalBreaks.{FinalTextBreaks};
 ghost use Rattle.shapers_breaks.specs.HangulBreaks.{HangulBreaksLaw};
+ghost use Rattle.shapers_breaks.specs.IndicBreaks.{InitialPausesBreak, InitialTextBreaks};
 ghost use Rattle.shapers_breaks.specs.KeptFlags.{AddedFlagsClearNone, PausesClearNone};
 ghost use Rattle.shapers_breaks.specs.MarkBreaks.{MarksBreakLaw};
 ghost use Rattle.shapers_breaks.specs.PauseBreaks.{PausesBreakLaw};
@@ -13,7 +16,12 @@ ghost use Rattle.shapers_breaks.specs.ScriptBreaks.{MyanmarHasNoRepha, PausesBre
 ghost use Rattle.shapers_breaks.specs.SetUp.{SetUpBreaksLaw};
 ghost use Rattle.shapers_breaks.specs.StretchBreaks.{StretchBreaksLaw};
 ghost use Rattle.shapers_breaks.specs.ThaiBreaks.{SaraAmsBreakLaw, ThaiFormsBreakLaw};
+ghost use Rattle.shapers_breaks.specs.KeptTextBreaks.{KeptTextBreaksApartLaw, KeptTextBreaksLaw};
 
+use shapers_indic_final::ot_shaper_indic_final::laws::{final_reorder_laws, final_text_laws};
+use shapers_indic_initial::ot_shaper_indic_initial::laws::{
+    initial_reorder_laws, order_by_font_reads_no_serials,
+};
 use shapers_khmer::ot_shaper_khmer::{khmer_reads_no_serials, khmer_reorder_laws};
 use shapers_myanmar::ot_shaper_myanmar::{myanmar_reads_no_serials, myanmar_reorder_laws};
 use shapers_universal::ot_shaper_use::{universal_cuts_between_spans, universal_reorder_laws};
@@ -92,3 +100,47 @@ pub fn hangul_breaks_law()
 pub fn stretch_breaks_law()
     ensures { StretchBreaksLaw }
 {}
+
+/// A pause that moves only inside what it merged may be broken at every clear place of what it makes
+/// of a text, whatever made the text what it is: where syllables kept the flags that forbid a break
+/// inside them, and clusters rise or fall, or syllables share none, at the levels that merge.
+pub fn kept_text_breaks_law()
+    ensures monotone { KeptTextBreaksLaw }
+    ensures apart { KeptTextBreaksApartLaw }
+{}
+
+/// Where each border of spans is one of clusters, the set-up and the initial reordering of Indic may
+/// be broken at every clear place, in Kannada if H and ZWJ share a cluster; and so may the initial
+/// reordering of any text whose syllables kept their flags and share no cluster.
+pub fn initial_breaks_law()
+    ensures pauses { InitialPausesBreak }
+    ensures text { InitialTextBreaks }
+{
+    initial_reorder_laws();
+    order_by_font_reads_no_serials();
+}
+
+/// The same with lookups between the set-up and the reordering that leave the halves' results side
+/// by side and take no flag from a glyph: each half is set up, given to the same lookups and
+/// reordered by itself.
+pub fn chain_breaks_law()
+    ensures khmer { ChainBreaksBy SetupSyllablesKhmer ReorderKhmer by_khmer }
+    ensures myanmar { ChainBreaksBy SetupSyllablesMyanmar ReorderMyanmar (λ plan. by_myanmar) }
+    ensures initial { InitialChainBreaks }
+{
+    khmer_reorder_laws();
+    khmer_reads_no_serials();
+    myanmar_reorder_laws();
+    myanmar_reads_no_serials();
+    initial_reorder_laws();
+    order_by_font_reads_no_serials();
+}
+
+/// The final reordering of Indic may be broken at every clear place, of any text whose syllables
+/// kept their flags and share no cluster, where in each syllable at most one left matra moves.
+pub fn final_breaks_law()
+    ensures { FinalTextBreaks }
+{
+    final_reorder_laws();
+    final_text_laws();
+}
