@@ -11,7 +11,7 @@ use Rattle.shapers_base.specs.declared.plan.Preprocess.TheVariants.{CallerRunsVo
 use Rattle.shapers_stretch.specs.Recorded.{start_of}
 use Rattle.shapers_stretch.specs.Stretch.{marks_stretched}
 use Rattle.rustybuzz_shapers.specs.Hooks.{Composed, Decomposed, MarksReordered, MasksSet, Postprocessed, Preprocessed, data_created, preprocess_answer, with_created}
-use Rattle.rustybuzz_shapers.specs.Outcomes.{composition, decomposition, outcome}
+use Rattle.rustybuzz_shapers.specs.Outcomes.{outcome, parts_found, whole_found}
 use Rattle.rustybuzz_shapers.specs.Standing.{Lacking}
 use Rattle.rustybuzz_shapers.specs.declared.shaper.outcomes.Composition.TheVariants as composed
 use Rattle.rustybuzz_shapers.specs.declared.shaper.outcomes.Decomposition.TheVariants as decomposed
@@ -74,10 +74,10 @@ marks_stretch plan font b = refl
 outcomes : map outcome (true ∷ false ∷ []) ≡ hook.Done ∷ hook.NoHook ∷ []
 outcomes = refl
 
-compositions : map composition (Some 0xE4 ∷ None ∷ []) ≡ composed.Whole 0xE4 ∷ composed.Apart ∷ []
+compositions : map whole_found (Some 0xE4 ∷ None ∷ []) ≡ composed.Whole 0xE4 ∷ composed.Apart ∷ []
 compositions = refl
 
-decompositions : map decomposition (Some (0x61, 0x308) ∷ None ∷ []) ≡ decomposed.Parts 0x61 0x308 ∷ decomposed.Whole ∷ []
+decompositions : map parts_found (Some (0x61, 0x308) ∷ None ∷ []) ≡ decomposed.Parts 0x61 0x308 ∷ decomposed.Whole ∷ []
 decompositions = refl
 
 -- no two characters compose

@@ -37,7 +37,7 @@ use Rattle.shapers_text.specs.Hebrew.{composed_in_hebrew, hebrew_mark_step}
 use Rattle.shapers_text.specs.Thai.{is_sara_am, glyphs_in_two}
 use Rattle.shapers_text.specs.ThaiForms.{asks_for_forms, preprocessed_in_thai}
 use Rattle.shapers_text.specs.ThaiLaws.{ClustersInTwo, FlagsInTwo, KeptInTwo}
-use Rattle.rustybuzz_shapers.specs.Outcomes.{composition, decomposition}
+use Rattle.rustybuzz_shapers.specs.Outcomes.{parts_found, whole_found}
 use Rattle.rustybuzz_shapers.specs.Standing.{Lacking, has_hook}
 use Rattle.rustybuzz_shapers.specs.declared.shaper.outcomes.Composition.{Composition}
 use Rattle.rustybuzz_shapers.specs.declared.shaper.outcomes.Composition.TheVariants as composed
@@ -160,18 +160,20 @@ RefusesPostprocess shaper plan font old r = Lacking (has_hook shaper Postprocess
 abbrev pub Composed :
     hb_ot_shaper_t → hb_ot_shape_plan_t → CharacterTables → ℕ → ℕ → Composition → Type 0
 Composed Hebrew plan tables a b answer =
-    answer ≡ composition (composed_in_hebrew (tables.composed a b) plan.has_gpos_mark a b)
-Composed Indic plan tables a b answer = answer ≡ composition (composed_in_indic tables a b)
-Composed Khmer plan tables a b answer = answer ≡ composition (composed_behind tables a b)
-Composed Universal plan tables a b answer = answer ≡ composition (composed_behind tables a b)
-Composed shaper plan tables a b answer = Lacking (has_hook shaper Compose) (answer ≡ composed.NoHook)
+    answer ≡ whole_found (composed_in_hebrew (tables.composed a b) plan.has_gpos_mark a b)
+Composed Indic plan tables a b answer = answer ≡ whole_found (composed_in_indic tables a b)
+Composed Khmer plan tables a b answer = answer ≡ whole_found (composed_behind tables a b)
+Composed Universal plan tables a b answer = answer ≡ whole_found (composed_behind tables a b)
+Composed shaper plan tables a b answer =
+    Lacking (has_hook shaper Compose) (answer ≡ composed.NoHook)
 
 -- what a character decomposes to
 abbrev pub Decomposed :
     hb_ot_shaper_t → hb_ot_shape_plan_t → CharacterTables → ℕ → Decomposition → Type 0
-Decomposed Indic plan tables ab answer = answer ≡ decomposition (decomposed_in_indic tables ab)
-Decomposed Khmer plan tables ab answer = answer ≡ decomposition (decomposed_in_khmer tables ab)
-Decomposed shaper plan tables ab answer = Lacking (has_hook shaper Decompose) (answer ≡ decomposed.NoHook)
+Decomposed Indic plan tables ab answer = answer ≡ parts_found (decomposed_in_indic tables ab)
+Decomposed Khmer plan tables ab answer = answer ≡ parts_found (decomposed_in_khmer tables ab)
+Decomposed shaper plan tables ab answer =
+    Lacking (has_hook shaper Decompose) (answer ≡ decomposed.NoHook)
 
 -- the buffer before and after masks are set
 abbrev pub MasksSet :

@@ -12,11 +12,11 @@ abbrev pub outcome : Bool → HookOutcome
 outcome there = if there then hook.Done else hook.NoHook
 
 -- of a shaper that composes
-abbrev pub composition : Option ℕ → Composition
-composition (Some whole) = composed.Whole whole
-composition None = composed.Apart
+abbrev pub whole_found : Option ℕ → Composition
+whole_found (Some whole) = composed.Whole whole
+whole_found None = composed.Apart
 
 -- of a shaper that decomposes
-abbrev pub decomposition : Option (ℕ × ℕ) → Decomposition
-decomposition (Some parts) = decomposed.Parts parts.0 parts.1
-decomposition None = decomposed.Whole
+abbrev pub parts_found : Option (ℕ × ℕ) → Decomposition
+parts_found (Some parts) = decomposed.Parts parts.0 parts.1
+parts_found None = decomposed.Whole

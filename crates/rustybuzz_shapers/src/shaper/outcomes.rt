@@ -1,6 +1,6 @@
 //! What the hooks return, where a shaper may lack them.
 ghost use Rattle.std.specs.Prelude.{◌≡◌};
-ghost use Rattle.rustybuzz_shapers.specs.Outcomes.{composition, decomposition};
+ghost use Rattle.rustybuzz_shapers.specs.Outcomes.{parts_found, whole_found};
 
 /// Whether the shaper has the hook that was called.
 #[derive(Clone, Copy, Debug, PartialEq, Eq)]
@@ -37,7 +37,7 @@ impl Composition {
     // What a hook composes, which the shaper has.
     #[inline]
     pub(super) fn of(composed: Option<char>) -> Self
-        ensures { result ≡ composition composed }
+        ensures { result ≡ whole_found composed }
     {
         match composed {
             Some(whole) => Self::Whole(whole),
@@ -50,7 +50,7 @@ impl Decomposition {
     // What a hook decomposes, which the shaper has.
     #[inline]
     pub(super) fn of(parts: Option<(char, char)>) -> Self
-        ensures { result ≡ decomposition parts }
+        ensures { result ≡ parts_found parts }
     {
         match parts {
             Some((a, b)) => Self::Parts(a, b),
