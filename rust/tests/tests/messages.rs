@@ -1,4 +1,5 @@
-//! The messages of `ShaperError`, which are written by hand, are those that its source declares.
+//! The messages of `ShaperError`, which are written by hand: a sentence for each name that its source
+//! declares, and the program prints.
 
 use sengadlit::ShaperError;
 use std::fs;
@@ -23,11 +24,15 @@ fn declared(source: &str) -> Vec<&str> {
 }
 
 #[test]
-fn the_messages_are_those_of_the_source() {
+fn each_name_of_the_source_has_a_sentence() {
     let path = Path::new(env!("CARGO_MANIFEST_DIR")).join(SOURCE);
     let source = fs::read_to_string(path).unwrap();
-    assert_eq!(
-        ERRORS.map(|error| error.to_string()).as_slice(),
-        declared(&source)
-    );
+    let names = ERRORS.map(|error| format!("{error:?}").split('(').next().unwrap().to_owned());
+    assert_eq!(names.as_slice(), declared(&source));
+    for message in ERRORS.map(|error| error.to_string()) {
+        assert!(
+            message.contains(' ') && !message.ends_with('.'),
+            "{message}"
+        );
+    }
 }
