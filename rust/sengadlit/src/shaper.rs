@@ -67,12 +67,11 @@ impl Composition {
     /// The character, or none where the two stay apart; the tables say so where the shaper doesn't.
     ///
     /// ```
-    /// use sengadlit::{Plan, Shaper, unicode::{UnicodeTables, compose}};
+    /// use sengadlit::shaper::Composition;
     ///
-    /// let plan = Plan::builder().build_for(Shaper::Thai)?;
-    /// let composed = Shaper::Thai.compose(&plan, &UnicodeTables, 'a', '\u{308}');
-    /// assert_eq!(composed.or_else(|| compose('a', '\u{308}')), Some('\u{E4}'));
-    /// # Ok::<(), Box<dyn std::error::Error>>(())
+    /// let by_tables = || Some('\u{E4}');
+    /// assert_eq!(Composition::NoHook.or_else(by_tables), Some('\u{E4}'));
+    /// assert_eq!(Composition::Apart.or_else(by_tables), None);
     /// ```
     #[inline]
     pub fn or_else(self, by_tables: impl FnOnce() -> Option<char>) -> Option<char> {
