@@ -14,6 +14,7 @@ use Rattle.shapers_base.specs.Masks.{masks_kept, with_numbered_mask}
 use Rattle.shapers_base.specs.declared.plan.arabic.arabic_shape_plan_t.{arabic_shape_plan_t}
 use Rattle.shapers_base.specs.Font.{CharacterTables, Font, dotted_circle, has_nominal}
 use Rattle.shapers_base.specs.declared.font.GlyphId.{GlyphId}
+use Rattle.shapers_base.specs.declared.plan.breaks.BreakFlags.TheVariants.{AsCode}
 use Rattle.shapers_base.specs.declared.plan.hb_ot_shape_plan_t.{hb_ot_shape_plan_t}
 use Rattle.shapers_buffer.specs.Buffer.{Buffer}
 use Rattle.shapers_buffer.specs.Clusters.{stretch_of}
@@ -52,7 +53,7 @@ use Rattle.shapers_syllabic.specs.Characters.{with_category, with_category_and_p
 use Rattle.shapers_text.specs.Thai.{glyph_rule, is_sara_am}
 use Rattle.shapers_text.specs.ThaiForms.{preprocessed_in_thai}
 use Rattle.shapers_text.proofs.ThaiInTwo.{lengths}
-use Rattle.shapers_hangul.specs.Hangul.{rewritten}
+use Rattle.shapers_hangul.specs.Hangul.{rewritten, rewritten_by}
 use Rattle.shapers_universal.specs.PlanData.{arabic_of}
 use Rattle.shapers_universal.specs.UniversalMasks.{categorized, with_categories}
 use Rattle.rustybuzz_shapers.specs.Lengths.{PreprocessingGrows}
@@ -171,7 +172,8 @@ once n = omega arith
 
 by_shaper : PreprocessingGrows → (plan : hb_ot_shape_plan_t) (font : Font) (b : Buffer) (shaper : hb_ot_shaper_t) →
     length (preprocessed_by plan font b shaper).glyphs ≤ length b.glyphs * preprocess_growth shaper
-by_shaper grows plan font b Hangul = omega (arith, grows Hangul plan font b (rewritten font b) refl)
+by_shaper grows plan font b Hangul =
+    omega (arith, grows Hangul plan font b (rewritten_by plan.break_flags font b) refl)
 by_shaper grows plan font b Thai =
     omega (arith, grows Thai plan font b (preprocessed_in_thai plan font b) refl, few_ams b.glyphs)
 by_shaper grows plan font b Indic = parted_long b
@@ -185,7 +187,9 @@ by_shaper grows plan font b MyanmarZawgyi = once (length b.glyphs)
 -- what it wants room for
 wanted_by : PreprocessingGrows → (plan : hb_ot_shape_plan_t) (font : Font) (b : Buffer) (shaper : hb_ot_shaper_t) →
     preprocessed_len_by font b shaper ≤ length b.glyphs * preprocess_growth shaper
-wanted_by grows plan font b Hangul = omega (arith, grows Hangul plan font b (rewritten font b) refl)
+wanted_by grows plan font b Hangul =
+    let as_code : hb_ot_shape_plan_t = record plan { break_flags = AsCode } in
+    omega (arith, grows Hangul as_code font b (rewritten font b) refl)
 wanted_by grows plan font b Thai = omega (arith, (lengths glyph_rule b.glyphs).whole, few_ams b.glyphs)
 wanted_by grows plan font b Indic = parted_long b
 wanted_by grows plan font b Universal = parted_long b
