@@ -57,7 +57,7 @@ use crate::generated::shapers_prepare::ot_shape_prepare::UnicodeProperties;
 ///     (F.variants font.now) (T.properties tables.now) (T.tables tables.now)
 ///     (T.texts tables.now) in
 ///     let r = substitution_by plan.now (F.font font.now) (L.substituted lookups.now) in
-///     let q = positioning_by plan.now settings.now (F.font font.now)
+///     let q = positioning_by plan.now settings.now (F.font font.now) (F.metrics font.now)
 ///     (L.marks lookups.now) (L.positioned lookups.now) (L.finished lookups.now) in
 ///     let noted = text_noted (L.noted lookups.now) (text_prepared p buffer.old) in
 ///     let growth = L.growth_of lookups.now in
