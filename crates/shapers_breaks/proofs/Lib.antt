@@ -12,6 +12,7 @@ pub mod MeetingPlaces
 pub mod SaraAmHalves
 pub mod TextBreaks
 pub mod ThaiBreaks
+pub mod ThaiSound
 pub mod HangulBreaks
 pub mod StretchCuts
 pub mod StretchBreaks

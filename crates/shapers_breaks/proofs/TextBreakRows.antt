@@ -3,6 +3,7 @@ use Rattle.std.proofs.Common.{ℕ, ◌≡◌, ◌==◌, ◌||◌, true, false, L
 use Rattle.std.specs.Prelude.{None, Some, if◌then◌else◌}
 use Rattle.std.specs.List.{list_any}
 use Rattle.shapers_base.specs.Font.{Font}
+use Rattle.shapers_base.specs.declared.plan.breaks.BreakFlags.TheVariants.{Sound}
 use Rattle.shapers_base.specs.declared.plan.arabic.StretchStart.TheVariants.{AsCode}
 use Rattle.shapers_buffer.specs.declared.buffer.category.hb_unicode_general_category_t.{hb_unicode_general_category_t}
 use Rattle.shapers_buffer.specs.declared.buffer.category.hb_unicode_general_category_t.TheVariants.{Lo, Zs}
@@ -12,9 +13,10 @@ use Rattle.shapers_buffer.specs.declared.buffer.glyph.hb_glyph_info_t.{hb_glyph_
 use Rattle.shapers_buffer.specs.declared.buffer.level.BufferClusterLevel.TheVariants.{Characters, MonotoneCharacters, MonotoneGraphemes}
 use Rattle.shapers_buffer.specs.Buffer.{Buffer, new_buffer}
 use Rattle.shapers_buffer.specs.Glyph.{characters, clusters, default_glyph, default_position}
+use Rattle.shapers_clusters.specs.Breaks.{IsClear}
 use Rattle.shapers_hangul.specs.Hangul.{preprocessed}
 use Rattle.shapers_stretch.specs.Stretch.{marks_stretched}
-use Rattle.shapers_text.specs.ThaiForms.{preprocessed_text}
+use Rattle.shapers_text.specs.ThaiForms.{preprocessed_flagged, preprocessed_text}
 use Rattle.shapers_breaks.specs.HangulBreaks.{NarrowTonesJoin}
 use Rattle.shapers_breaks.specs.TextBreaks.{IsClusterBorder, back_half, front_half}
 use Rattle.shapers_breaks.specs.ThaiBreaks.{ThaiMarksJoin, sara_ams_taken}
@@ -92,6 +94,46 @@ row_nikhahit = refl
 row_nikhahit_halves : characters (formed (glyph 0x0E1B 0 ∷ []) ++ formed (glyph 0x0E33 1 ∷ [])) ≡ 0x0E1B ∷ 0x0E4D
     ∷ 0x0E32 ∷ []
 row_nikhahit_halves = refl
+
+-- with Sound the glyph of the greater cluster is flagged, so the place before the mark isn't clear
+abbrev soundly : List hb_glyph_info_t → List hb_glyph_info_t
+soundly gs = preprocessed_flagged Sound true (λ u. u == 0xF710 || u == 0xF711) MonotoneCharacters gs
+
+abbrev masks : List hb_glyph_info_t → List ℕ
+masks gs = map (λ g. g.mask) gs
+
+row_clear_as_code : IsClear (formed (glyph 0x0E1B 0 ∷ glyph 0x0E31 1 ∷ [])) 1
+row_clear_as_code = record { differ = λ e. absurd (omega (arith, e)); unflagged = refl }
+
+row_unclear : IsClear (soundly (glyph 0x0E1B 0 ∷ glyph 0x0E31 1 ∷ [])) 1 → ⊥
+row_unclear clear = absurd (let e : true ≡ false = clear.unflagged in cc)
+
+row_sound_rising : masks (soundly (glyph 0x0E1B 0 ∷ glyph 0x0E31 1 ∷ [])) ≡ 0 ∷ 3 ∷ []
+row_sound_rising = refl
+
+row_sound_falling : masks (soundly (glyph 0x0E1B 1 ∷ glyph 0x0E31 0 ∷ [])) ≡ 3 ∷ 0 ∷ []
+row_sound_falling = refl
+
+-- nor is it before a NIKHAHIT, whose cluster has an unflagged glyph besides
+row_sound_nikhahit : masks (soundly (glyph 0x0E1B 0 ∷ glyph 0x0E33 1 ∷ [])) ≡ 0 ∷ 3 ∷ 0 ∷ []
+row_sound_nikhahit = refl
+
+row_unclear_nikhahit : IsClear (soundly (glyph 0x0E1B 0 ∷ glyph 0x0E33 1 ∷ [])) 1 → ⊥
+row_unclear_nikhahit clear = absurd (let e : true ≡ false = clear.unflagged in cc)
+
+-- marks that open a text have no base, and are flagged from its start
+row_sound_no_base : masks (soundly (glyph 0x0E31 0 ∷ glyph 0x0E31 1 ∷ [])) ≡ 0 ∷ 3 ∷ []
+row_sound_no_base = refl
+
+-- before the next letter the place stays clear, and the halves are the whole
+abbrev two_letters : List hb_glyph_info_t
+two_letters = glyph 0x0E1B 0 ∷ glyph 0x0E31 1 ∷ glyph 0x0E1B 2 ∷ []
+
+row_clear_soundly : IsClear (soundly two_letters) 2
+row_clear_soundly = record { differ = λ e. absurd (omega (arith, e)); unflagged = refl }
+
+row_sound_whole : soundly two_letters ≡ soundly (glyph 0x0E1B 0 ∷ glyph 0x0E31 1 ∷ []) ++ soundly (glyph 0x0E1B 2 ∷ [])
+row_sound_whole = refl
 
 -- HANGUL. LV and an old T, by characters: LV comes apart before it alone
 abbrev font_of : List ℕ → ℤ → Font

@@ -92,14 +92,14 @@ sara_ams_break plan font old new none m mono is p z l differ =
     ∙ ap (λ hs. one.glyphs ++ hs) (sym (two_of plan font none (back_half at.place old) two second)))
 
 -- PRIVATE USE FORMS
-formed_of : (plan : hb_ot_shape_plan_t) (font : Font) → asks_for_forms plan ≡ true → (b c : Buffer)
+pub formed_of : (plan : hb_ot_shape_plan_t) (font : Font) → asks_for_forms plan ≡ true → (b c : Buffer)
     → Preprocessed Thai plan font b c
     → c.glyphs ≡ preprocessed_flagged plan.break_flags true (has_nominal font) b.level b.glyphs
 formed_of plan font asked b c is = ap (λ (d : Buffer). d.glyphs) is
     ∙ ap (λ f. preprocessed_flagged plan.break_flags f (has_nominal font) b.level b.glyphs) asked
 
 -- they change no cluster, and in the order view they are those of the text with its SARA AMs in two
-formed_clusters : (plan : hb_ot_shape_plan_t) (font : Font) → asks_for_forms plan ≡ true → (b c : Buffer)
+pub formed_clusters : (plan : hb_ot_shape_plan_t) (font : Font) → asks_for_forms plan ≡ true → (b c : Buffer)
     → Preprocessed Thai plan font b c → clusters c.glyphs ≡ clusters (sara_ams_taken b.level b.glyphs)
 formed_clusters plan font asked b c is =
     ap clusters (formed_of plan font asked b c is)

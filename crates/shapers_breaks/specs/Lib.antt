@@ -6,6 +6,7 @@ pub mod MarkBreaks
 pub mod KeptFlags
 pub mod TextBreaks
 pub mod ThaiBreaks
+pub mod ThaiSound
 pub mod HangulBreaks
 pub mod StretchBreaks
 pub mod KeptTextBreaks

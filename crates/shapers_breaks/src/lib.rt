@@ -16,6 +16,7 @@ ghost use Rattle.shapers_breaks.specs.ScriptBreaks.{MyanmarHasNoRepha, PausesBre
 ghost use Rattle.shapers_breaks.specs.SetUp.{SetUpBreaksLaw};
 ghost use Rattle.shapers_breaks.specs.StretchBreaks.{StretchBreaksLaw};
 ghost use Rattle.shapers_breaks.specs.ThaiBreaks.{SaraAmsBreakLaw, ThaiFormsBreakLaw};
+ghost use Rattle.shapers_breaks.specs.ThaiSound.{ThaiSoundBreakLaw};
 ghost use Rattle.shapers_breaks.specs.KeptTextBreaks.{KeptTextBreaksApartLaw, KeptTextBreaksLaw};
 
 use shapers_indic_final::ot_shaper_indic_final::laws::{final_reorder_laws, final_text_laws};
@@ -82,10 +83,11 @@ pub fn kept_flags_law()
 
 /// A Thai or Lao text that was preprocessed may be broken wherever two clusters meet, where clusters
 /// rise or fall, at the levels that merge; with private use forms where each mark is in the cluster of
-/// the glyph before it once the SARA AMs are in two.
+/// the glyph before it once the SARA AMs are in two; with these and `Sound`, at every clear place.
 pub fn thai_breaks_law()
     ensures sara_ams { SaraAmsBreakLaw }
     ensures forms { ThaiFormsBreakLaw }
+    ensures sound { ThaiSoundBreakLaw }
 {}
 
 /// A Hangul text that was preprocessed may be broken wherever two clusters meet, where clusters are
