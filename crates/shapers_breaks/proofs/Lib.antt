@@ -5,6 +5,7 @@ pub mod CircledBorders
 pub mod PauseBreaks
 pub mod UniversalSetUp
 pub mod ScriptBreaks
+pub mod UniversalSound
 mod BreakRows
 pub mod MergedHalves
 pub mod MarkBreaks
@@ -15,6 +16,7 @@ pub mod ThaiBreaks
 pub mod HangulBreaks
 pub mod StretchCuts
 pub mod StretchBreaks
+mod UniversalSoundRows
 mod MarkBreakRows
 mod TextBreakRows
 pub mod KeptFlags
