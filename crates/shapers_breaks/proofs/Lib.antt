@@ -5,6 +5,7 @@ pub mod CircledBorders
 pub mod PauseBreaks
 pub mod UniversalSetUp
 pub mod ScriptBreaks
+pub mod UniversalSound
 mod BreakRows
 pub mod MergedHalves
 pub mod MarkBreaks
@@ -16,6 +17,7 @@ pub mod ThaiSound
 pub mod HangulBreaks
 pub mod StretchCuts
 pub mod StretchBreaks
+mod UniversalSoundRows
 mod MarkBreakRows
 mod TextBreakRows
 pub mod KeptFlags

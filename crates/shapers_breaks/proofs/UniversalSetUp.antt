@@ -112,7 +112,7 @@ forms_kept m before off (syl ∷ syls) =
     (in_forms masks (joins_runs syl) syls)
     (formed_kept m before (first_joins syls) off syl) (forms_kept m (joins_runs syl) off syls)
 
-forms_for_kept : (arabic : Option arabic_shape_plan_t) (m : Map) → FormsOffFlags arabic m → (gs : Glyphs)
+pub forms_for_kept : (arabic : Option arabic_shape_plan_t) (m : Map) → FormsOffFlags arabic m → (gs : Glyphs)
     → KeepShapes gs (with_forms_for arabic m gs)
 forms_for_kept (Some p) m off gs = all_same gs
 forms_for_kept None m off gs =
@@ -129,7 +129,7 @@ rphf_kept mask gs =
     (all_append KeepsShape (take n gs) (map (with_bits mask) (take n gs)) (drop n gs) (drop n gs)
     (mapped_kept (with_bits mask) (bits_kept mask) (take n gs)) (all_same (drop n gs)))
 
-rphfs_kept : (mask : ℕ) (syls : List Glyphs) → KeepShapes (flat_map (λ syl. syl) syls) (flat_map (with_rphf mask) syls)
+pub rphfs_kept : (mask : ℕ) (syls : List Glyphs) → KeepShapes (flat_map (λ syl. syl) syls) (flat_map (with_rphf mask) syls)
 rphfs_kept mask [] = tt
 rphfs_kept mask (syl ∷ syls) = all_append KeepsShape syl (with_rphf mask syl) (flat_map (λ s. s) syls)
     (flat_map (with_rphf mask) syls) (rphf_kept mask syl) (rphfs_kept mask syls)

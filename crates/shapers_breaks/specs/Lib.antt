@@ -2,6 +2,7 @@ pub mod ClearSteps
 pub mod SetUp
 pub mod PauseBreaks
 pub mod ScriptBreaks
+pub mod UniversalSound
 pub mod MarkBreaks
 pub mod KeptFlags
 pub mod TextBreaks

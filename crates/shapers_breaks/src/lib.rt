@@ -17,6 +17,7 @@ ghost use Rattle.shapers_breaks.specs.SetUp.{SetUpBreaksLaw};
 ghost use Rattle.shapers_breaks.specs.StretchBreaks.{StretchBreaksLaw};
 ghost use Rattle.shapers_breaks.specs.ThaiBreaks.{SaraAmsBreakLaw, ThaiFormsBreakLaw};
 ghost use Rattle.shapers_breaks.specs.ThaiSound.{ThaiSoundBreakLaw};
+ghost use Rattle.shapers_breaks.specs.UniversalSound.{UniversalSoundBreaks};
 ghost use Rattle.shapers_breaks.specs.KeptTextBreaks.{KeptTextBreaksApartLaw, KeptTextBreaksLaw};
 
 use shapers_indic_final::ot_shaper_indic_final::laws::{final_reorder_laws, final_text_laws};
@@ -62,6 +63,12 @@ pub fn script_breaks_law()
     universal_reorder_laws();
     universal_cuts_between_spans();
 }
+
+/// Where letters don't join, the set-up of the universal shaper with `Sound` may be broken at every
+/// clear place, masks of forms included, whatever the clusters.
+pub fn universal_sound_breaks_law()
+    ensures { UniversalSoundBreaks }
+{}
 
 /// A text whose marks a shaper reordered may be broken at every clear place, where no place within
 /// their run was clear before: each half is what it is by itself, glyph for glyph.
