@@ -13,7 +13,7 @@ use Rattle.shapers_buffer.specs.Buffer.{Buffer}
 use Rattle.shapers_buffer.specs.Clusters.{merges}
 use Rattle.shapers_buffer.specs.Glyph.{characters, clusters, order_view}
 use Rattle.shapers_clusters.specs.ClusterMerges.{joined_all}
-use Rattle.shapers_clusters.specs.Cuts.{EndWithin, held}
+use Rattle.shapers_clusters.specs.Cuts.{EndWithin, IsMonotone, held}
 use Rattle.shapers_hangul.specs.Hangul.{allows_circles, first_item, is_narrow, is_syllable, is_tone, item_len, item_stretches, items, items_from, opening_unit, preprocessed, stretches, taken, tone_len, tone_stretch}
 use Rattle.shapers_hangul.specs.HangulLaws.{hangul_sources}
 use Rattle.shapers_hangul.proofs.HangulClusters.{clusters-rewritten, rewritten_holds}
@@ -23,8 +23,8 @@ use Rattle.rustybuzz_shapers.specs.declared.shaper.hb_ot_shaper_t.TheVariants.{H
 use Rattle.rustybuzz_shapers.proofs.HangulHalves.{ends_within, hangul_clusters_halves, hangul_order-flagged, hangul_order_halves}
 use Rattle.rustybuzz_shapers.proofs.HangulMonotone.{hangul_stays_monotone}
 use Rattle.shapers_breaks.specs.HangulBreaks.{HangulBreaksLaw}
-use Rattle.shapers_breaks.specs.TextBreaks.{JoinsOrder, back_half, front_half}
-use Rattle.shapers_breaks.proofs.MeetingPlaces.{InOneOrder, contains_picked, unheld_at}
+use Rattle.shapers_breaks.specs.TextBreaks.{JoinsOrder, TextBroken, back_half, front_half}
+use Rattle.shapers_breaks.proofs.MeetingPlaces.{InOneOrder, UnheldAt, contains_picked, unheld_at}
 use Rattle.shapers_breaks.proofs.TextBreaks.{broken_text}
 
 -- AN ITEM
@@ -61,7 +61,7 @@ tone_behind s n q free tone = elim (cases_lt s q) [
   | inr before ↦ inr before
 ]
 
-by_tone : {X : Type 0} (Q : X → Type 0) (a b : Bool) (behind before absent : X) → (a ≡ true → b ≡ true → Q behind)
+pub by_tone : {X : Type 0} (Q : X → Type 0) (a b : Bool) (behind before absent : X) → (a ≡ true → b ≡ true → Q behind)
     → Q before → Q absent → Q (cond a (cond b behind before) absent)
 by_tone Q true true behind before absent x y z = x refl refl
 by_tone Q true false behind before absent x y z = y
@@ -123,34 +123,43 @@ made_order : (plan : hb_ot_shape_plan_t) (font : Font) (b c : Buffer) → Prepro
 made_order plan font b c is = ap (λ (d : Buffer). order_view d.glyphs) is
     ∙ hangul_order-flagged plan.break_flags font (allows_circles b) b.level b.glyphs
 
-pub hangul_breaks : HangulBreaksLaw
-hangul_breaks plan font old new graphemes mono join is p z l differ =
+-- where in the text the clusters meet of which those at a border of the result were made
+pub hangul_meeting : (plan : hb_ot_shape_plan_t) (font : Font) (old new : Buffer) → merges old.level ≡ true
+    → IsMonotone (clusters old.glyphs) → Preprocessed Hangul plan font old new → (p : ℕ) → 0 < p
+    → p < length new.glyphs → get_or (clusters new.glyphs) (p - 1) 0 ≢ get_or (clusters new.glyphs) p 0
+    → UnheldAt (clusters old.glyphs) (stretches old.level (items font (allows_circles old) (characters old.glyphs)))
+    (clusters new.glyphs) p
+hangul_meeting plan font old new m mono is p z l differ =
     let cluster : hb_glyph_info_t → ℕ = λ g. g.cluster in
     let gs = old.glyphs in
     let us = characters gs in
     let level = old.level in
     let circles = allows_circles old in
-    let m : merges level ≡ true = ap merges graphemes in
     let cut = items font circles us in
     let sts = stretches level cut in
-    let long = length-map gs cluster in
     let stays = hangul_stays_monotone plan font old new m is in
     let order : InOneOrder (clusters gs) (clusters new.glyphs) =
     elim mono [ inl up ↦ inl (up, stays.0 up) | inr down ↦ inr (down, stays.1 down) ] in
-    let ends : EndWithin (length (clusters gs)) sts =
-    subst (λ k. EndWithin k sts) (sym long) (ends_within level font circles gs) in
     let picked : clusters new.glyphs ≡ _ = made_clusters plan font old new is
     ∙ (rewritten_holds font circles level gs).in_clusters.made.clusters_are in
-    let at = unheld_at level m sts (clusters gs) (clusters new.glyphs) ends order
+    unheld_at level m sts (clusters gs) (clusters new.glyphs)
+    (subst (λ k. EndWithin k sts) (sym (length-map gs cluster)) (ends_within level font circles gs)) order
     (subst (All (Contains (joined_all level sts (clusters gs)))) (sym picked)
     (contains_picked (hangul_sources cut (length us)) (joined_all level sts (clusters gs)))) p z
-    (omega (arith, l, length-map new.glyphs cluster)) differ in
+    (omega (arith, l, length-map new.glyphs cluster)) differ
+
+-- between two items the text may be broken there
+pub broken_between : (plan : hb_ot_shape_plan_t) (font : Font) (old new : Buffer) (sts : List (ℕ × ℕ)) (p : ℕ)
+    → IsMonotone (clusters old.glyphs) → Preprocessed Hangul plan font old new
+    → (at : UnheldAt (clusters old.glyphs) sts (clusters new.glyphs) p)
+    → IsBetweenItems font (allows_circles old) (characters old.glyphs) at.place
+    → TextBroken (Preprocessed Hangul plan font) JoinsOrder old new p
+broken_between plan font old new sts p mono is at between =
+    let gs = old.glyphs in
+    let level = old.level in
+    let circles = allows_circles old in
     let q = at.place in
-    let within : q < length gs = omega (arith, at.within, long) in
-    let free : held (stretches MonotoneGraphemes cut) q ≡ false =
-    subst (λ k. held (stretches k cut) q ≡ false) graphemes at.free in
-    let between : IsBetweenItems font circles us q =
-    between_from font circles us [] q 0 us refl (λ tone narrow. at.differ (join q at.some within tone narrow)) free in
+    let within : q < length gs = omega (arith, at.within, length-map gs (λ (g : hb_glyph_info_t). g.cluster)) in
     let xs = take q gs in
     let ys = drop q gs in
     let text : gs ≡ xs ++ ys = sym (take-append-drop q gs) in
@@ -176,3 +185,19 @@ hangul_breaks plan font old new graphemes mono join is p z l differ =
           (sym (made_clusters plan font (front_half q old) one first))
           ∙ ap (λ cs. clusters one.glyphs ++ cs) (sym (made_clusters plan font (back_half q old) two second)),
     ))
+
+pub hangul_breaks : HangulBreaksLaw
+hangul_breaks plan font old new graphemes mono join is p z l differ =
+    let us = characters old.glyphs in
+    let circles = allows_circles old in
+    let cut = items font circles us in
+    let at = hangul_meeting plan font old new (ap merges graphemes) mono is p z l differ in
+    let q = at.place in
+    let free : held (stretches MonotoneGraphemes cut) q ≡ false =
+    subst (λ k. held (stretches k cut) q ≡ false) graphemes at.free in
+    broken_between plan font old new (stretches old.level cut) p mono is at
+    (between_from font circles us [] q 0 us refl (λ tone narrow. at.differ (join q at.some (omega (
+      arith,
+      at.within,
+      length-map old.glyphs (λ (g : hb_glyph_info_t). g.cluster),
+    )) tone narrow)) free)

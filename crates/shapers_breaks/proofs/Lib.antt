@@ -15,6 +15,7 @@ pub mod TextBreaks
 pub mod ThaiBreaks
 pub mod ThaiSound
 pub mod HangulBreaks
+pub mod HangulSound
 pub mod StretchCuts
 pub mod StretchBreaks
 mod UniversalSoundRows

@@ -1,10 +1,12 @@
 -- Texts that hooks made anew, whole and in halves, written out from the rules.
-use Rattle.std.proofs.Common.{ℕ, ◌≡◌, ◌==◌, ◌||◌, true, false, List, [], ◌∷◌, ◌++◌, ℤ, pos, negsuc, map, refl, arith}
+use Rattle.std.proofs.Common.{ℕ, ◌≡◌, ◌==◌, ◌||◌, true, false, List, [], ◌∷◌, ◌++◌, ℤ, pos, negsuc, map, refl, sym, arith}
 use Rattle.std.specs.Prelude.{None, Some, if◌then◌else◌}
 use Rattle.std.specs.List.{list_any}
+use Rattle.std.proofs.lemmas.Bool.{false≢true}
 use Rattle.shapers_base.specs.Font.{Font}
-use Rattle.shapers_base.specs.declared.plan.breaks.BreakFlags.TheVariants.{Sound}
 use Rattle.shapers_base.specs.declared.plan.arabic.StretchStart.TheVariants.{AsCode}
+use Rattle.shapers_base.specs.declared.plan.breaks.BreakFlags.TheVariants as BreakFlags
+use Rattle.shapers_base.specs.declared.plan.breaks.BreakFlags.TheVariants.{Sound}
 use Rattle.shapers_buffer.specs.declared.buffer.category.hb_unicode_general_category_t.{hb_unicode_general_category_t}
 use Rattle.shapers_buffer.specs.declared.buffer.category.hb_unicode_general_category_t.TheVariants.{Lo, Zs}
 use Rattle.shapers_buffer.specs.declared.buffer.level.Direction.TheVariants.{RightToLeft}
@@ -14,7 +16,7 @@ use Rattle.shapers_buffer.specs.declared.buffer.level.BufferClusterLevel.TheVari
 use Rattle.shapers_buffer.specs.Buffer.{Buffer, new_buffer}
 use Rattle.shapers_buffer.specs.Glyph.{characters, clusters, default_glyph, default_position}
 use Rattle.shapers_clusters.specs.Breaks.{IsClear}
-use Rattle.shapers_hangul.specs.Hangul.{preprocessed}
+use Rattle.shapers_hangul.specs.Hangul.{preprocessed, text_rewritten}
 use Rattle.shapers_stretch.specs.Stretch.{marks_stretched}
 use Rattle.shapers_text.specs.ThaiForms.{preprocessed_flagged, preprocessed_text}
 use Rattle.shapers_breaks.specs.HangulBreaks.{NarrowTonesJoin}
@@ -188,6 +190,35 @@ wide_font = font_of (0xAC00 ∷ 0x302E ∷ 0x25CC ∷ []) (pos 500)
 
 row_wide : clusters (preprocessed wide_font true MonotoneGraphemes (glyph 0xAC00 0 ∷ glyph 0x302E 1 ∷ [])) ≡ 0 ∷ 0 ∷ []
 row_wide = refl
+
+-- with all flags of `Sound` neither place is clear, by characters: the greater cluster is flagged
+abbrev sounded : Font → List hb_glyph_info_t → List hb_glyph_info_t
+sounded font gs = text_rewritten Sound font true MonotoneCharacters gs
+
+row_old_t_flags : map (λ (g : hb_glyph_info_t). g.mask) (sounded old_font old_t) ≡ 0 ∷ 0 ∷ 3 ∷ []
+row_old_t_flags = refl
+
+row_old_t_flags_as_code : map (λ (g : hb_glyph_info_t). g.mask)
+    (text_rewritten BreakFlags.AsCode old_font true MonotoneCharacters old_t) ≡ 0 ∷ 0 ∷ 0 ∷ []
+row_old_t_flags_as_code = refl
+
+row_old_t_unclear : IsClear (sounded old_font old_t) 2 → ⊥
+row_old_t_unclear clear = absurd (false≢true (sym clear.unflagged))
+
+row_tone_flags : map (λ (g : hb_glyph_info_t). g.mask) (sounded narrow_font (glyph 0xAC00 0 ∷ glyph 0x302E 1 ∷ []))
+    ≡ 0 ∷ 3 ∷ []
+row_tone_flags = refl
+
+row_tone_flags_falling : map (λ (g : hb_glyph_info_t). g.mask)
+    (sounded narrow_font (glyph 0xAC00 1 ∷ glyph 0x302E 0 ∷ [])) ≡ 3 ∷ 0 ∷ []
+row_tone_flags_falling = refl
+
+row_tone_unclear : IsClear (sounded narrow_font (glyph 0xAC00 0 ∷ glyph 0x302E 1 ∷ [])) 1 → ⊥
+row_tone_unclear clear = absurd (false≢true (sym clear.unflagged))
+
+-- between two syllables one is
+row_syllables_clear : IsClear (sounded narrow_font (glyph 0xAC00 0 ∷ glyph 0xAC00 1 ∷ [])) 1
+row_syllables_clear = record { differ = λ e. absurd (omega (arith, e)); unflagged = refl }
 
 -- STRETCH. A space, a letter of 140 and a fixed tile of 100
 abbrev drawn : ℕ → ℕ → hb_unicode_general_category_t → ℕ → hb_glyph_info_t

@@ -9,6 +9,7 @@ pub mod TextBreaks
 pub mod ThaiBreaks
 pub mod ThaiSound
 pub mod HangulBreaks
+pub mod HangulSound
 pub mod StretchBreaks
 pub mod KeptTextBreaks
 pub mod IndicBreaks

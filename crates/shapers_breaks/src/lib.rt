@@ -8,6 +8,7 @@ ghost use Rattle.shapers_breaks.specs.ChainBreaks.{ChainBreaksBy, InitialChainBr
 ghost use Rattle.shapers_breaks.specs.ClearSteps.{ClearBeforeLaw};
 ghost use Rattle.shapers_breaks.specs.FinalBreaks.{FinalTextBreaks};
 ghost use Rattle.shapers_breaks.specs.HangulBreaks.{HangulBreaksLaw};
+ghost use Rattle.shapers_breaks.specs.HangulSound.{HangulSoundBreaksLaw};
 ghost use Rattle.shapers_breaks.specs.IndicBreaks.{InitialPausesBreak, InitialTextBreaks};
 ghost use Rattle.shapers_breaks.specs.KeptFlags.{AddedFlagsClearNone, PausesClearNone};
 ghost use Rattle.shapers_breaks.specs.MarkBreaks.{MarksBreakLaw};
@@ -99,9 +100,11 @@ pub fn thai_breaks_law()
 
 /// A Hangul text that was preprocessed may be broken wherever two clusters meet, where clusters are
 /// whole graphemes and rise or fall, and each tone without width is in the cluster of the glyph
-/// before it.
+/// before it. With all flags of `Sound` it may be broken at every clear place, where clusters rise or
+/// fall, at the levels that merge.
 pub fn hangul_breaks_law()
-    ensures { HangulBreaksLaw }
+    ensures graphemes { HangulBreaksLaw }
+    ensures sound { HangulSoundBreaksLaw }
 {}
 
 /// A text whose marks were stretched may be broken at every clear place, where clusters rise or fall:
