@@ -4,6 +4,7 @@ pub enum BreakFlags {
     /// Those that the code of HarfBuzz flags.
     #[default]
     AsCode,
-    /// In joining, those too where a piece of the broken text would lose a form.
+    /// Those too where a piece of the broken text would be shaped differently: in joining, in the forms
+    /// of the universal shaper, in Hangul, and in Thai's private use forms.
     Sound,
 }

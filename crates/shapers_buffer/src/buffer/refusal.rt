@@ -5,19 +5,19 @@ use thiserror::Error;
 #[derive(Clone, Copy, Debug, PartialEq, Eq, Error)]
 pub enum ShaperError {
     /// A growth was refused.
-    #[error("Memory")]
+    #[error("memory was refused")]
     Memory,
     /// The result would be longer than `max_len`.
-    #[error("TooLong")]
+    #[error("the text would be longer than the buffer's limit")]
     TooLong,
     /// A syllable is of unknown kind: the first place of the first one.
-    #[error("UnknownSyllable")]
+    #[error("a syllable is of a kind that the shaper doesn't know")]
     UnknownSyllable(usize),
     /// A span is empty, or the lengths don't add up to the buffer's.
-    #[error("SpansDontCover")]
+    #[error("a span is empty, or spans don't add up to the buffer's length")]
     SpansDontCover,
     /// A sum of the stretch rule doesn't fit its type.
-    #[error("StretchOverflow")]
+    #[error("a number of a stretched mark doesn't fit 32 bits")]
     StretchOverflow,
 }
 
