@@ -5,18 +5,15 @@ ghost use Rattle.hbhook_lines.specs.Text.{preparation_by_lines};
 ghost use Rattle.shapers_buffer.specs.Settings.{character_of};
 ghost use Rattle.shapers_pipeline.specs.Prepared.{text_prepared};
 ghost use Rattle.shapers_pipeline.specs.Refusals.{IsStopped};
-ghost use Rattle.shapers_plan.specs.Planning.{driver_masks};
 
 use hbhook_commands::{LineFont, LineTables};
 use rustybuzz_shapers::buffer::{hb_buffer_t, hb_tag_t, hb_unicode_general_category_t};
 use rustybuzz_shapers::font::{GlyphId, Tables, hb_font_t};
-use rustybuzz_shapers::map::hb_ot_map_t;
 use rustybuzz_shapers::plan::{Category, Position, hb_arabic_joining_type_t};
 use rustybuzz_shapers::shaper::checked::CallError;
 use shapers_normal::ot_shape_normalize::Rounds;
 use shapers_normalize::{NormalizeFont, NormalizeSettings, NormalizeTables};
 use shapers_pipeline::{TextPlan, prepare_text};
-use shapers_plan::ot_shape_plan::DriverMasks;
 use shapers_prepare::ot_shape_prepare::UnicodeProperties;
 use shapers_unicode::{UnicodeTables, is_default_ignorable, modified_combining_class};
 
@@ -44,19 +41,6 @@ pub(crate) fn prepare(
     };
     let (font, tables) = (TextFont { font }, TextTables { tables });
     prepare_text(plan, &settings, &font, &tables, buffer)
-}
-
-/// The masks of the features that preparing a text turns on itself.
-pub(crate) fn driver_masks(map: &hb_ot_map_t) -> DriverMasks
-    ensures { result ≡ driver_masks map.now }
-{
-    DriverMasks {
-        frac: map.get_1_mask(hb_tag_t(*b"frac")),
-        numr: map.get_1_mask(hb_tag_t(*b"numr")),
-        dnom: map.get_1_mask(hb_tag_t(*b"dnom")),
-        rtlm: map.get_1_mask(hb_tag_t(*b"rtlm")),
-        vert: map.get_1_mask(hb_tag_t(*b"vert")),
-    }
 }
 
 // A font of which no line gives forms that selectors select.

@@ -29,8 +29,9 @@ pub(crate) fn position_text<F: MetricsFont, L: Lookups>(
     ensures ok { let p = positioning_by plan.now settings.now (F.font font.now) (F.metrics font.now)
         (L.marks lookups.now) (L.positioned lookups.now) (L.finished lookups.now) in
         OnOk result (buffer.new ≡ text_positioned p buffer.old) }
-    ensures err { let p = positioning_by plan.now settings.now (F.font font.now) (F.metrics font.now)
-        (L.marks lookups.now) (L.positioned lookups.now) (L.finished lookups.now) in
+    ensures err { let p = positioning_by
+        plan.now settings.now (F.font font.now) (F.metrics font.now) (L.marks lookups.now)
+        (L.positioned lookups.now) (L.finished lookups.now) in
         OnErr result (PositionsStopped p buffer.old buffer.new) }
 {
     let applies_gpos = plan.applies_gpos();
@@ -84,8 +85,8 @@ fn is_late(zeroing: ZeroWidthMarks) -> bool
     matches!(zeroing, ZeroWidthMarks::GDEF_LATE)
 }
 
-// Whether marks without an advance hang over the glyph before them: without GPOS, where the text runs
-// forward. Where it runs backward they will hang over the one behind them.
+// Whether marks without an advance hang over the glyph before them: without GPOS, where the text
+// runs forward. Where it runs backward they will hang over the one behind them.
 #[inline]
 fn hangs_marks(applies_gpos: bool, direction: Direction) -> bool
     ensures { result ≡ hangs_marks applies_gpos direction }

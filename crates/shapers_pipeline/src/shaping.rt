@@ -32,8 +32,8 @@ use shapers_prepare::ot_shape_prepare::UnicodeProperties;
 ///
 /// # Errors
 ///
-/// Those of `substitute_text`, so that with the `max_len` of `length_bound` `TooLong` comes behind the
-/// lookups of GSUB alone; `Memory` for the positions, and nothing has changed then since the
+/// Those of `substitute_text`, so that with the `max_len` of `length_bound` `TooLong` comes behind
+/// the lookups of GSUB alone; `Memory` for the positions, and nothing has changed then since the
 /// last lookup of GSUB; the refusal of a lookup of GPOS, with the text as it was before that one;
 /// the condition `Glyphs` where a number above 65535 stands in a text whose marks may stretch, and
 /// the refusal of stretching them, and the text has all its positions then.
@@ -98,8 +98,9 @@ fn finish_text<F: MetricsFont, L: Lookups>(
     ensures ok { let q = positioning_by plan.now settings.now (F.font font.now) (F.metrics font.now)
         (L.marks lookups.now) (L.positioned lookups.now) (L.finished lookups.now) in
         OnOk result (buffer.new ≡ text_postprocessed q buffer.old) }
-    ensures err { let q = positioning_by plan.now settings.now (F.font font.now) (F.metrics font.now)
-        (L.marks lookups.now) (L.positioned lookups.now) (L.finished lookups.now) in
+    ensures err { let q = positioning_by
+        plan.now settings.now (F.font font.now) (F.metrics font.now) (L.marks lookups.now)
+        (L.positioned lookups.now) (L.finished lookups.now) in
         IfErr result (λ e. FinishStopped q buffer.old buffer.new e) }
 {
     position_text(plan, settings, font, lookups, buffer)?;

@@ -6,7 +6,7 @@ ghost use Rattle.shapers_plan.specs.Planning.{default_choices, text_plan};
 
 use crate::ot_map::{CompiledMap, FontFeatures, Stage, StageLookup};
 use collecting::{collect, text_shaper};
-use making::{driver_masks, hooks_plan, takes_gpos, user_ranges};
+use making::{hooks_plan, takes_gpos, user_ranges};
 use rustybuzz_shapers::shaper::hb_ot_shaper_t;
 use shapers_base::buffer::{Direction, Script, ShaperError};
 use shapers_base::font::hb_font_t;
@@ -21,6 +21,7 @@ mod making;
 mod user;
 
 pub use choices::ShapeChoices;
+pub use making::driver_masks;
 pub use user::{UserFeature, UserRange};
 
 /// The masks of features that the driver itself turns on; 0 where the font lacks one.

@@ -56,7 +56,7 @@ pub use crate::generated::shapers_plan::ot_map::{
     F_GLOBAL_SEARCH, F_RANDOM, FontFeatures, Stage, StageLookup,
 };
 pub use crate::generated::shapers_plan::ot_shape_plan::{
-    DriverMasks, ShapeChoices, ShapePlan, UserFeature, UserRange,
+    DriverMasks, ShapeChoices, ShapePlan, UserFeature, UserRange, driver_masks,
 };
 
 #[cfg(test)]

@@ -3,7 +3,7 @@ ghost use Rattle.std.specs.Prelude.{◌≡◌, ◌≤◌, ◌↔◌, [], is_ok, 
 ghost use Rattle.rustybuzz_shapers.specs.Hooks.{PlanFits};
 
 use super::Session;
-use crate::text::{driver_masks, prepare};
+use crate::text::prepare;
 use hbhook_commands::{Expected, HookCall, LineFault};
 use rustybuzz_shapers::buffer::{Span, hb_glyph_info_t};
 use rustybuzz_shapers::plan::hb_ot_shape_plan_t;
@@ -13,6 +13,7 @@ use rustybuzz_shapers::shaper::{
     run_pause,
 };
 use shapers_pipeline::TextPlan;
+use shapers_plan::ot_shape_plan::driver_masks;
 
 // The conditions of calls.
 const SHAPER: Expected = Expected::Condition("a line `set shaper` before it");

@@ -15,7 +15,7 @@ use shapers_base::plan::hb_ot_shape_plan_t;
 use std::alloc::Global;
 
 /// The masks of the features that the driver turns on.
-pub(super) fn driver_masks(map: &hb_ot_map_t) -> DriverMasks
+pub fn driver_masks(map: &hb_ot_map_t) -> DriverMasks
     ensures { result ≡ driver_masks map.now }
 {
     DriverMasks {

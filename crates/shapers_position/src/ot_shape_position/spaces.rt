@@ -94,7 +94,8 @@ fn is_space_separator(category: hb_unicode_general_category_t) -> bool
 
 // The width of a space of a kind, whose glyph has this advance along the line.
 fn space_width<F: MetricsFont>(font: &F, is_horizontal: bool, kind: u8, advance: i32) -> i32
-    ensures { result ≡ space_width (F.font font.now) (F.metrics font.now) is_horizontal kind advance }
+    ensures { let metrics = F.metrics font.now in
+        result ≡ space_width (F.font font.now) metrics is_horizontal kind advance }
 {
     match kind {
         1..=6 | 16 => along_line(is_horizontal, part_of_em(font.units_per_em(), kind)),
@@ -124,7 +125,8 @@ fn four_eighteenths(em: u16) -> u32
     u32::from(em) * 4 / 18
 }
 
-// The advance, along the line, of the first of these characters that the font has, or else this one.
+// The advance, along the line, of the first of these characters that the font has, or else this
+// one.
 fn first_advance<F: MetricsFont>(
     font: &F,
     is_horizontal: bool,

@@ -6,11 +6,9 @@
 use crate::generated::hbhook_commands::{LineFont, LineTables};
 use sengadlit::buffer::{Buffer, GeneralCategory, Tag};
 use sengadlit::font::{Font, GlyphId, Tables};
-use sengadlit::map::Map;
 use sengadlit::ot_shape::{TextPlan, prepare_text};
 use sengadlit::ot_shape_normalize::Rounds;
 use sengadlit::ot_shape_normalize::{NormalizeFont, NormalizeSettings, NormalizeTables};
-use sengadlit::ot_shape_plan::DriverMasks;
 use sengadlit::ot_shape_prepare::UnicodeProperties;
 use sengadlit::plan::{Category, JoiningType, Position};
 use sengadlit::shaper::checked::CallError;
@@ -31,17 +29,6 @@ pub(crate) fn prepare(
     };
     let (font, tables) = (TextFont { font }, TextTables { tables });
     prepare_text(plan, &settings, &font, &tables, buffer)
-}
-
-/// The masks of the features that preparing a text turns on itself.
-pub(crate) fn driver_masks(map: &Map) -> DriverMasks {
-    DriverMasks {
-        frac: map.one_mask(Tag(*b"frac")),
-        numr: map.one_mask(Tag(*b"numr")),
-        dnom: map.one_mask(Tag(*b"dnom")),
-        rtlm: map.one_mask(Tag(*b"rtlm")),
-        vert: map.one_mask(Tag(*b"vert")),
-    }
 }
 
 // A font of which no line gives forms that selectors select.

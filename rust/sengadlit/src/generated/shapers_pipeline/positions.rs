@@ -64,8 +64,8 @@ fn is_late(zeroing: ZeroWidthMarks) -> bool {
     matches!(zeroing, ZeroWidthMarks::GDEF_LATE)
 }
 
-// Whether marks without an advance hang over the glyph before them: without GPOS, where the text runs
-// forward. Where it runs backward they will hang over the one behind them.
+// Whether marks without an advance hang over the glyph before them: without GPOS, where the text
+// runs forward. Where it runs backward they will hang over the one behind them.
 #[inline]
 fn hangs_marks(applies_gpos: bool, direction: Direction) -> bool {
     !applies_gpos && runs_forward(direction)

@@ -22,8 +22,8 @@ use crate::generated::shapers_prepare::ot_shape_prepare::UnicodeProperties;
 ///
 /// # Errors
 ///
-/// Those of `substitute_text`, so that with the [`max_len`] of `length_bound` [`TooLong`] comes behind the
-/// lookups of GSUB alone; [`Memory`] for the positions, and nothing has changed then since the
+/// Those of `substitute_text`, so that with the [`max_len`] of `length_bound` [`TooLong`] comes behind
+/// the lookups of GSUB alone; [`Memory`] for the positions, and nothing has changed then since the
 /// last lookup of GSUB; the refusal of a lookup of GPOS, with the text as it was before that one;
 /// the condition `Glyphs` where a number above 65535 stands in a text whose marks may stretch, and
 /// the refusal of stretching them, and the text has all its positions then.

@@ -12,7 +12,7 @@ use crate::generated::shapers_base::plan::Plan;
 use crate::generated::shapers_plan::ot_map::{CompiledMap, FontFeatures, Stage, StageLookup};
 use crate::support::alloc::Global;
 use collecting::{collect, text_shaper};
-use making::{driver_masks, hooks_plan, takes_gpos, user_ranges};
+use making::{hooks_plan, takes_gpos, user_ranges};
 
 mod choices;
 mod collecting;
@@ -20,6 +20,7 @@ mod making;
 mod user;
 
 pub use choices::ShapeChoices;
+pub use making::driver_masks;
 pub use user::{UserFeature, UserRange};
 
 /// The masks of features that the driver itself turns on; 0 where the font lacks one.

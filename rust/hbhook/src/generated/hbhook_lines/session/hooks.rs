@@ -4,9 +4,10 @@
 
 use super::Session;
 use crate::generated::hbhook_commands::{Expected, HookCall, LineFault};
-use crate::generated::hbhook_lines::text::{driver_masks, prepare};
+use crate::generated::hbhook_lines::text::prepare;
 use sengadlit::buffer::{GlyphInfo, Span};
 use sengadlit::ot_shape::TextPlan;
+use sengadlit::ot_shape_plan::driver_masks;
 use sengadlit::plan::Plan;
 use sengadlit::shaper::checked::{CallError, Condition};
 use sengadlit::shaper::{

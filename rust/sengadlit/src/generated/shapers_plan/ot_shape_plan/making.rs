@@ -14,7 +14,19 @@ use crate::generated::shapers_plan::ot_map::{FontFeatures, MappedFeature};
 use crate::support::alloc::Global;
 
 /// The masks of the features that the driver turns on.
-pub(super) fn driver_masks(map: &Map) -> DriverMasks {
+///
+/// <details><summary>Contract</summary>
+///
+/// # Contract
+///
+/// ```text
+/// ensures { result ≡ driver_masks map.now }
+/// ```
+///
+/// - `driver_masks`: `crates/shapers_plan/specs/Planning.antt`
+///
+/// </details>
+pub fn driver_masks(map: &Map) -> DriverMasks {
     DriverMasks {
         frac: map.one_mask(Tag(*b"frac")),
         numr: map.one_mask(Tag(*b"numr")),

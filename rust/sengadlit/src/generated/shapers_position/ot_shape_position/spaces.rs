@@ -112,7 +112,8 @@ fn four_eighteenths(em: u16) -> u32 {
     u32::from(em) * 4 / 18
 }
 
-// The advance, along the line, of the first of these characters that the font has, or else this one.
+// The advance, along the line, of the first of these characters that the font has, or else this
+// one.
 fn first_advance<F: MetricsFont>(
     font: &F,
     is_horizontal: bool,
