@@ -293,7 +293,7 @@ shifted-twice a s (st ∷ sts) =
     ap (λ x. (x, a + (s + st.1)) ∷ shifted a (shifted s sts)) i
     ∙ ap (λ y. (a + s + st.0, y) ∷ shifted a (shifted s sts)) j ∙ ap (λ l. (a + s + st.0, a + s + st.1) ∷ l) r
 
-added-twice : (a s : ℕ) (ps : List ℕ) → map (λ p. a + p) (map (λ p. s + p) ps) ≡ map (λ p. a + s + p) ps
+pub added-twice : (a s : ℕ) (ps : List ℕ) → map (λ p. a + p) (map (λ p. s + p) ps) ≡ map (λ p. a + s + p) ps
 added-twice a s [] = refl
 added-twice a s (p ∷ ps) = let i : a + (s + p) ≡ a + s + p =
     omega arith in ap (λ x. x ∷ map (λ p. a + p) (map (λ p. s + p) ps)) i

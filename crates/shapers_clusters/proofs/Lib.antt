@@ -8,6 +8,7 @@ pub mod CarriedRuns
 pub mod ClearPlaces
 pub mod Cuts
 pub mod StepsOutside
+pub mod EqualArguments
 pub mod Falls
 pub mod FlagCalls
 pub mod FlagLaw
