@@ -15,7 +15,7 @@ use Rattle.shapers_syllabic.proofs.ReorderingLemmas.{carried_hides}
 use Rattle.shapers_syllabic.proofs.ReorderingLaws.{numbers-seen, text_reordered}
 use Rattle.shapers_indic.specs.Plan.{indic_in}
 use Rattle.shapers_indic_final.proofs.FinalKept.{finally_kept}
-use Rattle.shapers_indic_final.proofs.FinalLaws.{final_laws}
+use Rattle.shapers_indic_final.specs.Proved.FinalLaws.{final_laws}
 use Rattle.shapers_indic_final.specs.FinalRules.{final_rules}
 use Rattle.shapers_indic_initial.proofs.FontPositions.{order_by_font_laws}
 use Rattle.shapers_khmer.specs.Khmer.{order_in}
