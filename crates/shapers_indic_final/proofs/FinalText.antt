@@ -29,7 +29,7 @@ use Rattle.shapers_indic_final.specs.declared.ot_shaper_indic_final.rules.Rules.
 use Rattle.shapers_indic_final.specs.Proved.FinalLaws.{final_laws}
 use Rattle.shapers_indic_final.proofs.FinalWordStartViews.{HidesBits, map-bound_from}
 use Rattle.shapers_syllabic.specs.Borders.{MeetAtBorder}
-use Rattle.shapers_syllabic.specs.Reordering.{SyllableReordered, carried, text_order}
+use Rattle.shapers_syllabic.specs.Reordering.{SyllableReordered, SyllablesLinked, SyllablesReordered, carried, text_order}
 use Rattle.shapers_syllabic.specs.ReorderingLaws.{ReorderLaws, TextReordered}
 use Rattle.shapers_syllabic.proofs.Borders.{OfByte, border-view, one_run, syllables-append, syllables-mapped}
 use Rattle.shapers_syllabic.proofs.HiddenCuts.{clusters-carried}
@@ -235,12 +235,14 @@ halves r script level all new gs hs order in_clusters is border =
     }
 
 -- a chain leads there
-pub reordered_by_links : (r : Rules) (old new : Buffer) → FinallyLinked r old new → FinallyReordered r old new
-reordered_by_links r old new chain =
+pub reordered_by_chain : (r : Rules) (old mid : Buffer) → SyllablesLinked
+    (SyllableReordered (final_order r old.script) (final_steps r old.script)) old mid
+    → SyllablesReordered (final_order r old.script) (final_steps r old.script) old mid
+reordered_by_chain r old mid =
     let f = final_order r old.script in
-    let steps = final_steps r old.script in (
-      chain.0,
-      text_moved (λ _. f) (λ _. steps) (SyllableReordered f steps) old chain.0
-          (λ _. numbers_kept f steps (final_laws r old.script)) (λ s e b c done. done) chain.1,
-      chain.2,
-    )
+    let steps = final_steps r old.script in
+    text_moved (λ _. f) (λ _. steps) (SyllableReordered f steps) old mid
+    (λ _. numbers_kept f steps (final_laws r old.script)) (λ s e b c done. done)
+
+pub reordered_by_links : (r : Rules) (old new : Buffer) → FinallyLinked r old new → FinallyReordered r old new
+reordered_by_links r old new linked = (linked.0, reordered_by_chain r old linked.0 linked.1, linked.2)
