@@ -12,7 +12,15 @@ use Rattle.shapers_syllabic.proofs.HiddenCuts.{cuts_with_serials}
 use Rattle.shapers_syllabic.proofs.ReorderingCuts.{cuts_at_borders}
 use Rattle.shapers_syllabic.proofs.ReorderingLaws.{text_reordered}
 use Rattle.shapers_syllabic.proofs.Serials.{serials_dont_count}
-use Rattle.rustybuzz_shapers.specs.Pauses.{CarriedAtBorders, Reordered, Reordering, ReorderingKeeps}
+use Rattle.shapers_base.specs.declared.plan.hb_ot_shape_plan_t.{hb_ot_shape_plan_t}
+use Rattle.shapers_base.specs.Font.{Font}
+use Rattle.shapers_indic.specs.Plan.{indic_in}
+use Rattle.shapers_indic_final.specs.FinalRules.{final_rules}
+use Rattle.shapers_indic_final.specs.FinalWordStart.{FinallyLinked}
+use Rattle.shapers_indic_final.specs.Proved.FinalLaws.{final_laws}
+use Rattle.shapers_indic_final.proofs.FinalSerials.{final_reads_no_serials}
+use Rattle.shapers_indic_final.proofs.FinalText.{reordered_by_chain}
+use Rattle.rustybuzz_shapers.specs.Pauses.{CarriedAtBorders, OneByOne, Reordered, Reordering, ReorderingKeeps, ThenOpened, by_final}
 
 carried_at_borders : (r : Reordering) (old new : Buffer) → ReadsNoSerials r.order r.steps
     → PauseCutsAtBorders r.circles r.order r.steps old new → CarriedAtBorders r old new
@@ -50,3 +58,20 @@ on_kept P (Err _) r old new laws reads done more = tt
 pub both : (P Q : Type 0) (result : Result Bool ShaperError) → OnOk result P → OnOk result Q → OnOk result (P × Q)
 both P Q (Ok _) p q = (p, q)
 both P Q (Err _) p q = tt
+
+-- the final reordering of Indic, by its chain
+pub final_keeps : (plan : hb_ot_shape_plan_t) (font : Font) (old new : Buffer)
+    → FinallyLinked (final_rules font (indic_in plan)) old new
+    → ThenOpened plan font (λ mid. ReorderingKeeps (by_final plan font old) old mid × OneByOne (by_final plan font old)
+    old mid) new
+final_keeps plan font old new linked =
+    let r = final_rules font (indic_in plan) in
+    (
+      linked.0,
+      (
+        reordering_keeps (by_final plan font old) old linked.0 (final_laws r old.script)
+            (final_reads_no_serials r old.script) (reordered_by_chain r old linked.0 linked.1),
+        linked.1,
+      ),
+      linked.2,
+    )

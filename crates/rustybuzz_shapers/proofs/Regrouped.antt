@@ -15,7 +15,8 @@ use Rattle.shapers_syllabic.proofs.ReorderingLemmas.{carried_hides}
 use Rattle.shapers_syllabic.proofs.ReorderingLaws.{numbers-seen, text_reordered}
 use Rattle.shapers_indic.specs.Plan.{indic_in}
 use Rattle.shapers_indic_final.proofs.FinalKept.{finally_kept}
-use Rattle.shapers_indic_final.proofs.FinalLaws.{final_laws}
+use Rattle.shapers_indic_final.proofs.FinalText.{finished}
+use Rattle.shapers_indic_final.specs.Proved.FinalLaws.{final_laws}
 use Rattle.shapers_indic_final.specs.FinalRules.{final_rules}
 use Rattle.shapers_indic_initial.proofs.FontPositions.{order_by_font_laws}
 use Rattle.shapers_khmer.specs.Khmer.{order_in}
@@ -69,7 +70,7 @@ syllables_regrouped ReorderUse plan font spans old new done =
     }
 syllables_regrouped FinalReordering plan font spans old new done =
     record {
-      order = done.order;
+      order = (finished (final_rules font (indic_in plan)) old new done).order;
       numbers = (finally_kept (final_rules font (indic_in plan)) old new done).numbers;
       each
           = each_kept _ _ (final_laws (final_rules font (indic_in plan)) old.script);

@@ -10,7 +10,7 @@ use Rattle.shapers_clusters.specs.Laws.{ReorderedHold}
 use Rattle.shapers_clusters.specs.Steps.{Step}
 use Rattle.shapers_indic.specs.Plan.{indic_in, is_indic_data}
 use Rattle.shapers_indic_final.specs.FinalLaws.{FinallyKept}
-use Rattle.shapers_indic_final.specs.FinalWordStart.{FinallyLinked, FinallyReordered}
+use Rattle.shapers_indic_final.specs.FinalWordStart.{WordsOpened}
 use Rattle.shapers_indic_final.specs.FinalReordering.{final_order, final_steps}
 use Rattle.shapers_indic_final.specs.FinalRules as final
 use Rattle.shapers_indic_initial.specs.InitialLaws.{InitiallyMerged}
@@ -141,6 +141,11 @@ pause_circles pause plan font b = option_and_then (λ r. r.circles) (reordering_
 abbrev pub Reordered : Reordering → Buffer → Buffer → Type 0
 Reordered r old new = PauseReordered r.circles r.order r.steps old new
 
+-- the buffer after the final reordering of Indic: what that made of it, each syllable then opened
+abbrev pub ThenOpened : hb_ot_shape_plan_t → Font → (Buffer → Type 0) → Buffer → Type 0
+ThenOpened plan font made new =
+    (mid : Buffer) × made mid × WordsOpened (final.final_rules font (indic_in plan)).init mid new
+
 -- the buffer before and after the pause; where it reorders, the placement list is empty then
 abbrev pub Paused : Pause → hb_ot_shape_plan_t → Font → List Span → Buffer → Buffer → Type 0
 Paused SetupSyllablesIndic plan font spans old new =
@@ -159,7 +164,7 @@ Paused ReorderKhmer plan font spans old new = Reordered (by_khmer plan font old)
 Paused ReorderMyanmar plan font spans old new = Reordered (by_myanmar font old) old new
 Paused ReorderUse plan font spans old new = Reordered (by_universal font old) old new
 Paused FinalReordering plan font spans old new =
-    FinallyReordered (final.final_rules font (indic_in plan)) old new
+    ThenOpened plan font (Reordered (by_final plan font old) old) new
 Paused RecordStch plan font spans old new = new ≡ tiles_recorded plan.plan_data old
 Paused RecordRphf plan font spans old new = new ≡ with_rphf_recorded (rphf_of plan.plan_data) old
 Paused RecordPref plan font spans old new = new ≡ with_pref_recorded old
@@ -229,7 +234,7 @@ OneByOne r old new = PauseLinked r.circles (SyllableReordered r.order r.steps) o
 -- The laws of a pause: spans may be cut between any two, and texts at any border of syllables; what
 -- becomes of clusters and glyph flags. What doesn't reorder leaves clusters, and only adds flags.
 -- What reorders does so by syllables. In Indic clusters merge by the cycles of the initial order,
--- and by the moves of the final one. In Khmer the movers of a regular syllable come to its front.
+-- and by the moves of the final one, behind which syllables are opened. In Khmer the movers of a regular syllable come to its front.
 abbrev pub PauseKeeps : Pause → hb_ot_shape_plan_t → Font → List Span → Buffer → Buffer → Type 0
 PauseKeeps SetupSyllablesIndic plan font spans old new =
     SetUpCutsAtSpans spans indic_syllable.BROKEN_CLUSTER old new
@@ -260,7 +265,8 @@ PauseKeeps ReorderUse plan font spans old new =
     × (OneByOne (by_universal font old) old new × MergedFirst (by_universal font old) old new)
 PauseKeeps FinalReordering plan font spans old new =
     FinallyKept (final.final_rules font (indic_in plan)) old new
-    × (FinallyLinked (final.final_rules font (indic_in plan)) old new
+    × (ThenOpened plan font (λ mid. ReorderingKeeps (by_final plan font old) old mid
+    × OneByOne (by_final plan font old) old mid) new
     × NoNewCluster old.glyphs new.glyphs)
 PauseKeeps _ plan font spans old new = OnlyFlagsAdded old.glyphs new.glyphs
 

@@ -39,8 +39,8 @@ use Rattle.shapers_indic_final.specs.FinalClusters.{EachSyllableCuts, FinalCutsL
 use Rattle.shapers_clusters.proofs.SparedCuts.{exact_spared}
 use Rattle.shapers_indic_final.specs.FinalGlyphs.{last_goes_first}
 use Rattle.shapers_indic_final.specs.FinalMatras.{end_of_base, has_room, is_left, matra_step, matra_steps, matra_target, matras_go, merging_step}
-use Rattle.shapers_indic_final.proofs.FinalMoves.{permutes_first_last, permutes_last_first, picks_first_last, picks_last_first}
-use Rattle.shapers_indic_final.proofs.LeftMatraMoves.{lefts, lefts_no, lefts_yes, steps_of}
+use Rattle.shapers_indic_final.specs.Proved.FinalMoves.{permutes_first_last, permutes_last_first, picks_first_last, picks_last_first}
+use Rattle.shapers_indic_final.specs.Proved.LeftMatraMoves.{lefts, lefts_no, lefts_yes, steps_of}
 use Rattle.shapers_clusters.specs.Steps.{SpareMerged, Spares, StaysAt}
 use Rattle.shapers_clusters.proofs.StaysMerged.{merged_stay, spare_moves, spare_then}
 use Rattle.std.specs.Prelude.{nat_lt}
@@ -50,10 +50,10 @@ use Rattle.shapers_indic_final.specs.FinalPref.{formed_pref, pref_move, pref_ste
 use Rattle.shapers_indic_final.specs.FinalReordering.{after_matras, after_reph, based, final_steps, steps_of_pref}
 use Rattle.shapers_indic_final.specs.FinalReph.{opens_with_reph, final_reph_step, reph_steps, reph_target}
 use Rattle.shapers_indic_final.specs.declared.ot_shaper_indic_final.rules.Rules.{Rules}
-use Rattle.shapers_indic_final.proofs.FinalHidden.{base_within, hidden-based, hidden-viramas}
-use Rattle.shapers_indic_final.proofs.FinalLawsAt.{length_at, stretch_at}
-use Rattle.shapers_indic_final.proofs.FinalTargets.{PlaceWithin, formed_pref_within, opens_some, pref_target_within, reph_target_within}
-use Rattle.shapers_indic_final.proofs.FinalLaws.{final_laws, matras_at, merging_at, reph_at, target_within}
+use Rattle.shapers_indic_final.specs.Proved.FinalHidden.{base_within, hidden-based, hidden-viramas}
+use Rattle.shapers_indic_final.specs.Proved.FinalLawsAt.{length_at, stretch_at}
+use Rattle.shapers_indic_final.specs.Proved.FinalTargets.{PlaceWithin, formed_pref_within, opens_some, pref_target_within, reph_target_within}
+use Rattle.shapers_indic_final.specs.Proved.FinalLaws.{final_laws, matras_at, merging_at, reph_at, target_within}
 
 -- a stretch of places changed: those around it stay, those inside come from inside
 pub record ChangedWithin (i k n : ℕ) (ps : List ℕ) : Type 0 where

@@ -1,11 +1,10 @@
 -- A set-up by spans, a reordering pause and the final reordering, directly after one another, cut between two spans.
 use Rattle.std.proofs.Common.{ℕ, ◌-◌, ◌<◌, ◌≤◌, ◌≡◌, List, [], ◌∷◌, ◌++◌, map, length, take, drop, get_or, slice_index, Option, None, refl, sym, ◌∙◌, ap, subst, arith, take-append-drop}
 use Rattle.std.specs.Prelude.{All}
-use Rattle.std.specs.List.{Contains, flat_map, sum_by}
-use Rattle.std.specs.List.Sorted.{IsPermutation}
-use Rattle.std.proofs.lemmas.List.{append-nil, drop-map, drop_at, get_or_default, length-map, map-append, take-map, take_at}
-use Rattle.std.proofs.lemmas.List.Elements.{All-cons, All-get_or, All-head, All-map, All-nil, All-tail}
-use Rattle.std.proofs.lemmas.List.Sorted.{All-permutation, IsPermutation-map, length_permutation}
+use Rattle.std.specs.List.{Contains, sum_by}
+use Rattle.std.proofs.lemmas.List.{drop-map, drop_at, get_or_default, length-map, map-append, take-map, take_at}
+use Rattle.std.proofs.lemmas.List.Elements.{All-get_or}
+use Rattle.std.proofs.lemmas.List.Sorted.{length_permutation}
 use Rattle.shapers_buffer.specs.declared.buffer.glyph.hb_glyph_info_t.{hb_glyph_info_t}
 use Rattle.shapers_buffer.specs.declared.buffer.level.BufferClusterLevel.{BufferClusterLevel}
 use Rattle.shapers_buffer.specs.declared.buffer.tag.Script.{Script}
@@ -24,7 +23,7 @@ use Rattle.shapers_indic_final.specs.FinalWordStart.{FinallyReordered, final_tex
 use Rattle.shapers_indic_final.specs.FinalReordering.{final_order, final_steps}
 use Rattle.shapers_indic_final.specs.declared.ot_shaper_indic_final.rules.Rules.{Rules}
 use Rattle.shapers_indic_final.proofs.FinalSerials.{final_reads_no_serials, final_text_reads_no_serials}
-use Rattle.shapers_indic_final.proofs.FinalText.{bits_text, clusters-whole, halves}
+use Rattle.shapers_indic_final.proofs.FinalText.{bits_text, finished, halves, kept_byte}
 use Rattle.shapers_syllabic.specs.declared.ot_shaper_syllabic.circles.DottedCircles.{DottedCircles}
 use Rattle.shapers_syllabic.specs.declared.ot_shaper_syllabic.kinds.indic_syllable.TheConstants.{BROKEN_CLUSTER}
 use Rattle.shapers_syllabic.specs.Borders.{MeetAtBorder, SameButSerials, unnumbered}
@@ -33,54 +32,18 @@ use Rattle.shapers_syllabic.specs.Reordering.{carried, text_order, text_steps}
 use Rattle.shapers_syllabic.specs.ReorderingLaws.{ReadsNoSerials, ReorderLaws, paused_clusters, paused_order}
 use Rattle.shapers_syllabic.specs.SpanCuts.{CutsAtBorders}
 use Rattle.shapers_syllabic.specs.Syllabic.{unsafe_spans}
-use Rattle.shapers_syllabic.proofs.Borders.{OfByte, SameEnds, border-view, border_by, ends-kept, one_run, syllables-mapped, syllables_cut}
+use Rattle.shapers_syllabic.proofs.Borders.{SameEnds, border-view, border_by, ends-kept, syllables-mapped, syllables_cut}
 use Rattle.shapers_syllabic.proofs.CircleLaws.{joined-syllables, no_new_cluster}
 use Rattle.shapers_syllabic.proofs.HiddenCuts.{pauses_cut_between_spans}
 use Rattle.shapers_syllabic.proofs.PauseCuts.{clusters-set_up}
 use Rattle.shapers_syllabic.proofs.ReorderingCuts.{border-circled, circled-append, text_order-append, text_order-halves}
 use Rattle.shapers_syllabic.proofs.ReorderingLaws.{each_piece, nothing_lost, sum-syllables, text_steps-long}
-use Rattle.shapers_syllabic.proofs.ReorderingWalk.{length-meaning, pieces_of}
+use Rattle.shapers_syllabic.proofs.ReorderingWalk.{pieces_of}
 use Rattle.shapers_syllabic.proofs.Serials.{joined_same, pieces_same, same-circled, same-view, same_text, unnumbered_passes}
 use Rattle.shapers_syllabic.proofs.SpanCuts.{spans_cut}
 
 abbrev Glyphs : Type 0
 Glyphs = List hb_glyph_info_t
-
--- a reordering keeps the bytes of syllables
-bytes-seen : (gs : Glyphs) → map (λ (g : hb_glyph_info_t). g.syllable) (seen carried gs) ≡ map (λ g. g.syllable) gs
-bytes-seen [] = refl
-bytes-seen (g ∷ gs) = ap (λ bs. g.syllable ∷ bs) (bytes-seen gs)
-
-unmapped : (byte : ℕ) (gs : Glyphs) → All (λ b. b ≡ byte) (map (λ g. g.syllable) gs) → All (λ g. g.syllable ≡ byte) gs
-unmapped byte [] h = All-nil (λ (g : hb_glyph_info_t). g.syllable ≡ byte)
-unmapped byte (g ∷ gs) h =
-    let P : ℕ → Type 0 = λ b. b ≡ byte in
-    let rest = map (λ (x : hb_glyph_info_t). x.syllable) gs in
-    All-cons (λ (x : hb_glyph_info_t). x.syllable ≡ byte) g gs (All-head P g.syllable rest h)
-    (unmapped byte gs (All-tail P g.syllable rest h))
-
-kept_byte : (meaning : Glyphs → Glyphs) (steps : Glyphs → List Step) → ReorderLaws meaning steps
-    → (byte : ℕ) (gs : Glyphs) → OfByte byte gs → OfByte byte (meaning gs)
-kept_byte meaning steps laws byte gs u =
-    let P : ℕ → Type 0 = λ b. b ≡ byte in
-    let read : hb_glyph_info_t → ℕ = λ g. g.syllable in
-    let lost = nothing_lost meaning steps laws gs in
-    let whole : text_order meaning gs ≡ meaning gs = ap (flat_map meaning) (one_run byte gs u)
-    ∙ append-nil (meaning gs) in
-    let kept : IsPermutation (seen carried gs) (seen carried (meaning gs)) =
-    subst (λ xs. IsPermutation (seen carried gs) (seen carried xs)) whole lost.kept in
-    let all : All P (map read gs) = All-map P read gs u.all in
-    let before : All P (map read (seen carried gs)) = subst (All P) (sym (bytes-seen gs)) all in
-    let after : All P (map read (seen carried (meaning gs))) =
-    All-permutation P (map read (seen carried gs)) (map read (seen carried (meaning gs)))
-    (IsPermutation-map read (seen carried gs) (seen carried (meaning gs)) kept) before in
-    let many = length-meaning meaning steps laws gs in
-    let some = u.some in
-    record {
-      some = omega (arith, many, some);
-      all = unmapped byte (meaning gs)
-          (subst (All P) (bytes-seen (meaning gs)) after);
-    }
 
 -- the ends of a text after a pause
 ends_after : (meaning : Glyphs → Glyphs) (steps : Glyphs → List Step) → ReorderLaws meaning steps → (xs : Glyphs)
@@ -255,21 +218,21 @@ shown_halves r script gs hs xs ys border one two =
 
 -- the pause alone, cut at a border of syllables
 pub final_cuts_with_serials : (r : Rules) (old new : Buffer) → FinallyReordered r old new
-    → clusters new.glyphs ≡ final_clusters r old.script old.level old.glyphs
     → CutsAtBorders (uninitiated r) (λ gs. final_text r old.script (order_view gs))
     (final_clusters r old.script old.level) old.glyphs new.glyphs
-final_cuts_with_serials r old new done are gs hs xs ys text border one two =
+final_cuts_with_serials r old new done gs hs xs ys text border one two =
+    let f = finished r old new done in
     let script = old.script in
     let level = old.level in
     let V = map (uninitiated r) in
     let C = final_clusters r script level in
     let parts : order_view old.glyphs ≡ order_view gs ++ order_view hs = ap order_view text ∙ map-append plain gs hs in
-    let law = halves r script level old.glyphs new.glyphs gs hs done.order are text border in
+    let law = halves r script level old.glyphs new.glyphs gs hs f.order f.clusters_are text border in
     let front = final_text_reads_no_serials r script gs xs one in
     let back = final_text_reads_no_serials r script hs ys two in
     record {
       order =
-          ap V (done.order ∙ ap (final_text r script) parts)
+          ap V (f.order ∙ ap (final_text r script) parts)
           ∙ shown_halves r script (order_view gs) (order_view hs) (order_view xs) (order_view ys)
           (border-view gs hs border) (same-view gs xs one) (same-view hs ys two);
       in_clusters = λ none. law.in_clusters none ∙ ap (λ cs. cs ++ C hs) (front.in_clusters level)
@@ -279,6 +242,7 @@ final_cuts_with_serials r old new done are gs hs xs ys text border one two =
 pub final_cuts_between_spans : FinalCutsBetweenSpans
 final_cuts_between_spans r meaning steps circles spans old mid new laws reads kinds paused done ss ts gs hs xs ys split
     text first second one two =
+    let f = finished r mid new done in
     let script = old.script in
     let level = old.level in
     let kept : mid.script ≡ script = ap (λ (b : Buffer). b.script) paused.others in
@@ -300,7 +264,7 @@ final_cuts_between_spans r meaning steps circles spans old mid new laws reads ki
     let front : SameButSerials (P F) (P xs) = same_after circles meaning steps laws reads F xs one in
     let back : SameButSerials (P B) (P ys) = same_after circles meaning steps laws reads B ys (cut.renumbered ∙ two) in
     let ordered : order_view new.glyphs ≡ final_text r script (order_view mid.glyphs) =
-    done.order ∙ ap (λ s. final_text r s (order_view mid.glyphs)) kept in
+    f.order ∙ ap (λ s. final_text r s (order_view mid.glyphs)) kept in
     record {
       order = ap V (ordered ∙ ap (final_text r script) parts)
           ∙ shown_halves r script (P F) (P B) (P xs) (P ys) border front back;
@@ -339,7 +303,7 @@ final_cuts_between_spans r meaning steps circles spans old mid new laws reads ki
           (subst (All (Contains (clusters (circled circles ys)))) (sym kc) two_facts.among)) in
           let apart : ShareNone G K = apart_among gs hs G K ga ka none in
           let are : clusters new.glyphs ≡ final_clusters r script level mid.glyphs =
-          clusters-whole r mid.script mid.level mid.glyphs new.glyphs done.moved
+          f.clusters_are
           ∙ ap (λ s. final_clusters r s mid.level mid.glyphs) kept
           ∙ ap (λ l. final_clusters r script l mid.glyphs) still in
           let law = halves r script level mid.glyphs new.glyphs G K ordered are whole meet in

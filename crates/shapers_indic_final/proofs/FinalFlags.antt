@@ -1,31 +1,20 @@
 -- Glyph flags after the final reordering of a text.
-use Rattle.std.proofs.Common.{ℕ, ◌+◌, ◌-◌, ◌%◌, ◌≤◌, ◌≡◌, ◌==◌, Bool, true, false, if◌then◌else◌, inl, inr, ◌⊎◌, List, [], ◌∷◌, ◌++◌, map, length, length-append, take, drop, get_or, Option, refl, sym, ◌∙◌, ap, subst, arith}
+use Rattle.std.proofs.Common.{ℕ, ◌+◌, ◌-◌, ◌%◌, ◌≤◌, ◌≡◌, ◌==◌, Bool, true, false, if◌then◌else◌, inl, inr, ◌⊎◌, List, [], ◌∷◌, ◌++◌, map, length, take, drop, get_or, Option, refl, ◌∙◌, ap, subst, arith}
 use Rattle.std.specs.Prelude.{bit_or}
-use Rattle.std.specs.List.{AllZip, flat_map}
+use Rattle.std.specs.List.{AllZip}
 use Rattle.std.proofs.lemmas.Bool.{cases_lt}
 use Rattle.std.proofs.lemmas.Nat.{or_mod}
 use Rattle.shapers_buffer.specs.declared.buffer.glyph.hb_glyph_info_t.{hb_glyph_info_t}
-use Rattle.shapers_buffer.specs.declared.buffer.level.BufferClusterLevel.{BufferClusterLevel}
-use Rattle.shapers_buffer.specs.declared.buffer.tag.Script.{Script}
 use Rattle.shapers_buffer.specs.Clusters.{least, stretch_of}
 use Rattle.shapers_buffer.specs.Glyph.{clusters, default_glyph}
 use Rattle.shapers_buffer.specs.GlyphFlags.{flagged, unsafe_inside, with_bits, with_bits_off}
-use Rattle.shapers_buffer.specs.Places.{pick}
 use Rattle.shapers_buffer.proofs.MaskBits.{or_assoc}
 use Rattle.shapers_buffer.proofs.ClusterLemmas.{three_parts}
 use Rattle.shapers_clusters.specs.Flags.{FlagsFall}
-use Rattle.shapers_clusters.specs.Steps.{old_places, run_steps}
-use Rattle.shapers_clusters.proofs.Falls.{all_append, all_flags_fall, all_over}
-use Rattle.shapers_clusters.proofs.Moves.{within-old_places}
-use Rattle.shapers_clusters.proofs.Picks.{AllZip-pick, pick-all, pick-pick}
-use Rattle.shapers_clusters.proofs.Proved.{steps_hold}
+use Rattle.shapers_clusters.proofs.Falls.{all_append, all_over}
 use Rattle.shapers_indic_final.specs.FinalLaws.{FlagsFallButBreaks}
-use Rattle.shapers_indic_final.specs.FinalWordStart.{bound_at, is_bound, last_or, syllable_run, text_run}
-use Rattle.shapers_indic_final.specs.FinalReordering.{final_order}
-use Rattle.shapers_indic_final.specs.declared.ot_shaper_indic_final.rules.Rules.{Rules}
-use Rattle.shapers_indic_final.proofs.FinalText.{length-syllable, steps_from, syllable_fits, syllable_steps}
+use Rattle.shapers_indic_final.specs.FinalWordStart.{bound_at, bound_from, is_bound, last_or}
 use Rattle.shapers_syllabic.specs.Reordering.{carried}
-use Rattle.shapers_clusters.proofs.Moves.{old_places_then}
 
 -- one glyph
 or_three : (m : ℕ) → bit_or m 3 % 8 ≡ bit_or (m % 8) 3
@@ -112,49 +101,17 @@ all_carried (x ∷ xs) (y ∷ ys) e =
           (ap (λ (gs : List hb_glyph_info_t). drop 1 gs) e),
     )
 
--- the text
-flags-syllable : (r : Rules) (script : Option Script) (level : BufferClusterLevel) (s : ℕ)
-    (before : Option hb_glyph_info_t) (syl ys : List hb_glyph_info_t) → s + length syl ≤ length ys
-    → AllZip FlagsFallButBreaks (pick (old_places (length ys) (syllable_steps r script s (length ys) syl)) ys)
-    (syllable_run r script level s before syl ys)
-flags-syllable r script level s before syl ys l =
-    let sts = syllable_steps r script s (length ys) syl in
-    let run = run_steps level sts ys in
-    let held = steps_hold level sts ys (syllable_fits r script s (length ys) syl l) in
-    let moved = pick (old_places (length ys) sts) ys in
-    let b = is_bound before (final_order r script syl) in
-    all_on moved run (bound_at s b run) (all_of moved run (all_flags_fall moved run held.falls)) (all_bound s b run)
+-- the breaks of a text
+pub flags-bound : (s : ℕ) (before : Option hb_glyph_info_t) (syls : List (List hb_glyph_info_t))
+    (gs : List hb_glyph_info_t) → AllZip FlagsFallButBreaks gs (bound_from s before syls gs)
+flags-bound s before [] gs = all_same gs
+flags-bound s before (syl ∷ syls) gs =
+    let b = is_bound before syl in
+    all_on gs (bound_at s b gs) (bound_from (s + length syl) (last_or before syl) syls (bound_at s b gs))
+    (all_bound s b gs) (flags-bound (s + length syl) (last_or before syl) syls (bound_at s b gs))
 
-pub flags-text : (r : Rules) (script : Option Script) (level : BufferClusterLevel) (s : ℕ)
-    (before : Option hb_glyph_info_t) (syls : List (List hb_glyph_info_t)) (ys : List hb_glyph_info_t)
-    → s + length (flat_map (λ syl. syl) syls) ≤ length ys
-    → AllZip FlagsFallButBreaks (pick (old_places (length ys) (steps_from r script (length ys) s syls)) ys)
-    (text_run r script level s before syls ys)
-flags-text r script level s before [] ys l =
-    subst (λ xs. AllZip FlagsFallButBreaks xs ys) (sym (pick-all (length ys) ys refl)) (all_same ys)
-flags-text r script level s before (syl ∷ syls) ys l =
-    let zs = syllable_run r script level s before syl ys in
-    let n = length ys in
-    let sts = syllable_steps r script s n syl in
-    let t = s + length syl in
-    let more = steps_from r script n t syls in
-    let olds = old_places n sts in
-    let nexts = old_places n more in
-    let next = last_or before (final_order r script syl) in
-    let end = text_run r script level t next syls zs in
-    let all = length-append syl (flat_map (λ syl. syl) syls) in
-    let within : s + length syl ≤ n = omega (arith, all) in
-    let long = length-syllable r script level s before syl ys within in
-    let rest : AllZip FlagsFallButBreaks (pick nexts zs) end =
-    subst (λ k. AllZip FlagsFallButBreaks (pick (old_places k (steps_from r script k t syls)) zs) end) long
-    (flags-text r script level t next syls zs (omega (arith, all, long))) in
-    let one = AllZip-pick FlagsFallButBreaks nexts (pick olds ys) zs
-    (flags-syllable r script level s before syl ys within) in
-    let is : pick nexts (pick olds ys) ≡ pick (old_places n (sts ++ more)) ys =
-    pick-pick nexts olds ys (within-old_places n sts)
-    ∙ ap (λ ps. pick ps ys) (sym (old_places_then n sts more (syllable_fits r script s n syl within))) in
-    subst (λ xs. AllZip FlagsFallButBreaks xs end) is (all_on (pick nexts (pick olds ys)) (pick nexts zs) end one rest)
-
-pub flags-whole : (xs ran new : List hb_glyph_info_t) → AllZip FlagsFallButBreaks xs ran
-    → map carried new ≡ map carried ran → AllZip FlagsFallButBreaks xs new
-flags-whole xs ran new h same = all_on xs ran new h (all_carried ran new same)
+-- behind flags that fell
+pub flags-whole : (xs mid bound new : List hb_glyph_info_t) → AllZip FlagsFall xs mid
+    → AllZip FlagsFallButBreaks mid bound → map carried new ≡ map carried bound → AllZip FlagsFallButBreaks xs new
+flags-whole xs mid bound new fell breaks same =
+    all_on xs bound new (all_on xs mid bound (all_of xs mid fell) breaks) (all_carried bound new same)

@@ -22,9 +22,9 @@ use Rattle.shapers_indic_final.specs.FinalReordering.{based, final_order, final_
 use Rattle.shapers_indic_final.specs.FinalReph.{base_after_reph, reph_steps, with_reph}
 use Rattle.shapers_indic_final.specs.FinalWalk.{settled}
 use Rattle.shapers_indic_final.specs.declared.ot_shaper_indic_final.rules.Rules.{Rules}
-use Rattle.shapers_indic_final.proofs.FinalHidden.{base_within, hidden-based, hidden-viramas}
-use Rattle.shapers_indic_final.proofs.FinalLaws.{matras_at, pref_at, reph_at}
-use Rattle.shapers_indic_final.proofs.FinalLawsAt.{LawsAt, length_at}
+use Rattle.shapers_indic_final.specs.Proved.FinalHidden.{base_within, hidden-based, hidden-viramas}
+use Rattle.shapers_indic_final.specs.Proved.FinalLaws.{matras_at, pref_at, reph_at}
+use Rattle.shapers_indic_final.specs.Proved.FinalLawsAt.{LawsAt, length_at}
 use Rattle.shapers_indic_final.proofs.FinalPlain.{TouchesNoFlag, base_after_reph_plain, base_glyphs_plain, base_place_plain, base_tries_plain, matra_steps_plain, pref_steps_plain, reph_steps_plain, viramas_plain}
 use Rattle.shapers_syllabic.specs.Reordering.{SyllableReordered, carried}
 use Rattle.shapers_syllabic.proofs.SyllableThen.{changed_parts, syllable_as, syllable_changed, syllable_mapped, syllable_still, syllable_then}

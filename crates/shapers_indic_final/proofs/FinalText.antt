@@ -1,173 +1,78 @@
--- What the final reordering makes of the clusters of a text, of what is carried along, and of a text cut.
-use Rattle.std.proofs.Common.{ℕ, ◌+◌, ◌-◌, ◌%◌, ◌<◌, ◌≤◌, ◌≡◌, ◌&&◌, not, Bool, true, false, if◌then◌else◌, List, [], ◌∷◌, ◌++◌, map, length, length-append, append_assoc, Option, None, Some, refl, sym, ◌∙◌, ap, subst, arith}
-use Rattle.std.specs.Prelude.{bit_or}
-use Rattle.std.specs.List.{AllByRecursion, AllZip, flat_map, sum_by}
-use Rattle.std.proofs.lemmas.List.{length-map, map-append}
+-- What the final reordering makes of a text, and of a text cut.
+use Rattle.std.proofs.Common.{ℕ, ◌%◌, ◌≤◌, ◌≡◌, ◌&&◌, not, Bool, true, false, if◌then◌else◌, List, [], ◌∷◌, ◌++◌, map, length, append_assoc, Option, None, Some, refl, sym, ◌∙◌, ap, subst, arith}
+use Rattle.std.specs.Prelude.{All, bit_or}
+use Rattle.std.specs.List.{AllZip, flat_map, sum_by}
+use Rattle.std.specs.List.Sorted.{IsPermutation}
+use Rattle.std.proofs.lemmas.List.{append-nil, length-map, map-append}
+use Rattle.std.proofs.lemmas.List.Elements.{All-cons, All-head, All-map, All-nil, All-tail}
 use Rattle.std.proofs.lemmas.List.Folds.{flat_map-map}
-use Rattle.std.proofs.lemmas.List.Sums.{fold-append}
+use Rattle.std.proofs.lemmas.List.Sorted.{All-permutation, IsPermutation-map}
 use Rattle.shapers_buffer.specs.declared.buffer.glyph.hb_glyph_info_t.{hb_glyph_info_t}
 use Rattle.shapers_buffer.specs.declared.buffer.level.BufferClusterLevel.{BufferClusterLevel}
 use Rattle.shapers_buffer.specs.declared.buffer.tag.Script.{Script}
+use Rattle.shapers_buffer.specs.Buffer.{Buffer}
 use Rattle.shapers_buffer.specs.Glyph.{clusters, order_view, plain, without_flags}
 use Rattle.shapers_buffer.specs.GlyphFlags.{with_bits}
 use Rattle.shapers_buffer.specs.Marks.{no_marks}
-use Rattle.shapers_buffer.specs.Places.{pick}
 use Rattle.shapers_buffer.specs.Syllables.{syllables}
 use Rattle.shapers_buffer.proofs.MaskBits.{or_twice}
-use Rattle.shapers_clusters.specs.Flags.{FallsTo, seen}
-use Rattle.shapers_clusters.specs.Steps.{FitSteps, FitsStep, Step, joined_step, joined_steps, old_places, run_step, run_steps, steps_along, widened}
-use Rattle.shapers_clusters.proofs.FlagCalls.{map-unsafe_inside}
-use Rattle.shapers_clusters.proofs.Moves.{clusters-run_steps, within-old_places}
-use Rattle.shapers_clusters.proofs.Picks.{pick-all, pick-pick}
-use Rattle.shapers_clusters.proofs.Proved.{along_holds, steps_hold}
-use Rattle.shapers_clusters.proofs.Views.{seen-run_steps}
-use Rattle.shapers_clusters.proofs.Widened.{all_fit-widened}
-use Rattle.shapers_indic_final.specs.FinalLaws.{BreaksNowhere, FinallyOfHalves, SameButFirstBits, final_clusters, final_text_behind, final_text_steps, with_first_bits}
+use Rattle.shapers_clusters.specs.Flags.{FlagsFall, seen}
+use Rattle.shapers_clusters.specs.Steps.{FitSteps, FitsStep, Step, run_steps}
+use Rattle.shapers_clusters.proofs.Moves.{clusters-run_steps}
+use Rattle.shapers_clusters.proofs.Proved.{along_holds}
+use Rattle.shapers_clusters.proofs.Views.{seen-same}
+use Rattle.shapers_indic_final.specs.FinalLaws.{FinallyOfHalves, SameButFirstBits, final_clusters, final_text_behind, final_text_steps, with_first_bits}
 use Rattle.shapers_indic_final.specs.FinalMatras.{is_left}
-use Rattle.shapers_indic_final.specs.FinalWordStart.{bound_at, final_text, word_goes_on, is_bound, last_or, syllable_run, text_run, with_init, with_inits}
+use Rattle.shapers_indic_final.specs.FinalWordStart.{FinallyLinked, FinallyReordered, bound_from, final_syllables, final_text, word_goes_on, last_or, with_init, with_inits}
 use Rattle.shapers_indic_final.specs.FinalReordering.{final_order, final_steps}
 use Rattle.shapers_indic_final.specs.declared.ot_shaper_indic_final.rules.Rules.{Rules}
-use Rattle.shapers_indic_final.proofs.FinalLaws.{final_laws}
+use Rattle.shapers_indic_final.specs.Proved.FinalLaws.{final_laws}
+use Rattle.shapers_indic_final.proofs.FinalWordStartViews.{HidesBits, map-bound_from}
 use Rattle.shapers_syllabic.specs.Borders.{MeetAtBorder}
-use Rattle.shapers_syllabic.specs.Reordering.{carried, text_order}
-use Rattle.shapers_syllabic.proofs.Borders.{border-view, syllables-append}
-use Rattle.shapers_syllabic.proofs.CircleLaws.{joined-syllables}
-use Rattle.shapers_clusters.proofs.Moves.{old_places_then}
+use Rattle.shapers_syllabic.specs.Reordering.{SyllableReordered, SyllablesLinked, SyllablesReordered, carried, text_order}
+use Rattle.shapers_syllabic.specs.ReorderingLaws.{ReorderLaws, TextReordered}
+use Rattle.shapers_syllabic.proofs.Borders.{OfByte, border-view, one_run, syllables-append, syllables-mapped}
+use Rattle.shapers_syllabic.proofs.HiddenCuts.{clusters-carried}
+use Rattle.shapers_syllabic.proofs.LinkedSyllables.{text_moved}
 use Rattle.shapers_syllabic.proofs.ReorderingCuts.{steps-halves}
-use Rattle.shapers_syllabic.proofs.ReorderingLaws.{each_piece, sum-syllables, text_steps-long}
-use Rattle.shapers_syllabic.proofs.ReorderingLemmas.{carried_hides}
-use Rattle.shapers_syllabic.proofs.ReorderingWalk.{pieces_of}
+use Rattle.shapers_syllabic.proofs.ReorderingLaws.{each_piece, nothing_lost, numbers_kept, sum-syllables, text_reordered, text_steps-long}
+use Rattle.shapers_syllabic.proofs.ReorderingWalk.{length-meaning, pieces_of}
 
--- the mask of init isn't carried along
-pub no_flags : (m : ℕ) → without_flags (m % 8) ≡ 0
-no_flags m = omega arith
+-- a reordering keeps the bytes of syllables
+bytes-seen : (gs : List hb_glyph_info_t) → map (λ (g : hb_glyph_info_t). g.syllable) (seen carried gs) ≡ map (λ g. g.syllable) gs
+bytes-seen [] = refl
+bytes-seen (g ∷ gs) = ap (λ bs. g.syllable ∷ bs) (bytes-seen gs)
 
-pub hidden-bits : (bits : ℕ) (g : hb_glyph_info_t) → plain (carried (with_bits bits g)) ≡ plain (carried g)
-hidden-bits bits g = ap (λ (m : ℕ). record g { cluster = 0; mask = m; category = 0; auxiliary = 0; marks = no_marks })
-    (no_flags (bit_or g.mask bits) ∙ sym (no_flags g.mask))
+unmapped : (byte : ℕ) (gs : List hb_glyph_info_t) → All (λ b. b ≡ byte) (map (λ g. g.syllable) gs) → All (λ g. g.syllable ≡ byte) gs
+unmapped byte [] h = All-nil (λ (g : hb_glyph_info_t). g.syllable ≡ byte)
+unmapped byte (g ∷ gs) h =
+    let P : ℕ → Type 0 = λ b. b ≡ byte in
+    let rest = map (λ (x : hb_glyph_info_t). x.syllable) gs in
+    All-cons (λ (x : hb_glyph_info_t). x.syllable ≡ byte) g gs (All-head P g.syllable rest h)
+    (unmapped byte gs (All-tail P g.syllable rest h))
 
-pub hidden-init : (bits : ℕ) (before : Option hb_glyph_info_t) (gs : List hb_glyph_info_t)
-    → seen carried (with_init bits before gs) ≡ seen carried gs
-hidden-init bits before [] = refl
-hidden-init bits before (g ∷ gs) =
-    elim (is_left g && not (word_goes_on before)) as (λ b. seen carried (if b then with_bits bits g ∷ gs else g ∷ gs)
-    ≡ seen carried (g ∷ gs)) [
-      | true ↦ ap (λ x. x ∷ seen carried gs) (hidden-bits bits g)
-      | false ↦ refl
-    ]
-
-pub hidden-inits : (bits : ℕ) (f : List hb_glyph_info_t → List hb_glyph_info_t) (before : Option hb_glyph_info_t)
-    (syls : List (List hb_glyph_info_t)) → seen carried (with_inits bits before (map f syls))
-    ≡ seen carried (flat_map f syls)
-hidden-inits bits f before [] = refl
-hidden-inits bits f before (syl ∷ syls) =
-    let view : hb_glyph_info_t → hb_glyph_info_t = λ g. plain (carried g) in
-    let rest = with_inits bits (last_or before (f syl)) (map f syls) in
-    map-append view (with_init bits before (f syl)) rest
-    ∙ ap (λ xs. xs ++ map view rest) (hidden-init bits before (f syl))
-    ∙ ap (λ xs. map view (f syl) ++ xs) (hidden-inits bits f (last_or before (f syl)) syls)
-    ∙ sym (map-append view (f syl) (flat_map f syls))
-
-pub clusters-carried : (gs : List hb_glyph_info_t) → clusters (map carried gs) ≡ clusters gs
-clusters-carried [] = refl
-clusters-carried (g ∷ gs) = ap (λ l. g.cluster ∷ l) (clusters-carried gs)
-
--- an unsafe break changes flags alone
-pub clusters-bound : (s : ℕ) (b : Bool) (gs : List hb_glyph_info_t) → clusters (bound_at s b gs) ≡ clusters gs
-clusters-bound s true gs = map-unsafe_inside (λ g. g.cluster) (λ g. refl) (s - 1) (s + 1) gs (omega arith)
-clusters-bound s false gs = refl
-
-pub seen-bound : (s : ℕ) (b : Bool) (gs : List hb_glyph_info_t) → seen carried (bound_at s b gs) ≡ seen carried gs
-seen-bound s true gs = map-unsafe_inside (λ g. plain (carried g)) (hidden-bits 3) (s - 1) (s + 1) gs (omega arith)
-seen-bound s false gs = refl
-
--- one syllable
-abbrev pub syllable_steps : Rules → Option Script → ℕ → ℕ → List hb_glyph_info_t → List Step
-syllable_steps r script s n syl = map (widened s (s + length syl) n) (final_steps r script syl)
-
-pub syllable_fits : (r : Rules) (script : Option Script) (s n : ℕ) (syl : List hb_glyph_info_t) → s + length syl ≤ n
-    → FitSteps n (syllable_steps r script s n syl)
-syllable_fits r script s n syl l =
-    let long : length syl ≡ s + length syl - s = omega arith in
-    let laws = final_laws r script in
-    all_fit-widened s (s + length syl) n (final_steps r script syl) (omega arith) l
-    (subst (λ k. FitSteps k (final_steps r script syl)) long (laws.fits syl))
-
-pub clusters-syllable : (r : Rules) (script : Option Script) (level : BufferClusterLevel) (s : ℕ)
-    (before : Option hb_glyph_info_t) (syl ys : List hb_glyph_info_t)
-    → clusters (syllable_run r script level s before syl ys)
-    ≡ joined_steps level (syllable_steps r script s (length ys) syl) (clusters ys)
-clusters-syllable r script level s before syl ys =
-    let sts = syllable_steps r script s (length ys) syl in
-    clusters-bound s (is_bound before (final_order r script syl)) (run_steps level sts ys)
-    ∙ clusters-run_steps level sts ys
-
-pub length-syllable : (r : Rules) (script : Option Script) (level : BufferClusterLevel) (s : ℕ)
-    (before : Option hb_glyph_info_t) (syl ys : List hb_glyph_info_t) → s + length syl ≤ length ys
-    → length (syllable_run r script level s before syl ys) ≡ length ys
-length-syllable r script level s before syl ys l =
-    let zs = syllable_run r script level s before syl ys in
-    let cluster : hb_glyph_info_t → ℕ = λ g. g.cluster in
-    let sts = syllable_steps r script s (length ys) syl in
-    let run = run_steps level sts ys in
-    let held = steps_hold level sts ys (syllable_fits r script s (length ys) syl l) in
-    sym (length-map zs cluster) ∙ ap length (clusters-bound s (is_bound before (final_order r script syl)) run)
-    ∙ length-map run cluster ∙ held.same_length
-
-pub seen-syllable : (r : Rules) (script : Option Script) (level : BufferClusterLevel) (s : ℕ)
-    (before : Option hb_glyph_info_t) (syl ys : List hb_glyph_info_t)
-    → seen carried (syllable_run r script level s before syl ys)
-    ≡ pick (old_places (length ys) (syllable_steps r script s (length ys) syl)) (seen carried ys)
-seen-syllable r script level s before syl ys =
-    let sts = syllable_steps r script s (length ys) syl in
-    seen-bound s (is_bound before (final_order r script syl)) (run_steps level sts ys)
-    ∙ seen-run_steps carried carried_hides level sts ys
-
--- all syllables
-abbrev pub steps_from : Rules → Option Script → ℕ → ℕ → List (List hb_glyph_info_t) → List Step
-steps_from r script n s syls = steps_along n s (pieces_of (final_steps r script) syls)
-
-pub clusters-text : (r : Rules) (script : Option Script) (level : BufferClusterLevel) (s : ℕ)
-    (before : Option hb_glyph_info_t) (syls : List (List hb_glyph_info_t)) (ys : List hb_glyph_info_t)
-    → s + length (flat_map (λ syl. syl) syls) ≤ length ys → clusters (text_run r script level s before syls ys)
-    ≡ joined_steps level (steps_from r script (length ys) s syls) (clusters ys)
-clusters-text r script level s before [] ys l = refl
-clusters-text r script level s before (syl ∷ syls) ys l =
-    let zs = syllable_run r script level s before syl ys in
-    let sts = syllable_steps r script s (length ys) syl in
-    let t = s + length syl in
-    let all = length-append syl (flat_map (λ syl. syl) syls) in
-    let long = length-syllable r script level s before syl ys (omega (arith, all)) in
-    clusters-text r script level t (last_or before (final_order r script syl)) syls zs (omega (arith, all, long))
-    ∙ ap (λ n. joined_steps level (steps_from r script n t syls) (clusters zs)) long
-    ∙ ap (joined_steps level (steps_from r script (length ys) t syls))
-    (clusters-syllable r script level s before syl ys)
-    ∙ sym (fold-append (λ cs step. joined_step level step cs) (clusters ys) sts
-    (steps_from r script (length ys) t syls))
-
-pub seen-text : (r : Rules) (script : Option Script) (level : BufferClusterLevel) (s : ℕ)
-    (before : Option hb_glyph_info_t) (syls : List (List hb_glyph_info_t)) (ys : List hb_glyph_info_t)
-    → s + length (flat_map (λ syl. syl) syls) ≤ length ys → seen carried (text_run r script level s before syls ys)
-    ≡ pick (old_places (length ys) (steps_from r script (length ys) s syls)) (seen carried ys)
-seen-text r script level s before [] ys l =
-    sym (pick-all (length ys) (seen carried ys) (length-map ys (λ g. plain (carried g))))
-seen-text r script level s before (syl ∷ syls) ys l =
-    let zs = syllable_run r script level s before syl ys in
-    let n = length ys in
-    let sts = syllable_steps r script s n syl in
-    let t = s + length syl in
-    let more = steps_from r script n t syls in
-    let olds = old_places n sts in
-    let all = length-append syl (flat_map (λ syl. syl) syls) in
-    let within : s + length syl ≤ n = omega (arith, all) in
-    let long = length-syllable r script level s before syl ys within in
-    let many : n ≡ length (seen carried ys) = sym (length-map ys (λ g. plain (carried g))) in
-    seen-text r script level t (last_or before (final_order r script syl)) syls zs (omega (arith, all, long))
-    ∙ ap (λ k. pick (old_places k (steps_from r script k t syls)) (seen carried zs)) long
-    ∙ ap (pick (old_places n more)) (seen-syllable r script level s before syl ys)
-    ∙ pick-pick (old_places n more) olds (seen carried ys)
-    (subst (λ k. AllByRecursion (λ p. p < k) olds) many (within-old_places n sts))
-    ∙ ap (λ ps. pick ps (seen carried ys)) (sym (old_places_then n sts more (syllable_fits r script s n syl within)))
+pub kept_byte : (meaning : List hb_glyph_info_t → List hb_glyph_info_t) (steps : List hb_glyph_info_t → List Step) → ReorderLaws meaning steps
+    → (byte : ℕ) (gs : List hb_glyph_info_t) → OfByte byte gs → OfByte byte (meaning gs)
+kept_byte meaning steps laws byte gs u =
+    let P : ℕ → Type 0 = λ b. b ≡ byte in
+    let read : hb_glyph_info_t → ℕ = λ g. g.syllable in
+    let lost = nothing_lost meaning steps laws gs in
+    let whole : text_order meaning gs ≡ meaning gs = ap (flat_map meaning) (one_run byte gs u)
+    ∙ append-nil (meaning gs) in
+    let kept : IsPermutation (seen carried gs) (seen carried (meaning gs)) =
+    subst (λ xs. IsPermutation (seen carried gs) (seen carried xs)) whole lost.kept in
+    let all : All P (map read gs) = All-map P read gs u.all in
+    let before : All P (map read (seen carried gs)) = subst (All P) (sym (bytes-seen gs)) all in
+    let after : All P (map read (seen carried (meaning gs))) =
+    All-permutation P (map read (seen carried gs)) (map read (seen carried (meaning gs)))
+    (IsPermutation-map read (seen carried gs) (seen carried (meaning gs)) kept) before in
+    let many = length-meaning meaning steps laws gs in
+    let some = u.some in
+    record {
+      some = omega (arith, many, some);
+      all = unmapped byte (meaning gs)
+          (subst (All P) (bytes-seen (meaning gs)) after);
+    }
 
 -- the whole text
 pub text_fits : (r : Rules) (script : Option Script) (level : BufferClusterLevel) (gs : List hb_glyph_info_t)
@@ -181,25 +86,55 @@ text_fits r script level gs =
     let along = along_holds level ps gs sum (each_piece FitsStep steps laws.fits (syllables xs)) in
     subst (FitSteps (length gs)) (sym (text_steps-long steps gs)) along.fit
 
-pub all_syllables : (gs : List hb_glyph_info_t) → 0 + length (flat_map (λ syl. syl) (syllables (order_view gs)))
-    ≤ length gs
-all_syllables gs = omega (arith, ap length (joined-syllables (order_view gs)), length-map gs plain)
+-- an unsafe break isn't seen
+hidden-break : HidesBits (λ g. plain (carried g)) 3
+hidden-break g =
+    let no_flags : (m : ℕ) → without_flags (m % 8) ≡ 0 = λ m. omega arith in
+    ap (λ (m : ℕ). record g { cluster = 0; mask = m; category = 0; auxiliary = 0; marks = no_marks })
+    (no_flags (bit_or g.mask 3) ∙ sym (no_flags g.mask))
 
-pub clusters-whole : (r : Rules) (script : Option Script) (level : BufferClusterLevel) (gs ns : List hb_glyph_info_t)
-    → map carried ns ≡ map carried (text_run r script level 0 None (syllables (order_view gs)) gs)
-    → clusters ns ≡ final_clusters r script level gs
-clusters-whole r script level gs ns moved =
-    let ran = text_run r script level 0 None (syllables (order_view gs)) gs in
-    sym (clusters-carried ns) ∙ ap clusters moved ∙ clusters-carried ran
-    ∙ clusters-text r script level 0 None (syllables (order_view gs)) gs (all_syllables gs)
-    ∙ ap (λ sts. joined_steps level sts (clusters gs)) (sym (text_steps-long (final_steps r script) gs))
+-- What the pause comes to: the order view, what is carried along, and clusters.
+pub record Finished (r : Rules) (old mid new : Buffer) : Type 0 where
+  pub order : order_view new.glyphs ≡ final_text r old.script (order_view old.glyphs)
+  pub flags : map carried new.glyphs
+      ≡ map carried (bound_from 0 None (final_syllables r old.script (order_view old.glyphs)) mid.glyphs)
+  pub seen_same : seen carried new.glyphs ≡ seen carried mid.glyphs
+  pub clusters_same : clusters new.glyphs ≡ clusters mid.glyphs
+  pub text : TextReordered (final_steps r old.script) old mid
+  pub clusters_are : clusters new.glyphs ≡ final_clusters r old.script old.level old.glyphs
 
-pub none_higher : (xs ys : List hb_glyph_info_t) → AllZip FallsTo xs ys
+pub finished : (r : Rules) (old new : Buffer) → (done : FinallyReordered r old new) → Finished r old done.0 new
+finished r old new done =
+    let mid = done.0 in
+    let f = final_order r old.script in
+    let steps = final_steps r old.script in
+    let laws = final_laws r old.script in
+    let xs = order_view old.glyphs in
+    let ps : syllables (order_view mid.glyphs) ≡ final_syllables r old.script xs = ap syllables done.1.order
+    ∙ syllables-mapped f (kept_byte f steps laws) xs in
+    let bound = bound_from 0 None (final_syllables r old.script xs) mid.glyphs in
+    let flags : map carried new.glyphs ≡ map carried bound = done.2.flags
+    ∙ ap (λ qs. map carried (bound_from 0 None qs mid.glyphs)) ps in
+    let stay : clusters new.glyphs ≡ clusters mid.glyphs = sym (clusters-carried new.glyphs) ∙ ap clusters flags
+    ∙ clusters-carried bound
+    ∙ map-bound_from (λ g. g.cluster) (λ g. refl) 0 None (final_syllables r old.script xs) mid.glyphs in
+    let text = text_reordered f steps old mid laws done.1 in
+    record {
+      order = done.2.order ∙ ap (with_inits r.init None) ps;
+      flags = flags;
+      seen_same = seen-same carried new.glyphs bound flags ∙ map-bound_from (λ g. plain (carried g)) hidden-break 0 None
+          (final_syllables r old.script xs) mid.glyphs;
+      clusters_same = stay;
+      text = text;
+      clusters_are = stay ∙ text.glyphs.clusters_are;
+    }
+
+pub none_higher : (xs ys : List hb_glyph_info_t) → AllZip FlagsFall xs ys
     → AllZip (λ a b. b ≤ a) (clusters xs) (clusters ys)
 none_higher [] [] h = tt
 none_higher [] (y ∷ ys) h = absurd h
 none_higher (x ∷ xs) [] h = absurd h
-none_higher (x ∷ xs) (y ∷ ys) h = (h.0.0, none_higher xs ys h.1)
+none_higher (x ∷ xs) (y ∷ ys) h = (h.0.at_most, none_higher xs ys h.1)
 
 -- a text behind another
 pub last_or-append : (before : Option hb_glyph_info_t) (xs ys : List hb_glyph_info_t)
@@ -299,20 +234,15 @@ halves r script level all new gs hs order in_clusters is border =
           (clusters-run_steps level (final_text_steps r script hs) hs);
     }
 
--- a text of which no syllable is opened inside a word
-pub unbroken-text : (r : Rules) (script : Option Script) (level : BufferClusterLevel) (s : ℕ)
-    (before : Option hb_glyph_info_t) (syls : List (List hb_glyph_info_t)) (ys : List hb_glyph_info_t)
-    → s + length (flat_map (λ syl. syl) syls) ≤ length ys → BreaksNowhere r script before syls
-    → text_run r script level s before syls ys ≡ run_steps level (steps_from r script (length ys) s syls) ys
-unbroken-text r script level s before [] ys l none = refl
-unbroken-text r script level s before (syl ∷ syls) ys l none =
-    let zs = syllable_run r script level s before syl ys in
-    let sts = syllable_steps r script s (length ys) syl in
-    let t = s + length syl in
-    let all = length-append syl (flat_map (λ syl. syl) syls) in
-    let long = length-syllable r script level s before syl ys (omega (arith, all)) in
-    let is : zs ≡ run_steps level sts ys = ap (λ b. bound_at s b (run_steps level sts ys)) none.0 in
-    unbroken-text r script level t (last_or before (final_order r script syl)) syls zs (omega (arith, all, long)) none.1
-    ∙ ap (λ n. run_steps level (steps_from r script n t syls) zs) long
-    ∙ ap (run_steps level (steps_from r script (length ys) t syls)) is
-    ∙ sym (fold-append (λ xs step. run_step level step xs) ys sts (steps_from r script (length ys) t syls))
+-- a chain leads there
+pub reordered_by_chain : (r : Rules) (old mid : Buffer) → SyllablesLinked
+    (SyllableReordered (final_order r old.script) (final_steps r old.script)) old mid
+    → SyllablesReordered (final_order r old.script) (final_steps r old.script) old mid
+reordered_by_chain r old mid =
+    let f = final_order r old.script in
+    let steps = final_steps r old.script in
+    text_moved (λ _. f) (λ _. steps) (SyllableReordered f steps) old mid
+    (λ _. numbers_kept f steps (final_laws r old.script)) (λ s e b c done. done)
+
+pub reordered_by_links : (r : Rules) (old new : Buffer) → FinallyLinked r old new → FinallyReordered r old new
+reordered_by_links r old new linked = (linked.0, reordered_by_chain r old linked.0 linked.1, linked.2)

@@ -5,11 +5,13 @@ use Rattle.shapers_buffer.specs.declared.buffer.category.hb_unicode_general_cate
 use Rattle.shapers_buffer.specs.declared.buffer.glyph.hb_glyph_info_t.{hb_glyph_info_t}
 use Rattle.shapers_buffer.specs.declared.buffer.level.BufferClusterLevel.TheVariants.{MonotoneGraphemes}
 use Rattle.shapers_buffer.specs.Glyph.{clusters, default_glyph}
-use Rattle.shapers_buffer.specs.Syllables.{syllables}
+use Rattle.shapers_clusters.specs.Steps.{run_steps}
 use Rattle.shapers_indic.proofs.RowWords.{C, M, row_masks, numbers_of, script}
 use Rattle.shapers_indic_final.proofs.FinalWords.{rules}
-use Rattle.shapers_indic_final.specs.FinalLaws.{SameButFirstBits, with_first_bits}
-use Rattle.shapers_indic_final.specs.FinalWordStart.{continues_word, final_text, is_bound, last_or, text_run, with_init}
+use Rattle.shapers_indic_final.specs.FinalLaws.{at_opening, SameButFirstBits, with_first_bits}
+use Rattle.shapers_indic_final.specs.FinalWordStart.{bound_from, continues_word, final_syllables, final_text, is_bound, last_or, with_init}
+use Rattle.shapers_indic_final.specs.FinalReordering.{final_steps}
+use Rattle.shapers_syllabic.specs.Reordering.{text_steps}
 
 -- every category: Cc no, Cf to Mn yes, the rest no
 categories : map continues_word (Cc ∷ Cf ∷ Cn ∷ Co ∷ Cs ∷ Ll ∷ Lm ∷ Lo ∷ Lt ∷ Lu ∷ Mc ∷ Me ∷ Mn ∷ Nd ∷ Nl ∷ No ∷ Pc ∷ Pd
@@ -75,9 +77,10 @@ lasts = refl
 -- a text: order, masks, clusters and glyph flags after
 abbrev after : List hb_glyph_info_t → List (List ℕ)
 after gs =
-    let run = text_run (rules "Deva") (script "Deva") MonotoneGraphemes 0 None (syllables gs) gs in
+    let run = run_steps MonotoneGraphemes (text_steps (final_steps (rules "Deva") (script "Deva")) gs) gs in
+    let bound = bound_from 0 None (final_syllables (rules "Deva") (script "Deva") gs) run in
     numbers_of (final_text (rules "Deva") (script "Deva") gs) ∷ row_masks (final_text (rules "Deva") (script "Deva") gs)
-    ∷ clusters run ∷ numbers_of run ∷ map (λ g. g.mask % 8) run ∷ []
+    ∷ clusters bound ∷ numbers_of bound ∷ map (λ g. g.mask % 8) bound ∷ []
 
 -- two syllables M C each behind a letter or a sign: the first opens the text; the second is bound
 -- to a letter, and its own glyph is of a later cluster
@@ -100,3 +103,22 @@ reph_before : after (record (one 0 16 Zs C 1) { marks = record { 0 = 2 } } ∷ o
     ≡ (1 ∷ 0 ∷ 2 ∷ 3 ∷ []) ∷ (64 ∷ 64 ∷ 96 ∷ 64 ∷ []) ∷ (0 ∷ 0 ∷ 2 ∷ 2 ∷ []) ∷ (1 ∷ 0 ∷ 2 ∷ 3 ∷ [])
     ∷ (0 ∷ 0 ∷ 0 ∷ 0 ∷ []) ∷ []
 reph_before = refl
+
+-- clusters that neither rise nor fall, 0 2 2 1: the merge of the last syllable takes the matra before it along, whose
+-- break is unsafe all the same
+flag_stays : after (one 0 16 Lo C 4 ∷ one 2 32 Mc M 2 ∷ record (one 3 48 Mc M 2) { cluster = 2 }
+    ∷ record (one 4 48 Lo C 4) { cluster = 1 } ∷ [])
+    ≡ (0 ∷ 2 ∷ 3 ∷ 4 ∷ []) ∷ (64 ∷ 64 ∷ 64 ∷ 64 ∷ []) ∷ (0 ∷ 1 ∷ 1 ∷ 1 ∷ []) ∷ (0 ∷ 2 ∷ 3 ∷ 4 ∷ [])
+    ∷ (0 ∷ 3 ∷ 0 ∷ 0 ∷ []) ∷ []
+flag_stays = refl
+
+-- breaks alone, from a place on and behind a letter: the first syllable's place is not 0
+breaks : map (λ g. g.mask % 8) (bound_from 1 (Some (one 0 0 Lo 0 0)) ((one 1 16 Mc M 2 ∷ []) ∷ (one 2 32 Zs C 4 ∷ []) ∷
+    (one 3 48 Mc M 2 ∷ []) ∷ []) (one 0 0 Lo 0 0 ∷ one 1 16 Mc M 2 ∷ one 2 32 Zs C 4 ∷ one 3 48 Mc M 2 ∷ []))
+    ≡ 0 ∷ 3 ∷ 0 ∷ 0 ∷ []
+breaks = refl
+
+openings : map (at_opening 1 (Some (one 0 0 Lo 0 0)) ((one 1 16 Mc M 2 ∷ []) ∷ (one 2 32 Zs C 4 ∷ [])
+    ∷ (one 3 48 Mc M 2 ∷ []) ∷ [])) (0 ∷ 1 ∷ 2 ∷ 3 ∷ 4 ∷ [])
+    ≡ true ∷ true ∷ false ∷ false ∷ false ∷ []
+openings = refl

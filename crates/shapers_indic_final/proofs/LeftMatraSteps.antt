@@ -17,7 +17,7 @@ use Rattle.shapers_indic.specs.Glyphs.{passes}
 use Rattle.shapers_indic_final.specs.declared.ot_shaper_indic_final.left_matras.Runs.{Runs}
 use Rattle.shapers_indic_final.specs.FinalMatras.{is_left}
 use Rattle.shapers_indic_final.specs.LeftMatraWalk.{Merged, Reaches, as_parted, gone, has_gone, has_stayed, own_cluster, put, staying}
-use Rattle.shapers_indic_final.proofs.LeftMatraMoves.{stretch_between}
+use Rattle.shapers_indic_final.specs.Proved.LeftMatraMoves.{stretch_between}
 use Rattle.shapers_buffer.proofs.RunLemmas.{ended_all, first_run_passes, none_lower, none_of_cluster, puts_twice}
 use Rattle.shapers_indic_final.proofs.LeftMatraFloods.{back_none, flooded_all, merged_before}
 use Rattle.shapers_indic_final.proofs.LeftMatraPlaces.{chosen-one, chosen-split, gone_behind}

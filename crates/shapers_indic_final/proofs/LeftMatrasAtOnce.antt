@@ -17,9 +17,9 @@ use Rattle.std.proofs.lemmas.List.Folds.{list_any_at}
 use Rattle.std.proofs.lemmas.List.{get_or-drop, get_or-take, reverse-append}
 use Rattle.shapers_buffer.specs.declared.buffer.level.BufferClusterLevel.TheVariants.{Characters}
 use Rattle.shapers_buffer.proofs.ClusterLemmas.{length-stretch, three_parts}
-use Rattle.shapers_indic_final.proofs.FinalPlaces.{passes_there}
+use Rattle.shapers_indic_final.specs.Proved.FinalPlaces.{passes_there}
 use Rattle.shapers_indic_final.proofs.FinalPlacing.{left_read, lefts_from, lefts_yes, length-matra}
-use Rattle.shapers_indic_final.proofs.FinalSteps.{length-moved, matra_stepped}
+use Rattle.shapers_indic_final.specs.Proved.FinalSteps.{length-moved, matra_stepped}
 use Rattle.shapers_buffer.proofs.OneCluster.{one_merged}
 use Rattle.std.proofs.lemmas.Bool.Decides.{nat_tests}
 use Rattle.shapers_indic_final.proofs.LeftMatrasListed.{parted_written}

@@ -20,7 +20,7 @@ use Rattle.shapers_clusters.proofs.Picks.{pick-append}
 use Rattle.shapers_indic.specs.Glyphs.{places}
 use Rattle.shapers_indic_final.specs.declared.ot_shaper_indic_final.left_matras.Runs.{Runs}
 use Rattle.shapers_indic_final.specs.LeftMatraWalk.{as_parted, gone, has_gone, has_stayed, put, staying}
-use Rattle.shapers_indic_final.proofs.LeftMatraMoves.{stretch_between}
+use Rattle.shapers_indic_final.specs.Proved.LeftMatraMoves.{stretch_between}
 use Rattle.shapers_indic_final.proofs.LeftMatraPlaces.{chosen, chosen-all, chosen-none, chosen-split, gone_before}
 use Rattle.shapers_indic_final.proofs.LeftMatraSplit.{both_long, length-put}
 

@@ -9,7 +9,6 @@ use Rattle.shapers_buffer.specs.Buffer.{Buffer}
 use Rattle.shapers_buffer.specs.Glyph.{clusters, default_glyph, order_view}
 use Rattle.shapers_buffer.specs.GlyphFlags.{with_bits}
 use Rattle.shapers_buffer.specs.Places.{pick}
-use Rattle.shapers_buffer.specs.Syllables.{syllables}
 use Rattle.shapers_clusters.specs.Cuts.{OneAlong, ShareNone}
 use Rattle.shapers_clusters.specs.Flags.{FlagsFall, seen}
 use Rattle.shapers_buffer.specs.Clusters.{merges}
@@ -17,7 +16,7 @@ use Rattle.shapers_indic_final.specs.FinalClusters.{EachSyllableCuts}
 use Rattle.shapers_clusters.specs.Laws.{ClustersHold, SeenStepsHold}
 use Rattle.shapers_clusters.specs.Steps.{Step, all_merged, joined_steps, old_places}
 use Rattle.shapers_indic_final.specs.FinalCuts.{uninitiated}
-use Rattle.shapers_indic_final.specs.FinalWordStart.{FinallyReordered, final_text, is_bound, last_or, with_inits}
+use Rattle.shapers_indic_final.specs.FinalWordStart.{FinallyReordered, final_syllables, final_text, is_bound, last_or, with_inits}
 use Rattle.shapers_indic_final.specs.FinalReordering.{final_order, final_steps}
 use Rattle.shapers_indic_final.specs.declared.ot_shaper_indic_final.rules.Rules.{Rules}
 use Rattle.shapers_syllabic.specs.Borders.{MeetAtBorder, SameButSerials, unnumbered}
@@ -42,8 +41,7 @@ final_text_steps r script gs = text_steps (final_steps r script) (order_view gs)
 -- what a text becomes behind a glyph, which decides on init at its start alone
 abbrev pub final_text_behind : Rules → Option Script → Option hb_glyph_info_t →
     List hb_glyph_info_t → List hb_glyph_info_t
-final_text_behind r script before gs =
-    with_inits r.init before (map (final_order r script) (syllables gs))
+final_text_behind r script before gs = with_inits r.init before (final_syllables r script gs)
 
 -- The clusters of a text after the steps of its syllables.
 abbrev pub final_clusters : Rules → Option Script → BufferClusterLevel → List hb_glyph_info_t →
@@ -73,20 +71,17 @@ pub record FlagsFallButBreaks (old new : hb_glyph_info_t) : Type 0 where
       (new.mask % 8 ≡ old.mask % 8) ⊎ (new.mask % 8 ≡ bit_or (old.mask % 8) 3)
 
 -- whether none of these syllables is opened inside a word, behind a glyph
-abbrev pub BreaksNowhere : Rules → Option Script → Option hb_glyph_info_t →
-    List (List hb_glyph_info_t) → Type 0
-BreaksNowhere r script before [] = Unit {0}
-BreaksNowhere r script before (syl ∷ syls) =
-    (is_bound before (final_order r script syl) ≡ false)
-    × BreaksNowhere r script (last_or before (final_order r script syl)) syls
+abbrev pub BreaksNowhere : Option hb_glyph_info_t → List (List hb_glyph_info_t) → Type 0
+BreaksNowhere before [] = Unit {0}
+BreaksNowhere before (syl ∷ syls) =
+    (is_bound before syl ≡ false) × BreaksNowhere (last_or before syl) syls
 
 -- whether place i is the first of a syllable, from place s on, opened inside a word, or before it
-abbrev pub at_opening : Rules → Option Script → ℕ → Option hb_glyph_info_t →
-    List (List hb_glyph_info_t) → ℕ → Bool
-at_opening r script s before [] i = false
-at_opening r script s before (syl ∷ syls) i =
-    is_bound before (final_order r script syl) && (i == s || i + 1 == s)
-    || at_opening r script (s + length syl) (last_or before (final_order r script syl)) syls i
+abbrev pub at_opening : ℕ → Option hb_glyph_info_t → List (List hb_glyph_info_t) → ℕ → Bool
+at_opening s before [] i = false
+at_opening s before (syl ∷ syls) i =
+    is_bound before syl && (i == s || i + 1 == s)
+    || at_opening (s + length syl) (last_or before syl) syls i
 
 -- the glyphs with these bits in the mask of the first; lists that differ in these alone
 abbrev pub with_first_bits : ℕ → List hb_glyph_info_t → List hb_glyph_info_t
@@ -142,11 +137,11 @@ pub record FinallyKept (r : Rules) (old new : Buffer) : Type 0 where
       new.glyphs
   pub flags_elsewhere : (i : ℕ) →
       i < length new.glyphs →
-      at_opening r old.script 0 None (syllables (order_view old.glyphs)) i ≡ false →
+      at_opening 0 None (final_syllables r old.script (order_view old.glyphs)) i ≡ false →
       FlagsFall (get_or (pick (old_places (length old.glyphs)
       (final_text_steps r old.script old.glyphs)) old.glyphs) i default_glyph)
       (get_or new.glyphs i default_glyph)
-  pub unbroken : BreaksNowhere r old.script None (syllables (order_view old.glyphs)) →
+  pub unbroken : BreaksNowhere None (final_syllables r old.script (order_view old.glyphs)) →
       SeenStepsHold carried old.level (final_text_steps r old.script old.glyphs) old.glyphs
       new.glyphs
   pub cuts : (gs hs : List hb_glyph_info_t) → old.glyphs ≡ gs ++ hs → MeetAtBorder gs hs →

@@ -4,17 +4,15 @@ use Rattle.std.specs.Prelude.{ℕ, ◌+◌, ◌-◌, ◌≡◌, Bool, ◌&&◌, 
 use Rattle.shapers_buffer.specs.declared.buffer.category.hb_unicode_general_category_t.{hb_unicode_general_category_t}
 use Rattle.shapers_buffer.specs.declared.buffer.category.hb_unicode_general_category_t.TheVariants.{Cf, Cn, Co, Cs, Ll, Lm, Lo, Lt, Lu, Mc, Me, Mn}
 use Rattle.shapers_buffer.specs.declared.buffer.glyph.hb_glyph_info_t.{hb_glyph_info_t}
-use Rattle.shapers_buffer.specs.declared.buffer.level.BufferClusterLevel.{BufferClusterLevel}
 use Rattle.shapers_buffer.specs.declared.buffer.tag.Script.{Script}
 use Rattle.shapers_buffer.specs.Buffer.{Buffer}
 use Rattle.shapers_buffer.specs.Glyph.{order_view}
 use Rattle.shapers_buffer.specs.GlyphFlags.{unsafe_inside, with_bits}
 use Rattle.shapers_buffer.specs.Syllables.{syllables}
-use Rattle.shapers_clusters.specs.Steps.{run_steps, widened}
 use Rattle.shapers_indic_final.specs.FinalMatras.{is_left}
 use Rattle.shapers_indic_final.specs.FinalReordering.{final_order, final_steps}
 use Rattle.shapers_indic_final.specs.declared.ot_shaper_indic_final.rules.Rules.{Rules}
-use Rattle.shapers_syllabic.specs.Reordering.{SyllableReordered, SyllablesLinked, carried}
+use Rattle.shapers_syllabic.specs.Reordering.{SyllableReordered, SyllablesLinked, SyllablesReordered, carried}
 
 -- the categories that a word goes on behind: formats, letters, marks, and what has none
 abbrev pub continues_word : hb_unicode_general_category_t → Bool
@@ -60,9 +58,13 @@ with_inits bits before [] = []
 with_inits bits before (syl ∷ syls) =
     with_init bits before syl ++ with_inits bits (last_or before syl) syls
 
--- what a text becomes
+-- the syllables of a text in their final order; and what the text becomes
+abbrev pub final_syllables : Rules → Option Script → List hb_glyph_info_t →
+    List (List hb_glyph_info_t)
+final_syllables r script gs = map (final_order r script) (syllables gs)
+
 abbrev pub final_text : Rules → Option Script → List hb_glyph_info_t → List hb_glyph_info_t
-final_text r script gs = with_inits r.init None (map (final_order r script) (syllables gs))
+final_text r script gs = with_inits r.init None (final_syllables r script gs)
 
 -- the glyphs with the break before place s unsafe, or as they are
 abbrev pub bound_at : ℕ → Bool → List hb_glyph_info_t → List hb_glyph_info_t
@@ -78,36 +80,31 @@ opened bits s gs =
     let before = before_place s gs in
     bound_at s (is_bound before (drop s gs)) (take s gs ++ with_init bits before (drop s gs))
 
--- the glyphs after the steps of the syllable from place s on, with an unsafe break if opened so
-abbrev pub syllable_run : Rules → Option Script → BufferClusterLevel → ℕ → Option hb_glyph_info_t →
-    List hb_glyph_info_t → List hb_glyph_info_t → List hb_glyph_info_t
-syllable_run r script level s before syl gs =
-    bound_at s (is_bound before (final_order r script syl)) (run_steps level
-    (map (widened s (s + length syl) (length gs)) (final_steps r script syl)) gs)
+-- the glyphs with the breaks before these syllables, from place s on, unsafe where a word goes on
+abbrev pub bound_from : ℕ → Option hb_glyph_info_t → List (List hb_glyph_info_t) →
+    List hb_glyph_info_t → List hb_glyph_info_t
+bound_from s before [] gs = gs
+bound_from s before (syl ∷ syls) gs =
+    bound_from (s + length syl) (last_or before syl) syls (bound_at s (is_bound before syl) gs)
 
--- so of the syllables from place s on, one after another
-abbrev pub text_run : Rules → Option Script → BufferClusterLevel → ℕ → Option hb_glyph_info_t →
-    List (List hb_glyph_info_t) → List hb_glyph_info_t → List hb_glyph_info_t
-text_run r script level s before [] gs = gs
-text_run r script level s before (syl ∷ syls) gs =
-    text_run r script level (s + length syl) (last_or before (final_order r script syl)) syls
-    (syllable_run r script level s before syl gs)
+-- The buffer before and after each of its syllables is opened: its order view has the masks of init
+-- and, to the view of what is carried along, cluster and glyph flags among it, the breaks are unsafe.
+pub record WordsOpened (bits : ℕ) (old new : Buffer) : Type 0 where
+  pub others : new ≡ record old { glyphs = new.glyphs }
+  pub order : order_view new.glyphs ≡ with_inits bits None (syllables (order_view old.glyphs))
+  pub flags : map carried new.glyphs
+      ≡ map carried (bound_from 0 None (syllables (order_view old.glyphs)) old.glyphs)
 
--- The buffer before and after the pause: its order view is the final text, and to the view of what
--- is carried along, cluster and glyph flags among it, the glyphs are those that the steps and
--- openings of all syllables lead to. The placement list is empty.
-pub record FinallyReordered (r : Rules) (old new : Buffer) : Type 0 where
-  pub others : new ≡ record old { glyphs = new.glyphs; places = [] }
-  pub order : order_view new.glyphs ≡ final_text r old.script (order_view old.glyphs)
-  pub moved : map carried new.glyphs
-      ≡ map carried (text_run r old.script old.level 0 None (syllables (order_view old.glyphs))
-      old.glyphs)
+-- The buffer before and after the pause: all its syllables are reordered, and then opened.
+abbrev pub FinallyReordered : Rules → Buffer → Buffer → Type 0
+FinallyReordered r old new =
+    (mid : Buffer)
+    × SyllablesReordered (final_order r old.script) (final_steps r old.script) old mid
+    × WordsOpened r.init mid new
 
--- A syllable, from s to e, is reordered and then opened; and the pause as a chain of such links.
-abbrev pub FinalLink : Rules → Option Script → ℕ → ℕ → Buffer → Buffer → Type 0
-FinalLink r script s e old new =
-    (mid : Buffer) × SyllableReordered (final_order r script) (final_steps r script) s e old mid
-    × new ≡ record mid { glyphs = opened r.init s mid.glyphs }
-
+-- the same with the reordering as a chain, one link a syllable
 abbrev pub FinallyLinked : Rules → Buffer → Buffer → Type 0
-FinallyLinked r old new = SyllablesLinked (FinalLink r old.script) old new
+FinallyLinked r old new =
+    (mid : Buffer)
+    × SyllablesLinked (SyllableReordered (final_order r old.script) (final_steps r old.script)) old mid
+    × WordsOpened r.init mid new

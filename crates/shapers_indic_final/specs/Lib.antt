@@ -11,3 +11,4 @@ pub mod FinalRules
 pub mod FinalWalk
 pub mod FinalWordStart
 pub mod LeftMatraWalk
+pub mod Proved

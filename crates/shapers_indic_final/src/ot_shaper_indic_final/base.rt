@@ -100,7 +100,10 @@ fn find_base(rules: &Rules, script: Option<Script>, glyphs: &mut [hb_glyph_info_
     let by_pref = set_pref_base(rules.pref, first, glyphs);
     let by_links = set_links(script, by_pref.unwrap_or(first), glyphs);
     Based {
-        base: settled_base(stepped_back(by_links, glyphs), glyphs),
+        base: before_halants(
+            before_joiner(stepped_back(by_links, glyphs), glyphs),
+            glyphs,
+        ),
         tries_pref: rules.pref != 0 && by_pref.is_none(),
     }
 }
@@ -136,19 +139,11 @@ fn unformed_pref(pref: u32, base: usize, glyphs: &[hb_glyph_info_t]) -> Option<u
     ensures within { IfSome result (λ i. i < length glyphs.now) }
 {
     let i = pref_place(pref, base, glyphs)?;
-    if is_unformed(&glyphs[i]) {
-        Some(i)
-    } else {
+    if glyphs[i].marks.is_substituted() && is_formed(&glyphs[i]) {
         None
+    } else {
+        Some(i)
     }
-}
-
-// Whether a glyph is not both substituted and formed.
-#[inline]
-fn is_unformed(glyph: &hb_glyph_info_t) -> bool
-    ensures { result ≡ is_unformed glyph.now }
-{
-    !(glyph.marks.is_substituted() && is_formed(glyph))
 }
 
 // The base by `pref`, which gets the base's position, if there is an unformed glyph. The initial
@@ -216,29 +211,11 @@ fn stepped_back(base: usize, glyphs: &[hb_glyph_info_t]) -> usize
     ensures place { result ≡ stepped_back base glyphs.now }
     ensures within { result ≤ base }
 {
-    if base < glyphs.len() && is_behind_base(&glyphs[base]) {
+    if base < glyphs.len() && glyphs[base].auxiliary > POS_BASE_C {
         base.saturating_sub(1)
     } else {
         base
     }
-}
-
-// Whether a glyph has a position after the base's.
-#[inline]
-fn is_behind_base(glyph: &hb_glyph_info_t) -> bool
-    ensures { result ≡ is_behind_base glyph.now }
-{
-    glyph.auxiliary > POS_BASE_C
-}
-
-// Where the base settles: before a joiner at the end, and before nuktas and halants.
-#[inline]
-fn settled_base(base: usize, glyphs: &[hb_glyph_info_t]) -> usize
-    requires in_range { base ≤ length glyphs.now }
-    ensures place { result ≡ settled_base base glyphs.now }
-    ensures within { result ≤ length glyphs.now }
-{
-    before_halants(before_joiner(base, glyphs), glyphs)
 }
 
 // From the end back over a ZWJ there: a syllable whose consonants are all half forms, so that none
@@ -249,19 +226,11 @@ fn before_joiner(base: usize, glyphs: &[hb_glyph_info_t]) -> usize
     ensures place { result ≡ before_joiner base glyphs.now }
     ensures within { result ≤ length glyphs.now }
 {
-    if base == glyphs.len() && base > 0 && is_zwj(&glyphs[base - 1]) {
-        base - 1
-    } else {
-        base
+    match glyphs {
+        [.., last] if base == glyphs.len() && !last.marks.is_ligated() && last.category == OT_ZWJ =>
+            { base - 1 }
+        _ => base,
     }
-}
-
-// Whether a glyph is a ZWJ, and no lookup put it in for several.
-#[inline]
-fn is_zwj(glyph: &hb_glyph_info_t) -> bool
-    ensures { result ≡ is_one_of (OT_ZWJ ∷ []) glyph.now }
-{
-    !glyph.marks.is_ligated() && glyph.category == OT_ZWJ
 }
 
 // Back to the nearest glyph that is neither a nukta nor a halant, else to the start.

@@ -28,14 +28,6 @@ pub(super) fn matras_go(p: usize, glyphs: &[hb_glyph_info_t]) -> bool
     p > 0 && !is_left(&glyphs[p])
 }
 
-// Whether there may be left matras before a base.
-#[inline]
-pub(super) fn has_room(base: usize, glyphs: &[hb_glyph_info_t]) -> bool
-    ensures { result ≡ has_room base glyphs.now }
-{
-    glyphs.len() > 1 && base > 0
-}
-
 // The end of what merges with a left matra: the base with it, if there is one.
 #[inline]
 pub(super) fn end_of_base(base: usize, glyphs: &[hb_glyph_info_t]) -> usize

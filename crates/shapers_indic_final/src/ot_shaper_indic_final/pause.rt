@@ -1,17 +1,19 @@
 //! The pause of the final reordering.
-ghost use Rattle.std.specs.Prelude.{◌≡◌, true};
+ghost use Rattle.std.specs.Prelude.{◌≡◌, [], true};
 ghost use Rattle.shapers_indic.specs.Plan.{indic_in, is_indic_data};
 ghost use Rattle.shapers_indic_final.specs.FinalLaws.{FinallyKept};
 ghost use Rattle.shapers_indic_final.specs.FinalWordStart.{FinallyLinked, FinallyReordered};
 ghost use Rattle.shapers_indic_final.specs.FinalRules.{final_rules};
 ghost use Rattle.shapers_syllabic.specs.CircleLaws.{NoNewCluster};
 
-use super::reordering::reorder_text;
+use super::reordering::FinalOrder;
 use super::rules::Rules;
+use super::word_start::open_words;
 use shapers_base::buffer::hb_buffer_t;
 use shapers_base::font::hb_font_t;
 use shapers_base::plan::hb_ot_shape_plan_t;
 use shapers_indic::ot_shaper_indic::indic_in;
+use shapers_syllabic::ot_shaper_syllabic::reorder_syllables;
 
 /// Reorders each syllable again, now that the basic features formed its glyphs: its base, its left
 /// matras, its reph and a glyph that `pref` formed; and gives a left matra at the start of a word
@@ -20,6 +22,7 @@ use shapers_indic::ot_shaper_indic::indic_in;
 /// (OpenType, development of Indic scripts: "Final reordering".)
 #[inline]
 pub fn final_reordering<F: hb_font_t>(plan: &hb_ot_shape_plan_t, face: &F, buffer: &mut hb_buffer_t)
+    requires without_positions { buffer.old.positions ≡ [] }
     requires kept { is_indic_data plan.now.plan_data ≡ true }
     ensures reordered { let rules = final_rules (F.font face.now) (indic_in plan.now) in
         FinallyReordered rules buffer.old buffer.new }
@@ -30,6 +33,11 @@ pub fn final_reordering<F: hb_font_t>(plan: &hb_ot_shape_plan_t, face: &F, buffe
     ensures clusters { NoNewCluster buffer.old.glyphs buffer.new.glyphs }
 {
     let rules = Rules::new(indic_in(plan), face);
-    let script = buffer.script();
-    reorder_text(&rules, script, buffer);
+    let order = FinalOrder {
+        rules: &rules,
+        script: buffer.script(),
+    };
+    if reorder_syllables(&order, buffer).is_ok() {
+        open_words(rules.init, buffer);
+    }
 }

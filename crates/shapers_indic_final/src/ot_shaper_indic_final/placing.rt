@@ -7,7 +7,7 @@ ghost use Rattle.shapers_indic_final.specs.FinalPref.{pref_steps};
 ghost use Rattle.shapers_indic_final.specs.FinalReph.{base_after_reph, reph_steps};
 
 use super::left_matras::part_matras;
-use super::matras::{end_of_base, first_left, has_room, matra_target, matras_go};
+use super::matras::{end_of_base, first_left, matra_target, matras_go};
 use super::moves::{move_pref, move_reph};
 use super::pref::{formed_pref, pref_target};
 use super::reph::{base_after_reph, opens_with_reph, reph_target};
@@ -92,7 +92,7 @@ pub(super) fn place_matras(
         } }
     ensures same_length { length buffer.new.glyphs ≡ length buffer.old.glyphs }
 {
-    if !has_room(base, &buffer.glyphs()[s..e]) {
+    if base == 0 || e - s < 2 {
         return;
     }
     let end = end_of_base(base, &buffer.glyphs()[s..e]);

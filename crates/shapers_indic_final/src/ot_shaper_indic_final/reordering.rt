@@ -1,45 +1,21 @@
-//! The final reordering of one syllable, and of a text.
-ghost use Rattle.std.specs.Prelude.{◌%◌, ◌≡◌, ◌≤◌, length};
-ghost use Rattle.shapers_indic_final.specs.FinalWordStart.{FinallyLinked, FinallyReordered};
-ghost use Rattle.shapers_indic_final.specs.FinalReordering.{final_order, final_steps};
+//! The final reordering of one syllable.
+ghost use Rattle.std.specs.Prelude.{◌≡◌};
 ghost use Rattle.shapers_indic_final.specs.FinalWalk.{changes_syllable};
-ghost use Rattle.shapers_syllabic.specs.Reordering.{SyllableReordered};
 
 use super::base::settle_base;
 use super::glyphs::has_mask;
 use super::placing::{place_matras, place_pref, place_reph};
 use super::rules::{Rules, is_malayalam};
 use super::viramas::{is_lost_virama, recover_viramas};
-use super::word_start::open_syllable;
-use shapers_base::buffer::{Script, hb_buffer_t, hb_glyph_info_t};
+use shapers_base::buffer::{Script, ShaperError, hb_buffer_t, hb_glyph_info_t};
 use shapers_base::plan::ot_position_t::{POS_BELOW_C, POS_PRE_M, POS_RA_TO_BECOME_REPH};
-use shapers_syllabic::ot_shaper_syllabic::{MayChange, next_changing};
+use shapers_syllabic::ot_shaper_syllabic::{MayChange, Reorder, ReorderBySteps};
 
-// Reorders each syllable of the text and opens it, from left to right.
-#[inline]
-pub(super) fn reorder_text(rules: &Rules, script: Option<Script>, buffer: &mut hb_buffer_t)
-    requires of_buffer { script ≡ buffer.old.script }
-    requires pref { rules.now.pref % 8 ≡ 0 }
-    requires init { rules.now.init % 8 ≡ 0 }
-    ensures reordered { FinallyReordered rules.now buffer.old buffer.new }
-    ensures linked { FinallyLinked rules.now buffer.old buffer.new }
-{
-    let order = FinalOrder { rules, script };
-    let mut start = 0;
-    while let Some(first) = next_changing(&order, buffer.glyphs(), start) {
-        let end = buffer.next_syllable(first);
-        reorder_syllable(rules, script, buffer, first, end);
-        open_syllable(rules.init, buffer, first);
-        start = end;
-    }
-    buffer.clear_places();
-}
-
-// The final reordering of syllables, under rules, in a text of a script.
+/// The final reordering of syllables, under rules, in a text of a script.
 #[derive(Clone, Copy)]
-struct FinalOrder<'a> {
-    rules: &'a Rules,
-    script: Option<Script>,
+pub(super) struct FinalOrder<'a> {
+    pub(super) rules: &'a Rules,
+    pub(super) script: Option<Script>,
 }
 
 impl<'a> MayChange for FinalOrder<'a> {
@@ -53,6 +29,65 @@ impl<'a> MayChange for FinalOrder<'a> {
     }
 }
 
+impl<'a> Reorder for FinalOrder<'a> {
+    ghost use Rattle.std.specs.Prelude.{◌%◌, ◌≡◌, false};
+    ghost use Rattle.std.proofs.Common.{arith};
+    ghost use Rattle.shapers_indic_final.specs.FinalReordering.{final_order, final_steps};
+    ghost use Rattle.shapers_indic_final.specs.Proved.FinalLaws.{final_laws};
+    ghost use Rattle.shapers_indic_final.specs.Proved.FinalStill.{final_stays};
+    ghost use Rattle.shapers_syllabic.specs.Reordering.{SyllableReordered};
+    ghost use Rattle.shapers_syllabic.proofs.LinkedSyllables.{ordered_by_steps};
+    ghost use Rattle.shapers_syllabic.proofs.ReorderingLaws.{numbers_kept};
+
+    ghost meaning = { λ it _. final_order it.rules.now it.script };
+
+    // Nothing of glyph numbers; the mask of `pref` has no bit of a glyph flag.
+    ghost takes = { λ it _. it.rules.now.pref % 8 ≡ 0 };
+
+    ghost may_refuse = { λ _. false };
+
+    ghost relation = { λ it. SyllableReordered
+        (final_order it.rules.now it.script) (final_steps it.rules.now it.script) };
+
+    // its viramas, its base, its left matras, its reph, and a glyph that `pref` formed
+    #[inline]
+    fn reorder(
+        &self,
+        buffer: &mut hb_buffer_t,
+        start: usize,
+        end: usize,
+    ) -> Result<(), ShaperError> {
+        recover_viramas(self.rules.virama, buffer, start, end);
+        let based = settle_base(self.rules, self.script, buffer, start, end);
+        place_matras(self.script, based.base, buffer, start, end);
+        let base = place_reph(self.rules.reph_pos, based.base, buffer, start, end);
+        if based.tries_pref {
+            place_pref(self.script, self.rules.pref, base, buffer, start, end);
+        }
+        Ok(())
+    }
+
+    ghost permutes = { λ it _. numbers_kept (final_order it.rules.now it.script)
+        (final_steps it.rules.now it.script) (final_laws it.rules.now it.script) };
+
+    ghost orders = { λ it. ordered_by_steps
+        (final_order it.rules.now it.script) (final_steps it.rules.now it.script) };
+
+    ghost stays = { λ it s e b some _ none.
+        final_stays it.rules.now it.script s e b (omega arith) none };
+}
+
+impl<'a> ReorderBySteps for FinalOrder<'a> {
+    ghost use Rattle.shapers_indic_final.specs.FinalReordering.{final_steps};
+    ghost use Rattle.shapers_indic_final.specs.Proved.FinalLaws.{final_laws};
+
+    ghost steps = { λ it _. final_steps it.rules.now it.script };
+
+    ghost laws = { λ it _. final_laws it.rules.now it.script };
+
+    ghost leads = { λ _ _ _ _ _ done. done };
+}
+
 // Whether a glyph may change its syllable: a left matra, a reph, what `pref` may form, a virama to
 // be recovered; in Malayalam what stands below the base, too.
 #[inline]
@@ -63,30 +98,4 @@ fn changes_syllable(rules: &Rules, script: Option<Script>, glyph: &hb_glyph_info
         || has_mask(rules.pref, glyph)
         || is_lost_virama(rules.virama, glyph)
         || (glyph.auxiliary == POS_BELOW_C && is_malayalam(script))
-}
-
-// Reorders the syllable from `s` to `e`: its viramas, its base, its left matras, its reph, and a
-// glyph that `pref` formed.
-#[inline]
-fn reorder_syllable(
-    rules: &Rules,
-    script: Option<Script>,
-    buffer: &mut hb_buffer_t,
-    s: usize,
-    e: usize,
-)
-    requires in_order { s ≤ e }
-    requires in_range { e ≤ length buffer.old.glyphs }
-    requires pref { rules.now.pref % 8 ≡ 0 }
-    ensures reordered { SyllableReordered
-        (final_order rules.now script) (final_steps rules.now script) s e buffer.old buffer.new }
-    ensures same_length { length buffer.new.glyphs ≡ length buffer.old.glyphs }
-{
-    recover_viramas(rules.virama, buffer, s, e);
-    let based = settle_base(rules, script, buffer, s, e);
-    place_matras(script, based.base, buffer, s, e);
-    let base = place_reph(rules.reph_pos, based.base, buffer, s, e);
-    if based.tries_pref {
-        place_pref(script, rules.pref, base, buffer, s, e);
-    }
 }

@@ -14,25 +14,20 @@ use shapers_base::plan::ot_position_t::{
 };
 use shapers_indic::ot_shaper_indic::glyphs::{is_joiner, is_matra};
 
-// Whether a reph that moves opens a syllable of two or more.
+// Whether a reph that moves opens a syllable of two or more: a formed one, or a character of its own
+// that is not formed. Ra and a halant are a reph only in a font that forms one of them. A font that
+// forms a ligature of the character itself draws it where it is, and wants no reordering.
 #[inline]
 pub(super) fn opens_with_reph(glyphs: &[hb_glyph_info_t]) -> bool
     ensures { result ≡ opens_with_reph glyphs.now }
 {
     match glyphs {
-        [first, _, ..] => is_moving_reph(first),
+        [first, _, ..] => {
+            first.auxiliary == POS_RA_TO_BECOME_REPH
+                && (first.category == OT_Repha) != is_formed(first)
+        }
         _ => false,
     }
-}
-
-// Whether a glyph is a reph that moves: a formed one, or a character of its own that is not formed.
-// Ra and a halant are a reph only in a font that forms one of them. A font that forms a ligature of
-// the character itself draws it where it is, and wants no reordering.
-#[inline]
-fn is_moving_reph(glyph: &hb_glyph_info_t) -> bool
-    ensures { result ≡ is_moving_reph glyph.now }
-{
-    glyph.auxiliary == POS_RA_TO_BECOME_REPH && (glyph.category == OT_Repha) != is_formed(glyph)
 }
 
 // Where the reph goes: behind the first halant before the base, else by the script. A halant that
@@ -135,15 +130,10 @@ fn with_sub_len(glyphs: &[hb_glyph_info_t]) -> usize
     ensures len { result ≡ prefix_len is_with_sub glyphs.now }
     ensures within { result ≤ length glyphs.now }
 {
-    glyphs.iter().take_while(|glyph| is_with_sub(glyph)).count()
-}
-
-// Whether a glyph stands before post-base forms and signs.
-#[inline]
-fn is_with_sub(glyph: &hb_glyph_info_t) -> bool
-    ensures { result ≡ is_with_sub glyph.now }
-{
-    !matches!(glyph.auxiliary, POS_POST_C | POS_AFTER_POST | POS_SMVD)
+    glyphs
+        .iter()
+        .take_while(|glyph| !matches!(glyph.auxiliary, POS_POST_C | POS_AFTER_POST | POS_SMVD))
+        .count()
 }
 
 // The last glyph that is no sign; where it is a halant, less the vowel signs between the base and
@@ -158,7 +148,8 @@ fn at_end(base: usize, glyphs: &[hb_glyph_info_t]) -> usize
 {
     let last = last_but_signs(glyphs);
     if is_halant(&glyphs[last]) && base < last {
-        last - count_matras(&glyphs[base + 1..last])
+        let between = glyphs[base + 1..last].iter();
+        last - between.filter(|glyph| is_matra(glyph)).count()
     } else {
         last
     }
@@ -185,13 +176,4 @@ fn is_sign(glyph: &hb_glyph_info_t) -> bool
     ensures { result ≡ has_position POS_SMVD glyph.now }
 {
     glyph.auxiliary == POS_SMVD
-}
-
-// How many vowel signs there are.
-#[inline]
-fn count_matras(glyphs: &[hb_glyph_info_t]) -> usize
-    ensures count { result ≡ count_by is_matra glyphs.now }
-    ensures within { result ≤ length glyphs.now }
-{
-    glyphs.iter().filter(|glyph| is_matra(glyph)).count()
 }

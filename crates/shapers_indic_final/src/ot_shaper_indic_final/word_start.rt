@@ -1,17 +1,47 @@
-//! The opening of a syllable: a left matra gets the mask of `init` at the start of a word, and
-//! inside a word a break before it is unsafe: Bengali's 09C7 has a form of its own at the start, in
-//! which a piece of text that begins there would be drawn.
-ghost use Rattle.std.specs.Prelude.{◌≡◌, ◌<◌, ◌≤◌, length};
-ghost use Rattle.shapers_indic_final.specs.FinalWordStart.{before_place, continues_word, word_goes_on, opened};
+//! The opening of syllables: a left matra gets the mask of `init` at the start of a word, and inside
+//! a word a break before it is unsafe: Bengali's 09C7 has a form of its own at the start, in which a
+//! piece of text that begins there would be drawn.
+ghost use Rattle.std.specs.Prelude.{◌%◌, ◌≡◌, ◌<◌, ◌≤◌, length};
+ghost use Rattle.shapers_indic_final.specs.FinalWordStart.{WordsOpened, before_place, continues_word, opened, word_goes_on};
 
 use super::matras::is_left;
 use shapers_base::buffer::{
     GlyphChange, hb_buffer_t, hb_glyph_info_t, hb_unicode_general_category_t,
 };
+use shapers_syllabic::ot_shaper_syllabic::{MayChange, next_changing};
+
+// Opens each syllable of the text.
+#[inline]
+pub(super) fn open_words(init: u32, buffer: &mut hb_buffer_t)
+    requires init { init % 8 ≡ 0 }
+    ensures { WordsOpened init buffer.old buffer.new }
+{
+    let mut start = 0;
+    while let Some(first) = next_changing(&WithLeftMatra, buffer.glyphs(), start) {
+        let end = buffer.next_syllable(first);
+        open_syllable(init, buffer, first);
+        start = end;
+    }
+}
+
+// The syllables with a left matra: most have none, and cost a look at each position.
+#[derive(Clone, Copy)]
+struct WithLeftMatra;
+
+impl MayChange for WithLeftMatra {
+    ghost use Rattle.shapers_indic_final.specs.FinalMatras.{is_left};
+
+    ghost changes = { λ _. is_left };
+
+    #[inline]
+    fn may_change(&self, glyph: &hb_glyph_info_t) -> bool {
+        is_left(glyph)
+    }
+}
 
 // Opens the syllable at place `s`.
 #[inline]
-pub(super) fn open_syllable(init: u32, buffer: &mut hb_buffer_t, s: usize)
+fn open_syllable(init: u32, buffer: &mut hb_buffer_t, s: usize)
     requires { s < length buffer.old.glyphs }
     ensures { buffer.new ≡ record buffer.old { glyphs = opened init s buffer.old.glyphs } }
 {

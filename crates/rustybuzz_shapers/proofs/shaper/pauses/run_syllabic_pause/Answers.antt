@@ -17,7 +17,7 @@ use Rattle.shapers_universal.proofs.UniversalSerials.{universal_reads_no_serials
 use Rattle.shapers_universal.specs.Proved.UniversalView.{universal_laws}
 use Rattle.rustybuzz_shapers.specs.Pauses.{PauseKeeps, RefusesPause, by_initial, by_khmer, by_myanmar, by_universal}
 use Rattle.shapers_syllabic.proofs.SetUpFlags.{set_up_added}
-use Rattle.rustybuzz_shapers.proofs.PauseLaws.{both, on_kept}
+use Rattle.rustybuzz_shapers.proofs.PauseLaws.{both, final_keeps, on_kept}
 use Rattle.rustybuzz_shapers.proofs.shaper.pauses.run_syllabic_pause.Goals as goal
 
 pub returns-in_ok-set_up_syllables-in-SetupSyllablesIndic-clause-laws :
@@ -118,3 +118,14 @@ returns-in-ReorderUse-clause-laws g c =
     (sym c.in-ReorderUse.is) (on_kept _ c.reorder_use.result (by_universal font old) old new universal_laws
     universal_reads_no_serials c.reorder_use.ensures.ok
     (both _ _ c.reorder_use.result c.reorder_use.ensures.linked c.reorder_use.ensures.laws))
+
+pub returns-in-FinalReordering-clause-laws : goal.returns-in-FinalReordering-clause-laws
+returns-in-FinalReordering-clause-laws g c =
+    let plan = c.args.plan.now in
+    let font = g.F.hb_font_t.font c.args.face.now in
+    let old = c.args.buffer.now in
+    let new = c.final_reordering.new.buffer in
+    subst (λ (p : Pause). PauseKeeps p plan font c.args.spans.now old new) (sym c.in-FinalReordering.is) (
+      c.final_reordering.ensures.laws,
+      (final_keeps plan font old new c.final_reordering.ensures.linked, c.final_reordering.ensures.clusters),
+    )

@@ -1,4 +1,4 @@
-use Rattle.shapers_indic_final.proofs.FinalLaws as proofs
+use Rattle.shapers_indic_final.specs.Proved.FinalLaws as proofs
 use Rattle.shapers_indic_final.proofs.ot_shaper_indic_final.laws.final_reorder_laws.Goals as goal
 
 pub returns : goal.returns

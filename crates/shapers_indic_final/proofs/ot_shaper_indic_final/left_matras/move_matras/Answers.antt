@@ -5,7 +5,7 @@ use Rattle.shapers_buffer.specs.Buffer.{Buffer}
 use Rattle.shapers_buffer.specs.Places.{placed}
 use Rattle.shapers_indic.specs.Glyphs.{places}
 use Rattle.shapers_indic_final.specs.LeftMatraWalk.{has_gone}
-use Rattle.shapers_indic_final.proofs.FinalMoves.{glyphs_put}
+use Rattle.shapers_indic_final.specs.Proved.FinalMoves.{glyphs_put}
 use Rattle.shapers_indic_final.proofs.LeftMatrasListed.{parted_listed, parted_long, parted_once, parted_placed}
 use Rattle.shapers_indic_final.proofs.ot_shaper_indic_final.left_matras.move_matras.Goals as goal
 

@@ -1,7 +1,7 @@
 -- One place more, back.
 use Rattle.std.proofs.Common.{◌-◌, unwrap_or, sym, ap, ◌∙◌, arith}
 use Rattle.shapers_indic_final.specs.FinalMatras.{ends_search}
-use Rattle.shapers_indic_final.proofs.FinalPlaces.{greatest_none, greatest_step, greatest_stop}
+use Rattle.shapers_indic_final.specs.Proved.FinalPlaces.{greatest_none, greatest_step, greatest_stop}
 use Rattle.shapers_indic_final.proofs.ot_shaper_indic_final.matras.search_end.Goals as goal
 
 pub returns-then-ends_search-clause-end : goal.returns-then-ends_search-clause-end

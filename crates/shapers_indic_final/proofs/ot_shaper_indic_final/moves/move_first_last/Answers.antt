@@ -1,7 +1,7 @@
 -- The move as a placement.
 use Rattle.std.proofs.Common.{◌+◌, ◌-◌, arith}
 use Rattle.shapers_buffer.proofs.Placements.{forward_permutes}
-use Rattle.shapers_indic_final.proofs.FinalMoves.{placed_first_last}
+use Rattle.shapers_indic_final.specs.Proved.FinalMoves.{placed_first_last}
 use Rattle.shapers_indic_final.proofs.ot_shaper_indic_final.moves.move_first_last.Goals as goal
 
 pub apply-requires-clause-permutes : goal.apply-requires-clause-permutes

@@ -3,7 +3,7 @@ use Rattle.std.proofs.Common.{length, ◌+◌, ap, ◌∙◌, arith}
 use Rattle.shapers_buffer.specs.Lists.{first_last}
 use Rattle.shapers_buffer.specs.Buffer.{Buffer}
 use Rattle.shapers_buffer.specs.Clusters.{merge, with_stretch}
-use Rattle.shapers_indic_final.proofs.FinalSteps.{length-moved, matra_stepped, moved_and_merged}
+use Rattle.shapers_indic_final.specs.Proved.FinalSteps.{length-moved, matra_stepped, moved_and_merged}
 use Rattle.shapers_indic_final.proofs.ot_shaper_indic_final.moves.move_matra.Goals as goal
 
 pub merge_clusters-requires-clause-in_range : goal.merge_clusters-requires-clause-in_range

@@ -2,7 +2,7 @@
 use Rattle.std.proofs.Common.{◌+◌}
 use Rattle.shapers_buffer.specs.Clusters.{merge, with_stretch}
 use Rattle.shapers_indic_final.specs.FinalGlyphs.{last_goes_first}
-use Rattle.shapers_indic_final.proofs.FinalSteps.{merged_and_moved, pref_stepped}
+use Rattle.shapers_indic_final.specs.Proved.FinalSteps.{merged_and_moved, pref_stepped}
 use Rattle.shapers_indic_final.proofs.ot_shaper_indic_final.moves.move_pref.Goals as goal
 
 pub returns : goal.returns

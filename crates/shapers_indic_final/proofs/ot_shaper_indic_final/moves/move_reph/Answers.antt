@@ -2,7 +2,7 @@
 use Rattle.std.proofs.Common.{◌+◌}
 use Rattle.shapers_buffer.specs.Lists.{first_last}
 use Rattle.shapers_buffer.specs.Clusters.{merge, with_stretch}
-use Rattle.shapers_indic_final.proofs.FinalSteps.{merged_and_moved, reph_stepped}
+use Rattle.shapers_indic_final.specs.Proved.FinalSteps.{merged_and_moved, reph_stepped}
 use Rattle.shapers_indic_final.proofs.ot_shaper_indic_final.moves.move_reph.Goals as goal
 
 pub returns : goal.returns

@@ -1,17 +1,43 @@
-use Rattle.std.proofs.Common.{ap, subst, ◌∙◌}
-use Rattle.shapers_indic_final.specs.FinalLaws.{FinallyKept}
+-- The chain of the reordering, and what it comes to once its syllables are opened.
+use Rattle.std.proofs.Common.{◌≡◌, ap, sym, subst, true, ◌∙◌}
+use Rattle.std.specs.Prelude.{Err, Ok, OnOk, Result, is_ok}
+use Rattle.shapers_indic_final.specs.FinalReordering.{final_order, final_steps}
 use Rattle.shapers_indic_final.specs.FinalRules.{final_rules}
+use Rattle.shapers_indic_final.specs.FinalWordStart.{FinallyLinked}
 use Rattle.shapers_indic_final.specs.declared.ot_shaper_indic_final.rules.Rules.{Rules}
 use Rattle.shapers_indic_final.proofs.FinalKept.{finally_kept}
+use Rattle.shapers_indic_final.proofs.FinalText.{reordered_by_links}
+use Rattle.shapers_syllabic.specs.Reordering.{SyllableReordered, SyllablesLinked}
 use Rattle.shapers_indic_final.proofs.ot_shaper_indic_final.pause.final_reordering.Goals as goal
 
-pub returns-clause-laws : goal.returns-clause-laws
-returns-clause-laws g c =
-    let old = c.args.buffer.now in
-    let new = c.reorder_text.new.buffer in
-    let same = c.new-rules.ensures ∙ ap (final_rules (g.F.hb_font_t.font c.args.face.now)) c.indic_in.ensures in
-    subst (λ (r : Rules). FinallyKept r old new) same
-    (finally_kept c.new-rules.result old new c.reorder_text.ensures.reordered)
+on_ok : {T E P : Type 0} (r : Result T E) → is_ok r ≡ true → OnOk r P → P
+on_ok (Ok x) is done = done
+on_ok (Err e) is done = absurd (cc is)
 
-pub returns-clause-clusters : goal.returns-clause-clusters
-returns-clause-clusters g c = let laws = returns-clause-laws g c in laws.in_clusters.old_clusters
+pub returns-then-is_ok-clause-linked : goal.returns-then-is_ok-clause-linked
+returns-then-is_ok-clause-linked g c =
+    let old = c.args.buffer.now in
+    let mid = c.reorder_syllables.new.buffer in
+    let new = c.open_words.new.buffer in
+    let r = c.new-rules.result in
+    let same = c.new-rules.ensures ∙ ap (final_rules (g.F.hb_font_t.font c.args.face.now)) c.indic_in.ensures in
+    subst (λ (r : Rules). FinallyLinked r old new) same (
+      mid,
+      subst (λ script. SyllablesLinked (SyllableReordered (final_order r script) (final_steps r script)) old mid)
+          c.script.ensures (on_ok c.reorder_syllables.result (sym c.is_ok.ensures.value ∙ c.if-is_ok.true)
+          c.reorder_syllables.ensures.linked),
+      c.open_words.ensures,
+    )
+
+pub returns-then-is_ok-clause-reordered : goal.returns-then-is_ok-clause-reordered
+returns-then-is_ok-clause-reordered g c = reordered_by_links _ c.args.buffer.now c.open_words.new.buffer
+    (returns-then-is_ok-clause-linked g c)
+
+pub returns-then-is_ok-clause-laws : goal.returns-then-is_ok-clause-laws
+returns-then-is_ok-clause-laws g c = finally_kept _ c.args.buffer.now c.open_words.new.buffer
+    (returns-then-is_ok-clause-reordered g c)
+
+pub returns-then-is_ok-clause-clusters : goal.returns-then-is_ok-clause-clusters
+returns-then-is_ok-clause-clusters g c =
+    let laws = returns-then-is_ok-clause-laws g c in
+    laws.in_clusters.old_clusters

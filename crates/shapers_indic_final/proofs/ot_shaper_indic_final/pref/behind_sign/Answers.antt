@@ -4,7 +4,7 @@ use Rattle.std.specs.Option.{option_map_or}
 use Rattle.shapers_buffer.specs.Glyph.{default_glyph}
 use Rattle.shapers_indic.specs.Glyphs.{passes}
 use Rattle.shapers_indic_final.specs.FinalGlyphs.{is_matra_or_halant}
-use Rattle.shapers_indic_final.proofs.FinalPlaces.{greatest_none, greatest_step, greatest_stop, passes_there}
+use Rattle.shapers_indic_final.specs.Proved.FinalPlaces.{greatest_none, greatest_step, greatest_stop, passes_there}
 use Rattle.shapers_indic_final.proofs.ot_shaper_indic_final.pref.behind_sign.Goals as goal
 
 pub returns-then-is_matra_or_halant-clause-place : goal.returns-then-is_matra_or_halant-clause-place

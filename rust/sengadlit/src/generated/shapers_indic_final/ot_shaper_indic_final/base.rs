@@ -68,7 +68,10 @@ fn find_base(rules: &Rules, script: Option<Script>, glyphs: &mut [GlyphInfo]) ->
     let by_pref = set_pref_base(rules.pref, first, glyphs);
     let by_links = set_links(script, by_pref.unwrap_or(first), glyphs);
     Based {
-        base: settled_base(stepped_back(by_links, glyphs), glyphs),
+        base: before_halants(
+            before_joiner(stepped_back(by_links, glyphs), glyphs),
+            glyphs,
+        ),
         tries_pref: rules.pref != 0 && by_pref.is_none(),
     }
 }
@@ -95,17 +98,11 @@ fn is_from_base_on(glyph: &GlyphInfo) -> bool {
 #[inline]
 fn unformed_pref(pref: u32, base: usize, glyphs: &[GlyphInfo]) -> Option<usize> {
     let i = pref_place(pref, base, glyphs)?;
-    if is_unformed(&glyphs[i]) {
-        Some(i)
-    } else {
+    if glyphs[i].marks.is_substituted() && is_formed(&glyphs[i]) {
         None
+    } else {
+        Some(i)
     }
-}
-
-// Whether a glyph is not both substituted and formed.
-#[inline]
-fn is_unformed(glyph: &GlyphInfo) -> bool {
-    !(glyph.marks.is_substituted() && is_formed(glyph))
 }
 
 // The base by `pref`, which gets the base's position, if there is an unformed glyph. The initial
@@ -151,40 +148,25 @@ fn set_base(glyphs: &mut [GlyphInfo]) {
 // is part of a ligature, or lost its position, and this glyph is drawn behind it.
 #[inline]
 fn stepped_back(base: usize, glyphs: &[GlyphInfo]) -> usize {
-    if base < glyphs.len() && is_behind_base(&glyphs[base]) {
+    if base < glyphs.len() && glyphs[base].auxiliary > POS_BASE_C {
         base.saturating_sub(1)
     } else {
         base
     }
 }
 
-// Whether a glyph has a position after the base's.
-#[inline]
-fn is_behind_base(glyph: &GlyphInfo) -> bool {
-    glyph.auxiliary > POS_BASE_C
-}
-
-// Where the base settles: before a joiner at the end, and before nuktas and halants.
-#[inline]
-fn settled_base(base: usize, glyphs: &[GlyphInfo]) -> usize {
-    before_halants(before_joiner(base, glyphs), glyphs)
-}
-
 // From the end back over a ZWJ there: a syllable whose consonants are all half forms, so that none
 // has the base's position, ends with the joiner that wanted the last of them.
 #[inline]
 fn before_joiner(base: usize, glyphs: &[GlyphInfo]) -> usize {
-    if base == glyphs.len() && base > 0 && is_zwj(&glyphs[base - 1]) {
-        base - 1
-    } else {
-        base
+    match glyphs {
+        [.., last]
+            if base == glyphs.len() && !last.marks.is_ligated() && last.category == OT_ZWJ =>
+        {
+            base - 1
+        }
+        _ => base,
     }
-}
-
-// Whether a glyph is a ZWJ, and no lookup put it in for several.
-#[inline]
-fn is_zwj(glyph: &GlyphInfo) -> bool {
-    !glyph.marks.is_ligated() && glyph.category == OT_ZWJ
 }
 
 // Back to the nearest glyph that is neither a nukta nor a halant, else to the start.

@@ -21,12 +21,6 @@ pub(super) fn matras_go(p: usize, glyphs: &[GlyphInfo]) -> bool {
     p > 0 && !is_left(&glyphs[p])
 }
 
-// Whether there may be left matras before a base.
-#[inline]
-pub(super) fn has_room(base: usize, glyphs: &[GlyphInfo]) -> bool {
-    glyphs.len() > 1 && base > 0
-}
-
 // The end of what merges with a left matra: the base with it, if there is one.
 #[inline]
 pub(super) fn end_of_base(base: usize, glyphs: &[GlyphInfo]) -> usize {

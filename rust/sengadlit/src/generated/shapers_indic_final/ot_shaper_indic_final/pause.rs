@@ -2,12 +2,14 @@
 
 //! The pause of the final reordering.
 
-use super::reordering::reorder_text;
+use super::reordering::FinalOrder;
 use super::rules::Rules;
+use super::word_start::open_words;
 use crate::generated::shapers_base::buffer::Buffer;
 use crate::generated::shapers_base::font::Font;
 use crate::generated::shapers_base::plan::Plan;
 use crate::generated::shapers_indic::ot_shaper_indic::indic_in;
+use crate::generated::shapers_syllabic::ot_shaper_syllabic::reorder_syllables;
 
 /// Reorders each syllable again, now that the basic features formed its glyphs: its base, its left
 /// matras, its reph and a glyph that `pref` formed; and gives a left matra at the start of a word
@@ -20,6 +22,7 @@ use crate::generated::shapers_indic::ot_shaper_indic::indic_in;
 /// # Contract
 ///
 /// ```text
+/// requires without_positions { buffer.old.positions ≡ [] }
 /// requires kept { is_indic_data plan.now.plan_data ≡ true }
 /// ensures reordered { let rules = final_rules (F.font face.now) (indic_in plan.now) in
 ///     FinallyReordered rules buffer.old buffer.new }
@@ -40,6 +43,11 @@ use crate::generated::shapers_indic::ot_shaper_indic::indic_in;
 #[inline]
 pub fn final_reordering<F: Font>(plan: &Plan, face: &F, buffer: &mut Buffer) {
     let rules = Rules::new(indic_in(plan), face);
-    let script = buffer.script();
-    reorder_text(&rules, script, buffer);
+    let order = FinalOrder {
+        rules: &rules,
+        script: buffer.script(),
+    };
+    if reorder_syllables(&order, buffer).is_ok() {
+        open_words(rules.init, buffer);
+    }
 }

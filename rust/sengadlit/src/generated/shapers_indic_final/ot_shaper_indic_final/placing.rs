@@ -3,7 +3,7 @@
 //! Left matras, the reph and a formed pref glyph of one syllable, each put in its place.
 
 use super::left_matras::part_matras;
-use super::matras::{end_of_base, first_left, has_room, matra_target, matras_go};
+use super::matras::{end_of_base, first_left, matra_target, matras_go};
 use super::moves::{move_pref, move_reph};
 use super::pref::{formed_pref, pref_target};
 use super::reph::{base_after_reph, opens_with_reph, reph_target};
@@ -53,7 +53,7 @@ pub(super) fn place_matras(
     s: usize,
     e: usize,
 ) {
-    if !has_room(base, &buffer.glyphs()[s..e]) {
+    if base == 0 || e - s < 2 {
         return;
     }
     let end = end_of_base(base, &buffer.glyphs()[s..e]);

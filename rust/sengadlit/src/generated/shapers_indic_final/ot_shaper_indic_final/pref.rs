@@ -32,25 +32,20 @@ pub(super) fn formed_pref(pref: u32, base: usize, glyphs: &[GlyphInfo]) -> Optio
     if is_formed(&glyphs[i]) { Some(i) } else { None }
 }
 
-// Where a formed glyph goes.
+// Where a formed glyph goes: behind the nearest vowel sign or halant before the base, as left
+// matras do; without half forms to the base itself, whatever chillus stand before it. A joiner there
+// stays with its halant.
 #[inline]
 pub(super) fn pref_target(script: Option<Script>, base: usize, glyphs: &[GlyphInfo]) -> usize {
-    let place = place_before_base(script, base, glyphs);
+    let place = if has_no_half_forms(script) {
+        base
+    } else {
+        behind_sign(base, glyphs)
+    };
     if is_joiner_behind_halant(glyphs, place) {
         place + 1
     } else {
         place
-    }
-}
-
-// The place behind the nearest vowel sign or halant before the base, as for a left matra; the base
-// itself without half forms, whatever chillus stand before it.
-#[inline]
-fn place_before_base(script: Option<Script>, base: usize, glyphs: &[GlyphInfo]) -> usize {
-    if has_no_half_forms(script) {
-        base
-    } else {
-        behind_sign(base, glyphs)
     }
 }
 

@@ -1,38 +1,23 @@
 // Generated from crates/shapers_indic_final/src/ot_shaper_indic_final/reordering.rt by rust/erase; edit the source.
 
-//! The final reordering of one syllable, and of a text.
+//! The final reordering of one syllable.
 
 use super::base::settle_base;
 use super::glyphs::has_mask;
 use super::placing::{place_matras, place_pref, place_reph};
 use super::rules::{Rules, is_malayalam};
 use super::viramas::{is_lost_virama, recover_viramas};
-use super::word_start::open_syllable;
-use crate::generated::shapers_base::buffer::{Buffer, GlyphInfo, Script};
+use crate::generated::shapers_base::buffer::{Buffer, GlyphInfo, Script, ShaperError};
 use crate::generated::shapers_base::plan::ot_position_t::{
     POS_BELOW_C, POS_PRE_M, POS_RA_TO_BECOME_REPH,
 };
-use crate::generated::shapers_syllabic::ot_shaper_syllabic::{MayChange, next_changing};
+use crate::generated::shapers_syllabic::ot_shaper_syllabic::{MayChange, Reorder, ReorderBySteps};
 
-// Reorders each syllable of the text and opens it, from left to right.
-#[inline]
-pub(super) fn reorder_text(rules: &Rules, script: Option<Script>, buffer: &mut Buffer) {
-    let order = FinalOrder { rules, script };
-    let mut start = 0;
-    while let Some(first) = next_changing(&order, buffer.glyphs(), start) {
-        let end = buffer.next_syllable(first);
-        reorder_syllable(rules, script, buffer, first, end);
-        open_syllable(rules.init, buffer, first);
-        start = end;
-    }
-    buffer.clear_places();
-}
-
-// The final reordering of syllables, under rules, in a text of a script.
+/// The final reordering of syllables, under rules, in a text of a script.
 #[derive(Clone, Copy)]
-struct FinalOrder<'a> {
-    rules: &'a Rules,
-    script: Option<Script>,
+pub(super) struct FinalOrder<'a> {
+    pub(super) rules: &'a Rules,
+    pub(super) script: Option<Script>,
 }
 
 impl<'a> MayChange for FinalOrder<'a> {
@@ -42,6 +27,23 @@ impl<'a> MayChange for FinalOrder<'a> {
     }
 }
 
+impl<'a> Reorder for FinalOrder<'a> {
+    // its viramas, its base, its left matras, its reph, and a glyph that `pref` formed
+    #[inline]
+    fn reorder(&self, buffer: &mut Buffer, start: usize, end: usize) -> Result<(), ShaperError> {
+        recover_viramas(self.rules.virama, buffer, start, end);
+        let based = settle_base(self.rules, self.script, buffer, start, end);
+        place_matras(self.script, based.base, buffer, start, end);
+        let base = place_reph(self.rules.reph_pos, based.base, buffer, start, end);
+        if based.tries_pref {
+            place_pref(self.script, self.rules.pref, base, buffer, start, end);
+        }
+        Ok(())
+    }
+}
+
+impl<'a> ReorderBySteps for FinalOrder<'a> {}
+
 // Whether a glyph may change its syllable: a left matra, a reph, what `pref` may form, a virama to
 // be recovered; in Malayalam what stands below the base, too.
 #[inline]
@@ -50,23 +52,4 @@ fn changes_syllable(rules: &Rules, script: Option<Script>, glyph: &GlyphInfo) ->
         || has_mask(rules.pref, glyph)
         || is_lost_virama(rules.virama, glyph)
         || (glyph.auxiliary == POS_BELOW_C && is_malayalam(script))
-}
-
-// Reorders the syllable from `s` to `e`: its viramas, its base, its left matras, its reph, and a
-// glyph that `pref` formed.
-#[inline]
-fn reorder_syllable(
-    rules: &Rules,
-    script: Option<Script>,
-    buffer: &mut Buffer,
-    s: usize,
-    e: usize,
-) {
-    recover_viramas(rules.virama, buffer, s, e);
-    let based = settle_base(rules, script, buffer, s, e);
-    place_matras(script, based.base, buffer, s, e);
-    let base = place_reph(rules.reph_pos, based.base, buffer, s, e);
-    if based.tries_pref {
-        place_pref(script, rules.pref, base, buffer, s, e);
-    }
 }

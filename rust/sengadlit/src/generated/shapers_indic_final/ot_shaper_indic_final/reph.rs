@@ -11,21 +11,18 @@ use crate::generated::shapers_base::plan::ot_position_t::{
 };
 use crate::generated::shapers_indic::ot_shaper_indic::glyphs::{is_joiner, is_matra};
 
-// Whether a reph that moves opens a syllable of two or more.
+// Whether a reph that moves opens a syllable of two or more: a formed one, or a character of its own
+// that is not formed. Ra and a halant are a reph only in a font that forms one of them. A font that
+// forms a ligature of the character itself draws it where it is, and wants no reordering.
 #[inline]
 pub(super) fn opens_with_reph(glyphs: &[GlyphInfo]) -> bool {
     match glyphs {
-        [first, _, ..] => is_moving_reph(first),
+        [first, _, ..] => {
+            first.auxiliary == POS_RA_TO_BECOME_REPH
+                && (first.category == OT_Repha) != is_formed(first)
+        }
         _ => false,
     }
-}
-
-// Whether a glyph is a reph that moves: a formed one, or a character of its own that is not formed.
-// Ra and a halant are a reph only in a font that forms one of them. A font that forms a ligature of
-// the character itself draws it where it is, and wants no reordering.
-#[inline]
-fn is_moving_reph(glyph: &GlyphInfo) -> bool {
-    glyph.auxiliary == POS_RA_TO_BECOME_REPH && (glyph.category == OT_Repha) != is_formed(glyph)
 }
 
 // Where the reph goes: behind the first halant before the base, else by the script. A halant that
@@ -100,13 +97,10 @@ fn with_main_len(glyphs: &[GlyphInfo]) -> usize {
 // How many glyphs in front stand before post-base forms and signs.
 #[inline]
 fn with_sub_len(glyphs: &[GlyphInfo]) -> usize {
-    glyphs.iter().take_while(|glyph| is_with_sub(glyph)).count()
-}
-
-// Whether a glyph stands before post-base forms and signs.
-#[inline]
-fn is_with_sub(glyph: &GlyphInfo) -> bool {
-    !matches!(glyph.auxiliary, POS_POST_C | POS_AFTER_POST | POS_SMVD)
+    glyphs
+        .iter()
+        .take_while(|glyph| !matches!(glyph.auxiliary, POS_POST_C | POS_AFTER_POST | POS_SMVD))
+        .count()
 }
 
 // The last glyph that is no sign; where it is a halant, less the vowel signs between the base and
@@ -117,7 +111,8 @@ fn is_with_sub(glyph: &GlyphInfo) -> bool {
 fn at_end(base: usize, glyphs: &[GlyphInfo]) -> usize {
     let last = last_but_signs(glyphs);
     if is_halant(&glyphs[last]) && base < last {
-        last - count_matras(&glyphs[base + 1..last])
+        let between = glyphs[base + 1..last].iter();
+        last - between.filter(|glyph| is_matra(glyph)).count()
     } else {
         last
     }
@@ -138,10 +133,4 @@ fn last_but_signs(glyphs: &[GlyphInfo]) -> usize {
 #[inline]
 fn is_sign(glyph: &GlyphInfo) -> bool {
     glyph.auxiliary == POS_SMVD
-}
-
-// How many vowel signs there are.
-#[inline]
-fn count_matras(glyphs: &[GlyphInfo]) -> usize {
-    glyphs.iter().filter(|glyph| is_matra(glyph)).count()
 }

@@ -1,15 +1,38 @@
 // Generated from crates/shapers_indic_final/src/ot_shaper_indic_final/word_start.rt by rust/erase; edit the source.
 
-//! The opening of a syllable: a left matra gets the mask of `init` at the start of a word, and
-//! inside a word a break before it is unsafe: Bengali's 09C7 has a form of its own at the start, in
-//! which a piece of text that begins there would be drawn.
+//! The opening of syllables: a left matra gets the mask of `init` at the start of a word, and inside
+//! a word a break before it is unsafe: Bengali's 09C7 has a form of its own at the start, in which a
+//! piece of text that begins there would be drawn.
 
 use super::matras::is_left;
 use crate::generated::shapers_base::buffer::{Buffer, GeneralCategory, GlyphChange, GlyphInfo};
+use crate::generated::shapers_syllabic::ot_shaper_syllabic::{MayChange, next_changing};
+
+// Opens each syllable of the text.
+#[inline]
+pub(super) fn open_words(init: u32, buffer: &mut Buffer) {
+    let mut start = 0;
+    while let Some(first) = next_changing(&WithLeftMatra, buffer.glyphs(), start) {
+        let end = buffer.next_syllable(first);
+        open_syllable(init, buffer, first);
+        start = end;
+    }
+}
+
+// The syllables with a left matra: most have none, and cost a look at each position.
+#[derive(Clone, Copy)]
+struct WithLeftMatra;
+
+impl MayChange for WithLeftMatra {
+    #[inline]
+    fn may_change(&self, glyph: &GlyphInfo) -> bool {
+        is_left(glyph)
+    }
+}
 
 // Opens the syllable at place `s`.
 #[inline]
-pub(super) fn open_syllable(init: u32, buffer: &mut Buffer, s: usize) {
+fn open_syllable(init: u32, buffer: &mut Buffer, s: usize) {
     if !is_left(&buffer.glyphs()[s]) {
         return;
     }

@@ -17,7 +17,7 @@ use Rattle.shapers_clusters.proofs.Picks.{length-pick, pick-all, pick-map, pick-
 use Rattle.shapers_clusters.proofs.ViewedSteps.{length-same}
 use Rattle.shapers_clusters.proofs.Views.{seen-same}
 use Rattle.shapers_indic.specs.Glyphs.{places}
-use Rattle.shapers_indic_final.proofs.FinalSteps.{Picks, all_within, stretch_permutes, stretch_picks}
+use Rattle.shapers_indic_final.specs.Proved.FinalSteps.{Picks, all_within, stretch_permutes, stretch_picks}
 use Rattle.shapers_syllabic.specs.Reordering.{carried}
 use Rattle.shapers_clusters.proofs.Moves.{old_places_then}
 use Rattle.shapers_syllabic.proofs.ReorderingLemmas.{old_places_one}

@@ -28,12 +28,12 @@ use Rattle.shapers_indic_final.specs.FinalReordering.{after_matras, after_pref, 
 use Rattle.shapers_indic_final.specs.FinalReph.{opens_with_reph, final_reph_step, reph_steps, reph_target, with_reph}
 use Rattle.shapers_indic_final.specs.FinalRules.{has_no_half_forms}
 use Rattle.shapers_indic_final.specs.declared.ot_shaper_indic_final.rules.Rules.{Rules}
-use Rattle.shapers_indic_final.proofs.FinalHidden.{base_within, hidden-based, hidden-viramas}
-use Rattle.shapers_indic_final.proofs.FinalLawsAt.{LawsAt, agrees_at, same_at, step_laws_at, stretch_at, then_at}
-use Rattle.shapers_indic_final.proofs.FinalMoves.{permutes_first_last, permutes_last_first, picks_first_last, picks_last_first}
-use Rattle.shapers_indic_final.proofs.LeftMatraMoves.{all_at, is_other}
-use Rattle.shapers_indic_final.proofs.FinalPlaces.{passes_there}
-use Rattle.shapers_indic_final.proofs.FinalTargets.{PlaceWithin, formed_pref_within, greatest_within, opens_some, pref_target_within, reph_target_within}
+use Rattle.shapers_indic_final.specs.Proved.FinalHidden.{base_within, hidden-based, hidden-viramas}
+use Rattle.shapers_indic_final.specs.Proved.FinalLawsAt.{LawsAt, agrees_at, same_at, step_laws_at, stretch_at, then_at}
+use Rattle.shapers_indic_final.specs.Proved.FinalMoves.{permutes_first_last, permutes_last_first, picks_first_last, picks_last_first}
+use Rattle.shapers_indic_final.specs.Proved.LeftMatraMoves.{all_at, is_other}
+use Rattle.shapers_indic_final.specs.Proved.FinalPlaces.{passes_there}
+use Rattle.shapers_indic_final.specs.Proved.FinalTargets.{PlaceWithin, formed_pref_within, greatest_within, opens_some, pref_target_within, reph_target_within}
 
 -- the left matras go to a place
 parting_at : (gs : List hb_glyph_info_t) (p e : ℕ) → p < length gs → passes is_left gs p ≡ false → e ≤ length gs

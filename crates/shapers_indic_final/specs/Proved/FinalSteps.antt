@@ -24,7 +24,7 @@ use Rattle.shapers_indic_final.specs.FinalGlyphs.{last_goes_first}
 use Rattle.shapers_indic_final.specs.FinalMatras.{matra_step}
 use Rattle.shapers_indic_final.specs.FinalPref.{pref_move}
 use Rattle.shapers_indic_final.specs.FinalReph.{final_reph_step}
-use Rattle.shapers_indic_final.proofs.FinalMoves.{permutes_first_last, permutes_last_first, picks_first_last, picks_last_first}
+use Rattle.shapers_indic_final.specs.Proved.FinalMoves.{permutes_first_last, permutes_last_first, picks_first_last, picks_last_first}
 
 -- a stretch of a stretch
 pub stretch_inside : {X : Type 0} (s e i k : ℕ) (f : List X → List X) (xs : List X) → s ≤ e → i ≤ k → k ≤ e - s

@@ -12,9 +12,9 @@ use Rattle.shapers_buffer.specs.Glyph.{default_glyph}
 use Rattle.shapers_clusters.specs.Steps.{Step}
 use Rattle.shapers_indic.specs.Glyphs.{passes, places}
 use Rattle.shapers_indic_final.specs.FinalMatras.{is_left, matra_step}
-use Rattle.shapers_indic_final.proofs.FinalLawsAt.{LawsAt, same_at, stretch_at, then_at}
-use Rattle.shapers_indic_final.proofs.FinalMoves.{permutes_first_last, picks_first_last}
-use Rattle.shapers_indic_final.proofs.FinalPlaces.{passes_there, places_last}
+use Rattle.shapers_indic_final.specs.Proved.FinalLawsAt.{LawsAt, same_at, stretch_at, then_at}
+use Rattle.shapers_indic_final.specs.Proved.FinalMoves.{permutes_first_last, picks_first_last}
+use Rattle.shapers_indic_final.specs.Proved.FinalPlaces.{passes_there, places_last}
 
 abbrev pub is_other : hb_glyph_info_t → Bool
 is_other g = not (is_left g)

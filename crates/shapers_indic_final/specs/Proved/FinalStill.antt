@@ -1,14 +1,16 @@
 -- A syllable in which nothing asks for a change: it stays as it is, and no steps are taken.
-use Rattle.std.proofs.Common.{ℕ, zero, suc, ◌+◌, ◌-◌, ◌≤◌, ◌≡◌, ◌==◌, ◌&&◌, ◌||◌, ◌%◌, not, Bool, true, false, inl, inr, cond, if◌then◌else◌, Option, None, Some, List, [], ◌∷◌, ◌++◌, map, filter, reverse, length, take, drop, refl, sym, ◌∙◌, ap, arith, append-nil, take-append-drop}
+use Rattle.std.proofs.Common.{ℕ, zero, suc, ◌+◌, ◌-◌, ◌≤◌, ◌≡◌, ◌==◌, ◌&&◌, ◌||◌, ◌%◌, ◌/◌, not, Bool, true, false, inl, inr, cond, if◌then◌else◌, Option, None, Some, List, [], ◌∷◌, ◌++◌, map, filter, reverse, length, take, drop, refl, sym, ◌∙◌, ap, arith, append-nil, take-append-drop}
+use Rattle.std.specs.Prelude.{bit_and}
 use Rattle.std.specs.List.{enumerate_from, find, list_any, slice_get}
 use Rattle.std.specs.Option.{option_map_or}
-use Rattle.std.proofs.lemmas.Bool.{cases_Bool, or_from, or_parts}
+use Rattle.std.proofs.lemmas.Bool.{cases_Bool, eqb-true, or_from, or_parts}
+use Rattle.std.proofs.lemmas.Nat.{and_mod, and_shr}
 use Rattle.shapers_buffer.specs.declared.buffer.glyph.hb_glyph_info_t.{hb_glyph_info_t}
 use Rattle.shapers_buffer.specs.declared.buffer.tag.Script.{Script}
 use Rattle.shapers_buffer.specs.Buffer.{Buffer}
 use Rattle.shapers_buffer.specs.Clusters.{stretch_of, with_stretch}
 use Rattle.shapers_buffer.specs.Lists.{first_last}
-use Rattle.shapers_buffer.specs.Glyph.{at_position, order_view, plain}
+use Rattle.shapers_buffer.specs.Glyph.{at_position, order_view, plain, without_flags}
 use Rattle.shapers_buffer.proofs.ClusterLemmas.{map-stretch}
 use Rattle.shapers_buffer.proofs.ListLaws.{none_in_front}
 use Rattle.shapers_base.specs.declared.font.GlyphId.{GlyphId}
@@ -25,7 +27,6 @@ use Rattle.shapers_indic_final.specs.FinalReph.{carried_along, final_reph_step, 
 use Rattle.shapers_indic_final.specs.FinalRules.{is_malayalam}
 use Rattle.shapers_indic_final.specs.FinalWalk.{changes_syllable}
 use Rattle.shapers_indic_final.specs.declared.ot_shaper_indic_final.rules.Rules.{Rules}
-use Rattle.shapers_indic_final.proofs.FinalPlain.{plain_keeps}
 use Rattle.shapers_syllabic.specs.Consonants.{is_consonant}
 use Rattle.shapers_syllabic.specs.Reordering.{SyllableReordered, carried}
 use Rattle.shapers_syllabic.proofs.NonePass.{filter-none, filter_not-none, none_behind}
@@ -222,30 +223,48 @@ lost-view : (v : Option GlyphId) (g : hb_glyph_info_t) → is_lost_virama v (pla
 lost-view None g = refl
 lost-view (Some v) g = refl
 
-changes-view : (r : Rules) (script : Option Script) → r.pref % 8 ≡ 0 → (g : hb_glyph_info_t)
-    → changes_syllable r script (plain g) ≡ changes_syllable r script g
-changes-view r script off g =
-    ap (λ n. is_left g || has_position POS_RA_TO_BECOME_REPH g || not (n == 0) || is_lost_virama r.virama (plain g)
-    || (has_position POS_BELOW_C g && is_malayalam script)) (plain_keeps r.pref (omega arith) g.mask)
-    ∙ ap (λ b. is_left g || has_position POS_RA_TO_BECOME_REPH g || has_bits r.pref g || b
-    || (has_position POS_BELOW_C g && is_malayalam script)) (lost-view r.virama g)
+-- what has no bit of a mask has none without its flags
+flagless_clear : (bits : ℕ) (g : hb_glyph_info_t) → has_bits bits g ≡ false → has_bits bits (plain g) ≡ false
+flagless_clear bits g none =
+    let m = g.mask in
+    let x = bit_and (without_flags m) bits in
+    let clear : bit_and m bits ≡ 0 = elim (cases_Bool (bit_and m bits == 0)) [
+      | inl is ↦ eqb-true (bit_and m bits) 0 is
+      | inr off ↦ absurd (cc (ap not off, none))
+    ] in
+    let off : without_flags m % 8 ≡ 0 = omega arith in
+    let low : x % 8 ≡ 0 = and_mod (without_flags m) bits 3 ∙ ap (λ n. bit_and n (bits % 8)) off in
+    let front : without_flags m / 8 ≡ m / 8 = omega arith in
+    let high : x / 8 ≡ 0 = and_shr (without_flags m) bits 3 ∙ ap (λ n. bit_and n (bits / 8)) front
+    ∙ sym (and_shr m bits 3) ∙ ap (λ n. n / 8) clear in
+    let all : x ≡ 0 = omega arith in
+    ap (λ n. not (n == 0)) all
 
-changed-view : (r : Rules) (script : Option Script) → r.pref % 8 ≡ 0 → (gs : List hb_glyph_info_t)
-    → list_any (changes_syllable r script) (order_view gs) ≡ list_any (changes_syllable r script) gs
-changed-view r script off [] = refl
-changed-view r script off (g ∷ gs) =
-    ap (λ b. b || list_any (changes_syllable r script) (order_view gs)) (changes-view r script off g)
-    ∙ ap (λ b. changes_syllable r script g || b) (changed-view r script off gs)
+none_seen : (r : Rules) (script : Option Script) (gs : List hb_glyph_info_t)
+    → list_any (changes_syllable r script) gs ≡ false → list_any (changes_syllable r script) (order_view gs) ≡ false
+none_seen r script [] none = refl
+none_seen r script (g ∷ gs) none =
+    let parts = or_parts (changes_syllable r script g) (list_any (changes_syllable r script) gs) none in
+    let four = or_parts _ _ parts.0 in
+    let three = or_parts _ _ four.0 in
+    let two = or_parts _ _ three.0 in
+    let below : Bool = has_position POS_BELOW_C g && is_malayalam script in
+    let more : Bool = list_any (changes_syllable r script) (order_view gs) in
+    ap (λ b. b || has_bits r.pref (plain g) || is_lost_virama r.virama (plain g) || below || more) two.0
+    ∙ ap (λ b. b || is_lost_virama r.virama (plain g) || below || more) (flagless_clear r.pref g two.1)
+    ∙ ap (λ b. b || below || more) (lost-view r.virama g ∙ three.1)
+    ∙ ap (λ b. b || more) four.1
+    ∙ none_seen r script gs parts.1
 
 -- so of a syllable of a buffer
-pub final_stays : (r : Rules) (script : Option Script) → r.pref % 8 ≡ 0 → (s e : ℕ) (b : Buffer) → s ≤ e
+pub final_stays : (r : Rules) (script : Option Script) (s e : ℕ) (b : Buffer) → s ≤ e
     → list_any (changes_syllable r script) (stretch_of s e b.glyphs) ≡ false
     → SyllableReordered (final_order r script) (final_steps r script) s e b b
-final_stays r script off s e b h none =
+final_stays r script s e b h none =
     let zs = stretch_of s e (order_view b.glyphs) in
     let seen : list_any (changes_syllable r script) zs ≡ false =
     ap (list_any (changes_syllable r script)) (sym (map-stretch plain s e b.glyphs))
-    ∙ changed-view r script off (stretch_of s e b.glyphs) ∙ none in
+    ∙ none_seen r script (stretch_of s e b.glyphs) none in
     let n = nothing r script zs seen in
     let found = based r script zs in
     let at : found ≡ at_base zs found.base found.tries_pref =
