@@ -15,3 +15,5 @@ pub mod KeptTextBreaks
 pub mod IndicBreaks
 pub mod ChainBreaks
 pub mod FinalBreaks
+pub mod Pieces
+pub mod ShaperBreaks

@@ -13,6 +13,7 @@ ghost use Rattle.shapers_breaks.specs.IndicBreaks.{InitialPausesBreak, InitialTe
 ghost use Rattle.shapers_breaks.specs.KeptFlags.{AddedFlagsClearNone, PausesClearNone};
 ghost use Rattle.shapers_breaks.specs.MarkBreaks.{MarksBreakLaw};
 ghost use Rattle.shapers_breaks.specs.PauseBreaks.{PausesBreakLaw};
+ghost use Rattle.shapers_breaks.specs.ShaperBreaks.{LeavePiecesInTurn};
 ghost use Rattle.shapers_breaks.specs.ScriptBreaks.{MyanmarHasNoRepha, PausesBreakBy, UniversalPausesBreak};
 ghost use Rattle.shapers_breaks.specs.SetUp.{SetUpBreaksLaw};
 ghost use Rattle.shapers_breaks.specs.StretchBreaks.{StretchBreaksLaw};
@@ -156,3 +157,8 @@ pub fn final_breaks_law()
     final_reorder_laws();
     final_text_laws();
 }
+
+/// Whatever leaves the results of a text's pieces side by side still does with more of it behind.
+pub fn shapers_break_law()
+    ensures turns { LeavePiecesInTurn }
+{}
