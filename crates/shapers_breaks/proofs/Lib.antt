@@ -34,3 +34,5 @@ pub mod ChainBreaks
 mod ChainBreakRows
 pub mod KeptInside
 pub mod FinalBreaks
+pub mod SideBySide
+pub mod IndicChain
