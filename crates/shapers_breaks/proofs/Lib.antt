@@ -36,3 +36,5 @@ pub mod KeptInside
 pub mod FinalBreaks
 pub mod Pieces
 pub mod HookPieces
+pub mod SideBySide
+pub mod IndicChain

@@ -17,3 +17,4 @@ pub mod ChainBreaks
 pub mod FinalBreaks
 pub mod Pieces
 pub mod ShaperBreaks
+pub mod IndicChain
