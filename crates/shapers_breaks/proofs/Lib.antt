@@ -34,7 +34,9 @@ pub mod ChainBreaks
 mod ChainBreakRows
 pub mod KeptInside
 pub mod FinalBreaks
-pub mod Pieces
-pub mod HookPieces
 pub mod SideBySide
 pub mod IndicChain
+pub mod Pieces
+pub mod HookPieces
+pub mod SyllabicPieces
+pub mod PausePieces

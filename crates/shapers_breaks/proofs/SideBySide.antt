@@ -34,13 +34,13 @@ use Rattle.shapers_breaks.proofs.KeptTextBreaks.{apart_pieces, broken_there}
 use Rattle.shapers_breaks.proofs.SetUp.{Glyphs}
 
 -- glyphs are what they show and what they carry along
-abbrev combined : Glyphs → Glyphs → Glyphs
+abbrev pub combined : Glyphs → Glyphs → Glyphs
 combined os cs = map (λ glyph. carrying glyph.0 glyph.1) (zip os cs)
 
 flags_back : (m : ℕ) → without_flags m + m % 8 ≡ m
 flags_back m = omega arith
 
-seen_whole : (gs : Glyphs) → combined (order_view gs) (map carried gs) ≡ gs
+pub seen_whole : (gs : Glyphs) → combined (order_view gs) (map carried gs) ≡ gs
 seen_whole [] = refl
 seen_whole (g ∷ gs) = ap (λ (m : ℕ). record g { mask = m } ∷ combined (order_view gs) (map carried gs))
     (flags_back g.mask) ∙ ap (λ l. g ∷ l) (seen_whole gs)
@@ -206,7 +206,7 @@ border_before meaning steps laws circles old new done front back text border =
     }
 
 -- as many glyphs are carried along as are shown
-long_carried : (meaning : Glyphs → Glyphs) (steps : Glyphs → List Step) → ReorderLaws meaning steps
+pub long_carried : (meaning : Glyphs → Glyphs) (steps : Glyphs → List Step) → ReorderLaws meaning steps
     → (circles : Option DottedCircles) (level : BufferClusterLevel) (gs : Glyphs)
     → length (paused_carried circles steps level gs) ≡ length (paused_order circles meaning gs)
 long_carried meaning steps laws circles level gs =
@@ -221,7 +221,7 @@ long_carried meaning steps laws circles level gs =
     ∙ sym (length-paused meaning steps laws circles gs)
 
 -- texts that are the same but for serials become such
-text_same : (r : Reordering) → ReorderLaws r.order r.steps → ReadsNoSerials r.order r.steps
+pub text_same : (r : Reordering) → ReorderLaws r.order r.steps → ReadsNoSerials r.order r.steps
     → (level : BufferClusterLevel) (xs ys : Glyphs) → SameButSerials xs ys
     → SameButSerials (reordered_text r level xs) (reordered_text r level ys)
 text_same r laws reads level xs ys same =
