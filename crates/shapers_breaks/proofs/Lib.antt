@@ -40,3 +40,5 @@ pub mod Pieces
 pub mod HookPieces
 pub mod SyllabicPieces
 pub mod PausePieces
+pub mod ShaperBreaks
+mod PieceRows

@@ -8,7 +8,7 @@ use Rattle.shapers_buffer.specs.Glyph.{clusters, order_view}
 use Rattle.shapers_buffer.specs.Syllables.{spans_cover}
 use Rattle.shapers_clusters.specs.Breaks.{IsClear}
 use Rattle.shapers_clusters.specs.Cuts.{ShareNone}
-use Rattle.shapers_syllabic.specs.Borders.{MeetAtBorder, SameButSerials}
+use Rattle.shapers_syllabic.specs.Borders.{SameButSerials}
 
 -- the same text to those who read neither glyph flags nor serials of syllables
 abbrev pub SameText : List hb_glyph_info_t → List hb_glyph_info_t → Type 0
@@ -22,13 +22,7 @@ pub record CutWhereClear (text front back : List hb_glyph_info_t) : Type 0 where
   pub some_behind : 0 < length back
   pub clear : IsClear text (length front)
 
--- between two syllables that share no cluster,
-pub record CutBetweenSyllables (text before behind : List hb_glyph_info_t) : Type 0 where
-  pub parts : text ≡ before ++ behind
-  pub border : MeetAtBorder before behind
-  pub apart : ShareNone before behind
-
--- or, with the spans of its syllables, between two of these.
+-- or, where it has the spans of its syllables, between two of these.
 pub record SpannedText : Type 0 where
   pub spans : List Span
   pub glyphs : List hb_glyph_info_t

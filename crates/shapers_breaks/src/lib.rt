@@ -13,9 +13,9 @@ ghost use Rattle.shapers_breaks.specs.IndicBreaks.{InitialPausesBreak, InitialTe
 ghost use Rattle.shapers_breaks.specs.KeptFlags.{AddedFlagsClearNone, PausesClearNone};
 ghost use Rattle.shapers_breaks.specs.MarkBreaks.{MarksBreakLaw};
 ghost use Rattle.shapers_breaks.specs.PauseBreaks.{PausesBreakLaw};
-ghost use Rattle.shapers_breaks.specs.ShaperBreaks.{LeavePiecesInTurn};
 ghost use Rattle.shapers_breaks.specs.ScriptBreaks.{MyanmarHasNoRepha, PausesBreakBy, UniversalPausesBreak};
 ghost use Rattle.shapers_breaks.specs.SetUp.{SetUpBreaksLaw};
+ghost use Rattle.shapers_breaks.specs.ShaperBreaks.{LeavePiecesInTurn, PausesAreListed, PausesLeavePieces, ShapersBreakLaw};
 ghost use Rattle.shapers_breaks.specs.StretchBreaks.{StretchBreaksLaw};
 ghost use Rattle.shapers_breaks.specs.ThaiBreaks.{SaraAmsBreakLaw, ThaiFormsBreakLaw};
 ghost use Rattle.shapers_breaks.specs.ThaiSound.{ThaiSoundBreakLaw};
@@ -158,7 +158,23 @@ pub fn final_breaks_law()
     final_text_laws();
 }
 
-/// Whatever leaves the results of a text's pieces side by side still does with more of it behind.
+/// Each shaper's text may be broken at every clear place, over the chain of its hooks and pauses, with
+/// anything in between and behind them that leaves the pieces' results side by side: what becomes of
+/// each piece by itself is what became of it in the text. The pauses are those of the shaper's own
+/// lists; those that change glyph by glyph leave results so, too, and so does one such thing behind
+/// another.
 pub fn shapers_break_law()
-    ensures turns { LeavePiecesInTurn }
-{}
+    ensures laws { ShapersBreakLaw }
+    ensures pauses { PausesAreListed }
+    ensures by_glyph { PausesLeavePieces }
+    ensures in_turn { LeavePiecesInTurn }
+{
+    khmer_reorder_laws();
+    khmer_reads_no_serials();
+    myanmar_reorder_laws();
+    myanmar_reads_no_serials();
+    universal_reorder_laws();
+    universal_cuts_between_spans();
+    initial_reorder_laws();
+    order_by_font_reads_no_serials();
+}
