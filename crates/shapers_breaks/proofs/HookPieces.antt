@@ -1,9 +1,9 @@
 -- Hooks, and what stands behind them, leave the results of a text's pieces side by side: Thai, Hangul, joining, marks.
-use Rattle.std.proofs.Common.{ℕ, zero, suc, ◌-◌, ◌<◌, ◌≤◌, ◌≡◌, ◌%◌, ◌⊎◌, bit_or, min, true, false, List, [], ◌∷◌, ◌++◌, length, slice_index, take, drop, map, refl, sym, ap, ◌∙◌, subst, arith, inl, inr, length-append, take-append-drop}
+use Rattle.std.proofs.Common.{ℕ, zero, suc, ◌-◌, ◌<◌, ◌≤◌, ◌≡◌, ◌%◌, bit_or, min, true, false, List, [], ◌∷◌, ◌++◌, length, slice_index, take, drop, map, refl, sym, ap, ◌∙◌, subst, arith, inl, inr, length-append, take-append-drop}
 use Rattle.std.specs.List.{AllByRecursion}
 use Rattle.std.proofs.lemmas.List.{drop-map, drop_at, length-map, length-take-le, map-append, take-map, take_at}
 use Rattle.shapers_arabic.specs.Breaks.{back_at, front_at}
-use Rattle.shapers_arabic.specs.JoinedText.{buffer_joined, text_of}
+use Rattle.shapers_arabic.specs.JoinedText.{buffer_joined}
 use Rattle.shapers_arabic.specs.PlanData.{breaks_of, masks_of}
 use Rattle.shapers_arabic.proofs.BrokenGlyphs.{breaks-where_clear}
 use Rattle.shapers_arabic.proofs.JoinedFlags.{joined_added}
@@ -28,9 +28,9 @@ use Rattle.rustybuzz_shapers.specs.declared.shaper.hb_ot_shaper_t.{hb_ot_shaper_
 use Rattle.rustybuzz_shapers.specs.declared.shaper.hb_ot_shaper_t.TheVariants.{Arabic, Hangul, Hebrew, Thai}
 use Rattle.rustybuzz_shapers.proofs.Monotone.{same_clusters}
 use Rattle.shapers_breaks.specs.MarkBreaks.{marks_after}
-use Rattle.shapers_breaks.specs.Pieces.{BreaksWhereCleared, CutBuffer, CutWhereClear, LeavesPieces, MadeOfPieces, MakesOf, SameText}
+use Rattle.shapers_breaks.specs.Pieces.{BreaksWhereCleared, CutBuffer, CutWhereClear, LeavesPieces, MadeOfPieces, SameText}
 use Rattle.shapers_breaks.specs.ShaperBreaks.{ArabicTextBreaks, CutAroundMarks, HangulHooked, HangulIsSo, HangulTextBreaks, HookedBreaks, HookedPiece, MarkedBreaks, MarkedPiece, MarkedText, ThaiIsSo, ThaiTextBreaks}
-use Rattle.shapers_breaks.specs.TextBreaks.{IsClusterBorder, JoinsGlyphs, JoinsOrder, TextBroken, back_half, front_half}
+use Rattle.shapers_breaks.specs.TextBreaks.{JoinsGlyphs, JoinsOrder, TextBroken, back_half, front_half}
 use Rattle.shapers_breaks.proofs.HangulBreaks.{hangul_breaks}
 use Rattle.shapers_breaks.proofs.HangulSound.{hangul_sound_breaks}
 use Rattle.shapers_breaks.proofs.MarkBreaks.{marks_break}

@@ -1,19 +1,15 @@
 -- Pauses that change each glyph by itself leave the results of a text's pieces side by side; the pauses of each shaper.
-use Rattle.std.proofs.Common.{ℕ, ◌≡◌, if◌then◌else◌, Bool, true, false, List, [], ◌∷◌, ◌++◌, map, refl, sym, ap, ◌∙◌, arith}
+use Rattle.std.proofs.Common.{ℕ, ◌≡◌, if◌then◌else◌, Bool, true, false, [], ◌∷◌, ◌++◌, map, refl, sym, ap, ◌∙◌}
 use Rattle.std.proofs.lemmas.List.{map-id}
-use Rattle.shapers_base.specs.Font.{Font}
-use Rattle.shapers_base.specs.declared.plan.hb_ot_shape_plan_t.{hb_ot_shape_plan_t}
-use Rattle.shapers_base.specs.declared.plan.pause.Pause.{Pause}
 use Rattle.shapers_base.specs.declared.plan.pause.Pause.TheVariants.{SetupSyllablesIndic, SetupSyllablesKhmer, SetupSyllablesMyanmar, SetupSyllablesUse, InitialReordering, ReorderKhmer, ReorderMyanmar, ReorderUse, FinalReordering, RecordStch, RecordRphf, RecordPref, SyllabicClearVar, ClearSubstitutionFlags, ArabicFallbackShape}
 use Rattle.shapers_arabic.specs.Requests.{arabic_list, is_arabic}
 use Rattle.shapers_buffer.specs.Buffer.{Buffer}
-use Rattle.shapers_buffer.specs.Glyph.{plain, without_flags}
-use Rattle.shapers_buffer.specs.Marks.{SUBSTITUTED, is_multiplied, without_mark}
+use Rattle.shapers_buffer.specs.Glyph.{plain}
+use Rattle.shapers_buffer.specs.Marks.{is_multiplied}
 use Rattle.shapers_buffer.specs.declared.buffer.glyph.hb_glyph_info_t.{hb_glyph_info_t}
-use Rattle.shapers_buffer.specs.declared.buffer.tag.Script.{Script}
 use Rattle.shapers_clusters.specs.FlagLaw.{FlagsAdded}
 use Rattle.shapers_clusters.proofs.FlagLaw.{added_same}
-use Rattle.shapers_stretch.specs.Recorded.{has_stch, recorded, tile_action, tiles_recorded, with_tiles}
+use Rattle.shapers_stretch.specs.Recorded.{has_stch, recorded, tile_action, with_tiles}
 use Rattle.shapers_syllabic.specs.Borders.{unnumbered}
 use Rattle.shapers_syllabic.specs.Syllabic.{unsubstituted}
 use Rattle.rustybuzz_shapers.specs.Pauses.{pauses_in}

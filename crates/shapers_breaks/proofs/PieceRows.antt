@@ -1,17 +1,15 @@
 -- Pieces of small texts, lookups that leave their results side by side and that don't, and the pauses of each shaper.
-use Rattle.std.proofs.Common.{ℕ, zero, suc, ◌<◌, ◌≡◌, ◌≢◌, Bool, true, false, List, [], ◌∷◌, ◌++◌, length, map, slice_index, refl, sym, ap, ◌∙◌, arith, inl, inr}
-use Rattle.std.specs.Prelude.{None, Option, Some, codes}
+use Rattle.std.proofs.Common.{ℕ, zero, suc, ◌<◌, ◌≡◌, ◌≢◌, true, false, List, [], ◌∷◌, ◌++◌, length, map, slice_index, refl, sym, ap, ◌∙◌, arith, inl, inr}
+use Rattle.std.specs.Prelude.{None, Some, codes}
 use Rattle.std.proofs.lemmas.Bool.{false≢true}
-use Rattle.shapers_base.specs.declared.plan.PlanData.TheVariants as data_of
-use Rattle.shapers_base.specs.declared.plan.pause.Pause.TheVariants.{SetupSyllablesIndic, SetupSyllablesKhmer, SetupSyllablesMyanmar, SetupSyllablesUse, InitialReordering, ReorderKhmer, ReorderMyanmar, ReorderUse, FinalReordering, RecordStch, RecordRphf, RecordPref, SyllabicClearVar, ClearSubstitutionFlags, ArabicFallbackShape}
+use Rattle.shapers_base.specs.declared.plan.pause.Pause.TheVariants.{RecordStch, ArabicFallbackShape}
 use Rattle.shapers_buffer.specs.Buffer.{Buffer, new_buffer}
 use Rattle.shapers_buffer.specs.Glyph.{default_glyph, order_view, plain}
 use Rattle.shapers_buffer.specs.declared.buffer.glyph.hb_glyph_info_t.{hb_glyph_info_t}
 use Rattle.shapers_buffer.specs.declared.buffer.syllables.Span.{Span}
-use Rattle.shapers_buffer.specs.declared.buffer.tag.Script.{Script}
 use Rattle.rustybuzz_shapers.specs.declared.shaper.hb_ot_shaper_t.TheVariants.{Arabic, Hangul, Hebrew, Indic, Khmer, Myanmar, MyanmarZawgyi, Thai, Universal}
-use Rattle.shapers_breaks.specs.Pieces.{CutAtSpans, CutBuffer, CutWhereClear, LeavesPieces, MadeOfPieces, MakesOf, SameText, SpannedText}
-use Rattle.shapers_breaks.specs.ShaperBreaks.{CutAroundMarks, MarkedText, is_by_glyph, shaper_pauses}
+use Rattle.shapers_breaks.specs.Pieces.{CutAtSpans, CutBuffer, CutWhereClear, LeavesPieces, MadeOfPieces, MakesOf, SameText}
+use Rattle.shapers_breaks.specs.ShaperBreaks.{CutAroundMarks, is_by_glyph, shaper_pauses}
 use Rattle.shapers_syllabic.specs.Borders.{unnumbered}
 use Rattle.shapers_syllabic.proofs.Serials.{same_text}
 use Rattle.shapers_breaks.proofs.Pieces.{own_text}
@@ -153,7 +151,7 @@ row_alone (g ∷ (h ∷ [])) back parts some more nine = absurd (omega (arith, a
 row_alone (g ∷ (h ∷ (i ∷ gs))) back parts some more nine = absurd (omega (arith, ap length parts))
 
 row_looks_behind : LeavesPieces looks_behind (glyph 5 0 0 0 ∷ (glyph 6 1 0 0 ∷ [])) → ⊥
-unfolding glyph looks_behind
+unfolding glyph looks_behind number
 row_looks_behind leaves =
     let made : MadeOfPieces (List hb_glyph_info_t) CutWhereClear (MakesOf looks_behind)
     (glyph 5 0 0 0 ∷ (glyph 6 1 0 0 ∷ [])) (glyph 9 0 0 0 ∷ []) (glyph 6 1 0 0 ∷ []) =
@@ -168,15 +166,10 @@ row_looks_behind leaves =
     (same_number (looks_behind made.before) (glyph 9 0 0 0 ∷ []) alone)
 
 -- THE PAUSES of each shaper, as many as its lists have
-script : String → Option Script
-script tag = Some (record { 0 = codes tag })
-
-row_arabic : shaper_pauses Arabic (script "Arab") ≡ RecordStch ∷ ArabicFallbackShape ∷ []
-unfolding script
+row_arabic : shaper_pauses Arabic (Some (record { 0 = codes "Arab" })) ≡ RecordStch ∷ ArabicFallbackShape ∷ []
 row_arabic = refl
 
-row_syriac : shaper_pauses Arabic (script "Syrc") ≡ RecordStch ∷ []
-unfolding script
+row_syriac : shaper_pauses Arabic (Some (record { 0 = codes "Syrc" })) ≡ RecordStch ∷ []
 row_syriac = refl
 
 row_without : map length

@@ -1,16 +1,16 @@
 -- Steps that leave the results of a text's pieces side by side: one behind the other, and glyph by glyph.
-use Rattle.std.proofs.Common.{ℕ, ◌<◌, ◌≡◌, List, [], ◌∷◌, ◌++◌, length, take, drop, map, refl, sym, ap, ◌∙◌, subst, arith, length-append, take-append-drop}
-use Rattle.std.proofs.lemmas.List.{drop-map, drop_at, length-map, length-take-le, map-append, take-map, take_at}
+use Rattle.std.proofs.Common.{ℕ, ◌<◌, ◌≡◌, [], ◌∷◌, length, take, drop, map, refl, sym, ap, ◌∙◌, subst, arith, length-append, take-append-drop}
+use Rattle.std.proofs.lemmas.List.{drop-map, drop_at, length-map, length-take-le, take-map, take_at}
 use Rattle.shapers_buffer.specs.declared.buffer.glyph.hb_glyph_info_t.{hb_glyph_info_t}
 use Rattle.shapers_buffer.specs.Glyph.{clusters, order_view, plain, without_flags}
 use Rattle.shapers_buffer.specs.Syllables.{in_syllable, kind_of, syllables}
 use Rattle.shapers_clusters.specs.Breaks.{IsClear}
-use Rattle.shapers_clusters.specs.FlagLaw.{FlagsAdded, OnlyFlagsAdded}
+use Rattle.shapers_clusters.specs.FlagLaw.{FlagsAdded}
 use Rattle.shapers_clusters.proofs.FlagLaw.{changed_added}
-use Rattle.shapers_syllabic.specs.Borders.{SameButSerials, unnumbered}
+use Rattle.shapers_syllabic.specs.Borders.{unnumbered}
 use Rattle.shapers_syllabic.proofs.Borders.{syllables-viewed}
 use Rattle.shapers_syllabic.proofs.Serials.{KeepsSame, pieces_same, same_text}
-use Rattle.shapers_breaks.specs.Pieces.{BreaksWhereCleared, CutWhereClear, LeavesPieces, MadeOfPieces, MakesOf, SameText}
+use Rattle.shapers_breaks.specs.Pieces.{BreaksWhereCleared, CutWhereClear, LeavesPieces, MakesOf, SameText}
 use Rattle.shapers_breaks.specs.ShaperBreaks.{LeavePiecesInTurn}
 use Rattle.shapers_breaks.proofs.KeptFlags.{added_clear}
 use Rattle.shapers_breaks.proofs.SetUp.{Glyphs}

@@ -1,23 +1,15 @@
 -- Syllables set up, looked up and reordered, with anything behind, leave the results of a text's pieces side by side.
-use Rattle.std.proofs.Common.{ℕ, ◌<◌, ◌≡◌, true, List, ◌++◌, length, take, drop, map, refl, sym, ap, ◌∙◌, subst, arith, length-append, take-append-drop}
-use Rattle.std.specs.Prelude.{Option}
-use Rattle.std.specs.List.{flat_map}
+use Rattle.std.proofs.Common.{ℕ, ◌≡◌, true, List, ◌++◌, length, take, drop, map, refl, sym, ap, ◌∙◌, subst, take-append-drop}
 use Rattle.std.proofs.lemmas.List.{drop-map, drop_at, length-map, map-append, take-map, take_at}
 use Rattle.std.proofs.lemmas.Simd.{map-map}
-use Rattle.shapers_base.specs.Font.{CharacterTables, Font}
-use Rattle.shapers_base.specs.declared.plan.hb_ot_shape_plan_t.{hb_ot_shape_plan_t}
-use Rattle.shapers_base.specs.declared.plan.pause.Pause.{Pause}
 use Rattle.shapers_base.specs.declared.plan.pause.Pause.TheVariants.{InitialReordering, ReorderKhmer, ReorderMyanmar, SetupSyllablesIndic, SetupSyllablesKhmer, SetupSyllablesMyanmar}
 use Rattle.shapers_buffer.specs.Buffer.{Buffer}
 use Rattle.shapers_buffer.specs.Clusters.{merges}
 use Rattle.shapers_buffer.specs.Glyph.{clusters, order_view, plain}
-use Rattle.shapers_buffer.specs.Syllables.{spans_cover, syllables}
+use Rattle.shapers_buffer.specs.Syllables.{spans_cover}
 use Rattle.shapers_buffer.specs.declared.buffer.glyph.hb_glyph_info_t.{hb_glyph_info_t}
 use Rattle.shapers_buffer.specs.declared.buffer.level.BufferClusterLevel.{BufferClusterLevel}
 use Rattle.shapers_buffer.specs.declared.buffer.syllables.Span.{Span}
-use Rattle.shapers_clusters.specs.Breaks.{IsClear}
-use Rattle.shapers_clusters.specs.Steps.{Step, run_steps}
-use Rattle.shapers_clusters.proofs.Moves.{clusters-run_steps}
 use Rattle.shapers_indic.specs.Plan.{indic_in}
 use Rattle.shapers_indic_initial.specs.InitialLaws.{OrderByFontLaws, OrderByFontReadsNoSerials}
 use Rattle.shapers_khmer.specs.Khmer.{order_in}
@@ -28,22 +20,19 @@ use Rattle.shapers_syllabic.specs.declared.ot_shaper_syllabic.kinds.khmer_syllab
 use Rattle.shapers_syllabic.specs.declared.ot_shaper_syllabic.kinds.myanmar_syllable.TheConstants.{BROKEN_CLUSTER as BROKEN_MYANMAR}
 use Rattle.shapers_syllabic.specs.Borders.{SameButSerials, spans_set_up, unnumbered}
 use Rattle.shapers_syllabic.specs.Characters.{with_category, with_category_and_position}
-use Rattle.shapers_syllabic.specs.Circles.{circled}
-use Rattle.shapers_syllabic.specs.Reordering.{carried, text_steps}
+use Rattle.shapers_syllabic.specs.Reordering.{carried}
 use Rattle.shapers_syllabic.specs.ReorderingLaws.{ReadsNoSerials, ReorderLaws, paused_carried, paused_order}
 use Rattle.shapers_syllabic.specs.Syllabic.{unsafe_spans}
 use Rattle.shapers_syllabic.proofs.PauseCuts.{apart_by}
 use Rattle.shapers_syllabic.proofs.Serials.{same-view, same_text}
-use Rattle.rustybuzz_shapers.specs.Hooks.{MasksSet}
-use Rattle.rustybuzz_shapers.specs.Pauses.{Paused, Reordered, Reordering, by_initial, by_khmer, by_myanmar}
-use Rattle.rustybuzz_shapers.specs.declared.shaper.hb_ot_shaper_t.{hb_ot_shaper_t}
+use Rattle.rustybuzz_shapers.specs.Pauses.{Reordered, Reordering, by_initial, by_khmer, by_myanmar}
 use Rattle.rustybuzz_shapers.specs.declared.shaper.hb_ot_shaper_t.TheVariants.{Indic, Khmer, Myanmar}
 use Rattle.shapers_breaks.specs.ChainBreaks.{IsSpanned, LeavesSideBySide, LookedUp}
 use Rattle.shapers_breaks.specs.IndicChain.{reordered_text}
 use Rattle.shapers_breaks.specs.KeptTextBreaks.{KeptTextBreaks, KeptTextBroken}
-use Rattle.shapers_breaks.specs.Pieces.{BreaksWhereCleared, CutAtSpans, CutWhereClear, LeavesPieces, MadeOfPieces, MakesOf, SameText, SpannedText}
-use Rattle.shapers_breaks.specs.ShaperBreaks.{IsApart, IsInOrder, SyllabicBreaks, SyllabicPiece, SyllabicRun}
-use Rattle.shapers_breaks.proofs.ChainBreaks.{MadeCut, made_cut}
+use Rattle.shapers_breaks.specs.Pieces.{BreaksWhereCleared, CutAtSpans, LeavesPieces, SameText, SpannedText}
+use Rattle.shapers_breaks.specs.ShaperBreaks.{IsApart, IsInOrder, SyllabicBreaks, SyllabicPiece}
+use Rattle.shapers_breaks.proofs.ChainBreaks.{made_cut}
 use Rattle.shapers_breaks.proofs.HookPieces.{within_parts}
 use Rattle.shapers_breaks.proofs.IndicBreaks.{initial_text_breaks}
 use Rattle.shapers_breaks.proofs.KeptTextBreaks.{text_breaks}

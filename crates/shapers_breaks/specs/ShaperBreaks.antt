@@ -35,7 +35,7 @@ use Rattle.shapers_breaks.specs.HangulBreaks.{NarrowTonesJoin}
 use Rattle.shapers_breaks.specs.IndicBreaks.{JoinersShare}
 use Rattle.shapers_breaks.specs.KeptTextBreaks.{SyllablesApart}
 use Rattle.shapers_breaks.specs.MarkBreaks.{NoneClearInside, marks_after}
-use Rattle.shapers_breaks.specs.Pieces.{BreaksWhereCleared, CutAtSpans, CutBuffer, CutWhereClear, LeavesPieces, SameText, SpannedText}
+use Rattle.shapers_breaks.specs.Pieces.{BreaksWhereCleared, CutAtSpans, CutBuffer, LeavesPieces, SameText, SpannedText}
 use Rattle.shapers_breaks.specs.ScriptBreaks.{UniversalPausesBreak}
 use Rattle.shapers_breaks.specs.StretchBreaks.{StretchBreaksLaw}
 use Rattle.shapers_breaks.specs.ThaiBreaks.{ThaiMarksJoin, sara_ams_taken}
