@@ -1,7 +1,7 @@
 -- Hooks, and what stands behind them, leave the results of a text's pieces side by side: Thai, Hangul, joining, marks.
 use Rattle.std.proofs.Common.{ℕ, zero, suc, ◌-◌, ◌<◌, ◌≤◌, ◌≡◌, ◌%◌, bit_or, min, true, false, List, [], ◌∷◌, ◌++◌, length, slice_index, take, drop, map, refl, sym, ap, ◌∙◌, subst, arith, inl, inr, length-append, take-append-drop}
 use Rattle.std.specs.List.{AllByRecursion}
-use Rattle.std.proofs.lemmas.List.{drop-map, drop_at, length-map, length-take-le, map-append, take-map, take_at}
+use Rattle.std.proofs.lemmas.List.{drop-map, drop_at, length-map, length-take-le, map-append, map-id, take-map, take_at}
 use Rattle.shapers_arabic.specs.Breaks.{back_at, front_at}
 use Rattle.shapers_arabic.specs.JoinedText.{buffer_joined}
 use Rattle.shapers_arabic.specs.PlanData.{breaks_of, masks_of}
@@ -20,21 +20,23 @@ use Rattle.shapers_clusters.specs.Breaks.{IsClear}
 use Rattle.shapers_clusters.proofs.FlagCalls.{plain-or}
 use Rattle.shapers_hangul.specs.Hangul.{rewritten_by}
 use Rattle.shapers_hangul.proofs.HangulFlags.{jamo_mask_added}
+use Rattle.shapers_clusters.proofs.FlagLaw.{added_same}
 use Rattle.shapers_syllabic.specs.Borders.{unnumbered}
+use Rattle.shapers_syllabic.specs.Characters.{with_category, with_category_and_position}
 use Rattle.shapers_text.specs.ThaiForms.{asks_for_forms, preprocessed_in_thai}
 use Rattle.shapers_text.proofs.HebrewLemmas.{mark_laws as mark_laws_hebrew, second_within}
 use Rattle.rustybuzz_shapers.specs.Hooks.{MasksSet, MarksReordered, Preprocessed}
 use Rattle.rustybuzz_shapers.specs.declared.shaper.hb_ot_shaper_t.{hb_ot_shaper_t}
-use Rattle.rustybuzz_shapers.specs.declared.shaper.hb_ot_shaper_t.TheVariants.{Arabic, Hangul, Hebrew, Thai}
+use Rattle.rustybuzz_shapers.specs.declared.shaper.hb_ot_shaper_t.TheVariants.{Arabic, Hangul, Hebrew, Indic, Khmer, Myanmar, MyanmarZawgyi, Thai, Universal}
 use Rattle.rustybuzz_shapers.proofs.Monotone.{same_clusters}
 use Rattle.shapers_breaks.specs.MarkBreaks.{marks_after}
 use Rattle.shapers_breaks.specs.Pieces.{BreaksWhereCleared, CutBuffer, CutWhereClear, LeavesPieces, MadeOfPieces, SameText}
-use Rattle.shapers_breaks.specs.ShaperBreaks.{ArabicTextBreaks, CutAroundMarks, HangulHooked, HangulIsSo, HangulTextBreaks, HookedBreaks, HookedPiece, MarkedBreaks, MarkedPiece, MarkedText, ThaiIsSo, ThaiTextBreaks}
+use Rattle.shapers_breaks.specs.ShaperBreaks.{ArabicTextBreaks, CutAroundMarks, HangulHooked, HangulIsSo, HangulTextBreaks, HookedBreaks, HookedPiece, MarkedBreaks, MarkedPiece, MarkedText, MasksLeavePieces, ThaiIsSo, ThaiTextBreaks, masked_by_glyph}
 use Rattle.shapers_breaks.specs.TextBreaks.{JoinsGlyphs, JoinsOrder, TextBroken, back_half, front_half}
 use Rattle.shapers_breaks.proofs.HangulBreaks.{hangul_breaks}
 use Rattle.shapers_breaks.proofs.HangulSound.{hangul_sound_breaks}
 use Rattle.shapers_breaks.proofs.MarkBreaks.{marks_break}
-use Rattle.shapers_breaks.proofs.Pieces.{ReadsOrder, behind_pieces, flags-twice, in_turn, kind-twice, leaves_by_glyph, own_text, reads_order}
+use Rattle.shapers_breaks.proofs.Pieces.{ReadsOrder, behind_pieces, flags-twice, in_turn, kind-twice, leaves_by_glyph, own_text, reads_order, still}
 use Rattle.shapers_breaks.proofs.SetUp.{Glyphs}
 use Rattle.shapers_breaks.proofs.ThaiBreaks.{sara_ams_break, thai_forms_break}
 use Rattle.shapers_breaks.proofs.ThaiSound.{thai_sound_break}
@@ -214,13 +216,59 @@ jamo_masked masks off =
           } in r) (sym (kind-twice g.syllable));
     }
 
+-- categories, and positions in syllables
+categorized : (tables : CharacterTables) → ReadsOrder (with_category tables)
+categorized tables = record {
+  added = λ g. added_same g (with_category tables g) refl refl;
+  byte = λ g. refl;
+  viewed = λ g. ap (λ (k : ℕ). let r : hb_glyph_info_t = record (with_category tables g) { cluster = 0; mask = k } in r)
+      (sym (flags-twice g.mask));
+  counted = λ g. ap (λ (k : ℕ). let r : hb_glyph_info_t = record (plain (with_category tables g)) { syllable = k } in r)
+      (sym (kind-twice g.syllable));
+}
+
+positioned : (tables : CharacterTables) → ReadsOrder (with_category_and_position tables)
+positioned tables = record {
+  added = λ g. added_same g (with_category_and_position tables g) refl refl;
+  byte = λ g. refl;
+  viewed = λ g. ap (λ (k : ℕ). let r : hb_glyph_info_t = record (with_category_and_position tables g) {
+    cluster = 0;
+    mask = k;
+  } in r) (sym (flags-twice g.mask));
+  counted = λ g. ap (λ (k : ℕ). let r : hb_glyph_info_t = record (plain (with_category_and_position tables g)) {
+    syllable = k;
+  } in r) (sym (kind-twice g.syllable));
+}
+
+glyphs_masked : (f : hb_glyph_info_t → hb_glyph_info_t) → ReadsOrder f → (old new : Buffer)
+    → new.glyphs ≡ map f old.glyphs → (new.glyphs ≡ map f old.glyphs) × LeavesPieces (map f) old.glyphs
+glyphs_masked f reads old new is = (is, leaves_by_glyph f (reads_order f reads) old.glyphs)
+
+pub masks_leave : MasksLeavePieces
+masks_leave Arabic plan tables old new by off is = absurd cc
+masks_leave Universal plan tables old new by off is = absurd cc
+masks_leave Hangul plan tables old new by off is =
+    glyphs_masked (masked_by_glyph Hangul plan tables) (jamo_masked (masks_kept plan.plan_data) off) old new
+    (ap (λ (b : Buffer). b.glyphs) is)
+masks_leave Indic plan tables old new by off is =
+    glyphs_masked (masked_by_glyph Indic plan tables) (positioned tables) old new (ap (λ (b : Buffer). b.glyphs) is)
+masks_leave Khmer plan tables old new by off is =
+    glyphs_masked (masked_by_glyph Khmer plan tables) (categorized tables) old new (ap (λ (b : Buffer). b.glyphs) is)
+masks_leave Myanmar plan tables old new by off is =
+    glyphs_masked (masked_by_glyph Myanmar plan tables) (categorized tables) old new (ap (λ (b : Buffer). b.glyphs) is)
+masks_leave Hebrew plan tables old new by off is =
+    glyphs_masked (λ g. g) still old new (ap (λ (b : Buffer). b.glyphs) is.1 ∙ sym (map-id old.glyphs))
+masks_leave MyanmarZawgyi plan tables old new by off is =
+    glyphs_masked (λ g. g) still old new (ap (λ (b : Buffer). b.glyphs) is.1 ∙ sym (map-id old.glyphs))
+masks_leave Thai plan tables old new by off is =
+    glyphs_masked (λ g. g) still old new (ap (λ (b : Buffer). b.glyphs) is.1 ∙ sym (map-id old.glyphs))
+
 pub hangul_text : HangulTextBreaks
 hangul_text plan font tables off behind old new so hooked leaves =
     let (mid, both) = hooked in
     let mask = with_numbered_mask (masks_kept plan.plan_data) in
     let is : new.glyphs ≡ map mask mid.glyphs = ap (λ (b : Buffer). b.glyphs) both.1 in
-    let masked = leaves_by_glyph mask
-    (reads_order mask (jamo_masked (masks_kept plan.plan_data) off)) mid.glyphs in
+    let masked = (masks_leave Hangul plan tables mid new refl off both.1).1 in
     let all = in_turn (map mask) behind mid.glyphs masked (subst (LeavesPieces behind) is leaves) in
     let pieces = behind_pieces Buffer CutBuffer (HookMakes (Preprocessed Hangul plan font))
     (HookedPiece (HangulHooked plan font tables) behind) (λ gs. behind (map mask gs)) old mid.glyphs

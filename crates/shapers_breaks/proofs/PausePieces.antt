@@ -15,20 +15,10 @@ use Rattle.shapers_syllabic.specs.Syllabic.{unsubstituted}
 use Rattle.rustybuzz_shapers.specs.Pauses.{pauses_in}
 use Rattle.rustybuzz_shapers.specs.declared.shaper.hb_ot_shaper_t.TheVariants.{Arabic, Hangul, Hebrew, Indic, Khmer, Myanmar, MyanmarZawgyi, Thai, Universal}
 use Rattle.shapers_breaks.specs.ShaperBreaks.{PausesAreListed, PausesLeavePieces, glyph_paused}
-use Rattle.shapers_breaks.proofs.Pieces.{ChangesGlyphs, ReadsOrder, clears_syllables, flags-twice, kind-twice, leaves_by_glyph, reads_order}
+use Rattle.shapers_breaks.proofs.Pieces.{ChangesGlyphs, ReadsOrder, clears_syllables, flags-twice, kind-twice, leaves_by_glyph, reads_order, still}
 use Rattle.shapers_breaks.proofs.SetUp.{Glyphs}
 
--- a glyph as it is, without its mark of a substitution, or as a tile
-still : ReadsOrder (λ g. g)
-still = record {
-  added = λ g. added_same g g refl refl;
-  byte = λ g. refl;
-  viewed = λ g. ap (λ (k : ℕ). let r : hb_glyph_info_t = record g { cluster = 0; mask = k } in r)
-      (sym (flags-twice g.mask));
-  counted = λ g. ap (λ (k : ℕ). let r : hb_glyph_info_t = record (plain g) { syllable = k } in r)
-      (sym (kind-twice g.syllable));
-}
-
+-- a glyph without its mark of a substitution, or as a tile
 cleared : ReadsOrder unsubstituted
 cleared = record {
   added = λ g. added_same g (unsubstituted g) refl refl;

@@ -6,7 +6,7 @@ use Rattle.shapers_buffer.specs.Glyph.{clusters, order_view, plain, without_flag
 use Rattle.shapers_buffer.specs.Syllables.{in_syllable, kind_of, syllables}
 use Rattle.shapers_clusters.specs.Breaks.{IsClear}
 use Rattle.shapers_clusters.specs.FlagLaw.{FlagsAdded}
-use Rattle.shapers_clusters.proofs.FlagLaw.{changed_added}
+use Rattle.shapers_clusters.proofs.FlagLaw.{added_same, changed_added}
 use Rattle.shapers_syllabic.specs.Borders.{unnumbered}
 use Rattle.shapers_syllabic.proofs.Borders.{syllables-viewed}
 use Rattle.shapers_syllabic.proofs.Serials.{KeepsSame, pieces_same, same_text}
@@ -123,6 +123,17 @@ reads_order f reads =
         clusters_of f reads.added gs ∙ is.1 ∙ sym (clusters_of f reads.added hs),
       );
     }
+
+-- a glyph as it is
+pub still : ReadsOrder (λ g. g)
+still = record {
+  added = λ g. added_same g g refl refl;
+  byte = λ g. refl;
+  viewed = λ g. ap (λ (k : ℕ). let r : hb_glyph_info_t = record g { cluster = 0; mask = k } in r)
+      (sym (flags-twice g.mask));
+  counted = λ g. ap (λ (k : ℕ). let r : hb_glyph_info_t = record (plain g) { syllable = k } in r)
+      (sym (kind-twice g.syllable));
+}
 
 -- syllables cleared
 cleared_view : (gs : Glyphs) → order_view (map (in_syllable 0) gs)

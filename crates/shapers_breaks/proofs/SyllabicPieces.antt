@@ -1,5 +1,5 @@
 -- Syllables set up, looked up and reordered, with anything behind, leave the results of a text's pieces side by side.
-use Rattle.std.proofs.Common.{ℕ, ◌≡◌, true, List, ◌++◌, length, take, drop, map, refl, sym, ap, ◌∙◌, subst, take-append-drop}
+use Rattle.std.proofs.Common.{[], ◌∷◌, ℕ, ◌≡◌, true, List, ◌++◌, length, take, drop, map, refl, sym, ap, ◌∙◌, subst, take-append-drop}
 use Rattle.std.proofs.lemmas.List.{drop-map, drop_at, length-map, map-append, take-map, take_at}
 use Rattle.std.proofs.lemmas.Simd.{map-map}
 use Rattle.shapers_base.specs.declared.plan.pause.Pause.TheVariants.{InitialReordering, ReorderKhmer, ReorderMyanmar, SetupSyllablesIndic, SetupSyllablesKhmer, SetupSyllablesMyanmar}
@@ -184,15 +184,21 @@ merging_still : (spans : List Span) (broken_kind : ℕ) (lookups : Glyphs → Gl
 merging_still spans broken_kind lookups masked mid between spanned set_up looked =
     ap merges (looked.level ∙ ap (λ (b : Buffer). b.level) set_up) ∙ spanned.merging
 
+-- clusters through a change of each glyph
+clusters-changed : (change : hb_glyph_info_t → hb_glyph_info_t)
+    → ((g : hb_glyph_info_t) → (change g).cluster ≡ g.cluster) → (gs : Glyphs) → clusters (map change gs) ≡ clusters gs
+clusters-changed change stay [] = refl
+clusters-changed change stay (g ∷ gs) = ap (λ c. c ∷ clusters (map change gs)) (stay g)
+    ∙ ap (λ cs. g.cluster ∷ cs) (clusters-changed change stay gs)
+
 pub khmer_text : KhmerReorderLaws → KhmerMovesMerged → KhmerReadsNoSerials
-    → SyllabicBreaks Khmer SetupSyllablesKhmer ReorderKhmer by_khmer with_category IsInOrder
-khmer_text laws inside reads plan font tables lookups behind spans old new run mono =
+    → SyllabicBreaks SetupSyllablesKhmer ReorderKhmer by_khmer IsInOrder
+khmer_text laws inside reads plan font change lookups behind spans old new run mono =
     let r = by_khmer plan font run.between in
     let law = laws (order_in plan.plan_data) in
-    all_behind (with_category tables) BROKEN_KHMER r lookups behind spans old run.masked run.mid run.between run.reordered
-    new (record {
-      keeps = map-map (λ (g : hb_glyph_info_t). g.cluster) (with_category tables);
-      masks = ap (λ (b : Buffer). b.glyphs) run.masks;
+    all_behind change BROKEN_KHMER r lookups behind spans old run.masked run.mid run.between run.reordered new (record {
+      keeps = clusters-changed change run.clusters_stay;
+      masks = run.masks;
       spanned = run.spanned;
       set_up = run.syllables;
       looked = run.looked;
@@ -204,13 +210,12 @@ khmer_text laws inside reads plan font tables lookups behind spans old new run m
     }) run.side_by_side run.glyphs
 
 pub myanmar_text : MyanmarReorderLaws → MyanmarMovesMerged → MyanmarReadsNoSerials
-    → SyllabicBreaks Myanmar SetupSyllablesMyanmar ReorderMyanmar (λ plan. by_myanmar) with_category IsInOrder
-myanmar_text laws inside reads plan font tables lookups behind spans old new run mono =
+    → SyllabicBreaks SetupSyllablesMyanmar ReorderMyanmar (λ plan. by_myanmar) IsInOrder
+myanmar_text laws inside reads plan font change lookups behind spans old new run mono =
     let r = by_myanmar font run.between in
-    all_behind (with_category tables) BROKEN_MYANMAR r lookups behind spans old run.masked run.mid run.between
-    run.reordered new (record {
-      keeps = map-map (λ (g : hb_glyph_info_t). g.cluster) (with_category tables);
-      masks = ap (λ (b : Buffer). b.glyphs) run.masks;
+    all_behind change BROKEN_MYANMAR r lookups behind spans old run.masked run.mid run.between run.reordered new (record {
+      keeps = clusters-changed change run.clusters_stay;
+      masks = run.masks;
       spanned = run.spanned;
       set_up = run.syllables;
       looked = run.looked;
@@ -222,14 +227,13 @@ myanmar_text laws inside reads plan font tables lookups behind spans old new run
     }) run.side_by_side run.glyphs
 
 pub indic_text : OrderByFontLaws → OrderByFontReadsNoSerials
-    → SyllabicBreaks Indic SetupSyllablesIndic InitialReordering by_initial with_category_and_position IsApart
-indic_text laws reads plan font tables lookups behind spans old new run apart =
+    → SyllabicBreaks SetupSyllablesIndic InitialReordering by_initial IsApart
+indic_text laws reads plan font change lookups behind spans old new run apart =
     let r = by_initial plan font run.between in
     let script = run.between.script in
-    all_behind (with_category_and_position tables) BROKEN_INDIC r lookups behind spans old run.masked run.mid run.between
-    run.reordered new (record {
-      keeps = map-map (λ (g : hb_glyph_info_t). g.cluster) (with_category_and_position tables);
-      masks = ap (λ (b : Buffer). b.glyphs) run.masks;
+    all_behind change BROKEN_INDIC r lookups behind spans old run.masked run.mid run.between run.reordered new (record {
+      keeps = clusters-changed change run.clusters_stay;
+      masks = run.masks;
       spanned = run.spanned;
       set_up = run.syllables;
       looked = run.looked;

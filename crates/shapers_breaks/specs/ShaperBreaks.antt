@@ -6,6 +6,7 @@ use Rattle.shapers_arabic.specs.JoinedText.{text_of}
 use Rattle.shapers_arabic.specs.PlanData.{breaks_of}
 use Rattle.shapers_arabic.specs.Requests.{is_arabic}
 use Rattle.shapers_base.specs.Font.{CharacterTables, Font}
+use Rattle.shapers_base.specs.Masks.{masks_kept, with_numbered_mask}
 use Rattle.shapers_base.specs.declared.plan.breaks.BreakFlags.TheVariants.{Sound}
 use Rattle.shapers_base.specs.declared.plan.hb_ot_shape_plan_t.{hb_ot_shape_plan_t}
 use Rattle.shapers_base.specs.declared.plan.pause.Pause.{Pause}
@@ -41,17 +42,19 @@ use Rattle.shapers_breaks.specs.StretchBreaks.{StretchBreaksLaw}
 use Rattle.shapers_breaks.specs.ThaiBreaks.{ThaiMarksJoin, sara_ams_taken}
 use Rattle.shapers_breaks.specs.UniversalSound.{UniversalSoundBreaks}
 
--- What a syllabic shaper does to a text: masks, the set-up of its syllables, lookups, its
--- reordering, and whatever stands behind that, lookups and other pauses.
-pub record SyllabicRun (shaper : hb_ot_shaper_t) (set_up pause : Pause) (plan : hb_ot_shape_plan_t)
-    (font : Font) (tables : CharacterTables) (lookups behind : List hb_glyph_info_t →
+-- What a syllabic shaper does to a text: masks, and what else changes each glyph by itself, the
+-- set-up of its syllables, lookups, its reordering, and whatever stands behind that, lookups and
+-- other pauses.
+pub record SyllabicRun (set_up pause : Pause) (plan : hb_ot_shape_plan_t) (font : Font)
+    (change : hb_glyph_info_t → hb_glyph_info_t) (lookups behind : List hb_glyph_info_t →
     List hb_glyph_info_t) (spans : List Span) (old new : Buffer) : Type 0 where
   pub masked : Buffer
   pub mid : Buffer
   pub between : Buffer
   pub reordered : Buffer
   pub unread : List Span
-  pub masks : MasksSet shaper plan tables old masked
+  pub clusters_stay : (g : hb_glyph_info_t) → (change g).cluster ≡ g.cluster
+  pub masks : masked.glyphs ≡ map change old.glyphs
   pub spanned : IsSpanned spans masked
   pub syllables : Paused set_up plan font spans masked mid
   pub looked : LookedUp lookups mid between
@@ -63,26 +66,25 @@ pub record SyllabicRun (shaper : hb_ot_shaper_t) (set_up pause : Pause) (plan : 
 abbrev pub SyllabicPiece : Reordering → (hb_glyph_info_t → hb_glyph_info_t) →
     (List hb_glyph_info_t → List hb_glyph_info_t) → (List hb_glyph_info_t → List hb_glyph_info_t) →
     Buffer → SpannedText → List hb_glyph_info_t → Type 0
-SyllabicPiece r categorized lookups behind between piece made = (one : Buffer) →
-    let set_up = unsafe_spans piece.spans (map categorized piece.glyphs) in
+SyllabicPiece r change lookups behind between piece made = (one : Buffer) →
+    let set_up = unsafe_spans piece.spans (map change piece.glyphs) in
     Reordered r (record between { glyphs = lookups set_up }) one →
     SameText (behind one.glyphs) made
 
 -- At every clear place the text may be broken between two syllables, where its clusters are so, or
 -- its syllables, before the reordering.
-abbrev pub SyllabicBreaks : hb_ot_shaper_t → Pause → Pause →
-    (hb_ot_shape_plan_t → Font → Buffer → Reordering) →
-    (CharacterTables → hb_glyph_info_t → hb_glyph_info_t) → (Reordering → Buffer → Type 0) → Type 0
-SyllabicBreaks shaper set_up pause by categorized IsSo =
-    (plan : hb_ot_shape_plan_t) (font : Font) (tables : CharacterTables)
+abbrev pub SyllabicBreaks : Pause → Pause → (hb_ot_shape_plan_t → Font → Buffer → Reordering) →
+    (Reordering → Buffer → Type 0) → Type 0
+SyllabicBreaks set_up pause by IsSo =
+    (plan : hb_ot_shape_plan_t) (font : Font) (change : hb_glyph_info_t → hb_glyph_info_t)
     (lookups behind : List hb_glyph_info_t → List hb_glyph_info_t) (spans : List Span)
     (old new : Buffer) →
-    (run : SyllabicRun shaper set_up pause plan font tables lookups behind spans old new) →
+    (run : SyllabicRun set_up pause plan font change lookups behind spans old new) →
     let r = by plan font run.between in
     IsSo r run.between →
     let text : SpannedText = record { spans = spans; glyphs = old.glyphs } in
-    BreaksWhereCleared SpannedText CutAtSpans
-    (SyllabicPiece r (categorized tables) lookups behind run.between) text new.glyphs
+    BreaksWhereCleared SpannedText CutAtSpans (SyllabicPiece r change lookups behind run.between)
+    text new.glyphs
 
 -- clusters rise or fall along the text with its circles
 abbrev pub IsInOrder : Reordering → Buffer → Type 0
@@ -183,6 +185,27 @@ MarkedBreaks shaper = (start end : ℕ) (behind : List hb_glyph_info_t → List 
     BreaksWhereCleared MarkedText CutAroundMarks (MarkedPiece shaper old.level behind) text
     (behind new.glyphs)
 
+-- Masks that are set glyph by glyph: those of all shapers but Arabic and the universal one.
+abbrev pub masked_by_glyph : hb_ot_shaper_t → hb_ot_shape_plan_t → CharacterTables →
+    hb_glyph_info_t → hb_glyph_info_t
+masked_by_glyph Hangul plan tables g = with_numbered_mask (masks_kept plan.plan_data) g
+masked_by_glyph Indic plan tables g = with_category_and_position tables g
+masked_by_glyph Khmer plan tables g = with_category tables g
+masked_by_glyph Myanmar plan tables g = with_category tables g
+masked_by_glyph shaper plan tables g = g
+
+abbrev pub masks_by_glyph : hb_ot_shaper_t → Bool
+masks_by_glyph Arabic = false
+masks_by_glyph Universal = false
+masks_by_glyph shaper = true
+
+abbrev pub MasksLeavePieces : Type 0
+MasksLeavePieces = (shaper : hb_ot_shaper_t) (plan : hb_ot_shape_plan_t) (tables : CharacterTables)
+    (old new : Buffer) → masks_by_glyph shaper ≡ true → MasksOffFlags plan.plan_data →
+    MasksSet shaper plan tables old new →
+    (new.glyphs ≡ map (masked_by_glyph shaper plan tables) old.glyphs)
+    × LeavesPieces (map (masked_by_glyph shaper plan tables)) old.glyphs
+
 -- The pauses of each shaper, in the order of its own lists; one of Arabic for its own script alone.
 abbrev pub shaper_pauses : hb_ot_shaper_t → Option Script → List Pause
 shaper_pauses Arabic script =
@@ -235,12 +258,10 @@ abbrev pub ShaperBreaks : hb_ot_shaper_t → Type 0
 ShaperBreaks Arabic = MarkedBreaks Arabic × (ArabicTextBreaks × StretchBreaksLaw)
 ShaperBreaks Hangul = HangulTextBreaks
 ShaperBreaks Hebrew = MarkedBreaks Hebrew
-ShaperBreaks Indic = SyllabicBreaks Indic SetupSyllablesIndic InitialReordering by_initial
-    with_category_and_position IsApart
-ShaperBreaks Khmer = SyllabicBreaks Khmer SetupSyllablesKhmer ReorderKhmer by_khmer with_category
-    IsInOrder
-ShaperBreaks Myanmar = SyllabicBreaks Myanmar SetupSyllablesMyanmar ReorderMyanmar
-    (λ plan. by_myanmar) with_category IsInOrder
+ShaperBreaks Indic = SyllabicBreaks SetupSyllablesIndic InitialReordering by_initial IsApart
+ShaperBreaks Khmer = SyllabicBreaks SetupSyllablesKhmer ReorderKhmer by_khmer IsInOrder
+ShaperBreaks Myanmar =
+    SyllabicBreaks SetupSyllablesMyanmar ReorderMyanmar (λ plan. by_myanmar) IsInOrder
 ShaperBreaks MyanmarZawgyi = HookedBreaks (λ old new. new ≡ old) (λ b. Unit {0})
 ShaperBreaks Thai = ThaiTextBreaks
 ShaperBreaks Universal = UniversalPausesBreak × UniversalSoundBreaks

@@ -15,7 +15,7 @@ ghost use Rattle.shapers_breaks.specs.MarkBreaks.{MarksBreakLaw};
 ghost use Rattle.shapers_breaks.specs.PauseBreaks.{PausesBreakLaw};
 ghost use Rattle.shapers_breaks.specs.ScriptBreaks.{MyanmarHasNoRepha, PausesBreakBy, UniversalPausesBreak};
 ghost use Rattle.shapers_breaks.specs.SetUp.{SetUpBreaksLaw};
-ghost use Rattle.shapers_breaks.specs.ShaperBreaks.{LeavePiecesInTurn, PausesAreListed, PausesLeavePieces, ShapersBreakLaw};
+ghost use Rattle.shapers_breaks.specs.ShaperBreaks.{LeavePiecesInTurn, MasksLeavePieces, PausesAreListed, PausesLeavePieces, ShapersBreakLaw};
 ghost use Rattle.shapers_breaks.specs.StretchBreaks.{StretchBreaksLaw};
 ghost use Rattle.shapers_breaks.specs.ThaiBreaks.{SaraAmsBreakLaw, ThaiFormsBreakLaw};
 ghost use Rattle.shapers_breaks.specs.ThaiSound.{ThaiSoundBreakLaw};
@@ -166,6 +166,7 @@ pub fn final_breaks_law()
 pub fn shapers_break_law()
     ensures laws { ShapersBreakLaw }
     ensures pauses { PausesAreListed }
+    ensures masks { MasksLeavePieces }
     ensures by_glyph { PausesLeavePieces }
     ensures in_turn { LeavePiecesInTurn }
 {

@@ -1,3 +1,4 @@
+use Rattle.shapers_breaks.proofs.HookPieces.{masks_leave}
 use Rattle.shapers_breaks.proofs.PausePieces.{pauses_leave, pauses_listed}
 use Rattle.shapers_breaks.proofs.Pieces.{in_turn}
 use Rattle.shapers_breaks.proofs.ScriptBreaks.{universal_breaks}
@@ -20,6 +21,9 @@ returns-clause-laws c = shapers_break (record {
 
 pub returns-clause-pauses : goal.returns-clause-pauses
 returns-clause-pauses c = pauses_listed
+
+pub returns-clause-masks : goal.returns-clause-masks
+returns-clause-masks c = masks_leave
 
 pub returns-clause-by_glyph : goal.returns-clause-by_glyph
 returns-clause-by_glyph c = pauses_leave
