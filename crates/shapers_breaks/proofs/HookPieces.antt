@@ -17,6 +17,7 @@ use Rattle.shapers_buffer.specs.Syllables.{syllables}
 use Rattle.shapers_buffer.specs.declared.buffer.level.BufferClusterLevel.{BufferClusterLevel}
 use Rattle.shapers_buffer.specs.declared.buffer.glyph.hb_glyph_info_t.{hb_glyph_info_t}
 use Rattle.shapers_clusters.specs.Breaks.{IsClear}
+use Rattle.shapers_clusters.specs.FlagLaw.{OnlyFlagsAdded}
 use Rattle.shapers_clusters.proofs.FlagCalls.{plain-or}
 use Rattle.shapers_hangul.specs.Hangul.{rewritten_by}
 use Rattle.shapers_hangul.proofs.HangulFlags.{jamo_mask_added}
@@ -31,7 +32,7 @@ use Rattle.rustybuzz_shapers.specs.declared.shaper.hb_ot_shaper_t.TheVariants.{A
 use Rattle.rustybuzz_shapers.proofs.Monotone.{same_clusters}
 use Rattle.shapers_breaks.specs.MarkBreaks.{marks_after}
 use Rattle.shapers_breaks.specs.Pieces.{BreaksWhereCleared, CutBuffer, CutWhereClear, LeavesPieces, MadeOfPieces, SameText}
-use Rattle.shapers_breaks.specs.ShaperBreaks.{ArabicTextBreaks, CutAroundMarks, HangulHooked, HangulIsSo, HangulTextBreaks, HookedBreaks, HookedPiece, MarkedBreaks, MarkedPiece, MarkedText, MasksLeavePieces, ThaiIsSo, ThaiTextBreaks, masked_by_glyph}
+use Rattle.shapers_breaks.specs.ShaperBreaks.{ArabicTextBreaks, CutAroundMarks, HangulHooked, HangulIsSo, HangulTextBreaks, HookedBreaks, HookedPiece, IsSparedAll, MarkedBreaks, MarkedPiece, MarkedText, MasksLeavePieces, ThaiIsSo, ThaiTextBreaks, masked_by_glyph}
 use Rattle.shapers_breaks.specs.TextBreaks.{JoinsGlyphs, JoinsOrder, TextBroken, back_half, front_half}
 use Rattle.shapers_breaks.proofs.HangulBreaks.{hangul_breaks}
 use Rattle.shapers_breaks.proofs.HangulSound.{hangul_sound_breaks}
@@ -281,34 +282,41 @@ hangul_text plan font tables off behind old new so hooked leaves =
     (behind xs)) (sym is) pieces
 
 -- joining
-joined_by : hb_ot_shape_plan_t → CharacterTables → Buffer → Buffer
+abbrev pub joined_by : hb_ot_shape_plan_t → CharacterTables → Buffer → Buffer
 joined_by plan tables b = buffer_joined (breaks_of plan.plan_data) (masks_of plan.plan_data) plan.script tables.joining
     tables.general b
 
-clusters-joined : (plan : hb_ot_shape_plan_t) (tables : CharacterTables) (b : Buffer)
-    → clusters (joined_by plan tables b).glyphs ≡ clusters b.glyphs
-unfolding joined_by
-clusters-joined plan tables b = same_clusters b.glyphs (joined_by plan tables b).glyphs
-    (joined_added (breaks_of plan.plan_data) (masks_of plan.plan_data) plan.script tables.joining tables.general b
-    (joined_by plan tables b) refl)
+pub joined_all : (plan : hb_ot_shape_plan_t) (tables : CharacterTables) (b : Buffer)
+    → OnlyFlagsAdded b.glyphs (joined_by plan tables b).glyphs
+joined_all plan tables b = joined_added (breaks_of plan.plan_data) (masks_of plan.plan_data) plan.script tables.joining
+    tables.general b (joined_by plan tables b) refl
 
-pub arabic_text : ArabicTextBreaks
-unfolding joined_by
-arabic_text plan tables behind old new spared hooked leaves =
-    let Hook = MasksSet Arabic plan tables in
-    let is : new ≡ joined_by plan tables old = hooked.0 in
+pub clusters-joined : (plan : hb_ot_shape_plan_t) (tables : CharacterTables) (b : Buffer)
+    → clusters (joined_by plan tables b).glyphs ≡ clusters b.glyphs
+clusters-joined plan tables b = same_clusters b.glyphs (joined_by plan tables b).glyphs (joined_all plan tables b)
+
+-- a text that was joined, cut at a clear place
+pub record JoinedInTwo (plan : hb_ot_shape_plan_t) (tables : CharacterTables) (old : Buffer) (front back : Glyphs) : Type 0
+  where
+    pub within : length front < length old.glyphs
+    pub first : SameText (joined_by plan tables (front_at (length front) old)).glyphs front
+    pub second : SameText (joined_by plan tables (back_at (length front) old)).glyphs back
+
+pub joined_in_two : (plan : hb_ot_shape_plan_t) (tables : CharacterTables) (old : Buffer) (front back : Glyphs)
+    → IsSparedAll plan tables old → CutWhereClear (joined_by plan tables old).glyphs front back
+    → JoinedInTwo plan tables old front back
+joined_in_two plan tables old front back spared cut =
+    let new = joined_by plan tables old in
     let gs = old.glyphs in
-    let same : clusters new.glyphs ≡ clusters gs = ap (λ (b : Buffer). clusters b.glyphs) is
-    ∙ clusters-joined plan tables old in
-    let of : hb_glyph_info_t → ℕ = λ g. g.cluster in
-    let many : length new.glyphs ≡ length gs = sym (length-map new.glyphs of) ∙ ap length same ∙ length-map gs of in
-    hook_behind Hook behind old new.glyphs (λ front back cut.
     let n = length front in
+    let of : hb_glyph_info_t → ℕ = λ g. g.cluster in
+    let same = clusters-joined plan tables old in
+    let many : length new.glyphs ≡ length gs = sym (length-map new.glyphs of) ∙ ap length same ∙ length-map gs of in
     let l = within_parts new.glyphs front back cut in
     let one = joined_by plan tables (front_at n old) in
     let two = joined_by plan tables (back_at n old) in
     let order = breaks-where_clear (breaks_of plan.plan_data) (masks_of plan.plan_data) plan.script tables.joining
-    tables.general old new hooked.0 n cut.some_in_front (omega (arith, l, many)) cut.clear (spared n) in
+    tables.general old new refl n cut.some_in_front (omega (arith, l, many)) cut.clear (spared n) in
     let first : clusters one.glyphs ≡ take n (clusters gs) = clusters-joined plan tables (front_at n old)
     ∙ sym (take-map of n gs) in
     let second : clusters two.glyphs ≡ drop n (clusters gs) = clusters-joined plan tables (back_at n old)
@@ -320,18 +328,26 @@ arabic_text plan tables behind old new spared hooked leaves =
     ∙ ap length (clusters-joined plan tables (front_at n old)) ∙ length-map (take n gs) of
     ∙ length-take-le n gs (omega (arith, l, many)) in
     let parts = joined_parts new.glyphs front back one.glyphs two.glyphs cut.parts long order whole in
+    record { within = omega (arith, l, many); first = parts.0; second = parts.1 }
+
+pub arabic_text : ArabicTextBreaks
+arabic_text plan tables behind old new spared hooked leaves =
+    hook_behind (MasksSet Arabic plan tables) behind old new.glyphs (λ front back cut.
+    let n = length front in
+    let joined = joined_in_two plan tables old front back spared
+    (subst (λ (b : Buffer). CutWhereClear b.glyphs front back) hooked.0 cut) in
     record {
       before = front_at n old;
       behind = back_at n old;
       pieces = record {
         place = n;
         some_in_front = cut.some_in_front;
-        some_behind = omega (arith, l, many);
+        some_behind = joined.within;
         front = refl;
         back = refl;
       };
-      first = λ b h. subst (λ xs. SameText xs front) (sym (ap (λ (b : Buffer). b.glyphs) h.0)) parts.0;
-      second = λ b h. subst (λ xs. SameText xs back) (sym (ap (λ (b : Buffer). b.glyphs) h.0)) parts.1;
+      first = λ b h. subst (λ xs. SameText xs front) (sym (ap (λ (b : Buffer). b.glyphs) h.0)) joined.first;
+      second = λ b h. subst (λ xs. SameText xs back) (sym (ap (λ (b : Buffer). b.glyphs) h.0)) joined.second;
     }) leaves
 
 -- MARKS
