@@ -31,7 +31,7 @@ use Rattle.rustybuzz_shapers.specs.declared.shaper.hb_ot_shaper_t.{hb_ot_shaper_
 use Rattle.rustybuzz_shapers.specs.declared.shaper.hb_ot_shaper_t.TheVariants.{Arabic, Hangul, Hebrew, Indic, Khmer, Myanmar, MyanmarZawgyi, Thai, Universal}
 use Rattle.rustybuzz_shapers.proofs.Monotone.{same_clusters}
 use Rattle.shapers_breaks.specs.MarkBreaks.{marks_after}
-use Rattle.shapers_breaks.specs.Pieces.{BreaksWhereCleared, CutBuffer, CutWhereClear, LeavesPieces, MadeOfPieces, SameText}
+use Rattle.shapers_breaks.specs.Pieces.{BreaksWhereCleared, CutBuffer, CutWhereClear, LeavesPieces, MadeOfPieces, SameButFlags}
 use Rattle.shapers_breaks.specs.ShaperBreaks.{ArabicTextBreaks, CutAroundMarks, HangulHooked, HangulIsSo, HangulTextBreaks, HookedBreaks, HookedPiece, IsSparedAll, MarkedBreaks, MarkedPiece, MarkedText, MasksLeavePieces, ThaiIsSo, ThaiTextBreaks, masked_by_glyph}
 use Rattle.shapers_breaks.specs.TextBreaks.{JoinsGlyphs, JoinsOrder, TextBroken, back_half, front_half}
 use Rattle.shapers_breaks.proofs.HangulBreaks.{hangul_breaks}
@@ -43,13 +43,13 @@ use Rattle.shapers_breaks.proofs.ThaiBreaks.{sara_ams_break, thai_forms_break}
 use Rattle.shapers_breaks.proofs.ThaiSound.{thai_sound_break}
 
 -- texts that are the same in order view and clusters
-pub same_by_order : (gs hs : Glyphs) → order_view gs ≡ order_view hs → clusters gs ≡ clusters hs → SameText gs hs
+pub same_by_order : (gs hs : Glyphs) → order_view gs ≡ order_view hs → clusters gs ≡ clusters hs → SameButFlags gs hs
 same_by_order gs hs order in_clusters = (ap (λ xs. map (map unnumbered) (syllables xs)) order, in_clusters)
 
 -- two texts that join to one are its parts
 pub joined_parts : (whole front back one two : Glyphs) → whole ≡ front ++ back → length one ≡ length front
     → order_view whole ≡ order_view one ++ order_view two → clusters whole ≡ clusters one ++ clusters two
-    → SameText one front × SameText two back
+    → SameButFlags one front × SameButFlags two back
 joined_parts whole front back one two parts long order in_clusters =
     let n = length front in
     let of : hb_glyph_info_t → ℕ = λ g. g.cluster in
@@ -75,7 +75,7 @@ joined_parts whole front back one two parts long order in_clusters =
 
 -- HOOKS that are functions of the buffer
 abbrev HookMakes : (Buffer → Buffer → Type 0) → Buffer → Glyphs → Type 0
-HookMakes Hook piece made = (one : Buffer) → Hook piece one → SameText one.glyphs made
+HookMakes Hook piece made = (one : Buffer) → Hook piece one → SameButFlags one.glyphs made
 
 pub hook_behind : (Hook : Buffer → Buffer → Type 0) (behind : Glyphs → Glyphs) (old : Buffer) (mid : Glyphs)
     → BreaksWhereCleared Buffer CutBuffer (HookMakes Hook) old mid → LeavesPieces behind mid
@@ -110,9 +110,9 @@ text_pieces Hook made of old new front back parts broken =
         front = refl;
         back = refl;
       };
-      first = λ b h. subst (λ xs. SameText xs front)
+      first = λ b h. subst (λ xs. SameButFlags xs front)
           (sym (ap (λ (b : Buffer). b.glyphs) (of.is (front_at c old) b h) ∙ of.front c old)) same.0;
-      second = λ b h. subst (λ xs. SameText xs back)
+      second = λ b h. subst (λ xs. SameButFlags xs back)
           (sym (ap (λ (b : Buffer). b.glyphs) (of.is (back_at c old) b h) ∙ of.back c old)) same.1;
     }
 
@@ -218,8 +218,8 @@ jamo_masked masks off =
     }
 
 -- categories, and positions in syllables
-categorized : (tables : CharacterTables) → ReadsOrder (with_category tables)
-categorized tables = record {
+categories_read : (tables : CharacterTables) → ReadsOrder (with_category tables)
+categories_read tables = record {
   added = λ g. added_same g (with_category tables g) refl refl;
   byte = λ g. refl;
   viewed = λ g. ap (λ (k : ℕ). let r : hb_glyph_info_t = record (with_category tables g) { cluster = 0; mask = k } in r)
@@ -228,8 +228,8 @@ categorized tables = record {
       (sym (kind-twice g.syllable));
 }
 
-positioned : (tables : CharacterTables) → ReadsOrder (with_category_and_position tables)
-positioned tables = record {
+positions_read : (tables : CharacterTables) → ReadsOrder (with_category_and_position tables)
+positions_read tables = record {
   added = λ g. added_same g (with_category_and_position tables g) refl refl;
   byte = λ g. refl;
   viewed = λ g. ap (λ (k : ℕ). let r : hb_glyph_info_t = record (with_category_and_position tables g) {
@@ -252,11 +252,11 @@ masks_leave Hangul plan tables old new by off is =
     glyphs_masked (masked_by_glyph Hangul plan tables) (jamo_masked (masks_kept plan.plan_data) off) old new
     (ap (λ (b : Buffer). b.glyphs) is)
 masks_leave Indic plan tables old new by off is =
-    glyphs_masked (masked_by_glyph Indic plan tables) (positioned tables) old new (ap (λ (b : Buffer). b.glyphs) is)
+    glyphs_masked (masked_by_glyph Indic plan tables) (positions_read tables) old new (ap (λ (b : Buffer). b.glyphs) is)
 masks_leave Khmer plan tables old new by off is =
-    glyphs_masked (masked_by_glyph Khmer plan tables) (categorized tables) old new (ap (λ (b : Buffer). b.glyphs) is)
+    glyphs_masked (masked_by_glyph Khmer plan tables) (categories_read tables) old new (ap (λ (b : Buffer). b.glyphs) is)
 masks_leave Myanmar plan tables old new by off is =
-    glyphs_masked (masked_by_glyph Myanmar plan tables) (categorized tables) old new (ap (λ (b : Buffer). b.glyphs) is)
+    glyphs_masked (masked_by_glyph Myanmar plan tables) (categories_read tables) old new (ap (λ (b : Buffer). b.glyphs) is)
 masks_leave Hebrew plan tables old new by off is =
     glyphs_masked (λ g. g) still old new (ap (λ (b : Buffer). b.glyphs) is.1 ∙ sym (map-id old.glyphs))
 masks_leave MyanmarZawgyi plan tables old new by off is =
@@ -273,7 +273,7 @@ hangul_text plan font tables off behind old new so hooked leaves =
     let all = in_turn (map mask) behind mid.glyphs masked (subst (LeavesPieces behind) is leaves) in
     let pieces = behind_pieces Buffer CutBuffer (HookMakes (Preprocessed Hangul plan font))
     (HookedPiece (HangulHooked plan font tables) behind) (λ gs. behind (map mask gs)) old mid.glyphs
-    (λ x ys zs own made one h. subst (λ xs. SameText (behind xs) zs)
+    (λ x ys zs own made one h. subst (λ xs. SameButFlags (behind xs) zs)
     (sym (ap (λ (b : Buffer). b.glyphs) h.1.1)) (made h.0.glyphs (own h.0 h.1.0)))
     (λ front back cut. text_pieces (Preprocessed Hangul plan font) (rewritten_by plan.break_flags font)
     (hangul_of plan font) old mid front back cut.parts (hangul_broken plan font old mid so both.0 (length front)
@@ -286,21 +286,21 @@ abbrev pub joined_by : hb_ot_shape_plan_t → CharacterTables → Buffer → Buf
 joined_by plan tables b = buffer_joined (breaks_of plan.plan_data) (masks_of plan.plan_data) plan.script tables.joining
     tables.general b
 
-pub joined_all : (plan : hb_ot_shape_plan_t) (tables : CharacterTables) (b : Buffer)
+pub joining_adds : (plan : hb_ot_shape_plan_t) (tables : CharacterTables) (b : Buffer)
     → OnlyFlagsAdded b.glyphs (joined_by plan tables b).glyphs
-joined_all plan tables b = joined_added (breaks_of plan.plan_data) (masks_of plan.plan_data) plan.script tables.joining
+joining_adds plan tables b = joined_added (breaks_of plan.plan_data) (masks_of plan.plan_data) plan.script tables.joining
     tables.general b (joined_by plan tables b) refl
 
 pub clusters-joined : (plan : hb_ot_shape_plan_t) (tables : CharacterTables) (b : Buffer)
     → clusters (joined_by plan tables b).glyphs ≡ clusters b.glyphs
-clusters-joined plan tables b = same_clusters b.glyphs (joined_by plan tables b).glyphs (joined_all plan tables b)
+clusters-joined plan tables b = same_clusters b.glyphs (joined_by plan tables b).glyphs (joining_adds plan tables b)
 
 -- a text that was joined, cut at a clear place
 pub record JoinedInTwo (plan : hb_ot_shape_plan_t) (tables : CharacterTables) (old : Buffer) (front back : Glyphs) : Type 0
   where
     pub within : length front < length old.glyphs
-    pub first : SameText (joined_by plan tables (front_at (length front) old)).glyphs front
-    pub second : SameText (joined_by plan tables (back_at (length front) old)).glyphs back
+    pub first : SameButFlags (joined_by plan tables (front_at (length front) old)).glyphs front
+    pub second : SameButFlags (joined_by plan tables (back_at (length front) old)).glyphs back
 
 pub joined_in_two : (plan : hb_ot_shape_plan_t) (tables : CharacterTables) (old : Buffer) (front back : Glyphs)
     → IsSparedAll plan tables old → CutWhereClear (joined_by plan tables old).glyphs front back
@@ -346,8 +346,8 @@ arabic_text plan tables behind old new spared hooked leaves =
         front = refl;
         back = refl;
       };
-      first = λ b h. subst (λ xs. SameText xs front) (sym (ap (λ (b : Buffer). b.glyphs) h.0)) joined.first;
-      second = λ b h. subst (λ xs. SameText xs back) (sym (ap (λ (b : Buffer). b.glyphs) h.0)) joined.second;
+      first = λ b h. subst (λ xs. SameButFlags xs front) (sym (ap (λ (b : Buffer). b.glyphs) h.0)) joined.first;
+      second = λ b h. subst (λ xs. SameButFlags xs back) (sym (ap (λ (b : Buffer). b.glyphs) h.0)) joined.second;
     }) leaves
 
 -- MARKS
@@ -357,11 +357,11 @@ record KeepsLength (shaper : hb_ot_shaper_t) : Type 0 where
   is : (s e : ℕ) (old new : Buffer) → MarksReordered shaper s e old new
       → new.glyphs ≡ marks_after shaper old.level s e old.glyphs
 
-marked : (shaper : hb_ot_shaper_t) → KeepsLength shaper → MarkedBreaks shaper
-marked shaper keeps s e behind old new h l can inside done leaves =
+marks_text : (shaper : hb_ot_shaper_t) → KeepsLength shaper → MarkedBreaks shaper
+marks_text shaper keeps s e behind old new h l can inside done leaves =
     let gs = old.glyphs in
     let text : MarkedText = record { start = s; end = e; glyphs = gs } in
-    let Makes : MarkedText → Glyphs → Type 0 = λ x ys. SameText (marks_after shaper old.level x.start x.end x.glyphs)
+    let Makes : MarkedText → Glyphs → Type 0 = λ x ys. SameButFlags (marks_after shaper old.level x.start x.end x.glyphs)
     ys in
     let many : length new.glyphs ≡ length gs = ap length (keeps.is s e old new done) ∙ keeps.long old.level s e gs h l in
     behind_pieces MarkedText CutAroundMarks Makes (MarkedPiece shaper old.level behind) behind text new.glyphs
@@ -387,13 +387,13 @@ marked shaper keeps s e behind old new h l can inside done leaves =
     }) leaves
 
 pub arabic_marks : MarkedBreaks Arabic
-arabic_marks = marked Arabic (record {
+arabic_marks = marks_text Arabic (record {
   long = λ level s e gs h l. (mark_laws level s e gs h l).glyphs.same_length;
   is = λ s e old new done. ap (λ (b : Buffer). b.glyphs) done;
 })
 
 pub hebrew_marks : MarkedBreaks Hebrew
-hebrew_marks = marked Hebrew (record {
+hebrew_marks = marks_text Hebrew (record {
   long = λ level s e gs h l. (mark_laws_hebrew level s e gs (second_within gs s e h l)).glyphs.same_length;
   is = λ s e old new done. ap (λ (b : Buffer). b.glyphs) done;
 })
@@ -417,6 +417,6 @@ bare_text behind old new so is leaves =
         front = refl;
         back = refl;
       };
-      first = λ b h. subst (λ xs. SameText xs front) (sym (ap (λ (b : Buffer). b.glyphs) h ∙ is_front)) (own_text front);
-      second = λ b h. subst (λ xs. SameText xs back) (sym (ap (λ (b : Buffer). b.glyphs) h ∙ is_back)) (own_text back);
+      first = λ b h. subst (λ xs. SameButFlags xs front) (sym (ap (λ (b : Buffer). b.glyphs) h ∙ is_front)) (own_text front);
+      second = λ b h. subst (λ xs. SameButFlags xs back) (sym (ap (λ (b : Buffer). b.glyphs) h ∙ is_back)) (own_text back);
     }) leaves

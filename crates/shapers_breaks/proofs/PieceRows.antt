@@ -8,7 +8,7 @@ use Rattle.shapers_buffer.specs.Glyph.{default_glyph, order_view, plain}
 use Rattle.shapers_buffer.specs.declared.buffer.glyph.hb_glyph_info_t.{hb_glyph_info_t}
 use Rattle.shapers_buffer.specs.declared.buffer.syllables.Span.{Span}
 use Rattle.rustybuzz_shapers.specs.declared.shaper.hb_ot_shaper_t.TheVariants.{Arabic, Hangul, Hebrew, Indic, Khmer, Myanmar, MyanmarZawgyi, Thai, Universal}
-use Rattle.shapers_breaks.specs.Pieces.{CutAtSpans, CutBuffer, CutWhereClear, LeavesPieces, MadeOfPieces, MakesOf, SameText}
+use Rattle.shapers_breaks.specs.Pieces.{CutAtSpans, CutBuffer, CutWhereClear, LeavesPieces, MadeOfPieces, MakesOf, SameButFlags}
 use Rattle.shapers_breaks.specs.ShaperBreaks.{CutAroundMarks, is_by_glyph, shaper_pauses}
 use Rattle.shapers_syllabic.specs.Borders.{unnumbered}
 use Rattle.shapers_syllabic.proofs.Serials.{same_text}
@@ -19,28 +19,28 @@ glyph : ℕ → ℕ → ℕ → ℕ → hb_glyph_info_t
 glyph n c m byte = record default_glyph { glyph_id = n; cluster = c; mask = m; syllable = byte }
 
 -- glyph flags, and serials between syllables that stay apart, make no difference
-row_same : SameText (glyph 5 0 0 0x12 ∷ glyph 6 1 9 0x23 ∷ []) (glyph 5 0 7 0x52 ∷ glyph 6 1 8 0x13 ∷ [])
+row_same : SameButFlags (glyph 5 0 0 0x12 ∷ glyph 6 1 9 0x23 ∷ []) (glyph 5 0 7 0x52 ∷ glyph 6 1 8 0x13 ∷ [])
 unfolding glyph
 row_same = (refl, refl)
 
 -- a cluster, a mask's other bits, the kind of a syllable and its border do
-row_other_cluster : SameText (glyph 5 0 0 0 ∷ []) (glyph 5 1 0 0 ∷ []) → ⊥
+row_other_cluster : SameButFlags (glyph 5 0 0 0 ∷ []) (glyph 5 1 0 0 ∷ []) → ⊥
 unfolding glyph
 row_other_cluster same = absurd (omega (arith, ap (λ cs. slice_index cs 0) same.1))
 
-row_other_mask : SameText (glyph 5 0 0 0 ∷ []) (glyph 5 0 8 0 ∷ []) → ⊥
+row_other_mask : SameButFlags (glyph 5 0 0 0 ∷ []) (glyph 5 0 8 0 ∷ []) → ⊥
 unfolding glyph
 row_other_mask same = absurd (omega
     (arith, ap (λ ps. slice_index (map (λ (p : List hb_glyph_info_t). slice_index (map (λ g. g.mask) p) 0) ps) 0) same.0))
 
-row_other_kind : SameText (glyph 5 0 0 0x12 ∷ []) (glyph 5 0 0 0x13 ∷ []) → ⊥
+row_other_kind : SameButFlags (glyph 5 0 0 0x12 ∷ []) (glyph 5 0 0 0x13 ∷ []) → ⊥
 unfolding glyph
 row_other_kind same = absurd (omega (
   arith,
   ap (λ ps. slice_index (map (λ (p : List hb_glyph_info_t). slice_index (map (λ g. g.syllable) p) 0) ps) 0) same.0,
 ))
 
-row_other_border : SameText (glyph 5 0 0 0x12 ∷ glyph 6 0 0 0x12 ∷ []) (glyph 5 0 0 0x12 ∷ glyph 6 0 0 0x22 ∷ []) → ⊥
+row_other_border : SameButFlags (glyph 5 0 0 0x12 ∷ glyph 6 0 0 0x12 ∷ []) (glyph 5 0 0 0x12 ∷ glyph 6 0 0 0x22 ∷ []) → ⊥
 unfolding glyph
 row_other_border same = absurd (omega (arith, ap length same.0))
 
@@ -137,7 +137,7 @@ unfolding number shown
 shown_number [] = refl
 shown_number (g ∷ gs) = refl
 
-same_number : (gs hs : List hb_glyph_info_t) → SameText gs hs → number gs ≡ number hs
+same_number : (gs hs : List hb_glyph_info_t) → SameButFlags gs hs → number gs ≡ number hs
 unfolding shown
 same_number gs hs same = sym (shown_number gs) ∙ ap number (same_text (order_view gs) (order_view hs) same.0)
     ∙ shown_number hs

@@ -10,7 +10,7 @@ use Rattle.shapers_clusters.proofs.FlagLaw.{added_same, changed_added}
 use Rattle.shapers_syllabic.specs.Borders.{unnumbered}
 use Rattle.shapers_syllabic.proofs.Borders.{syllables-viewed}
 use Rattle.shapers_syllabic.proofs.Serials.{KeepsSame, pieces_same, same_text}
-use Rattle.shapers_breaks.specs.Pieces.{BreaksWhereCleared, CutWhereClear, LeavesPieces, MakesOf, SameText}
+use Rattle.shapers_breaks.specs.Pieces.{BreaksWhereCleared, CutWhereClear, LeavesPieces, MakesOf, SameButFlags}
 use Rattle.shapers_breaks.specs.ShaperBreaks.{LeavePiecesInTurn}
 use Rattle.shapers_breaks.proofs.KeptFlags.{added_clear}
 use Rattle.shapers_breaks.proofs.SetUp.{Glyphs}
@@ -37,14 +37,14 @@ in_turn first next text one two =
     (λ xs ys zs f n same is. n (first same) (f same is)) one two
 
 -- a text is the same as itself
-pub own_text : (gs : Glyphs) → SameText gs gs
+pub own_text : (gs : Glyphs) → SameButFlags gs gs
 own_text gs = (refl, refl)
 
 -- CHANGES of each glyph
 -- one that reads no clusters, flags or serials
 pub record ChangesGlyphs (f : hb_glyph_info_t → hb_glyph_info_t) : Type 0 where
   pub added : (g : hb_glyph_info_t) → FlagsAdded g (f g)
-  pub same : (gs hs : Glyphs) → SameText gs hs → SameText (map f gs) (map f hs)
+  pub same : (gs hs : Glyphs) → SameButFlags gs hs → SameButFlags (map f gs) (map f hs)
 
 pub leaves_by_glyph : (f : hb_glyph_info_t → hb_glyph_info_t) → ChangesGlyphs f → (gs : Glyphs)
     → LeavesPieces (map f) gs
@@ -72,8 +72,8 @@ leaves_by_glyph f change gs front back cut =
         some_behind = omega (arith, all, ap length whole, long, within);
         clear = subst (IsClear gs) (sym long) clear;
       };
-      first = λ xs is. subst (SameText (map f xs)) is_front (change.same xs (take n gs) is);
-      second = λ xs is. subst (SameText (map f xs)) is_back (change.same xs (drop n gs) is);
+      first = λ xs is. subst (SameButFlags (map f xs)) is_front (change.same xs (take n gs) is);
+      second = λ xs is. subst (SameButFlags (map f xs)) is_back (change.same xs (drop n gs) is);
     }
 
 pub flags-twice : (m : ℕ) → without_flags (without_flags m) ≡ without_flags m

@@ -30,7 +30,7 @@ use Rattle.rustybuzz_shapers.specs.declared.shaper.hb_ot_shaper_t.TheVariants.{I
 use Rattle.shapers_breaks.specs.ChainBreaks.{IsSpanned, LeavesSideBySide, LookedUp}
 use Rattle.shapers_breaks.specs.IndicChain.{reordered_text}
 use Rattle.shapers_breaks.specs.KeptTextBreaks.{KeptTextBreaks, KeptTextBroken}
-use Rattle.shapers_breaks.specs.Pieces.{BreaksWhereCleared, CutAtSpans, LeavesPieces, SameText, SpannedText}
+use Rattle.shapers_breaks.specs.Pieces.{BreaksWhereCleared, CutAtSpans, LeavesPieces, SameButFlags, SpannedText}
 use Rattle.shapers_breaks.specs.ShaperBreaks.{IsApart, IsInOrder, SyllabicBreaks, SyllabicPiece}
 use Rattle.shapers_breaks.proofs.ChainBreaks.{made_cut}
 use Rattle.shapers_breaks.proofs.HookPieces.{within_parts}
@@ -45,7 +45,7 @@ same_clusters_too : (gs hs : Glyphs) → map unnumbered gs ≡ map unnumbered hs
 same_clusters_too gs hs same = sym (map-map (λ (g : hb_glyph_info_t). g.cluster) unnumbered gs) ∙ ap clusters same
     ∙ map-map (λ (g : hb_glyph_info_t). g.cluster) unnumbered hs
 
-but_serials : (gs hs : Glyphs) → SameButSerials gs hs → SameText gs hs
+but_serials : (gs hs : Glyphs) → SameButSerials gs hs → SameButFlags gs hs
 but_serials gs hs same = (same-view gs hs same, same_clusters_too gs hs (same_text gs hs same))
 
 -- THE PARTS of a text at a place where a reordering may be broken
@@ -81,7 +81,7 @@ parts_of r laws level old new front back parts broken =
     )
 
 -- a text whose masks were set glyph by glyph, cut where these are
-record CutBefore (c : hb_glyph_info_t → hb_glyph_info_t) (gs : Glyphs) (front back : List Span) (before behind : Glyphs) :
+record CutMasked (c : hb_glyph_info_t → hb_glyph_info_t) (gs : Glyphs) (front back : List Span) (before behind : Glyphs) :
     Type 0 where
   first_glyphs : Glyphs
   second_glyphs : Glyphs
@@ -89,9 +89,9 @@ record CutBefore (c : hb_glyph_info_t → hb_glyph_info_t) (gs : Glyphs) (front 
   second_is : map c second_glyphs ≡ behind
   glyphs : gs ≡ first_glyphs ++ second_glyphs
 
-cut_before : (c : hb_glyph_info_t → hb_glyph_info_t) (gs : Glyphs) (front back : List Span) (before behind : Glyphs)
-    → map c gs ≡ before ++ behind → CutBefore c gs front back before behind
-cut_before c gs front back before behind text =
+cut_masked : (c : hb_glyph_info_t → hb_glyph_info_t) (gs : Glyphs) (front back : List Span) (before behind : Glyphs)
+    → map c gs ≡ before ++ behind → CutMasked c gs front back before behind
+cut_masked c gs front back before behind text =
     let n = length before in
     record {
       first_glyphs = take n gs;
@@ -106,7 +106,7 @@ abbrev Reorders : Reordering → (hb_glyph_info_t → hb_glyph_info_t) → (Glyp
     → Type 0
 Reorders r c lookups between piece made = (one : Buffer)
     → Reordered r (record between { glyphs = lookups (unsafe_spans piece.spans (map c piece.glyphs)) }) one
-    → SameText one.glyphs made
+    → SameButFlags one.glyphs made
 
 record IsChain (c : hb_glyph_info_t → hb_glyph_info_t) (broken_kind : ℕ) (r : Reordering) (lookups : Glyphs → Glyphs)
     (spans : List Span) (old masked mid between reordered : Buffer) : Type 0 where
@@ -135,7 +135,7 @@ chain_pieces c broken_kind r lookups spans old masked mid between reordered is f
     let made = made_cut broken_kind lookups spans masked is.spanned.kinds is.spanned.covered side broken.before
     broken.behind (side.halves broken.before broken.behind text broken.border broken.apart) in
     let at = made.cut in
-    let own = cut_before c old.glyphs at.front at.back at.before at.behind (sym is.masks ∙ at.text) in
+    let own = cut_masked c old.glyphs at.front at.back at.before at.behind (sym is.masks ∙ at.text) in
     let (is_front, is_back) = parts_of r is.laws level between.glyphs reordered.glyphs front back cut.parts broken in
     let results : (ss : List Span) (xs ys gs zs : Glyphs) → map c xs ≡ ys → SameButSerials gs (lookups (unsafe_spans ss ys))
     → reordered_text r level gs ≡ zs → Reorders r c lookups between (record { spans = ss; glyphs = xs }) zs =
@@ -143,8 +143,8 @@ chain_pieces c broken_kind r lookups spans old masked mid between reordered is f
     let start = lookups (unsafe_spans ss (map c xs)) in
     let first : SameButSerials start gs = sym (subst (λ hs. SameButSerials gs (lookups (unsafe_spans ss hs))) (sym masks)
     same) in
-    subst (λ hs. SameText hs zs) (sym (text_is r (record between { glyphs = start }) one done))
-    (subst (SameText (reordered_text r level start)) result
+    subst (λ hs. SameButFlags hs zs) (sym (text_is r (record between { glyphs = start }) one done))
+    (subst (SameButFlags (reordered_text r level start)) result
     (but_serials (reordered_text r level start) (reordered_text r level gs)
     (text_same r is.laws is.reads level start gs first))) in
     record {

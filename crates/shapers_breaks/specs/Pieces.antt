@@ -11,8 +11,8 @@ use Rattle.shapers_clusters.specs.Cuts.{ShareNone}
 use Rattle.shapers_syllabic.specs.Borders.{SameButSerials}
 
 -- the same text to those who read neither glyph flags nor serials of syllables
-abbrev pub SameText : List hb_glyph_info_t → List hb_glyph_info_t → Type 0
-SameText gs hs =
+abbrev pub SameButFlags : List hb_glyph_info_t → List hb_glyph_info_t → Type 0
+SameButFlags gs hs =
     SameButSerials (order_view gs) (order_view hs) × (clusters gs ≡ clusters hs)
 
 -- A text cut in two at a clear place,
@@ -62,7 +62,7 @@ BreaksWhereCleared X Cut Makes text made = (front back : List hb_glyph_info_t) �
 abbrev pub MakesOf : (List hb_glyph_info_t → List hb_glyph_info_t) → List hb_glyph_info_t →
     List hb_glyph_info_t → Type 0
 MakesOf lookups piece made =
-    (same : List hb_glyph_info_t) → SameText same piece → SameText (lookups same) made
+    (same : List hb_glyph_info_t) → SameButFlags same piece → SameButFlags (lookups same) made
 
 -- Lookups leave the pieces' results of a text side by side: wherever what they make of it is clear,
 -- the text was clear, and they make the parts of its pieces.

@@ -36,7 +36,7 @@ use Rattle.shapers_breaks.specs.HangulBreaks.{NarrowTonesJoin}
 use Rattle.shapers_breaks.specs.IndicBreaks.{JoinersShare}
 use Rattle.shapers_breaks.specs.KeptTextBreaks.{SyllablesApart}
 use Rattle.shapers_breaks.specs.MarkBreaks.{NoneClearInside, marks_after}
-use Rattle.shapers_breaks.specs.Pieces.{BreaksWhereCleared, CutAtSpans, CutBuffer, LeavesPieces, SameText, SpannedText}
+use Rattle.shapers_breaks.specs.Pieces.{BreaksWhereCleared, CutAtSpans, CutBuffer, LeavesPieces, SameButFlags, SpannedText}
 use Rattle.shapers_breaks.specs.ScriptBreaks.{UniversalPausesBreak}
 use Rattle.shapers_breaks.specs.StretchBreaks.{StretchBreaksLaw}
 use Rattle.shapers_breaks.specs.ThaiBreaks.{ThaiMarksJoin, sara_ams_taken}
@@ -69,7 +69,7 @@ abbrev pub SyllabicPiece : Reordering → (hb_glyph_info_t → hb_glyph_info_t) 
 SyllabicPiece r change lookups behind between piece made = (one : Buffer) →
     let set_up = unsafe_spans piece.spans (map change piece.glyphs) in
     Reordered r (record between { glyphs = lookups set_up }) one →
-    SameText (behind one.glyphs) made
+    SameButFlags (behind one.glyphs) made
 
 -- At every clear place the text may be broken between two syllables, where its clusters are so, or
 -- its syllables, before the reordering.
@@ -98,7 +98,7 @@ IsApart r b = SyllablesApart b.glyphs × JoinersShare r b
 abbrev pub HookedPiece : (Buffer → Buffer → Type 0) →
     (List hb_glyph_info_t → List hb_glyph_info_t) → Buffer → List hb_glyph_info_t → Type 0
 HookedPiece Hook behind piece made =
-    (one : Buffer) → Hook piece one → SameText (behind one.glyphs) made
+    (one : Buffer) → Hook piece one → SameButFlags (behind one.glyphs) made
 
 -- the text may be broken at every clear place, each half with its outer context
 abbrev pub HookedBreaks : (Buffer → Buffer → Type 0) → (Buffer → Type 0) → Type 0
@@ -173,7 +173,7 @@ pub record CutAroundMarks (text before behind : MarkedText) : Type 0 where
 abbrev pub MarkedPiece : hb_ot_shaper_t → BufferClusterLevel →
     (List hb_glyph_info_t → List hb_glyph_info_t) → MarkedText → List hb_glyph_info_t → Type 0
 MarkedPiece shaper level behind piece made =
-    SameText (behind (marks_after shaper level piece.start piece.end piece.glyphs)) made
+    SameButFlags (behind (marks_after shaper level piece.start piece.end piece.glyphs)) made
 
 -- Hebrew and Arabic: where no place within the run was clear
 abbrev pub MarkedBreaks : hb_ot_shaper_t → Type 0

@@ -12,7 +12,7 @@ use Rattle.shapers_syllabic.specs.Borders.{unnumbered}
 use Rattle.rustybuzz_shapers.specs.Hooks.{MasksOffFlags}
 use Rattle.rustybuzz_shapers.specs.declared.shaper.hb_ot_shaper_t.{hb_ot_shaper_t}
 use Rattle.rustybuzz_shapers.specs.declared.shaper.hb_ot_shaper_t.TheVariants.{Arabic}
-use Rattle.shapers_breaks.specs.Pieces.{BreaksWhereCleared, CutBuffer, CutWhereClear, SameText}
+use Rattle.shapers_breaks.specs.Pieces.{BreaksWhereCleared, CutBuffer, CutWhereClear, SameButFlags}
 use Rattle.shapers_breaks.specs.ShaperBreaks.{IsSparedAll, is_by_glyph, masks_by_glyph}
 use Rattle.shapers_plan.specs.declared.ot_map.lookups.Stage.{Stage}
 use Rattle.shapers_plan.specs.declared.ot_map.lookups.StageLookup.{StageLookup}
@@ -27,8 +27,8 @@ use Rattle.shapers_pipeline.specs.Stages.{PauseRun, StagesRun, Substitution}
 -- makes the same as what it made of the piece.
 abbrev pub MakesSame : (Buffer → Buffer → Type 0) → List hb_glyph_info_t → List hb_glyph_info_t →
     Type 0
-MakesSame Step piece made = (old new : Buffer) → old.positions ≡ [] → SameText old.glyphs piece →
-    Step old new → SameText new.glyphs made
+MakesSame Step piece made = (old new : Buffer) → old.positions ≡ [] → SameButFlags old.glyphs piece →
+    Step old new → SameButFlags new.glyphs made
 
 -- A step leaves the pieces' results of this text side by side: wherever what it made is clear, the
 -- text was, and it makes the parts of its pieces.
@@ -65,7 +65,7 @@ abbrev pub MasksInPieces : Option hb_ot_shaper_t → hb_ot_shape_plan_t → Char
     Buffer → Type 0
 MasksInPieces shaper plan tables b =
     let set = masks_set_for shaper plan tables in
-    BreaksWhereCleared Buffer CutBufferWhereClear (λ piece made. SameText (set piece).glyphs made)
+    BreaksWhereCleared Buffer CutBufferWhereClear (λ piece made. SameButFlags (set piece).glyphs made)
     b (set b).glyphs
 
 -- So they are without a shaper and where they are set glyph by glyph; and for Arabic with Sound, or
@@ -81,7 +81,7 @@ MasksSetInPieces = (shaper : Option hb_ot_shaper_t) (plan : hb_ot_shape_plan_t)
     (tables : CharacterTables) (b : Buffer) → MaskedSo shaper plan tables b →
     MasksInPieces shaper plan tables b
 
--- what the lookups keep beside a glyph doesn't hang on its cluster, glyph flags or serial
+-- what the lookups keep beside a glyph doesn't depend on its cluster, glyph flags or serial
 pub record NotesReadOrder (noted : hb_glyph_info_t → ℕ) : Type 0 where
   pub viewed : (g : hb_glyph_info_t) → noted g ≡ noted (plain g)
   pub counted : (g : hb_glyph_info_t) → noted g ≡ noted (unnumbered g)
@@ -93,7 +93,7 @@ glyphs_made p noted b =
     let featured = map (with_features p.ranges) masked.glyphs in
     text_noted noted (record masked { glyphs = map as_glyph featured })
 
--- what the law of the whole pipeline asks of it, besides its pauses: no features in ranges
+-- what the law of the whole pipeline needs of it, besides its pauses: no features in ranges
 pub record LeavesAllPieces (p : Preparation) (noted : hb_glyph_info_t → ℕ) (r : Substitution)
     (old : Buffer) : Type 0 where
   pub no_ranges : p.ranges ≡ []
@@ -101,7 +101,7 @@ pub record LeavesAllPieces (p : Preparation) (noted : hb_glyph_info_t → ℕ) (
   pub notes : NotesReadOrder noted
   pub lookups_keep : LookupsKeep r.substituted
   pub lookups : LookupsLeavePieces r.substituted
-  pub positions : (glyphs_made p noted old).positions ≡ []
+  pub positions : old.positions ≡ []
 
 -- A text from its fractions on, up to the last stage, may be broken at every clear place: what
 -- becomes of each piece by itself is what became of it in the text.
@@ -111,7 +111,7 @@ PipelineBreaks = (p : Preparation) (noted : hb_glyph_info_t → ℕ) (r : Substi
     (run : StagesRun r ss (glyphs_made p noted old) new) →
     AtPauses (PauseLeaves r.plan r.font) r ss (glyphs_made p noted old) new run →
     BreaksWhereCleared Buffer CutBufferWhereClear (λ piece made. (one : Buffer) →
-    StagesRun r ss (glyphs_made p noted piece) one → SameText one.glyphs made) old new.glyphs
+    StagesRun r ss (glyphs_made p noted piece) one → SameButFlags one.glyphs made) old new.glyphs
 
 -- Two pieces of a text's characters, in either order, that are prepared and normalized to these.
 pub record PreparedOf (p : Preparation) (old front back : Buffer) : Type 0 where
@@ -121,7 +121,7 @@ pub record PreparedOf (p : Preparation) (old front back : Buffer) : Type 0 where
   pub first : text_in_fractions p before ≡ front
   pub second : text_in_fractions p behind ≡ back
 
--- so wherever the text, prepared and normalized, is clear: what the law of the whole asks of these
+-- so wherever the text, prepared and normalized, is clear: what the law of the whole needs here
 abbrev pub PreparedInPieces : Preparation → Buffer → Type 0
 PreparedInPieces p old = (front back : Buffer) →
     CutBufferWhereClear (text_in_fractions p old) front back → PreparedOf p old front back
@@ -135,5 +135,5 @@ ShapingBreaks = (p : Preparation) (noted : hb_glyph_info_t → ℕ) (r : Substit
     AtPauses (PauseLeaves r.plan r.font) r ss (text_noted noted (text_prepared p old)) new run →
     BreaksWhereCleared Buffer (λ whole before behind. CutBuffer whole before behind
     ⊎ CutBuffer whole behind before) (λ piece made. (one : Buffer) →
-    StagesRun r ss (text_noted noted (text_prepared p piece)) one → SameText one.glyphs made) old
+    StagesRun r ss (text_noted noted (text_prepared p piece)) one → SameButFlags one.glyphs made) old
     new.glyphs
