@@ -8,18 +8,22 @@ use Rattle.shapers_arabic.specs.Breaks.{back_at, front_at}
 use Rattle.shapers_base.specs.Font.{CharacterTables, Font}
 use Rattle.shapers_base.specs.declared.plan.hb_ot_shape_plan_t.{hb_ot_shape_plan_t}
 use Rattle.shapers_base.specs.declared.plan.pause.Pause.{Pause}
+use Rattle.shapers_base.specs.declared.plan.pause.Pause.TheVariants.{InitialReordering, ReorderKhmer, ReorderMyanmar, SetupSyllablesIndic, SetupSyllablesKhmer, SetupSyllablesMyanmar}
 use Rattle.shapers_buffer.specs.Buffer.{Buffer}
 use Rattle.shapers_buffer.specs.Glyph.{plain}
 use Rattle.shapers_buffer.specs.declared.buffer.glyph.hb_glyph_info_t.{hb_glyph_info_t}
+use Rattle.shapers_buffer.specs.declared.buffer.syllables.Span.{Span}
 use Rattle.shapers_clusters.specs.Breaks.{IsClear}
 use Rattle.shapers_clusters.proofs.FlagLaw.{added_same}
 use Rattle.shapers_syllabic.specs.Borders.{unnumbered}
 use Rattle.shapers_universal.specs.PlanData.{arabic_of}
+use Rattle.shapers_syllabic.specs.Syllabic.{unsafe_spans}
 use Rattle.rustybuzz_shapers.specs.Hooks.{MasksOffFlags, MasksSet}
+use Rattle.rustybuzz_shapers.specs.Pauses.{Paused, Reordered, Reordering, by_initial, by_khmer, by_myanmar}
 use Rattle.rustybuzz_shapers.specs.declared.shaper.hb_ot_shaper_t.{hb_ot_shaper_t}
 use Rattle.rustybuzz_shapers.specs.declared.shaper.hb_ot_shaper_t.TheVariants.{Arabic, Hangul, Hebrew, Indic, Khmer, Myanmar, MyanmarZawgyi, Thai, Universal}
-use Rattle.shapers_breaks.specs.Pieces.{BreaksWhereCleared, CutBuffer, CutWhereClear, LeavesPieces, MadeOfPieces, MakesOf, SameButFlags}
-use Rattle.shapers_breaks.specs.ShaperBreaks.{MasksLeavePieces, PausesLeavePieces, glyph_paused, is_by_glyph, masked_by_glyph, masks_by_glyph}
+use Rattle.shapers_breaks.specs.Pieces.{BreaksWhereCleared, CutBuffer, CutWhereClear, LeavesPieces, MadeOfPieces, MakesOf, SameButFlags, SpannedText}
+use Rattle.shapers_breaks.specs.ShaperBreaks.{IsApart, IsInOrder, MasksLeavePieces, PausesLeavePieces, ShapersBreakLaw, SyllabicBreaks, SyllabicPiece, glyph_paused, is_by_glyph, masked_by_glyph, masks_by_glyph}
 use Rattle.shapers_breaks.proofs.HookPieces.{joining_adds, joined_by, joined_in_two, within_parts}
 use Rattle.shapers_breaks.proofs.KeptFlags.{added_clear}
 use Rattle.shapers_breaks.proofs.Pieces.{ReadsOrder, flags-twice, kind-twice, leaves_by_glyph, own_text, reads_order}
@@ -32,7 +36,7 @@ use Rattle.shapers_pipeline.specs.Prepared.{Preparation, text_in_fractions, text
 use Rattle.shapers_pipeline.specs.ShaperSteps.{masks_set_by, masks_set_for, universal_masks_set}
 use Rattle.shapers_pipeline.specs.Stages.{PauseRun, PauseRunIf, StageRun, StagesRun, Substitution, stage_looked_up}
 use Rattle.shapers_pipeline.proofs.Pausing.{pause_positions}
-use Rattle.shapers_editing.specs.PipelineBreaks.{CutBufferWhereClear, LeavesAllPieces, LookupsLeavePieces, MakesSame, MasksInPieces, MasksSetInPieces, NotesReadOrder, PauseLeaves, PipelineBreaks, PreparedInPieces, ShapingBreaks, StagesLeavePieces, StepLeavesPieces, glyphs_made}
+use Rattle.shapers_editing.specs.PipelineBreaks.{CutBufferWhereClear, LeavesAllPieces, LookupsLeavePieces, MakesSame, MasksInPieces, MasksSetInPieces, NotesReadOrder, PauseLeaves, PipelineBreaks, PreparedInPieces, ShaperStagesBreak, ShapingBreaks, StagedPiece, StagesLeavePieces, StepLeavesPieces, SyllabicStagesBreak, glyphs_looked_up, glyphs_made}
 
 abbrev Glyphs : Type 0
 Glyphs = List hb_glyph_info_t
@@ -77,6 +81,13 @@ no_positions : (f : StageLookup → Buffer → Buffer) → LookupsKeep f → (li
 no_positions f keeps [] b none = none
 no_positions f keeps (x ∷ xs) b none =
     no_positions f keeps xs (f x b) (ap (λ (c : Buffer). c.positions) ((keeps x b none).others) ∙ none)
+
+looked_level : (f : StageLookup → Buffer → Buffer) → LookupsKeep f → (list : List StageLookup) (b : Buffer)
+    → b.positions ≡ [] → (looked_up f list b).level ≡ b.level
+looked_level f keeps [] b none = refl
+looked_level f keeps (x ∷ xs) b none =
+    let kept = (keeps x b none).others in
+    looked_level f keeps xs (f x b) (ap (λ (c : Buffer). c.positions) kept ∙ none) ∙ ap (λ (c : Buffer). c.level) kept
 
 abbrev IsLooked : (StageLookup → Buffer → Buffer) → List StageLookup → Buffer → Buffer → Type 0
 IsLooked f list old new = new ≡ looked_up f list old
@@ -331,3 +342,78 @@ shaping_breaks law p noted r ss old new prepared so run pauses front back cut =
       second = λ one ran. made.second one
           (subst (λ (b : Buffer). StagesRun r ss (glyphs_made p noted b) one) own.second ran);
     }
+
+-- SYLLABLES: a set-up, a stage that a reordering ends, and stages behind
+one_unpositioned : (reordering : Reordering) (b one : Buffer) → Reordered reordering b one → b.positions ≡ []
+    → one.positions ≡ []
+one_unpositioned reordering b one done none = ap (λ (c : Buffer). c.positions) done.others ∙ none
+
+syllabic_stages : (set_up pause : Pause) (by : hb_ot_shape_plan_t → Font → Buffer → Reordering)
+    (IsSo : Reordering → Buffer → Type 0) → PausesLeavePieces → SyllabicBreaks set_up pause by IsSo
+    → ((plan : hb_ot_shape_plan_t) (font : Font) (spans : List Span) (old mid : Buffer)
+    → Paused set_up plan font spans old mid → mid.positions ≡ old.positions)
+    → ((plan : hb_ot_shape_plan_t) (font : Font) (spans : List Span) (old new : Buffer)
+    → Paused pause plan font spans old new → new.positions ≡ old.positions)
+    → SyllabicStagesBreak set_up pause by IsSo
+syllabic_stages set_up pause by IsSo law breaks first_keeps second_keeps r second ss spans unread old mid reordered new
+    keeps leaves none spanned done side flags so ordered run pauses front back cut =
+    let between = stage_looked_up r second mid in
+    let lookups = glyphs_looked_up r second mid in
+    let reordering = by r.plan r.font between in
+    let list = lookups_of_stage second r.list in
+    let mid_none = first_keeps r.plan r.font spans old mid done ∙ none in
+    let between_none = no_positions r.substituted keeps list mid mid_none in
+    let new_none = second_keeps r.plan r.font unread between reordered ordered ∙ between_none in
+    let staged = stages_leave law r ss reordered new keeps leaves new_none run pauses front back cut in
+    let chain = breaks r.plan r.font (λ g. g) lookups (λ gs. gs) spans old reordered (record {
+      masked = old;
+      mid = mid;
+      between = between;
+      reordered = reordered;
+      unread = unread;
+      clusters_stay = λ g. refl;
+      masks = sym (map-id old.glyphs);
+      spanned = spanned;
+      syllables = done;
+      looked = record {
+        level = looked_level r.substituted keeps list mid mid_none;
+        glyphs = refl;
+        side_by_side = side;
+        flags = flags;
+      };
+      order = ordered;
+      side_by_side = λ f b c. record {
+        before = f;
+        behind = b;
+        pieces = c;
+        first = λ same is. is;
+        second = λ same is. is;
+      };
+      glyphs = refl;
+    }) so staged.before staged.behind staged.pieces in
+    let results : (piece : SpannedText) (ys zs : Glyphs) → SyllabicPiece reordering (λ g. g) lookups (λ gs. gs) between piece
+    ys → MakesSame (StagesRun r ss) ys zs → StagedPiece r second ss reordering mid piece zs =
+    λ piece ys zs own makes one two order ran.
+    let start = lookups (unsafe_spans piece.spans piece.glyphs) in
+    makes one two (one_unpositioned reordering (record between { glyphs = start }) one order between_none)
+    (own one (subst (λ gs. Reordered reordering (record between { glyphs = lookups (unsafe_spans piece.spans gs) }) one)
+    (sym (map-id piece.glyphs)) order)) ran in
+    record {
+      before = chain.before;
+      behind = chain.behind;
+      pieces = chain.pieces;
+      first = results chain.before staged.before front chain.first staged.first;
+      second = results chain.behind staged.behind back chain.second staged.second;
+    }
+
+pub shaper_stages : PausesLeavePieces → ShapersBreakLaw → ShaperStagesBreak
+shaper_stages law all = (
+  syllabic_stages SetupSyllablesKhmer ReorderKhmer by_khmer IsInOrder law (all Khmer)
+      (pause_positions SetupSyllablesKhmer) (pause_positions ReorderKhmer),
+  (
+    syllabic_stages SetupSyllablesMyanmar ReorderMyanmar (λ plan. by_myanmar) IsInOrder law (all Myanmar)
+        (pause_positions SetupSyllablesMyanmar) (pause_positions ReorderMyanmar),
+    syllabic_stages SetupSyllablesIndic InitialReordering by_initial IsApart law (all Indic)
+        (pause_positions SetupSyllablesIndic) (pause_positions InitialReordering),
+  ),
+)

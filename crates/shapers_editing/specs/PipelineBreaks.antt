@@ -4,16 +4,22 @@ use Rattle.std.specs.Prelude.{ℕ, ◌≡◌, ◌⊎◌, true, List, [], Option,
 use Rattle.shapers_base.specs.Font.{CharacterTables, Font}
 use Rattle.shapers_base.specs.declared.plan.hb_ot_shape_plan_t.{hb_ot_shape_plan_t}
 use Rattle.shapers_base.specs.declared.plan.pause.Pause.{Pause}
+use Rattle.shapers_base.specs.declared.plan.pause.Pause.TheVariants.{InitialReordering, ReorderKhmer, ReorderMyanmar, SetupSyllablesIndic, SetupSyllablesKhmer, SetupSyllablesMyanmar}
 use Rattle.shapers_buffer.specs.Buffer.{Buffer}
 use Rattle.shapers_buffer.specs.Glyph.{plain}
 use Rattle.shapers_buffer.specs.declared.buffer.glyph.hb_glyph_info_t.{hb_glyph_info_t}
+use Rattle.shapers_buffer.specs.declared.buffer.syllables.Span.{Span}
 use Rattle.shapers_clusters.specs.Breaks.{IsClear}
 use Rattle.shapers_syllabic.specs.Borders.{unnumbered}
+use Rattle.shapers_syllabic.specs.Syllabic.{unsafe_spans}
 use Rattle.rustybuzz_shapers.specs.Hooks.{MasksOffFlags}
+use Rattle.rustybuzz_shapers.specs.Pauses.{Paused, Reordered, Reordering, by_initial, by_khmer, by_myanmar}
 use Rattle.rustybuzz_shapers.specs.declared.shaper.hb_ot_shaper_t.{hb_ot_shaper_t}
 use Rattle.rustybuzz_shapers.specs.declared.shaper.hb_ot_shaper_t.TheVariants.{Arabic}
-use Rattle.shapers_breaks.specs.Pieces.{BreaksWhereCleared, CutBuffer, CutWhereClear, SameButFlags}
-use Rattle.shapers_breaks.specs.ShaperBreaks.{IsSparedAll, is_by_glyph, masks_by_glyph}
+use Rattle.shapers_breaks.specs.ChainBreaks.{IsSpanned, LeavesSideBySide}
+use Rattle.shapers_breaks.specs.KeptTextBreaks.{FlagsKept}
+use Rattle.shapers_breaks.specs.Pieces.{BreaksWhereCleared, CutAtSpans, CutBuffer, CutWhereClear, SameButFlags, SpannedText}
+use Rattle.shapers_breaks.specs.ShaperBreaks.{IsApart, IsInOrder, IsSparedAll, is_by_glyph, masks_by_glyph}
 use Rattle.shapers_plan.specs.declared.ot_map.lookups.Stage.{Stage}
 use Rattle.shapers_plan.specs.declared.ot_map.lookups.StageLookup.{StageLookup}
 use Rattle.shapers_pipeline.specs.ClusterLaws.{AtPauses, LookupsKeep}
@@ -21,7 +27,7 @@ use Rattle.shapers_pipeline.specs.Lookups.{text_noted}
 use Rattle.shapers_pipeline.specs.Masks.{as_glyph, with_features}
 use Rattle.shapers_pipeline.specs.Prepared.{Preparation, text_in_fractions, text_prepared}
 use Rattle.shapers_pipeline.specs.ShaperSteps.{masks_set_for}
-use Rattle.shapers_pipeline.specs.Stages.{PauseRun, StagesRun, Substitution}
+use Rattle.shapers_pipeline.specs.Stages.{PauseRun, StagesRun, Substitution, stage_looked_up}
 
 -- Of every text without positions that is the same as a piece, whatever else its buffer has, a step
 -- makes the same as what it made of the piece.
@@ -137,3 +143,47 @@ ShapingBreaks = (p : Preparation) (noted : hb_glyph_info_t → ℕ) (r : Substit
     ⊎ CutBuffer whole behind before) (λ piece made. (one : Buffer) →
     StagesRun r ss (text_noted noted (text_prepared p piece)) one → SameButFlags one.glyphs made) old
     new.glyphs
+
+-- what the lookups of a stage make of glyphs, in a buffer that has them
+abbrev pub glyphs_looked_up : Substitution → Stage → Buffer → List hb_glyph_info_t →
+    List hb_glyph_info_t
+glyphs_looked_up r s b gs = (stage_looked_up r s (record b { glyphs = gs })).glyphs
+
+-- A piece, with its spans, through a shaper's two stages that set syllables up and reorder them, and
+-- the stages behind: lookups of the second between the pauses, and circles as the whole has them.
+abbrev pub StagedPiece : Substitution → Stage → List Stage → Reordering → Buffer → SpannedText →
+    List hb_glyph_info_t → Type 0
+StagedPiece r second ss reordering mid piece made = (one two : Buffer) →
+    let set_up = unsafe_spans piece.spans piece.glyphs in
+    let looked = glyphs_looked_up r second mid set_up in
+    Reordered reordering (record (stage_looked_up r second mid) { glyphs = looked }) one →
+    StagesRun r ss one two → SameButFlags two.glyphs made
+
+-- A shaper's set-up, the stage that its reordering ends, and the stages behind: the text that is set
+-- up may be broken at every clear place behind the last stage, where the lookups between the two
+-- pauses leave halves side by side and take no flag.
+abbrev pub SyllabicStagesBreak : Pause → Pause →
+    (hb_ot_shape_plan_t → Font → Buffer → Reordering) → (Reordering → Buffer → Type 0) → Type 0
+SyllabicStagesBreak set_up pause by IsSo =
+    (r : Substitution) (second : Stage) (ss : List Stage) (spans unread : List Span)
+    (old mid reordered new : Buffer) → LookupsKeep r.substituted →
+    LookupsLeavePieces r.substituted → old.positions ≡ [] →
+    IsSpanned spans old →
+    Paused set_up r.plan r.font spans old mid →
+    let between = stage_looked_up r second mid in
+    let reordering = by r.plan r.font between in
+    LeavesSideBySide (glyphs_looked_up r second mid) mid.glyphs → FlagsKept between.glyphs →
+    IsSo reordering between →
+    Paused pause r.plan r.font unread between reordered →
+    (run : StagesRun r ss reordered new) →
+    AtPauses (PauseLeaves r.plan r.font) r ss reordered new run →
+    let text : SpannedText = record { spans = spans; glyphs = old.glyphs } in
+    BreaksWhereCleared SpannedText CutAtSpans (StagedPiece r second ss reordering mid) text
+    new.glyphs
+
+-- so of Khmer and Myanmar, and of Indic up to what follows its initial reordering
+abbrev pub ShaperStagesBreak : Type 0
+ShaperStagesBreak =
+    SyllabicStagesBreak SetupSyllablesKhmer ReorderKhmer by_khmer IsInOrder
+    × (SyllabicStagesBreak SetupSyllablesMyanmar ReorderMyanmar (λ plan. by_myanmar) IsInOrder
+    × SyllabicStagesBreak SetupSyllablesIndic InitialReordering by_initial IsApart)

@@ -1,6 +1,6 @@
 //! Carets, edits and breaks of a text that is shaped all the way.
 ghost use Rattle.shapers_editing.specs.EditedNormal.{NormalizedOutside};
-ghost use Rattle.shapers_editing.specs.PipelineBreaks.{MasksSetInPieces, PipelineBreaks, ShapingBreaks, StagesLeavePieces};
+ghost use Rattle.shapers_editing.specs.PipelineBreaks.{MasksSetInPieces, PipelineBreaks, ShaperStagesBreak, ShapingBreaks, StagesLeavePieces};
 ghost use Rattle.shapers_editing.specs.ShapedCarets.{ShapedTextHasCarets};
 
 use shapers_breaks::shapers_break_law;
@@ -35,6 +35,7 @@ pub fn pipeline_breaks_law()
     ensures masks { MasksSetInPieces }
     ensures texts { PipelineBreaks }
     ensures shaping { ShapingBreaks }
+    ensures syllables { ShaperStagesBreak }
 {
     shapers_break_law();
 }

@@ -1,4 +1,4 @@
-use Rattle.shapers_editing.proofs.PipelineBreaks.{masks_in_pieces, pipeline_breaks, shaping_breaks, stages_leave}
+use Rattle.shapers_editing.proofs.PipelineBreaks.{masks_in_pieces, pipeline_breaks, shaper_stages, shaping_breaks, stages_leave}
 use Rattle.shapers_editing.proofs.pipeline.pipeline_breaks_law.Goals as goal
 
 pub returns-clause-stages : goal.returns-clause-stages
@@ -12,3 +12,6 @@ returns-clause-texts c = pipeline_breaks c.shapers_break_law.ensures.by_glyph
 
 pub returns-clause-shaping : goal.returns-clause-shaping
 returns-clause-shaping c = shaping_breaks c.shapers_break_law.ensures.by_glyph
+
+pub returns-clause-syllables : goal.returns-clause-syllables
+returns-clause-syllables c = shaper_stages c.shapers_break_law.ensures.by_glyph c.shapers_break_law.ensures.laws
