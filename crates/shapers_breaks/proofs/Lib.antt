@@ -35,4 +35,5 @@ mod ChainBreakRows
 pub mod KeptInside
 pub mod FinalBreaks
 pub mod SideBySide
+pub mod ReorderedApart
 pub mod IndicChain
