@@ -1,8 +1,8 @@
 -- Clear places after Indic's initial reordering, and what its laws require, written out from the rules.
 use Prim.Native.String.{String}
-use Rattle.std.proofs.Common.{ℕ, ◌<◌, ◌≡◌, false, List, [], ◌∷◌, ◌++◌, length, map, refl, sym, arith}
+use Rattle.std.proofs.Common.{ℕ, ◌<◌, ◌≡◌, false, List, [], ◌∷◌, ◌++◌, length, map, refl, sym, arith, inl, inr, ◌⊎◌}
 use Rattle.std.proofs.lemmas.Bool.{false≢true}
-use Rattle.std.proofs.lemmas.List.Elements.{All-cons, All-head, All-nil, All-tail}
+use Rattle.std.proofs.lemmas.List.Elements.{All-cons, All-get_or, All-head, All-nil, All-tail}
 use Rattle.shapers_buffer.specs.declared.buffer.glyph.hb_glyph_info_t.{hb_glyph_info_t}
 use Rattle.shapers_buffer.specs.declared.buffer.syllables.Span.{Span}
 use Rattle.shapers_buffer.specs.declared.buffer.level.BufferClusterLevel.TheVariants.{MonotoneGraphemes}
@@ -14,12 +14,14 @@ use Rattle.shapers_indic.specs.Plan.{config_of}
 use Rattle.shapers_indic.proofs.RowWords.{C, H, M, Ra, SM, ZWJ, script}
 use Rattle.shapers_indic_final.proofs.FinalWords.{rules as final_of}
 use Rattle.shapers_indic_final.specs.FinalMatras.{parting_steps}
+use Rattle.shapers_indic_final.specs.FinalReordering.{final_steps}
 use Rattle.shapers_indic_initial.specs.InitialReordering.{initial_steps}
 use Rattle.shapers_indic_initial.specs.InitialRules.{Rules}
 use Rattle.shapers_syllabic.specs.Reordering.{text_steps}
 use Rattle.shapers_syllabic.specs.Syllabic.{unsafe_spans}
 use Rattle.shapers_breaks.specs.FinalBreaks.{OneMatraMoves}
 use Rattle.shapers_breaks.specs.IndicBreaks.{JoinerShares, SpansPartClusters}
+use Rattle.shapers_breaks.specs.IndicChain.{IsOfTwoClusters}
 use Rattle.shapers_breaks.specs.SetUp.{IsFlagged}
 use Rattle.shapers_breaks.specs.KeptTextBreaks.{FlaggedInside}
 
@@ -171,3 +173,68 @@ row_moves_one = omega arith
 row_moves_two : OneMatraMoves (final_of "Deva") (script "Deva") kept_two → ⊥
 unfolding typed kept_two
 row_moves_two h = absurd (omega (arith, h))
+
+-- three numbers are not two
+none_of_three : (b c : ℕ) → (2 ≡ b) ⊎ (2 ≡ c) → (1 ≡ b) ⊎ (1 ≡ c) → (0 ≡ b) ⊎ (0 ≡ c) → ⊥
+none_of_three b c x y z = elim x [
+  | inl p ↦ elim y [ inl q ↦ absurd (omega arith) | inr q ↦ elim z [ inl r ↦ absurd (omega arith) | inr r ↦ absurd (omega arith) ] ]
+  | inr p ↦ elim y [ inl q ↦ elim z [ inl r ↦ absurd (omega arith) | inr r ↦ absurd (omega arith) ] | inr q ↦ absurd (omega arith) ]
+]
+
+-- Both reorderings of C H, C, a below-base C and a left matra, of clusters 2 2 2 1 0. In the initial one the matra goes
+-- to the front, and the others fall to 1 and lose their flags but for the last, which the final one makes fall to 0
+-- with what stands behind the matra: C H stay in cluster 1 without a flag, and place 2 is clear
+lost : List hb_glyph_info_t
+lost = typed 2 C 4 ∷ typed 2 H 4 ∷ typed 2 C 4 ∷ typed 1 C 8 ∷ typed 0 M 2 ∷ []
+
+between : List hb_glyph_info_t
+between = typed 0 M 2 ∷ typed 1 C 3 ∷ typed 1 H 3 ∷ typed 1 C 4 ∷ record (typed 1 C 8) { mask = 3 } ∷ []
+
+row_lost : after "Deva" (unsafe_spans one lost) ≡ pairs between
+unfolding typed plain_rules pairs after one lost between
+row_lost = refl
+
+row_lost_twice : pairs (run_steps MonotoneGraphemes (final_steps (final_of "Deva") (script "Deva") between) between)
+    ≡ (1, 0) ∷ (1, 0) ∷ (0, 0) ∷ (0, 0) ∷ (0, 0) ∷ []
+unfolding typed pairs between
+row_lost_twice = refl
+
+row_not_kept : FlaggedInside between → ⊥
+unfolding typed between
+row_not_kept all =
+    let P : hb_glyph_info_t → Type 0 = λ g. 0 < g.cluster → IsFlagged g in
+    let rest = typed 1 H 3 ∷ typed 1 C 4 ∷ record (typed 1 C 8) { mask = 3 } ∷ [] in
+    let flags = All-head P (typed 1 C 3) rest (All-tail P (typed 0 M 2) (typed 1 C 3 ∷ rest) all) (omega arith) in
+    absurd (omega (arith, flags.0))
+
+row_moves_one_lost : OneMatraMoves (final_of "Deva") (script "Deva") between
+unfolding typed between
+row_moves_one_lost = omega arith
+
+-- where the syllable has two clusters it keeps its flags
+kept : List hb_glyph_info_t
+kept = typed 1 C 4 ∷ typed 1 H 4 ∷ typed 0 C 4 ∷ typed 0 C 8 ∷ typed 0 M 2 ∷ []
+
+row_kept : after "Deva" (unsafe_spans one kept) ≡ (0, 0) ∷ (1, 3) ∷ (1, 3) ∷ (0, 0) ∷ (0, 0) ∷ []
+unfolding typed plain_rules pairs after one kept
+row_kept = refl
+
+row_two : IsOfTwoClusters kept
+unfolding typed kept
+row_two =
+    let Two : hb_glyph_info_t → Type 0 = λ g. (g.cluster ≡ 1) ⊎ (g.cluster ≡ 0) in
+    (1, 0, All-cons Two (typed 1 C 4) (typed 1 H 4 ∷ typed 0 C 4 ∷ typed 0 C 8 ∷ typed 0 M 2 ∷ []) (inl refl)
+    (All-cons Two (typed 1 H 4) (typed 0 C 4 ∷ typed 0 C 8 ∷ typed 0 M 2 ∷ []) (inl refl)
+    (All-cons Two (typed 0 C 4) (typed 0 C 8 ∷ typed 0 M 2 ∷ []) (inr refl)
+    (All-cons Two (typed 0 C 8) (typed 0 M 2 ∷ []) (inr refl)
+    (All-cons Two (typed 0 M 2) [] (inr refl) (All-nil Two))))))
+
+-- and not three
+row_three : IsOfTwoClusters lost → ⊥
+unfolding typed lost
+row_three two =
+    let Two : hb_glyph_info_t → Type 0 = λ g. (g.cluster ≡ two.0) ⊎ (g.cluster ≡ two.1) in
+    let a = All-get_or Two lost 0 default_glyph (omega arith) two.2 in
+    let b = All-get_or Two lost 3 default_glyph (omega arith) two.2 in
+    let c = All-get_or Two lost 4 default_glyph (omega arith) two.2 in
+    none_of_three two.0 two.1 a b c

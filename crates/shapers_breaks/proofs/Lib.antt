@@ -37,3 +37,4 @@ pub mod FinalBreaks
 pub mod SideBySide
 pub mod ReorderedApart
 pub mod IndicChain
+mod IndicChainRows
