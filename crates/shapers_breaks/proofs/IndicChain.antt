@@ -1,9 +1,10 @@
 -- A text of Indic that is set up, reordered initially and then finally may be broken at every clear place.
-use Rattle.std.proofs.Common.{ℕ, ◌≡◌, List, ◌++◌, refl, sym, ap, ◌∙◌, subst}
+use Rattle.std.proofs.Common.{ℕ, ◌≡◌, List, ◌++◌, refl, sym, ap, ◌∙◌, subst, inl, inr}
 use Rattle.shapers_buffer.specs.declared.buffer.syllables.Span.{Span}
 use Rattle.shapers_buffer.specs.Buffer.{Buffer}
 use Rattle.shapers_buffer.specs.Clusters.{merges}
 use Rattle.shapers_buffer.specs.Glyph.{clusters}
+use Rattle.shapers_buffer.specs.Syllables.{syllables}
 use Rattle.shapers_indic.specs.Plan.{indic_in}
 use Rattle.shapers_indic_final.specs.FinalLaws.{FinalReorderLaws, FinalTextLaws, FinallyOfHalves, final_clusters}
 use Rattle.shapers_indic_final.specs.FinalRules.{final_rules}
@@ -19,10 +20,12 @@ use Rattle.shapers_breaks.specs.FinalBreaks.{FinalBroken}
 use Rattle.shapers_breaks.specs.IndicChain.{IndicBroken, IndicChainBreaks, IndicPausesBreak, InitialReorderedApart, MadeSideBySide, reordered_text}
 use Rattle.shapers_breaks.proofs.ChainBreaks.{made_cut}
 use Rattle.shapers_breaks.proofs.FinalBreaks.{final_text_breaks}
-use Rattle.shapers_breaks.specs.KeptTextBreaks.{SyllablesApart}
+use Rattle.shapers_breaks.specs.KeptTextBreaks.{FlagsKept, SyllablesApart}
 use Rattle.shapers_breaks.proofs.IndicBreaks.{set_up_apart}
+use Rattle.shapers_breaks.proofs.KeptTextBreaks.{all_flagged}
 use Rattle.shapers_breaks.proofs.ReorderedApart.{reordered_apart}
-use Rattle.shapers_breaks.proofs.SetUp.{Glyphs}
+use Rattle.shapers_breaks.proofs.SetUp.{Glyphs, set_up_guarded}
+use Rattle.shapers_breaks.proofs.SideBySide.{nothing_between}
 
 pub initial_reordered_apart : OrderByFontLaws → OrderByFontReadsNoSerials → InitialReorderedApart
 initial_reordered_apart laws reads plan font unread old new apart reordered =
@@ -111,24 +114,8 @@ indic_chain laws reads final_laws text_laws plan font spans unread first second 
     (final_text_breaks final_laws text_laws plan font unread looked new (ap merges height ∙ can.merging) finally.flags
     finally.apart finally.one done p z l clear)
 
--- nothing in between is such a change
 still : (b : Buffer) → MadeSideBySide (λ gs. gs) b b
-still b = record {
-  level = refl;
-  glyphs = refl;
-  side_by_side = record {
-    halves = λ front back text border apart. record {
-      before = front;
-      behind = back;
-      text = text;
-      border = border;
-      apart = apart;
-      first = refl;
-      second = refl;
-    };
-    serials = λ xs ys same. same;
-  };
-}
+still b = record { level = refl; glyphs = refl; side_by_side = nothing_between b.glyphs }
 
 pub indic_pauses : OrderByFontLaws → OrderByFontReadsNoSerials → FinalReorderLaws → FinalTextLaws → IndicPausesBreak
 indic_pauses laws reads final_laws text_laws plan font spans unread old mid between new can part set_up initial flags one
@@ -136,9 +123,12 @@ indic_pauses laws reads final_laws text_laws plan font spans unread old mid betw
     let apart : SyllablesApart mid.glyphs = subst (λ (b : Buffer). SyllablesApart b.glyphs) (sym set_up)
     (set_up_apart spans old can part) in
     let spanned : IsSpanned spans old = record { kinds = can.kinds; covered = can.covered; merging = can.merging } in
+    let by = initial_reordered_apart laws reads plan font unread mid between apart initial in
+    let kept : FlagsKept mid.glyphs = subst (λ (b : Buffer). FlagsKept b.glyphs) (sym set_up)
+    (all_flagged (syllables (unsafe_spans spans old.glyphs)) (set_up_guarded spans old.glyphs can.kinds can.covered).whole) in
     indic_chain laws reads final_laws text_laws plan font spans unread (λ gs. gs) (λ gs. gs) old mid mid between between
     new spanned set_up (still mid) apart initial (still between) (record {
-      flags = flags;
-      apart = (initial_reordered_apart laws reads plan font unread mid between apart initial).apart;
+      flags = elim flags [ inl left ↦ left | inr two ↦ by.flags kept two ];
+      apart = by.apart;
       one = one;
     }) done

@@ -34,6 +34,21 @@ use Rattle.shapers_breaks.proofs.CircledBorders.{OpenedBorder, length-paused, op
 use Rattle.shapers_breaks.proofs.KeptTextBreaks.{apart_pieces, broken_there}
 use Rattle.shapers_breaks.proofs.SetUp.{Glyphs}
 
+-- nothing in between leaves results side by side
+pub nothing_between : (gs : Glyphs) → LeavesSideBySide (λ gs. gs) gs
+nothing_between gs = record {
+  halves = λ front back text border apart. record {
+    before = front;
+    behind = back;
+    text = text;
+    border = border;
+    apart = apart;
+    first = refl;
+    second = refl;
+  };
+  serials = λ xs ys same. same;
+}
+
 -- glyphs are what they show and what they carry along
 abbrev combined : Glyphs → Glyphs → Glyphs
 combined os cs = map (λ glyph. carrying glyph.0 glyph.1) (zip os cs)

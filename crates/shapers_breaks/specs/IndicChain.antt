@@ -130,7 +130,7 @@ IndicChainBreaks = (plan : hb_ot_shape_plan_t) (font : Font) (spans unread : Lis
     old.glyphs new.glyphs
 
 -- The three directly behind one another: where clusters rise or fall, and each border of spans is
--- one of clusters, syllables share none.
+-- one of clusters, syllables share none. They keep their flags if they are of two clusters.
 abbrev pub IndicPausesBreak : Type 0
 IndicPausesBreak = (plan : hb_ot_shape_plan_t) (font : Font) (spans unread : List Span)
     (old mid between new : Buffer) → CanBreak spans old → SpansPartClusters spans old.glyphs →
@@ -138,7 +138,7 @@ IndicPausesBreak = (plan : hb_ot_shape_plan_t) (font : Font) (spans unread : Lis
     Paused InitialReordering plan font unread mid between →
     let r = by_initial plan font mid in
     let rules = final_rules font (indic_in plan) in
-    FlagsKept between.glyphs →
+    FlagsKept between.glyphs ⊎ AllByRecursion IsOfTwoClusters (syllables mid.glyphs) →
     AllByRecursion (OneMatraMoves rules between.script) (syllables (order_view between.glyphs)) →
     Paused FinalReordering plan font unread between new →
     IndicBreaks (before_final (λ gs. gs) (λ gs. gs) r old.level) rules between.script old.level
