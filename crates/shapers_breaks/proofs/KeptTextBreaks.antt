@@ -14,7 +14,7 @@ use Rattle.shapers_buffer.specs.Glyph.{clusters, default_glyph, order_view, plai
 use Rattle.shapers_buffer.specs.Syllables.{syllables}
 use Rattle.shapers_clusters.specs.Cuts.{IsMonotone, ShareNone}
 use Rattle.shapers_clusters.specs.Steps.{MovesMerged, Permutes, Step}
-use Rattle.shapers_clusters.proofs.ClusterMerges.{least-le}
+use Rattle.shapers_clusters.proofs.ClusterMerges.{least-among, least-le}
 use Rattle.shapers_syllabic.specs.Circles.{circled}
 use Rattle.shapers_syllabic.specs.Reordering.{PauseReordered}
 use Rattle.shapers_syllabic.specs.ReorderingLaws.{MoveMerged, ReorderLaws}
@@ -51,6 +51,24 @@ whole_syllable gs h =
 pub all_whole : (pieces : List Glyphs) → AllByRecursion FlaggedInside pieces → AllByRecursion IsWhole pieces
 all_whole [] h = tt
 all_whole (q ∷ qs) h = (whole_syllable q h.0, all_whole qs h.1)
+
+-- and whole syllables have their flags
+flagged_inside : (gs : Glyphs) → IsWhole gs → FlaggedInside gs
+flagged_inside gs whole =
+    let m = whole.0 in
+    let low = least (clusters gs) in
+    let cluster : hb_glyph_info_t → ℕ = λ g. g.cluster in
+    let n = length-map gs cluster in
+    All-from_get_or (λ (g : hb_glyph_info_t). low < g.cluster → IsFlagged g) gs default_glyph (λ i l above.
+    let at = least-among (clusters gs) (omega (arith, n, l)) in
+    let is = get_or-map cluster gs at.0 default_glyph 0 (omega (arith, n, at.1)) in
+    let first = All-get_or (LeastOrFlagged m) gs at.0 default_glyph (omega (arith, n, at.1)) whole.1 in
+    (All-get_or (LeastOrFlagged m) gs i default_glyph l whole.1).1
+    (λ e. absurd (omega (arith, e, above, at.2, is, first.0))))
+
+pub all_flagged : (pieces : List Glyphs) → AllByRecursion IsWhole pieces → AllByRecursion FlaggedInside pieces
+all_flagged [] h = tt
+all_flagged (q ∷ qs) h = (flagged_inside q h.0, all_flagged qs h.1)
 
 -- halves of syllables that are apart
 pub apart_pieces : (gs : Glyphs) → SyllablesApart gs → ApartAtBorders (syllables gs)

@@ -35,7 +35,9 @@ mod ChainBreakRows
 pub mod KeptInside
 pub mod FinalBreaks
 pub mod SideBySide
+pub mod ReorderedApart
 pub mod IndicChain
+mod IndicChainRows
 pub mod Pieces
 pub mod HookPieces
 pub mod SyllabicPieces

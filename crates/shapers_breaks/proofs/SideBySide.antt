@@ -9,6 +9,7 @@ use Rattle.std.proofs.lemmas.List.Folds.{flat_map-map}
 use Rattle.std.proofs.lemmas.List.Sorted.{All-permutation, IsPermutation-map}
 use Rattle.shapers_buffer.specs.declared.buffer.glyph.hb_glyph_info_t.{hb_glyph_info_t}
 use Rattle.shapers_buffer.specs.declared.buffer.level.BufferClusterLevel.{BufferClusterLevel}
+use Rattle.shapers_buffer.specs.declared.buffer.level.BufferClusterLevel.TheVariants.{MonotoneGraphemes}
 use Rattle.shapers_buffer.specs.Buffer.{Buffer}
 use Rattle.shapers_buffer.specs.Glyph.{default_glyph, order_view, plain, without_flags}
 use Rattle.shapers_buffer.specs.Syllables.{syllables}
@@ -24,14 +25,29 @@ use Rattle.shapers_syllabic.proofs.Borders.{OfByte, bytes, one_run, syllables-ap
 use Rattle.shapers_syllabic.proofs.CircleLaws.{joined-syllables}
 use Rattle.shapers_syllabic.proofs.ReorderingLaws.{each_piece, nothing_lost, sum-syllables, text_steps-long}
 use Rattle.shapers_syllabic.proofs.ReorderingWalk.{length-meaning, pieces_of}
-use Rattle.shapers_syllabic.proofs.Serials.{same-circled, same-view, serials_dont_count}
+use Rattle.shapers_syllabic.proofs.Serials.{same-circled, serials_dont_count}
 use Rattle.rustybuzz_shapers.specs.Pauses.{Reordered, Reordering}
-use Rattle.shapers_breaks.specs.ChainBreaks.{LeavesSideBySide, MadeOfHalves}
+use Rattle.shapers_breaks.specs.ChainBreaks.{LeavesSideBySide}
 use Rattle.shapers_breaks.specs.IndicChain.{carrying, reordered_text}
 use Rattle.shapers_breaks.specs.KeptTextBreaks.{SyllablesApart}
 use Rattle.shapers_breaks.proofs.CircledBorders.{OpenedBorder, length-paused, opened_piece, syllables-circled}
 use Rattle.shapers_breaks.proofs.KeptTextBreaks.{apart_pieces, broken_there}
 use Rattle.shapers_breaks.proofs.SetUp.{Glyphs}
+
+-- nothing in between leaves results side by side
+pub nothing_between : (gs : Glyphs) → LeavesSideBySide (λ gs. gs) gs
+nothing_between gs = record {
+  halves = λ front back text border apart. record {
+    before = front;
+    behind = back;
+    text = text;
+    border = border;
+    apart = apart;
+    first = refl;
+    second = refl;
+  };
+  serials = λ xs ys same. same;
+}
 
 -- glyphs are what they show and what they carry along
 abbrev pub combined : Glyphs → Glyphs → Glyphs
@@ -57,10 +73,10 @@ bytes-combined (o ∷ os) [] same = absurd (omega (arith, same))
 bytes-combined (o ∷ os) (c ∷ cs) same = ap (λ l. o.syllable ∷ l) (bytes-combined os cs (omega (arith, same)))
 
 -- how long pieces are
-abbrev lens : List Glyphs → List ℕ
+abbrev pub lens : List Glyphs → List ℕ
 lens pieces = map (λ (q : Glyphs). length q) pieces
 
-lens_kept : (f : Glyphs → Glyphs) → ((q : Glyphs) → length (f q) ≡ length q) → (pieces : List Glyphs)
+pub lens_kept : (f : Glyphs → Glyphs) → ((q : Glyphs) → length (f q) ≡ length q) → (pieces : List Glyphs)
     → lens (map f pieces) ≡ lens pieces
 lens_kept f same [] = refl
 lens_kept f same (q ∷ qs) = ap (λ n. n ∷ lens (map f qs)) (same q) ∙ ap (λ ns. length q ∷ ns) (lens_kept f same qs)
@@ -95,31 +111,30 @@ joined_long (p ∷ ps) (q ∷ qs) same (suc k) =
     ∙ omega (arith, ap (λ l. get_or l 0 0) same, joined_long ps qs (ap (drop 1) same) k)
     ∙ sym (length-append q (flat_map (λ q. q) (take k qs)))
 
--- syllables as long as others, whose texts are the same but for serials
-pieces_by_lens : (ps qs : List Glyphs) → lens ps ≡ lens qs → map unnumbered (flat_map (λ q. q) ps)
-    ≡ map unnumbered (flat_map (λ q. q) qs) → map (map unnumbered) ps ≡ map (map unnumbered) qs
-pieces_by_lens [] [] long same = refl
-pieces_by_lens [] (q ∷ qs) long same = absurd (omega (arith, ap length long))
-pieces_by_lens (p ∷ ps) [] long same = absurd (omega (arith, ap length long))
-pieces_by_lens (p ∷ ps) (q ∷ qs) long same =
+-- pieces as long as others, whose texts look the same
+pub pieces_by_lens : (view : hb_glyph_info_t → hb_glyph_info_t) (ps qs : List Glyphs) → lens ps ≡ lens qs
+    → map view (flat_map (λ q. q) ps) ≡ map view (flat_map (λ q. q) qs) → map (map view) ps ≡ map (map view) qs
+pieces_by_lens view [] [] long same = refl
+pieces_by_lens view [] (q ∷ qs) long same = absurd (omega (arith, ap length long))
+pieces_by_lens view (p ∷ ps) [] long same = absurd (omega (arith, ap length long))
+pieces_by_lens view (p ∷ ps) (q ∷ qs) long same =
     let n = length p in
-    let rest = map unnumbered (flat_map (λ q. q) ps) in
-    let more = map unnumbered (flat_map (λ q. q) qs) in
+    let rest = map view (flat_map (λ q. q) ps) in
+    let more = map view (flat_map (λ q. q) qs) in
     let first : n ≡ length q = ap (λ l. get_or l 0 0) long in
-    let pn : length (map unnumbered p) ≡ n = length-map p unnumbered in
-    let qn : length (map unnumbered q) ≡ n = length-map q unnumbered ∙ sym first in
-    let all : map unnumbered p ++ rest ≡ map unnumbered q ++ more = sym (map-append unnumbered p (flat_map (λ q. q) ps))
-    ∙ same ∙ map-append unnumbered q (flat_map (λ q. q) qs) in
-    let a : map unnumbered p ≡ map unnumbered q = sym (take_at (map unnumbered p) rest n pn) ∙ ap (take n) all
-    ∙ take_at (map unnumbered q) more n qn in
-    let b : rest ≡ more = sym (drop_at (map unnumbered p) rest n pn) ∙ ap (drop n) all
-    ∙ drop_at (map unnumbered q) more n qn in
-    ap (λ x. x ∷ map (map unnumbered) ps) a ∙ ap (λ l. map unnumbered q ∷ l)
-    (pieces_by_lens ps qs (ap (drop 1) long) b)
+    let pn : length (map view p) ≡ n = length-map p view in
+    let qn : length (map view q) ≡ n = length-map q view ∙ sym first in
+    let all : map view p ++ rest ≡ map view q ++ more = sym (map-append view p (flat_map (λ q. q) ps))
+    ∙ same ∙ map-append view q (flat_map (λ q. q) qs) in
+    let a : map view p ≡ map view q = sym (take_at (map view p) rest n pn) ∙ ap (take n) all
+    ∙ take_at (map view q) more n qn in
+    let b : rest ≡ more = sym (drop_at (map view p) rest n pn) ∙ ap (drop n) all
+    ∙ drop_at (map view q) more n qn in
+    ap (λ x. x ∷ map (map view) ps) a ∙ ap (λ l. map view q ∷ l) (pieces_by_lens view ps qs (ap (drop 1) long) b)
 
 same_by_lens : (xs ys : Glyphs) → lens (syllables xs) ≡ lens (syllables ys) → map unnumbered xs ≡ map unnumbered ys
     → SameButSerials xs ys
-same_by_lens xs ys long same = pieces_by_lens (syllables xs) (syllables ys) long
+same_by_lens xs ys long same = pieces_by_lens unnumbered (syllables xs) (syllables ys) long
     (ap (map unnumbered) (joined-syllables xs) ∙ same ∙ sym (ap (map unnumbered) (joined-syllables ys)))
 
 lens_same : (xs ys : Glyphs) → SameButSerials xs ys → lens (syllables xs) ≡ lens (syllables ys)
@@ -169,8 +184,14 @@ lens_ordered meaning steps laws circles gs =
     ∙ lens_kept meaning (length-meaning meaning steps laws) (syllables (order_view xs))
     ∙ lens_viewed plain (λ g. refl) xs
 
+pub lens_after : (meaning : Glyphs → Glyphs) (steps : Glyphs → List Step) → ReorderLaws meaning steps
+    → (circles : Option DottedCircles) (old new : Buffer) → PauseReordered circles meaning steps old new
+    → lens (syllables new.glyphs) ≡ lens (syllables (circled circles old.glyphs))
+lens_after meaning steps laws circles old new done = sym (lens_viewed plain (λ g. refl) new.glyphs)
+    ∙ ap (λ gs. lens (syllables gs)) done.order ∙ lens_ordered meaning steps laws circles old.glyphs
+
 -- A border of syllables after a reordering is one before it.
-border_before : (meaning : Glyphs → Glyphs) (steps : Glyphs → List Step) → ReorderLaws meaning steps
+pub border_before : (meaning : Glyphs → Glyphs) (steps : Glyphs → List Step) → ReorderLaws meaning steps
     → (circles : Option DottedCircles) (old new : Buffer) → PauseReordered circles meaning steps old new
     → (front back : Glyphs) → new.glyphs ≡ front ++ back → MeetAtBorder front back
     → OpenedBorder circles old.glyphs (length front)
@@ -180,9 +201,7 @@ border_before meaning steps laws circles old new done front back text border =
     let pieces = syllables old.glyphs in
     let after = syllables new.glyphs in
     let k = length (syllables front) in
-    let long : lens after ≡ lens (map F pieces) = sym (lens_viewed plain (λ g. refl) new.glyphs)
-    ∙ ap (λ gs. lens (syllables gs)) done.order
-    ∙ lens_ordered meaning steps laws circles old.glyphs
+    let long : lens after ≡ lens (map F pieces) = lens_after meaning steps laws circles old new done
     ∙ ap lens (syllables-circled circles old.glyphs) in
     let parts : after ≡ syllables front ++ syllables back = ap syllables text ∙ syllables-append front back border in
     let taken : take k after ≡ syllables front = ap (take k) parts
@@ -205,19 +224,27 @@ border_before meaning steps laws circles old new done front back text border =
           ∙ ap length (joined-syllables front);
     }
 
+-- the steps of a text with its circles
+pub pause_fits : (meaning : Glyphs → Glyphs) (steps : Glyphs → List Step) → ReorderLaws meaning steps
+    → (circles : Option DottedCircles) (gs : Glyphs)
+    → FitSteps (length (circled circles gs)) (text_steps steps (order_view (circled circles gs)))
+pause_fits meaning steps laws circles gs =
+    let zs = circled circles gs in
+    let xs = order_view zs in
+    let ps = pieces_of steps (syllables xs) in
+    let sum : sum_by (λ piece. piece.0) ps ≤ length zs = omega (arith, sum-syllables steps xs, length-map zs plain) in
+    let along = along_holds MonotoneGraphemes ps zs sum (each_piece FitsStep steps laws.fits (syllables xs)) in
+    subst (FitSteps (length zs)) (sym (text_steps-long steps zs)) along.fit
+
 -- as many glyphs are carried along as are shown
 pub long_carried : (meaning : Glyphs → Glyphs) (steps : Glyphs → List Step) → ReorderLaws meaning steps
     → (circles : Option DottedCircles) (level : BufferClusterLevel) (gs : Glyphs)
     → length (paused_carried circles steps level gs) ≡ length (paused_order circles meaning gs)
 long_carried meaning steps laws circles level gs =
     let zs = circled circles gs in
-    let xs = order_view zs in
-    let sts = text_steps steps xs in
-    let ps = pieces_of steps (syllables xs) in
-    let sum : sum_by (λ piece. piece.0) ps ≤ length zs = omega (arith, sum-syllables steps xs, length-map zs plain) in
-    let along = along_holds level ps zs sum (each_piece FitsStep steps laws.fits (syllables xs)) in
-    let fits : FitSteps (length zs) sts = subst (FitSteps (length zs)) (sym (text_steps-long steps zs)) along.fit in
-    length-map (run_steps level sts zs) carried ∙ (steps_hold level sts zs fits).same_length
+    let sts = text_steps steps (order_view zs) in
+    length-map (run_steps level sts zs) carried
+    ∙ (steps_hold level sts zs (pause_fits meaning steps laws circles gs)).same_length
     ∙ sym (length-paused meaning steps laws circles gs)
 
 -- texts that are the same but for serials become such

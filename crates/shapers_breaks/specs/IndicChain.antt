@@ -1,5 +1,5 @@
 -- Where a text of Indic may be broken that is set up, reordered initially and then finally.
-use Rattle.std.specs.Prelude.{ℕ, ◌+◌, ◌<◌, ◌≡◌, List, ◌++◌, Option, length, map}
+use Rattle.std.specs.Prelude.{ℕ, ◌+◌, ◌<◌, ◌≡◌, ◌⊎◌, List, ◌++◌, All, Option, length, map}
 use Rattle.std.specs.List.{AllByRecursion, zip}
 use Rattle.shapers_buffer.specs.declared.buffer.glyph.hb_glyph_info_t.{hb_glyph_info_t}
 use Rattle.shapers_buffer.specs.declared.buffer.level.BufferClusterLevel.{BufferClusterLevel}
@@ -21,7 +21,7 @@ use Rattle.shapers_indic_final.specs.declared.ot_shaper_indic_final.rules.Rules.
 use Rattle.shapers_syllabic.specs.Borders.{SameButSerials}
 use Rattle.shapers_syllabic.specs.ReorderingLaws.{paused_carried, paused_order}
 use Rattle.shapers_syllabic.specs.Syllabic.{unsafe_spans}
-use Rattle.rustybuzz_shapers.specs.Pauses.{Paused, Reordered, Reordering, by_initial}
+use Rattle.rustybuzz_shapers.specs.Pauses.{Paused, Reordering, by_initial}
 use Rattle.shapers_breaks.specs.ChainBreaks.{IsSpanned, LeavesSideBySide}
 use Rattle.shapers_breaks.specs.FinalBreaks.{OneMatraMoves}
 use Rattle.shapers_breaks.specs.IndicBreaks.{SpansPartClusters}
@@ -39,20 +39,34 @@ abbrev pub reordered_text : Reordering → BufferClusterLevel → List hb_glyph_
 reordered_text r level gs = map (λ glyph. carrying glyph.0 glyph.1)
     (zip (paused_order r.circles r.order gs) (paused_carried r.circles r.steps level gs))
 
--- Lookups made the glyphs of the one buffer of the other's, and left the halves' results side by
--- side; flags may be lost.
+-- The glyphs of the one buffer were made of the other's, by lookups or a reordering, and the halves'
+-- results left side by side; flags may be lost.
 pub record MadeSideBySide (lookups : List hb_glyph_info_t → List hb_glyph_info_t) (old new :
     Buffer) : Type 0 where
   pub level : new.level ≡ old.level
   pub glyphs : new.glyphs ≡ lookups old.glyphs
   pub side_by_side : LeavesSideBySide lookups old.glyphs
 
--- The initial reordering is such a change itself, where syllables share no cluster.
-abbrev pub InitialSideBySide : Type 0
-InitialSideBySide = (plan : hb_ot_shape_plan_t) (font : Font) (unread : List Span)
+-- all glyphs of the syllable are in one of two clusters
+abbrev pub IsOfTwoClusters : List hb_glyph_info_t → Type 0
+IsOfTwoClusters syllable =
+    (b : ℕ) × (c : ℕ) × All (λ g. (g.cluster ≡ b) ⊎ (g.cluster ≡ c)) syllable
+
+-- A reordering of syllables that share no cluster: it makes its text and leaves the halves' results
+-- side by side, the syllables share none behind it, and where none of them had more than two, those
+-- that kept their flags keep them.
+pub record ReorderedApart (r : Reordering) (old new : Buffer) : Type 0 where
+  pub made : MadeSideBySide (reordered_text r old.level) old new
+  pub apart : SyllablesApart new.glyphs
+  pub flags : FlagsKept old.glyphs → AllByRecursion IsOfTwoClusters (syllables old.glyphs) →
+      FlagsKept new.glyphs
+
+-- so the initial one
+abbrev pub InitialReorderedApart : Type 0
+InitialReorderedApart = (plan : hb_ot_shape_plan_t) (font : Font) (unread : List Span)
     (old new : Buffer) → SyllablesApart old.glyphs →
     Paused InitialReordering plan font unread old new →
-    MadeSideBySide (reordered_text (by_initial plan font old) old.level) old new
+    ReorderedApart (by_initial plan font old) old new
 
 -- What stands before the final reordering: its syllables kept their flags and share no cluster, and
 -- in each at most one left matra moves.
@@ -116,7 +130,7 @@ IndicChainBreaks = (plan : hb_ot_shape_plan_t) (font : Font) (spans unread : Lis
     old.glyphs new.glyphs
 
 -- The three directly behind one another: where clusters rise or fall, and each border of spans is
--- one of clusters, syllables share none.
+-- one of clusters, syllables share none. They keep their flags if they are of two clusters.
 abbrev pub IndicPausesBreak : Type 0
 IndicPausesBreak = (plan : hb_ot_shape_plan_t) (font : Font) (spans unread : List Span)
     (old mid between new : Buffer) → CanBreak spans old → SpansPartClusters spans old.glyphs →
@@ -124,7 +138,7 @@ IndicPausesBreak = (plan : hb_ot_shape_plan_t) (font : Font) (spans unread : Lis
     Paused InitialReordering plan font unread mid between →
     let r = by_initial plan font mid in
     let rules = final_rules font (indic_in plan) in
-    FlagsKept between.glyphs →
+    FlagsKept between.glyphs ⊎ AllByRecursion IsOfTwoClusters (syllables mid.glyphs) →
     AllByRecursion (OneMatraMoves rules between.script) (syllables (order_view between.glyphs)) →
     Paused FinalReordering plan font unread between new →
     IndicBreaks (before_final (λ gs. gs) (λ gs. gs) r old.level) rules between.script old.level

@@ -10,6 +10,7 @@ ghost use Rattle.shapers_breaks.specs.FinalBreaks.{FinalTextBreaks};
 ghost use Rattle.shapers_breaks.specs.HangulBreaks.{HangulBreaksLaw};
 ghost use Rattle.shapers_breaks.specs.HangulSound.{HangulSoundBreaksLaw};
 ghost use Rattle.shapers_breaks.specs.IndicBreaks.{InitialPausesBreak, InitialTextBreaks};
+ghost use Rattle.shapers_breaks.specs.IndicChain.{IndicChainBreaks, IndicPausesBreak, InitialReorderedApart};
 ghost use Rattle.shapers_breaks.specs.KeptFlags.{AddedFlagsClearNone, PausesClearNone};
 ghost use Rattle.shapers_breaks.specs.MarkBreaks.{MarksBreakLaw};
 ghost use Rattle.shapers_breaks.specs.PauseBreaks.{PausesBreakLaw};
@@ -154,6 +155,21 @@ pub fn chain_breaks_law()
 pub fn final_breaks_law()
     ensures { FinalTextBreaks }
 {
+    final_reorder_laws();
+    final_text_laws();
+}
+
+/// The set-up of Indic and both reorderings, directly behind one another or with lookups in between
+/// that leave the halves' results side by side, may be broken at every clear place, where syllables
+/// share no cluster before either reordering and kept their flags before the final one, and in each
+/// at most one left matra moves there. Syllables of at most two clusters keep their flags.
+pub fn indic_breaks_law()
+    ensures chain { IndicChainBreaks }
+    ensures pauses { IndicPausesBreak }
+    ensures initial { InitialReorderedApart }
+{
+    initial_reorder_laws();
+    order_by_font_reads_no_serials();
     final_reorder_laws();
     final_text_laws();
 }
