@@ -34,3 +34,4 @@ pub mod ChainBreaks
 mod ChainBreakRows
 pub mod KeptInside
 pub mod FinalBreaks
+pub mod SideBySide

@@ -61,7 +61,7 @@ length-bytes gs hs same =
     let byte : hb_glyph_info_t → ℕ = λ g. g.syllable in
     sym (length-map gs byte) ∙ ap length same ∙ length-map hs byte
 
-meet_same : (gs hs xs ys : Glyphs) → bytes xs ≡ bytes gs → bytes ys ≡ bytes hs → MeetAtBorder gs hs
+pub meet_same : (gs hs xs ys : Glyphs) → bytes xs ≡ bytes gs → bytes ys ≡ bytes hs → MeetAtBorder gs hs
     → MeetAtBorder xs ys
 meet_same gs hs xs ys a b border some more same =
     let m = length-bytes xs gs a in

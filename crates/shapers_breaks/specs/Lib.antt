@@ -15,3 +15,4 @@ pub mod KeptTextBreaks
 pub mod IndicBreaks
 pub mod ChainBreaks
 pub mod FinalBreaks
+pub mod UniversalChain
