@@ -35,3 +35,4 @@ mod ChainBreakRows
 pub mod KeptInside
 pub mod FinalBreaks
 pub mod SideBySide
+pub mod ErasedCircles

@@ -351,7 +351,7 @@ pairs_kept m before i (p ∷ ps) (q ∷ qs) k =
     ∙ ap (λ l. pair_in m before i p ps ++ l) (pairs_kept m (joins_runs p) (i + length p) ps qs k.1)
 
 -- no syllable is empty
-none_empty : (ps : List Glyphs) → Cut ps → AllByRecursion (λ p. 0 < length p) ps
+pub none_empty : (ps : List Glyphs) → Cut ps → AllByRecursion (λ p. 0 < length p) ps
 none_empty [] u = tt
 none_empty (p ∷ ps) u = (u.0.1.some, none_empty ps u.2)
 
