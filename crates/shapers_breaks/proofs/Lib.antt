@@ -36,3 +36,4 @@ pub mod KeptInside
 pub mod FinalBreaks
 pub mod SideBySide
 pub mod ErasedCircles
+pub mod UniversalChain

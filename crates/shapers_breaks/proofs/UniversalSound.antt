@@ -475,7 +475,7 @@ flags_hidden arabic m gs = map-forms_flagged (with_mask_by without_flags)
     (λ g. ap (λ n. let r : hb_glyph_info_t = record g { mask = n } in r) (without_flags-or g.mask 3 refl))
     arabic Sound m gs
 
-sound_at : (kept : PlanData) (m : Map) (spans : List Span) (old : Buffer) (p : ℕ) → All (λ span. span.kind ≤ 15) spans
+pub sound_at : (kept : PlanData) (m : Map) (spans : List Span) (old : Buffer) (p : ℕ) → All (λ span. span.kind ≤ 15) spans
     → spans_cover (length old.glyphs) spans ≡ true → arabic_of kept ≡ None → FormsOffFlags None m → 0 < p
     → p < length old.glyphs
     → IsClear (forms_flagged (arabic_of kept) Sound m (set_up_by_spans kept m spans old.glyphs)) p → SpanBorder spans p
