@@ -15,7 +15,7 @@ use Rattle.shapers_buffer.specs.Syllables.{syllables}
 use Rattle.shapers_clusters.specs.Breaks.{IsClear}
 use Rattle.shapers_clusters.specs.Cuts.{IsMonotone, ShareNone}
 use Rattle.shapers_clusters.specs.Steps.{MovesMerged, Permutes, Step}
-use Rattle.shapers_clusters.proofs.ClusterMerges.{least-le}
+use Rattle.shapers_clusters.proofs.ClusterMerges.{least-among, least-le}
 use Rattle.shapers_syllabic.specs.Circles.{circled}
 use Rattle.shapers_syllabic.specs.Reordering.{PauseReordered}
 use Rattle.shapers_syllabic.specs.ReorderingLaws.{MoveMerged, ReorderLaws}
@@ -53,6 +53,24 @@ whole_syllable gs h =
 pub all_whole : (pieces : List Glyphs) → AllByRecursion FlaggedInside pieces → AllByRecursion IsWhole pieces
 all_whole [] h = tt
 all_whole (q ∷ qs) h = (whole_syllable q h.0, all_whole qs h.1)
+
+-- and the other way round
+inside_whole : (gs : Glyphs) → IsWhole gs → FlaggedInside gs
+inside_whole gs h =
+    let d = default_glyph in
+    let m = least (clusters gs) in
+    let cluster : hb_glyph_info_t → ℕ = λ g. g.cluster in
+    let n = length-map gs cluster in
+    All-from_get_or (λ g. m < g.cluster → IsFlagged g) gs d (λ i l.
+    let (k, kl, is) = least-among (clusters gs) (omega arith) in
+    let low = All-get_or (LeastOrFlagged h.0) gs k d (omega arith) h.1 in
+    let own = All-get_or (LeastOrFlagged h.0) gs i d l h.1 in
+    let at = get_or-map cluster gs k d 0 (omega arith) in
+    λ more. own.1 (λ e. absurd (omega (arith, low.0, e, more, is, at))))
+
+pub all_inside : (pieces : List Glyphs) → AllByRecursion IsWhole pieces → AllByRecursion FlaggedInside pieces
+all_inside [] h = tt
+all_inside (q ∷ qs) h = (inside_whole q h.0, all_inside qs h.1)
 
 -- halves of syllables that are apart
 pub apart_pieces : (gs : Glyphs) → SyllablesApart gs → ApartAtBorders (syllables gs)

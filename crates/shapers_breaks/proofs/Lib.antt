@@ -34,6 +34,6 @@ pub mod ChainBreaks
 mod ChainBreakRows
 pub mod KeptInside
 pub mod FinalBreaks
-pub mod SideBySide
+pub mod BetweenPauses
 pub mod ErasedCircles
 pub mod UniversalChain

@@ -1,6 +1,6 @@
 -- A set-up of the universal shaper, lookups that leave results side by side, and its reordering may be broken at every
 -- clear place, with Sound masks of forms included.
-use Rattle.std.proofs.Common.{ℕ, ◌-◌, ◌%◌, ◌/◌, ◌≤◌, ◌≡◌, true, bit_and, List, [], ◌∷◌, ◌++◌, length, map, take, drop, refl, sym, ap, ◌∙◌, subst, arith, length-append, length-drop}
+use Rattle.std.proofs.Common.{ℕ, ◌-◌, ◌%◌, ◌/◌, ◌≤◌, ◌≡◌, true, bit_and, List, [], ◌∷◌, ◌++◌, length, map, take, drop, refl, sym, ap, ◌∙◌, subst, arith, length-append, length-drop, zero, suc, ◌<◌}
 use Rattle.std.specs.Prelude.{Option, None, Some}
 use Rattle.std.specs.List.{All, flat_map}
 use Rattle.std.proofs.lemmas.List.{drop-map, drop_at, length-map, length-take-le, map-append, take-append-drop, take-map, take_at}
@@ -19,7 +19,8 @@ use Rattle.shapers_base.specs.declared.plan.arabic.arabic_shape_plan_t.{arabic_s
 use Rattle.shapers_base.specs.declared.plan.breaks.BreakFlags.{BreakFlags}
 use Rattle.shapers_base.specs.declared.plan.breaks.BreakFlags.TheVariants.{AsCode, Sound}
 use Rattle.shapers_base.specs.declared.plan.hb_ot_shape_plan_t.{hb_ot_shape_plan_t}
-use Rattle.shapers_clusters.specs.Cuts.{ShareNone}
+use Rattle.shapers_clusters.specs.Breaks.{IsClear}
+use Rattle.shapers_clusters.specs.Cuts.{IsMonotone, ShareNone}
 use Rattle.shapers_clusters.specs.Steps.{Step}
 use Rattle.shapers_clusters.proofs.ClearPlaces.{length-same}
 use Rattle.shapers_clusters.proofs.Merging.{without_flags-twice}
@@ -45,10 +46,12 @@ use Rattle.shapers_breaks.specs.KeptTextBreaks.{KeptTextBroken}
 use Rattle.shapers_breaks.specs.PauseBreaks.{BrokenBetweenSpans, SpanCut}
 use Rattle.shapers_breaks.specs.ScriptBreaks.{FormsOffFlags}
 use Rattle.shapers_breaks.specs.SetUp.{SpanBorder}
-use Rattle.shapers_breaks.specs.UniversalChain.{ReadsOnly, UniversalChainBreaks, set_up_under, without_glyph_flags}
-use Rattle.shapers_breaks.proofs.KeptTextBreaks.{text_breaks}
+use Rattle.shapers_breaks.specs.UniversalChain.{ReadsOnly, UniversalChainBreaks, UniversalSoundChainBreaks, UniversalSoundPausesBreak, set_up_under, without_glyph_flags}
+use Rattle.shapers_breaks.proofs.KeptTextBreaks.{all_inside, text_breaks, text_breaks_clear}
+use Rattle.shapers_breaks.proofs.ScriptBreaks.{monotone_circled}
 use Rattle.shapers_breaks.proofs.SetUp.{Glyphs, IsGuarded, cover_cut, set_up_guarded, span_border}
 use Rattle.shapers_breaks.proofs.UniversalSetUp.{KeepShapes, clusters_kept, flagged_kept, guarded_kept, long_kept}
+use Rattle.shapers_breaks.proofs.UniversalSound.{sound_at}
 
 -- texts that are the same in a view of their masks, serials apart
 abbrev SameBy : (ℕ → ℕ) → Glyphs → Glyphs → Type 0
@@ -404,3 +407,117 @@ universal_chain laws inside reads masks plan font spans unread lookups old mid b
     (set_up_under plan) spans old.glyphs between new done
     (subst (λ (v : hb_glyph_info_t → hb_glyph_info_t). ReadsOnly v lookups) (unformed_is arabic m) only) p b made.before
     made.behind made.first made.second cut))
+
+-- With Sound, where the text was clear: masks of forms included.
+clear_some : (gs : Glyphs) (p : ℕ) → IsClear gs p → 0 < p
+clear_some gs zero clear = absurd (clear.differ refl)
+clear_some gs (suc p) clear = omega arith
+
+sound_halves : (kept : PlanData) (m : Map) (spans : List Span) (old whole : Buffer) (before behind : Glyphs) → All
+    (λ span. span.kind ≤ 15) spans → spans_cover (length old.glyphs) spans ≡ true → arabic_of kept ≡ None
+    → FormsOffFlags (arabic_of kept) m → whole ≡ with_forms_flagged Sound kept m (syllables_set_up kept m spans old)
+    → whole.glyphs ≡ before ++ behind → MeetAtBorder before behind → ShareNone before behind
+    → length before < length whole.glyphs → IsClear whole.glyphs (length before)
+    → MidCut without_flags (λ is xs. forms_flagged (arabic_of kept) Sound m (set_up_by_spans kept m is xs)) spans
+    old.glyphs before behind
+sound_halves kept m spans old whole before behind kinds covers none off set_up text border apart inside clear =
+    let U : List Span → Glyphs → Glyphs = λ is xs. forms_flagged (arabic_of kept) Sound m (set_up_by_spans kept m is xs) in
+    let n = length before in
+    let made : SetUpText spans old.glyphs whole.glyphs = subst (λ (b : Buffer). SetUpText spans old.glyphs b.glyphs)
+    (sym set_up) (universal_text Sound kept m spans old kinds covers off) in
+    let spot = text_border spans whole.glyphs before behind made.guarded text border in
+    let cluster : hb_glyph_info_t → ℕ = λ g. g.cluster in
+    let long : length whole.glyphs ≡ length old.glyphs = sym (length-map whole.glyphs cluster) ∙ ap length made.same
+    ∙ length-map old.glyphs cluster in
+    let s = sound_at kept m spans old n kinds covers none (subst (λ a. FormsOffFlags a m) none off)
+    (clear_some whole.glyphs n clear) (omega arith)
+    (subst (λ (b : Buffer). IsClear b.glyphs n) set_up clear) spot in
+    let ss = s.border.front in
+    let ts = s.border.back in
+    let halves = old_halves spans old.glyphs whole.glyphs before behind covers made.same text apart s.border in
+    let gs = take n old.glyphs in
+    let hs = drop n old.glyphs in
+    let flat = by without_flags in
+    let same : flat before ++ flat behind ≡ flat (U ss gs) ++ s.halves.behind =
+    sym (map-append (with_mask_by without_flags) before behind) ∙ ap flat (sym text)
+    ∙ ap (λ (b : Buffer). flat b.glyphs) set_up ∙ s.halves.parts in
+    let (a, b) = parts_are (flat before) (flat behind) (flat (U ss gs)) s.halves.behind same
+    (length-map before (with_mask_by without_flags) ∙ sym halves.long
+    ∙ sym (length_under Sound kept m off ss gs old) ∙ sym (length-map (U ss gs) (with_mask_by without_flags))) in
+    record {
+      front = ss;
+      back = ts;
+      gs = gs;
+      hs = hs;
+      split = s.border.split;
+      text = halves.text;
+      first = halves.first;
+      second = halves.second;
+      apart = halves.apart;
+      one = subst (SameButSerials (flat before)) a refl;
+      two = subst (λ xs. SameButSerials xs (flat (U ts hs))) (sym b) s.halves.renumbered;
+    }
+
+pub universal_sound_chain : UniversalReorderLaws → UniversalMovesMerged → UniversalReadsNoSerials
+    → UniversalReadsNoMasks → UniversalSoundChainBreaks
+universal_sound_chain laws inside reads masks plan font spans unread lookups old mid between new can sound none off
+    set_up looked mono done p z l clear =
+    let kept = plan.plan_data in
+    let m = plan.ot_map in
+    let circles = (by_universal font between).circles in
+    let keeps : MaskKeepsFlags without_flags = λ n. refl in
+    let is : mid ≡ with_forms_flagged Sound kept m (syllables_set_up kept m spans old) = set_up
+    ∙ ap (λ breaks. with_forms_flagged breaks kept m (syllables_set_up kept m spans old)) sound in
+    let height : between.level ≡ old.level = looked.level ∙ ap (λ (b : Buffer). b.level) set_up in
+    let t = text_breaks_clear universal_order universal_steps laws inside circles between new
+    (ap merges height ∙ can.merging) looked.flags mono done p z l clear in
+    let b = t.broken in
+    let made = looked.halves b.before b.behind (sym looked.glyphs ∙ b.text) b.border b.apart
+    (subst (λ xs. length b.before < length xs) looked.glyphs t.was.inside)
+    (subst (λ xs. IsClear xs (length b.before)) looked.glyphs t.was.clear) in
+    let halves = made.cut in
+    let cut = sound_halves kept m spans old mid halves.before halves.behind can.kinds can.covered none off is halves.text
+    halves.border halves.apart made.inside made.clear in
+    let C : BufferClusterLevel → Glyphs → List ℕ = paused_clusters circles universal_steps in
+    let set_up_then : List Span → Glyphs → Glyphs = λ spans gs. lookups (set_up_under plan spans gs) in
+    subst (λ level. BrokenBetweenSpans unnumbered set_up_then (paused_order circles universal_order) (C level) spans
+    old.glyphs new.glyphs p) height
+    (broken_in (view_by without_flags) unnumbered circles universal_order universal_steps masks
+    (λ g. ap (λ n. let r : hb_glyph_info_t = record g { mask = n } in unnumbered r) (without_flags-twice g.mask))
+    set_up_then (C between.level) spans old.glyphs new.glyphs p
+    (chain_broken_by without_flags keeps universal_order universal_steps laws reads masks circles lookups
+    (set_up_under plan) spans old.glyphs between new done looked.reads p b halves.before halves.behind halves.first
+    halves.second
+    (subst (λ breaks. MidCut without_flags (λ is xs. forms_flagged (arabic_of kept) breaks m (set_up_by_spans kept m is xs))
+    spans old.glyphs halves.before halves.behind) (sym sound) cut)))
+
+-- nothing in between
+pub universal_sound_pauses : UniversalReorderLaws → UniversalMovesMerged → UniversalReadsNoSerials
+    → UniversalReadsNoMasks → UniversalSoundPausesBreak
+universal_sound_pauses laws inside reads masks plan font spans unread old mid new can sound none off few set_up done =
+    let kept = plan.plan_data in
+    let m = plan.ot_map in
+    let circles = (by_universal font mid).circles in
+    let made : SetUpText spans old.glyphs mid.glyphs = subst (λ (b : Buffer). SetUpText spans old.glyphs b.glyphs)
+    (sym set_up) (universal_text plan.break_flags kept m spans old can.kinds can.covered off) in
+    universal_sound_chain laws inside reads masks plan font spans unread (λ gs. gs) old mid mid new
+    (record { kinds = can.kinds; covered = can.covered; merging = can.merging }) sound none off set_up
+    (record {
+      level = refl;
+      glyphs = refl;
+      halves = λ front back text border apart within clear. record {
+        cut = record {
+          before = front;
+          behind = back;
+          text = text;
+          border = border;
+          apart = apart;
+          first = refl;
+          second = refl;
+        };
+        inside = within;
+        clear = clear;
+      };
+      reads = λ gs hs same. same;
+      flags = all_inside (syllables mid.glyphs) made.guarded.whole;
+    }) (monotone_circled circles mid.glyphs few (subst IsMonotone (sym made.same) can.monotone)) done

@@ -18,6 +18,7 @@ ghost use Rattle.shapers_breaks.specs.SetUp.{SetUpBreaksLaw};
 ghost use Rattle.shapers_breaks.specs.StretchBreaks.{StretchBreaksLaw};
 ghost use Rattle.shapers_breaks.specs.ThaiBreaks.{SaraAmsBreakLaw, ThaiFormsBreakLaw};
 ghost use Rattle.shapers_breaks.specs.ThaiSound.{ThaiSoundBreakLaw};
+ghost use Rattle.shapers_breaks.specs.UniversalChain.{UniversalChainBreaks, UniversalSoundChainBreaks, UniversalSoundPausesBreak};
 ghost use Rattle.shapers_breaks.specs.UniversalSound.{UniversalSoundBreaks};
 ghost use Rattle.shapers_breaks.specs.KeptTextBreaks.{KeptTextBreaksApartLaw, KeptTextBreaksLaw};
 
@@ -27,7 +28,9 @@ use shapers_indic_initial::ot_shaper_indic_initial::laws::{
 };
 use shapers_khmer::ot_shaper_khmer::{khmer_reads_no_serials, khmer_reorder_laws};
 use shapers_myanmar::ot_shaper_myanmar::{myanmar_reads_no_serials, myanmar_reorder_laws};
-use shapers_universal::ot_shaper_use::{universal_cuts_between_spans, universal_reorder_laws};
+use shapers_universal::ot_shaper_use::{
+    universal_cuts_between_spans, universal_reads_no_serials, universal_reorder_laws,
+};
 
 /// Reordering moves no clear place to where none was: a place that is clear after steps that move
 /// only inside what they merged was clear before them.
@@ -155,4 +158,17 @@ pub fn final_breaks_law()
 {
     final_reorder_laws();
     final_text_laws();
+}
+
+/// With `Sound`, where letters don't join, the set-up and the reordering of the universal shaper may
+/// be broken at every clear place, masks of forms included; and so with lookups in between that
+/// leave results side by side where these are clear. With either choice and such lookups that read
+/// no masks of forms it may be broken, these masks apart.
+pub fn universal_chain_breaks_law()
+    ensures sound { UniversalSoundPausesBreak }
+    ensures sound_chain { UniversalSoundChainBreaks }
+    ensures chain { UniversalChainBreaks }
+{
+    universal_reorder_laws();
+    universal_reads_no_serials();
 }
