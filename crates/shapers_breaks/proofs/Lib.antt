@@ -34,6 +34,9 @@ pub mod ChainBreaks
 mod ChainBreakRows
 pub mod KeptInside
 pub mod FinalBreaks
+pub mod BetweenPauses
+pub mod ErasedCircles
+pub mod UniversalChain
 pub mod SideBySide
 pub mod ReorderedApart
 pub mod IndicChain

@@ -34,13 +34,14 @@ use Rattle.rustybuzz_shapers.specs.declared.shaper.hb_ot_shaper_t.TheVariants.{A
 use Rattle.shapers_breaks.specs.ChainBreaks.{IsSpanned, LookedUp}
 use Rattle.shapers_breaks.specs.HangulBreaks.{NarrowTonesJoin}
 use Rattle.shapers_breaks.specs.IndicBreaks.{JoinersShare}
+use Rattle.shapers_breaks.specs.IndicChain.{IndicChainBreaks, IndicPausesBreak}
 use Rattle.shapers_breaks.specs.KeptTextBreaks.{SyllablesApart}
 use Rattle.shapers_breaks.specs.MarkBreaks.{NoneClearInside, marks_after}
 use Rattle.shapers_breaks.specs.Pieces.{BreaksWhereCleared, CutAtSpans, CutBuffer, LeavesPieces, SameButFlags, SpannedText}
 use Rattle.shapers_breaks.specs.ScriptBreaks.{UniversalPausesBreak}
 use Rattle.shapers_breaks.specs.StretchBreaks.{StretchBreaksLaw}
 use Rattle.shapers_breaks.specs.ThaiBreaks.{ThaiMarksJoin, sara_ams_taken}
-use Rattle.shapers_breaks.specs.UniversalSound.{UniversalSoundBreaks}
+use Rattle.shapers_breaks.specs.UniversalChain.{UniversalChainBreaks, UniversalSoundChainBreaks, UniversalSoundPausesBreak}
 
 -- What a syllabic shaper does to a text: masks, and what else changes each glyph by itself, the
 -- set-up of its syllables, lookups, its reordering, and whatever stands behind that, lookups and
@@ -252,19 +253,21 @@ LeavePiecesInTurn = (first next : List hb_glyph_info_t → List hb_glyph_info_t)
     (text : List hb_glyph_info_t) → LeavesPieces first text → LeavesPieces next (first text) →
     LeavesPieces (λ gs. next (first gs)) text
 
--- The law of each shaper. Of Indic up to what follows its initial reordering; of the universal
--- shaper without lookups between, and with Sound its set-up.
+-- The law of each shaper. Of Indic up to what follows its initial reordering, and up to the final
+-- one; of the universal shaper up to its reordering, with either choice.
 abbrev pub ShaperBreaks : hb_ot_shaper_t → Type 0
 ShaperBreaks Arabic = MarkedBreaks Arabic × (ArabicTextBreaks × StretchBreaksLaw)
 ShaperBreaks Hangul = HangulTextBreaks
 ShaperBreaks Hebrew = MarkedBreaks Hebrew
 ShaperBreaks Indic = SyllabicBreaks SetupSyllablesIndic InitialReordering by_initial IsApart
+    × (IndicChainBreaks × IndicPausesBreak)
 ShaperBreaks Khmer = SyllabicBreaks SetupSyllablesKhmer ReorderKhmer by_khmer IsInOrder
 ShaperBreaks Myanmar =
     SyllabicBreaks SetupSyllablesMyanmar ReorderMyanmar (λ plan. by_myanmar) IsInOrder
 ShaperBreaks MyanmarZawgyi = HookedBreaks (λ old new. new ≡ old) (λ b. Unit {0})
 ShaperBreaks Thai = ThaiTextBreaks
-ShaperBreaks Universal = UniversalPausesBreak × UniversalSoundBreaks
+ShaperBreaks Universal = UniversalPausesBreak × (UniversalChainBreaks
+    × (UniversalSoundPausesBreak × UniversalSoundChainBreaks))
 
 abbrev pub ShapersBreakLaw : Type 0
 ShapersBreakLaw = (shaper : hb_ot_shaper_t) → ShaperBreaks shaper

@@ -20,6 +20,7 @@ ghost use Rattle.shapers_breaks.specs.ShaperBreaks.{LeavePiecesInTurn, MasksLeav
 ghost use Rattle.shapers_breaks.specs.StretchBreaks.{StretchBreaksLaw};
 ghost use Rattle.shapers_breaks.specs.ThaiBreaks.{SaraAmsBreakLaw, ThaiFormsBreakLaw};
 ghost use Rattle.shapers_breaks.specs.ThaiSound.{ThaiSoundBreakLaw};
+ghost use Rattle.shapers_breaks.specs.UniversalChain.{UniversalChainBreaks, UniversalSoundChainBreaks, UniversalSoundPausesBreak};
 ghost use Rattle.shapers_breaks.specs.UniversalSound.{UniversalSoundBreaks};
 ghost use Rattle.shapers_breaks.specs.KeptTextBreaks.{KeptTextBreaksApartLaw, KeptTextBreaksLaw};
 
@@ -29,7 +30,9 @@ use shapers_indic_initial::ot_shaper_indic_initial::laws::{
 };
 use shapers_khmer::ot_shaper_khmer::{khmer_reads_no_serials, khmer_reorder_laws};
 use shapers_myanmar::ot_shaper_myanmar::{myanmar_reads_no_serials, myanmar_reorder_laws};
-use shapers_universal::ot_shaper_use::{universal_cuts_between_spans, universal_reorder_laws};
+use shapers_universal::ot_shaper_use::{
+    universal_cuts_between_spans, universal_reads_no_serials, universal_reorder_laws,
+};
 
 /// Reordering moves no clear place to where none was: a place that is clear after steps that move
 /// only inside what they merged was clear before them.
@@ -159,6 +162,19 @@ pub fn final_breaks_law()
     final_text_laws();
 }
 
+/// With `Sound`, where letters don't join, the set-up and the reordering of the universal shaper may
+/// be broken at every clear place, masks of forms included; and so with lookups in between that
+/// leave results side by side where these are clear. With either choice and such lookups that read
+/// no masks of forms it may be broken, these masks apart.
+pub fn universal_chain_breaks_law()
+    ensures sound { UniversalSoundPausesBreak }
+    ensures sound_chain { UniversalSoundChainBreaks }
+    ensures chain { UniversalChainBreaks }
+{
+    universal_reorder_laws();
+    universal_reads_no_serials();
+}
+
 /// The set-up of Indic and both reorderings, directly behind one another or with lookups in between
 /// that leave the halves' results side by side, may be broken at every clear place, where syllables
 /// share no cluster before either reordering and kept their flags before the final one, and in each
@@ -190,8 +206,9 @@ pub fn shapers_break_law()
     khmer_reads_no_serials();
     myanmar_reorder_laws();
     myanmar_reads_no_serials();
-    universal_reorder_laws();
-    universal_cuts_between_spans();
     initial_reorder_laws();
     order_by_font_reads_no_serials();
+    script_breaks_law();
+    universal_chain_breaks_law();
+    indic_breaks_law();
 }

@@ -1,7 +1,6 @@
 use Rattle.shapers_breaks.proofs.HookPieces.{masks_leave}
 use Rattle.shapers_breaks.proofs.PausePieces.{pauses_leave, pauses_listed}
 use Rattle.shapers_breaks.proofs.Pieces.{in_turn}
-use Rattle.shapers_breaks.proofs.ScriptBreaks.{universal_breaks}
 use Rattle.shapers_breaks.proofs.ShaperBreaks.{shapers_break}
 use Rattle.shapers_breaks.proofs.shapers_break_law.Goals as goal
 
@@ -15,8 +14,12 @@ returns-clause-laws c = shapers_break (record {
   myanmar_reads = c.myanmar_reads_no_serials.ensures;
   initial = c.initial_reorder_laws.ensures.by_font;
   initial_reads = c.order_by_font_reads_no_serials.ensures;
-  universal = universal_breaks c.universal_reorder_laws.ensures.laws c.universal_reorder_laws.ensures.merged
-      c.universal_cuts_between_spans.ensures;
+  indic_chain = c.indic_breaks_law.ensures.chain;
+  indic_pauses = c.indic_breaks_law.ensures.pauses;
+  universal = c.script_breaks_law.ensures.universal;
+  universal_chain = c.universal_chain_breaks_law.ensures.chain;
+  universal_sound = c.universal_chain_breaks_law.ensures.sound;
+  universal_sound_chain = c.universal_chain_breaks_law.ensures.sound_chain;
 })
 
 pub returns-clause-pauses : goal.returns-clause-pauses
