@@ -33,8 +33,8 @@ use Rattle.shapers_pipeline.specs.Stages.{PauseRun, StagesRun, Substitution, sta
 -- makes the same as what it made of the piece.
 abbrev pub MakesSame : (Buffer → Buffer → Type 0) → List hb_glyph_info_t → List hb_glyph_info_t →
     Type 0
-MakesSame Step piece made = (old new : Buffer) → old.positions ≡ [] → SameButFlags old.glyphs piece →
-    Step old new → SameButFlags new.glyphs made
+MakesSame Step piece made = (old new : Buffer) → old.positions ≡ [] →
+    SameButFlags old.glyphs piece → Step old new → SameButFlags new.glyphs made
 
 -- A step leaves the pieces' results of this text side by side: wherever what it made is clear, the
 -- text was, and it makes the parts of its pieces.
@@ -71,8 +71,8 @@ abbrev pub MasksInPieces : Option hb_ot_shaper_t → hb_ot_shape_plan_t → Char
     Buffer → Type 0
 MasksInPieces shaper plan tables b =
     let set = masks_set_for shaper plan tables in
-    BreaksWhereCleared Buffer CutBufferWhereClear (λ piece made. SameButFlags (set piece).glyphs made)
-    b (set b).glyphs
+    BreaksWhereCleared Buffer CutBufferWhereClear
+    (λ piece made. SameButFlags (set piece).glyphs made) b (set b).glyphs
 
 -- So they are without a shaper and where they are set glyph by glyph; and for Arabic with Sound, or
 -- where Sound would flag no more.
@@ -141,16 +141,16 @@ ShapingBreaks = (p : Preparation) (noted : hb_glyph_info_t → ℕ) (r : Substit
     AtPauses (PauseLeaves r.plan r.font) r ss (text_noted noted (text_prepared p old)) new run →
     BreaksWhereCleared Buffer (λ whole before behind. CutBuffer whole before behind
     ⊎ CutBuffer whole behind before) (λ piece made. (one : Buffer) →
-    StagesRun r ss (text_noted noted (text_prepared p piece)) one → SameButFlags one.glyphs made) old
-    new.glyphs
+    StagesRun r ss (text_noted noted (text_prepared p piece)) one → SameButFlags one.glyphs made)
+    old new.glyphs
 
 -- what the lookups of a stage make of glyphs, in a buffer that has them
 abbrev pub glyphs_looked_up : Substitution → Stage → Buffer → List hb_glyph_info_t →
     List hb_glyph_info_t
 glyphs_looked_up r s b gs = (stage_looked_up r s (record b { glyphs = gs })).glyphs
 
--- A piece, with its spans, through a shaper's two stages that set syllables up and reorder them, and
--- the stages behind: lookups of the second between the pauses, and circles as the whole has them.
+-- A piece, with its spans, by itself: set up, given to the lookups of the stage that ends with the
+-- reordering, reordered, with circles as the whole has them, and given to the stages behind.
 abbrev pub StagedPiece : Substitution → Stage → List Stage → Reordering → Buffer → SpannedText →
     List hb_glyph_info_t → Type 0
 StagedPiece r second ss reordering mid piece made = (one two : Buffer) →
@@ -159,8 +159,8 @@ StagedPiece r second ss reordering mid piece made = (one two : Buffer) →
     Reordered reordering (record (stage_looked_up r second mid) { glyphs = looked }) one →
     StagesRun r ss one two → SameButFlags two.glyphs made
 
--- A shaper's set-up, the stage that its reordering ends, and the stages behind: the text that is set
--- up may be broken at every clear place behind the last stage, where the lookups between the two
+-- A set-up, the stage that ends with the reordering, and the stages behind: the text that is set up
+-- may be broken at every clear place behind the last stage, where the lookups between the two
 -- pauses leave halves side by side and take no flag.
 abbrev pub SyllabicStagesBreak : Pause → Pause →
     (hb_ot_shape_plan_t → Font → Buffer → Reordering) → (Reordering → Buffer → Type 0) → Type 0
