@@ -11,3 +11,4 @@ pub mod Shared
 pub mod SpanEdits
 pub mod Stops
 pub mod PipelineBreaks
+mod PipelineBreakRows

@@ -1,5 +1,5 @@
 -- Stages of lookups and their pauses leave the results of a text's pieces side by side, and so does the whole from its masks on.
-use Rattle.std.proofs.Common.{ℕ, ◌<◌, ◌≡◌, true, false, List, [], ◌∷◌, ◌++◌, length, take, drop, map, length-append, refl, sym, ap, ◌∙◌, subst, arith, inl, inr}
+use Rattle.std.proofs.Common.{ℕ, ◌<◌, ◌≡◌, if◌then◌else◌, Bool, true, false, List, [], ◌∷◌, ◌++◌, length, take, drop, map, length-append, refl, sym, ap, ◌∙◌, subst, arith, inl, inr}
 use Rattle.std.specs.Prelude.{Option, None, Some}
 use Rattle.std.proofs.lemmas.Bool.{false≢true}
 use Rattle.std.proofs.lemmas.List.{drop_at, length-map, map-id, take_at}
@@ -8,7 +8,7 @@ use Rattle.shapers_arabic.specs.Breaks.{back_at, front_at}
 use Rattle.shapers_base.specs.Font.{CharacterTables, Font}
 use Rattle.shapers_base.specs.declared.plan.hb_ot_shape_plan_t.{hb_ot_shape_plan_t}
 use Rattle.shapers_base.specs.declared.plan.pause.Pause.{Pause}
-use Rattle.shapers_base.specs.declared.plan.pause.Pause.TheVariants.{InitialReordering, ReorderKhmer, ReorderMyanmar, SetupSyllablesIndic, SetupSyllablesKhmer, SetupSyllablesMyanmar}
+use Rattle.shapers_base.specs.declared.plan.pause.Pause.TheVariants.{SetupSyllablesIndic, SetupSyllablesKhmer, SetupSyllablesMyanmar, SetupSyllablesUse, InitialReordering, ReorderKhmer, ReorderMyanmar, ReorderUse, FinalReordering, RecordStch, RecordRphf, RecordPref, SyllabicClearVar, ClearSubstitutionFlags, ArabicFallbackShape}
 use Rattle.shapers_buffer.specs.Buffer.{Buffer}
 use Rattle.shapers_buffer.specs.Glyph.{plain}
 use Rattle.shapers_buffer.specs.declared.buffer.glyph.hb_glyph_info_t.{hb_glyph_info_t}
@@ -16,6 +16,7 @@ use Rattle.shapers_buffer.specs.declared.buffer.syllables.Span.{Span}
 use Rattle.shapers_clusters.specs.Breaks.{IsClear}
 use Rattle.shapers_clusters.proofs.FlagLaw.{added_same}
 use Rattle.shapers_syllabic.specs.Borders.{unnumbered}
+use Rattle.shapers_stretch.specs.Recorded.{has_stch, with_tiles}
 use Rattle.shapers_universal.specs.PlanData.{arabic_of}
 use Rattle.shapers_syllabic.specs.Syllabic.{unsafe_spans}
 use Rattle.rustybuzz_shapers.specs.Hooks.{MasksOffFlags, MasksSet}
@@ -35,7 +36,6 @@ use Rattle.shapers_pipeline.specs.Masks.{as_glyph, with_features}
 use Rattle.shapers_pipeline.specs.Prepared.{Preparation, text_in_fractions, text_prepared}
 use Rattle.shapers_pipeline.specs.ShaperSteps.{masks_set_by, masks_set_for, universal_masks_set}
 use Rattle.shapers_pipeline.specs.Stages.{PauseRun, PauseRunIf, StageRun, StagesRun, Substitution, stage_looked_up}
-use Rattle.shapers_pipeline.proofs.Pausing.{pause_positions}
 use Rattle.shapers_editing.specs.PipelineBreaks.{CutBufferWhereClear, LeavesAllPieces, LookupsLeavePieces, MakesSame, MasksInPieces, MasksSetInPieces, NotesReadOrder, PauseLeaves, PipelineBreaks, PreparedInPieces, ShaperStagesBreak, ShapingBreaks, StagedPiece, StagesLeavePieces, StepLeavesPieces, SyllabicStagesBreak, glyphs_looked_up, glyphs_made}
 
 abbrev Glyphs : Type 0
@@ -103,6 +103,30 @@ looked f keeps leaves (x ∷ xs) b none =
     (looked f keeps leaves xs (f x b) (after b none))
 
 -- PAUSES
+tiles_positions : (stretches : Bool) (old : Buffer) → (if stretches then with_tiles old else old).positions
+    ≡ old.positions
+tiles_positions true old = refl
+tiles_positions false old = refl
+
+keep_positions : (pause : Pause) (plan : hb_ot_shape_plan_t) (font : Font) (spans : List Span) (old new : Buffer)
+    → Paused pause plan font spans old new → new.positions ≡ old.positions
+keep_positions InitialReordering plan font spans old new done = ap (λ (b : Buffer). b.positions) done.0.others
+keep_positions ReorderKhmer plan font spans old new done = ap (λ (b : Buffer). b.positions) done.others
+keep_positions ReorderMyanmar plan font spans old new done = ap (λ (b : Buffer). b.positions) done.others
+keep_positions ReorderUse plan font spans old new done = ap (λ (b : Buffer). b.positions) done.others
+keep_positions FinalReordering plan font spans old new done = ap (λ (b : Buffer). b.positions) done.others
+keep_positions RecordStch plan font spans old new done = ap (λ (b : Buffer). b.positions) done
+    ∙ tiles_positions (has_stch plan.plan_data) old
+keep_positions SetupSyllablesIndic plan font spans old new done = ap (λ (b : Buffer). b.positions) done
+keep_positions SetupSyllablesKhmer plan font spans old new done = ap (λ (b : Buffer). b.positions) done
+keep_positions SetupSyllablesMyanmar plan font spans old new done = ap (λ (b : Buffer). b.positions) done
+keep_positions SetupSyllablesUse plan font spans old new done = ap (λ (b : Buffer). b.positions) done
+keep_positions RecordRphf plan font spans old new done = ap (λ (b : Buffer). b.positions) done
+keep_positions RecordPref plan font spans old new done = ap (λ (b : Buffer). b.positions) done
+keep_positions SyllabicClearVar plan font spans old new done = ap (λ (b : Buffer). b.positions) done
+keep_positions ClearSubstitutionFlags plan font spans old new done = ap (λ (b : Buffer). b.positions) done
+keep_positions ArabicFallbackShape plan font spans old new done = ap (λ (b : Buffer). b.positions) done
+
 by_glyph : PausesLeavePieces → (pause : Pause) (plan : hb_ot_shape_plan_t) (font : Font) (old new : Buffer)
     → is_by_glyph pause ≡ true → PauseRun pause plan font old new → StepLeavesPieces (PauseRun pause plan font) old new
 by_glyph law pause plan font old new by run front back cut =
@@ -132,7 +156,7 @@ paused_positions : (pause : Option Pause) (plan : hb_ot_shape_plan_t) (font : Fo
     → PauseRunIf pause plan font old new → old.positions ≡ [] → new.positions ≡ []
 paused_positions None plan font old new is none = ap (λ (b : Buffer). b.positions) is ∙ none
 paused_positions (Some pause) plan font old new run none =
-    pause_positions pause plan font run.spans old new run.paused ∙ none
+    keep_positions pause plan font run.spans old new run.paused ∙ none
 
 -- STAGES
 stage : PausesLeavePieces → (r : Substitution) (s : Stage) (old new : Buffer) → LookupsKeep r.substituted
@@ -245,15 +269,21 @@ masks_in_pieces law (Some Arabic) plan tables old so front back cut =
       first = two.first;
       second = two.second;
     })
-masks_in_pieces law (Some Hangul) plan tables old so = masked_each law Hangul plan tables old so.0 so.1 (λ b. refl)
-masks_in_pieces law (Some Hebrew) plan tables old so = masked_each law Hebrew plan tables old so.0 so.1 (λ b. (refl, refl))
-masks_in_pieces law (Some Indic) plan tables old so = masked_each law Indic plan tables old so.0 so.1 (λ b. refl)
-masks_in_pieces law (Some Khmer) plan tables old so = masked_each law Khmer plan tables old so.0 so.1 (λ b. refl)
-masks_in_pieces law (Some Myanmar) plan tables old so = masked_each law Myanmar plan tables old so.0 so.1 (λ b. refl)
-masks_in_pieces law (Some MyanmarZawgyi) plan tables old so =
-    masked_each law MyanmarZawgyi plan tables old so.0 so.1 (λ b. (refl, refl))
-masks_in_pieces law (Some Thai) plan tables old so = masked_each law Thai plan tables old so.0 so.1 (λ b. (refl, refl))
-masks_in_pieces law (Some Universal) plan tables old so = absurd (false≢true so.0)
+masks_in_pieces law (Some Hangul) plan tables old so front back cut =
+    masked_each law Hangul plan tables old so.0 so.1 (λ b. refl) front back cut
+masks_in_pieces law (Some Hebrew) plan tables old so front back cut =
+    masked_each law Hebrew plan tables old so.0 so.1 (λ b. (refl, refl)) front back cut
+masks_in_pieces law (Some Indic) plan tables old so front back cut =
+    masked_each law Indic plan tables old so.0 so.1 (λ b. refl) front back cut
+masks_in_pieces law (Some Khmer) plan tables old so front back cut =
+    masked_each law Khmer plan tables old so.0 so.1 (λ b. refl) front back cut
+masks_in_pieces law (Some Myanmar) plan tables old so front back cut =
+    masked_each law Myanmar plan tables old so.0 so.1 (λ b. refl) front back cut
+masks_in_pieces law (Some MyanmarZawgyi) plan tables old so front back cut =
+    masked_each law MyanmarZawgyi plan tables old so.0 so.1 (λ b. (refl, refl)) front back cut
+masks_in_pieces law (Some Thai) plan tables old so front back cut =
+    masked_each law Thai plan tables old so.0 so.1 (λ b. (refl, refl)) front back cut
+masks_in_pieces law (Some Universal) plan tables old so front back cut = absurd (false≢true so.0)
 
 masked_positions : (shaper : Option hb_ot_shaper_t) (plan : hb_ot_shape_plan_t) (tables : CharacterTables) (b : Buffer)
     → (masks_set_for shaper plan tables b).positions ≡ b.positions
@@ -409,11 +439,11 @@ syllabic_stages set_up pause by IsSo law breaks first_keeps second_keeps r secon
 pub shaper_stages : PausesLeavePieces → ShapersBreakLaw → ShaperStagesBreak
 shaper_stages law all = (
   syllabic_stages SetupSyllablesKhmer ReorderKhmer by_khmer IsInOrder law (all Khmer)
-      (pause_positions SetupSyllablesKhmer) (pause_positions ReorderKhmer),
+      (keep_positions SetupSyllablesKhmer) (keep_positions ReorderKhmer),
   (
     syllabic_stages SetupSyllablesMyanmar ReorderMyanmar (λ plan. by_myanmar) IsInOrder law (all Myanmar)
-        (pause_positions SetupSyllablesMyanmar) (pause_positions ReorderMyanmar),
-    syllabic_stages SetupSyllablesIndic InitialReordering by_initial IsApart law (all Indic)
-        (pause_positions SetupSyllablesIndic) (pause_positions InitialReordering),
+        (keep_positions SetupSyllablesMyanmar) (keep_positions ReorderMyanmar),
+    syllabic_stages SetupSyllablesIndic InitialReordering by_initial IsApart law ((all Indic).0)
+        (keep_positions SetupSyllablesIndic) (keep_positions InitialReordering),
   ),
 )
