@@ -12,18 +12,20 @@ use Rattle.shapers_buffer.specs.Buffer.{Buffer}
 use Rattle.shapers_buffer.specs.Clusters.{least, merges}
 use Rattle.shapers_buffer.specs.Glyph.{clusters, default_glyph, order_view, plain}
 use Rattle.shapers_buffer.specs.Syllables.{syllables}
+use Rattle.shapers_clusters.specs.Breaks.{IsClear}
 use Rattle.shapers_clusters.specs.Cuts.{IsMonotone, ShareNone}
 use Rattle.shapers_clusters.specs.Steps.{MovesMerged, Permutes, Step}
-use Rattle.shapers_clusters.proofs.ClusterMerges.{least-le}
+use Rattle.shapers_clusters.proofs.ClusterMerges.{least-among, least-le}
 use Rattle.shapers_syllabic.specs.Circles.{circled}
 use Rattle.shapers_syllabic.specs.Reordering.{PauseReordered}
 use Rattle.shapers_syllabic.specs.ReorderingLaws.{MoveMerged, ReorderLaws}
 use Rattle.shapers_syllabic.specs.declared.ot_shaper_syllabic.circles.DottedCircles.{DottedCircles}
 use Rattle.shapers_syllabic.proofs.ReorderingCuts.{cuts_at_borders}
 use Rattle.shapers_breaks.specs.SetUp.{IsFlagged}
-use Rattle.shapers_breaks.specs.KeptTextBreaks.{FlaggedInside, SyllablesApart, KeptTextBreaksApartLaw, KeptTextBreaksLaw, KeptTextBroken}
+use Rattle.shapers_breaks.specs.KeptTextBreaks.{FlaggedInside, FlagsKept, SyllablesApart, KeptTextBreaksApartLaw, KeptTextBreaksLaw, KeptTextBroken}
 use Rattle.shapers_breaks.proofs.ApartPieces.{ApartAtBorders}
 use Rattle.shapers_breaks.proofs.CircledBorders.{OpenedBorder, apart_at, circled_is, length-paused, opened_piece, reordered_border}
+use Rattle.shapers_breaks.proofs.ErasedCircles.{IsClearInside, erased_clear}
 use Rattle.shapers_breaks.proofs.Guarded.{IsWhole, LeastOrFlagged}
 use Rattle.shapers_breaks.proofs.Keepers.{own_keepers}
 use Rattle.shapers_breaks.proofs.KeptBorders.{KeepFlags, kept_border, syllable_cut}
@@ -51,6 +53,24 @@ whole_syllable gs h =
 pub all_whole : (pieces : List Glyphs) → AllByRecursion FlaggedInside pieces → AllByRecursion IsWhole pieces
 all_whole [] h = tt
 all_whole (q ∷ qs) h = (whole_syllable q h.0, all_whole qs h.1)
+
+-- and whole syllables have their flags
+flagged_inside : (gs : Glyphs) → IsWhole gs → FlaggedInside gs
+flagged_inside gs whole =
+    let m = whole.0 in
+    let low = least (clusters gs) in
+    let cluster : hb_glyph_info_t → ℕ = λ g. g.cluster in
+    let n = length-map gs cluster in
+    All-from_get_or (λ (g : hb_glyph_info_t). low < g.cluster → IsFlagged g) gs default_glyph (λ i l above.
+    let at = least-among (clusters gs) (omega (arith, n, l)) in
+    let is = get_or-map cluster gs at.0 default_glyph 0 (omega (arith, n, at.1)) in
+    let first = All-get_or (LeastOrFlagged m) gs at.0 default_glyph (omega (arith, n, at.1)) whole.1 in
+    (All-get_or (LeastOrFlagged m) gs i default_glyph l whole.1).1
+    (λ e. absurd (omega (arith, e, above, at.2, is, first.0))))
+
+pub all_flagged : (pieces : List Glyphs) → AllByRecursion IsWhole pieces → AllByRecursion FlaggedInside pieces
+all_flagged [] h = tt
+all_flagged (q ∷ qs) h = (flagged_inside q h.0, all_flagged qs h.1)
 
 -- halves of syllables that are apart
 pub apart_pieces : (gs : Glyphs) → SyllablesApart gs → ApartAtBorders (syllables gs)
@@ -111,15 +131,33 @@ apart_where_clear circles gs p border mono l z ne =
     apart_erased circles (take k pieces) (drop k pieces) (λ i j il jl. apart_at (clusters fr) (clusters bh)
     (subst IsMonotone all mono) (omega arith) some differ i j (omega (arith, il, fn, place)) (omega (arith, jl, bn)))
 
-pub text_breaks : KeptTextBreaksLaw
-text_breaks meaning steps laws inside circles old new m kept mono done p z l clear =
+-- where it is broken it was clear
+pub record KeptTextClear (circles : Option DottedCircles) (meaning : Glyphs → Glyphs) (steps : Glyphs
+    → List Step) (level : BufferClusterLevel) (old new : Glyphs) (p : ℕ) : Type 0 where
+  pub broken : KeptTextBroken circles meaning steps level old new p
+  pub was : IsClearInside old (length broken.before)
+
+pub text_breaks_clear : (meaning : Glyphs → Glyphs) (steps : Glyphs → List Step) → ReorderLaws meaning steps
+    → MoveMerged steps → (circles : Option DottedCircles) (old new : Buffer) → merges old.level ≡ true
+    → FlagsKept old.glyphs → IsMonotone (clusters (circled circles old.glyphs))
+    → PauseReordered circles meaning steps old new → (p : ℕ) → 0 < p → p < length new.glyphs → IsClear new.glyphs p
+    → KeptTextClear circles meaning steps old.level old.glyphs new.glyphs p
+unfolding broken_there
+text_breaks_clear meaning steps laws inside circles old new m kept mono done p z l clear =
     let gs = old.glyphs in
     let opened_text : Buffer = record old { glyphs = circled circles gs } in
     let long = length-moved meaning steps opened_text new laws done in
     let (was, border) = reordered_border meaning steps laws inside circles old.level m gs new.glyphs
     (all_whole (syllables gs) kept) mono done.moved p z l clear long in
-    broken_there meaning steps laws circles old new done p border
-    (apart_where_clear circles gs p border mono (omega arith) z was.differ)
+    record {
+      broken = broken_there meaning steps laws circles old new done p border
+          (apart_where_clear circles gs p border mono (omega arith) z was.differ);
+      was = erased_clear circles gs p border mono z (omega arith) was;
+    }
+
+pub text_breaks : KeptTextBreaksLaw
+text_breaks meaning steps laws inside circles old new m kept mono done p z l clear =
+    (text_breaks_clear meaning steps laws inside circles old new m kept mono done p z l clear).broken
 
 -- where syllables share no cluster, whatever the clusters are
 any_piece : (pieces : List Glyphs) → AllByRecursion (λ q. Unit {0}) pieces

@@ -34,3 +34,16 @@ pub mod ChainBreaks
 mod ChainBreakRows
 pub mod KeptInside
 pub mod FinalBreaks
+pub mod BetweenPauses
+pub mod ErasedCircles
+pub mod UniversalChain
+pub mod SideBySide
+pub mod ReorderedApart
+pub mod IndicChain
+mod IndicChainRows
+pub mod Pieces
+pub mod HookPieces
+pub mod SyllabicPieces
+pub mod PausePieces
+pub mod ShaperBreaks
+mod PieceRows

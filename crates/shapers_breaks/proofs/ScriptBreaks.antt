@@ -34,7 +34,7 @@ use Rattle.shapers_breaks.proofs.SetUp.{Glyphs, set_up_guarded}
 use Rattle.shapers_breaks.proofs.UniversalSetUp.{clusters_kept, flagged_kept, guarded_kept, length-all_opened, set_up_kept, syllables_kept, taken_kept}
 
 -- circles behind at most one repha leave clusters rising or falling
-monotone_circled : (circles : Option DottedCircles) (gs : Glyphs) → AtMostOneRepha circles gs → IsMonotone
+pub monotone_circled : (circles : Option DottedCircles) (gs : Glyphs) → AtMostOneRepha circles gs → IsMonotone
     (clusters gs) → IsMonotone (clusters (circled circles gs))
 monotone_circled None gs few h = h
 monotone_circled (Some rule) gs few (inl up) = inl ((circles_stay_monotone rule gs few).0 up)

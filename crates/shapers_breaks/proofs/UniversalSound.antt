@@ -61,7 +61,7 @@ length-bytes gs hs same =
     let byte : hb_glyph_info_t → ℕ = λ g. g.syllable in
     sym (length-map gs byte) ∙ ap length same ∙ length-map hs byte
 
-meet_same : (gs hs xs ys : Glyphs) → bytes xs ≡ bytes gs → bytes ys ≡ bytes hs → MeetAtBorder gs hs
+pub meet_same : (gs hs xs ys : Glyphs) → bytes xs ≡ bytes gs → bytes ys ≡ bytes hs → MeetAtBorder gs hs
     → MeetAtBorder xs ys
 meet_same gs hs xs ys a b border some more same =
     let m = length-bytes xs gs a in
@@ -351,7 +351,7 @@ pairs_kept m before i (p ∷ ps) (q ∷ qs) k =
     ∙ ap (λ l. pair_in m before i p ps ++ l) (pairs_kept m (joins_runs p) (i + length p) ps qs k.1)
 
 -- no syllable is empty
-none_empty : (ps : List Glyphs) → Cut ps → AllByRecursion (λ p. 0 < length p) ps
+pub none_empty : (ps : List Glyphs) → Cut ps → AllByRecursion (λ p. 0 < length p) ps
 none_empty [] u = tt
 none_empty (p ∷ ps) u = (u.0.1.some, none_empty ps u.2)
 
@@ -475,7 +475,7 @@ flags_hidden arabic m gs = map-forms_flagged (with_mask_by without_flags)
     (λ g. ap (λ n. let r : hb_glyph_info_t = record g { mask = n } in r) (without_flags-or g.mask 3 refl))
     arabic Sound m gs
 
-sound_at : (kept : PlanData) (m : Map) (spans : List Span) (old : Buffer) (p : ℕ) → All (λ span. span.kind ≤ 15) spans
+pub sound_at : (kept : PlanData) (m : Map) (spans : List Span) (old : Buffer) (p : ℕ) → All (λ span. span.kind ≤ 15) spans
     → spans_cover (length old.glyphs) spans ≡ true → arabic_of kept ≡ None → FormsOffFlags None m → 0 < p
     → p < length old.glyphs
     → IsClear (forms_flagged (arabic_of kept) Sound m (set_up_by_spans kept m spans old.glyphs)) p → SpanBorder spans p

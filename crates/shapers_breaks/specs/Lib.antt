@@ -15,3 +15,7 @@ pub mod KeptTextBreaks
 pub mod IndicBreaks
 pub mod ChainBreaks
 pub mod FinalBreaks
+pub mod UniversalChain
+pub mod Pieces
+pub mod ShaperBreaks
+pub mod IndicChain

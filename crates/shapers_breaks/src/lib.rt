@@ -10,14 +10,17 @@ ghost use Rattle.shapers_breaks.specs.FinalBreaks.{FinalTextBreaks};
 ghost use Rattle.shapers_breaks.specs.HangulBreaks.{HangulBreaksLaw};
 ghost use Rattle.shapers_breaks.specs.HangulSound.{HangulSoundBreaksLaw};
 ghost use Rattle.shapers_breaks.specs.IndicBreaks.{InitialPausesBreak, InitialTextBreaks};
+ghost use Rattle.shapers_breaks.specs.IndicChain.{IndicChainBreaks, IndicPausesBreak, InitialReorderedApart};
 ghost use Rattle.shapers_breaks.specs.KeptFlags.{AddedFlagsClearNone, PausesClearNone};
 ghost use Rattle.shapers_breaks.specs.MarkBreaks.{MarksBreakLaw};
 ghost use Rattle.shapers_breaks.specs.PauseBreaks.{PausesBreakLaw};
 ghost use Rattle.shapers_breaks.specs.ScriptBreaks.{MyanmarHasNoRepha, PausesBreakBy, UniversalPausesBreak};
 ghost use Rattle.shapers_breaks.specs.SetUp.{SetUpBreaksLaw};
+ghost use Rattle.shapers_breaks.specs.ShaperBreaks.{LeavePiecesInTurn, MasksLeavePieces, PausesAreListed, PausesLeavePieces, ShapersBreakLaw};
 ghost use Rattle.shapers_breaks.specs.StretchBreaks.{StretchBreaksLaw};
 ghost use Rattle.shapers_breaks.specs.ThaiBreaks.{SaraAmsBreakLaw, ThaiFormsBreakLaw};
 ghost use Rattle.shapers_breaks.specs.ThaiSound.{ThaiSoundBreakLaw};
+ghost use Rattle.shapers_breaks.specs.UniversalChain.{UniversalChainBreaks, UniversalSoundChainBreaks, UniversalSoundPausesBreak};
 ghost use Rattle.shapers_breaks.specs.UniversalSound.{UniversalSoundBreaks};
 ghost use Rattle.shapers_breaks.specs.KeptTextBreaks.{KeptTextBreaksApartLaw, KeptTextBreaksLaw};
 
@@ -27,7 +30,9 @@ use shapers_indic_initial::ot_shaper_indic_initial::laws::{
 };
 use shapers_khmer::ot_shaper_khmer::{khmer_reads_no_serials, khmer_reorder_laws};
 use shapers_myanmar::ot_shaper_myanmar::{myanmar_reads_no_serials, myanmar_reorder_laws};
-use shapers_universal::ot_shaper_use::{universal_cuts_between_spans, universal_reorder_laws};
+use shapers_universal::ot_shaper_use::{
+    universal_cuts_between_spans, universal_reads_no_serials, universal_reorder_laws,
+};
 
 /// Reordering moves no clear place to where none was: a place that is clear after steps that move
 /// only inside what they merged was clear before them.
@@ -155,4 +160,55 @@ pub fn final_breaks_law()
 {
     final_reorder_laws();
     final_text_laws();
+}
+
+/// With `Sound`, where letters don't join, the set-up and the reordering of the universal shaper may
+/// be broken at every clear place, masks of forms included; and so with lookups in between that
+/// leave results side by side where these are clear. With either choice and such lookups that read
+/// no masks of forms it may be broken, these masks apart.
+pub fn universal_chain_breaks_law()
+    ensures sound { UniversalSoundPausesBreak }
+    ensures sound_chain { UniversalSoundChainBreaks }
+    ensures chain { UniversalChainBreaks }
+{
+    universal_reorder_laws();
+    universal_reads_no_serials();
+}
+
+/// The set-up of Indic and both reorderings, directly behind one another or with lookups in between
+/// that leave the halves' results side by side, may be broken at every clear place, where syllables
+/// share no cluster before either reordering and kept their flags before the final one, and in each
+/// at most one left matra moves there. Syllables of at most two clusters keep their flags.
+pub fn indic_breaks_law()
+    ensures chain { IndicChainBreaks }
+    ensures pauses { IndicPausesBreak }
+    ensures initial { InitialReorderedApart }
+{
+    initial_reorder_laws();
+    order_by_font_reads_no_serials();
+    final_reorder_laws();
+    final_text_laws();
+}
+
+/// Each shaper's text may be broken at every clear place, over the chain of its hooks and pauses, with
+/// anything in between and behind them that leaves the pieces' results side by side: what becomes of
+/// each piece by itself is what became of it in the text. The pauses are those of the shaper's own
+/// lists; those that change glyph by glyph leave results so, too, and so does one such thing behind
+/// another.
+pub fn shapers_break_law()
+    ensures laws { ShapersBreakLaw }
+    ensures pauses { PausesAreListed }
+    ensures masks { MasksLeavePieces }
+    ensures by_glyph { PausesLeavePieces }
+    ensures in_turn { LeavePiecesInTurn }
+{
+    khmer_reorder_laws();
+    khmer_reads_no_serials();
+    myanmar_reorder_laws();
+    myanmar_reads_no_serials();
+    initial_reorder_laws();
+    order_by_font_reads_no_serials();
+    script_breaks_law();
+    universal_chain_breaks_law();
+    indic_breaks_law();
 }
