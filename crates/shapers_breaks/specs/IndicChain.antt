@@ -39,8 +39,8 @@ abbrev pub reordered_text : Reordering → BufferClusterLevel → List hb_glyph_
 reordered_text r level gs = map (λ glyph. carrying glyph.0 glyph.1)
     (zip (paused_order r.circles r.order gs) (paused_carried r.circles r.steps level gs))
 
--- The glyphs of the one buffer were made of the other's, by lookups or a reordering, and the halves'
--- results left side by side; flags may be lost.
+-- The glyphs of the one buffer were made of the other's, by lookups or a reordering, with the
+-- results of halves left side by side; flags may be lost.
 pub record MadeSideBySide (lookups : List hb_glyph_info_t → List hb_glyph_info_t) (old new :
     Buffer) : Type 0 where
   pub level : new.level ≡ old.level
