@@ -20,10 +20,10 @@ use Rattle.shapers_indic_initial.specs.InitialReordering.{initial_order, initial
 use Rattle.shapers_indic_initial.specs.InitialRules.{Rules}
 use Rattle.shapers_syllabic.specs.Reordering.{text_steps}
 use Rattle.shapers_syllabic.specs.Syllabic.{unsafe_spans}
-use Rattle.shapers_breaks.specs.FinalBreaks.{OneMatraMoves}
+use Rattle.shapers_breaks.specs.FinalBreaks.{IsOfTwoClusters, OneMatraMoves}
 use Rattle.shapers_breaks.specs.IndicBreaks.{JoinerShares, SpansPartClusters}
 use Rattle.rustybuzz_shapers.specs.Pauses.{Reordering}
-use Rattle.shapers_breaks.specs.IndicChain.{IsOfTwoClusters, reordered_text}
+use Rattle.shapers_breaks.specs.IndicChain.{reordered_text}
 use Rattle.shapers_breaks.specs.SetUp.{IsFlagged}
 use Rattle.shapers_breaks.specs.KeptTextBreaks.{FlaggedInside}
 
