@@ -141,4 +141,4 @@ indic_pauses laws reads final_laws text_laws plan font spans unread old mid betw
     ] in
     indic_chain laws reads final_laws text_laws plan font spans unread (λ gs. gs) (λ gs. gs) old mid mid between between
     new spanned set_up (still mid) apart initial (still between)
-    (record { flags = left.0; apart = by.apart; parts = left.1; }) done
+    (record { flags = left.0; apart = by.apart; parts = left.1 }) done

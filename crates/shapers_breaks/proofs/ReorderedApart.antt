@@ -1,24 +1,19 @@
 -- What a reordering keeps of syllables that share no cluster.
-use Rattle.std.proofs.Common.{ℕ, ◌%◌, ◌<◌, ◌≤◌, ◌≡◌, List, [], ◌∷◌, ◌++◌, length, map, take, drop, get_or, sym, ap, ◌∙◌, subst, arith, inl, inr, ◌⊎◌}
+use Rattle.std.proofs.Common.{ℕ, ◌%◌, ◌<◌, ◌≡◌, List, [], ◌∷◌, ◌++◌, length, map, take, drop, get_or, sym, ap, ◌∙◌, subst, arith, ◌⊎◌}
 use Rattle.std.specs.Prelude.{Option}
 use Rattle.std.specs.List.{All, AllByRecursion, Contains, flat_map}
 use Rattle.std.proofs.lemmas.List.{drop_at, get_or-map, get_or_default, length-map, map-append, take_at}
-use Rattle.std.proofs.lemmas.List.Elements.{All-contains_itself, All-from_get_or, All-get_or, AllZip-get_or}
+use Rattle.std.proofs.lemmas.List.Elements.{All-contains_itself, All-from_get_or, All-get_or}
 use Rattle.std.proofs.lemmas.List.Folds.{flat_map-map}
 use Rattle.shapers_buffer.specs.declared.buffer.glyph.hb_glyph_info_t.{hb_glyph_info_t}
 use Rattle.shapers_buffer.specs.declared.buffer.level.BufferClusterLevel.{BufferClusterLevel}
 use Rattle.shapers_buffer.specs.Buffer.{Buffer}
 use Rattle.shapers_buffer.specs.Clusters.{least}
 use Rattle.shapers_buffer.specs.Glyph.{clusters, default_glyph, order_view, plain}
-use Rattle.shapers_buffer.specs.Places.{pick}
 use Rattle.shapers_buffer.specs.Syllables.{syllables}
 use Rattle.shapers_clusters.specs.Cuts.{ShareNone}
-use Rattle.shapers_clusters.specs.Flags.{FallsTo}
-use Rattle.shapers_clusters.specs.Steps.{FitSteps, Step, joined_steps, old_places, run_steps}
-use Rattle.shapers_clusters.proofs.ClusterMerges.{least-among}
-use Rattle.shapers_clusters.proofs.Falls.{flags_fall}
-use Rattle.shapers_clusters.proofs.Moves.{all-joined_steps, clusters-run_steps, length-old_places, within-old_places}
-use Rattle.shapers_clusters.proofs.Picks.{get_or-pick, length-pick, within_at}
+use Rattle.shapers_clusters.specs.Steps.{FitSteps, Step, joined_steps, run_steps}
+use Rattle.shapers_clusters.proofs.Moves.{all-joined_steps, clusters-run_steps}
 use Rattle.shapers_clusters.proofs.Proved.{steps_hold}
 use Rattle.shapers_syllabic.specs.CircleLaws.{NoNewCluster}
 use Rattle.shapers_syllabic.specs.Circles.{circled}
@@ -34,7 +29,7 @@ use Rattle.shapers_breaks.specs.KeptTextBreaks.{FlaggedInside, FlagsKept, Syllab
 use Rattle.shapers_breaks.specs.SetUp.{IsFlagged}
 use Rattle.shapers_breaks.proofs.ApartPieces.{text_apart}
 use Rattle.shapers_breaks.proofs.CircledBorders.{opened_piece, opened_whole, syllables-circled}
-use Rattle.shapers_breaks.proofs.Guarded.{IsWhole, LeastOrFlagged}
+use Rattle.shapers_breaks.proofs.Guarded.{IsWhole}
 use Rattle.shapers_breaks.proofs.KeptBorders.{apart_mapped, piece_opened}
 use Rattle.shapers_breaks.proofs.KeptTextBreaks.{all_whole, apart_pieces, broken_there}
 use Rattle.shapers_breaks.proofs.PauseBreaks.{each_at, each_from}
@@ -63,13 +58,16 @@ two_carried xs ys same two =
     let d = default_glyph in
     let P : hb_glyph_info_t → Type 0 = λ g. (g.cluster ≡ two.0) ⊎ (g.cluster ≡ two.1) in
     let a = length-map xs carried in
-    let b = length-map ys carried in
-    (two.0, two.1, All-from_get_or P xs d (λ i l.
-    let il : i < length ys = omega (arith, a, b, ap length same, l) in
-    let is : carried (get_or ys i d) ≡ carried (get_or xs i d) = sym (get_or-map carried ys i d d il)
-    ∙ ap (λ gs. get_or gs i d) (sym same) ∙ get_or-map carried xs i d d l in
-    subst (λ (k : ℕ). (k ≡ two.0) ⊎ (k ≡ two.1)) (ap (λ (g : hb_glyph_info_t). g.cluster) is)
-    (All-get_or P ys i d il two.2)))
+    let b = length-map ys carried in (
+      two.0,
+      two.1,
+      All-from_get_or P xs d (λ i l.
+          let il : i < length ys = omega (arith, a, b, ap length same, l) in
+          let is : carried (get_or ys i d) ≡ carried (get_or xs i d) = sym (get_or-map carried ys i d d il)
+          ∙ ap (λ gs. get_or gs i d) (sym same) ∙ get_or-map carried xs i d d l in
+          subst (λ (k : ℕ). (k ≡ two.0) ⊎ (k ≡ two.1)) (ap (λ (g : hb_glyph_info_t). g.cluster) is)
+          (All-get_or P ys i d il two.2)),
+    )
 
 all_carried : (P : Glyphs → Type 0) → ((xs ys : Glyphs) → map carried xs ≡ map carried ys → P ys → P xs)
     → (ps qs : List Glyphs) → map (map carried) ps ≡ map (map carried) qs → AllByRecursion P qs → AllByRecursion P ps
