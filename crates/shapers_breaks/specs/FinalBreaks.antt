@@ -34,7 +34,8 @@ abbrev pub IsOfTwoClusters : List hb_glyph_info_t → Type 0
 IsOfTwoClusters syllable =
     (b : ℕ) × (c : ℕ) × All (λ g. (g.cluster ≡ b) ⊎ (g.cluster ≡ c)) syllable
 
--- so no matra parts glyphs from one that alone kept the flags of their cluster
+-- at most one left matra moves, or there are at most two clusters: glyphs aren't parted from one
+-- that alone kept the flags of their cluster
 abbrev pub PartsNothing : Rules → Option Script → List hb_glyph_info_t → Type 0
 PartsNothing r script syllable =
     OneMatraMoves r script (order_view syllable) ⊎ IsOfTwoClusters syllable
