@@ -37,3 +37,5 @@ pub mod FinalBreaks
 pub mod BetweenPauses
 pub mod ErasedCircles
 pub mod UniversalChain
+pub mod NeedlessForms
+mod UniversalChainRows

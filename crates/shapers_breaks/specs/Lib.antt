@@ -16,3 +16,4 @@ pub mod IndicBreaks
 pub mod ChainBreaks
 pub mod FinalBreaks
 pub mod UniversalChain
+pub mod NeedlessForms

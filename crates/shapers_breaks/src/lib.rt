@@ -18,6 +18,7 @@ ghost use Rattle.shapers_breaks.specs.SetUp.{SetUpBreaksLaw};
 ghost use Rattle.shapers_breaks.specs.StretchBreaks.{StretchBreaksLaw};
 ghost use Rattle.shapers_breaks.specs.ThaiBreaks.{SaraAmsBreakLaw, ThaiFormsBreakLaw};
 ghost use Rattle.shapers_breaks.specs.ThaiSound.{ThaiSoundBreakLaw};
+ghost use Rattle.shapers_breaks.specs.NeedlessForms.{NoFormFlagIsNeedless};
 ghost use Rattle.shapers_breaks.specs.UniversalChain.{UniversalChainBreaks, UniversalSoundChainBreaks, UniversalSoundPausesBreak};
 ghost use Rattle.shapers_breaks.specs.UniversalSound.{UniversalSoundBreaks};
 ghost use Rattle.shapers_breaks.specs.KeptTextBreaks.{KeptTextBreaksApartLaw, KeptTextBreaksLaw};
@@ -172,3 +173,9 @@ pub fn universal_chain_breaks_law()
     universal_reorder_laws();
     universal_reads_no_serials();
 }
+
+/// Where letters don't join, no flag that `Sound` adds to the set-up of the universal shaper is
+/// needless: inside such a stretch it can't be broken, a half would take another form.
+pub fn needless_forms_law()
+    ensures { NoFormFlagIsNeedless }
+{}
