@@ -191,7 +191,7 @@ opened_last (Some rule) g gs mono =
     go (is_of_kind rule.broken_kind (g ∷ gs)) mono
 
 -- so of several
-abbrev NoneEmpty : List Glyphs → Type 0
+abbrev pub NoneEmpty : List Glyphs → Type 0
 NoneEmpty ps = AllByRecursion (λ p. 0 < length p) ps
 
 none_empty_taken : (k : ℕ) (ps : List Glyphs) → NoneEmpty ps → NoneEmpty (take k ps)

@@ -48,3 +48,5 @@ pub mod SyllabicPieces
 pub mod PausePieces
 pub mod ShaperBreaks
 mod PieceRows
+pub mod NeedlessForms
+mod UniversalChainRows

@@ -213,13 +213,13 @@ old_halves spans old mid before behind covers same text apart border =
     }
 
 -- what is the first half and what is behind it, of the same lengths
-parts_are : {X : Type 0} (xs ys zs ws : List X) → xs ++ ys ≡ zs ++ ws → length xs ≡ length zs → (xs ≡ zs) × (ys ≡ ws)
+pub parts_are : {X : Type 0} (xs ys zs ws : List X) → xs ++ ys ≡ zs ++ ws → length xs ≡ length zs → (xs ≡ zs) × (ys ≡ ws)
 parts_are xs ys zs ws same long = (
   sym (take_at xs ys (length zs) long) ∙ ap (take (length zs)) same ∙ take_at zs ws (length zs) refl,
   sym (drop_at xs ys (length zs) long) ∙ ap (drop (length zs)) same ∙ drop_at zs ws (length zs) refl,
 )
 
-length_under : (breaks : BreakFlags) (kept : PlanData) (m : Map) → FormsOffFlags (arabic_of kept) m
+pub length_under : (breaks : BreakFlags) (kept : PlanData) (m : Map) → FormsOffFlags (arabic_of kept) m
     → (spans : List Span) (gs : Glyphs) (old : Buffer)
     → length (forms_flagged (arabic_of kept) breaks m (set_up_by_spans kept m spans gs)) ≡ length gs
 length_under breaks kept m off spans gs old =
@@ -284,7 +284,7 @@ broken_in view show circles meaning steps masks alike set_up C spans old new p b
     }
 
 -- a mask without flags and without other bits
-flags-and : (a b : ℕ) → without_flags (bit_and a b) ≡ bit_and (without_flags a) b
+pub flags-and : (a b : ℕ) → without_flags (bit_and a b) ≡ bit_and (without_flags a) b
 flags-and a b =
     let x = bit_and a b in
     let y = bit_and (without_flags a) b in

@@ -46,13 +46,13 @@ use Rattle.shapers_breaks.proofs.SetUp.{Glyphs, cover_cut, guarded_border, set_u
 use Rattle.shapers_breaks.proofs.UniversalSetUp.{KeepPieces, KeepShapes, flagged_kept, forms_for_kept, guarded_kept, long_kept, rphfs_kept, syllables_kept}
 
 -- forms, and the stretches of torn pairs, by the masks in a map
-abbrev forms_in : Map → Bool → List Glyphs → Glyphs
+abbrev pub forms_in : Map → Bool → List Glyphs → Glyphs
 forms_in m before ps = in_forms (form_masks m) before ps
 
-abbrev pair_in : Map → Bool → ℕ → Glyphs → List Glyphs → List (ℕ × ℕ)
+abbrev pub pair_in : Map → Bool → ℕ → Glyphs → List Glyphs → List (ℕ × ℕ)
 pair_in m before i p ps = torn_pair (form_masks m) before i p ps
 
-abbrev pairs_in : Map → Bool → ℕ → List Glyphs → List (ℕ × ℕ)
+abbrev pub pairs_in : Map → Bool → ℕ → List Glyphs → List (ℕ × ℕ)
 pairs_in m before i ps = torn_pairs (form_masks m) before i ps
 
 -- texts of the same bytes meet others at the same borders
@@ -174,7 +174,7 @@ forms_same m gs hs same =
     ∙ forms-unnumbered m false (syllables xs) in
     told gs ∙ ap (form_pieces m false) same ∙ sym (told hs)
 
-text_same : (m : Map) (gs hs : Glyphs) → SameButSerials gs hs → SameButSerials (with_form_masks (form_masks m) gs)
+pub text_same : (m : Map) (gs hs : Glyphs) → SameButSerials gs hs → SameButSerials (with_form_masks (form_masks m) gs)
     (with_form_masks (form_masks m) hs)
 text_same m gs hs same = elim (all_forms (form_masks m) == 0) as (λ b. SameButSerials
     (if b then gs else forms_in m false (syllables gs)) (if b then hs else forms_in m false (syllables hs))) [
@@ -182,7 +182,7 @@ text_same m gs hs same = elim (all_forms (form_masks m) == 0) as (λ b. SameButS
       | false ↦ forms_same m gs hs same
     ]
 
-text_bytes : (m : Map) (gs : Glyphs) → bytes (with_form_masks (form_masks m) gs) ≡ bytes gs
+pub text_bytes : (m : Map) (gs : Glyphs) → bytes (with_form_masks (form_masks m) gs) ≡ bytes gs
 text_bytes m gs = elim (all_forms (form_masks m) == 0) as
     (λ b. bytes (if b then gs else forms_in m false (syllables gs)) ≡ bytes gs) [
       | true ↦ refl
@@ -221,10 +221,10 @@ second_stays m before behind false true q h = refl
 second_stays m before behind false false q h = refl
 
 -- stretches none of which holds both sides of a place
-abbrev Spares : ℕ → List (ℕ × ℕ) → Type 0
+abbrev pub Spares : ℕ → List (ℕ × ℕ) → Type 0
 Spares p sts = AllByRecursion (λ st. (nat_lt st.0 p && nat_lt p st.1) ≡ false) sts
 
-spares_front : (p : ℕ) (xs ys : List (ℕ × ℕ)) → Spares p (xs ++ ys) → Spares p xs
+pub spares_front : (p : ℕ) (xs ys : List (ℕ × ℕ)) → Spares p (xs ++ ys) → Spares p xs
 spares_front p [] ys h = tt
 spares_front p (x ∷ xs) ys h = (h.0, spares_front p xs ys h.1)
 
@@ -339,7 +339,7 @@ pair_kept m before i p q (x ∷ ps) (y ∷ qs) k more =
     ∙ ap (λ k. shown (joins_runs p) (joins_runs x) (first_joins ps) k (length y)) (long_kept p q k)
     ∙ ap (shown (joins_runs p) (joins_runs x) (first_joins ps) (length p)) (long_kept x y more.0)
 
-pairs_kept : (m : Map) (before : Bool) (i : ℕ) (ps qs : List Glyphs) → KeepPieces ps qs
+pub pairs_kept : (m : Map) (before : Bool) (i : ℕ) (ps qs : List Glyphs) → KeepPieces ps qs
     → pairs_in m before i qs ≡ pairs_in m before i ps
 pairs_kept m before i [] [] k = refl
 pairs_kept m before i [] (q ∷ qs) k = absurd k
@@ -355,7 +355,7 @@ pub none_empty : (ps : List Glyphs) → Cut ps → AllByRecursion (λ p. 0 < len
 none_empty [] u = tt
 none_empty (p ∷ ps) u = (u.0.1.some, none_empty ps u.2)
 
-some_syllable : (gs : Glyphs) → 0 < length gs → 0 < length (syllables gs)
+pub some_syllable : (gs : Glyphs) → 0 < length gs → 0 < length (syllables gs)
 some_syllable gs z =
     let text = joined-syllables gs in
     let go : (ps : List Glyphs) → 0 < length (flat_map (λ p. p) ps) → 0 < length ps = λ ps. elim ps as
@@ -390,10 +390,10 @@ text_split m gs hs off border some more clear =
     [ true ↦ refl | false ↦ split ]
 
 -- the glyphs that spans set up, with the masks of rphf and no forms
-abbrev led : ℕ → List Span → Glyphs → Glyphs
+abbrev pub led : ℕ → List Span → Glyphs → Glyphs
 led mask spans gs = flat_map (with_rphf mask) (syllables (unsafe_spans spans gs))
 
-length-led : (mask : ℕ) (spans : List Span) (gs : Glyphs) (old : Buffer) → length (led mask spans gs) ≡ length gs
+pub length-led : (mask : ℕ) (spans : List Span) (gs : Glyphs) (old : Buffer) → length (led mask spans gs) ≡ length gs
 length-led mask spans gs old =
     let bare = unsafe_spans spans gs in
     let shape = rphfs_kept mask (syllables bare) in
@@ -401,12 +401,12 @@ length-led mask spans gs old =
     ∙ ap length (joined-syllables bare)
     ∙ length-same gs bare (clusters-set_up spans BROKEN_CLUSTER (record old { glyphs = gs }))
 
-record LedHalves (mask : ℕ) (spans ss ts : List Span) (gs hs : Glyphs) (old : Buffer) : Type 0 where
-  behind : Glyphs
-  parts : led mask spans old.glyphs ≡ led mask ss gs ++ behind
-  renumbered : SameButSerials behind (led mask ts hs)
-  border : MeetAtBorder (led mask ss gs) behind
-  broken : (with_spans spans BROKEN_CLUSTER old).broken
+pub record LedHalves (mask : ℕ) (spans ss ts : List Span) (gs hs : Glyphs) (old : Buffer) : Type 0 where
+  pub behind : Glyphs
+  pub parts : led mask spans old.glyphs ≡ led mask ss gs ++ behind
+  pub renumbered : SameButSerials behind (led mask ts hs)
+  pub border : MeetAtBorder (led mask ss gs) behind
+  pub broken : (with_spans spans BROKEN_CLUSTER old).broken
       ≡ ((with_spans ss BROKEN_CLUSTER old).broken || (with_spans ts BROKEN_CLUSTER old).broken)
 
 -- the mask of rphf keeps bytes, and reads no serials
@@ -440,7 +440,7 @@ rphf_same mask gs hs same =
     ∙ ap (λ k. map f (take k (map unnumbered xs)) ++ drop k (map unnumbered xs)) (sym (len_same xs)) in
     told gs ∙ ap (with_rphf mask) same ∙ sym (told hs)
 
-led_halves : (mask : ℕ) (spans ss ts : List Span) (gs hs : Glyphs) (old : Buffer) → All
+pub led_halves : (mask : ℕ) (spans ss ts : List Span) (gs hs : Glyphs) (old : Buffer) → All
     (λ span. span.kind ≤ 15) spans → spans ≡ ss ++ ts → old.glyphs ≡ gs ++ hs → spans_cover (length gs) ss ≡ true
     → spans_cover (length hs) ts ≡ true → LedHalves mask spans ss ts gs hs old
 led_halves mask spans ss ts gs hs old kinds split text first second =
@@ -469,7 +469,7 @@ led_halves mask spans ss ts gs hs old kinds split text first second =
 flag_bytes : (gs : Glyphs) → bytes (flagless gs) ≡ bytes gs
 flag_bytes gs = map-map (λ (g : hb_glyph_info_t). g.syllable) (with_mask_by without_flags) gs
 
-flags_hidden : (arabic : Option arabic_shape_plan_t) (m : Map) (gs : Glyphs)
+pub flags_hidden : (arabic : Option arabic_shape_plan_t) (m : Map) (gs : Glyphs)
     → flagless (forms_flagged arabic Sound m gs) ≡ flagless gs
 flags_hidden arabic m gs = map-forms_flagged (with_mask_by without_flags)
     (λ g. ap (λ n. let r : hb_glyph_info_t = record g { mask = n } in r) (without_flags-or g.mask 3 refl))

@@ -19,3 +19,4 @@ pub mod UniversalChain
 pub mod Pieces
 pub mod ShaperBreaks
 pub mod IndicChain
+pub mod NeedlessForms
