@@ -1,5 +1,5 @@
 -- What the moves make of a list of marks, given by its five parts.
-use Rattle.std.proofs.Common.{◌≡◌, ℕ, ◌+◌, ◌-◌, List, [], ◌++◌, map, length, take, drop, refl, ap, sym, ◌∙◌, arith, append_assoc, length-append, Bool, true, false, zero, suc, ◌∷◌, ◌≤◌}
+use Rattle.std.proofs.Common.{◌≡◌, ℕ, ◌+◌, ◌-◌, List, [], ◌++◌, map, length, take, drop, refl, ap, sym, ◌∙◌, arith, append_assoc, length-append, Bool, false, zero, suc, ◌∷◌, ◌≤◌}
 use Rattle.std.specs.List.{range_with_len, prefix_len, list_any}
 use Rattle.std.proofs.lemmas.List.{length-map, take_at, drop_at, take-append-drop, append-nil, drop-drop}
 use borrow.Rule.Slice.PartMut.{put_mid}
@@ -9,8 +9,7 @@ use Rattle.shapers_buffer.specs.Places.{pick}
 use Rattle.shapers_clusters.proofs.Picks.{pick-append, pick-range}
 use Rattle.shapers_arabic.specs.MarkParts.{last_marks_first, is_modifier}
 use Rattle.shapers_arabic.specs.Marks.{Marks, split_marks, front_of, behind, has_lower_class, is_modifier_of, in_class, with_modifiers_first, places_moved, passed, marks_merged, marks_reordered}
-use Rattle.std.specs.Prelude.{◌||◌}
-use Rattle.std.proofs.lemmas.Bool.{false≢true}
+use Rattle.std.proofs.lemmas.Bool.{or_parts}
 use Rattle.shapers_buffer.specs.declared.buffer.level.BufferClusterLevel.{BufferClusterLevel}
 use Rattle.shapers_buffer.specs.Clusters.{merge_all, stretch_of}
 use Rattle.shapers_clusters.specs.Steps.{shifted}
@@ -149,27 +148,23 @@ pick-moved s xs h =
     [] xs n4 refl h4))))
 
 -- MARKS OF WHICH NONE MODIFIES A LETTER: nothing merges, and all stay
-or-false : (a b : Bool) → (a || b) ≡ false → (a ≡ false) × (b ≡ false)
-or-false true b h = absurd (false≢true (sym h))
-or-false false b h = (refl, h)
-
 none-behind : (n : ℕ) (gs : List hb_glyph_info_t) → list_any is_modifier gs ≡ false → list_any is_modifier (drop n gs)
     ≡ false
 none-behind zero gs h = h
 none-behind (suc n) [] h = h
-none-behind (suc n) (g ∷ gs) h = none-behind n gs (or-false (is_modifier g) (list_any is_modifier gs) h).1
+none-behind (suc n) (g ∷ gs) h = none-behind n gs (or_parts (is_modifier g) (list_any is_modifier gs) h).1
 
 front-none : (test : hb_glyph_info_t → Bool) (gs : List hb_glyph_info_t)
     → ((g : hb_glyph_info_t) → is_modifier g ≡ false → test g ≡ false) → list_any is_modifier gs ≡ false
     → prefix_len test gs ≡ 0
 front-none test [] fails h = refl
-front-none test (g ∷ gs) fails h = rw (fails g (or-false (is_modifier g) (list_any is_modifier gs) h).0) refl
+front-none test (g ∷ gs) fails h = rw (fails g (or_parts (is_modifier g) (list_any is_modifier gs) h).0) refl
 
 not_below : (g : hb_glyph_info_t) → is_modifier g ≡ false → is_modifier_of 220 g ≡ false
-not_below g h = (or-false (is_modifier_of 220 g) (is_modifier_of 230 g) h).0
+not_below g h = (or_parts (is_modifier_of 220 g) (is_modifier_of 230 g) h).0
 
 not_above : (g : hb_glyph_info_t) → is_modifier g ≡ false → is_modifier_of 230 g ≡ false
-not_above g h = (or-false (is_modifier_of 220 g) (is_modifier_of 230 g) h).1
+not_above g h = (or_parts (is_modifier_of 220 g) (is_modifier_of 230 g) h).1
 
 -- so the second and the fourth part are empty
 record NoModifiers (gs : List hb_glyph_info_t) : Type 0 where

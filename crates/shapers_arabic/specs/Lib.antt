@@ -13,4 +13,5 @@ pub mod Marks
 pub mod PlanData
 pub mod Requests
 pub mod SoundFlags
+pub mod TextJoined
 pub mod Together

@@ -7,6 +7,7 @@ ghost use Rattle.shapers_arabic.specs.Breaks.{BreaksWhereClear, NoneNeedless};
 ghost use Rattle.shapers_arabic.specs.FirstPiece.{FirstKeepsAsFlagged};
 ghost use Rattle.shapers_arabic.specs.JoinedText.{AreCharacters, CutsAsHalves, buffer_joined, look_ups, text_of};
 ghost use Rattle.shapers_arabic.specs.PlanData.{IsArabic, breaks_of, masks_of};
+ghost use Rattle.shapers_arabic.specs.TextJoined.{TextJoined};
 ghost use Rattle.shapers_clusters.specs.FlagLaw.{OnlyFlagsAdded};
 
 use arrayvec::ArrayVec;
@@ -234,24 +235,9 @@ fn setup_masks_with<T: Tables, L: Ledger>(
     requires parts { blank.parts ≡ L.parts }
     requires some { 0 < blank.parts }
     requires characters { AreCharacters buffer.old.glyphs }
-    ensures joined { let table = T.tables tables.now in
+    ensures { let table = T.tables tables.now in
         let masks = arabic_plan.now.mask_array in let breaks = arabic_plan.now.break_flags in
-        buffer.new ≡ buffer_joined breaks masks script table.joining table.general buffer.old }
-    ensures cut { let table = T.tables tables.now in
-        CutsAsHalves script table.joining table.general buffer.old buffer.new }
-    ensures breaks { let table = T.tables tables.now in
-        let masks = arabic_plan.now.mask_array in let breaks = arabic_plan.now.break_flags in
-        let before = buffer.old in let after = buffer.new in
-        BreaksWhereClear breaks masks script table.joining table.general before after }
-    ensures needless { let table = T.tables tables.now in
-        let masks = arabic_plan.now.mask_array in let breaks = arabic_plan.now.break_flags in
-        let before = buffer.old in let after = buffer.new in
-        NoneNeedless breaks masks script table.joining table.general before after }
-    ensures first { let table = T.tables tables.now in
-        let masks = arabic_plan.now.mask_array in let breaks = arabic_plan.now.break_flags in
-        let before = buffer.old in let after = buffer.new in
-        FirstKeepsAsFlagged breaks masks script table.joining table.general before after }
-    ensures flags { OnlyFlagsAdded buffer.old.glyphs buffer.new.glyphs }
+        TextJoined breaks masks script table.joining table.general buffer.old buffer.new }
 {
     let mut count = LookUps::<L>::new(blank);
     setup_masks_counted(arabic_plan, script, buffer, tables, &mut count);
