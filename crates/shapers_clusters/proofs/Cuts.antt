@@ -2,7 +2,7 @@
 use Rattle.std.proofs.Common.{ℕ, suc, ◌+◌, ◌-◌, ◌<◌, ◌≤◌, ◌≡◌, ◌≢◌, ◌==◌, min, max, Bool, true, false, ◌||◌, nat_lt, ◌&&◌, ◌⊎◌, inl, inr, List, [], ◌∷◌, length, get_or, slice_index, refl, sym, ◌∙◌, ap, subst, arith}
 use Rattle.std.specs.List.{AllPairs}
 use Rattle.std.proofs.lemmas.List.{ext_get_or, get_or_default}
-use Rattle.std.proofs.lemmas.Bool.{cases_lt, eqb-false}
+use Rattle.std.proofs.lemmas.Bool.{cases_lt, eqb-false, or_parts}
 use Rattle.std.proofs.lemmas.Bool.Decides.{nat_tests}
 use Rattle.shapers_buffer.specs.declared.buffer.level.BufferClusterLevel.{BufferClusterLevel}
 use Rattle.shapers_buffer.specs.Clusters.{merges}
@@ -118,10 +118,6 @@ joined_all-ordered R o level (st ∷ sts) cs w h =
     joined_all-ordered R o level sts (joined level st.0 st.1 cs) (end_within_joined level st.0 st.1 cs sts w.0 w.1)
     (joined-ordered R o level st.0 st.1 cs w.0 h)
 
-pub or_none : (a b : Bool) → (a || b) ≡ false → (a ≡ false) × (b ≡ false)
-or_none true b h = (cc, cc)
-or_none false b h = (refl, h)
-
 pub not_in : (s e p : ℕ) → (nat_lt s p && nat_lt p e) ≡ false → s < p → p < e → ⊥
 not_in s e p h a b = grind (arith, nat_tests)
 
@@ -130,7 +126,7 @@ joined_all-cut : (R : ℕ → ℕ → Type 0) → IsOrder R → (level : BufferC
     → held sts (suc p) ≡ false → get_or (joined_all level sts cs) p 0 ≢ get_or (joined_all level sts cs) (suc p) 0
 joined_all-cut R o level [] cs w h p l ne out = ne
 joined_all-cut R o level (st ∷ sts) cs w h p l ne out =
-    let b = or_none (nat_lt st.0 (suc p) && nat_lt (suc p) st.1) (held sts (suc p)) out in
+    let b = or_parts (nat_lt st.0 (suc p) && nat_lt (suc p) st.1) (held sts (suc p)) out in
     let js = joined level st.0 st.1 cs in
     joined_all-cut R o level sts js (end_within_joined level st.0 st.1 cs sts w.0 w.1)
     (joined-ordered R o level st.0 st.1 cs w.0 h) p (omega (arith, length-joined level st.0 st.1 cs w.0))
@@ -143,7 +139,7 @@ unlinked_cut : (R : ℕ → ℕ → Type 0) → IsOrder R → (level : BufferClu
     → get_or (joined_all level sts cs) (p - 1) 0 ≢ get_or (joined_all level sts cs) p 0
 unlinked_cut R o level sts cs w h p z l n =
     let i : suc (p - 1) ≡ p = omega arith in
-    let b = or_none (slice_index cs (p - 1) == slice_index cs p) (held sts p) n in
+    let b = or_parts (slice_index cs (p - 1) == slice_index cs p) (held sts p) n in
     let P : ℕ → Type 0 = λ k. get_or (joined_all level sts cs) (p - 1) 0 ≢ get_or (joined_all level sts cs) k 0 in
     let Q : ℕ → Type 0 = λ k. get_or cs (p - 1) 0 ≢ get_or cs k 0 in
     subst P i (joined_all-cut R o level sts cs w h (p - 1) (omega arith)

@@ -9,10 +9,11 @@ use Rattle.shapers_buffer.specs.declared.buffer.level.BufferClusterLevel.{Buffer
 use Rattle.shapers_buffer.specs.Glyph.{clusters, without_flags}
 use Rattle.shapers_buffer.specs.Clusters.{least, first_cluster, last_cluster, in_cluster, flooded, merge, merge_all, stretch_of}
 use Rattle.shapers_clusters.proofs.ClusterMerges.{least-le}
-use Rattle.shapers_clusters.proofs.Merging.{merge_cases, without_flags-twice, length-merge}
+use Rattle.shapers_clusters.proofs.Merging.{merge_cases, length-merge}
 use Rattle.shapers_clusters.proofs.Appended.{least-last}
 use Rattle.shapers_clusters.specs.Flags.{FallsTo, FlagsFall}
 use Rattle.shapers_buffer.proofs.ClusterLemmas.{flood_merged, three_parts}
+use Rattle.shapers_buffer.proofs.RunLemmas.{put_twice}
 
 in_cluster-same : (g : hb_glyph_info_t) → in_cluster g.cluster g ≡ g
 in_cluster-same g = grind (arith, nat_tests)
@@ -34,26 +35,9 @@ falls_into m g h = elim (cases_lt m g.cluster) [
       → Type 0 = FallsTo g in subst Q (sym (in_cluster-same g)) (falls-same g))
 ]
 
-in_cluster-twice : (a b : ℕ) (g : hb_glyph_info_t) → a ≤ b → b ≤ g.cluster → in_cluster a (in_cluster b g)
-    ≡ in_cluster a g
-in_cluster-twice a b g h i = elim (cases_lt b g.cluster) [
-  | inr l ↦ let e : g.cluster ≡ b =
-      omega arith in ap (in_cluster a) (ap (λ k. in_cluster k g) (sym e) ∙ in_cluster-same g)
-  | inl l ↦ elim (cases_lt a b) [
-    | inl k ↦ ap (in_cluster a) (in_cluster-other b g l)
-        ∙ in_cluster-other a (record g { cluster = b; mask = without_flags g.mask }) k
-        ∙ ap (λ (x : ℕ). record g { cluster = a; mask = x }) (without_flags-twice g.mask)
-        ∙ sym (in_cluster-other a g (omega arith))
-    | inr k ↦ let e : b ≡ a = omega arith in ap (λ k. in_cluster k (in_cluster b g)) (sym e)
-        ∙ ap (in_cluster b) (in_cluster-other b g l)
-        ∙ in_cluster-same (record g { cluster = b; mask = without_flags g.mask })
-        ∙ sym (in_cluster-other b g l) ∙ ap (λ k. in_cluster k g) e
-  ]
-]
-
 falls_on : (x y z : hb_glyph_info_t) → FallsTo x y → FallsTo y z → FallsTo x z
 falls_on x y z h i =
-    (omega (arith, h.0, i.0), i.1 ∙ ap (in_cluster z.cluster) h.1 ∙ in_cluster-twice z.cluster y.cluster x i.0 h.0)
+    (omega (arith, h.0, i.0), i.1 ∙ ap (in_cluster z.cluster) h.1 ∙ put_twice z.cluster y.cluster x i.0 h.0)
 
 flags-without : (n : ℕ) → without_flags n % 8 ≡ 0
 flags-without n = omega arith

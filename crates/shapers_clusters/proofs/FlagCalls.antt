@@ -1,8 +1,8 @@
 -- What stays through the three flag calls.
-use Rattle.std.proofs.Common.{ℕ, ◌/◌, ◌%◌, ◌^◌, subst, ◌≤◌, ◌≡◌, ◌==◌, Bool, true, false, if◌then◌else◌, List, [], ◌∷◌, ◌++◌, map, take, drop, refl, sym, ◌∙◌, ap, arith}
+use Rattle.std.proofs.Common.{ℕ, ◌/◌, ◌%◌, ◌^◌, subst, ◌≤◌, ◌≡◌, ◌==◌, Bool, true, false, if◌then◌else◌, List, [], ◌∷◌, ◌++◌, map, take, drop, refl, sym, ◌∙◌, ap, arith, ◌-◌}
 use Rattle.std.specs.List.{AllByRecursion, AllZip}
-use Rattle.std.specs.Int.Bits.{bit_or, or_zero_r}
-use Rattle.std.proofs.lemmas.Nat.{or_shr, or_mod, le_or_l}
+use Rattle.std.specs.Int.Bits.{bit_or, or_zero_r, bit_and}
+use Rattle.std.proofs.lemmas.Nat.{or_shr, or_mod, le_or_l, and_mask, and_mod}
 use Rattle.std.proofs.lemmas.List.{map-append}
 use Rattle.shapers_buffer.specs.declared.buffer.glyph.hb_glyph_info_t.{hb_glyph_info_t}
 use Rattle.shapers_buffer.specs.Glyph.{plain, without_flags, clusters}
@@ -21,6 +21,13 @@ without_flags-or m bits low =
 -- bits from 8 on leave them, and show as they are
 pub flags-or : (a m : ℕ) → m % 8 ≡ 0 → bit_or a m % 8 ≡ a % 8
 flags-or a m off = or_mod a m 3 ∙ ap (bit_or (a % 8)) off ∙ or_zero_r (a % 8)
+
+-- nor do they where bits are taken away
+pub flags-and : (a m : ℕ) → m % 8 ≡ 0 → m ≤ 0xFFFFFFFF → bit_and a (0xFFFFFFFF - m) % 8 ≡ a % 8
+flags-and a m off fits =
+    let all : (0xFFFFFFFF - m) % 8 ≡ 7 = omega arith in
+    let low : a % 8 % 8 ≡ a % 8 = omega arith in
+    and_mod a (0xFFFFFFFF - m) 3 ∙ ap (bit_and (a % 8)) all ∙ and_mask (a % 8) 3 ∙ low
 
 pub plain-or : (a m : ℕ) → m % 8 ≡ 0 → without_flags (bit_or a m) ≡ bit_or (without_flags a) m
 plain-or a m off =

@@ -1,11 +1,11 @@
 -- Exact cuts where each cluster's places stand together, in whatever order: so where all clusters are different.
 use Rattle.std.proofs.Common.{ℕ, suc, ◌+◌, ◌-◌, ◌<◌, ◌≤◌, ◌≡◌, ◌≢◌, ◌==◌, true, false, nat_lt, ◌&&◌, inl, inr, List, [], ◌∷◌, length, get_or, slice_index, sym, ◌∙◌, ap, subst, arith}
-use Rattle.std.proofs.lemmas.Bool.{cases_Bool, cases_lt, eqb-false}
+use Rattle.std.proofs.lemmas.Bool.{cases_Bool, cases_lt, eqb-false, or_parts}
 use Rattle.shapers_buffer.specs.declared.buffer.level.BufferClusterLevel.{BufferClusterLevel}
 use Rattle.shapers_buffer.specs.Clusters.{merges}
 use Rattle.shapers_clusters.specs.Cuts.{AllDifferent, EndWithin, ExactCuts, held, linked}
 use Rattle.shapers_clusters.specs.ClusterMerges.{joined, joined_all}
-use Rattle.shapers_clusters.proofs.Cuts.{block_shares, not_in, or_none}
+use Rattle.shapers_clusters.proofs.Cuts.{block_shares, not_in}
 use Rattle.shapers_clusters.proofs.Neighbours.{end_within_joined, joined_all-falls, joined_all-linked, joined_all-reached, left_to, length-joined, length-joined_all, right_from}
 use Rattle.shapers_clusters.proofs.Spread.{Spread, joined_cases}
 
@@ -100,7 +100,7 @@ joined_all_cut : (level : BufferClusterLevel) (sts : List (ℕ × ℕ)) (cs : Li
     → get_or (joined_all level sts cs) p 0 ≢ get_or (joined_all level sts cs) (suc p) 0
 joined_all_cut level [] cs w g p l ne out = ne
 joined_all_cut level (st ∷ sts) cs w g p l ne out =
-    let b = or_none (nat_lt st.0 (suc p) && nat_lt (suc p) st.1) (held sts (suc p)) out in
+    let b = or_parts (nat_lt st.0 (suc p) && nat_lt (suc p) st.1) (held sts (suc p)) out in
     let js = joined level st.0 st.1 cs in
     joined_all_cut level sts js (end_within_joined level st.0 st.1 cs sts w.0 w.1)
     (joined_gathered level st.0 st.1 cs w.0 g) p (omega (arith, length-joined level st.0 st.1 cs w.0))
@@ -113,7 +113,7 @@ unlinked_cut : (level : BufferClusterLevel) (sts : List (ℕ × ℕ)) (cs : List
     → get_or (joined_all level sts cs) (p - 1) 0 ≢ get_or (joined_all level sts cs) p 0
 unlinked_cut level sts cs w g p z l n =
     let i : suc (p - 1) ≡ p = omega arith in
-    let b = or_none (slice_index cs (p - 1) == slice_index cs p) (held sts p) n in
+    let b = or_parts (slice_index cs (p - 1) == slice_index cs p) (held sts p) n in
     let P : ℕ → Type 0 = λ k. get_or (joined_all level sts cs) (p - 1) 0 ≢ get_or (joined_all level sts cs) k 0 in
     let Q : ℕ → Type 0 = λ k. get_or cs (p - 1) 0 ≢ get_or cs k 0 in
     subst P i (joined_all_cut level sts cs w g (p - 1) (omega arith)

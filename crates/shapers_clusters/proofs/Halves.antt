@@ -284,7 +284,7 @@ halves level a n xs ys gs hs ga hn f g h =
     ∙ ap (λ ts. before ++ ts) (append-nil (run_steps level ys hs))
 
 -- a step over a stretch of a stretch
-shifted-twice : (a s : ℕ) (sts : List (ℕ × ℕ)) → shifted a (shifted s sts) ≡ shifted (a + s) sts
+pub shifted-twice : (a s : ℕ) (sts : List (ℕ × ℕ)) → shifted a (shifted s sts) ≡ shifted (a + s) sts
 shifted-twice a s [] = refl
 shifted-twice a s (st ∷ sts) =
     let i : a + (s + st.0) ≡ a + s + st.0 = omega arith in
@@ -293,7 +293,7 @@ shifted-twice a s (st ∷ sts) =
     ap (λ x. (x, a + (s + st.1)) ∷ shifted a (shifted s sts)) i
     ∙ ap (λ y. (a + s + st.0, y) ∷ shifted a (shifted s sts)) j ∙ ap (λ l. (a + s + st.0, a + s + st.1) ∷ l) r
 
-added-twice : (a s : ℕ) (ps : List ℕ) → map (λ p. a + p) (map (λ p. s + p) ps) ≡ map (λ p. a + s + p) ps
+pub added-twice : (a s : ℕ) (ps : List ℕ) → map (λ p. a + p) (map (λ p. s + p) ps) ≡ map (λ p. a + s + p) ps
 added-twice a s [] = refl
 added-twice a s (p ∷ ps) = let i : a + (s + p) ≡ a + s + p =
     omega arith in ap (λ x. x ∷ map (λ p. a + p) (map (λ p. s + p) ps)) i

@@ -6,6 +6,7 @@ pub mod Bounds
 pub mod ClearPlaces
 pub mod Cuts
 pub mod StepsOutside
+pub mod EqualArguments
 pub mod Falls
 pub mod FlagCalls
 pub mod FlagLaw

@@ -5,7 +5,7 @@ use Rattle.std.proofs.lemmas.List.{length-map, ext_get_or}
 use Rattle.std.proofs.lemmas.List.Elements.{All-from_get_or, length_all_zip}
 use Rattle.std.proofs.lemmas.List.Folds.{list_any-append, list_any_at}
 use Rattle.std.proofs.lemmas.List.FromFn.{length-range_with_len, get_or-range_with_len}
-use Rattle.std.proofs.lemmas.Bool.{cases_lt}
+use Rattle.std.proofs.lemmas.Bool.{cases_lt, or_left, or_right}
 use Rattle.std.proofs.lemmas.Bool.Decides.{nat_tests}
 use Rattle.shapers_buffer.specs.declared.buffer.glyph.hb_glyph_info_t.{hb_glyph_info_t}
 use Rattle.shapers_buffer.specs.declared.buffer.level.BufferClusterLevel.{BufferClusterLevel}
@@ -171,14 +171,6 @@ clusters_stay cs places n w h =
     let k = length-pick places cs w ∙ n in
     ext_get_or 0 (pick places cs) cs k (λ i l. get_or-pick 0 places cs w i (omega arith) ∙ h i (omega arith))
 
-or_left : (a b : Bool) → a ≡ true → (a || b) ≡ true
-or_left true b h = refl
-or_left false b h = cc
-
-or_right : (a b : Bool) → b ≡ true → (a || b) ≡ true
-or_right true b h = refl
-or_right false b h = h
-
 -- places that the stretches hold together share a cluster once these are merged
 pub held_share : (level : BufferClusterLevel) → merges level ≡ true → (sts : List (ℕ × ℕ)) (cs : List ℕ)
     → EndWithin (length cs) sts → (p q : ℕ) → p < length cs → q < length cs → HeldBetween sts p q
@@ -219,7 +211,7 @@ joined-merged_steps level m (step ∷ steps) cs f =
     ∙ joined-merged_steps level m steps (joined_all level step.merged_first cs) (subst P (sym n) f.1)
     ∙ sym (joined_all-append level step.merged_first (all_first steps) cs)
 
-held_over : (sts : List (ℕ × ℕ)) (p q t : ℕ) → HeldBetween sts p q → HeldBetween sts q t → HeldBetween sts p t
+pub held_over : (sts : List (ℕ × ℕ)) (p q t : ℕ) → HeldBetween sts p q → HeldBetween sts q t → HeldBetween sts p t
 held_over sts p q t a b r x y = elim (cases_lt (min p q) r) [
   | inl h ↦ elim (cases_lt (max p q) r) [ inl g ↦ b r (omega arith) (omega arith) | inr g ↦ a r h g ]
   | inr h ↦ b r (omega arith) (omega arith)

@@ -4,16 +4,19 @@ use Rattle.std.specs.List.{AllByRecursion, range_with_len}
 use Rattle.std.specs.List.Sorted.{IsPermutation}
 use Rattle.std.proofs.lemmas.List.{length-map}
 use Rattle.std.proofs.lemmas.List.FromFn.{length-range_with_len}
-use Rattle.std.proofs.lemmas.List.Sorted.{IsPermutation-refl, IsPermutation-trans, IsPermutation-map, IsPermutation-append_left, IsPermutation-append_right, IsPermutation-swap}
+use Rattle.std.proofs.lemmas.List.Sorted.{IsPermutation-refl, IsPermutation-trans, IsPermutation-map, IsPermutation-append_left, IsPermutation-append_right, IsPermutation-swap, IsPermutation-append_comm, All-permutation, length_permutation}
 use Rattle.shapers_buffer.specs.declared.buffer.glyph.hb_glyph_info_t.{hb_glyph_info_t}
 use Rattle.shapers_buffer.specs.declared.buffer.level.BufferClusterLevel.{BufferClusterLevel}
 use Rattle.shapers_buffer.specs.Glyph.{plain, order_view}
 use Rattle.shapers_buffer.proofs.MappedLists.{all-mapped}
 use Rattle.shapers_buffer.specs.Places.{pick}
-use Rattle.shapers_clusters.specs.Steps.{Step, run_steps, moved_on, old_places, FitSteps, widened, still_step, swap_step, Permutes}
+use Rattle.shapers_clusters.specs.Steps.{Step, run_steps, moved_on, old_places, FitSteps, widened, still_step, swap_step, Permutes, FitsStep}
 use Rattle.shapers_clusters.proofs.Picks.{pick-within, nothing_picked, some_element, length-pick, pick-all, within_range}
 use Rattle.shapers_clusters.proofs.Moves.{order_view-run_steps, within-old_places}
 use Rattle.shapers_clusters.proofs.Widened.{range-three}
+use Rattle.std.proofs.lemmas.List.Elements.{All-from_recursion, recursion_from_All}
+use Rattle.shapers_buffer.specs.Lists.{first_last}
+use Rattle.shapers_clusters.specs.Cuts.{EndWithin}
 
 pick-read : {X : Type 0} (d : X) (ps : List ℕ) (xs : List X) → AllByRecursion (λ p. p < length xs) ps
     → pick ps xs ≡ map (λ p. get_or xs p d) ps
@@ -88,3 +91,29 @@ pub swap_permutes : (n i : ℕ) → i + 1 < n → Permutes n (swap_step n i)
 swap_permutes n i h = let k =
     length-range_with_len 0 n in IsPermutation-swap (range_with_len 0 n) (swap_step n i).places i (i + 1) (omega arith)
     (omega arith) refl
+
+-- places that are taken once are those below their number, and as many; so such a step fits
+pub within_permuted : (n : ℕ) (places : List ℕ) → IsPermutation (range_with_len 0 n) places
+    → AllByRecursion (λ p. p < n) places
+within_permuted n places perm =
+    let P : ℕ → Type 0 = λ p. p < n in
+    recursion_from_All P places
+    (All-permutation P (range_with_len 0 n) places perm
+    (All-from_recursion P (range_with_len 0 n) (within_range 0 n n (omega arith))))
+
+pub length_permuted : (n : ℕ) (places : List ℕ) → IsPermutation (range_with_len 0 n) places → length places ≡ n
+length_permuted n places perm = length_permutation (range_with_len 0 n) places perm ∙ length-range_with_len 0 n
+
+pub fits_permuted : (n : ℕ) (step : Step) → Permutes n step → EndWithin n step.merged_first
+    → EndWithin n step.merged_then → FitsStep n step
+fits_permuted n step perm first last = record {
+  as_many = length_permuted n step.places perm;
+  within = within_permuted n step.places perm;
+  first_within = first;
+  then_within = last;
+}
+
+-- the first as the last loses nothing
+pub permuted-first_last : {X : Type 0} (xs : List X) → IsPermutation xs (first_last xs)
+permuted-first_last [] = IsPermutation-refl []
+permuted-first_last (x ∷ xs) = IsPermutation-append_comm (x ∷ []) xs

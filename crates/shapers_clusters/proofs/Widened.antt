@@ -293,3 +293,10 @@ order_view-along level s (piece ∷ rest) gs l f =
     ∙ ap (λ ys. ys ++ reordered_along rest (drop (s + piece.0) ((a ++ b) ++ c))) (take_at (a ++ b) c (s + piece.0) abn)
     ∙ ap (λ ys. (a ++ b) ++ reordered_along rest ys) (drop_at (a ++ b) c (s + piece.0) abn)
     ∙ append_assoc a b (reordered_along rest c)
+
+-- a stretch and what is behind it
+pub stretch-rest : {X : Type 0} (s e : ℕ) (xs : List X) → s ≤ e → stretch_of s e xs ++ drop e xs ≡ drop s xs
+stretch-rest s e xs h =
+    let n : s + (e - s) ≡ e = omega arith in
+    ap (λ ys. stretch_of s e xs ++ ys) (ap (λ k. drop k xs) (sym n) ∙ sym (drop-drop (e - s) s xs))
+    ∙ take-append-drop (e - s) (drop s xs)
