@@ -293,13 +293,13 @@ shifted-twice a s (st ∷ sts) =
     ap (λ x. (x, a + (s + st.1)) ∷ shifted a (shifted s sts)) i
     ∙ ap (λ y. (a + s + st.0, y) ∷ shifted a (shifted s sts)) j ∙ ap (λ l. (a + s + st.0, a + s + st.1) ∷ l) r
 
-pub added-twice : (a s : ℕ) (ps : List ℕ) → map (λ p. a + p) (map (λ p. s + p) ps) ≡ map (λ p. a + s + p) ps
+added-twice : (a s : ℕ) (ps : List ℕ) → map (λ p. a + p) (map (λ p. s + p) ps) ≡ map (λ p. a + s + p) ps
 added-twice a s [] = refl
 added-twice a s (p ∷ ps) = let i : a + (s + p) ≡ a + s + p =
     omega arith in ap (λ x. x ∷ map (λ p. a + p) (map (λ p. s + p) ps)) i
     ∙ ap (λ l. (a + s + p) ∷ l) (added-twice a s ps)
 
-ranges-join : (a b j k l : ℕ) → a + j ≡ b → j + k ≡ l → range_with_len a j ++ range_with_len b k ≡ range_with_len a l
+pub ranges-join : (a b j k l : ℕ) → a + j ≡ b → j + k ≡ l → range_with_len a j ++ range_with_len b k ≡ range_with_len a l
 ranges-join a b j k l e f = ap (λ x. range_with_len a j ++ range_with_len x k) (sym e) ∙ sym (range-append a j k)
     ∙ ap (range_with_len a) f
 
@@ -352,7 +352,7 @@ map-widened a b n s k (step ∷ steps) h i j =
     ∙ ap (λ l. widened (a + s) (a + s + k) n step ∷ l) (map-widened a b n s k steps h i j)
 
 -- the steps of neighbouring stretches within a half, as those within the whole
-along-widened : (a b n s : ℕ) (pieces : List (ℕ × List Step)) → s + sum_by (λ piece. piece.0) pieces ≤ b - a → a ≤ b
+pub along-widened : (a b n s : ℕ) (pieces : List (ℕ × List Step)) → s + sum_by (λ piece. piece.0) pieces ≤ b - a → a ≤ b
     → b ≤ n → map (widened a b n) (steps_along (b - a) s pieces) ≡ steps_along n (a + s) pieces
 along-widened a b n s [] l i j = refl
 along-widened a b n s (piece ∷ rest) l i j =

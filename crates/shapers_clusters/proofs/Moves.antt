@@ -1,5 +1,5 @@
 -- What steps do: to the order view, to each glyph's cluster and flags, and to the list of clusters.
-use Rattle.std.proofs.Common.{ℕ, ◌-◌, ◌<◌, ◌≤◌, ◌≡◌, inl, inr, ◌||◌, Bool, true, false, min, max, List, [], ◌∷◌, length, get_or, refl, sym, ◌∙◌, ap, subst, arith, append_assoc, if◌then◌else◌, ◌&&◌, not, nat_lt, ◌++◌, map}
+use Rattle.std.proofs.Common.{ℕ, ◌-◌, ◌<◌, ◌≤◌, ◌≡◌, inl, inr, true, false, min, max, List, [], ◌∷◌, length, get_or, refl, sym, ◌∙◌, ap, subst, arith, append_assoc, if◌then◌else◌, ◌&&◌, not, nat_lt, ◌++◌, map}
 use Rattle.std.specs.List.{All, AllByRecursion, AllZip, fold, range_with_len}
 use Rattle.std.proofs.lemmas.List.{length-map, ext_get_or}
 use Rattle.std.proofs.lemmas.List.Elements.{All-from_get_or, length_all_zip}

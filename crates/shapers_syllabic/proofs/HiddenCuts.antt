@@ -193,7 +193,7 @@ same-by f gs hs same =
     ap (map (map unnumbered)) (syllables-by f gs) ∙ pieces_same (by f) (mask_keeps f) (syllables gs) (syllables hs) same
     ∙ sym (ap (map (map unnumbered)) (syllables-by f hs))
 
-map-twice : (h : hb_glyph_info_t → hb_glyph_info_t) (gs : Glyphs) → map (λ g. unnumbered (h g)) gs
+pub map-twice : (h : hb_glyph_info_t → hb_glyph_info_t) (gs : Glyphs) → map (λ g. unnumbered (h g)) gs
     ≡ map unnumbered (map h gs)
 map-twice h [] = refl
 map-twice h (g ∷ gs) = ap (λ l. unnumbered (h g) ∷ l) (map-twice h gs)

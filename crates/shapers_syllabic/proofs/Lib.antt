@@ -10,6 +10,7 @@ mod OpenedCircles
 pub mod LawsThen
 pub mod LinkedSyllables
 pub mod NonePass
+pub mod PartAfter
 pub mod PauseCuts
 pub mod ReorderingCuts
 pub mod ReorderingLaws
