@@ -1,7 +1,7 @@
 -- Glyph flags of the places that are at no opening inside a word.
 use Rattle.std.proofs.Common.{ℕ, ◌+◌, ◌-◌, ◌<◌, ◌≤◌, ◌≡◌, ◌==◌, ◌||◌, ◌&&◌, Bool, true, false, inl, inr, List, [], ◌∷◌, ◌++◌, map, length, length-append, take, drop, get_or, Option, refl, sym, ◌∙◌, ap, subst, arith}
 use Rattle.std.specs.List.{AllByRecursion, flat_map, sum_by}
-use Rattle.std.proofs.lemmas.Bool.{cases_Bool, cases_lt, eqb-false}
+use Rattle.std.proofs.lemmas.Bool.{cases_Bool, cases_lt, eqb-false, or_parts}
 use Rattle.std.proofs.lemmas.Bool.Decides.{nat_tests}
 use Rattle.std.proofs.lemmas.List.{get_or-append_right, get_or-drop, get_or-map, get_or-take, get_or_append_left, length-drop, length-map, length-take, length-take-le}
 use Rattle.std.proofs.lemmas.List.Elements.{AllZip-get_or}
@@ -27,7 +27,6 @@ use Rattle.shapers_indic_final.specs.declared.ot_shaper_indic_final.rules.Rules.
 use Rattle.shapers_indic_final.proofs.FinalLaws.{final_laws}
 use Rattle.shapers_indic_final.proofs.FinalText.{length-syllable, steps_from, syllable_fits, syllable_steps}
 use Rattle.shapers_syllabic.specs.Reordering.{carried}
-use Rattle.shapers_clusters.proofs.Cuts.{or_none}
 use Rattle.shapers_clusters.proofs.KeptPlaces.{keeps_along}
 use Rattle.shapers_clusters.proofs.Moves.{old_places_then}
 use Rattle.shapers_syllabic.proofs.ReorderingLaws.{each_piece}
@@ -45,7 +44,7 @@ bound_elsewhere s true gs i l none =
     let xs = take a gs in
     let ys = flagged 3 part in
     let zs = drop e gs in
-    let apart = or_none (i == s) (i + 1 == s) none in
+    let apart = or_parts (i == s) (i + 1 == s) none in
     let here = eqb-false i s apart.0 in
     let before = eqb-false (i + 1) s apart.1 in
     elim (cases_lt i a) [
@@ -101,7 +100,7 @@ elsewhere r script level s before (syl ∷ syls) ys l i h none =
     let long = length-syllable r script level s before syl ys within in
     let fits = syllable_fits r script s n syl within in
     let b = is_bound before (final_order r script syl) in
-    let parts = or_none (b && (i == s || i + 1 == s)) (at_opening r script t next syls i) none in
+    let parts = or_parts (b && (i == s || i + 1 == s)) (at_opening r script t next syls i) none in
     let rest : FlagsFall (get_or (pick nexts zs) i d) (get_or end i d) =
     subst (λ k. FlagsFall (get_or (pick (old_places k (steps_from r script k t syls)) zs) i d) (get_or end i d))
     long (elsewhere r script level t next syls zs (omega (arith, all, long)) i (omega (arith, long)) parts.1) in
