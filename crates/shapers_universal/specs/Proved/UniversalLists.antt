@@ -112,8 +112,7 @@ permuted-reversed_first test xs =
     (IsPermutation-filter_both test (λ x. not (test x)) (λ x. refl) xs)
     (IsPermutation-append_left no yes (reverse yes) (IsPermutation-reverse yes))
 
--- nor does a list with its first behind others
-
+-- nor does a list with the first of its front behind the others of it
 pub permuted-first_behind : {X : Type 0} (n : ℕ) (xs : List X) → IsPermutation xs (first_behind n xs)
 permuted-first_behind n xs =
     subst (λ ys. IsPermutation ys (first_behind n xs)) (take-append-drop n xs)
