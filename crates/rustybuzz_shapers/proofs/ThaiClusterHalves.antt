@@ -32,7 +32,7 @@ use Rattle.rustybuzz_shapers.proofs.ThaiHalves.{cut_at}
 abbrev pub merging : ℕ → List (ℕ × ℕ) → Step
 merging n sts = record { merged_first = sts; places = range_with_len 0 n; merged_then = [] }
 
-merging_fits : (n : ℕ) (sts : List (ℕ × ℕ)) → EndWithin n sts → FitsStep n (merging n sts)
+pub merging_fits : (n : ℕ) (sts : List (ℕ × ℕ)) → EndWithin n sts → FitsStep n (merging n sts)
 merging_fits n sts within = record {
   as_many = length-range_with_len 0 n;
   within = all-range (λ p. p < n) 0 n (λ p low high. omega (arith, high));
@@ -55,7 +55,7 @@ none_added n = omega arith
 none_taken : (n : ℕ) → n - 0 ≡ n
 none_taken n = omega arith
 
-unshifted : (sts : List (ℕ × ℕ)) → shifted 0 sts ≡ sts
+pub unshifted : (sts : List (ℕ × ℕ)) → shifted 0 sts ≡ sts
 unshifted [] = refl
 unshifted (st ∷ sts) =
     ap (λ (p : ℕ). (p, 0 + st.1) ∷ shifted 0 sts) (none_added st.0)
@@ -158,7 +158,7 @@ each_shifted level us v ms (w ∷ vs) low =
     ∙ ap (λ p. shifted n (stretches_at level l w p ++ stretches_of_each level (each_after (v ∷ (ms ++ w ∷ [])) vs)))
     (sym (suffix_len_stop is_above_base [] v ms low))
 
-each_after-append : (before us vs : List ℕ) → each_after before (us ++ vs) ≡ each_after before us
+pub each_after-append : (before us vs : List ℕ) → each_after before (us ++ vs) ≡ each_after before us
     ++ each_after (before ++ us) vs
 each_after-append before [] vs = ap (λ b. each_after b vs) (sym (append-nil before))
 each_after-append before (u ∷ us) vs =

@@ -2,7 +2,6 @@
 use Rattle.std.proofs.Common.{ℕ, zero, suc, if◌then◌else◌, ◌+◌, ◌-◌, ◌<◌, ◌≤◌, ◌≡◌, ◌≢◌, true, false, List, [], ◌∷◌, ◌++◌, length, map, take, drop, get_or, refl, sym, ap, ◌∙◌, subst, arith, inl, inr, length-append}
 use Rattle.std.specs.Prelude.{Bool, Option, None, Some}
 use Rattle.std.specs.List.{AllByRecursion, flat_map, sum_by}
-use Rattle.std.proofs.lemmas.Bool.{cases_lt}
 use Rattle.std.proofs.lemmas.List.{get_or-append_right, get_or_append_left, length-map, take-map}
 use Rattle.std.proofs.lemmas.List.Folds.{flat_map-map}
 use Rattle.std.proofs.lemmas.List.Sorted.{length_permutation}
@@ -12,7 +11,7 @@ use Rattle.shapers_buffer.specs.Clusters.{merges}
 use Rattle.shapers_buffer.specs.Glyph.{clusters, order_view, plain}
 use Rattle.shapers_buffer.specs.Syllables.{syllables}
 use Rattle.shapers_clusters.specs.Breaks.{IsClear}
-use Rattle.shapers_clusters.specs.Cuts.{IsFalling, IsMonotone, IsRising}
+use Rattle.shapers_clusters.specs.Cuts.{IsMonotone}
 use Rattle.shapers_clusters.specs.Steps.{FitsStep, MovesMerged, Permutes, Step, run_steps}
 use Rattle.shapers_clusters.proofs.Proved.{along_holds}
 use Rattle.shapers_syllabic.specs.Circles.{circle_in, circled, circled_syllable, is_of_kind, rephas_len, with_circle}
@@ -26,7 +25,7 @@ use Rattle.shapers_syllabic.proofs.ReorderingLaws.{each_piece, nothing_lost, sum
 use Rattle.shapers_syllabic.proofs.ReorderingLemmas.{carried_hides}
 use Rattle.shapers_syllabic.proofs.ReorderingWalk.{pieces_of}
 use Rattle.shapers_breaks.specs.SetUp.{FlaggedAt}
-use Rattle.shapers_breaks.proofs.ClearSteps.{clear_before}
+use Rattle.shapers_breaks.proofs.ClearSteps.{clear_before, up_to, down_to}
 use Rattle.shapers_breaks.proofs.Guarded.{IsWhole, border_or_flagged, circled_whole, clear_not_flagged}
 use Rattle.shapers_breaks.proofs.SetUp.{Glyphs}
 
@@ -129,18 +128,6 @@ length-paused meaning steps laws circles gs =
     (circled circles gs) plain
 
 -- clusters that rise or fall, and differ at a cut, are apart on both sides of it
-rising_at : (cs : List ℕ) → IsRising cs → (a b : ℕ) → a ≤ b → b < length cs → get_or cs a 0 ≤ get_or cs b 0
-rising_at cs up a b h l = elim (cases_lt a b) [
-  | inl less ↦ up a b 0 less l
-  | inr more ↦ let same : a ≡ b = omega arith in omega (arith, ap (λ k. get_or cs k 0) same)
-]
-
-falling_at : (cs : List ℕ) → IsFalling cs → (a b : ℕ) → a ≤ b → b < length cs → get_or cs b 0 ≤ get_or cs a 0
-falling_at cs down a b h l = elim (cases_lt a b) [
-  | inl less ↦ down a b 0 less l
-  | inr more ↦ let same : a ≡ b = omega arith in omega (arith, ap (λ k. get_or cs k 0) same)
-]
-
 pub apart_at : (cs ds : List ℕ) → IsMonotone (cs ++ ds) → 0 < length cs → 0 < length ds → get_or (cs ++ ds)
     (length cs - 1) 0 ≢ get_or (cs ++ ds) (length cs) 0 → (i j : ℕ) → i < length cs → j < length ds
     → get_or cs i 0 ≢ get_or ds j 0
@@ -154,14 +141,14 @@ apart_at cs ds mono a b ne i j il jl same =
     (λ k. get_or ds k 0) back in
     elim mono [
       | inl up ↦
-          let x = rising_at all up i (n - 1) (omega arith) (omega arith) in
-          let y = rising_at all up (n - 1) n (omega arith) (omega arith) in
-          let z = rising_at all up n (n + j) (omega arith) (omega arith) in
+          let x = up_to all up i (n - 1) (omega arith) (omega arith) in
+          let y = up_to all up (n - 1) n (omega arith) (omega arith) in
+          let z = up_to all up n (n + j) (omega arith) (omega arith) in
           ne (omega arith)
       | inr down ↦
-          let x = falling_at all down i (n - 1) (omega arith) (omega arith) in
-          let y = falling_at all down (n - 1) n (omega arith) (omega arith) in
-          let z = falling_at all down n (n + j) (omega arith) (omega arith) in
+          let x = down_to all down i (n - 1) (omega arith) (omega arith) in
+          let y = down_to all down (n - 1) n (omega arith) (omega arith) in
+          let z = down_to all down n (n + j) (omega arith) (omega arith) in
           ne (omega arith)
     ]
 

@@ -33,8 +33,9 @@ use Rattle.shapers_breaks.specs.ClearSteps.{ClearWasClear}
 use Rattle.shapers_breaks.specs.MarkBreaks.{MarksBreakLaw, MarksBroken, NoneClearInside, marks_after}
 use Rattle.shapers_breaks.proofs.CircledBorders.{apart_at}
 use Rattle.shapers_breaks.proofs.ClearSteps.{clear_before, clear_before_held}
-use Rattle.shapers_breaks.proofs.MergedHalves.{changed_behind, changed_front, merged_at_back, merged_in_front, shifted_twice, stretch_behind, stretch_front}
+use Rattle.shapers_breaks.proofs.MergedHalves.{changed_behind, changed_front, merged_at_back, merged_in_front, stretch_behind, stretch_front}
 use Rattle.shapers_breaks.proofs.SetUp.{Glyphs}
+use Rattle.shapers_clusters.proofs.Halves.{shifted-twice}
 
 -- halves of a text at a border of clusters share none
 pub halves_apart : (gs : Glyphs) (p : ℕ) → 0 < p → p < length gs → IsMonotone (clusters gs)
@@ -137,7 +138,7 @@ arabic_behind level s e xs ys a h l none =
     let back : p + t ≡ s = omega arith in
     let stretches : shifted s (merges_of (stretch_of s e (xs ++ ys))) ≡ shifted p sts = ap
     (λ marks. shifted s (merges_of marks)) same ∙ ap (λ k. shifted k (merges_of (stretch_of t u ys))) (sym back) ∙ sym
-    (shifted_twice p t (merges_of (stretch_of t u ys))) in
+    (shifted-twice p t (merges_of (stretch_of t u ys))) in
     let merged : marks_merged level s e (xs ++ ys) ≡ xs ++ marks_merged level t u ys =
     arabic_merged level s e (xs ++ ys)
     ∙ ap (λ l. merge_all level l (xs ++ ys)) stretches
@@ -344,13 +345,6 @@ arabic_alike level = record { nothing = no_run level; behind = arabic_behind lev
 
 hebrew_alike : (level : BufferClusterLevel) → BreaksAlike (marks_after Hebrew level)
 hebrew_alike level = record { nothing = no_triple level; behind = hebrew_behind level; front = hebrew_front level }
-
-same_alike : BreaksAlike (λ s e gs. gs)
-same_alike = record {
-  nothing = λ p gs. refl;
-  behind = λ s e xs ys a h l none. refl;
-  front = λ s e xs ys h l none. refl;
-}
 
 same_broken : (shaper : hb_ot_shaper_t) (level : BufferClusterLevel) →
     ((s e : ℕ) (gs : Glyphs) → marks_after shaper level s e gs ≡ gs) → (s e : ℕ) (old new : Buffer) → s ≤ e

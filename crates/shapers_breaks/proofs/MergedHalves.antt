@@ -1,39 +1,24 @@
 -- Merges and changes within one half of a text.
 use Rattle.std.proofs.Common.{ℕ, zero, suc, ◌+◌, ◌-◌, ◌≤◌, ◌≡◌, List, [], ◌∷◌, ◌++◌, length, take, drop, refl, sym, ap, ◌∙◌, subst, arith, append_assoc, length-append, length-drop}
-use Rattle.std.specs.List.{range_with_len, sum_by}
+use Rattle.std.specs.List.{sum_by}
 use Rattle.std.proofs.lemmas.List.{drop-append-le, take-append-le}
-use Rattle.std.proofs.lemmas.List.FromFn.{length-range_with_len}
 use Rattle.std.proofs.lemmas.List.Sums.{sum_by-cons}
 use Rattle.shapers_buffer.specs.declared.buffer.level.BufferClusterLevel.{BufferClusterLevel}
 use Rattle.shapers_buffer.specs.Clusters.{merge_all, stretch_of, with_stretch}
 use Rattle.shapers_buffer.specs.Places.{pick}
 use Rattle.shapers_clusters.specs.Cuts.{EndWithin, ShareNone}
-use Rattle.shapers_clusters.specs.Steps.{FitsStep, Step, run_step, shifted, widened}
+use Rattle.shapers_clusters.specs.Steps.{Step, run_step, shifted, widened}
 use Rattle.shapers_clusters.proofs.Merging.{length-merge_all}
-use Rattle.shapers_clusters.proofs.Picks.{pick-all, within_range}
+use Rattle.shapers_clusters.proofs.Picks.{pick-all}
 use Rattle.shapers_clusters.proofs.Proved.{halves_hold}
 use Rattle.shapers_clusters.proofs.Widened.{range-three}
 use Rattle.shapers_breaks.proofs.SetUp.{Glyphs}
-
--- the step of n places that merges these stretches and moves nothing
-merging : ℕ → List (ℕ × ℕ) → Step
-merging n sts = record { merged_first = sts; places = range_with_len 0 n; merged_then = [] }
-
-merging_fits : (n : ℕ) (sts : List (ℕ × ℕ)) → EndWithin n sts → FitsStep n (merging n sts)
-unfolding merging
-merging_fits n sts w = record {
-  as_many = length-range_with_len 0 n;
-  within = within_range 0 n n
-      (omega arith);
-  first_within = w;
-  then_within = tt;
-}
+use Rattle.rustybuzz_shapers.proofs.ThaiClusterHalves.{merging, merging_fits, unshifted}
 
 -- over a stretch of a text
 run_merging : (level : BufferClusterLevel) (s e n : ℕ) (sts : List (ℕ × ℕ)) (gs : Glyphs) → s ≤ e → e ≤ n → length gs
     ≡ n → EndWithin n (shifted s sts) → run_step level (widened s e n (merging (e - s) sts)) gs ≡ merge_all level
     (shifted s sts) gs
-unfolding merging
 run_merging level s e n sts gs h l long w =
     let ms = merge_all level (shifted s sts) gs in
     let W : ℕ → Type 0 = λ k. EndWithin k (shifted s sts) in
@@ -43,25 +28,6 @@ run_merging level s e n sts gs h l long w =
 shifted_within : (s m n : ℕ) (sts : List (ℕ × ℕ)) → s + m ≤ n → EndWithin m sts → EndWithin n (shifted s sts)
 shifted_within s m n [] h w = tt
 shifted_within s m n (st ∷ sts) h w = (omega (arith, w.0), shifted_within s m n sts h w.1)
-
-shifted_zero : (sts : List (ℕ × ℕ)) → shifted 0 sts ≡ sts
-shifted_zero [] = refl
-shifted_zero ((a, b) ∷ sts) =
-    let pair : ℕ → ℕ → ℕ × ℕ = λ x y. (x, y) in
-    let x : 0 + a ≡ a = omega arith in
-    let y : 0 + b ≡ b = omega arith in
-    ap (λ i. pair i (0 + b) ∷ shifted 0 sts) x ∙ ap (λ i. pair a i ∷ shifted 0 sts) y ∙ ap (λ l. pair a b ∷ l)
-    (shifted_zero sts)
-
-pub shifted_twice : (p s : ℕ) (sts : List (ℕ × ℕ)) → shifted p (shifted s sts) ≡ shifted (p + s) sts
-shifted_twice p s [] = refl
-shifted_twice p s ((a, b) ∷ sts) =
-    let pair : ℕ → ℕ → ℕ × ℕ = λ x y. (x, y) in
-    let x : p + (s + a) ≡ p + s + a = omega arith in
-    let y : p + (s + b) ≡ p + s + b = omega arith in
-    ap (λ i. pair i (p + (s + b)) ∷ shifted p (shifted s sts)) x ∙ ap
-    (λ i. pair (p + s + a) i ∷ shifted p (shifted s sts)) y ∙ ap (λ l. pair (p + s + a) (p + s + b) ∷ l)
-    (shifted_twice p s sts)
 
 -- over a piece of a text that is given by its length
 run_piece : (level : BufferClusterLevel) (s m n : ℕ) (sts : List (ℕ × ℕ)) (gs : Glyphs) → s + m ≤ n → length gs ≡ n
@@ -87,7 +53,7 @@ merged_at_back level sts xs ys w none =
     (xs ++ ys) = run_piece level (0 + p) m (p + m) sts (xs ++ ys) (omega arith) (length-append xs ys) w ∙ ap
     (λ k. merge_all level (shifted k sts) (xs ++ ys)) start in
     let half : run_step level (widened 0 (0 + m) m mo) ys ≡ merge_all level sts ys = run_piece level 0 m m sts ys
-    (omega arith) refl w ∙ ap (λ l. merge_all level l ys) (shifted_zero sts) in
+    (omega arith) refl w ∙ ap (λ l. merge_all level l ys) (unshifted sts) in
     sym whole ∙ halves_hold level ((p, []) ∷ []) ((m, mo ∷ []) ∷ []) xs ys (one_piece p []) (one_piece m (mo ∷ []))
     (tt, tt) ((merging_fits m sts w, tt), tt) none ∙ ap (λ l. xs ++ l) half
 
@@ -99,9 +65,9 @@ merged_in_front level sts xs ys w none =
     let mo = merging p sts in
     let whole : run_step level (widened 0 (0 + p) (p + m) mo) (xs ++ ys) ≡ merge_all level sts
     (xs ++ ys) = run_piece level 0 p (p + m) sts (xs ++ ys) (omega arith) (length-append xs ys) w ∙ ap
-    (λ l. merge_all level l (xs ++ ys)) (shifted_zero sts) in
+    (λ l. merge_all level l (xs ++ ys)) (unshifted sts) in
     let half : run_step level (widened 0 (0 + p) p mo) xs ≡ merge_all level sts xs = run_piece level 0 p p sts xs
-    (omega arith) refl w ∙ ap (λ l. merge_all level l xs) (shifted_zero sts) in
+    (omega arith) refl w ∙ ap (λ l. merge_all level l xs) (unshifted sts) in
     sym whole ∙ halves_hold level ((p, mo ∷ []) ∷ []) ((m, []) ∷ []) xs ys (one_piece p (mo ∷ [])) (one_piece m [])
     ((merging_fits p sts w, tt), tt) (tt, tt) none ∙ ap (λ l. l ++ ys) half
 

@@ -20,7 +20,7 @@ use Rattle.shapers_text.specs.Thai.{SaraAmRule, glyph_rule, glyphs_in_two, in_tw
 use Rattle.shapers_text.specs.ThaiWalk.{text_with_pending}
 use Rattle.shapers_text.proofs.ThaiInTwo.{held_push_other, in_two_push, in_two_push_am, pending_push_mark}
 use Rattle.shapers_text.proofs.ThaiStretches.{characters-merge_all, stretches_within}
-use Rattle.rustybuzz_shapers.proofs.ThaiClusterHalves.{merged_halves}
+use Rattle.rustybuzz_shapers.proofs.ThaiClusterHalves.{merged_halves, each_after-append}
 use Rattle.shapers_breaks.specs.ThaiBreaks.{sara_ams_taken}
 
 -- THE REWRITING
@@ -198,13 +198,6 @@ each_behind level us ms (w ∷ vs) some none =
     ∙ ap (λ b. shifted n own ++ stretches_of_each level (each_after b vs)) (append_assoc us ms (w ∷ []))
     ∙ ap (λ sts. shifted n own ++ sts) (each_behind level us (ms ++ w ∷ []) vs some later)
     ∙ sym (map-append (λ (st : ℕ × ℕ). (n + st.0, n + st.1)) own rest)
-
-each_after-append : (before us vs : List ℕ) → each_after before (us ++ vs) ≡ each_after before us
-    ++ each_after (before ++ us) vs
-each_after-append before [] vs = ap (λ b. each_after b vs) (sym (append-nil before))
-each_after-append before (u ∷ us) vs =
-    ap (λ xs. (before, u) ∷ xs) (each_after-append (before ++ u ∷ []) us vs
-    ∙ ap (λ b. each_after (before ++ u ∷ []) us ++ each_after b vs) (append_assoc before (u ∷ []) us))
 
 stretches_cut : (level : BufferClusterLevel) (us vs : List ℕ) → 0 < length us → MergesNone level us [] vs
     → sara_am_stretches level (us ++ vs) ≡ sara_am_stretches level us

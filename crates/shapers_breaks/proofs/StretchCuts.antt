@@ -22,6 +22,7 @@ use Rattle.shapers_stretch.specs.Stretch.{Copy, Laying, copies, copies_of, has_r
 use Rattle.shapers_stretch.proofs.Flagging.{flag_cell, tiles_are, unbroken_is}
 use Rattle.shapers_stretch.proofs.LastParts.{last_run_after, one_part, run_split}
 use Rattle.shapers_stretch.proofs.Parts.{parts-append}
+use Rattle.shapers_clusters.proofs.LabelsAsMerged.{all_split}
 
 abbrev tile : Cell → Bool
 tile c = is_tile c.0
@@ -42,11 +43,6 @@ two_cuts (x ∷ xs) (p ∷ ps) ys rest same short =
     let first : p ≡ x = sym (ap (λ l. get_or l 0 x) same) in
     let (zs, (front, back)) = two_cuts xs ps ys rest (ap (drop 1) same) (omega (arith, short)) in
     (zs, (ap (λ y. y ∷ ps) first ∙ ap (λ l. x ∷ l) front, back))
-
-all_parts : {X : Type 0} (P : X → Type 0) (xs ys : List X) → AllByRecursion P (xs ++ ys) → AllByRecursion P xs
-    × AllByRecursion P ys
-all_parts P [] ys all = (tt, all)
-all_parts P (x ∷ xs) ys all = let (first, second) = all_parts P xs ys all.1 in ((all.0, first), second)
 
 all_turned : {X : Type 0} (P : X → Type 0) (xs : List X) → AllByRecursion P xs → AllByRecursion P (reverse xs)
 all_turned P [] all = tt
@@ -252,7 +248,7 @@ copies_show : (test : hb_glyph_info_t → Bool) (font : Font) (ps : List GlyphPo
 copies_show test font ps ms [] all = tt
 copies_show test font ps ms (t ∷ ts) all =
     let z = measured font ps ms in
-    let (first, second) = all_parts (λ (copy : Copy). test copy.tile.0 ≡ false) (copies_of font z t)
+    let (first, second) = all_split (λ (copy : Copy). test copy.tile.0 ≡ false) (copies_of font z t)
     (flat_map (copies_of font z) ts) all in
     (first.0, copies_show test font ps ms ts second)
 
@@ -272,7 +268,7 @@ over_shows test how ps ms word tiles all =
     let z = measured how.font ps ms in
     let f = flag_cell (least (clusters (glyphs_of (word ++ tiles)))) in
     let whole = unbroken (word ++ tiles) in
-    let (first, second) = all_parts (λ c. test c.0 ≡ false) (take (length word) whole)
+    let (first, second) = all_split (λ c. test c.0 ≡ false) (take (length word) whole)
     (reverse (laid_run how z (drop (length word) whole))) all in
     let word_is : take (length word) whole ≡ map f word =
     ap (take (length word)) (unbroken_is (word ++ tiles) ∙ map-append f word tiles)
@@ -340,12 +336,12 @@ inside_run how xs ys before word tiles l (b ∷ rs) more cut some behind first s
             ∙ sym (append_assoc p.front (p.last ∷ []) (b ∷ rs)));
         shown = λ test none.
             let P : Cell → Type 0 = λ c. test c.0 ≡ false in
-            let part = (all_parts P (before ++ run_made how word tiles) (stretched how more)
+            let part = (all_split P (before ++ run_made how word tiles) (stretched how more)
             (subst (NoneOf test) made none)).0 in
-            let run = (all_parts P before (run_made how word tiles) part).1 in
+            let run = (all_split P before (run_made how word tiles) part).1 in
             let flags = over_shows test how (positions_of word) (glyphs_of tiles) word tiles run in
             let cells = subst (λ zs. NoneOf test (map (flag_cell m) zs)) whole flags in
-            let behind = (all_parts P (map (flag_cell m) p.front) (map (flag_cell m) (p.last ∷ (b ∷ rs)))
+            let behind = (all_split P (map (flag_cell m) p.front) (map (flag_cell m) (p.last ∷ (b ∷ rs)))
             (subst (NoneOf test) (map-append (flag_cell m) p.front (p.last ∷ (b ∷ rs))) cells)).1 in
             (behind.0, behind.1.0);
       }
@@ -483,7 +479,7 @@ cut_behind how xs ys others tiles os ts part follows some cut =
         least = i.least;
         low_a = i.low_a;
         low_b = i.low_b;
-        shown = λ test none. i.shown test (all_parts (λ c. test c.0 ≡ false) (stretched_part how p)
+        shown = λ test none. i.shown test (all_split (λ c. test c.0 ≡ false) (stretched_part how p)
             (stretched how (xs ++ ys)) (subst (NoneOf test) whole none)).1;
       })
     ]

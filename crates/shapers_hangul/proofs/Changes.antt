@@ -18,7 +18,7 @@ use Rattle.shapers_hangul.specs.RewritingWalk.{rewritten_items, InTurn, change_o
 use Rattle.shapers_hangul.proofs.ItemFlags.{characters-items_flagged, length-items_flagged}
 use Rattle.shapers_hangul.proofs.Items.{taken_some, first_item-within, items_at_fit}
 use Rattle.shapers_hangul.proofs.Outputs.{characters-outputs}
-use Rattle.shapers_hangul.proofs.Walks.{kept_stays, one_unflagged, staying_next, glyphs_end, glyphs_next, length-characters, length-all_joined, length-item_output}
+use Rattle.shapers_hangul.proofs.Walks.{kept_stays, one_unflagged, staying_next, glyphs_next, length-characters, length-all_joined, length-item_output}
 
 -- a choice by whether an item is kept
 by_kept : (P : List (ℕ × Item) → Type 0) (item : Item) (a b : List (ℕ × Item)) → (is_kept item ≡ true → P a)
@@ -67,12 +67,7 @@ joined_changes level (p ∷ cut) gs =
     ∙ ap (all_joined level cut) (sym ((kept_stays p.1 stays).unjoined level p.0 gs)))
     (λ _. joined_changes level cut (item_joined level p.0 p.1 gs))
 
--- without an item nothing is flagged
-none_flagged : (breaks : BreakFlags) (gs : List hb_glyph_info_t) → items_flagged breaks [] gs ≡ gs
-none_flagged AsCode gs = refl
-none_flagged Sound gs = refl
-
--- nor is what is kept
+-- what is kept is flagged by no rewriting
 pub flagged_changes : (cut : List (ℕ × Item)) (gs : List hb_glyph_info_t)
     → unsafe_all (whole_items (rewritten_items cut)) gs ≡ unsafe_all (whole_items cut) gs
 flagged_changes [] gs = refl
@@ -344,18 +339,6 @@ length-flagged breaks font b =
     ∙ ap (outputs character_copies cut) (characters-items_flagged breaks cut joined)
     ∙ sym (characters-outputs cut joined))
     ∙ length-characters (outputs glyph_copies cut joined)
-
--- where all is kept
-pub all_unchanged : (breaks : BreakFlags) (font : Font) (b : Buffer) (circles : Bool) (read : List hb_glyph_info_t)
-    (place : ℕ) → circles ≡ allows_circles b → read ≡ b.glyphs → length read ≤ place
-    → KeptBefore font circles read place → b ≡ rewritten_by breaks font b
-all_unchanged breaks font b circles read place same_circles same_glyphs past kept =
-    let none : items_at font circles (characters read) place ≡ [] =
-    glyphs_end font circles read (characters read) place refl past in
-    let same : [] ≡ rewritten_items (items_at font circles (characters read) place) = sym (ap rewritten_items none) in
-    ap (λ (xs : List hb_glyph_info_t). let new : Buffer = record b { glyphs = xs } in new)
-    (sym (none_flagged breaks b.glyphs)
-    ∙ buffer_changed breaks font b circles b.level read place [] same_circles refl same_glyphs kept same)
 
 -- a buffer that took another text
 pub replaced_by : {T : Type 0} (b after : Buffer) (r : Result T ShaperError) {list text : List hb_glyph_info_t}

@@ -1,13 +1,12 @@
 -- Glyph flags of the places that are at no opening inside a word.
 use Rattle.std.proofs.Common.{ℕ, ◌+◌, ◌-◌, ◌<◌, ◌≡◌, ◌==◌, ◌||◌, ◌&&◌, Bool, true, false, inl, inr, List, [], ◌∷◌, ◌++◌, map, length, take, drop, get_or, Option, refl, sym, ◌∙◌, ap, arith}
-use Rattle.std.proofs.lemmas.Bool.{cases_lt, eqb-false}
+use Rattle.std.proofs.lemmas.Bool.{cases_lt, eqb-false, or_parts}
 use Rattle.std.proofs.lemmas.List.{get_or-append_right, get_or-drop, get_or-map, get_or-take, get_or_append_left, length-drop, length-map, length-take, length-take-le}
 use Rattle.shapers_buffer.specs.declared.buffer.glyph.hb_glyph_info_t.{hb_glyph_info_t}
 use Rattle.shapers_buffer.specs.Clusters.{least, stretch_of}
 use Rattle.shapers_buffer.specs.Glyph.{clusters, default_glyph}
 use Rattle.shapers_buffer.specs.GlyphFlags.{flagged, with_bits_off}
 use Rattle.shapers_clusters.specs.Flags.{FlagsFall}
-use Rattle.shapers_clusters.proofs.Cuts.{or_none}
 use Rattle.shapers_clusters.proofs.Falls.{flags_kept, flags_on}
 use Rattle.shapers_indic_final.specs.FinalLaws.{BreaksNowhere, at_opening}
 use Rattle.shapers_indic_final.specs.FinalWordStart.{bound_at, bound_from, is_bound, last_or}
@@ -26,7 +25,7 @@ bound_elsewhere s true gs i l none =
     let xs = take a gs in
     let ys = flagged 3 part in
     let zs = drop e gs in
-    let apart = or_none (i == s) (i + 1 == s) none in
+    let apart = or_parts (i == s) (i + 1 == s) none in
     let here = eqb-false i s apart.0 in
     let before = eqb-false (i + 1) s apart.1 in
     elim (cases_lt i a) [
@@ -56,7 +55,7 @@ bound_from_elsewhere s before (syl ∷ syls) gs i l none =
     let b = is_bound before syl in
     let next = last_or before syl in
     let t = s + length syl in
-    let parts = or_none (b && (i == s || i + 1 == s)) (at_opening t next syls i) none in
+    let parts = or_parts (b && (i == s || i + 1 == s)) (at_opening t next syls i) none in
     bound_from_elsewhere t next syls (bound_at s b gs) i (omega (arith, length-bound s b gs)) parts.1
     ∙ bound_elsewhere s b gs i l parts.0
 

@@ -23,18 +23,7 @@ use Rattle.shapers_indic_initial.specs.InitialBase.{base_from, base_place, font_
 use Rattle.shapers_indic_initial.specs.InitialPositions.{is_passed_by_halant}
 use Rattle.shapers_indic_initial.specs.InitialRules.{Rules, mask_at}
 use Rattle.shapers_syllabic.specs.Consonants.{consonants, is_consonant}
-
--- functions at several equal arguments
-pub same_two : {A B C : Type 0} (f : A → B → C) {a b : A} {c d : B} → a ≡ b → c ≡ d → f a c ≡ f b d
-same_two f {a} {b} {c} {d} p q = ap (λ x. f x c) p ∙ ap (f b) q
-
-pub same_three : {A B C D : Type 0} (f : A → B → C → D) {a b : A} {c d : B} {e g : C} → a ≡ b → c ≡ d → e ≡ g
-    → f a c e ≡ f b d g
-same_three f {a} {b} {c} {d} {e} {g} p q r = ap (λ x. f x c e) p ∙ same_two (f b) q r
-
-same_four : {A B C D E : Type 0} (f : A → B → C → D → E) {a b : A} {c d : B} {e g : C} {h k : D} → a ≡ b → c ≡ d → e ≡ g
-    → h ≡ k → f a c e h ≡ f b d g k
-same_four f {a} {b} {c} {d} {e} {g} {h} {k} p q r s = ap (λ x. f x c e h) p ∙ same_three (f b) q r s
+use Rattle.shapers_clusters.proofs.EqualArguments.{same_two, same_three, same_four}
 
 -- a view of glyphs that keeps what is read, and that a position passes through
 pub record KeepsRead (f : hb_glyph_info_t → hb_glyph_info_t) : Type 0 where

@@ -33,13 +33,14 @@ use Rattle.shapers_indic_initial.specs.InitialFont.{all_by_virama, by_virama, co
 use Rattle.shapers_indic_initial.specs.InitialRules.{Rules, mask_at, initial_rules}
 use Rattle.shapers_indic_initial.specs.InitialLaws.{OrderByFontReadsNoSerials}
 use Rattle.shapers_indic_initial.specs.Proved.InitialLaws.{all_three, halant_order, halant_step_of, masked_order}
-use Rattle.shapers_indic_initial.proofs.InitialReads.{KeepsRead, base_stays, joiner_first_stays, numbers_stay, passes_stays, prefix_stays, same_three, same_two}
+use Rattle.shapers_indic_initial.proofs.InitialReads.{KeepsRead, base_stays, joiner_first_stays, numbers_stay, passes_stays, prefix_stays}
 use Rattle.shapers_indic_initial.proofs.InitialWrites.{halant_places_stay, with_base_stays, with_marks_stays, with_owners_after_stays}
 use Rattle.shapers_syllabic.specs.declared.ot_shaper_syllabic.kinds.indic_syllable.TheConstants.{BROKEN_CLUSTER, CONSONANT_SYLLABLE, STANDALONE_CLUSTER, VOWEL_SYLLABLE}
 use Rattle.shapers_syllabic.specs.Borders.{unnumbered}
 use Rattle.shapers_syllabic.specs.Consonants.{is_consonant}
 use Rattle.shapers_syllabic.proofs.LawsThen.{reads_by_view, reads_then, reads_where}
 use Rattle.shapers_syllabic.specs.ReorderingLaws.{ReadsNoSerials}
+use Rattle.shapers_clusters.proofs.EqualArguments.{same_three, same_two}
 
 -- glyphs without serials keep what is read
 pub unnumbered_keeps : KeepsRead unnumbered

@@ -1,13 +1,11 @@
 -- The parts of the initial reordering of a syllable, one after another.
-use Rattle.std.proofs.Common.{◌≡◌, ℕ, ◌-◌, ◌≤◌, Bool, true, false, if◌then◌else◌, List, [], ◌∷◌, ◌++◌, length, take, drop, refl, sym, ap, ◌∙◌, arith, Option, length-append, length-take-le, length-drop}
-use Rattle.std.proofs.lemmas.List.{length-map}
+use Rattle.std.proofs.Common.{◌≡◌, ℕ, ◌-◌, ◌≤◌, Bool, true, false, if◌then◌else◌, List, [], ◌∷◌, ◌++◌, length, refl, sym, ap, ◌∙◌, arith, Option}
 use Rattle.shapers_buffer.specs.declared.buffer.glyph.hb_glyph_info_t.{hb_glyph_info_t}
 use Rattle.shapers_buffer.specs.declared.buffer.tag.Script.{Script}
 use Rattle.shapers_buffer.specs.Buffer.{Buffer}
 use Rattle.shapers_buffer.specs.Clusters.{stretch_of}
 use Rattle.shapers_buffer.specs.Glyph.{order_view, plain}
 use Rattle.shapers_buffer.proofs.ClusterLemmas.{map-stretch, three_parts}
-use Rattle.shapers_clusters.specs.Steps.{Step}
 use Rattle.shapers_clusters.proofs.Picks.{length-pick}
 use Rattle.shapers_indic_initial.specs.InitialReordering.{in_indic_order, initial_order, initial_steps, is_reordered_in_indic, joiner_step, masked_in_order, opening_steps, indic_order_step, positioned, steps_of_reordered, with_joiner_first}
 use Rattle.shapers_indic_initial.specs.InitialRules.{Rules}
@@ -18,7 +16,8 @@ use Rattle.shapers_syllabic.specs.Reordering.{SyllableReordered}
 use Rattle.shapers_syllabic.specs.ReorderingLaws.{ReorderLaws}
 use Rattle.shapers_syllabic.proofs.LawsThen.{laws_then}
 use Rattle.shapers_syllabic.proofs.ReorderingWalk.{length-meaning}
-use Rattle.shapers_syllabic.proofs.SyllableThen.{changed_parts, syllable_as, syllable_then}
+use Rattle.shapers_syllabic.proofs.SyllableThen.{syllable_as, syllable_then}
+use Rattle.shapers_syllabic.proofs.PartAfter.{part_after}
 
 -- each part keeps the length
 positioned_laws : (r : Rules) (script : Option Script) → ReorderLaws (positioned r script) (opening_steps r script)
@@ -46,32 +45,6 @@ kind-stretch : (s e : ℕ) (gs : List hb_glyph_info_t) → is_reordered_in_indic
     ≡ is_reordered_in_indic (stretch_of s e gs)
 kind-stretch s e gs = ap is_reordered_in_indic (sym (map-stretch plain s e gs)) ∙ kind-viewed (stretch_of s e gs)
 
--- what a part leaves: as many glyphs, and its syllable
-record After (meaning : List hb_glyph_info_t → List hb_glyph_info_t) (s e : ℕ) (old new : Buffer) : Type 0 where
-  long : length new.glyphs ≡ length old.glyphs
-  syllable : stretch_of s e (order_view new.glyphs) ≡ meaning (stretch_of s e (order_view old.glyphs))
-
-after : (meaning : List hb_glyph_info_t → List hb_glyph_info_t) (steps : List hb_glyph_info_t → List Step) (s e : ℕ)
-    (old new : Buffer) → s ≤ e → e ≤ length old.glyphs → length (meaning (stretch_of s e (order_view old.glyphs)))
-    ≡ e - s → SyllableReordered meaning steps s e old new → After meaning s e old new
-after meaning steps s e old new h l k done =
-    let xs = order_view old.glyphs in
-    let n : length xs ≡ length old.glyphs = length-map old.glyphs plain in
-    let front : length (take s xs) ≡ s = length-take-le s xs (omega arith) in
-    let parts = changed_parts s e (take s xs) (meaning (stretch_of s e xs)) (drop e xs) (order_view new.glyphs) h front
-    k done.order in
-    record {
-      long = sym (length-map new.glyphs plain) ∙ ap length done.order
-          ∙ omega (
-            arith,
-            length-append (take s xs) (meaning (stretch_of s e xs) ++ drop e xs),
-            length-append
-                (meaning (stretch_of s e xs)) (drop e xs),
-            length-drop e xs,
-          );
-      syllable = parts.stretch;
-    }
-
 -- positions, order and masks
 ordered_and_masked : (r : Rules) (script : Option Script) (s e : ℕ) (b1 b2 b3 b4 : Buffer) → s ≤ e
     → e ≤ length b1.glyphs → SyllableReordered (positioned r script) (opening_steps r script) s e b1 b2
@@ -82,7 +55,7 @@ ordered_and_masked : (r : Rules) (script : Option Script) (s e : ℕ) (b1 b2 b3 
 ordered_and_masked r script s e b1 b2 b3 b4 h l p o m =
     let x1 = stretch_of s e (order_view b1.glyphs) in
     let n1 : length (positioned r script x1) ≡ e - s = length-positioned r script x1 ∙ seen_long s e b1.glyphs h l in
-    let a = after (positioned r script) (opening_steps r script) s e b1 b2 h l n1 p in
+    let a = part_after (positioned r script) (opening_steps r script) s e b1 b2 h l n1 p in
     let l2 : e ≤ length b2.glyphs = omega (arith, a.long) in
     let x2 = stretch_of s e (order_view b2.glyphs) in
     let n2 : length (in_indic_order x2) ≡ e - s = length-in_order r x2 ∙ seen_long s e b2.glyphs h l2 in

@@ -14,8 +14,9 @@ use Rattle.shapers_indic_initial.specs.InitialBase.{base_place, has_indic_reph}
 use Rattle.shapers_indic_initial.specs.InitialPositions.{attached_to, before_next, bounds, by_base, carries, draws_sign, halant_after, halant_behind, halant_from, halant_places, halant_to, is_attached, is_passed_by_halant, last_after_halant, moved_behind, owned_by, position_by_base, with_attached, with_halants, with_marks_attached, with_owner, with_owners, with_owners_after, with_signs}
 use Rattle.shapers_indic_initial.specs.InitialReordering.{with_base_positions}
 use Rattle.shapers_indic_initial.specs.InitialRules.{Rules}
-use Rattle.shapers_indic_initial.proofs.InitialReads.{KeepsRead, ReadsView, base_stays, category_stays, consonant_stays, has_reph_stays, passed_stays, passes_stays, position_stays, same_three, same_two}
+use Rattle.shapers_indic_initial.proofs.InitialReads.{KeepsRead, ReadsView, base_stays, category_stays, consonant_stays, has_reph_stays, passed_stays, passes_stays, position_stays}
 use Rattle.shapers_syllabic.specs.Consonants.{is_consonant}
+use Rattle.shapers_clusters.proofs.EqualArguments.{same_three, same_two}
 
 -- positions by the base
 numbered_stays : (f : hb_glyph_info_t → hb_glyph_info_t) → KeepsRead f

@@ -3,7 +3,7 @@ use Rattle.std.proofs.Common.{◌≡◌, ℕ, ◌+◌, ◌-◌, ◌%◌, ◌/◌
 use Rattle.std.specs.Prelude.{bit_and, find, nat_lt}
 use Rattle.std.specs.List.{enumerate_from, prefix_len}
 use Rattle.std.proofs.lemmas.List.{length-map}
-use Rattle.std.proofs.lemmas.Nat.{and_mask, and_mod, and_shr}
+use Rattle.std.proofs.lemmas.Nat.{and_shr}
 use Rattle.shapers_buffer.specs.declared.buffer.glyph.hb_glyph_info_t.{hb_glyph_info_t}
 use Rattle.shapers_buffer.specs.declared.buffer.tag.Script.{Script}
 use Rattle.shapers_buffer.specs.Buffer.{Buffer, but_places}
@@ -15,7 +15,7 @@ use Rattle.shapers_buffer.proofs.MappedLists.{map-seen, prefix_len-seen}
 use Rattle.shapers_buffer.proofs.ClusterLemmas.{map-stretch}
 use Rattle.shapers_base.specs.declared.plan.ot_category_t.TheConstants.{OT_ZWNJ}
 use Rattle.shapers_base.specs.declared.plan.ot_position_t.TheConstants.{POS_BASE_C, POS_RA_TO_BECOME_REPH}
-use Rattle.shapers_clusters.proofs.FlagCalls.{flags-or, plain-or}
+use Rattle.shapers_clusters.proofs.FlagCalls.{flags-or, plain-or, flags-and}
 use Rattle.shapers_indic.specs.declared.ot_shaper_indic.indic_feature.TheConstants.{BLWF, HALF, PREF, RPHF}
 use Rattle.shapers_indic.specs.Glyphs.{has_position, is_one_of, least_place, number, numbers, places}
 use Rattle.shapers_indic_initial.specs.InitialMasks.{bits_of, has_eyelash, is_in_eyelash, loses_half, mask_after_base, mask_before_base, pref_pair, with_bits_on_pair, with_eyelash_mask, with_initial_masks, with_masks_around, with_pref_mask, with_reph_mask, without_bits, without_half}
@@ -30,13 +30,7 @@ use Rattle.shapers_syllabic.specs.Reordering.{SyllableReordered, carried}
 use Rattle.shapers_syllabic.proofs.ReorderingLemmas.{stretch-viewed}
 use Rattle.shapers_syllabic.proofs.SyllableThen.{syllable_changed}
 
--- bits that touch no glyph flag leave those of a mask, given or taken
-flags-and : (a m : ℕ) → m % 8 ≡ 0 → m ≤ 0xFFFFFFFF → bit_and a (0xFFFFFFFF - m) % 8 ≡ a % 8
-flags-and a m off fits =
-    let all : (0xFFFFFFFF - m) % 8 ≡ 7 = omega arith in
-    let low : a % 8 % 8 ≡ a % 8 = omega arith in
-    and_mod a (0xFFFFFFFF - m) 3 ∙ ap (bit_and (a % 8)) all ∙ and_mask (a % 8) 3 ∙ low
-
+-- bits that touch no glyph flag, where flags are left out
 plain-and : (a m : ℕ) → m % 8 ≡ 0 → m ≤ 0xFFFFFFFF → without_flags (bit_and a (0xFFFFFFFF - m))
     ≡ bit_and (without_flags a) (0xFFFFFFFF - m)
 plain-and a m off fits =

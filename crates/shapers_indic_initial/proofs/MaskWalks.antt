@@ -21,6 +21,7 @@ use Rattle.shapers_indic_initial.specs.InitialRules.{Rules, mask_at}
 use Rattle.std.proofs.lemmas.Bool.Decides.{nat_tests}
 use Rattle.shapers_syllabic.specs.Consonants.{is_consonant}
 use Rattle.shapers_indic_initial.specs.InitialMasks.{bits_of, has_eyelash, is_in_eyelash, loses_half, mask_after_base, mask_before_base, opens_eyelash, pref_pair, with_eyelash_mask, with_initial_masks, with_masks_around, with_pref_mask, with_reph_mask, without_bits, without_half}
+use Rattle.shapers_buffer.proofs.ListLaws.{none_in_front}
 
 -- one glyph back, in the walk that takes half away
 pub half_step : (g : hb_glyph_info_t) (after : List hb_glyph_info_t)
@@ -56,12 +57,6 @@ seam_set gs rest k d y h =
     (set-append_seam (take k gs) (get_or gs k d) rest y)
 
 -- without a ZWNJ nothing loses half
-none_in_front : (p : hb_glyph_info_t → Bool) (n : ℕ) (gs : List hb_glyph_info_t) → list_any p gs ≡ false
-    → list_any p (take n gs) ≡ false
-none_in_front p zero gs none = refl
-none_in_front p (suc n) [] none = refl
-none_in_front p (suc n) (g ∷ gs) none = grind (arith, nat_tests, none, none_in_front p n gs)
-
 pub no_half_taken : (bits : ℕ) (gs : List hb_glyph_info_t) → list_any (is_one_of (OT_ZWNJ ∷ [])) gs ≡ false
     → without_half bits gs ≡ gs
 no_half_taken bits [] none = refl

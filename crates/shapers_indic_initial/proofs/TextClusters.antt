@@ -27,7 +27,7 @@ use Rattle.shapers_indic_initial.specs.InitialOrder.{ordered_base, indic_ordered
 use Rattle.shapers_indic_initial.specs.InitialReordering.{halant_step, in_indic_order, initial_steps, joiner_step, indic_order_step, positioned, steps_of_reordered, with_base_positions, with_joiner_first}
 use Rattle.shapers_indic_initial.specs.InitialRules.{Rules, initial_rules}
 use Rattle.shapers_indic_initial.specs.Proved.InitialLaws.{halant_laws, halant_order, halant_step_of, initial_laws, initial_text_reordered, joiner_laws, three_laws}
-use Rattle.shapers_indic_initial.specs.Proved.InitialSteps.{length_permuted, order_fits}
+use Rattle.shapers_indic_initial.specs.Proved.InitialSteps.{order_fits}
 use Rattle.shapers_clusters.proofs.Alone.{apart_own, same_stretch, stretch_own}
 use Rattle.shapers_clusters.proofs.StepsOutside.{Leaves, along_elsewhere, leaves_elsewhere}
 use Rattle.shapers_clusters.proofs.Spread.{length-stretch}
@@ -38,6 +38,7 @@ use Rattle.shapers_indic_initial.specs.Proved.OrderedPlaces.{ordered_permutes}
 use Rattle.shapers_syllabic.specs.Reordering.{glyphs_before, text_steps}
 use Rattle.shapers_syllabic.proofs.ReorderingLaws.{each_piece, sum-pieces}
 use Rattle.shapers_syllabic.proofs.ReorderingWalk.{length-meaning, pieces_of}
+use Rattle.shapers_clusters.proofs.Permuted.{length_permuted}
 
 -- one cluster still, after what leaves neighbours together
 one_cluster_left : (s e : ℕ) (cs js : List ℕ) → Leaves s e cs js → (st : ℕ × ℕ) → s ≤ st.0 → st.1 ≤ e → OneAlong cs st

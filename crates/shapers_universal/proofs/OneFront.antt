@@ -15,7 +15,7 @@ use Rattle.shapers_buffer.proofs.Placements.{placed_forward, rotated_stretch}
 use Rattle.shapers_buffer.proofs.ClusterLemmas.{length-stretch}
 use Rattle.shapers_clusters.proofs.Merging.{length-merge}
 use Rattle.shapers_clusters.proofs.Picks.{pick-append, pick-range}
-use Rattle.shapers_clusters.proofs.Widened.{range-append}
+use Rattle.shapers_clusters.proofs.Widened.{stretch-rest}
 use Rattle.shapers_syllabic.specs.Reordering.{SyllableReordered}
 use Rattle.shapers_universal.specs.Universal.{goes_front, goes_front_at, is_universal_halant, is_reordered_in_universal, reph_run, reversed_first, universal_order, universal_steps}
 use Rattle.shapers_universal.specs.UniversalWalk.{MergesFirst, fronts_from, has_universal_reph, is_halant_at, last_place_first, syllable_places_in_order, start_from}
@@ -24,6 +24,7 @@ use Rattle.shapers_universal.specs.Proved.UniversalFronts.{fronts_next}
 use Rattle.shapers_syllabic.proofs.NonePass.{filter-none, filter_not-none}
 use Rattle.shapers_universal.specs.Proved.UniversalLists.{cut_after-concat, reversed_first-no, reversed_first-yes}
 use Rattle.shapers_universal.specs.Proved.UniversalPlaces.{at, goes_front_is, halant_at, labels_any, nothing_behind, stretch_at}
+use Rattle.shapers_clusters.proofs.Halves.{ranges-join}
 
 -- a piece with no place to cut but its end
 cut_none : {X : Type 0} (cut : X → Bool) (xs : List X) (x : X) → list_any cut xs ≡ false → cut x ≡ false
@@ -112,18 +113,7 @@ pub record OneFront (gs : List hb_glyph_info_t) (st e a z : ℕ) : Type 0 where
   pub within : z ≤ e
 
 range_on : (st i : ℕ) → st ≤ i → range_with_len st (i + 1 - st) ≡ range_with_len st (i - st) ++ i ∷ []
-range_on st i h =
-    let n : i + 1 - st ≡ (i - st) + 1 = omega arith in
-    let m : st + (i - st) ≡ i = omega arith in
-    ap (range_with_len st) n ∙ range-append st (i - st) 1 ∙ ap (λ k. range_with_len st (i - st) ++ k ∷ []) m
-
-range_joined : (a b c : ℕ) → a ≤ b → b ≤ c → range_with_len a (c - a) ≡ range_with_len a (b - a)
-    ++ range_with_len b (c - b)
-range_joined a b c h l =
-    let n : c - a ≡ (b - a) + (c - b) = omega arith in
-    let m : a + (b - a) ≡ b = omega arith in
-    ap (range_with_len a) n ∙ range-append a (b - a) (c - b)
-    ∙ ap (λ k. range_with_len a (b - a) ++ range_with_len k (c - b)) m
+range_on st i h = sym (ranges-join st i (i - st) 1 (i + 1 - st) (omega arith) (omega arith))
 
 halt : (g : hb_glyph_info_t) → goes_front g ≡ true → is_universal_halant g ≡ false
 halt g h = grind (arith, nat_tests, h)
@@ -142,7 +132,8 @@ one_front gs (suc n) i st e a z h up calm still is =
     let zs = map (at gs) ys in
     let next : suc i ≡ i + 1 = omega arith in
     let on : i + 1 - st ≡ i + 1 - st = refl in
-    let whole : range_with_len st (e - st) ≡ pre ++ i ∷ ys = range_joined st i e h (omega arith)
+    let whole : range_with_len st (e - st) ≡ pre ++ i ∷ ys = sym (ranges-join st i (i - st) (e - i) (e - st)
+    (omega (arith, h)) (omega (arith, h, up)))
     ∙ (let m : e - i ≡ suc n = omega arith in ap (λ k. pre ++ range_with_len i k) m) in
     elim (cases_Bool (goes_front (at gs i))) [
       | inl front ↦
@@ -199,7 +190,8 @@ one_front gs (suc n) i st e a z h up calm still is =
                       ∙ ap (λ xs. (pre ++ i ∷ []) ++ xs) one.order
                       ∙ ap (λ xs. xs ++ (range_with_len (i + 1) (a - (i + 1)) ++ tail)) (sym (range_on st i h))
                       ∙ sym (append_assoc (range_with_len st (i + 1 - st)) (range_with_len (i + 1) (a - (i + 1))) tail)
-                      ∙ ap (λ xs. xs ++ tail) (sym (range_joined st (i + 1) a (omega (arith, h)) one.from));
+                      ∙ ap (λ xs. xs ++ tail) (ranges-join st (i + 1) (i + 1 - st) (a - (i + 1)) (a - st) (omega (arith, h))
+                      (omega (arith, h, one.from)));
                   from = omega (arith, h, one.from);
                   some = one.some;
                   within = one.within;
@@ -222,12 +214,6 @@ take_on s a xs h =
     ap (λ ys. ys ++ stretch_of s a xs) (sym (take-take s a xs h))
     ∙ ap (λ ys. take s (take a xs) ++ ys) (sym (drop-take s (a - s) xs) ∙ ap (λ k. drop s (take k xs)) n)
     ∙ take-append-drop s (take a xs)
-
-drop_on : {X : Type 0} (z e : ℕ) (xs : List X) → z ≤ e → stretch_of z e xs ++ drop e xs ≡ drop z xs
-drop_on z e xs h =
-    let n : z + (e - z) ≡ e = omega arith in
-    ap (λ ys. stretch_of z e xs ++ ys) (ap (λ k. drop k xs) (sym n) ∙ sym (drop-drop (e - z) z xs))
-    ∙ take-append-drop (e - z) (drop z xs)
 
 one_written : (s e a z : ℕ) (gs ms : List hb_glyph_info_t) → e ≤ length ms → OneFront gs s e a z
     → with_stretch s e (λ _. pick (syllable_places_in_order s s e gs) ms) ms
@@ -253,7 +239,7 @@ one_written s e a z gs ms l one =
     ∙ sym (append_assoc (take s ms) (stretch_of s a ms) ((pick moved ms ++ stretch_of z e ms) ++ drop e ms))
     ∙ ap (λ ys. ys ++ ((pick moved ms ++ stretch_of z e ms) ++ drop e ms)) (take_on s a ms from)
     ∙ ap (λ ys. take a ms ++ ys) (append_assoc (pick moved ms) (stretch_of z e ms) (drop e ms)
-    ∙ ap (λ ys. pick moved ms ++ ys) (drop_on z e ms within))
+    ∙ ap (λ ys. pick moved ms ++ ys) (stretch-rest z e ms within))
 
 -- a syllable that is written so is reordered
 pub one_reordered : (s e a z : ℕ) (b0 b1 : Buffer) → s ≤ e → e ≤ length b0.glyphs

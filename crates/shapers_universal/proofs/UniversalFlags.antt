@@ -1,13 +1,12 @@
 -- The set-up of syllables in the universal shaper only adds glyph flags.
-use Rattle.std.proofs.Common.{ℕ, ◌-◌, ◌%◌, ◌≤◌, ◌≡◌, bit_and, if◌then◌else◌, Bool, true, false, List, [], ◌∷◌, ◌++◌, map, flat_map, take, drop, refl, ◌∙◌, ap, subst, arith}
+use Rattle.std.proofs.Common.{ℕ, ◌-◌, ◌%◌, ◌≤◌, ◌≡◌, bit_and, if◌then◌else◌, Bool, true, false, List, [], ◌∷◌, ◌++◌, map, flat_map, take, drop, refl, ◌∙◌, subst}
 use Rattle.std.proofs.lemmas.List.{take-append-drop}
-use Rattle.std.proofs.lemmas.Nat.{and_mask, and_mod}
 use Rattle.shapers_buffer.specs.declared.buffer.glyph.hb_glyph_info_t.{hb_glyph_info_t}
 use Rattle.shapers_buffer.specs.GlyphFlags.{with_bits}
 use Rattle.shapers_buffer.specs.Syllables.{syllables}
 use Rattle.shapers_clusters.specs.FlagLaw.{FlagsAdded, OnlyFlagsAdded}
 use Rattle.shapers_clusters.proofs.Falls.{all_append}
-use Rattle.shapers_clusters.proofs.FlagCalls.{flags-or}
+use Rattle.shapers_clusters.proofs.FlagCalls.{flags-or, flags-and}
 use Rattle.shapers_clusters.proofs.FlagLaw.{added_on, changed_added, flags_kept}
 use Rattle.shapers_syllabic.proofs.CircleLaws.{joined-syllables}
 use Rattle.shapers_syllabic.proofs.SetUpFlags.{bits_added, by_syllables, same_added}
@@ -21,19 +20,11 @@ forms_off masks a b c d =
     let back = flags-or masks.medi masks.fina d ∙ c in
     flags-or _ _ back ∙ flags-or masks.isol masks.init b ∙ a
 
--- bits off the flags, taken away, leave these
-left_flags : (a bits : ℕ) → bits % 8 ≡ 0 → bits ≤ 0xFFFFFFFF → bit_and a (0xFFFFFFFF - bits) % 8 ≡ a % 8
-left_flags a bits off fits =
-    let k = 0xFFFFFFFF - bits in
-    let low : k % 8 ≡ 7 = omega arith in
-    let twice : a % 8 % 8 ≡ a % 8 = omega arith in
-    and_mod a k 3 ∙ ap (bit_and (a % 8)) low ∙ and_mask (a % 8) 3 ∙ twice
-
 instead_added : (bits mask : ℕ) (g : hb_glyph_info_t) → bits % 8 ≡ 0 → bits ≤ 0xFFFFFFFF
     → FlagsAdded g (with_instead bits mask g)
 instead_added bits mask g off fits =
     let h : hb_glyph_info_t = record g { mask = bit_and g.mask (0xFFFFFFFF - bits) } in
-    added_on g h (with_bits mask h) (record { same = refl; kept = flags_kept g h (left_flags g.mask bits off fits) })
+    added_on g h (with_bits mask h) (record { same = refl; kept = flags_kept g h (flags-and g.mask bits off fits) })
     (bits_added mask h)
 
 -- syllables in their forms

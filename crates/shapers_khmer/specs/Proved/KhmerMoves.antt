@@ -1,5 +1,5 @@
 -- Moves to the front: what they permute, how far they reach, and that they stay inside what merges.
-use Rattle.std.proofs.Common.{append-nil, ℕ, ◌+◌, ◌-◌, ◌<◌, ◌≤◌, ◌≡◌, min, max, inl, inr, List, [], ◌∷◌, ◌++◌, map, length, get_or, take, drop, refl, sym, ◌∙◌, ap, subst, arith, append_assoc, length-take-le, length-drop}
+use Rattle.std.proofs.Common.{append-nil, ℕ, ◌+◌, ◌-◌, ◌<◌, ◌≤◌, ◌≡◌, inl, inr, List, [], ◌∷◌, ◌++◌, map, length, get_or, take, drop, refl, sym, ◌∙◌, ap, subst, arith, append_assoc, length-take-le, length-drop}
 use Rattle.std.specs.List.{range_with_len}
 use Rattle.std.specs.List.Sorted.{IsPermutation}
 use Rattle.std.proofs.lemmas.List.{take-map, drop-map, map-append, take-append-drop, drop-drop, get_or-take, get_or-drop, get_or_append_left, get_or-append_right}
@@ -9,7 +9,7 @@ use Rattle.std.proofs.lemmas.Bool.{cases_lt}
 use Rattle.shapers_buffer.specs.Clusters.{stretch_of}
 use Rattle.shapers_clusters.specs.Cuts.{EndWithin}
 use Rattle.shapers_clusters.specs.Steps.{HeldBetween, MovesInside}
-use Rattle.shapers_clusters.proofs.Moves.{held-front, held-rest, held_by}
+use Rattle.shapers_clusters.proofs.Moves.{held-front, held-rest, held_by, held_over}
 use Rattle.shapers_khmer.specs.Khmer.{Move, Pair, Vowel, brought, moved, moved_all, merged_by_move}
 
 -- the front, what moves and the rest are all
@@ -87,16 +87,6 @@ length-brought n k xs = length_permutation xs (brought n k xs) (permuted-brought
 
 pub length-moved_all : {X : Type 0} (moves : List Move) (xs : List X) → length (moved_all moves xs) ≡ length xs
 length-moved_all moves xs = length_permutation xs (moved_all moves xs) (permuted-moved_all moves xs)
-
--- what a stretch holds between p and q, and between q and r, it holds between p and r
-held_over : (sts : List (ℕ × ℕ)) (p q r : ℕ) → HeldBetween sts p q → HeldBetween sts q r → HeldBetween sts p r
-held_over sts p q r first second x low high = elim (cases_lt (min p q) x) [
-  | inl above ↦ elim (cases_lt (max p q) x) [
-    | inl over ↦ second x (omega arith) (omega arith)
-    | inr within ↦ first x above within
-  ]
-  | inr below ↦ second x (omega arith) (omega arith)
-]
 
 held_itself : (sts : List (ℕ × ℕ)) (p q : ℕ) → p ≡ q → HeldBetween sts p q
 held_itself sts p q same x low high = absurd (omega arith)

@@ -6,13 +6,14 @@ use Rattle.std.proofs.lemmas.List.{append-nil, reverse-append, take-append-drop,
 use Rattle.std.proofs.lemmas.List.FromFn.{length-range_with_len}
 use Rattle.shapers_buffer.proofs.MappedLists.{drop-range, map-reverse}
 use Rattle.std.proofs.lemmas.List.Elements.{filter-append}
-use Rattle.std.proofs.lemmas.List.Sorted.{IsPermutation-refl, IsPermutation-trans, IsPermutation-append_comm, IsPermutation-append_left, IsPermutation-filter_both, IsPermutation-reverse}
+use Rattle.std.proofs.lemmas.List.Sorted.{IsPermutation-trans, IsPermutation-append_left, IsPermutation-filter_both, IsPermutation-reverse}
 use Rattle.shapers_buffer.specs.Lists.{cut_after, first_last}
 use Rattle.shapers_buffer.specs.Places.{pick}
 use Rattle.shapers_clusters.proofs.Picks.{pick-append, pick-all, pick-range}
 use Rattle.shapers_clusters.proofs.Widened.{range-append}
 use Rattle.shapers_syllabic.proofs.NonePass.{filter-none, filter_not-none}
 use Rattle.shapers_universal.specs.Universal.{first_behind, reversed_first}
+use Rattle.shapers_clusters.proofs.Permuted.{permuted-first_last}
 
 -- what is picked at the places that pass
 picked_one : {X : Type 0} (t : ℕ → Bool) (test : X → Bool) (xs : List X) (p : ℕ) (ps : List ℕ) (o : Option X)
@@ -111,11 +112,7 @@ permuted-reversed_first test xs =
     (IsPermutation-filter_both test (λ x. not (test x)) (λ x. refl) xs)
     (IsPermutation-append_left no yes (reverse yes) (IsPermutation-reverse yes))
 
--- nor does a list with its first behind others
-pub permuted-first_last : {X : Type 0} (xs : List X) → IsPermutation xs (first_last xs)
-permuted-first_last [] = IsPermutation-refl []
-permuted-first_last (x ∷ xs) = IsPermutation-append_comm (x ∷ []) xs
-
+-- nor does a list with the first of its front behind the others of it
 pub permuted-first_behind : {X : Type 0} (n : ℕ) (xs : List X) → IsPermutation xs (first_behind n xs)
 permuted-first_behind n xs =
     subst (λ ys. IsPermutation ys (first_behind n xs)) (take-append-drop n xs)

@@ -27,9 +27,10 @@ use Rattle.shapers_syllabic.proofs.ReorderingLemmas.{old_places_one}
 use Rattle.shapers_universal.specs.Universal.{first_behind, goes_front, goes_front_at, is_universal_halant, reph_passes, is_reordered_in_universal, piece_step, piece_steps, pieces, reph_moved, reph_run, universal_reph_step, reversed_first, universal_steps}
 use Rattle.shapers_universal.specs.UniversalWalk.{first_piece_len, is_halant_at, piece_places, syllable_places_in_order}
 use Rattle.shapers_syllabic.proofs.NonePass.{filter-none, filter_not-none}
-use Rattle.shapers_universal.specs.Proved.UniversalLists.{cut_after-concat, first_behind-map, length-first_behind, length-first_last, permuted-first_behind, permuted-first_last, permuted-reversed_first, pick-first_behind, pick-reversed_first}
+use Rattle.shapers_universal.specs.Proved.UniversalLists.{cut_after-concat, first_behind-map, length-first_behind, length-first_last, permuted-first_behind, permuted-reversed_first, pick-first_behind, pick-reversed_first}
 use Rattle.shapers_universal.specs.Proved.Pieces.{cut_first}
 use Rattle.shapers_universal.specs.Proved.UniversalSteps.{all_pieces, piece_fits, pieces_sum, reph_run-within}
+use Rattle.shapers_clusters.proofs.Permuted.{permuted-first_last}
 
 -- the glyph at a place, and the tests of what stands there
 abbrev pub at : List hb_glyph_info_t → ℕ → hb_glyph_info_t

@@ -6,10 +6,9 @@ use Rattle.std.specs.List.Sorted.{IsPermutation}
 use Rattle.std.proofs.lemmas.Bool.{cases_lt, or_left, or_right}
 use Rattle.std.proofs.lemmas.Bool.Decides.{nat_tests}
 use Rattle.std.proofs.lemmas.List.{get_or_append_left, get_or-append_right, map-append, take_at, drop_at}
-use Rattle.std.proofs.lemmas.List.Elements.{All-from_recursion, recursion_from_All, filter-append}
+use Rattle.std.proofs.lemmas.List.Elements.{filter-append}
 use Rattle.std.proofs.lemmas.List.Folds.{list_any-append}
 use Rattle.std.proofs.lemmas.List.FromFn.{length-range_with_len, get_or-range_with_len}
-use Rattle.std.proofs.lemmas.List.Sorted.{All-permutation, length_permutation}
 use Rattle.std.proofs.lemmas.List.Sums.{prefix_len-le-length, sum_by-cons}
 use Rattle.shapers_buffer.specs.declared.buffer.glyph.hb_glyph_info_t.{hb_glyph_info_t}
 use Rattle.shapers_buffer.specs.Lists.{first_last}
@@ -17,29 +16,13 @@ use Rattle.shapers_buffer.proofs.ListLaws.{LastPass, last_pass}
 use Rattle.shapers_buffer.proofs.MappedLists.{all-mapped, drop-range}
 use Rattle.shapers_clusters.specs.Cuts.{EndWithin, held}
 use Rattle.shapers_clusters.specs.Steps.{FitsStep, FitSteps, HeldBetween, MovesMerged, Permutes, Step, still_step, steps_along, widened}
-use Rattle.shapers_clusters.proofs.Permuted.{permutes-widened}
+use Rattle.shapers_clusters.proofs.Permuted.{permutes-widened, fits_permuted, length_permuted, within_permuted, permuted-first_last}
 use Rattle.shapers_clusters.proofs.Picks.{within_at, within_range}
 use Rattle.shapers_clusters.proofs.Swaps.{still_moves_merged}
 use Rattle.shapers_clusters.proofs.Widened.{all_along, fits-widened, moves-widened}
 use Rattle.shapers_universal.specs.Universal.{first_behind, goes_front_at, is_universal_halant, reph_passes, is_reordered_in_universal, piece_step, piece_steps, pieces, places_within, reph_moved, reph_run, universal_reph_step, reversed_first, universal_steps}
 use Rattle.shapers_syllabic.proofs.NonePass.{filter-none, filter_not-none}
-use Rattle.shapers_universal.specs.Proved.UniversalLists.{all-filter, cut_after-concat, length-first_behind, length-first_last, permuted-first_last, permuted-first_behind, permuted-reversed_first, reversed_first-append, take-range}
-
--- a step that takes each place once fits
-all_range : (n : ℕ) (ps : List ℕ) → IsPermutation (range_with_len 0 n) ps → AllByRecursion (λ q. q < n) ps
-all_range n ps p =
-    recursion_from_All (λ q. q < n) ps
-    (All-permutation (λ q. q < n) (range_with_len 0 n) ps p
-    (All-from_recursion (λ q. q < n) (range_with_len 0 n) (within_range 0 n n (omega arith))))
-
-permuted_fits : (n : ℕ) (sts : List (ℕ × ℕ)) (ps : List ℕ) → IsPermutation (range_with_len 0 n) ps → EndWithin n sts
-    → FitsStep n (record { merged_first = sts; places = ps; merged_then = [] })
-permuted_fits n sts ps p ends = record {
-  as_many = length_permutation (range_with_len 0 n) ps p ∙ length-range_with_len 0 n;
-  within = all_range n ps p;
-  first_within = ends;
-  then_within = tt;
-}
+use Rattle.shapers_universal.specs.Proved.UniversalLists.{all-filter, cut_after-concat, length-first_behind, length-first_last, permuted-first_behind, permuted-reversed_first, reversed_first-append, take-range}
 
 -- a step that moves places only below h, where stretches merge all of these, and leaves those from h on
 moves_below : (n h : ℕ) (sts : List (ℕ × ℕ)) (front : List ℕ) → h ≤ n → length front ≡ h
@@ -88,8 +71,7 @@ reph_permutes gs = permuted-first_behind (reph_run gs) (range_with_len 0 (length
 
 pub reph_fits : (gs : List hb_glyph_info_t) → FitsStep (length gs) (universal_reph_step gs)
 reph_fits gs =
-    permuted_fits (length gs) ((0, reph_run gs) ∷ []) (first_behind (reph_run gs) (range_with_len 0 (length gs)))
-    (reph_permutes gs) (reph_run-within gs, tt)
+    fits_permuted (length gs) (universal_reph_step gs) (reph_permutes gs) (reph_run-within gs, tt) tt
 
 pub reph_moves : (gs : List hb_glyph_info_t) → MovesMerged (length gs) (universal_reph_step gs)
 reph_moves gs =
@@ -102,7 +84,7 @@ reph_moves gs =
     let is : first_behind k (range_with_len 0 n) ≡ front ++ range_with_len k (n - k) =
     ap (λ ps. front ++ ps) (drop-range 0 n k ∙ ap (λ m. range_with_len m (n - k)) (zero-add k)) in
     let within : AllByRecursion (λ q. q < k) front =
-    all_range k front
+    within_permuted k front
     (subst (λ ps. IsPermutation ps front) (take-range n k l)
     (permuted-first_last (take k (range_with_len 0 n)))) in
     moves_merged_below n k ((0, k) ∷ []) (first_behind k (range_with_len 0 n)) front l is
@@ -121,8 +103,7 @@ fronts_within gs =
     (all-filter (λ i. i < n) (goes_front_at gs) (places_within gs) (within_range 0 n n (omega arith)))
 
 pub piece_fits : (gs : List hb_glyph_info_t) → FitsStep (length gs) (piece_step gs)
-piece_fits gs = permuted_fits (length gs) (piece_step gs).merged_first (piece_step gs).places (piece_permutes gs)
-    (fronts_within gs)
+piece_fits gs = fits_permuted (length gs) (piece_step gs) (piece_permutes gs) (fronts_within gs) tt
 
 -- a stretch for each place that passes, and one of them
 held_one : (t : ℕ → Bool) (before after : List ℕ) (m r : ℕ) → t m ≡ true → 0 < r → r < suc m
@@ -169,7 +150,7 @@ piece_moves_by gs p =
     ∙ reversed_first-append t (p.before ++ p.element ∷ []) p.after p.none_after
     ∙ ap (λ xs. reversed_first t xs ++ p.after) start ∙ ap (λ xs. front ++ xs) behind in
     moves_merged_below n h (piece_step gs).merged_first (piece_step gs).places front l is
-    (length_permutation (range_with_len 0 h) front perm ∙ length-range_with_len 0 h) (all_range h front perm)
+    (length_permuted h front perm) (within_permuted h front perm)
     (λ r a b. subst (λ xs. held (map (λ i. (0, suc i)) (filter t xs)) r ≡ true) (sym p.parts)
     (held_one t p.before p.after p.element r p.passes a (omega arith)))
     (piece_fits gs)

@@ -239,7 +239,8 @@ fn form_mask(map: &hb_ot_map_t, tag: hb_tag_t) -> u32
     mask
 }
 
-// Whether the syllable that opens the text stands in runs.
+// Whether the syllable that opens the text stands in runs: hieroglyphs and what is no cluster have
+// no forms by their place.
 #[inline]
 fn joins_runs(glyphs: &[hb_glyph_info_t]) -> bool
     ensures { result ≡ joins_runs glyphs.now }

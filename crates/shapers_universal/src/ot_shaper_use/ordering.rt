@@ -167,7 +167,7 @@ fn some_go_front(glyphs: &[hb_glyph_info_t]) -> bool
     glyphs.iter().any(goes_front)
 }
 
-// Whether a reph stands in front.
+// Whether a reph stands in front: a character of that category, or what the lookups of rphf made.
 #[inline]
 fn has_reph(syllable: &[hb_glyph_info_t]) -> bool
     ensures { result ≡ has_universal_reph syllable.now }
@@ -234,7 +234,8 @@ fn list_order(buffer: &mut hb_buffer_t, s: usize, behind: usize, e: usize)
     list_pieces(buffer, end, e);
 }
 
-// Lists the order of the pieces from `s` to `e`, where a piece ends with a halant.
+// Lists the order of the pieces from `s` to `e`, where a piece ends with a halant: what stands
+// before a halant that is still seen is drawn apart, and a vowel stands before its own consonants.
 #[inline]
 fn list_pieces(buffer: &mut hb_buffer_t, s: usize, e: usize)
     requires in_order { s ≤ e }
@@ -369,7 +370,8 @@ fn passed_len(glyphs: &[hb_glyph_info_t]) -> usize
     glyphs.iter().take_while(|glyph| is_passed(glyph)).count()
 }
 
-// Whether a reph passes this glyph: it is no halant and doesn't stand after the base.
+// Whether a reph passes this glyph: it is no halant and doesn't stand after the base. A halant that
+// is left belongs to a consonant that the font draws in full, and the reph is drawn over that one.
 #[inline]
 fn is_passed(glyph: &hb_glyph_info_t) -> bool
     ensures { result ≡ reph_passes glyph.now }
@@ -405,7 +407,8 @@ fn is_post_base(category: u8) -> bool
     )
 }
 
-// Whether a glyph is a halant, and no ligature.
+// Whether a glyph is a halant, and no ligature: one that the font ligated with its consonant
+// separates nothing.
 #[inline]
 fn is_halant(glyph: &hb_glyph_info_t) -> bool
     ensures { result ≡ is_universal_halant glyph.now }
@@ -429,7 +432,8 @@ fn piece_len(glyphs: &[hb_glyph_info_t]) -> usize
     glyphs.len()
 }
 
-// Whether a glyph goes to the front of its piece.
+// Whether a glyph goes to the front of its piece. Of what a lookup put in for one glyph only the
+// first does: the other parts of a split vowel stand above, below or behind.
 #[inline]
 fn goes_front(glyph: &hb_glyph_info_t) -> bool
     ensures { result ≡ goes_front glyph.now }

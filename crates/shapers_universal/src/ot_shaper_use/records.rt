@@ -34,8 +34,8 @@ pub fn record_rphf(plan: &hb_ot_shape_plan_t, buffer: &mut hb_buffer_t)
     }
 }
 
-/// In each syllable the first glyph that a lookup put in becomes one that stands before the base.
-/// It takes no memory.
+/// In each syllable the first glyph that a lookup put in becomes one that stands before the base:
+/// what `pref` made is drawn there, as a vowel before the base is. It takes no memory.
 #[inline]
 pub fn record_pref(buffer: &mut hb_buffer_t)
     ensures { buffer.new ≡ with_pref_recorded buffer.old }

@@ -3,8 +3,8 @@ use Rattle.std.proofs.Common.{length, sym, ◌∙◌, arith}
 use Rattle.shapers_buffer.specs.Glyph.{default_glyph}
 use Rattle.shapers_indic_initial.specs.InitialBase.{is_base_candidate, may_be_base}
 use Rattle.shapers_indic_initial.proofs.PlaceSearch.{least_further}
-use Rattle.shapers_indic_initial.proofs.Bases.{passes_there}
 use Rattle.shapers_indic_initial.proofs.ot_shaper_indic_initial.base.first_candidate.Goals as goal
+use Rattle.shapers_indic.proofs.PlaceSearch.{passes_there}
 
 pub loop-i-preserved : goal.loop-i-preserved
 loop-i-preserved c =

@@ -3,9 +3,9 @@ use Rattle.std.proofs.Common.{get_or, length, sym, ◌∙◌}
 use Rattle.std.proofs.lemmas.Bool.{ne_eqb}
 use Rattle.shapers_buffer.specs.Glyph.{default_glyph}
 use Rattle.shapers_indic.specs.Glyphs.{has_category, passes}
-use Rattle.shapers_indic_initial.proofs.Bases.{passes_there}
 use Rattle.shapers_indic_initial.proofs.PlaceSearch.{least_further}
 use Rattle.shapers_indic_initial.proofs.ot_shaper_indic_initial.halant.halant_after.Goals as goal
+use Rattle.shapers_indic.proofs.PlaceSearch.{passes_there}
 
 pub loop-i-preserved : goal.loop-i-preserved
 loop-i-preserved c =

@@ -3,9 +3,9 @@ use Rattle.std.proofs.Common.{◌≡◌, ◌+◌, ◌-◌, sym, ap, ◌∙◌, a
 use Rattle.shapers_buffer.specs.Glyph.{default_glyph}
 use Rattle.shapers_indic.specs.Glyphs.{greatest_place, passes}
 use Rattle.shapers_indic_initial.specs.InitialPositions.{is_passed_by_halant}
-use Rattle.shapers_indic_initial.proofs.Bases.{passes_there}
 use Rattle.shapers_indic_initial.proofs.PlaceSearch.{greatest_back, greatest_here}
 use Rattle.shapers_indic_initial.proofs.ot_shaper_indic_initial.halant.last_after_halant.Goals as goal
+use Rattle.shapers_indic.proofs.PlaceSearch.{passes_there}
 
 pub returns-then-is_passed_by_halant-clause-place : goal.returns-then-is_passed_by_halant-clause-place
 returns-then-is_passed_by_halant-clause-place c =

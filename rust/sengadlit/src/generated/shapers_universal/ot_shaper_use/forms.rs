@@ -172,7 +172,8 @@ fn form_mask(map: &Map, tag: Tag) -> u32 {
     mask
 }
 
-// Whether the syllable that opens the text stands in runs.
+// Whether the syllable that opens the text stands in runs: hieroglyphs and what is no cluster have
+// no forms by their place.
 #[inline]
 fn joins_runs(glyphs: &[GlyphInfo]) -> bool {
     match glyphs.first() {

@@ -95,7 +95,7 @@ fn some_go_front(glyphs: &[GlyphInfo]) -> bool {
     glyphs.iter().any(goes_front)
 }
 
-// Whether a reph stands in front.
+// Whether a reph stands in front: a character of that category, or what the lookups of rphf made.
 #[inline]
 fn has_reph(syllable: &[GlyphInfo]) -> bool {
     match syllable.first() {
@@ -140,7 +140,8 @@ fn list_order(buffer: &mut Buffer, s: usize, behind: usize, e: usize) {
     list_pieces(buffer, end, e);
 }
 
-// Lists the order of the pieces from `s` to `e`, where a piece ends with a halant.
+// Lists the order of the pieces from `s` to `e`, where a piece ends with a halant: what stands
+// before a halant that is still seen is drawn apart, and a vowel stands before its own consonants.
 #[inline]
 fn list_pieces(buffer: &mut Buffer, s: usize, e: usize) {
     let mut start = s;
@@ -232,7 +233,8 @@ fn passed_len(glyphs: &[GlyphInfo]) -> usize {
     glyphs.iter().take_while(|glyph| is_passed(glyph)).count()
 }
 
-// Whether a reph passes this glyph: it is no halant and doesn't stand after the base.
+// Whether a reph passes this glyph: it is no halant and doesn't stand after the base. A halant that
+// is left belongs to a consonant that the font draws in full, and the reph is drawn over that one.
 #[inline]
 fn is_passed(glyph: &GlyphInfo) -> bool {
     !(is_post_base(glyph.category) || is_halant(glyph))
@@ -264,7 +266,8 @@ fn is_post_base(category: u8) -> bool {
     )
 }
 
-// Whether a glyph is a halant, and no ligature.
+// Whether a glyph is a halant, and no ligature: one that the font ligated with its consonant
+// separates nothing.
 #[inline]
 fn is_halant(glyph: &GlyphInfo) -> bool {
     let category = glyph.category;
@@ -283,7 +286,8 @@ fn piece_len(glyphs: &[GlyphInfo]) -> usize {
     glyphs.len()
 }
 
-// Whether a glyph goes to the front of its piece.
+// Whether a glyph goes to the front of its piece. Of what a lookup put in for one glyph only the
+// first does: the other parts of a split vowel stand above, below or behind.
 #[inline]
 fn goes_front(glyph: &GlyphInfo) -> bool {
     (glyph.category == category::VPre || glyph.category == category::VMPre) && glyph.lig_comp == 0

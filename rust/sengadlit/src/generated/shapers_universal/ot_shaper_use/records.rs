@@ -40,8 +40,8 @@ pub fn record_rphf(plan: &Plan, buffer: &mut Buffer) {
     }
 }
 
-/// In each syllable the first glyph that a lookup put in becomes one that stands before the base.
-/// It takes no memory.
+/// In each syllable the first glyph that a lookup put in becomes one that stands before the base:
+/// what `pref` made is drawn there, as a vowel before the base is. It takes no memory.
 ///
 /// <details><summary>Contract</summary>
 ///

@@ -136,7 +136,8 @@ impl SyllableChange for RphfMask {
     }
 }
 
-// How many glyphs in front get the mask of `rphf`: a reph alone, else three or all.
+// How many glyphs in front get the mask of `rphf`: a reph alone, else three or all. Fonts make
+// a reph of RA and a halant, or of these and a joiner.
 #[inline]
 fn reph_len(syllable: &[GlyphInfo]) -> usize {
     match syllable.first() {
