@@ -115,7 +115,7 @@ merge-behind P level s e gs hs l p h =
     (each-take P (e - s) (drop s gs) (each-drop P s gs p)) h)
     ∙ ap (λ l. l ++ hs) (sym (merge_is level s e gs))
 
-take-past : {X : Type 0} (a k : ℕ) (xs ys : List X) → length xs ≡ a → take (a + k) (xs ++ ys) ≡ xs ++ take k ys
+pub take-past : {X : Type 0} (a k : ℕ) (xs ys : List X) → length xs ≡ a → take (a + k) (xs ++ ys) ≡ xs ++ take k ys
 take-past a k xs ys e =
     let first : take a (xs ++ ys) ≡ xs = take_at xs ys a e in
     let rest : drop a (xs ++ ys) ≡ ys = drop_at xs ys a e in
@@ -123,7 +123,7 @@ take-past a k xs ys e =
     ∙ ap (λ l. l ++ drop a (take (a + k) (xs ++ ys))) (take-take a (a + k) (xs ++ ys) (omega arith) ∙ first)
     ∙ ap (λ l. xs ++ l) (drop-take a k (xs ++ ys) ∙ ap (take k) rest)
 
-drop-past : {X : Type 0} (a k : ℕ) (xs ys : List X) → length xs ≡ a → drop (a + k) (xs ++ ys) ≡ drop k ys
+pub drop-past : {X : Type 0} (a k : ℕ) (xs ys : List X) → length xs ≡ a → drop (a + k) (xs ++ ys) ≡ drop k ys
 drop-past a k xs ys e = sym (drop-drop k a (xs ++ ys)) ∙ ap (drop k) (drop_at xs ys a e)
 
 merge-before : (P : ℕ → Type 0) (level : BufferClusterLevel) (a s e : ℕ) (hs gs rest : List hb_glyph_info_t)
@@ -284,7 +284,7 @@ halves level a n xs ys gs hs ga hn f g h =
     ∙ ap (λ ts. before ++ ts) (append-nil (run_steps level ys hs))
 
 -- a step over a stretch of a stretch
-shifted-twice : (a s : ℕ) (sts : List (ℕ × ℕ)) → shifted a (shifted s sts) ≡ shifted (a + s) sts
+pub shifted-twice : (a s : ℕ) (sts : List (ℕ × ℕ)) → shifted a (shifted s sts) ≡ shifted (a + s) sts
 shifted-twice a s [] = refl
 shifted-twice a s (st ∷ sts) =
     let i : a + (s + st.0) ≡ a + s + st.0 = omega arith in

@@ -1,6 +1,7 @@
 pub mod ClusterMerges
 pub mod Cuts
 pub mod Steps
+pub mod CarriedRuns
 pub mod Flags
 pub mod FlagLaw
 pub mod Labels
