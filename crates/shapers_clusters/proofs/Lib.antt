@@ -3,6 +3,7 @@ pub mod Appended
 pub mod Borders
 mod BorderRows
 pub mod Bounds
+pub mod CarriedGlyphs
 pub mod CarriedRuns
 pub mod ClearPlaces
 pub mod Cuts

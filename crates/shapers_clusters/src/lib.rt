@@ -6,6 +6,8 @@ ghost use Rattle.shapers_clusters.specs.Borders.{BareLaw};
 ghost use Rattle.shapers_clusters.specs.Breaks.{ClearLaw, NeedlessLaw};
 ghost use Rattle.shapers_clusters.specs.Laws.{ViewLaw, FlagCallsLaw, MergeLaw, ExactCutsLaw, StepsLaw, PermutedLaw, ClustersLaw, MergedStepsLaw, SparedStepsLaw, ClustersReorderedLaw, SeenStepsLaw, ReorderedLaw, WidenedLaw, AlongLaw, HalvesLaw, AloneLaw, MadeLaw, MovedSourcesLaw};
 
+pub mod carried_runs;
+
 /// Merges leave the order view; the three flag calls change nothing but glyph flags.
 pub fn view_law()
     ensures { ViewLaw }
