@@ -1,4 +1,5 @@
 pub mod Borders
+pub mod CarriedSyllables
 pub mod CircleLaws
 mod CircleRows
 mod ConsonantRows

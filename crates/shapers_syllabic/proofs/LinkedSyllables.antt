@@ -131,7 +131,7 @@ lens-view gs = ap (map length) (syllables-viewed plain (λ g. refl) gs) ∙ lens
     lens (piece ∷ pieces) = ap (λ n. n ∷ map length (map (map plain) pieces)) (length-map piece plain)
         ∙ ap (λ ns. length piece ∷ ns) (lens pieces)
 
-numbers-view : (gs : List hb_glyph_info_t) → glyph_numbers (order_view gs) ≡ glyph_numbers gs
+pub numbers-view : (gs : List hb_glyph_info_t) → glyph_numbers (order_view gs) ≡ glyph_numbers gs
 numbers-view [] = refl
 numbers-view (g ∷ gs) = ap (λ ns. g.glyph_id ∷ ns) (numbers-view gs)
 

@@ -7,5 +7,6 @@ pub mod FirstBroken
 pub mod MovedForward
 pub mod Reordering
 pub mod ReorderingLaws
+pub mod ReorderingWalk
 pub mod SpanCuts
 pub mod Syllabic

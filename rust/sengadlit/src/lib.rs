@@ -194,6 +194,7 @@ mod generated {
     pub(crate) mod shapers_base;
     pub(crate) mod shapers_buffer;
     pub(crate) mod shapers_choice;
+    pub(crate) mod shapers_clusters;
     pub(crate) mod shapers_editing;
     pub(crate) mod shapers_hangul;
     pub(crate) mod shapers_indic;

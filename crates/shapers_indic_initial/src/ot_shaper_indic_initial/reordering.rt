@@ -104,6 +104,8 @@ impl<'a, F: hb_font_t> ReorderBySteps for InitialOrder<'a, F> {
         initial_laws (initial_rules (F.font rules.face.now) rules.map.now rules.plan.now) };
 
     ghost leads = { λ _ _ _ _ _ done. done };
+
+    ghost suffices = { λ _ _ _ _ _ done. done };
 }
 
 impl<'a, F: hb_font_t> InitialOrder<'a, F> {

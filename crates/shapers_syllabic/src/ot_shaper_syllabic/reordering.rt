@@ -1,13 +1,16 @@
 //! Reordering a text syllable by syllable.
-ghost use Rattle.std.specs.Prelude.{◌≡◌, ◌<◌, ◌≤◌, ℕ, [], OnOk, drop, get_or, length};
+ghost use Rattle.std.specs.Prelude.{◌≡◌, ◌<◌, ◌≤◌, ℕ, [], IfOk, OnOk, drop, get_or, length};
 ghost use Rattle.std.specs.List.{position};
 ghost use Rattle.shapers_buffer.specs.Clusters.{stretch_of};
 ghost use Rattle.shapers_buffer.specs.Glyph.{default_glyph};
 ghost use Rattle.shapers_syllabic.specs.Borders.{MeetAtBorder};
 ghost use Rattle.shapers_syllabic.specs.Reordering.{RefusesIf, SyllablesLinked, TakesText, TextOrdered, glyph_numbers};
+ghost use Rattle.shapers_clusters.specs.CarriedRuns.{IsCarried};
 ghost use Rattle.shapers_syllabic.specs.ReorderingLaws.{NextChanging};
+ghost use Rattle.shapers_syllabic.specs.ReorderingWalk.{ReorderedBehind, ReorderedGuarded, written};
 
 use shapers_base::buffer::{ShaperError, hb_buffer_t, hb_glyph_info_t};
+use shapers_clusters::carried_runs::CarriedRun;
 
 /// Which glyphs may change their syllable.
 pub trait MayChange {
@@ -93,6 +96,11 @@ pub trait ReorderBySteps: Reorder {
     // and they tell what becomes of the buffer.
     ghost leads: { (it : Self) (s e : ℕ) (old new : Buffer) → Self.relation it s e old new →
         SyllableReordered (Self.meaning it old.script) (steps it old.script) s e old new };
+
+    // which is all that is related.
+    ghost suffices: { (it : Self) (s e : ℕ) (old new : Buffer) →
+        SyllableReordered (Self.meaning it old.script) (steps it old.script) s e old new →
+        Self.relation it s e old new };
 }
 
 /// Reorders each syllable of the text, from left to right, and empties the placement list, so that
@@ -100,7 +108,10 @@ pub trait ReorderBySteps: Reorder {
 /// after another, and the order's relation leads there, one link a syllable. It refuses where the
 /// order does, and then nothing is said of the buffer.
 #[inline]
-pub fn reorder_syllables<R: Reorder>(order: &R, buffer: &mut hb_buffer_t) -> Result<(), ShaperError>
+pub fn reorder_syllables<R: ReorderBySteps>(
+    order: &R,
+    buffer: &mut hb_buffer_t,
+) -> Result<(), ShaperError>
     requires without_positions { buffer.old.positions ≡ [] }
     requires takes { TakesText (R.takes order.now) buffer.old.glyphs }
     ensures ordered { OnOk result
@@ -109,13 +120,112 @@ pub fn reorder_syllables<R: Reorder>(order: &R, buffer: &mut hb_buffer_t) -> Res
         (SyllablesLinked (R.relation order.now) buffer.old buffer.new) }
     ensures refusal { RefusesIf (R.may_refuse order.now) result }
 {
+    let mut run = CarriedRun::NONE;
     let mut start = 0;
     while let Some(first) = next_changing(order, buffer.glyphs(), start) {
         let end = buffer.next_syllable(first);
-        order.reorder(buffer, first, end)?;
+        run = carried_to(run, buffer, first);
+        reorder_behind(order, &mut run, buffer, first, end)?;
         start = end;
     }
+    write(run, buffer);
     buffer.clear_places();
+    Ok(())
+}
+
+// The run up to a place, if all glyphs before that are in its cluster; else it is written, and none
+// is left.
+#[inline]
+fn carried_to(run: CarriedRun, buffer: &mut hb_buffer_t, place: usize) -> CarriedRun
+    requires in_range { place ≤ length buffer.old.glyphs }
+    requires fits { IsCarried run buffer.old.glyphs }
+    ensures same { written result buffer.new ≡ written run buffer.old }
+    ensures fits { IsCarried result buffer.new.glyphs }
+    ensures ends { result.start < result.end → result.end ≡ place }
+    ensures within { result.end ≤ place }
+{
+    if run.is_none() {
+        return CarriedRun::NONE;
+    }
+    if let Some(run) = run.reaching(buffer.glyphs(), place) {
+        return run;
+    }
+    write(run, buffer);
+    CarriedRun::NONE
+}
+
+// Puts the glyphs of a run into its cluster.
+#[inline]
+fn write(run: CarriedRun, buffer: &mut hb_buffer_t)
+    requires { IsCarried run buffer.old.glyphs }
+    ensures { buffer.new ≡ written run buffer.old }
+{
+    let cluster = run.cluster(buffer.glyphs());
+    buffer.change_each(run.start, run.end, &cluster);
+}
+
+// Reorders a syllable behind a run that ends where it starts, or behind none. The run stays, or one
+// begins where merges flooded what stands before.
+#[inline]
+fn reorder_behind<R: ReorderBySteps>(
+    order: &R,
+    run: &mut CarriedRun,
+    buffer: &mut hb_buffer_t,
+    first: usize,
+    end: usize,
+) -> Result<(), ShaperError>
+    requires in_order { first ≤ end }
+    requires in_range { end ≤ length buffer.old.glyphs }
+    requires without_positions { buffer.old.positions ≡ [] }
+    requires takes { R.takes order.now (glyph_numbers (stretch_of first end buffer.old.glyphs)) }
+    requires fits { IsCarried run.old buffer.old.glyphs }
+    requires ends { run.old.start < run.old.end → run.old.end ≡ first }
+    requires within { run.old.end ≤ first }
+    ensures behind { OnOk result (ReorderedBehind (R.relation order.now) first end
+        run.old buffer.old run.new buffer.new) }
+    ensures refusal { RefusesIf (R.may_refuse order.now) result }
+{
+    if !run.is_none() {
+        return reorder_guarded(order, buffer, run.above, first, end);
+    }
+    if first == 0 {
+        return order.reorder(buffer, first, end);
+    }
+    let cluster = buffer.get(first - 1).cluster;
+    order.reorder(buffer, first, end)?;
+    *run = CarriedRun::fallen(buffer.glyphs(), first, cluster);
+    Ok(())
+}
+
+// Reorders a syllable while the last glyph but one before it has another cluster, where floods to
+// the left stop.
+#[inline]
+fn reorder_guarded<R: ReorderBySteps>(
+    order: &R,
+    buffer: &mut hb_buffer_t,
+    above: u32,
+    first: usize,
+    end: usize,
+) -> Result<(), ShaperError>
+    requires two { 1 < first }
+    requires in_order { first ≤ end }
+    requires in_range { end ≤ length buffer.old.glyphs }
+    requires without_positions { buffer.old.positions ≡ [] }
+    requires takes { R.takes order.now (glyph_numbers (stretch_of first end buffer.old.glyphs)) }
+    ensures guarded { OnOk result
+        (ReorderedGuarded (R.relation order.now) first end above buffer.old buffer.new) }
+    ensures refusal { RefusesIf (R.may_refuse order.now) result }
+{
+    let glyph = buffer.get(first - 2);
+    buffer.set(
+        first - 2,
+        hb_glyph_info_t {
+            cluster: above,
+            ..glyph
+        },
+    );
+    order.reorder(buffer, first, end)?;
+    buffer.set(first - 2, glyph);
     Ok(())
 }
 

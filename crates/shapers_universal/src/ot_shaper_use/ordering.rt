@@ -84,6 +84,8 @@ impl ReorderBySteps for UniversalOrder {
     ghost laws = { λ _ _. universal_laws };
 
     ghost leads = { λ _ _ _ _ _ done. done };
+
+    ghost suffices = { λ _ _ _ _ _ done. done };
 }
 
 // Reorders the syllable from `s` to `e`, in which no reph stands in front.

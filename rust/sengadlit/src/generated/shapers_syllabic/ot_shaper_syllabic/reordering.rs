@@ -3,6 +3,7 @@
 //! Reordering a text syllable by syllable.
 
 use crate::generated::shapers_base::buffer::{Buffer, GlyphInfo, ShaperError};
+use crate::generated::shapers_clusters::carried_runs::CarriedRun;
 
 /// Which glyphs may change their syllable.
 pub trait MayChange {
@@ -95,14 +96,86 @@ pub trait ReorderBySteps: Reorder {}
 ///
 /// </details>
 #[inline]
-pub fn reorder_syllables<R: Reorder>(order: &R, buffer: &mut Buffer) -> Result<(), ShaperError> {
+pub fn reorder_syllables<R: ReorderBySteps>(
+    order: &R,
+    buffer: &mut Buffer,
+) -> Result<(), ShaperError> {
+    let mut run = CarriedRun::NONE;
     let mut start = 0;
     while let Some(first) = next_changing(order, buffer.glyphs(), start) {
         let end = buffer.next_syllable(first);
-        order.reorder(buffer, first, end)?;
+        run = carried_to(run, buffer, first);
+        reorder_behind(order, &mut run, buffer, first, end)?;
         start = end;
     }
+    write(run, buffer);
     buffer.clear_places();
+    Ok(())
+}
+
+// The run up to a place, if all glyphs before that are in its cluster; else it is written, and none
+// is left.
+#[inline]
+fn carried_to(run: CarriedRun, buffer: &mut Buffer, place: usize) -> CarriedRun {
+    if run.is_none() {
+        return CarriedRun::NONE;
+    }
+    if let Some(run) = run.reaching(buffer.glyphs(), place) {
+        return run;
+    }
+    write(run, buffer);
+    CarriedRun::NONE
+}
+
+// Puts the glyphs of a run into its cluster.
+#[inline]
+fn write(run: CarriedRun, buffer: &mut Buffer) {
+    let cluster = run.cluster(buffer.glyphs());
+    buffer.change_each(run.start, run.end, &cluster);
+}
+
+// Reorders a syllable behind a run that ends where it starts, or behind none. The run stays, or one
+// begins where merges flooded what stands before.
+#[inline]
+fn reorder_behind<R: ReorderBySteps>(
+    order: &R,
+    run: &mut CarriedRun,
+    buffer: &mut Buffer,
+    first: usize,
+    end: usize,
+) -> Result<(), ShaperError> {
+    if !run.is_none() {
+        return reorder_guarded(order, buffer, run.above, first, end);
+    }
+    if first == 0 {
+        return order.reorder(buffer, first, end);
+    }
+    let cluster = buffer.get(first - 1).cluster;
+    order.reorder(buffer, first, end)?;
+    *run = CarriedRun::fallen(buffer.glyphs(), first, cluster);
+    Ok(())
+}
+
+// Reorders a syllable while the last glyph but one before it has another cluster, where floods to
+// the left stop.
+#[inline]
+fn reorder_guarded<R: ReorderBySteps>(
+    order: &R,
+    buffer: &mut Buffer,
+    above: u32,
+    first: usize,
+    end: usize,
+) -> Result<(), ShaperError> {
+    let glyph = buffer.get(first - 2);
+    buffer.set(
+        first - 2,
+        GlyphInfo {
+            cluster: above,
+            ..glyph
+        },
+    );
+    order.reorder(buffer, first, end)?;
+    buffer.set(first - 2, glyph);
     Ok(())
 }
 
