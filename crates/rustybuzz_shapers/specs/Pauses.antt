@@ -234,7 +234,8 @@ OneByOne r old new = PauseLinked r.circles (SyllableReordered r.order r.steps) o
 -- The laws of a pause: spans may be cut between any two, and texts at any border of syllables; what
 -- becomes of clusters and glyph flags. What doesn't reorder leaves clusters, and only adds flags.
 -- What reorders does so by syllables. In Indic clusters merge by the cycles of the initial order,
--- and by the moves of the final one, behind which syllables are opened. In Khmer the movers of a regular syllable come to its front.
+-- and by the moves of the final one, behind which syllables are opened. In Khmer the movers of a
+-- regular syllable come to its front.
 abbrev pub PauseKeeps : Pause → hb_ot_shape_plan_t → Font → List Span → Buffer → Buffer → Type 0
 PauseKeeps SetupSyllablesIndic plan font spans old new =
     SetUpCutsAtSpans spans indic_syllable.BROKEN_CLUSTER old new

@@ -87,8 +87,8 @@ bound_from s before [] gs = gs
 bound_from s before (syl ∷ syls) gs =
     bound_from (s + length syl) (last_or before syl) syls (bound_at s (is_bound before syl) gs)
 
--- The buffer before and after each of its syllables is opened: its order view has the masks of init
--- and, to the view of what is carried along, cluster and glyph flags among it, the breaks are unsafe.
+-- The buffer before and after each of its syllables is opened: its order view has masks of init,
+-- and to the view of what is carried along, cluster and glyph flags among it, breaks are unsafe.
 pub record WordsOpened (bits : ℕ) (old new : Buffer) : Type 0 where
   pub others : new ≡ record old { glyphs = new.glyphs }
   pub order : order_view new.glyphs ≡ with_inits bits None (syllables (order_view old.glyphs))
@@ -105,6 +105,5 @@ FinallyReordered r old new =
 -- the same with the reordering as a chain, one link a syllable
 abbrev pub FinallyLinked : Rules → Buffer → Buffer → Type 0
 FinallyLinked r old new =
-    (mid : Buffer)
-    × SyllablesLinked (SyllableReordered (final_order r old.script) (final_steps r old.script)) old mid
-    × WordsOpened r.init mid new
+    let link = SyllableReordered (final_order r old.script) (final_steps r old.script) in
+    (mid : Buffer) × SyllablesLinked link old mid × WordsOpened r.init mid new

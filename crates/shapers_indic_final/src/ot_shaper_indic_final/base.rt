@@ -1,12 +1,12 @@
 //! The base of a syllable after substitutions. (OpenType, development of Indic scripts: "Final
 //! reordering".)
-ghost use Rattle.std.specs.Prelude.{if◌then◌else◌, ◌-◌, ◌≡◌, ◌<◌, ◌≤◌, ◌+◌, ◌∷◌, [], is_some, length, map, unwrap_or};
+ghost use Rattle.std.specs.Prelude.{if◌then◌else◌, ◌-◌, ◌≡◌, ◌<◌, ◌≤◌, ◌+◌, is_some, length, map, unwrap_or};
 ghost use Rattle.std.specs.List.{prefix_len};
 ghost use Rattle.std.specs.Option.{IfSome};
 ghost use Rattle.shapers_buffer.specs.Glyph.{at_position};
 ghost use Rattle.shapers_buffer.specs.Clusters.{stretch_of, with_stretch};
-ghost use Rattle.shapers_indic.specs.Glyphs.{greatest_place, is_one_of, passes};
-ghost use Rattle.shapers_indic_final.specs.FinalBase.{as_linked, base_by_links, base_by_pref, before_halants, before_joiner, behind_halants, first_base, is_behind_base, is_from_base_on, is_unformed, is_unformed_below, last_link, links_written, may_be_settled, settled_base, stepped_back, unformed_pref, with_final_base, with_base_at, with_links, with_pref_base};
+ghost use Rattle.shapers_indic.specs.Glyphs.{greatest_place, passes};
+ghost use Rattle.shapers_indic_final.specs.FinalBase.{as_linked, base_by_links, base_by_pref, before_halants, before_joiner, behind_halants, first_base, is_from_base_on, is_unformed_below, last_link, links_written, may_be_settled, stepped_back, unformed_pref, with_final_base, with_base_at, with_links, with_pref_base};
 ghost use Rattle.shapers_indic_final.specs.FinalGlyphs.{is_indic_halant};
 ghost use Rattle.shapers_indic_final.specs.FinalWalk.{settled};
 

@@ -3,7 +3,7 @@
 ghost use Rattle.std.specs.Prelude.{◌≡◌, ◌<◌, ◌≤◌, ◌+◌, ◌-◌, length, unwrap_or};
 ghost use Rattle.std.specs.Option.{IfSome};
 ghost use Rattle.shapers_indic.specs.Glyphs.{greatest_place, least_place, passes};
-ghost use Rattle.shapers_indic_final.specs.FinalMatras.{end_of_base, ends_search, has_room, is_free_halant, is_left, matra_target, matras_go, nearest_halant};
+ghost use Rattle.shapers_indic_final.specs.FinalMatras.{end_of_base, ends_search, is_free_halant, is_left, matra_target, matras_go, nearest_halant};
 
 use super::glyphs::{is_halant, is_matra_or_halant};
 use super::rules::has_no_half_forms;

@@ -7,7 +7,7 @@ ghost use Rattle.std.specs.Option.{IfSome, option_map_or};
 ghost use Rattle.shapers_indic.specs.Glyphs.{greatest_place, passes};
 ghost use Rattle.shapers_indic_final.specs.FinalBase.{pref_place};
 ghost use Rattle.shapers_indic_final.specs.FinalGlyphs.{is_matra_or_halant};
-ghost use Rattle.shapers_indic_final.specs.FinalPref.{formed_pref, is_joiner_behind_halant, place_before_base, pref_target};
+ghost use Rattle.shapers_indic_final.specs.FinalPref.{formed_pref, is_joiner_behind_halant, pref_target};
 
 use super::glyphs::{has_mask, is_formed, is_halant, is_matra_or_halant};
 use super::rules::has_no_half_forms;

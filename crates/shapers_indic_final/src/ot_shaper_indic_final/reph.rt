@@ -1,9 +1,9 @@
 //! Where the reph of a syllable goes. (OpenType, development of Indic scripts: "Reorder reph".)
-ghost use Rattle.std.specs.Prelude.{◌≡◌, ◌<◌, ◌≤◌, ◌+◌, count_by, length};
+ghost use Rattle.std.specs.Prelude.{◌≡◌, ◌<◌, ◌≤◌, ◌+◌, length};
 ghost use Rattle.std.specs.List.{prefix_len};
 ghost use Rattle.std.specs.Option.{IfSome};
 ghost use Rattle.shapers_indic.specs.Glyphs.{has_position, is_matra};
-ghost use Rattle.shapers_indic_final.specs.FinalReph.{at_end, behind_base, carried_along, halant_after_start, is_moving_reph, is_with_main, is_with_sub, last_but_signs, opens_with_reph, reph_target, with_joiner};
+ghost use Rattle.shapers_indic_final.specs.FinalReph.{at_end, behind_base, carried_along, halant_after_start, is_with_main, is_with_sub, last_but_signs, opens_with_reph, reph_target, with_joiner};
 
 use super::glyphs::{is_formed, is_halant};
 use shapers_base::buffer::hb_glyph_info_t;
