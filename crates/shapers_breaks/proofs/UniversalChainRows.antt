@@ -1,5 +1,5 @@
--- What lookups between the set-up and the reordering of the universal shaper may read and leave, and where a break would
--- change a form, on small texts written out from the rules.
+-- What lookups between the set-up and the reordering of the universal shaper may read and leave, and where a break
+-- would change a form, on small texts written out from the rules.
 use Rattle.std.proofs.Common.{ℕ, ◌/◌, ◌≡◌, List, [], ◌∷◌, ◌++◌, length, map, get_or, refl, sym, ap, ◌∙◌, subst, arith, slice_index}
 use Rattle.std.specs.Prelude.{None, Some}
 use Rattle.std.proofs.lemmas.Bool.{false≢true}
