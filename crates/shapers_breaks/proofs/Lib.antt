@@ -34,6 +34,7 @@ pub mod ChainBreaks
 mod ChainBreakRows
 pub mod KeptInside
 pub mod FinalBreaks
+pub mod MaskReads
 pub mod BetweenPauses
 pub mod ErasedCircles
 pub mod UniversalChain

@@ -2,13 +2,11 @@
 use Rattle.std.proofs.Common.{ℕ, if◌then◌else◌, cond, nat_lt, ◌+◌, ◌-◌, ◌%◌, ◌<◌, ◌≤◌, ◌≡◌, ◌==◌, ◌^◌, ◌&&◌, ◌||◌, not, bit_and, bit_or, Bool, true, false, inl, inr, List, [], ◌∷◌, ◌++◌, length, map, take, drop, get_or, refl, sym, ap, ◌∙◌, subst, arith, length-append, length-drop}
 use Rattle.std.specs.Prelude.{None}
 use Rattle.std.specs.Int.{bit_at}
-use Rattle.std.specs.Int.Bits.{and_zero_r}
 use Rattle.std.specs.List.{flat_map, list_any}
 use mir.Syntax.{w32}
 use Rattle.std.proofs.lemmas.Bool.{both_ways, cases_lt, eq-eqb, eqb-true}
 use Rattle.std.proofs.lemmas.Bool.Decides.{nat_tests}
 use Rattle.std.proofs.lemmas.List.{append-nil, append_assoc, length-map, length-take-le, map-append, take-append-drop}
-use Rattle.std.proofs.lemmas.Nat.{and_mod}
 use Rattle.std.proofs.lemmas.Nat.Bits.{bit_at-lt, bit_at-zero, bit_at_above, bit_at_and, bit_at_not, bit_at_or, same_from_bits}
 use Rattle.shapers_buffer.specs.declared.buffer.glyph.hb_glyph_info_t.{hb_glyph_info_t}
 use Rattle.shapers_buffer.specs.declared.buffer.syllables.Span.{Span}
@@ -31,8 +29,9 @@ use Rattle.shapers_breaks.specs.NeedlessForms.{NoFormFlagIsNeedless}
 use Rattle.shapers_breaks.specs.ScriptBreaks.{FormsOffFlags}
 use Rattle.shapers_breaks.specs.UniversalSound.{flagless, sound_set_up}
 use Rattle.shapers_breaks.proofs.ErasedCircles.{NoneEmpty}
+use Rattle.shapers_breaks.proofs.MaskReads.{mask_read}
 use Rattle.shapers_breaks.proofs.SetUp.{Glyphs, cover_cut}
-use Rattle.shapers_breaks.proofs.UniversalChain.{flags-and, length_under, parts_are}
+use Rattle.shapers_breaks.proofs.UniversalChain.{length_under, parts_are}
 use Rattle.shapers_breaks.proofs.UniversalSetUp.{KeepShapes, forms_for_kept, syllables_kept}
 use Rattle.shapers_breaks.proofs.UniversalSound.{SparesPlace, flags_hidden, forms_in, led, led_halves, length-led, none_empty, pair_in, pairs_in, pairs_kept, some_syllable, text_same}
 
@@ -69,11 +68,6 @@ bit_read x bits mask i fits among =
           let none : bit_at bits i ≡ 0 = bit_at_above bits 32 i fits high in
           omega arith
     ]
-
-mask_read : (mask bits : ℕ) → bits % 8 ≡ 0 → bit_and (without_flags mask) bits ≡ bit_and mask bits
-mask_read mask bits off =
-    let none : bit_and mask bits % 8 ≡ 0 = and_mod mask bits 3 ∙ ap (bit_and (mask % 8)) off ∙ and_zero_r (mask % 8) in
-    sym (flags-and mask bits) ∙ omega arith
 
 form_read : (x bits mask : ℕ) → bits % 8 ≡ 0 → bits ≤ 0xFFFFFFFF → ((i : ℕ) → bit_at mask i ≤ bit_at bits i)
     → bit_and (without_flags (bit_or (bit_and x (0xFFFFFFFF - bits)) mask)) bits ≡ mask

@@ -1,10 +1,9 @@
 -- A set-up of the universal shaper, lookups that leave results side by side, and its reordering may be broken at every
 -- clear place, with Sound masks of forms included.
-use Rattle.std.proofs.Common.{ℕ, ◌-◌, ◌%◌, ◌/◌, ◌≤◌, ◌≡◌, true, bit_and, List, [], ◌∷◌, ◌++◌, length, map, take, drop, refl, sym, ap, ◌∙◌, subst, arith, length-append, length-drop, zero, suc, ◌<◌}
+use Rattle.std.proofs.Common.{ℕ, ◌-◌, ◌≤◌, ◌≡◌, true, bit_and, List, [], ◌∷◌, ◌++◌, length, map, take, drop, refl, sym, ap, ◌∙◌, subst, arith, length-append, length-drop, zero, suc, ◌<◌}
 use Rattle.std.specs.Prelude.{Option, None, Some}
 use Rattle.std.specs.List.{All, flat_map}
 use Rattle.std.proofs.lemmas.List.{drop-map, drop_at, length-map, length-take-le, map-append, take-append-drop, take-map, take_at}
-use Rattle.std.proofs.lemmas.Nat.{and_mod, and_shr}
 use Rattle.std.proofs.lemmas.Simd.{map-map}
 use Rattle.shapers_buffer.specs.declared.buffer.glyph.hb_glyph_info_t.{hb_glyph_info_t}
 use Rattle.shapers_buffer.specs.declared.buffer.level.BufferClusterLevel.{BufferClusterLevel}
@@ -48,6 +47,7 @@ use Rattle.shapers_breaks.specs.ScriptBreaks.{FormsOffFlags}
 use Rattle.shapers_breaks.specs.SetUp.{SpanBorder}
 use Rattle.shapers_breaks.specs.UniversalChain.{ReadsOnly, UniversalChainBreaks, UniversalSoundChainBreaks, UniversalSoundPausesBreak, set_up_under, without_glyph_flags}
 use Rattle.shapers_breaks.proofs.KeptTextBreaks.{all_inside, text_breaks, text_breaks_clear}
+use Rattle.shapers_breaks.proofs.MaskReads.{flags-and}
 use Rattle.shapers_breaks.proofs.ScriptBreaks.{monotone_circled}
 use Rattle.shapers_breaks.proofs.SetUp.{Glyphs, IsGuarded, cover_cut, set_up_guarded, span_border}
 use Rattle.shapers_breaks.proofs.UniversalSetUp.{KeepShapes, clusters_kept, flagged_kept, guarded_kept, long_kept}
@@ -284,18 +284,6 @@ broken_seen view show circles meaning steps masks alike set_up C spans old new p
           ∙ ap (λ l. map show (P xs) ++ l) (told (P ys) (fixed ys));
       in_clusters = b.in_clusters;
     }
-
--- a mask without flags and without other bits
-pub flags-and : (a b : ℕ) → without_flags (bit_and a b) ≡ bit_and (without_flags a) b
-flags-and a b =
-    let x = bit_and a b in
-    let y = bit_and (without_flags a) b in
-    let zero : without_flags a % 8 ≡ 0 = omega arith in
-    let none : y % 8 ≡ 0 = and_mod (without_flags a) b 3 ∙ ap (λ n. bit_and n (b % 8)) zero in
-    let front : without_flags a / 8 ≡ a / 8 = omega arith in
-    let same : x / 8 ≡ y / 8 = and_shr a b 3 ∙ ap (λ n. bit_and n (b / 8)) (sym front)
-    ∙ sym (and_shr (without_flags a) b 3) in
-    omega arith
 
 -- a mask without the bits of forms, and without flags
 abbrev unformed : Option arabic_shape_plan_t → Map → ℕ → ℕ

@@ -17,3 +17,4 @@ pub mod ChainBreaks
 pub mod FinalBreaks
 pub mod UniversalChain
 pub mod NeedlessForms
+pub mod BetweenPauses
