@@ -1,11 +1,12 @@
 -- Pauses that stand between the set-up and the reordering of the universal shaper leave results side by side.
-use Rattle.std.proofs.Common.{ℕ, if◌then◌else◌, max, ◌-◌, ◌<◌, ◌≡◌, ◌==◌, ◌&&◌, ◌||◌, true, false, List, [], ◌∷◌, ◌++◌, length, map, take, drop, slice_index, get_or, refl, sym, ap, ◌∙◌, subst, arith}
+use Rattle.std.proofs.Common.{ℕ, if◌then◌else◌, max, ◌-◌, ◌<◌, ◌≡◌, ◌==◌, ◌&&◌, ◌||◌, true, false, List, [], ◌∷◌, ◌++◌, length, map, take, drop, slice_index, get_or, refl, sym, ap, ◌∙◌, subst, arith, not}
 use Rattle.std.specs.List.{All, AllByRecursion, flat_map, list_any, prefix_len}
 use Rattle.std.proofs.lemmas.List.{drop-map, drop_at, length-map, map-append, take-append-drop, take-map, take_at}
 use Rattle.std.proofs.lemmas.List.Concat.{flat_map-append}
 use Rattle.std.proofs.lemmas.List.Elements.{All-from_get_or, All-get_or, AllZip-get_or}
 use Rattle.shapers_buffer.specs.declared.buffer.glyph.hb_glyph_info_t.{hb_glyph_info_t}
 use Rattle.shapers_buffer.specs.declared.buffer.glyph_marks.GlyphMarks.{GlyphMarks}
+use Rattle.shapers_buffer.specs.Buffer.{Buffer}
 use Rattle.shapers_buffer.specs.Clusters.{least}
 use Rattle.shapers_buffer.specs.Glyph.{clusters, default_glyph}
 use Rattle.shapers_buffer.specs.Marks.{is_substituted}
@@ -20,12 +21,15 @@ use Rattle.shapers_syllabic.proofs.Borders.{OfByte, bytes, syllables-append, syl
 use Rattle.shapers_syllabic.proofs.CircleLaws.{joined-syllables}
 use Rattle.shapers_syllabic.proofs.PauseCuts.{apart_by}
 use Rattle.shapers_syllabic.proofs.Serials.{KeepsSame, pieces_same}
+use Rattle.shapers_universal.specs.PlanData.{rphf_of}
 use Rattle.shapers_universal.specs.UniversalSyllables.{first_recorded, in_category, rphf_recorded}
 use Rattle.shapers_universal.specs.declared.ot_shaper_use.category.TheConstants.{R, VPre}
+use Rattle.shapers_breaks.specs.BetweenPauses.{BetweenPausesLaw, LeavesHalves, LeavesHalvesThen}
 use Rattle.shapers_breaks.specs.ChainBreaks.{LeavesSideBySide, MadeOfHalves}
 use Rattle.shapers_breaks.specs.KeptTextBreaks.{FlaggedInside, FlagsKept}
 use Rattle.shapers_breaks.specs.SetUp.{IsFlagged}
-use Rattle.shapers_breaks.specs.UniversalChain.{LeavesWhereClear, ReadsOnly}
+use Rattle.shapers_breaks.specs.UniversalChain.{LeavesWhereClear, ReadsOnly, without_glyph_flags}
+use Rattle.shapers_breaks.proofs.MaskReads.{mask_read}
 use Rattle.shapers_breaks.proofs.SetUp.{Glyphs}
 use Rattle.shapers_breaks.proofs.UniversalSetUp.{KeepPieces, KeepShapes, KeepsShape, clusters_kept, long_kept, syllables_kept}
 use Rattle.shapers_breaks.proofs.UniversalSound.{meet_same}
@@ -327,3 +331,56 @@ unsubstituted_between view seen =
     ∙ pieces_same u same_pieces (syllables gs) (syllables hs) same
     ∙ sym (ap (map (map unnumbered)) (syllables-viewed unsubstituted (λ g. refl) hs)))
     (map-seen view unsubstituted seen)
+
+-- so in buffers
+leaves_halves : (made : Glyphs → Glyphs) → IsBetween without_glyph_flags made → (old new : Buffer)
+    → new ≡ record old { glyphs = made old.glyphs } → LeavesHalves old new
+leaves_halves made is old new same = record {
+  made = made;
+  level = ap (λ (b : Buffer). b.level) same;
+  glyphs = ap (λ (b : Buffer). b.glyphs) same;
+  side_by_side = is.side_by_side;
+  where_clear = is.where_clear;
+  reads = is.reads;
+  flags = is.flags;
+}
+
+flags_show : ShowsCategories without_glyph_flags
+flags_show = record { byte = λ g. refl; marks = λ g. refl; category = λ c g. refl }
+
+pub between_pauses : BetweenPausesLaw
+between_pauses plan font spans old new =
+    let mask = rphf_of plan.plan_data in
+    record {
+      cleared = leaves_halves (λ gs. map unsubstituted gs) (unsubstituted_between without_glyph_flags (λ g. refl)) old new;
+      rphf = λ off. leaves_halves (λ gs. flat_map (rphf_recorded mask) (syllables gs))
+          (rphf_between without_glyph_flags flags_show mask
+          (λ g. ap (λ n. not (n == 0)) (mask_read g.mask mask off))) old new;
+      pref = leaves_halves (λ gs. flat_map (first_recorded VPre) (syllables gs))
+          (pref_between without_glyph_flags flags_show) old new;
+    }
+
+pub halves_then : LeavesHalvesThen
+halves_then old mid new a b =
+    let first : IsBetween without_glyph_flags a.made = record {
+      side_by_side = a.side_by_side;
+      where_clear = a.where_clear;
+      reads = a.reads;
+      flags = a.flags;
+    } in
+    let second : IsBetween without_glyph_flags b.made = record {
+      side_by_side = b.side_by_side;
+      where_clear = b.where_clear;
+      reads = b.reads;
+      flags = b.flags;
+    } in
+    let both = between_both without_glyph_flags a.made b.made first second in
+    record {
+      made = λ gs. b.made (a.made gs);
+      level = b.level ∙ a.level;
+      glyphs = b.glyphs ∙ ap b.made a.glyphs;
+      side_by_side = both.side_by_side;
+      where_clear = both.where_clear;
+      reads = both.reads;
+      flags = both.flags;
+    }

@@ -35,6 +35,7 @@ mod ChainBreakRows
 pub mod KeptInside
 pub mod TwoClusters
 pub mod FinalBreaks
+pub mod MaskReads
 pub mod BetweenPauses
 pub mod ErasedCircles
 pub mod UniversalChain

@@ -2,13 +2,11 @@
 use Rattle.std.proofs.Common.{ℕ, if◌then◌else◌, cond, nat_lt, ◌+◌, ◌-◌, ◌%◌, ◌<◌, ◌≤◌, ◌≡◌, ◌==◌, ◌^◌, ◌&&◌, ◌||◌, not, bit_and, bit_or, Bool, true, false, inl, inr, List, [], ◌∷◌, ◌++◌, length, map, take, drop, get_or, refl, sym, ap, ◌∙◌, subst, arith, length-append, length-drop}
 use Rattle.std.specs.Prelude.{None}
 use Rattle.std.specs.Int.{bit_at}
-use Rattle.std.specs.Int.Bits.{and_zero_r}
 use Rattle.std.specs.List.{flat_map, list_any}
 use mir.Syntax.{w32}
 use Rattle.std.proofs.lemmas.Bool.{both_ways, cases_lt, eq-eqb, eqb-true}
 use Rattle.std.proofs.lemmas.Bool.Decides.{nat_tests}
 use Rattle.std.proofs.lemmas.List.{append-nil, append_assoc, length-map, length-take-le, map-append, take-append-drop}
-use Rattle.std.proofs.lemmas.Nat.{and_mod}
 use Rattle.std.proofs.lemmas.Nat.Bits.{bit_at-lt, bit_at-zero, bit_at_above, bit_at_and, bit_at_not, bit_at_or, same_from_bits}
 use Rattle.shapers_buffer.specs.declared.buffer.glyph.hb_glyph_info_t.{hb_glyph_info_t}
 use Rattle.shapers_buffer.specs.declared.buffer.syllables.Span.{Span}
@@ -31,10 +29,11 @@ use Rattle.shapers_breaks.specs.NeedlessForms.{NoFormFlagIsNeedless}
 use Rattle.shapers_breaks.specs.ScriptBreaks.{FormsOffFlags}
 use Rattle.shapers_breaks.specs.UniversalSound.{flagless, sound_set_up}
 use Rattle.shapers_breaks.proofs.ErasedCircles.{NoneEmpty}
+use Rattle.shapers_breaks.proofs.MaskReads.{mask_read}
 use Rattle.shapers_breaks.proofs.SetUp.{Glyphs, cover_cut}
-use Rattle.shapers_breaks.proofs.UniversalChain.{flags-and, length_under, parts_are}
+use Rattle.shapers_breaks.proofs.UniversalChain.{length_under, parts_are}
 use Rattle.shapers_breaks.proofs.UniversalSetUp.{KeepShapes, forms_for_kept, syllables_kept}
-use Rattle.shapers_breaks.proofs.UniversalSound.{Spares, flags_hidden, forms_in, led, led_halves, length-led, none_empty, pair_in, pairs_in, pairs_kept, some_syllable, text_same}
+use Rattle.shapers_breaks.proofs.UniversalSound.{SparesPlace, flags_hidden, forms_in, led, led_halves, length-led, none_empty, pair_in, pairs_in, pairs_kept, some_syllable, text_same}
 
 -- the mask of a form has bits of the masks of forms alone
 form_among : (m : Map) (before behind : Bool) (i : ℕ) → bit_at (mask_between (form_masks m) before behind) i
@@ -69,11 +68,6 @@ bit_read x bits mask i fits among =
           let none : bit_at bits i ≡ 0 = bit_at_above bits 32 i fits high in
           omega arith
     ]
-
-mask_read : (mask bits : ℕ) → bits % 8 ≡ 0 → bit_and (without_flags mask) bits ≡ bit_and mask bits
-mask_read mask bits off =
-    let none : bit_and mask bits % 8 ≡ 0 = and_mod mask bits 3 ∙ ap (bit_and (mask % 8)) off ∙ and_zero_r (mask % 8) in
-    sym (flags-and mask bits) ∙ omega arith
 
 form_read : (x bits mask : ℕ) → bits % 8 ≡ 0 → bits ≤ 0xFFFFFFFF → ((i : ℕ) → bit_at mask i ≤ bit_at bits i)
     → bit_and (without_flags (bit_or (bit_and x (0xFFFFFFFF - bits)) mask)) bits ≡ mask
@@ -110,11 +104,11 @@ untorn : (u v x y : ℕ) → u ≡ v → x ≡ y → (not (u == v) || not (x == 
 untorn u v x y a b = ap (λ c. not c || not (x == y)) (eq-eqb u v a) ∙ ap not (eq-eqb x y b)
 
 -- stretches that spare a place
-both_spare : (p : ℕ) (xs ys : List (ℕ × ℕ)) → Spares p xs → Spares p ys → Spares p (xs ++ ys)
+both_spare : (p : ℕ) (xs ys : List (ℕ × ℕ)) → SparesPlace p xs → SparesPlace p ys → SparesPlace p (xs ++ ys)
 both_spare p [] ys h k = k
 both_spare p (x ∷ xs) ys h k = (h.0, both_spare p xs ys h.1 k)
 
-one_spares : (p s e : ℕ) (b : Bool) → (nat_lt s p && nat_lt p e) ≡ false → Spares p (cond b ((s, e) ∷ []) [])
+one_spares : (p s e : ℕ) (b : Bool) → (nat_lt s p && nat_lt p e) ≡ false → SparesPlace p (cond b ((s, e) ∷ []) [])
 one_spares p s e true h = (h, tt)
 one_spares p s e false h = tt
 
@@ -125,13 +119,13 @@ not_behind : (s e p : ℕ) → e ≤ p → (nat_lt s p && nat_lt p e) ≡ false
 not_behind s e p h = grind (arith, nat_tests)
 
 pair_later : (m : Map) (before : Bool) (i p : ℕ) (x : Glyphs) (ps : List Glyphs) → p ≤ i
-    → Spares p (pair_in m before i x ps)
+    → SparesPlace p (pair_in m before i x ps)
 pair_later m before i p x [] h = tt
 pair_later m before i p x (y ∷ ps) h = one_spares p i (i + (length x + length y))
     (joins_runs x && (joins_runs y && is_torn (form_masks m) before (first_joins ps)))
     (not_before i (i + (length x + length y)) p h)
 
-later_spares : (m : Map) (before : Bool) (i p : ℕ) (ps : List Glyphs) → p ≤ i → Spares p (pairs_in m before i ps)
+later_spares : (m : Map) (before : Bool) (i p : ℕ) (ps : List Glyphs) → p ≤ i → SparesPlace p (pairs_in m before i ps)
 later_spares m before i p [] h = tt
 later_spares m before i p (x ∷ ps) h = both_spare p (pair_in m before i x ps)
     (pairs_in m (joins_runs x) (i + length x) ps) (pair_later m before i p x ps h)
@@ -145,7 +139,8 @@ length-formed m before behind p =
     [ true ↦ length-map p f | false ↦ refl ]
 
 -- two syllables whose halves have the forms of the whole aren't torn
-pair_whole : (m : Map) → FormsOffFlags None m → (before behind : Bool) (g h : hb_glyph_info_t) (gs hs zs ws us vs : Glyphs)
+pair_whole : (m : Map) → FormsOffFlags None m → (before behind : Bool) (g h : hb_glyph_info_t) (gs hs zs ws us
+    vs : Glyphs)
     → joins_runs (g ∷ gs) ≡ true → joins_runs (h ∷ hs) ≡ true
     → first_mask (flagless (formed (form_masks m) before true (g ∷ gs) ++ zs))
     ≡ first_mask (flagless (formed (form_masks m) before false (g ∷ gs) ++ ws))
@@ -195,7 +190,8 @@ broken_pair m off before (g ∷ gs) (h ∷ hs) qs back some more parts same =
     ∙ sym (ap length (append-nil alone)) ∙ sym (length-map (alone ++ []) v)) in
     let seen : map unnumbered (flagless rest) ≡ map unnumbered (flagless own) = ap (map unnumbered) two ∙ same in
     tested (joins_runs x) (joins_runs y) (is_torn masks before behind) (λ joins joins_too.
-    let late : (a : Bool) → 0 < length (flagless (formed masks a behind y ++ forms_in m (joins_runs y) qs)) = λ a. omega (
+    let late : (a : Bool) → 0 < length (flagless (formed masks a behind y ++ forms_in m (joins_runs y) qs)) = λ
+    a. omega (
       arith,
       length-map (formed masks a behind y ++ forms_in m (joins_runs y) qs) v,
       length-append (formed masks a behind y) (forms_in m (joins_runs y) qs),
@@ -210,7 +206,8 @@ broken_pair m off before (g ∷ gs) (h ∷ hs) qs back some more parts same =
     ap (λ xs. first_mask (flagless xs)) (append-nil whole) ∙ ap first_mask one in
     pair_whole m off before behind g h gs hs nil nil (forms_in m (joins_runs y) qs) (forms_in m (joins_runs y) qs) joins
     joins_too
-    (subst (λ b. first_mask (flagless (formed masks before b x ++ nil)) ≡ first_mask (flagless (alone ++ nil))) joins_too
+    (subst (λ b. first_mask (flagless (formed masks before b x ++ nil))
+    ≡ first_mask (flagless (alone ++ nil))) joins_too
     first)
     (subst (λ b. first_mask (flagless (formed masks b behind y ++ forms_in m (joins_runs y) qs))
     ≡ first_mask (flagless (formed masks false behind y ++ forms_in m (joins_runs y) qs))) joins second))
@@ -218,7 +215,8 @@ broken_pair m off before (g ∷ gs) (h ∷ hs) qs back some more parts same =
 broken_spares : (m : Map) → FormsOffFlags None m → (before : Bool) (i p : ℕ) (ps qs : List Glyphs) (back : Glyphs)
     → NoneEmpty ps → NoneEmpty qs → 0 < length ps → p ≡ i + length (flat_map (λ q. q) ps)
     → flagless (forms_in m before (ps ++ qs)) ≡ flagless (forms_in m before ps) ++ back
-    → map unnumbered back ≡ map unnumbered (flagless (forms_in m false qs)) → Spares p (pairs_in m before i (ps ++ qs))
+    → map unnumbered back ≡ map unnumbered (flagless (forms_in m false qs))
+    → SparesPlace p (pairs_in m before i (ps ++ qs))
 broken_spares m off before i p [] qs back some more z place parts same = absurd (omega arith)
 broken_spares m off before i p (x ∷ []) [] back some more z place parts same = tt
 broken_spares m off before i p (x ∷ []) (y ∷ qs) back some more z place parts same =
@@ -227,7 +225,7 @@ broken_spares m off before i p (x ∷ []) (y ∷ qs) back some more z place part
     let pair = pair_in m before i x (y ∷ qs) in
     let whole : test ≡ false = broken_pair m off before x y qs back some.0 more.0 parts same in
     both_spare p pair (pairs_in m (joins_runs x) (i + length x) (y ∷ qs))
-    (subst (λ b. Spares p (cond b ((i, i + (length x + length y)) ∷ []) [])) (sym whole) tt)
+    (subst (λ b. SparesPlace p (cond b ((i, i + (length x + length y)) ∷ []) [])) (sym whole) tt)
     (later_spares m (joins_runs x) (i + length x) p (y ∷ qs) (omega arith))
 broken_spares m off before i p (x ∷ (z ∷ ps)) qs back some more zs place parts same =
     let v : hb_glyph_info_t → hb_glyph_info_t = with_mask_by without_flags in
@@ -245,7 +243,8 @@ broken_spares m off before i p (x ∷ (z ∷ ps)) qs back some more zs place par
     both_spare p (pair_in m before i x ((z ∷ ps) ++ qs))
     (pairs_in m (joins_runs x) (i + length x) ((z ∷ ps) ++ qs))
     (one_spares p i end
-    (joins_runs x && (joins_runs z && is_torn (form_masks m) before (first_joins (ps ++ qs)))) (not_behind i end p last))
+    (joins_runs x && (joins_runs z && is_torn (form_masks m) before (first_joins (ps ++ qs)))) (not_behind i
+    end p last))
     (broken_spares m off (joins_runs x) (i + length x) p (z ∷ ps) qs back some.1 more (omega arith) there rest same)
 
 -- without masks of forms no pair is torn
@@ -263,7 +262,7 @@ none_torn m none before behind =
     (zero true behind ∙ sym (zero false behind))
 
 none_pairs : (m : Map) → all_forms (form_masks m) ≡ 0 → (before : Bool) (i p : ℕ) (ps : List Glyphs)
-    → Spares p (pairs_in m before i ps)
+    → SparesPlace p (pairs_in m before i ps)
 none_pairs m none before i p [] = tt
 none_pairs m none before i p (x ∷ []) = tt
 none_pairs m none before i p (x ∷ (y ∷ ps)) =
@@ -271,10 +270,10 @@ none_pairs m none before i p (x ∷ (y ∷ ps)) =
     let whole : test ≡ false = tested (joins_runs x) (joins_runs y) (is_torn (form_masks m) before (first_joins ps))
     (λ a b. none_torn m none before (first_joins ps)) in
     both_spare p (pair_in m before i x (y ∷ ps)) (pairs_in m (joins_runs x) (i + length x) (y ∷ ps))
-    (subst (λ b. Spares p (cond b ((i, i + (length x + length y)) ∷ []) [])) (sym whole) tt)
+    (subst (λ b. SparesPlace p (cond b ((i, i + (length x + length y)) ∷ []) [])) (sym whole) tt)
     (none_pairs m none (joins_runs x) (i + length x) p (y ∷ ps))
 
-spared_none : (p : ℕ) (sts : List (ℕ × ℕ)) → Spares p sts
+spared_none : (p : ℕ) (sts : List (ℕ × ℕ)) → SparesPlace p sts
     → list_any (λ st. nat_lt st.0 p && nat_lt p st.1) sts ≡ false
 spared_none p [] h = refl
 spared_none p (st ∷ sts) h = ap (λ b. b || list_any (λ st. nat_lt st.0 p && nat_lt p st.1) sts) h.0
@@ -286,11 +285,11 @@ text_spares : (m : Map) → FormsOffFlags None m → (gs hs back : Glyphs) → 0
     → flagless (if t then gs ++ hs else forms_in m false (syllables (gs ++ hs)))
     ≡ flagless (if t then gs else forms_in m false (syllables gs)) ++ back
     → map unnumbered back ≡ map unnumbered (flagless (if t then hs else forms_in m false (syllables hs)))
-    → Spares (length gs) (pairs_in m false 0 (syllables (gs ++ hs)))
+    → SparesPlace (length gs) (pairs_in m false 0 (syllables (gs ++ hs)))
 text_spares m off gs hs back some pieces true none parts same =
     none_pairs m (eqb-true (all_forms (form_masks m)) 0 none) false 0 (length gs) (syllables (gs ++ hs))
 text_spares m off gs hs back some pieces false none parts same =
-    subst (λ ps. Spares (length gs) (pairs_in m false 0 ps)) (sym pieces)
+    subst (λ ps. SparesPlace (length gs) (pairs_in m false 0 ps)) (sym pieces)
     (broken_spares m off false 0 (length gs) (syllables gs) (syllables hs) back
     (none_empty (syllables gs) (syllables_cut gs)) (none_empty (syllables hs) (syllables_cut hs))
     (some_syllable gs some) (omega (arith, ap length (joined-syllables gs)))
@@ -316,7 +315,8 @@ no_form_flag_is_needless plan font spans old new kinds covers none off set_up p 
     let first : spans_cover (length gs) ss ≡ true = ap (λ k. spans_cover k ss) here ∙ cut.first in
     let second : spans_cover (length hs) ts ≡ true = ap (λ k. spans_cover k ts) (length-drop p all) ∙ cut.second in
     let mask = rphf_of kept in
-    let parts = led_halves mask spans ss ts gs hs old kinds s.border.split (sym (take-append-drop p all)) first second in
+    let parts = led_halves mask spans ss ts gs hs old kinds s.border.split (sym (take-append-drop p all)) first
+    second in
     let forms = with_form_masks (form_masks m) in
     let front = led mask ss gs in
     let behind = parts.behind in
@@ -328,21 +328,24 @@ no_form_flag_is_needless plan font spans old new kinds covers none off set_up p 
     let whole : set_up_by_spans kept m spans all ≡ forms (front ++ behind) = masked spans all ∙ ap forms parts.parts in
     let seen : flagless new.glyphs ≡ flagless (forms (front ++ behind)) = ap (λ (b : Buffer). flagless b.glyphs) set_up
     ∙ map-forms_flagged v (λ g. ap (λ k. let r : hb_glyph_info_t = record g { mask = k } in r)
-    (without_flags-or g.mask 3 refl)) (arabic_of kept) breaks m (set_up_by_spans kept m spans all) ∙ ap flagless whole in
+    (without_flags-or g.mask 3 refl)) (arabic_of kept) breaks m (set_up_by_spans kept m spans all)
+    ∙ ap flagless whole in
     let joined : flagless (forms (front ++ behind)) ≡ flagless (forms front) ++ back = sym seen ∙ s.halves.parts
     ∙ ap (λ xs. xs ++ back) (shown ss gs) in
-    let own : SameButSerials back (flagless (forms alone)) = subst (SameButSerials back) (shown ts hs) s.halves.renumbered in
+    let own : SameButSerials back (flagless (forms alone)) = subst (SameButSerials back) (shown ts hs)
+    s.halves.renumbered in
     let same : SameButSerials back (flagless (forms behind)) = own
     ∙ sym (same-by without_flags (forms behind) (forms alone) (text_same m behind alone parts.renumbered)) in
     let place : length front ≡ p = length-led mask ss gs old ∙ here in
     let off_all : FormsOffFlags None m = subst (λ a. FormsOffFlags a m) none off in
     let spared = text_spares m off_all front behind back (omega arith) (syllables-append front behind parts.border)
     (all_forms (form_masks m) == 0) refl joined (same_text back (flagless (forms behind)) same) in
-    let shape : KeepShapes (front ++ behind) (forms (front ++ behind)) = forms_for_kept None m off_all (front ++ behind) in
+    let shape : KeepShapes (front ++ behind) (forms (front ++ behind)) = forms_for_kept None m off_all (front
+    ++ behind) in
     let pairs : pairs_in m false 0 (syllables (set_up_by_spans kept m spans all))
     ≡ pairs_in m false 0 (syllables (front ++ behind)) = ap (λ xs. pairs_in m false 0 (syllables xs)) whole
     ∙ pairs_kept m false 0 (syllables (front ++ behind)) (syllables (forms (front ++ behind)))
     (syllables_kept (front ++ behind) (forms (front ++ behind)) shape) in
     both_ways _ (spared_none p (pairs_in m false 0 (syllables (set_up_by_spans kept m spans all)))
-    (subst (Spares p) (sym pairs)
-    (subst (λ k. Spares k (pairs_in m false 0 (syllables (front ++ behind)))) place spared))) torn
+    (subst (SparesPlace p) (sym pairs)
+    (subst (λ k. SparesPlace k (pairs_in m false 0 (syllables (front ++ behind)))) place spared))) torn

@@ -1,12 +1,15 @@
--- What lookups between the set-up and the reordering of the universal shaper may read and leave, and where a break would
--- change a form, on small texts written out from the rules.
+-- What lookups between the set-up and the reordering of the universal shaper may read and leave, and where a break
+-- would change a form, on small texts written out from the rules.
 use Rattle.std.proofs.Common.{ℕ, ◌/◌, ◌≡◌, List, [], ◌∷◌, ◌++◌, length, map, get_or, refl, sym, ap, ◌∙◌, subst, arith, slice_index}
 use Rattle.std.specs.Prelude.{None, Some}
+use Rattle.std.specs.List.{flat_map}
 use Rattle.std.proofs.lemmas.Bool.{false≢true}
 use Rattle.std.proofs.lemmas.List.{length-map}
 use Rattle.shapers_buffer.specs.declared.buffer.glyph.hb_glyph_info_t.{hb_glyph_info_t}
 use Rattle.shapers_buffer.specs.declared.buffer.syllables.Span.{Span}
 use Rattle.shapers_buffer.specs.Glyph.{default_glyph}
+use Rattle.shapers_buffer.specs.Marks.{SUBSTITUTED, no_marks, with_mark}
+use Rattle.shapers_buffer.specs.Syllables.{syllables}
 use Rattle.shapers_base.specs.Map.{Map}
 use Rattle.shapers_base.specs.declared.plan.PlanData.TheVariants.{Universal}
 use Rattle.shapers_base.specs.declared.plan.arabic.arabic_shape_plan_t.{arabic_shape_plan_t}
@@ -16,6 +19,7 @@ use Rattle.shapers_base.specs.declared.plan.hb_ot_shape_plan_t.{hb_ot_shape_plan
 use Rattle.shapers_clusters.specs.Breaks.{IsClear}
 use Rattle.shapers_syllabic.specs.ReorderingLaws.{paused_order}
 use Rattle.shapers_universal.specs.Universal.{universal_order}
+use Rattle.shapers_universal.specs.UniversalSyllables.{rphf_recorded}
 use Rattle.shapers_breaks.specs.NeedlessForms.{IsTornAt}
 use Rattle.shapers_breaks.specs.UniversalChain.{LeavesWhereClear, MadeWhereClear, ReadsOnly, set_up_under, without_flags_or_forms, without_glyph_flags}
 use Rattle.shapers_breaks.specs.UniversalSound.{flagless, sound_set_up}
@@ -61,6 +65,21 @@ row_reads only =
     let same = only (record (glyph 0) { mask = 0x20 } ∷ []) (glyph 0 ∷ []) refl in
     let one_is_none : 1 ≡ 0 = ap shown same in
     absurd (omega (arith, one_is_none))
+
+-- and the record of rphf reads the bits of its mask: flags, if it is one
+recorded : List hb_glyph_info_t → List hb_glyph_info_t
+recorded gs = flat_map (rphf_recorded 1) (syllables gs)
+
+abbrev put_in : hb_glyph_info_t
+put_in = record (glyph 0) { marks = with_mark SUBSTITUTED no_marks }
+
+row_records : ReadsOnly without_glyph_flags recorded → ⊥
+unfolding recorded
+row_records only =
+    let shown : List (List hb_glyph_info_t) → ℕ = λ pieces. (get_or (get_or pieces 0 []) 0 default_glyph).category in
+    let same = only (record put_in { mask = 1 } ∷ []) (put_in ∷ []) refl in
+    let reph_is_base : 18 ≡ 1 = ap shown same in
+    absurd (omega (arith, reph_is_base))
 
 -- nothing in between leaves results side by side where they are clear
 row_still : (gs : List hb_glyph_info_t) → LeavesWhereClear (λ gs. gs) gs

@@ -20,3 +20,4 @@ pub mod Pieces
 pub mod ShaperBreaks
 pub mod IndicChain
 pub mod NeedlessForms
+pub mod BetweenPauses

@@ -20,6 +20,7 @@ ghost use Rattle.shapers_breaks.specs.ShaperBreaks.{LeavePiecesInTurn, MasksLeav
 ghost use Rattle.shapers_breaks.specs.StretchBreaks.{StretchBreaksLaw};
 ghost use Rattle.shapers_breaks.specs.ThaiBreaks.{SaraAmsBreakLaw, ThaiFormsBreakLaw};
 ghost use Rattle.shapers_breaks.specs.ThaiSound.{ThaiSoundBreakLaw};
+ghost use Rattle.shapers_breaks.specs.BetweenPauses.{BetweenPausesLaw, LeavesHalvesThen};
 ghost use Rattle.shapers_breaks.specs.NeedlessForms.{NoFormFlagIsNeedless};
 ghost use Rattle.shapers_breaks.specs.UniversalChain.{UniversalChainBreaks, UniversalSoundChainBreaks, UniversalSoundPausesBreak};
 ghost use Rattle.shapers_breaks.specs.UniversalSound.{UniversalSoundBreaks};
@@ -181,6 +182,13 @@ pub fn universal_chain_breaks_law()
 /// needless: inside such a stretch it can't be broken, a half would take another form.
 pub fn needless_forms_law()
     ensures { NoFormFlagIsNeedless }
+{}
+
+/// The pauses between the set-up and the reordering of the universal shaper are as these laws
+/// require of lookups, and so are several one after the other.
+pub fn between_pauses_law()
+    ensures pauses { BetweenPausesLaw }
+    ensures several { LeavesHalvesThen }
 {}
 
 /// The set-up of Indic and both reorderings may be broken at every clear place, with lookups in
