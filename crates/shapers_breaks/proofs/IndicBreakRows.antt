@@ -20,10 +20,10 @@ use Rattle.shapers_indic_initial.specs.InitialReordering.{initial_order, initial
 use Rattle.shapers_indic_initial.specs.InitialRules.{Rules}
 use Rattle.shapers_syllabic.specs.Reordering.{text_steps}
 use Rattle.shapers_syllabic.specs.Syllabic.{unsafe_spans}
-use Rattle.shapers_breaks.specs.FinalBreaks.{OneMatraMoves}
+use Rattle.shapers_breaks.specs.FinalBreaks.{IsOfTwoClusters, OneMatraMoves, PartsNothing}
 use Rattle.shapers_breaks.specs.IndicBreaks.{JoinerShares, SpansPartClusters}
 use Rattle.rustybuzz_shapers.specs.Pauses.{Reordering}
-use Rattle.shapers_breaks.specs.IndicChain.{IsOfTwoClusters, reordered_text}
+use Rattle.shapers_breaks.specs.IndicChain.{reordered_text}
 use Rattle.shapers_breaks.specs.SetUp.{IsFlagged}
 use Rattle.shapers_breaks.specs.KeptTextBreaks.{FlaggedInside}
 
@@ -268,3 +268,23 @@ row_three two =
     let b = All-get_or Two lost 2 default_glyph (omega arith) two.2 in
     let c = All-get_or Two lost 3 default_glyph (omega arith) two.2 in
     none_of_three two.0 two.1 a b c
+
+-- two matras that move part three clusters
+row_parts_two : PartsNothing (final_of "Deva") (script "Deva") kept_two → ⊥
+unfolding typed kept_two
+row_parts_two h = elim h [
+  | inl one ↦ absurd (omega (arith, one))
+  | inr two ↦
+      let Two : hb_glyph_info_t → Type 0 = λ g. (g.cluster ≡ two.0) ⊎ (g.cluster ≡ two.1) in
+      let a = All-get_or Two kept_two 1 default_glyph (omega arith) two.2 in
+      let b = All-get_or Two kept_two 4 default_glyph (omega arith) two.2 in
+      let c = All-get_or Two kept_two 0 default_glyph (omega arith) two.2 in
+      none_of_three two.0 two.1 a b c
+]
+
+row_parts_one : PartsNothing (final_of "Deva") (script "Deva") kept_one
+unfolding typed kept_one
+row_parts_one = inl (omega arith)
+
+row_parts_of_two : PartsNothing (final_of "Deva") (script "Deva") kept
+row_parts_of_two = inr row_two

@@ -1,6 +1,9 @@
 -- A text of Indic that is set up, reordered initially and then finally may be broken at every clear place.
-use Rattle.std.proofs.Common.{ℕ, ◌≡◌, List, ◌++◌, refl, sym, ap, ◌∙◌, subst, inl, inr}
+use Rattle.std.proofs.Common.{ℕ, ◌≡◌, List, [], ◌∷◌, ◌++◌, refl, sym, ap, ◌∙◌, subst, inl, inr}
+use Rattle.std.specs.Prelude.{Option}
+use Rattle.std.specs.List.{AllByRecursion}
 use Rattle.shapers_buffer.specs.declared.buffer.syllables.Span.{Span}
+use Rattle.shapers_buffer.specs.declared.buffer.tag.Script.{Script}
 use Rattle.shapers_buffer.specs.Buffer.{Buffer}
 use Rattle.shapers_buffer.specs.Clusters.{merges}
 use Rattle.shapers_buffer.specs.Glyph.{clusters}
@@ -16,7 +19,7 @@ use Rattle.shapers_syllabic.specs.Syllabic.{unsafe_spans}
 use Rattle.shapers_syllabic.specs.declared.ot_shaper_syllabic.kinds.indic_syllable.TheConstants.{BROKEN_CLUSTER}
 use Rattle.rustybuzz_shapers.specs.Pauses.{by_initial}
 use Rattle.shapers_breaks.specs.ChainBreaks.{IsSpanned, LeavesSideBySide}
-use Rattle.shapers_breaks.specs.FinalBreaks.{FinalBroken}
+use Rattle.shapers_breaks.specs.FinalBreaks.{FinalBroken, IsOfTwoClusters, PartsNothing}
 use Rattle.shapers_breaks.specs.IndicChain.{IndicBroken, IndicChainBreaks, IndicPausesBreak, InitialReorderedApart, MadeSideBySide, reordered_text}
 use Rattle.shapers_breaks.proofs.ChainBreaks.{made_cut}
 use Rattle.shapers_breaks.proofs.FinalBreaks.{final_text_breaks}
@@ -112,23 +115,30 @@ indic_chain laws reads final_laws text_laws plan font spans unread first second 
     chain_broken text_laws rules (λ xs. second (P (first xs))) spans old looked new can height
     (two.glyphs ∙ ap second is_reordered) (both_side_by_side (λ xs. P (first xs)) second bare two_first c) done p
     (final_text_breaks final_laws text_laws plan font unread looked new (ap merges height ∙ can.merging) finally.flags
-    finally.apart finally.one done p z l clear)
+    finally.apart finally.parts done p z l clear)
 
 still : (b : Buffer) → MadeSideBySide (λ gs. gs) b b
 still b = record { level = refl; glyphs = refl; side_by_side = nothing_between b.glyphs }
 
+all_part_nothing : (rules : Rules) (script : Option Script) (pieces : List Glyphs)
+    → AllByRecursion IsOfTwoClusters pieces → AllByRecursion (PartsNothing rules script) pieces
+all_part_nothing rules script [] two = tt
+all_part_nothing rules script (q ∷ qs) two = (inr two.0, all_part_nothing rules script qs two.1)
+
 pub indic_pauses : OrderByFontLaws → OrderByFontReadsNoSerials → FinalReorderLaws → FinalTextLaws → IndicPausesBreak
-indic_pauses laws reads final_laws text_laws plan font spans unread old mid between new can part set_up initial flags one
-    done =
+indic_pauses laws reads final_laws text_laws plan font spans unread old mid between new can part set_up initial kept done =
+    let rules = final_rules font (indic_in plan) in
     let apart : SyllablesApart mid.glyphs = subst (λ (b : Buffer). SyllablesApart b.glyphs) (sym set_up)
     (set_up_apart spans old can part) in
     let spanned : IsSpanned spans old = record { kinds = can.kinds; covered = can.covered; merging = can.merging } in
     let by = initial_reordered_apart laws reads plan font unread mid between apart initial in
-    let kept : FlagsKept mid.glyphs = subst (λ (b : Buffer). FlagsKept b.glyphs) (sym set_up)
+    let flags : FlagsKept mid.glyphs = subst (λ (b : Buffer). FlagsKept b.glyphs) (sym set_up)
     (all_flagged (syllables (unsafe_spans spans old.glyphs)) (set_up_guarded spans old.glyphs can.kinds can.covered).whole) in
+    let left : FlagsKept between.glyphs × AllByRecursion (PartsNothing rules between.script) (syllables between.glyphs) =
+    elim kept [
+      | inl two ↦ (by.flags two flags, all_part_nothing rules between.script (syllables between.glyphs) (by.two two))
+      | inr so ↦ so
+    ] in
     indic_chain laws reads final_laws text_laws plan font spans unread (λ gs. gs) (λ gs. gs) old mid mid between between
-    new spanned set_up (still mid) apart initial (still between) (record {
-      flags = elim flags [ inl left ↦ left | inr two ↦ by.flags kept two ];
-      apart = by.apart;
-      one = one;
-    }) done
+    new spanned set_up (still mid) apart initial (still between)
+    (record { flags = left.0; apart = by.apart; parts = left.1 }) done

@@ -37,7 +37,7 @@ use Rattle.shapers_breaks.proofs.SetUp.{Glyphs}
 above : (m c : ℕ) → m ≤ c → c ≢ m → m < c
 above m c h ne = elim (cases_lt m c) [ inl a ↦ a | inr a ↦ absurd (ne (omega arith)) ]
 
-whole_syllable : (gs : Glyphs) → FlaggedInside gs → IsWhole gs
+pub whole_syllable : (gs : Glyphs) → FlaggedInside gs → IsWhole gs
 whole_syllable gs h =
     let m = least (clusters gs) in
     let P : hb_glyph_info_t → Type 0 = λ g. m < g.cluster → IsFlagged g in

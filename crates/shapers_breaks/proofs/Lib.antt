@@ -33,6 +33,7 @@ mod IndicBreakRows
 pub mod ChainBreaks
 mod ChainBreakRows
 pub mod KeptInside
+pub mod TwoClusters
 pub mod FinalBreaks
 pub mod BetweenPauses
 pub mod ErasedCircles

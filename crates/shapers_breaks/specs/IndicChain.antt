@@ -1,5 +1,5 @@
 -- Where a text of Indic may be broken that is set up, reordered initially and then finally.
-use Rattle.std.specs.Prelude.{ℕ, ◌+◌, ◌<◌, ◌≡◌, ◌⊎◌, List, ◌++◌, All, Option, length, map}
+use Rattle.std.specs.Prelude.{ℕ, ◌+◌, ◌<◌, ◌≡◌, ◌⊎◌, List, ◌++◌, Option, length, map}
 use Rattle.std.specs.List.{AllByRecursion, zip}
 use Rattle.shapers_buffer.specs.declared.buffer.glyph.hb_glyph_info_t.{hb_glyph_info_t}
 use Rattle.shapers_buffer.specs.declared.buffer.level.BufferClusterLevel.{BufferClusterLevel}
@@ -23,7 +23,7 @@ use Rattle.shapers_syllabic.specs.ReorderingLaws.{paused_carried, paused_order}
 use Rattle.shapers_syllabic.specs.Syllabic.{unsafe_spans}
 use Rattle.rustybuzz_shapers.specs.Pauses.{Paused, Reordering, by_initial}
 use Rattle.shapers_breaks.specs.ChainBreaks.{IsSpanned, LeavesSideBySide}
-use Rattle.shapers_breaks.specs.FinalBreaks.{OneMatraMoves}
+use Rattle.shapers_breaks.specs.FinalBreaks.{IsOfTwoClusters, PartsNothing}
 use Rattle.shapers_breaks.specs.IndicBreaks.{SpansPartClusters}
 use Rattle.shapers_breaks.specs.KeptTextBreaks.{FlagsKept, SyllablesApart}
 use Rattle.shapers_breaks.specs.PauseBreaks.{SpanCut}
@@ -39,26 +39,23 @@ abbrev pub reordered_text : Reordering → BufferClusterLevel → List hb_glyph_
 reordered_text r level gs = map (λ glyph. carrying glyph.0 glyph.1)
     (zip (paused_order r.circles r.order gs) (paused_carried r.circles r.steps level gs))
 
--- The glyphs of the one buffer were made of the other's, by lookups or a reordering, and the halves'
--- results left side by side; flags may be lost.
+-- The glyphs of the one buffer were made of the other's, by lookups or a reordering, with the
+-- results of halves left side by side; flags may be lost.
 pub record MadeSideBySide (lookups : List hb_glyph_info_t → List hb_glyph_info_t) (old new :
     Buffer) : Type 0 where
   pub level : new.level ≡ old.level
   pub glyphs : new.glyphs ≡ lookups old.glyphs
   pub side_by_side : LeavesSideBySide lookups old.glyphs
 
--- all glyphs of the syllable are in one of two clusters
-abbrev pub IsOfTwoClusters : List hb_glyph_info_t → Type 0
-IsOfTwoClusters syllable =
-    (b : ℕ) × (c : ℕ) × All (λ g. (g.cluster ≡ b) ⊎ (g.cluster ≡ c)) syllable
-
 -- A reordering of syllables that share no cluster: it makes its text and leaves the halves' results
--- side by side, the syllables share none behind it, and where none of them had more than two, those
--- that kept their flags keep them.
+-- side by side, and the syllables share none behind it. Where none of them had more than two, none
+-- has, and if they had kept their flags they keep them.
 pub record ReorderedApart (r : Reordering) (old new : Buffer) : Type 0 where
   pub made : MadeSideBySide (reordered_text r old.level) old new
   pub apart : SyllablesApart new.glyphs
-  pub flags : FlagsKept old.glyphs → AllByRecursion IsOfTwoClusters (syllables old.glyphs) →
+  pub two : AllByRecursion IsOfTwoClusters (syllables old.glyphs) →
+      AllByRecursion IsOfTwoClusters (syllables new.glyphs)
+  pub flags : AllByRecursion IsOfTwoClusters (syllables old.glyphs) → FlagsKept old.glyphs →
       FlagsKept new.glyphs
 
 -- so the initial one
@@ -69,12 +66,12 @@ InitialReorderedApart = (plan : hb_ot_shape_plan_t) (font : Font) (unread : List
     ReorderedApart (by_initial plan font old) old new
 
 -- What stands before the final reordering: its syllables kept their flags and share no cluster, and
--- in each at most one left matra moves.
+-- in each at most one left matra moves or there are at most two clusters.
 pub record CanReorderFinally (rules : Rules) (script : Option Script) (gs : List
     hb_glyph_info_t) : Type 0 where
   pub flags : FlagsKept gs
   pub apart : SyllablesApart gs
-  pub one : AllByRecursion (OneMatraMoves rules script) (syllables (order_view gs))
+  pub parts : AllByRecursion (PartsNothing rules script) (syllables gs)
 
 -- A text, or half of one, before its final reordering: set up by its spans, given to lookups,
 -- reordered initially, and given to other lookups.
@@ -130,7 +127,7 @@ IndicChainBreaks = (plan : hb_ot_shape_plan_t) (font : Font) (spans unread : Lis
     old.glyphs new.glyphs
 
 -- The three directly behind one another: where clusters rise or fall, and each border of spans is
--- one of clusters, syllables share none. They keep their flags if they are of two clusters.
+-- one of clusters, syllables share none. If besides they are of two clusters no more is required.
 abbrev pub IndicPausesBreak : Type 0
 IndicPausesBreak = (plan : hb_ot_shape_plan_t) (font : Font) (spans unread : List Span)
     (old mid between new : Buffer) → CanBreak spans old → SpansPartClusters spans old.glyphs →
@@ -138,8 +135,9 @@ IndicPausesBreak = (plan : hb_ot_shape_plan_t) (font : Font) (spans unread : Lis
     Paused InitialReordering plan font unread mid between →
     let r = by_initial plan font mid in
     let rules = final_rules font (indic_in plan) in
-    FlagsKept between.glyphs ⊎ AllByRecursion IsOfTwoClusters (syllables mid.glyphs) →
-    AllByRecursion (OneMatraMoves rules between.script) (syllables (order_view between.glyphs)) →
+    AllByRecursion IsOfTwoClusters (syllables mid.glyphs)
+    ⊎ (FlagsKept between.glyphs
+    × AllByRecursion (PartsNothing rules between.script) (syllables between.glyphs)) →
     Paused FinalReordering plan font unread between new →
     IndicBreaks (before_final (λ gs. gs) (λ gs. gs) r old.level) rules between.script old.level
     spans old.glyphs new.glyphs

@@ -154,7 +154,8 @@ pub fn chain_breaks_law()
 }
 
 /// The final reordering of Indic may be broken at every clear place, of any text whose syllables
-/// kept their flags and share no cluster, where in each syllable at most one left matra moves.
+/// kept their flags and share no cluster, where in each at most one left matra moves or there are at
+/// most two clusters.
 pub fn final_breaks_law()
     ensures { FinalTextBreaks }
 {
@@ -175,10 +176,11 @@ pub fn universal_chain_breaks_law()
     universal_reads_no_serials();
 }
 
-/// The set-up of Indic and both reorderings, directly behind one another or with lookups in between
-/// that leave the halves' results side by side, may be broken at every clear place, where syllables
-/// share no cluster before either reordering and kept their flags before the final one, and in each
-/// at most one left matra moves there. Syllables of at most two clusters keep their flags.
+/// The set-up of Indic and both reorderings may be broken at every clear place, with lookups in
+/// between that leave the halves' results side by side: where syllables share no cluster before
+/// either reordering, and before the final one kept their flags and are as it requires. Directly
+/// behind one another, where clusters rise or fall, syllables of two clusters require no more than
+/// that each border of spans is one of clusters.
 pub fn indic_breaks_law()
     ensures chain { IndicChainBreaks }
     ensures pauses { IndicPausesBreak }
