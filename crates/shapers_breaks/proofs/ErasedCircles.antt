@@ -76,8 +76,8 @@ last_before xs ys some =
     ap (λ cs. slice_index cs (length xs - 1)) (map-append cluster xs ys)
     ∙ get_or_append_left (clusters xs) (clusters ys) 0 (length xs - 1) (omega arith)
 
-first_behind : (xs ys : Glyphs) → slice_index (clusters (xs ++ ys)) (length xs) ≡ first_of ys
-first_behind xs ys =
+opens_behind : (xs ys : Glyphs) → slice_index (clusters (xs ++ ys)) (length xs) ≡ first_of ys
+opens_behind xs ys =
     let cluster : hb_glyph_info_t → ℕ = λ g. g.cluster in
     let n : length xs ≡ length (clusters xs) + 0 = omega (arith, length-map xs cluster) in
     ap (λ k. slice_index (clusters (xs ++ ys)) k) n
@@ -191,7 +191,7 @@ opened_last (Some rule) g gs mono =
     go (is_of_kind rule.broken_kind (g ∷ gs)) mono
 
 -- so of several
-abbrev NoneEmpty : List Glyphs → Type 0
+abbrev pub NoneEmpty : List Glyphs → Type 0
 NoneEmpty ps = AllByRecursion (λ p. 0 < length p) ps
 
 none_empty_taken : (k : ℕ) (ps : List Glyphs) → NoneEmpty ps → NoneEmpty (take k ps)
@@ -219,7 +219,8 @@ joined_first circles [] h = refl
 joined_first circles ([] ∷ ps) h = absurd (omega (arith, h.0))
 joined_first circles ((g ∷ gs) ∷ ps) h = opened_first circles g gs (flat_map (opened_piece circles) ps)
 
-piece_last : (circles : Option DottedCircles) (p : Glyphs) → 0 < length p → IsMonotone (clusters (opened_piece circles p))
+piece_last : (circles : Option DottedCircles) (p : Glyphs) → 0 < length p
+    → IsMonotone (clusters (opened_piece circles p))
     → last_of (opened_piece circles p) ≡ last_of p
 piece_last circles [] h mono = absurd (omega arith)
 piece_last circles (g ∷ gs) h mono = opened_last circles g gs mono
@@ -291,9 +292,9 @@ erased_clear circles gs p border mono z l clear =
     let behind : slice_index (clusters xs) p ≡ slice_index (clusters gs) n =
     ap (λ ys. slice_index (clusters ys) p) whole
     ∙ ap (λ (j : ℕ). slice_index (clusters (fr ++ bh)) j) (sym place)
-    ∙ first_behind fr bh
+    ∙ opens_behind fr bh
     ∙ joined_first circles (drop k pieces) some_back
-    ∙ sym (first_behind front back) ∙ ap (λ ys. slice_index (clusters ys) n) (sym text) in
+    ∙ sym (opens_behind front back) ∙ ap (λ ys. slice_index (clusters ys) n) (sym text) in
     let c = max (slice_index (clusters gs) (n - 1)) (slice_index (clusters gs) n) in
     let t : hb_glyph_info_t → Bool = λ g. g.cluster == c && is_unsafe g in
     let quiet : list_any t xs ≡ false =

@@ -38,6 +38,8 @@ pub mod FinalBreaks
 pub mod BetweenPauses
 pub mod ErasedCircles
 pub mod UniversalChain
+pub mod NeedlessForms
+mod UniversalChainRows
 pub mod SideBySide
 pub mod ReorderedApart
 pub mod IndicChain

@@ -213,13 +213,14 @@ old_halves spans old mid before behind covers same text apart border =
     }
 
 -- what is the first half and what is behind it, of the same lengths
-parts_are : {X : Type 0} (xs ys zs ws : List X) → xs ++ ys ≡ zs ++ ws → length xs ≡ length zs → (xs ≡ zs) × (ys ≡ ws)
+pub parts_are : {X : Type 0} (xs ys zs ws : List X) → xs ++ ys ≡ zs ++ ws → length xs ≡ length zs → (xs
+    ≡ zs) × (ys ≡ ws)
 parts_are xs ys zs ws same long = (
   sym (take_at xs ys (length zs) long) ∙ ap (take (length zs)) same ∙ take_at zs ws (length zs) refl,
   sym (drop_at xs ys (length zs) long) ∙ ap (drop (length zs)) same ∙ drop_at zs ws (length zs) refl,
 )
 
-length_under : (breaks : BreakFlags) (kept : PlanData) (m : Map) → FormsOffFlags (arabic_of kept) m
+pub length_under : (breaks : BreakFlags) (kept : PlanData) (m : Map) → FormsOffFlags (arabic_of kept) m
     → (spans : List Span) (gs : Glyphs) (old : Buffer)
     → length (forms_flagged (arabic_of kept) breaks m (set_up_by_spans kept m spans gs)) ≡ length gs
 length_under breaks kept m off spans gs old =
@@ -253,20 +254,21 @@ paused_flagless circles meaning steps masks gs =
     ∙ ap (text_order meaning) (view-flagless (circled circles gs))
 
 all_alike : (view show : hb_glyph_info_t → hb_glyph_info_t)
-    → ((g : hb_glyph_info_t) → view (with_mask_by without_flags g) ≡ show (with_mask_by without_flags g)) → (gs : Glyphs)
+    → ((g : hb_glyph_info_t) → view (with_mask_by without_flags g) ≡ show (with_mask_by without_flags g))
+    → (gs : Glyphs)
     → map view (by without_flags gs) ≡ map show (by without_flags gs)
 all_alike view show alike [] = refl
 all_alike view show alike (g ∷ gs) = ap (λ x. x ∷ map view (by without_flags gs)) (alike g)
     ∙ ap (λ l. show (with_mask_by without_flags g) ∷ l) (all_alike view show alike gs)
 
 -- so in a text broken in one view, another shows the same where no glyph has flags
-broken_in : (view show : hb_glyph_info_t → hb_glyph_info_t) (circles : Option DottedCircles)
+broken_seen : (view show : hb_glyph_info_t → hb_glyph_info_t) (circles : Option DottedCircles)
     (meaning : Glyphs → Glyphs) (steps : Glyphs → List Step) → ReadsNoMasks meaning steps
     → ((g : hb_glyph_info_t) → view (with_mask_by without_flags g) ≡ show (with_mask_by without_flags g))
     → (set_up : List Span → Glyphs → Glyphs) (C : Glyphs → List ℕ) (spans : List Span) (old new : Glyphs) (p : ℕ)
     → BrokenBetweenSpans view set_up (paused_order circles meaning) C spans old new p
     → BrokenBetweenSpans show set_up (paused_order circles meaning) C spans old new p
-broken_in view show circles meaning steps masks alike set_up C spans old new p b =
+broken_seen view show circles meaning steps masks alike set_up C spans old new p b =
     let P = paused_order circles meaning in
     let flat : (xs : Glyphs) → map view (by without_flags xs) ≡ map show (by without_flags xs) =
     λ xs. all_alike view show alike xs in
@@ -284,7 +286,7 @@ broken_in view show circles meaning steps masks alike set_up C spans old new p b
     }
 
 -- a mask without flags and without other bits
-flags-and : (a b : ℕ) → without_flags (bit_and a b) ≡ bit_and (without_flags a) b
+pub flags-and : (a b : ℕ) → without_flags (bit_and a b) ≡ bit_and (without_flags a) b
 flags-and a b =
     let x = bit_and a b in
     let y = bit_and (without_flags a) b in
@@ -399,9 +401,10 @@ universal_chain laws inside reads masks plan font spans unread lookups old mid b
     made.border made.apart in
     let C : BufferClusterLevel → Glyphs → List ℕ = paused_clusters circles universal_steps in
     let set_up_then : List Span → Glyphs → Glyphs = λ spans gs. lookups (set_up_under plan spans gs) in
-    subst (λ level. BrokenBetweenSpans (without_serial_or_forms kept m) set_up_then (paused_order circles universal_order)
+    subst (λ level. BrokenBetweenSpans (without_serial_or_forms kept m) set_up_then (paused_order circles
+    universal_order)
     (C level) spans old.glyphs new.glyphs p) height
-    (broken_in (view_by f) (without_serial_or_forms kept m) circles universal_order universal_steps masks
+    (broken_seen (view_by f) (without_serial_or_forms kept m) circles universal_order universal_steps masks
     (unformed_shown arabic m) set_up_then (C between.level) spans old.glyphs new.glyphs p
     (chain_broken_by f (unformed_keeps arabic m) universal_order universal_steps laws reads masks circles lookups
     (set_up_under plan) spans old.glyphs between new done
@@ -421,7 +424,8 @@ sound_halves : (kept : PlanData) (m : Map) (spans : List Span) (old whole : Buff
     → MidCut without_flags (λ is xs. forms_flagged (arabic_of kept) Sound m (set_up_by_spans kept m is xs)) spans
     old.glyphs before behind
 sound_halves kept m spans old whole before behind kinds covers none off set_up text border apart inside clear =
-    let U : List Span → Glyphs → Glyphs = λ is xs. forms_flagged (arabic_of kept) Sound m (set_up_by_spans kept m is xs) in
+    let U : List Span → Glyphs → Glyphs = λ is xs. forms_flagged (arabic_of kept) Sound m (set_up_by_spans kept
+    m is xs) in
     let n = length before in
     let made : SetUpText spans old.glyphs whole.glyphs = subst (λ (b : Buffer). SetUpText spans old.glyphs b.glyphs)
     (sym set_up) (universal_text Sound kept m spans old kinds covers off) in
@@ -476,19 +480,21 @@ universal_sound_chain laws inside reads masks plan font spans unread lookups old
     (subst (λ xs. length b.before < length xs) looked.glyphs t.was.inside)
     (subst (λ xs. IsClear xs (length b.before)) looked.glyphs t.was.clear) in
     let halves = made.cut in
-    let cut = sound_halves kept m spans old mid halves.before halves.behind can.kinds can.covered none off is halves.text
+    let cut = sound_halves kept m spans old mid halves.before halves.behind can.kinds can.covered none off is
+    halves.text
     halves.border halves.apart made.inside made.clear in
     let C : BufferClusterLevel → Glyphs → List ℕ = paused_clusters circles universal_steps in
     let set_up_then : List Span → Glyphs → Glyphs = λ spans gs. lookups (set_up_under plan spans gs) in
     subst (λ level. BrokenBetweenSpans unnumbered set_up_then (paused_order circles universal_order) (C level) spans
     old.glyphs new.glyphs p) height
-    (broken_in (view_by without_flags) unnumbered circles universal_order universal_steps masks
+    (broken_seen (view_by without_flags) unnumbered circles universal_order universal_steps masks
     (λ g. ap (λ n. let r : hb_glyph_info_t = record g { mask = n } in unnumbered r) (without_flags-twice g.mask))
     set_up_then (C between.level) spans old.glyphs new.glyphs p
     (chain_broken_by without_flags keeps universal_order universal_steps laws reads masks circles lookups
     (set_up_under plan) spans old.glyphs between new done looked.reads p b halves.before halves.behind halves.first
     halves.second
-    (subst (λ breaks. MidCut without_flags (λ is xs. forms_flagged (arabic_of kept) breaks m (set_up_by_spans kept m is xs))
+    (subst (λ breaks. MidCut without_flags (λ is xs. forms_flagged (arabic_of kept) breaks m (set_up_by_spans
+    kept m is xs))
     spans old.glyphs halves.before halves.behind) (sym sound) cut)))
 
 -- nothing in between

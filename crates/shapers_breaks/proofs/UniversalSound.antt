@@ -46,13 +46,13 @@ use Rattle.shapers_breaks.proofs.SetUp.{Glyphs, cover_cut, guarded_border, set_u
 use Rattle.shapers_breaks.proofs.UniversalSetUp.{KeepPieces, KeepShapes, flagged_kept, forms_for_kept, guarded_kept, long_kept, rphfs_kept, syllables_kept}
 
 -- forms, and the stretches of torn pairs, by the masks in a map
-abbrev forms_in : Map → Bool → List Glyphs → Glyphs
+abbrev pub forms_in : Map → Bool → List Glyphs → Glyphs
 forms_in m before ps = in_forms (form_masks m) before ps
 
-abbrev pair_in : Map → Bool → ℕ → Glyphs → List Glyphs → List (ℕ × ℕ)
+abbrev pub pair_in : Map → Bool → ℕ → Glyphs → List Glyphs → List (ℕ × ℕ)
 pair_in m before i p ps = torn_pair (form_masks m) before i p ps
 
-abbrev pairs_in : Map → Bool → ℕ → List Glyphs → List (ℕ × ℕ)
+abbrev pub pairs_in : Map → Bool → ℕ → List Glyphs → List (ℕ × ℕ)
 pairs_in m before i ps = torn_pairs (form_masks m) before i ps
 
 -- texts of the same bytes meet others at the same borders
@@ -174,7 +174,7 @@ forms_same m gs hs same =
     ∙ forms-unnumbered m false (syllables xs) in
     told gs ∙ ap (form_pieces m false) same ∙ sym (told hs)
 
-text_same : (m : Map) (gs hs : Glyphs) → SameButSerials gs hs → SameButSerials (with_form_masks (form_masks m) gs)
+pub text_same : (m : Map) (gs hs : Glyphs) → SameButSerials gs hs → SameButSerials (with_form_masks (form_masks m) gs)
     (with_form_masks (form_masks m) hs)
 text_same m gs hs same = elim (all_forms (form_masks m) == 0) as (λ b. SameButSerials
     (if b then gs else forms_in m false (syllables gs)) (if b then hs else forms_in m false (syllables hs))) [
@@ -182,7 +182,7 @@ text_same m gs hs same = elim (all_forms (form_masks m) == 0) as (λ b. SameButS
       | false ↦ forms_same m gs hs same
     ]
 
-text_bytes : (m : Map) (gs : Glyphs) → bytes (with_form_masks (form_masks m) gs) ≡ bytes gs
+pub text_bytes : (m : Map) (gs : Glyphs) → bytes (with_form_masks (form_masks m) gs) ≡ bytes gs
 text_bytes m gs = elim (all_forms (form_masks m) == 0) as
     (λ b. bytes (if b then gs else forms_in m false (syllables gs)) ≡ bytes gs) [
       | true ↦ refl
@@ -221,28 +221,28 @@ second_stays m before behind false true q h = refl
 second_stays m before behind false false q h = refl
 
 -- stretches none of which holds both sides of a place
-abbrev Spares : ℕ → List (ℕ × ℕ) → Type 0
-Spares p sts = AllByRecursion (λ st. (nat_lt st.0 p && nat_lt p st.1) ≡ false) sts
+abbrev pub SparesPlace : ℕ → List (ℕ × ℕ) → Type 0
+SparesPlace p sts = AllByRecursion (λ st. (nat_lt st.0 p && nat_lt p st.1) ≡ false) sts
 
-spares_front : (p : ℕ) (xs ys : List (ℕ × ℕ)) → Spares p (xs ++ ys) → Spares p xs
+pub spares_front : (p : ℕ) (xs ys : List (ℕ × ℕ)) → SparesPlace p (xs ++ ys) → SparesPlace p xs
 spares_front p [] ys h = tt
 spares_front p (x ∷ xs) ys h = (h.0, spares_front p xs ys h.1)
 
-spares_behind : (p : ℕ) (xs ys : List (ℕ × ℕ)) → Spares p (xs ++ ys) → Spares p ys
+spares_behind : (p : ℕ) (xs ys : List (ℕ × ℕ)) → SparesPlace p (xs ++ ys) → SparesPlace p ys
 spares_behind p [] ys h = h
 spares_behind p (x ∷ xs) ys h = spares_behind p xs ys h.1
 
-not_torn : (s e p : ℕ) (b c : Bool) → b ≡ c → s < p → p < e → Spares p (cond b ((s, e) ∷ []) []) → b ≡ false
+not_torn : (s e p : ℕ) (b c : Bool) → b ≡ c → s < p → p < e → SparesPlace p (cond b ((s, e) ∷ []) []) → b ≡ false
 not_torn s e p b false is low high h = is
 not_torn s e p b true is low high h =
-    let found = subst (λ b. Spares p (cond b ((s, e) ∷ []) [])) is h in
+    let found = subst (λ b. SparesPlace p (cond b ((s, e) ∷ []) [])) is h in
     let both : (nat_lt s p && nat_lt p e) ≡ false = found.0 in
     absurd (grind (arith, nat_tests))
 
 -- so syllables cut at a place that is spared have the forms of the whole
 forms_split : (m : Map) (before : Bool) (i p : ℕ) (ps qs : List Glyphs)
     → AllByRecursion (λ q. 0 < length q) ps → AllByRecursion (λ q. 0 < length q) qs → 0 < length ps
-    → p ≡ i + length (flat_map (λ q. q) ps) → Spares p (pairs_in m before i (ps ++ qs))
+    → p ≡ i + length (flat_map (λ q. q) ps) → SparesPlace p (pairs_in m before i (ps ++ qs))
     → forms_in m before (ps ++ qs) ≡ forms_in m before ps ++ forms_in m false qs
 forms_split m before i p [] qs some more z place h = absurd (omega arith)
 forms_split m before i p (x ∷ []) [] some more z place h = sym (append-nil (forms_in m before (x ∷ [])))
@@ -252,7 +252,7 @@ forms_split m before i p (x ∷ []) (y ∷ qs) some more z place h =
     let here : p ≡ i + length x = place ∙ ap (λ xs. i + length xs) (append-nil x) in
     let some_x = some.0 in
     let some_y = more.0 in
-    let one : Spares p (pair_in m before i x (y ∷ qs)) =
+    let one : SparesPlace p (pair_in m before i x (y ∷ qs)) =
     spares_front p (pair_in m before i x (y ∷ qs)) (pairs_in m (joins_runs x) (i + length x) (y ∷ qs)) h in
     let whole : test ≡ false = not_torn i end p test test refl (omega arith) (omega arith) one in
     ap (λ l. l ++ forms_in m (joins_runs x) (y ∷ qs))
@@ -300,14 +300,14 @@ pairs_in_order m before i [] = tt
 pairs_in_order m before i (p ∷ ps) = pair_in_order m before i p ps
     (pairs_in m (joins_runs p) (i + length p) ps) (pairs_in_order m (joins_runs p) (i + length p) ps)
 
-free_spares : (p : ℕ) (sts : List (ℕ × ℕ)) → list_any (forbids p) (map called sts) ≡ false → Spares p sts
+free_spares : (p : ℕ) (sts : List (ℕ × ℕ)) → list_any (forbids p) (map called sts) ≡ false → SparesPlace p sts
 free_spares p [] h = tt
 free_spares p (st ∷ sts) h =
     let (one, rest) = or_parts (nat_lt st.0 p && nat_lt p st.1) (list_any (forbids p) (map called sts)) h in
     (one, free_spares p sts rest)
 
 clear_spares : (sts : List (ℕ × ℕ)) (gs : Glyphs) (p : ℕ) → AllByRecursion (λ st. st.0 ≤ st.1) sts → 0 < p
-    → p < length gs → IsClear (unsafe_all sts gs) p → Spares p sts
+    → p < length gs → IsClear (unsafe_all sts gs) p → SparesPlace p sts
 clear_spares sts gs p order z l clear = free_spares p sts (clear-places false false (map called sts) gs p
     (called_in_order sts order) z l (subst (λ xs. IsClear xs p) (called_all sts gs) clear))
 
@@ -339,7 +339,7 @@ pair_kept m before i p q (x ∷ ps) (y ∷ qs) k more =
     ∙ ap (λ k. shown (joins_runs p) (joins_runs x) (first_joins ps) k (length y)) (long_kept p q k)
     ∙ ap (shown (joins_runs p) (joins_runs x) (first_joins ps) (length p)) (long_kept x y more.0)
 
-pairs_kept : (m : Map) (before : Bool) (i : ℕ) (ps qs : List Glyphs) → KeepPieces ps qs
+pub pairs_kept : (m : Map) (before : Bool) (i : ℕ) (ps qs : List Glyphs) → KeepPieces ps qs
     → pairs_in m before i qs ≡ pairs_in m before i ps
 pairs_kept m before i [] [] k = refl
 pairs_kept m before i [] (q ∷ qs) k = absurd k
@@ -355,7 +355,7 @@ pub none_empty : (ps : List Glyphs) → Cut ps → AllByRecursion (λ p. 0 < len
 none_empty [] u = tt
 none_empty (p ∷ ps) u = (u.0.1.some, none_empty ps u.2)
 
-some_syllable : (gs : Glyphs) → 0 < length gs → 0 < length (syllables gs)
+pub some_syllable : (gs : Glyphs) → 0 < length gs → 0 < length (syllables gs)
 some_syllable gs z =
     let text = joined-syllables gs in
     let go : (ps : List Glyphs) → 0 < length (flat_map (λ p. p) ps) → 0 < length ps = λ ps. elim ps as
@@ -374,7 +374,7 @@ text_split m gs hs off border some more clear =
     let shape : KeepShapes (gs ++ hs) whole = forms_for_kept None m off (gs ++ hs) in
     let pairs = pairs_in m false 0 (syllables whole) in
     let long = long_kept (gs ++ hs) whole shape in
-    let spared : Spares (length gs) pairs = clear_spares pairs whole (length gs)
+    let spared : SparesPlace (length gs) pairs = clear_spares pairs whole (length gs)
     (pairs_in_order m false 0 (syllables whole)) some (omega (arith, long, length-append gs hs)) clear in
     let parts = syllables-append gs hs border in
     let same : pairs ≡ pairs_in m false 0 (syllables gs ++ syllables hs) =
@@ -384,16 +384,16 @@ text_split m gs hs off border some more clear =
     let split = ap (forms_in m false) parts
     ∙ forms_split m false 0 (length gs) (syllables gs) (syllables hs) (none_empty (syllables gs) (syllables_cut gs))
     (none_empty (syllables hs) (syllables_cut hs)) (some_syllable gs some) (omega (arith, length-joined))
-    (subst (Spares (length gs)) same spared) in
+    (subst (SparesPlace (length gs)) same spared) in
     elim (all_forms (form_masks m) == 0) as (λ b. (if b then gs ++ hs else forms_in m false (syllables (gs ++ hs))) ≡
     (if b then gs else forms_in m false (syllables gs)) ++ (if b then hs else forms_in m false (syllables hs)))
     [ true ↦ refl | false ↦ split ]
 
 -- the glyphs that spans set up, with the masks of rphf and no forms
-abbrev led : ℕ → List Span → Glyphs → Glyphs
+abbrev pub led : ℕ → List Span → Glyphs → Glyphs
 led mask spans gs = flat_map (with_rphf mask) (syllables (unsafe_spans spans gs))
 
-length-led : (mask : ℕ) (spans : List Span) (gs : Glyphs) (old : Buffer) → length (led mask spans gs) ≡ length gs
+pub length-led : (mask : ℕ) (spans : List Span) (gs : Glyphs) (old : Buffer) → length (led mask spans gs) ≡ length gs
 length-led mask spans gs old =
     let bare = unsafe_spans spans gs in
     let shape = rphfs_kept mask (syllables bare) in
@@ -401,12 +401,12 @@ length-led mask spans gs old =
     ∙ ap length (joined-syllables bare)
     ∙ length-same gs bare (clusters-set_up spans BROKEN_CLUSTER (record old { glyphs = gs }))
 
-record LedHalves (mask : ℕ) (spans ss ts : List Span) (gs hs : Glyphs) (old : Buffer) : Type 0 where
-  behind : Glyphs
-  parts : led mask spans old.glyphs ≡ led mask ss gs ++ behind
-  renumbered : SameButSerials behind (led mask ts hs)
-  border : MeetAtBorder (led mask ss gs) behind
-  broken : (with_spans spans BROKEN_CLUSTER old).broken
+pub record LedHalves (mask : ℕ) (spans ss ts : List Span) (gs hs : Glyphs) (old : Buffer) : Type 0 where
+  pub behind : Glyphs
+  pub parts : led mask spans old.glyphs ≡ led mask ss gs ++ behind
+  pub renumbered : SameButSerials behind (led mask ts hs)
+  pub border : MeetAtBorder (led mask ss gs) behind
+  pub broken : (with_spans spans BROKEN_CLUSTER old).broken
       ≡ ((with_spans ss BROKEN_CLUSTER old).broken || (with_spans ts BROKEN_CLUSTER old).broken)
 
 -- the mask of rphf keeps bytes, and reads no serials
@@ -440,7 +440,7 @@ rphf_same mask gs hs same =
     ∙ ap (λ k. map f (take k (map unnumbered xs)) ++ drop k (map unnumbered xs)) (sym (len_same xs)) in
     told gs ∙ ap (with_rphf mask) same ∙ sym (told hs)
 
-led_halves : (mask : ℕ) (spans ss ts : List Span) (gs hs : Glyphs) (old : Buffer) → All
+pub led_halves : (mask : ℕ) (spans ss ts : List Span) (gs hs : Glyphs) (old : Buffer) → All
     (λ span. span.kind ≤ 15) spans → spans ≡ ss ++ ts → old.glyphs ≡ gs ++ hs → spans_cover (length gs) ss ≡ true
     → spans_cover (length hs) ts ≡ true → LedHalves mask spans ss ts gs hs old
 led_halves mask spans ss ts gs hs old kinds split text first second =
@@ -469,13 +469,14 @@ led_halves mask spans ss ts gs hs old kinds split text first second =
 flag_bytes : (gs : Glyphs) → bytes (flagless gs) ≡ bytes gs
 flag_bytes gs = map-map (λ (g : hb_glyph_info_t). g.syllable) (with_mask_by without_flags) gs
 
-flags_hidden : (arabic : Option arabic_shape_plan_t) (m : Map) (gs : Glyphs)
+pub flags_hidden : (arabic : Option arabic_shape_plan_t) (m : Map) (gs : Glyphs)
     → flagless (forms_flagged arabic Sound m gs) ≡ flagless gs
 flags_hidden arabic m gs = map-forms_flagged (with_mask_by without_flags)
     (λ g. ap (λ n. let r : hb_glyph_info_t = record g { mask = n } in r) (without_flags-or g.mask 3 refl))
     arabic Sound m gs
 
-pub sound_at : (kept : PlanData) (m : Map) (spans : List Span) (old : Buffer) (p : ℕ) → All (λ span. span.kind ≤ 15) spans
+pub sound_at : (kept : PlanData) (m : Map) (spans : List Span) (old : Buffer) (p : ℕ)
+    → All (λ span. span.kind ≤ 15) spans
     → spans_cover (length old.glyphs) spans ≡ true → arabic_of kept ≡ None → FormsOffFlags None m → 0 < p
     → p < length old.glyphs
     → IsClear (forms_flagged (arabic_of kept) Sound m (set_up_by_spans kept m spans old.glyphs)) p → SpanBorder spans p

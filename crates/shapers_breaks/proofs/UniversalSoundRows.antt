@@ -17,44 +17,44 @@ use Rattle.shapers_universal.specs.UniversalLaws.{set_up_by_spans}
 use Rattle.shapers_universal.specs.UniversalSyllables.{forms_flagged}
 use Rattle.shapers_breaks.specs.UniversalSound.{flagless, sound_set_up}
 
-abbrev feature : String → ℕ → feature_map_t
+abbrev pub feature : String → ℕ → feature_map_t
 feature tag mask = record { tag = record { 0 = codes tag }; mask = mask; stage = 0 }
 
-abbrev map_of : List feature_map_t → Map
+abbrev pub map_of : List feature_map_t → Map
 map_of features =
     record { features = features; stages = []; lookups = []; global = 8; chosen = None; found = true }
 
 -- letters that don't join, without a mask of rphf
-abbrev kept : PlanData
+abbrev pub kept : PlanData
 kept = Universal (record { rphf_mask = 0; arabic_plan = None })
 
 -- a first and a last form; and four of one mask
-abbrev ends : Map
+abbrev pub ends : Map
 ends = map_of (feature "init" 0x20 ∷ feature "fina" 0x80 ∷ [])
 
-abbrev alike : Map
+abbrev pub alike : Map
 alike = map_of (feature "isol" 0x10 ∷ feature "init" 0x10 ∷ feature "medi" 0x10 ∷ feature "fina" 0x10 ∷ [])
 
-abbrev glyph : ℕ → hb_glyph_info_t
+abbrev pub glyph : ℕ → hb_glyph_info_t
 glyph cluster = record default_glyph { cluster = cluster; category = 1 }
 
 -- syllables of one glyph each: standard ones, kind 2, and what is in no cluster, kind 8
-abbrev one : ℕ → List Span
+abbrev pub one : ℕ → List Span
 one kind = record { len = 1; kind = kind } ∷ []
 
-abbrev two : ℕ → List Span
+abbrev pub two : ℕ → List Span
 two kind = record { len = 1; kind = 2 } ∷ one kind
 
 abbrev set_up : BreakFlags → Map → ℕ → List hb_glyph_info_t → List hb_glyph_info_t
 set_up breaks m kind gs = forms_flagged None breaks m (set_up_by_spans kept m (two kind) gs)
 
-abbrev rising : List hb_glyph_info_t
+abbrev pub rising : List hb_glyph_info_t
 rising = glyph 0 ∷ glyph 1 ∷ []
 
-abbrev falling : List hb_glyph_info_t
+abbrev pub falling : List hb_glyph_info_t
 falling = glyph 1 ∷ glyph 0 ∷ []
 
-abbrev masks : List hb_glyph_info_t → List ℕ
+abbrev pub masks : List hb_glyph_info_t → List ℕ
 masks gs = map (λ g. g.mask) gs
 
 -- the pair has forms that neither has alone: with Sound the place between isn't clear, and so where clusters fall

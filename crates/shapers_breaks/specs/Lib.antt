@@ -16,6 +16,7 @@ pub mod IndicBreaks
 pub mod ChainBreaks
 pub mod FinalBreaks
 pub mod UniversalChain
+pub mod NeedlessForms
 pub mod Pieces
 pub mod ShaperBreaks
 pub mod IndicChain

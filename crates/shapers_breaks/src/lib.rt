@@ -20,6 +20,7 @@ ghost use Rattle.shapers_breaks.specs.ShaperBreaks.{LeavePiecesInTurn, MasksLeav
 ghost use Rattle.shapers_breaks.specs.StretchBreaks.{StretchBreaksLaw};
 ghost use Rattle.shapers_breaks.specs.ThaiBreaks.{SaraAmsBreakLaw, ThaiFormsBreakLaw};
 ghost use Rattle.shapers_breaks.specs.ThaiSound.{ThaiSoundBreakLaw};
+ghost use Rattle.shapers_breaks.specs.NeedlessForms.{NoFormFlagIsNeedless};
 ghost use Rattle.shapers_breaks.specs.UniversalChain.{UniversalChainBreaks, UniversalSoundChainBreaks, UniversalSoundPausesBreak};
 ghost use Rattle.shapers_breaks.specs.UniversalSound.{UniversalSoundBreaks};
 ghost use Rattle.shapers_breaks.specs.KeptTextBreaks.{KeptTextBreaksApartLaw, KeptTextBreaksLaw};
@@ -175,6 +176,12 @@ pub fn universal_chain_breaks_law()
     universal_reorder_laws();
     universal_reads_no_serials();
 }
+
+/// Where letters don't join, no flag that `Sound` adds to the set-up of the universal shaper is
+/// needless: inside such a stretch it can't be broken, a half would take another form.
+pub fn needless_forms_law()
+    ensures { NoFormFlagIsNeedless }
+{}
 
 /// The set-up of Indic and both reorderings may be broken at every clear place, with lookups in
 /// between that leave the halves' results side by side: where syllables share no cluster before
