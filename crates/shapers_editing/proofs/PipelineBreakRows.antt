@@ -1,5 +1,5 @@
 -- Lookups, notes, pauses and pieces of small texts, written out from what the law of the whole pipeline needs.
-use Rattle.std.proofs.Common.{ℕ, ◌≡◌, List, [], ◌∷◌, refl, sym, subst, arith, inl, ap}
+use Rattle.std.proofs.Common.{ℕ, ◌≡◌, [], ◌∷◌, refl, sym, subst, arith, inl}
 use Rattle.shapers_arabic.specs.Breaks.{back_at, front_at}
 use Rattle.shapers_base.specs.Font.{Font}
 use Rattle.shapers_base.specs.declared.plan.hb_ot_shape_plan_t.{hb_ot_shape_plan_t}

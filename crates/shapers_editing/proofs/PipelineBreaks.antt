@@ -1,5 +1,5 @@
 -- Stages of lookups and their pauses leave the results of a text's pieces side by side, and so does the whole from its masks on.
-use Rattle.std.proofs.Common.{ℕ, ◌<◌, ◌≡◌, if◌then◌else◌, Bool, true, false, List, [], ◌∷◌, ◌++◌, length, take, drop, map, length-append, refl, sym, ap, ◌∙◌, subst, arith, inl, inr}
+use Rattle.std.proofs.Common.{ℕ, ◌<◌, ◌≡◌, if◌then◌else◌, Bool, true, false, List, [], ◌∷◌, length, take, drop, map, length-append, refl, sym, ap, ◌∙◌, subst, arith, inl, inr}
 use Rattle.std.specs.Prelude.{Option, None, Some}
 use Rattle.std.proofs.lemmas.Bool.{false≢true}
 use Rattle.std.proofs.lemmas.List.{drop_at, length-map, map-id, take_at}
@@ -23,20 +23,20 @@ use Rattle.rustybuzz_shapers.specs.Hooks.{MasksOffFlags, MasksSet}
 use Rattle.rustybuzz_shapers.specs.Pauses.{Paused, Reordered, Reordering, by_initial, by_khmer, by_myanmar}
 use Rattle.rustybuzz_shapers.specs.declared.shaper.hb_ot_shaper_t.{hb_ot_shaper_t}
 use Rattle.rustybuzz_shapers.specs.declared.shaper.hb_ot_shaper_t.TheVariants.{Arabic, Hangul, Hebrew, Indic, Khmer, Myanmar, MyanmarZawgyi, Thai, Universal}
-use Rattle.shapers_breaks.specs.Pieces.{BreaksWhereCleared, CutBuffer, CutWhereClear, LeavesPieces, MadeOfPieces, MakesOf, SameButFlags, SpannedText}
+use Rattle.shapers_breaks.specs.Pieces.{CutWhereClear, MadeOfPieces, MakesOf, SameButFlags, SpannedText}
 use Rattle.shapers_breaks.specs.ShaperBreaks.{IsApart, IsInOrder, MasksLeavePieces, PausesLeavePieces, ShapersBreakLaw, SyllabicBreaks, SyllabicPiece, glyph_paused, is_by_glyph, masked_by_glyph, masks_by_glyph}
 use Rattle.shapers_breaks.proofs.HookPieces.{joining_adds, joined_by, joined_in_two, within_parts}
 use Rattle.shapers_breaks.proofs.KeptFlags.{added_clear}
 use Rattle.shapers_breaks.proofs.Pieces.{ReadsOrder, flags-twice, kind-twice, leaves_by_glyph, own_text, reads_order}
 use Rattle.shapers_plan.specs.declared.ot_map.lookups.Stage.{Stage}
 use Rattle.shapers_plan.specs.declared.ot_map.lookups.StageLookup.{StageLookup}
-use Rattle.shapers_pipeline.specs.ClusterLaws.{AtPauses, IfPaused, LookupsKeep}
-use Rattle.shapers_pipeline.specs.Lookups.{looked_up, lookups_of_stage, text_noted, with_note}
+use Rattle.shapers_pipeline.specs.ClusterLaws.{IfPaused, LookupsKeep}
+use Rattle.shapers_pipeline.specs.Lookups.{looked_up, lookups_of_stage, with_note}
 use Rattle.shapers_pipeline.specs.Masks.{as_glyph, with_features}
-use Rattle.shapers_pipeline.specs.Prepared.{Preparation, text_in_fractions, text_prepared}
+use Rattle.shapers_pipeline.specs.Prepared.{Preparation, text_in_fractions}
 use Rattle.shapers_pipeline.specs.ShaperSteps.{masks_set_by, masks_set_for, universal_masks_set}
 use Rattle.shapers_pipeline.specs.Stages.{PauseRun, PauseRunIf, StageRun, StagesRun, Substitution, stage_looked_up}
-use Rattle.shapers_editing.specs.PipelineBreaks.{CutBufferWhereClear, LeavesAllPieces, LookupsLeavePieces, MakesSame, MasksInPieces, MasksSetInPieces, NotesReadOrder, PauseLeaves, PipelineBreaks, PreparedInPieces, ShaperStagesBreak, ShapingBreaks, StagedPiece, StagesLeavePieces, StepLeavesPieces, SyllabicStagesBreak, glyphs_looked_up, glyphs_made}
+use Rattle.shapers_editing.specs.PipelineBreaks.{CutBufferWhereClear, LookupsLeavePieces, MakesSame, MasksInPieces, MasksSetInPieces, NotesReadOrder, PauseLeaves, PipelineBreaks, ShaperStagesBreak, ShapingBreaks, StagedPiece, StagesLeavePieces, StepLeavesPieces, SyllabicStagesBreak, glyphs_looked_up, glyphs_made}
 
 abbrev Glyphs : Type 0
 Glyphs = List hb_glyph_info_t
