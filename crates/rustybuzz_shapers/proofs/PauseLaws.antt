@@ -65,8 +65,7 @@ pub final_keeps : (plan : hb_ot_shape_plan_t) (font : Font) (old new : Buffer)
     → ThenOpened plan font (λ mid. ReorderingKeeps (by_final plan font old) old mid × OneByOne (by_final plan font old)
     old mid) new
 final_keeps plan font old new linked =
-    let r = final_rules font (indic_in plan) in
-    (
+    let r = final_rules font (indic_in plan) in (
       linked.0,
       (
         reordering_keeps (by_final plan font old) old linked.0 (final_laws r old.script)
