@@ -26,7 +26,6 @@ use Rattle.shapers_syllabic.specs.Syllabic.{unsafe_spans}
 use Rattle.shapers_syllabic.proofs.PauseCuts.{apart_by}
 use Rattle.shapers_syllabic.proofs.Serials.{same-view, same_text}
 use Rattle.rustybuzz_shapers.specs.Pauses.{Reordered, Reordering, by_initial, by_khmer, by_myanmar}
-use Rattle.rustybuzz_shapers.specs.declared.shaper.hb_ot_shaper_t.TheVariants.{Indic, Khmer, Myanmar}
 use Rattle.shapers_breaks.specs.ChainBreaks.{IsSpanned, LeavesSideBySide, LookedUp}
 use Rattle.shapers_breaks.specs.IndicChain.{reordered_text}
 use Rattle.shapers_breaks.specs.KeptTextBreaks.{KeptTextBreaks, KeptTextBroken}
