@@ -4,21 +4,11 @@ use Rattle.shapers_buffer.specs.declared.buffer.glyph.hb_glyph_info_t.{hb_glyph_
 use Rattle.shapers_buffer.specs.Glyph.{default_glyph}
 use Rattle.shapers_breaks.specs.ChainBreaks.{LeavesSideBySide, MadeOfHalves}
 use Rattle.shapers_breaks.specs.KeptTextBreaks.{SyllablesApart}
+use Rattle.shapers_breaks.proofs.SideBySide.{nothing_between}
 
 -- nothing in between is a case
-still : (gs : List hb_glyph_info_t) → LeavesSideBySide (λ gs. gs) gs
-still gs = record {
-  halves = λ front back text border apart. record {
-    before = front;
-    behind = back;
-    text = text;
-    border = border;
-    apart = apart;
-    first = refl;
-    second = refl;
-  };
-  serials = λ xs ys same. same;
-}
+row_still : (gs : List hb_glyph_info_t) → LeavesSideBySide (λ gs. gs) gs
+row_still gs = nothing_between gs
 
 -- two glyphs that change places do so over the border of two syllables
 glyph : ℕ → ℕ → hb_glyph_info_t

@@ -32,7 +32,7 @@ use Rattle.shapers_syllabic.proofs.HiddenCuts.{cuts_with_serials}
 use Rattle.shapers_syllabic.proofs.PauseCuts.{apart_by, clusters-set_up}
 use Rattle.shapers_syllabic.proofs.SpanCuts.{spans_cut}
 use Rattle.rustybuzz_shapers.specs.Pauses.{by_initial, by_khmer, by_myanmar}
-use Rattle.shapers_breaks.specs.ChainBreaks.{ChainBreaksBy, InitialChainBreaks, IsSpanned, LeavesSideBySide, LookedUp}
+use Rattle.shapers_breaks.specs.ChainBreaks.{ChainBreaksBy, InitialChainBreaks, IsSpanned, LeavesSideBySide, LookedUp, MadeOfHalves}
 use Rattle.shapers_breaks.specs.PauseBreaks.{BrokenBetweenSpans, SpanCut}
 use Rattle.shapers_breaks.specs.KeptTextBreaks.{KeptTextBroken}
 use Rattle.shapers_breaks.proofs.IndicBreaks.{initial_text_breaks}
@@ -40,21 +40,20 @@ use Rattle.shapers_breaks.proofs.PauseBreaks.{front_is, text_cut}
 use Rattle.shapers_breaks.proofs.SetUp.{Glyphs, set_up_guarded}
 use Rattle.shapers_breaks.proofs.KeptTextBreaks.{text_breaks}
 
--- where a text is broken that lookups made, the text before them is
-chain_broken : (meaning : Glyphs → Glyphs) (steps : Glyphs → List Step) (broken_kind : ℕ) → ReorderLaws meaning steps
-    → ReadsNoSerials meaning steps → (circles : Option DottedCircles) (lookups : Glyphs → Glyphs) (spans : List Span)
-    (old between new : Buffer) → All (λ span. span.kind ≤ 15) spans → spans_cover (length old.glyphs) spans ≡ true
-    → between.level ≡ old.level → between.glyphs ≡ lookups (unsafe_spans spans old.glyphs) → LeavesSideBySide lookups
-    (unsafe_spans spans old.glyphs) → PauseReordered circles meaning steps between new → (p : ℕ)
-    → KeptTextBroken circles meaning steps between.level between.glyphs new.glyphs p → BrokenBetweenSpans unnumbered
-    (λ spans gs. lookups (unsafe_spans spans gs)) (paused_order circles meaning)
-    (paused_clusters circles steps old.level) spans old.glyphs new.glyphs p
-chain_broken meaning steps broken_kind laws reads circles lookups spans old between new kinds covers height glyphs side
-    done p b =
+-- A text that was set up and given to lookups, cut into what they made of its halves: it was cut between two spans.
+pub record MadeCut (lookups : Glyphs → Glyphs) (spans : List Span) (old front back : Glyphs) : Type 0 where
+  pub cut : SpanCut (λ spans gs. lookups (unsafe_spans spans gs)) (λ gs. gs) spans old (length front)
+  pub first : front ≡ lookups (unsafe_spans cut.front cut.before)
+  pub second : SameButSerials back (lookups (unsafe_spans cut.back cut.behind))
+
+pub made_cut : (broken_kind : ℕ) (lookups : Glyphs → Glyphs) (spans : List Span) (old : Buffer)
+    → All (λ span. span.kind ≤ 15) spans → spans_cover (length old.glyphs) spans ≡ true
+    → LeavesSideBySide lookups (unsafe_spans spans old.glyphs) → (front back : Glyphs)
+    → MadeOfHalves lookups (unsafe_spans spans old.glyphs) front back → MadeCut lookups spans old.glyphs front back
+made_cut broken_kind lookups spans old kinds covers side made_front made_back made =
     let id : Glyphs → Glyphs = λ piece. piece in
     let gs = old.glyphs in
     let mid = unsafe_spans spans gs in
-    let made = side.halves b.before b.behind (sym glyphs ∙ b.text) b.border b.apart in
     let bf = made.before in
     let bh = made.behind in
     let k = length (syllables bf) in
@@ -79,14 +78,8 @@ chain_broken meaning steps broken_kind laws reads circles lookups spans old betw
     ∙ ap (drop (length bf)) (sym made.text ∙ cut.parts)
     ∙ drop_at front cut.behind (length bf) (ap length is_front) in
     let same_back : SameButSerials bh back = subst (λ xs. SameButSerials xs back) (sym is_back) cut.renumbered in
-    let own : b.before ≡ lookups front = sym made.first ∙ ap lookups (sym is_front) in
-    let first : SameButSerials b.before (lookups front) = subst (SameButSerials b.before) own refl in
-    let second : SameButSerials b.behind (lookups back) = subst (λ xs. SameButSerials xs (lookups back)) made.second
-    (side.serials bh back same_back) in
-    let halves = cuts_with_serials circles meaning steps between new laws reads done b.before b.behind (lookups front)
-    (lookups back) b.text b.border first second in
-    let cut_there : SpanCut (λ spans gs. lookups (unsafe_spans spans gs))
-    (paused_order circles meaning) spans gs p = record {
+    let own : made_front ≡ lookups front = sym made.first ∙ ap lookups (sym is_front) in
+    let there : SpanCut (λ spans gs. lookups (unsafe_spans spans gs)) (λ gs. gs) spans gs (length made_front) = record {
       front = take k spans;
       back = drop k spans;
       before = take n gs;
@@ -98,10 +91,48 @@ chain_broken meaning steps broken_kind laws reads circles lookups spans old betw
       apart = apart_by (take n gs) (drop n gs) bf bh
           (t.before ∙ ap (λ ps. clusters (flat_map id ps)) taken ∙ ap clusters (joined-syllables bf))
           (t.behind ∙ ap (λ ps. clusters (flat_map id ps)) dropped ∙ ap clusters (joined-syllables bh)) made.apart;
-      place = ap (λ xs. length (paused_order circles meaning xs)) (sym own) ∙ b.place;
+      place = ap length (sym own);
     } in
     record {
-      cut = cut_there;
+      cut = there;
+      first = own;
+      second = subst (λ xs. SameButSerials xs (lookups back)) made.second (side.serials bh back same_back);
+    }
+
+-- where a text is broken that lookups made, the text before them is
+chain_broken : (meaning : Glyphs → Glyphs) (steps : Glyphs → List Step) (broken_kind : ℕ) → ReorderLaws meaning steps
+    → ReadsNoSerials meaning steps → (circles : Option DottedCircles) (lookups : Glyphs → Glyphs) (spans : List Span)
+    (old between new : Buffer) → All (λ span. span.kind ≤ 15) spans → spans_cover (length old.glyphs) spans ≡ true
+    → between.level ≡ old.level → between.glyphs ≡ lookups (unsafe_spans spans old.glyphs) → LeavesSideBySide lookups
+    (unsafe_spans spans old.glyphs) → PauseReordered circles meaning steps between new → (p : ℕ)
+    → KeptTextBroken circles meaning steps between.level between.glyphs new.glyphs p → BrokenBetweenSpans unnumbered
+    (λ spans gs. lookups (unsafe_spans spans gs)) (paused_order circles meaning)
+    (paused_clusters circles steps old.level) spans old.glyphs new.glyphs p
+chain_broken meaning steps broken_kind laws reads circles lookups spans old between new kinds covers height glyphs side
+    done p b =
+    let gs = old.glyphs in
+    let m = made_cut broken_kind lookups spans old kinds covers side b.before b.behind
+    (side.halves b.before b.behind (sym glyphs ∙ b.text) b.border b.apart) in
+    let c = m.cut in
+    let front = unsafe_spans c.front c.before in
+    let back = unsafe_spans c.back c.behind in
+    let first : SameButSerials b.before (lookups front) = subst (SameButSerials b.before) m.first refl in
+    let halves = cuts_with_serials circles meaning steps between new laws reads done b.before b.behind (lookups front)
+    (lookups back) b.text b.border first m.second in
+    let there : SpanCut (λ spans gs. lookups (unsafe_spans spans gs)) (paused_order circles meaning) spans gs p = record {
+      front = c.front;
+      back = c.back;
+      before = c.before;
+      behind = c.behind;
+      split = c.split;
+      text = c.text;
+      first = c.first;
+      second = c.second;
+      apart = c.apart;
+      place = ap (λ xs. length (paused_order circles meaning xs)) (sym m.first) ∙ b.place;
+    } in
+    record {
+      cut = there;
       order = halves.order;
       in_clusters = subst (λ level. clusters new.glyphs ≡ paused_clusters circles steps level (lookups front)
           ++ paused_clusters circles steps level (lookups back)) height (halves.in_clusters b.apart);

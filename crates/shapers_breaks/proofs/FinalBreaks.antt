@@ -1,5 +1,5 @@
 -- A text of Indic that kept its flags may be broken at every clear place after its final reordering.
-use Rattle.std.proofs.Common.{ℕ, ◌%◌, ◌<◌, ◌≤◌, ◌≡◌, if◌then◌else◌, true, false, List, [], ◌∷◌, ◌++◌, length, map, take, drop, get_or, refl, sym, ap, ◌∙◌, subst, arith, inl, inr}
+use Rattle.std.proofs.Common.{ℕ, ◌%◌, ◌<◌, ◌≤◌, ◌≡◌, if◌then◌else◌, true, false, List, [], ◌∷◌, ◌++◌, length, map, take, drop, get_or, sym, ap, ◌∙◌, subst, arith, inl, inr}
 use Rattle.std.specs.Prelude.{Option, None, Some}
 use Rattle.std.specs.List.{AllByRecursion, flat_map, sum_by}
 use Rattle.std.proofs.lemmas.Bool.{cases_lt}
@@ -30,19 +30,19 @@ use Rattle.shapers_indic_final.specs.FinalRules.{final_rules}
 use Rattle.shapers_indic_final.specs.declared.ot_shaper_indic_final.rules.Rules.{Rules}
 use Rattle.shapers_base.specs.declared.plan.indic.RephPosition.{RephPosition}
 use Rattle.shapers_indic_final.proofs.FinalClusters.{spare_final}
-use Rattle.shapers_syllabic.proofs.Borders.{syllables-viewed}
 use Rattle.shapers_syllabic.proofs.ReorderingLaws.{each_piece, sum-syllables, text_steps-long}
 use Rattle.shapers_syllabic.proofs.ReorderingWalk.{pieces_of}
-use Rattle.shapers_breaks.specs.FinalBreaks.{FinalTextBreaks, OneMatraMoves}
+use Rattle.shapers_breaks.specs.FinalBreaks.{FinalTextBreaks, OneMatraMoves, PartsNothing}
 use Rattle.shapers_breaks.specs.SetUp.{IsFlagged}
 use Rattle.shapers_breaks.proofs.ApartPieces.{text_apart}
-use Rattle.shapers_breaks.proofs.Guarded.{LeastOrFlagged, three_flags}
-use Rattle.shapers_breaks.proofs.Keepers.{cluster_at}
-use Rattle.shapers_breaks.proofs.KeptBorders.{KeepFlags, all_kept, length_run, syllable_cut}
-use Rattle.shapers_breaks.proofs.KeptFlagsInside.{clear_at_border_by, cluster_of}
+use Rattle.shapers_breaks.proofs.Guarded.{IsWhole, LeastOrFlagged, three_flags}
+use Rattle.shapers_breaks.proofs.Keepers.{cluster_at, own_keepers}
+use Rattle.shapers_breaks.proofs.KeptBorders.{KeepFlags, length_run, syllable_cut}
+use Rattle.shapers_breaks.proofs.KeptFlagsInside.{GreaterKept, clear_at_border_by, cluster_of, greater_kept, whole_at}
 use Rattle.shapers_breaks.proofs.KeptInside.{one_moves}
 use Rattle.shapers_breaks.proofs.SetUp.{Glyphs}
-use Rattle.shapers_breaks.proofs.KeptTextBreaks.{all_whole, apart_pieces}
+use Rattle.shapers_breaks.proofs.KeptTextBreaks.{all_whole, apart_pieces, whole_syllable}
+use Rattle.shapers_breaks.proofs.TwoClusters.{run_flagged}
 
 -- the steps of reph and pref merge before they move
 abbrev MergeFirst : List Step → Type 0
@@ -101,10 +101,25 @@ flag_left o x y falls besides same flags =
           ]
     ]
 
-viewed : (P : Glyphs → Type 0) (pieces : List Glyphs) → AllByRecursion P (map order_view pieces) → AllByRecursion
-    (λ q. P (order_view q)) pieces
-viewed P [] h = tt
-viewed P (q ∷ qs) h = (h.0, viewed P qs h.1)
+-- of any two clusters that meet in a syllable, the greater has a flag
+final_greater : FinalReorderLaws → (r : Rules) (script : Option Script) (level : BufferClusterLevel)
+    → merges level ≡ true → (pieces : List Glyphs) → AllByRecursion IsWhole pieces
+    → AllByRecursion (PartsNothing r script) pieces
+    → AllByRecursion GreaterKept (map (λ q. run_steps level (final_steps r script (order_view q)) q) pieces)
+final_greater laws r script level m [] whole parts = tt
+final_greater laws r script level m (q ∷ qs) whole parts =
+    let steps = final_steps r script (order_view q) in
+    let made = run_steps level steps q in
+    let fits : FitSteps (length q) steps = subst (λ n. FitSteps n steps) (length-map q plain)
+    ((laws r script).fits (order_view q)) in
+    let here : GreaterKept made = elim parts.0 [
+      | inl one ↦ greater_kept whole.0.0 made
+          (final_keeps laws r script level m whole.0.0 q one (whole_at q whole.0))
+      | inr two ↦
+          let w = whole_syllable made (run_flagged level steps q fits whole.0 two) in
+          greater_kept w.0 made (own_keepers (LeastOrFlagged w.0) made (whole_at made w))
+    ] in
+    (here, final_greater laws r script level m qs whole.1 parts.1)
 
 pub final_text_breaks : FinalReorderLaws → FinalTextLaws → FinalTextBreaks
 final_text_breaks laws text_laws plan font unread old new m flags apart one done p z l clear =
@@ -146,10 +161,7 @@ final_text_breaks laws text_laws plan font unread old new m flags apart one done
     λ k kl f. flag_left (get_or (pick olds gs) k d) (get_or rs k d) (get_or new.glyphs k d)
     (AllZip-get_or FallsTo (pick olds gs) rs k d d hold.falls (omega arith))
     (AllZip-get_or FlagsFallButBreaks (pick olds gs) new.glyphs k d d kept.flags (omega arith)) (same k kl) f in
-    let good = viewed (OneMatraMoves r script) pieces
-    (subst (AllByRecursion (OneMatraMoves r script)) (syllables-viewed plain (λ g. refl) gs) one) in
-    let greater = all_kept (λ q. OneMatraMoves r script (order_view q)) level steps (final_keeps laws r script level m)
-    pieces (all_whole pieces flags) good in
+    let greater = final_greater laws r script level m pieces (all_whole pieces flags) one in
     let border = clear_at_border_by results greater new.glyphs (nn ∙ sym an)
     (subst (λ ys. (k : ℕ) → k < length ys → cluster_of new.glyphs k ≡ cluster_of ys k) is same)
     (subst (λ ys. (k : ℕ) → k < length ys → IsFlagged (get_or ys k d) → bit_at 0 (get_or new.glyphs k d).mask ≡ 1) is

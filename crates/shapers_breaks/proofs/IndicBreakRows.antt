@@ -1,8 +1,9 @@
 -- Clear places after Indic's initial reordering, and what its laws require, written out from the rules.
 use Prim.Native.String.{String}
-use Rattle.std.proofs.Common.{ℕ, ◌<◌, ◌≡◌, false, List, [], ◌∷◌, ◌++◌, length, map, refl, sym, arith}
+use Rattle.std.proofs.Common.{ℕ, ◌<◌, ◌≡◌, false, true, List, [], ◌∷◌, ◌++◌, length, map, refl, sym, arith, inl, inr, ◌⊎◌}
+use Rattle.std.specs.Prelude.{None}
 use Rattle.std.proofs.lemmas.Bool.{false≢true}
-use Rattle.std.proofs.lemmas.List.Elements.{All-cons, All-head, All-nil, All-tail}
+use Rattle.std.proofs.lemmas.List.Elements.{All-cons, All-get_or, All-head, All-nil, All-tail}
 use Rattle.shapers_buffer.specs.declared.buffer.glyph.hb_glyph_info_t.{hb_glyph_info_t}
 use Rattle.shapers_buffer.specs.declared.buffer.syllables.Span.{Span}
 use Rattle.shapers_buffer.specs.declared.buffer.level.BufferClusterLevel.TheVariants.{MonotoneGraphemes}
@@ -14,12 +15,15 @@ use Rattle.shapers_indic.specs.Plan.{config_of}
 use Rattle.shapers_indic.proofs.RowWords.{C, H, M, Ra, SM, ZWJ, script}
 use Rattle.shapers_indic_final.proofs.FinalWords.{rules as final_of}
 use Rattle.shapers_indic_final.specs.FinalMatras.{parting_steps}
-use Rattle.shapers_indic_initial.specs.InitialReordering.{initial_steps}
+use Rattle.shapers_indic_final.specs.FinalReordering.{final_steps}
+use Rattle.shapers_indic_initial.specs.InitialReordering.{initial_order, initial_steps}
 use Rattle.shapers_indic_initial.specs.InitialRules.{Rules}
 use Rattle.shapers_syllabic.specs.Reordering.{text_steps}
 use Rattle.shapers_syllabic.specs.Syllabic.{unsafe_spans}
-use Rattle.shapers_breaks.specs.FinalBreaks.{OneMatraMoves}
+use Rattle.shapers_breaks.specs.FinalBreaks.{IsOfTwoClusters, OneMatraMoves, PartsNothing}
 use Rattle.shapers_breaks.specs.IndicBreaks.{JoinerShares, SpansPartClusters}
+use Rattle.rustybuzz_shapers.specs.Pauses.{Reordering}
+use Rattle.shapers_breaks.specs.IndicChain.{reordered_text}
 use Rattle.shapers_breaks.specs.SetUp.{IsFlagged}
 use Rattle.shapers_breaks.specs.KeptTextBreaks.{FlaggedInside}
 
@@ -171,3 +175,116 @@ row_moves_one = omega arith
 row_moves_two : OneMatraMoves (final_of "Deva") (script "Deva") kept_two → ⊥
 unfolding typed kept_two
 row_moves_two h = absurd (omega (arith, h))
+
+-- three numbers are not two
+none_of_three : (b c : ℕ) → (2 ≡ b) ⊎ (2 ≡ c) → (1 ≡ b) ⊎ (1 ≡ c) → (0 ≡ b) ⊎ (0 ≡ c) → ⊥
+none_of_three b c x y z = elim x [
+  | inl p ↦ elim y [ inl q ↦ absurd (omega arith) | inr q ↦ elim z [ inl r ↦ absurd (omega arith) | inr r ↦ absurd (omega arith) ] ]
+  | inr p ↦ elim y [ inl q ↦ elim z [ inl r ↦ absurd (omega arith) | inr r ↦ absurd (omega arith) ] | inr q ↦ absurd (omega arith) ]
+]
+
+-- Both reorderings of C H, a below-base Ra that the font could put before the base, and a left matra, of clusters
+-- 2 2 1 0. In the initial one the matra goes to the front, and C H fall to the cluster of Ra, which alone keeps a flag;
+-- in the final one the Ra, unformed, is the base, and falls to 0 with the matra, which moves before it: C H stay in
+-- cluster 1 without a flag, and place 2 is clear
+lost : List hb_glyph_info_t
+lost = typed 2 C 4 ∷ typed 2 H 4 ∷ typed 1 Ra 8 ∷ typed 0 M 2 ∷ []
+
+with_pref : Rules
+with_pref = record (plain_rules "Beng") {
+  masks = 0 ∷ 0 ∷ 0 ∷ 0 ∷ 16 ∷ 0 ∷ 0 ∷ 0 ∷ 0 ∷ 0 ∷ 0 ∷ 0 ∷ 0 ∷ 0 ∷ 0 ∷ 0 ∷ 0 ∷ [];
+  forms_pref = λ ids. true;
+}
+
+by_pref : Reordering
+by_pref = record {
+  circles = None;
+  order = initial_order with_pref (script "Beng");
+  steps = initial_steps with_pref (script "Beng");
+}
+
+syllable_of : ℕ → ℕ → ℕ → ℕ → hb_glyph_info_t
+syllable_of c mask category position = record (typed c category position) { mask = mask; syllable = 16 }
+
+between : List hb_glyph_info_t
+between = syllable_of 0 0 M 2 ∷ syllable_of 1 0 C 4 ∷ syllable_of 1 16 H 8 ∷ syllable_of 1 19 Ra 8 ∷ []
+
+four : List Span
+four = record { len = 4; kind = 0 } ∷ []
+
+row_lost : reordered_text by_pref MonotoneGraphemes (unsafe_spans four lost) ≡ between
+unfolding typed plain_rules lost with_pref by_pref syllable_of between four
+row_lost = refl
+
+lost_twice : List hb_glyph_info_t
+lost_twice = run_steps MonotoneGraphemes (final_steps (final_of "Beng") (script "Beng") between) between
+
+row_lost_twice : pairs lost_twice ≡ (1, 0) ∷ (1, 16) ∷ (0, 0) ∷ (0, 16) ∷ []
+unfolding typed pairs syllable_of between lost_twice
+row_lost_twice = refl
+
+row_clear_inside : IsClear lost_twice 2
+unfolding typed syllable_of between lost_twice
+row_clear_inside = record { differ = λ e. absurd (omega (arith, e)); unflagged = refl }
+
+row_not_kept : FlaggedInside between → ⊥
+unfolding typed syllable_of between
+row_not_kept all =
+    let P : hb_glyph_info_t → Type 0 = λ g. 0 < g.cluster → IsFlagged g in
+    let flags = All-get_or P between 1 default_glyph (omega arith) all (omega arith) in
+    absurd (omega (arith, flags.0))
+
+row_moves_one_lost : OneMatraMoves (final_of "Beng") (script "Beng") between
+unfolding typed syllable_of between
+row_moves_one_lost = omega arith
+
+-- where the syllable has two clusters it keeps its flags
+kept : List hb_glyph_info_t
+kept = typed 1 C 4 ∷ typed 1 H 4 ∷ typed 0 C 4 ∷ typed 0 C 8 ∷ typed 0 M 2 ∷ []
+
+row_kept : after "Deva" (unsafe_spans one kept) ≡ (0, 0) ∷ (1, 3) ∷ (1, 3) ∷ (0, 0) ∷ (0, 0) ∷ []
+unfolding typed plain_rules pairs after one kept
+row_kept = refl
+
+row_two : IsOfTwoClusters kept
+unfolding typed kept
+row_two =
+    let Two : hb_glyph_info_t → Type 0 = λ g. (g.cluster ≡ 1) ⊎ (g.cluster ≡ 0) in (
+      1,
+      0,
+      All-cons Two (typed 1 C 4) (typed 1 H 4 ∷ typed 0 C 4 ∷ typed 0 C 8 ∷ typed 0 M 2 ∷ []) (inl refl)
+          (All-cons Two (typed 1 H 4) (typed 0 C 4 ∷ typed 0 C 8 ∷ typed 0 M 2 ∷ []) (inl refl)
+          (All-cons Two (typed 0 C 4) (typed 0 C 8 ∷ typed 0 M 2 ∷ []) (inr refl)
+          (All-cons Two (typed 0 C 8) (typed 0 M 2 ∷ []) (inr refl)
+          (All-cons Two (typed 0 M 2) [] (inr refl) (All-nil Two))))),
+    )
+
+-- and not three
+row_three : IsOfTwoClusters lost → ⊥
+unfolding typed lost
+row_three two =
+    let Two : hb_glyph_info_t → Type 0 = λ g. (g.cluster ≡ two.0) ⊎ (g.cluster ≡ two.1) in
+    let a = All-get_or Two lost 0 default_glyph (omega arith) two.2 in
+    let b = All-get_or Two lost 2 default_glyph (omega arith) two.2 in
+    let c = All-get_or Two lost 3 default_glyph (omega arith) two.2 in
+    none_of_three two.0 two.1 a b c
+
+-- two matras that move part three clusters
+row_parts_two : PartsNothing (final_of "Deva") (script "Deva") kept_two → ⊥
+unfolding typed kept_two
+row_parts_two h = elim h [
+  | inl one ↦ absurd (omega (arith, one))
+  | inr two ↦
+      let Two : hb_glyph_info_t → Type 0 = λ g. (g.cluster ≡ two.0) ⊎ (g.cluster ≡ two.1) in
+      let a = All-get_or Two kept_two 1 default_glyph (omega arith) two.2 in
+      let b = All-get_or Two kept_two 4 default_glyph (omega arith) two.2 in
+      let c = All-get_or Two kept_two 0 default_glyph (omega arith) two.2 in
+      none_of_three two.0 two.1 a b c
+]
+
+row_parts_one : PartsNothing (final_of "Deva") (script "Deva") kept_one
+unfolding typed kept_one
+row_parts_one = inl (omega arith)
+
+row_parts_of_two : PartsNothing (final_of "Deva") (script "Deva") kept
+row_parts_of_two = inr row_two

@@ -1,8 +1,8 @@
 -- A text of Indic may be broken at every clear place after its initial reordering.
-use Rattle.std.proofs.Common.{ℕ, ◌-◌, ◌≡◌, ◌≢◌, List, ◌++◌, length, take, drop, get_or, sym, ap, ◌∙◌, subst, arith, length-drop, length-take}
+use Rattle.std.proofs.Common.{ℕ, ◌-◌, ◌≡◌, ◌≢◌, List, ◌++◌, length, take, drop, get_or, refl, sym, ap, ◌∙◌, subst, arith, length-drop, length-take}
 use Rattle.std.specs.Prelude.{Option}
 use Rattle.std.specs.List.{AllByRecursion, flat_map}
-use Rattle.std.proofs.lemmas.List.{length-map, length-take-le, map-append, take-append-drop}
+use Rattle.std.proofs.lemmas.List.{drop_at, length-map, length-take-le, map-append, take-append-drop, take_at}
 use Rattle.shapers_buffer.specs.declared.buffer.glyph.hb_glyph_info_t.{hb_glyph_info_t}
 use Rattle.shapers_buffer.specs.declared.buffer.level.BufferClusterLevel.{BufferClusterLevel}
 use Rattle.shapers_buffer.specs.declared.buffer.syllables.Span.{Span}
@@ -22,9 +22,13 @@ use Rattle.shapers_syllabic.specs.Borders.{spans_set_up}
 use Rattle.shapers_syllabic.specs.Circles.{circled}
 use Rattle.shapers_syllabic.specs.Syllabic.{unsafe_spans}
 use Rattle.shapers_syllabic.specs.declared.ot_shaper_syllabic.kinds.indic_syllable.TheConstants.{BROKEN_CLUSTER}
+use Rattle.shapers_syllabic.proofs.Borders.{syllables-append}
+use Rattle.shapers_syllabic.proofs.CircleLaws.{joined-syllables}
 use Rattle.shapers_syllabic.proofs.PauseCuts.{apart_by, clusters-set_up}
 use Rattle.rustybuzz_shapers.specs.Pauses.{Reordered, by_initial}
 use Rattle.shapers_breaks.specs.IndicBreaks.{InitialPausesBreak, InitialTextBreaks, JoinerShares, SpansPartClusters}
+use Rattle.shapers_breaks.specs.KeptTextBreaks.{SyllablesApart}
+use Rattle.shapers_breaks.specs.ScriptBreaks.{CanBreak}
 use Rattle.shapers_breaks.specs.SetUp.{SpanBorder}
 use Rattle.shapers_breaks.proofs.ApartPieces.{ApartAtBorders}
 use Rattle.shapers_breaks.proofs.CircledBorders.{apart_at}
@@ -65,6 +69,33 @@ cut_apart spans old gs k mono part long text = halves_apart spans old text.n mon
       ∙ sym text.count;
 })
 
+-- so at every border of the syllables that are set up
+set_up_pieces_apart : (spans : List Span) (old : Buffer) → CanBreak spans old → SpansPartClusters spans old.glyphs
+    → ApartAtBorders (syllables (unsafe_spans spans old.glyphs))
+set_up_pieces_apart spans old can part k =
+    let gs = old.glyphs in
+    let bare = unsafe_spans spans gs in
+    let under = set_up_guarded spans gs can.kinds can.covered in
+    let t = text_cut spans gs bare k can.covered (clusters-set_up spans BROKEN_CLUSTER old) under.as_long in
+    apart_by (flat_map (λ q. q) (take k (syllables bare))) (flat_map (λ q. q) (drop k (syllables bare)))
+    (take t.n gs) (drop t.n gs) (sym t.before) (sym t.behind)
+    (cut_apart spans gs bare k can.monotone part under.as_long t)
+
+pub set_up_apart : (spans : List Span) (old : Buffer) → CanBreak spans old → SpansPartClusters spans old.glyphs
+    → SyllablesApart (unsafe_spans spans old.glyphs)
+set_up_apart spans old can part before behind text border =
+    let id : Glyphs → Glyphs = λ q. q in
+    let pieces = syllables (unsafe_spans spans old.glyphs) in
+    let k = length (syllables before) in
+    let parts : pieces ≡ syllables before ++ syllables behind = ap syllables text
+    ∙ syllables-append before behind border in
+    let front : flat_map id (take k pieces) ≡ before = ap (λ ps. flat_map id (take k ps)) parts
+    ∙ ap (flat_map id) (take_at (syllables before) (syllables behind) k refl) ∙ joined-syllables before in
+    let back : flat_map id (drop k pieces) ≡ behind = ap (λ ps. flat_map id (drop k ps)) parts
+    ∙ ap (flat_map id) (drop_at (syllables before) (syllables behind) k refl) ∙ joined-syllables behind in
+    subst (λ xs. ShareNone xs behind) front (subst (ShareNone (flat_map id (take k pieces))) back
+    (set_up_pieces_apart spans old can part k))
+
 -- the initial reordering keeps flags
 flags_kept : OrderByFontLaws → (font : Font) (m : Map) (p : indic_shape_plan_t) (script : Option Script)
     (level : BufferClusterLevel) → KeepFlags (JoinerShares script) level (steps_by_font font m p script)
@@ -92,14 +123,8 @@ initial_pauses_break laws reads plan font spans unread old mid new can part join
     let set : Buffer = spans_set_up spans BROKEN_CLUSTER old in
     let bare = unsafe_spans spans gs in
     let law = laws font plan.ot_map indic mid.script in
-    let first_same = clusters-set_up spans BROKEN_CLUSTER old in
     let under = set_up_guarded spans gs can.kinds can.covered in
-    let cut : (k : ℕ) → TextCut spans gs bare k = λ k. text_cut spans gs bare k can.covered first_same under.as_long in
-    let apart : ApartAtBorders (syllables bare) = λ k.
-    let t = cut k in
-    apart_by (flat_map (λ q. q) (take k (syllables bare))) (flat_map (λ q. q) (drop k (syllables bare)))
-    (take t.n gs) (drop t.n gs) (sym t.before) (sym t.behind)
-    (cut_apart spans gs bare k can.monotone part under.as_long t) in
+    let apart = set_up_pieces_apart spans old can part in
     let done : Reordered by set new = subst (λ (b : Buffer). Reordered by b new) set_up reordered.0 in
     let shares : AllByRecursion (JoinerShares mid.script) (syllables (circled circles bare)) =
     subst (λ (b : Buffer). AllByRecursion (JoinerShares mid.script) (syllables (circled circles b.glyphs))) set_up joiners in
@@ -107,7 +132,7 @@ initial_pauses_break laws reads plan font spans unread old mid new can part join
     (flags_kept laws font plan.ot_map indic mid.script old.level) circles bare new.glyphs under.whole apart shares done.moved
     p z l clear in
     let k = border.count in
-    let t = cut k in
+    let t = text_cut spans gs bare k can.covered (clusters-set_up spans BROKEN_CLUSTER old) under.as_long in
     let pause : PauseCut circles spans gs bare p = record {
       count = k;
       within = border.within;

@@ -37,7 +37,7 @@ each_dropped P zero gs h = h
 each_dropped P (suc n) [] h = tt
 each_dropped P (suc n) (g ∷ gs) h = each_dropped P n gs h.1
 
-piece_opened : (P : ℕ → Type 0) (circles : Option DottedCircles) (piece : Glyphs) → Each P piece → Each P
+pub piece_opened : (P : ℕ → Type 0) (circles : Option DottedCircles) (piece : Glyphs) → Each P piece → Each P
     (opened_piece circles piece)
 piece_opened P None piece h = h
 piece_opened P (Some rule) [] h = tt
@@ -76,7 +76,7 @@ apart_opened circles ps qs none i j il jl =
     each_at (λ d. slice_index (clusters (flat_map (opened_piece circles) ps)) i ≢ d) os
     (each_at (λ c. Each (λ d. c ≢ d) os) (flat_map (opened_piece circles) ps) outer i il) j jl
 
-apart_mapped : (circles : Option DottedCircles) (pieces : List Glyphs) → ApartAtBorders pieces → ApartAtBorders
+pub apart_mapped : (circles : Option DottedCircles) (pieces : List Glyphs) → ApartAtBorders pieces → ApartAtBorders
     (map (opened_piece circles) pieces)
 apart_mapped circles pieces apart k =
     let F = opened_piece circles in

@@ -37,7 +37,7 @@ use Rattle.shapers_breaks.proofs.SetUp.{Glyphs}
 above : (m c : ℕ) → m ≤ c → c ≢ m → m < c
 above m c h ne = elim (cases_lt m c) [ inl a ↦ a | inr a ↦ absurd (ne (omega arith)) ]
 
-whole_syllable : (gs : Glyphs) → FlaggedInside gs → IsWhole gs
+pub whole_syllable : (gs : Glyphs) → FlaggedInside gs → IsWhole gs
 whole_syllable gs h =
     let m = least (clusters gs) in
     let P : hb_glyph_info_t → Type 0 = λ g. m < g.cluster → IsFlagged g in
@@ -54,23 +54,23 @@ pub all_whole : (pieces : List Glyphs) → AllByRecursion FlaggedInside pieces �
 all_whole [] h = tt
 all_whole (q ∷ qs) h = (whole_syllable q h.0, all_whole qs h.1)
 
--- and the other way round
-inside_whole : (gs : Glyphs) → IsWhole gs → FlaggedInside gs
-inside_whole gs h =
-    let d = default_glyph in
-    let m = least (clusters gs) in
+-- and whole syllables have their flags
+flagged_inside : (gs : Glyphs) → IsWhole gs → FlaggedInside gs
+flagged_inside gs whole =
+    let m = whole.0 in
+    let low = least (clusters gs) in
     let cluster : hb_glyph_info_t → ℕ = λ g. g.cluster in
     let n = length-map gs cluster in
-    All-from_get_or (λ g. m < g.cluster → IsFlagged g) gs d (λ i l.
-    let (k, kl, is) = least-among (clusters gs) (omega arith) in
-    let low = All-get_or (LeastOrFlagged h.0) gs k d (omega arith) h.1 in
-    let own = All-get_or (LeastOrFlagged h.0) gs i d l h.1 in
-    let at = get_or-map cluster gs k d 0 (omega arith) in
-    λ more. own.1 (λ e. absurd (omega (arith, low.0, e, more, is, at))))
+    All-from_get_or (λ (g : hb_glyph_info_t). low < g.cluster → IsFlagged g) gs default_glyph (λ i l above.
+    let at = least-among (clusters gs) (omega (arith, n, l)) in
+    let is = get_or-map cluster gs at.0 default_glyph 0 (omega (arith, n, at.1)) in
+    let first = All-get_or (LeastOrFlagged m) gs at.0 default_glyph (omega (arith, n, at.1)) whole.1 in
+    (All-get_or (LeastOrFlagged m) gs i default_glyph l whole.1).1
+    (λ e. absurd (omega (arith, e, above, at.2, is, first.0))))
 
-pub all_inside : (pieces : List Glyphs) → AllByRecursion IsWhole pieces → AllByRecursion FlaggedInside pieces
-all_inside [] h = tt
-all_inside (q ∷ qs) h = (inside_whole q h.0, all_inside qs h.1)
+pub all_flagged : (pieces : List Glyphs) → AllByRecursion IsWhole pieces → AllByRecursion FlaggedInside pieces
+all_flagged [] h = tt
+all_flagged (q ∷ qs) h = (flagged_inside q h.0, all_flagged qs h.1)
 
 -- halves of syllables that are apart
 pub apart_pieces : (gs : Glyphs) → SyllablesApart gs → ApartAtBorders (syllables gs)

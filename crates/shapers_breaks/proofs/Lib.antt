@@ -33,6 +33,7 @@ mod IndicBreakRows
 pub mod ChainBreaks
 mod ChainBreakRows
 pub mod KeptInside
+pub mod TwoClusters
 pub mod FinalBreaks
 pub mod MaskReads
 pub mod BetweenPauses
@@ -40,3 +41,13 @@ pub mod ErasedCircles
 pub mod UniversalChain
 pub mod NeedlessForms
 mod UniversalChainRows
+pub mod SideBySide
+pub mod ReorderedApart
+pub mod IndicChain
+mod IndicChainRows
+pub mod Pieces
+pub mod HookPieces
+pub mod SyllabicPieces
+pub mod PausePieces
+pub mod ShaperBreaks
+mod PieceRows

@@ -46,7 +46,7 @@ use Rattle.shapers_breaks.specs.PauseBreaks.{BrokenBetweenSpans, SpanCut}
 use Rattle.shapers_breaks.specs.ScriptBreaks.{FormsOffFlags}
 use Rattle.shapers_breaks.specs.SetUp.{SpanBorder}
 use Rattle.shapers_breaks.specs.UniversalChain.{ReadsOnly, UniversalChainBreaks, UniversalSoundChainBreaks, UniversalSoundPausesBreak, set_up_under, without_glyph_flags}
-use Rattle.shapers_breaks.proofs.KeptTextBreaks.{all_inside, text_breaks, text_breaks_clear}
+use Rattle.shapers_breaks.proofs.KeptTextBreaks.{all_flagged, text_breaks, text_breaks_clear}
 use Rattle.shapers_breaks.proofs.MaskReads.{flags-and}
 use Rattle.shapers_breaks.proofs.ScriptBreaks.{monotone_circled}
 use Rattle.shapers_breaks.proofs.SetUp.{Glyphs, IsGuarded, cover_cut, set_up_guarded, span_border}
@@ -513,5 +513,5 @@ universal_sound_pauses laws inside reads masks plan font spans unread old mid ne
         clear = clear;
       };
       reads = λ gs hs same. same;
-      flags = all_inside (syllables mid.glyphs) made.guarded.whole;
+      flags = all_flagged (syllables mid.glyphs) made.guarded.whole;
     }) (monotone_circled circles mid.glyphs few (subst IsMonotone (sym made.same) can.monotone)) done

@@ -1,5 +1,5 @@
 -- Where a text may be broken that Indic's final reordering has reordered.
-use Rattle.std.specs.Prelude.{ℕ, ◌<◌, ◌≤◌, ◌≡◌, true, List, ◌++◌, Option, length}
+use Rattle.std.specs.Prelude.{ℕ, ◌<◌, ◌≤◌, ◌≡◌, ◌⊎◌, true, List, ◌++◌, All, Option, length}
 use Rattle.std.specs.List.{AllByRecursion}
 use Rattle.shapers_buffer.specs.declared.buffer.glyph.hb_glyph_info_t.{hb_glyph_info_t}
 use Rattle.shapers_buffer.specs.declared.buffer.level.BufferClusterLevel.{BufferClusterLevel}
@@ -29,6 +29,17 @@ abbrev pub OneMatraMoves : Rules → Option Script → List hb_glyph_info_t → 
 OneMatraMoves r script syllable =
     let b = based r script syllable in length (matra_steps script b.base b.glyphs) ≤ 1
 
+-- all glyphs of the syllable are in one of two clusters
+abbrev pub IsOfTwoClusters : List hb_glyph_info_t → Type 0
+IsOfTwoClusters syllable =
+    (b : ℕ) × (c : ℕ) × All (λ g. (g.cluster ≡ b) ⊎ (g.cluster ≡ c)) syllable
+
+-- at most one left matra moves, or there are at most two clusters: glyphs aren't parted from one
+-- that alone kept the flags of their cluster
+abbrev pub PartsNothing : Rules → Option Script → List hb_glyph_info_t → Type 0
+PartsNothing r script syllable =
+    OneMatraMoves r script (order_view syllable) ⊎ IsOfTwoClusters syllable
+
 -- The text may be broken before place p of what the final reordering made of it: it was cut there
 -- between two syllables, into halves that share no cluster, and the whole is what becomes of these,
 -- one after the other, but for init at the start of the second.
@@ -43,13 +54,13 @@ pub record FinalBroken (r : Rules) (script : Option Script) (level : BufferClust
   pub halves : FinallyOfHalves r script level before behind new
 
 -- So at every clear place, of any text whose syllables kept their flags and share no cluster, where
--- in each at most one left matra moves.
+-- in each at most one left matra moves or there are at most two clusters.
 abbrev pub FinalTextBreaks : Type 0
 FinalTextBreaks = (plan : hb_ot_shape_plan_t) (font : Font) (unread : List Span)
     (old new : Buffer) → merges old.level ≡ true → FlagsKept old.glyphs →
     SyllablesApart old.glyphs →
     let r = final_rules font (indic_in plan) in
-    AllByRecursion (OneMatraMoves r old.script) (syllables (order_view old.glyphs)) →
+    AllByRecursion (PartsNothing r old.script) (syllables old.glyphs) →
     Paused FinalReordering plan font unread old new →
     (p : ℕ) → 0 < p → p < length new.glyphs → IsClear new.glyphs p →
     FinalBroken r old.script old.level old.glyphs new.glyphs p

@@ -18,3 +18,6 @@ pub mod FinalBreaks
 pub mod UniversalChain
 pub mod NeedlessForms
 pub mod BetweenPauses
+pub mod Pieces
+pub mod ShaperBreaks
+pub mod IndicChain

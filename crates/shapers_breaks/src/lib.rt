@@ -10,11 +10,13 @@ ghost use Rattle.shapers_breaks.specs.FinalBreaks.{FinalTextBreaks};
 ghost use Rattle.shapers_breaks.specs.HangulBreaks.{HangulBreaksLaw};
 ghost use Rattle.shapers_breaks.specs.HangulSound.{HangulSoundBreaksLaw};
 ghost use Rattle.shapers_breaks.specs.IndicBreaks.{InitialPausesBreak, InitialTextBreaks};
+ghost use Rattle.shapers_breaks.specs.IndicChain.{IndicChainBreaks, IndicPausesBreak, InitialReorderedApart};
 ghost use Rattle.shapers_breaks.specs.KeptFlags.{AddedFlagsClearNone, PausesClearNone};
 ghost use Rattle.shapers_breaks.specs.MarkBreaks.{MarksBreakLaw};
 ghost use Rattle.shapers_breaks.specs.PauseBreaks.{PausesBreakLaw};
 ghost use Rattle.shapers_breaks.specs.ScriptBreaks.{MyanmarHasNoRepha, PausesBreakBy, UniversalPausesBreak};
 ghost use Rattle.shapers_breaks.specs.SetUp.{SetUpBreaksLaw};
+ghost use Rattle.shapers_breaks.specs.ShaperBreaks.{LeavePiecesInTurn, MasksLeavePieces, PausesAreListed, PausesLeavePieces, ShapersBreakLaw};
 ghost use Rattle.shapers_breaks.specs.StretchBreaks.{StretchBreaksLaw};
 ghost use Rattle.shapers_breaks.specs.ThaiBreaks.{SaraAmsBreakLaw, ThaiFormsBreakLaw};
 ghost use Rattle.shapers_breaks.specs.ThaiSound.{ThaiSoundBreakLaw};
@@ -154,7 +156,8 @@ pub fn chain_breaks_law()
 }
 
 /// The final reordering of Indic may be broken at every clear place, of any text whose syllables
-/// kept their flags and share no cluster, where in each syllable at most one left matra moves.
+/// kept their flags and share no cluster, where in each at most one left matra moves or there are at
+/// most two clusters.
 pub fn final_breaks_law()
     ensures { FinalTextBreaks }
 {
@@ -187,3 +190,42 @@ pub fn between_pauses_law()
     ensures pauses { BetweenPausesLaw }
     ensures several { LeavesHalvesThen }
 {}
+
+/// The set-up of Indic and both reorderings may be broken at every clear place, with lookups in
+/// between that leave the halves' results side by side: where syllables share no cluster before
+/// either reordering, and before the final one kept their flags and are as it requires. Directly
+/// behind one another, where clusters rise or fall, syllables of two clusters require no more than
+/// that each border of spans is one of clusters.
+pub fn indic_breaks_law()
+    ensures chain { IndicChainBreaks }
+    ensures pauses { IndicPausesBreak }
+    ensures initial { InitialReorderedApart }
+{
+    initial_reorder_laws();
+    order_by_font_reads_no_serials();
+    final_reorder_laws();
+    final_text_laws();
+}
+
+/// Each shaper's text may be broken at every clear place, over the chain of its hooks and pauses, with
+/// anything in between and behind them that leaves the pieces' results side by side: what becomes of
+/// each piece by itself is what became of it in the text. The pauses are those of the shaper's own
+/// lists; those that change glyph by glyph leave results so, too, and so does one such thing behind
+/// another.
+pub fn shapers_break_law()
+    ensures laws { ShapersBreakLaw }
+    ensures pauses { PausesAreListed }
+    ensures masks { MasksLeavePieces }
+    ensures by_glyph { PausesLeavePieces }
+    ensures in_turn { LeavePiecesInTurn }
+{
+    khmer_reorder_laws();
+    khmer_reads_no_serials();
+    myanmar_reorder_laws();
+    myanmar_reads_no_serials();
+    initial_reorder_laws();
+    order_by_font_reads_no_serials();
+    script_breaks_law();
+    universal_chain_breaks_law();
+    indic_breaks_law();
+}

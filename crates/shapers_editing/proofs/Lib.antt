@@ -10,3 +10,5 @@ pub mod ShapedCarets
 pub mod Shared
 pub mod SpanEdits
 pub mod Stops
+pub mod PipelineBreaks
+mod PipelineBreakRows

@@ -6,3 +6,4 @@ pub mod EditedTexts
 pub mod MasksAgain
 pub mod ShapedCarets
 pub mod SpanEdits
+pub mod PipelineBreaks

@@ -12,4 +12,4 @@ pub use edits::{
     Edit, Unaffected, affected, affected_law, affected_spans, span_edits_law, syllable_edits_law,
 };
 pub use masks::masks_again_law;
-pub use pipeline::{normalization_edits_law, pipeline_carets_law};
+pub use pipeline::{normalization_edits_law, pipeline_breaks_law, pipeline_carets_law};

@@ -1,7 +1,9 @@
-//! Carets and edits of a text that is shaped all the way.
+//! Carets, edits and breaks of a text that is shaped all the way.
 ghost use Rattle.shapers_editing.specs.EditedNormal.{NormalizedOutside};
+ghost use Rattle.shapers_editing.specs.PipelineBreaks.{MasksSetInPieces, PipelineBreaks, ShaperStagesBreak, ShapingBreaks, StagesLeavePieces};
 ghost use Rattle.shapers_editing.specs.ShapedCarets.{ShapedTextHasCarets};
 
+use shapers_breaks::shapers_break_law;
 use shapers_normal::ot_shape_normalize::normalization_halves_law;
 use shapers_pipeline::pipeline_clusters_law;
 
@@ -22,4 +24,18 @@ pub fn normalization_edits_law()
     ensures { NormalizedOutside }
 {
     normalization_halves_law();
+}
+
+/// A text may be broken at every clear place behind the stages of its lookups, where these leave the
+/// pieces' results side by side and each pause does: what becomes of each piece by itself is what
+/// became of it in the text. From its fractions on, where its masks are set piece by piece; from its
+/// characters on, where these are prepared and normalized so.
+pub fn pipeline_breaks_law()
+    ensures stages { StagesLeavePieces }
+    ensures masks { MasksSetInPieces }
+    ensures texts { PipelineBreaks }
+    ensures shaping { ShapingBreaks }
+    ensures syllables { ShaperStagesBreak }
+{
+    shapers_break_law();
 }

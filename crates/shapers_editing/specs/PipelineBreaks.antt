@@ -1,0 +1,189 @@
+-- Where a text may be broken that was given to the stages of lookups; and one that was shaped up to
+-- the last of them.
+use Rattle.std.specs.Prelude.{ℕ, ◌≡◌, ◌⊎◌, true, List, [], Option, None, Some, map}
+use Rattle.shapers_base.specs.Font.{CharacterTables, Font}
+use Rattle.shapers_base.specs.declared.plan.hb_ot_shape_plan_t.{hb_ot_shape_plan_t}
+use Rattle.shapers_base.specs.declared.plan.pause.Pause.{Pause}
+use Rattle.shapers_base.specs.declared.plan.pause.Pause.TheVariants.{InitialReordering, ReorderKhmer, ReorderMyanmar, SetupSyllablesIndic, SetupSyllablesKhmer, SetupSyllablesMyanmar}
+use Rattle.shapers_buffer.specs.Buffer.{Buffer}
+use Rattle.shapers_buffer.specs.Glyph.{plain}
+use Rattle.shapers_buffer.specs.declared.buffer.glyph.hb_glyph_info_t.{hb_glyph_info_t}
+use Rattle.shapers_buffer.specs.declared.buffer.syllables.Span.{Span}
+use Rattle.shapers_clusters.specs.Breaks.{IsClear}
+use Rattle.shapers_syllabic.specs.Borders.{unnumbered}
+use Rattle.shapers_syllabic.specs.Syllabic.{unsafe_spans}
+use Rattle.rustybuzz_shapers.specs.Hooks.{MasksOffFlags}
+use Rattle.rustybuzz_shapers.specs.Pauses.{Paused, Reordered, Reordering, by_initial, by_khmer, by_myanmar}
+use Rattle.rustybuzz_shapers.specs.declared.shaper.hb_ot_shaper_t.{hb_ot_shaper_t}
+use Rattle.rustybuzz_shapers.specs.declared.shaper.hb_ot_shaper_t.TheVariants.{Arabic}
+use Rattle.shapers_breaks.specs.ChainBreaks.{IsSpanned, LeavesSideBySide}
+use Rattle.shapers_breaks.specs.KeptTextBreaks.{FlagsKept}
+use Rattle.shapers_breaks.specs.Pieces.{BreaksWhereCleared, CutAtSpans, CutBuffer, CutWhereClear, SameButFlags, SpannedText}
+use Rattle.shapers_breaks.specs.ShaperBreaks.{IsApart, IsInOrder, IsSparedAll, is_by_glyph, masks_by_glyph}
+use Rattle.shapers_plan.specs.declared.ot_map.lookups.Stage.{Stage}
+use Rattle.shapers_plan.specs.declared.ot_map.lookups.StageLookup.{StageLookup}
+use Rattle.shapers_pipeline.specs.ClusterLaws.{AtPauses, LookupsKeep}
+use Rattle.shapers_pipeline.specs.Lookups.{text_noted}
+use Rattle.shapers_pipeline.specs.Masks.{as_glyph, with_features}
+use Rattle.shapers_pipeline.specs.Prepared.{Preparation, text_in_fractions, text_prepared}
+use Rattle.shapers_pipeline.specs.ShaperSteps.{masks_set_for}
+use Rattle.shapers_pipeline.specs.Stages.{PauseRun, StagesRun, Substitution, stage_looked_up}
+
+-- Of every text without positions that is the same as a piece, whatever else its buffer has, a step
+-- makes the same as what it made of the piece.
+abbrev pub MakesSame : (Buffer → Buffer → Type 0) → List hb_glyph_info_t → List hb_glyph_info_t →
+    Type 0
+MakesSame Step piece made = (old new : Buffer) → old.positions ≡ [] →
+    SameButFlags old.glyphs piece → Step old new → SameButFlags new.glyphs made
+
+-- A step leaves the pieces' results of this text side by side: wherever what it made is clear, the
+-- text was, and it makes the parts of its pieces.
+abbrev pub StepLeavesPieces : (Buffer → Buffer → Type 0) → Buffer → Buffer → Type 0
+StepLeavesPieces Step old new =
+    BreaksWhereCleared (List hb_glyph_info_t) CutWhereClear (MakesSame Step) old.glyphs new.glyphs
+
+-- lookups that do so in every text
+abbrev pub LookupsLeavePieces : (StageLookup → Buffer → Buffer) → Type 0
+LookupsLeavePieces substituted = (lookup : StageLookup) (b : Buffer) → b.positions ≡ [] →
+    StepLeavesPieces (λ old new. new ≡ substituted lookup old) b (substituted lookup b)
+
+-- a pause that does: it changes glyph by glyph, or it does so in this text
+abbrev pub PauseLeaves : hb_ot_shape_plan_t → Font → Pause → Buffer → Buffer → Type 0
+PauseLeaves plan font pause old new =
+    (is_by_glyph pause ≡ true) ⊎ StepLeavesPieces (PauseRun pause plan font) old new
+
+-- So do stages of such lookups with such pauses: all of Arabic, Hangul, Hebrew, Thai, and of a text
+-- without a shaper; of the others those before syllables are set up, and those behind the last
+-- reordering.
+abbrev pub StagesLeavePieces : Type 0
+StagesLeavePieces = (r : Substitution) (ss : List Stage) (old new : Buffer) →
+    LookupsKeep r.substituted → LookupsLeavePieces r.substituted → old.positions ≡ [] →
+    (run : StagesRun r ss old new) → AtPauses (PauseLeaves r.plan r.font) r ss old new run →
+    StepLeavesPieces (StagesRun r ss) old new
+
+-- A buffer cut in two where its text is clear.
+pub record CutBufferWhereClear (whole before behind : Buffer) : Type 0 where
+  pub cut : CutBuffer whole before behind
+  pub clear : IsClear whole.glyphs cut.place
+
+-- a text's masks are set piece by piece
+abbrev pub MasksInPieces : Option hb_ot_shaper_t → hb_ot_shape_plan_t → CharacterTables →
+    Buffer → Type 0
+MasksInPieces shaper plan tables b =
+    let set = masks_set_for shaper plan tables in
+    BreaksWhereCleared Buffer CutBufferWhereClear
+    (λ piece made. SameButFlags (set piece).glyphs made) b (set b).glyphs
+
+-- So they are without a shaper and where they are set glyph by glyph; and for Arabic with Sound, or
+-- where Sound would flag no more.
+abbrev pub MaskedSo : Option hb_ot_shaper_t → hb_ot_shape_plan_t → CharacterTables → Buffer → Type 0
+MaskedSo None plan tables b = Unit {0}
+MaskedSo (Some Arabic) plan tables b = IsSparedAll plan tables b
+MaskedSo (Some shaper) plan tables b =
+    (masks_by_glyph shaper ≡ true) × MasksOffFlags plan.plan_data
+
+abbrev pub MasksSetInPieces : Type 0
+MasksSetInPieces = (shaper : Option hb_ot_shaper_t) (plan : hb_ot_shape_plan_t)
+    (tables : CharacterTables) (b : Buffer) → MaskedSo shaper plan tables b →
+    MasksInPieces shaper plan tables b
+
+-- what the lookups keep beside a glyph doesn't depend on its cluster, glyph flags or serial
+pub record NotesReadOrder (noted : hb_glyph_info_t → ℕ) : Type 0 where
+  pub viewed : (g : hb_glyph_info_t) → noted g ≡ noted (plain g)
+  pub counted : (g : hb_glyph_info_t) → noted g ≡ noted (unnumbered g)
+
+-- A text from its fractions on: its masks, glyphs and notes.
+abbrev pub glyphs_made : Preparation → (hb_glyph_info_t → ℕ) → Buffer → Buffer
+glyphs_made p noted b =
+    let masked = masks_set_for p.shaper p.plan p.tables b in
+    let featured = map (with_features p.ranges) masked.glyphs in
+    text_noted noted (record masked { glyphs = map as_glyph featured })
+
+-- what the law of the whole pipeline needs of it, besides its pauses: no features in ranges
+pub record LeavesAllPieces (p : Preparation) (noted : hb_glyph_info_t → ℕ) (r : Substitution)
+    (old : Buffer) : Type 0 where
+  pub no_ranges : p.ranges ≡ []
+  pub masks : MasksInPieces p.shaper p.plan p.tables old
+  pub notes : NotesReadOrder noted
+  pub lookups_keep : LookupsKeep r.substituted
+  pub lookups : LookupsLeavePieces r.substituted
+  pub positions : old.positions ≡ []
+
+-- A text from its fractions on, up to the last stage, may be broken at every clear place: what
+-- becomes of each piece by itself is what became of it in the text.
+abbrev pub PipelineBreaks : Type 0
+PipelineBreaks = (p : Preparation) (noted : hb_glyph_info_t → ℕ) (r : Substitution)
+    (ss : List Stage) (old new : Buffer) → LeavesAllPieces p noted r old →
+    (run : StagesRun r ss (glyphs_made p noted old) new) →
+    AtPauses (PauseLeaves r.plan r.font) r ss (glyphs_made p noted old) new run →
+    BreaksWhereCleared Buffer CutBufferWhereClear (λ piece made. (one : Buffer) →
+    StagesRun r ss (glyphs_made p noted piece) one → SameButFlags one.glyphs made) old new.glyphs
+
+-- Two pieces of a text's characters, in either order, that are prepared and normalized to these.
+pub record PreparedOf (p : Preparation) (old front back : Buffer) : Type 0 where
+  pub before : Buffer
+  pub behind : Buffer
+  pub pieces : CutBuffer old before behind ⊎ CutBuffer old behind before
+  pub first : text_in_fractions p before ≡ front
+  pub second : text_in_fractions p behind ≡ back
+
+-- so wherever the text, prepared and normalized, is clear: what the law of the whole needs here
+abbrev pub PreparedInPieces : Preparation → Buffer → Type 0
+PreparedInPieces p old = (front back : Buffer) →
+    CutBufferWhereClear (text_in_fractions p old) front back → PreparedOf p old front back
+
+-- the same from a text's characters on
+abbrev pub ShapingBreaks : Type 0
+ShapingBreaks = (p : Preparation) (noted : hb_glyph_info_t → ℕ) (r : Substitution)
+    (ss : List Stage) (old new : Buffer) → PreparedInPieces p old →
+    LeavesAllPieces p noted r (text_in_fractions p old) →
+    (run : StagesRun r ss (text_noted noted (text_prepared p old)) new) →
+    AtPauses (PauseLeaves r.plan r.font) r ss (text_noted noted (text_prepared p old)) new run →
+    BreaksWhereCleared Buffer (λ whole before behind. CutBuffer whole before behind
+    ⊎ CutBuffer whole behind before) (λ piece made. (one : Buffer) →
+    StagesRun r ss (text_noted noted (text_prepared p piece)) one → SameButFlags one.glyphs made)
+    old new.glyphs
+
+-- what the lookups of a stage make of glyphs, in a buffer that has them
+abbrev pub glyphs_looked_up : Substitution → Stage → Buffer → List hb_glyph_info_t →
+    List hb_glyph_info_t
+glyphs_looked_up r s b gs = (stage_looked_up r s (record b { glyphs = gs })).glyphs
+
+-- A piece, with its spans, by itself: set up, given to the lookups of the stage that ends with the
+-- reordering, reordered, with circles as the whole has them, and given to the stages behind.
+abbrev pub StagedPiece : Substitution → Stage → List Stage → Reordering → Buffer → SpannedText →
+    List hb_glyph_info_t → Type 0
+StagedPiece r second ss reordering mid piece made = (one two : Buffer) →
+    let set_up = unsafe_spans piece.spans piece.glyphs in
+    let looked = glyphs_looked_up r second mid set_up in
+    Reordered reordering (record (stage_looked_up r second mid) { glyphs = looked }) one →
+    StagesRun r ss one two → SameButFlags two.glyphs made
+
+-- A set-up, the stage that ends with the reordering, and the stages behind: the text that is set up
+-- may be broken at every clear place behind the last stage, where the lookups between the two
+-- pauses leave halves side by side and take no flag.
+abbrev pub SyllabicStagesBreak : Pause → Pause →
+    (hb_ot_shape_plan_t → Font → Buffer → Reordering) → (Reordering → Buffer → Type 0) → Type 0
+SyllabicStagesBreak set_up pause by IsSo =
+    (r : Substitution) (second : Stage) (ss : List Stage) (spans unread : List Span)
+    (old mid reordered new : Buffer) → LookupsKeep r.substituted →
+    LookupsLeavePieces r.substituted → old.positions ≡ [] →
+    IsSpanned spans old →
+    Paused set_up r.plan r.font spans old mid →
+    let between = stage_looked_up r second mid in
+    let reordering = by r.plan r.font between in
+    LeavesSideBySide (glyphs_looked_up r second mid) mid.glyphs → FlagsKept between.glyphs →
+    IsSo reordering between →
+    Paused pause r.plan r.font unread between reordered →
+    (run : StagesRun r ss reordered new) →
+    AtPauses (PauseLeaves r.plan r.font) r ss reordered new run →
+    let text : SpannedText = record { spans = spans; glyphs = old.glyphs } in
+    BreaksWhereCleared SpannedText CutAtSpans (StagedPiece r second ss reordering mid) text
+    new.glyphs
+
+-- so of Khmer and Myanmar, and of Indic up to what follows its initial reordering
+abbrev pub ShaperStagesBreak : Type 0
+ShaperStagesBreak =
+    SyllabicStagesBreak SetupSyllablesKhmer ReorderKhmer by_khmer IsInOrder
+    × (SyllabicStagesBreak SetupSyllablesMyanmar ReorderMyanmar (λ plan. by_myanmar) IsInOrder
+    × SyllabicStagesBreak SetupSyllablesIndic InitialReordering by_initial IsApart)
