@@ -352,7 +352,8 @@ pub between_pauses : BetweenPausesLaw
 between_pauses plan font spans old new =
     let mask = rphf_of plan.plan_data in
     record {
-      cleared = leaves_halves (λ gs. map unsubstituted gs) (unsubstituted_between without_glyph_flags (λ g. refl)) old new;
+      cleared = leaves_halves (λ gs. map unsubstituted gs)
+          (unsubstituted_between without_glyph_flags (λ g. refl)) old new;
       rphf = λ off. leaves_halves (λ gs. flat_map (rphf_recorded mask) (syllables gs))
           (rphf_between without_glyph_flags flags_show mask
           (λ g. ap (λ n. not (n == 0)) (mask_read g.mask mask off))) old new;

@@ -19,14 +19,12 @@ use Rattle.shapers_syllabic.specs.declared.ot_shaper_syllabic.kinds.indic_syllab
 use Rattle.shapers_syllabic.specs.declared.ot_shaper_syllabic.kinds.khmer_syllable.TheConstants.{BROKEN_CLUSTER as BROKEN_KHMER}
 use Rattle.shapers_syllabic.specs.declared.ot_shaper_syllabic.kinds.myanmar_syllable.TheConstants.{BROKEN_CLUSTER as BROKEN_MYANMAR}
 use Rattle.shapers_syllabic.specs.Borders.{SameButSerials, spans_set_up, unnumbered}
-use Rattle.shapers_syllabic.specs.Characters.{with_category, with_category_and_position}
 use Rattle.shapers_syllabic.specs.Reordering.{carried}
 use Rattle.shapers_syllabic.specs.ReorderingLaws.{ReadsNoSerials, ReorderLaws, paused_carried, paused_order}
 use Rattle.shapers_syllabic.specs.Syllabic.{unsafe_spans}
 use Rattle.shapers_syllabic.proofs.PauseCuts.{apart_by}
 use Rattle.shapers_syllabic.proofs.Serials.{same-view, same_text}
 use Rattle.rustybuzz_shapers.specs.Pauses.{Reordered, Reordering, by_initial, by_khmer, by_myanmar}
-use Rattle.rustybuzz_shapers.specs.declared.shaper.hb_ot_shaper_t.TheVariants.{Indic, Khmer, Myanmar}
 use Rattle.shapers_breaks.specs.ChainBreaks.{IsSpanned, LeavesSideBySide, LookedUp}
 use Rattle.shapers_breaks.specs.IndicChain.{reordered_text}
 use Rattle.shapers_breaks.specs.KeptTextBreaks.{KeptTextBreaks, KeptTextBroken}

@@ -23,7 +23,7 @@ pub record LeavesHalves (old new : Buffer) : Type 0 where
   pub reads : ReadsOnly without_glyph_flags made
   pub flags : (gs : List hb_glyph_info_t) → FlagsKept gs → FlagsKept (made gs)
 
--- so what clears marks of substitution and what records; that of rphf if its mask isn't a glyph flag
+-- so what clears marks of substitution, and the records; that of rphf if its mask has no glyph flag
 pub record PausesLeaveHalves (plan : hb_ot_shape_plan_t) (font : Font) (spans : List Span)
     (old new : Buffer) : Type 0 where
   pub cleared : Paused ClearSubstitutionFlags plan font spans old new → LeavesHalves old new

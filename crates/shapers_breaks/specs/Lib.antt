@@ -16,8 +16,8 @@ pub mod IndicBreaks
 pub mod ChainBreaks
 pub mod FinalBreaks
 pub mod UniversalChain
+pub mod NeedlessForms
+pub mod BetweenPauses
 pub mod Pieces
 pub mod ShaperBreaks
 pub mod IndicChain
-pub mod NeedlessForms
-pub mod BetweenPauses
