@@ -53,7 +53,8 @@ pub joined_parts : (whole front back one two : Glyphs) → whole ≡ front ++ ba
 joined_parts whole front back one two parts long order in_clusters =
     let n = length front in
     let of : hb_glyph_info_t → ℕ = λ g. g.cluster in
-    let views : order_view front ++ order_view back ≡ order_view one ++ order_view two = sym (map-append plain front back)
+    let views : order_view front ++ order_view back ≡ order_view one ++ order_view two =
+    sym (map-append plain front back)
     ∙ ap order_view (sym parts) ∙ order in
     let cs : clusters front ++ clusters back ≡ clusters one ++ clusters two = sym (map-append of front back)
     ∙ ap clusters (sym parts) ∙ in_clusters in
@@ -170,7 +171,8 @@ thai_broken plan font old new so hooked p z l clear =
 pub thai_text : ThaiTextBreaks
 thai_text plan font behind old new so hooked leaves =
     hook_behind (Preprocessed Thai plan font) behind old new.glyphs
-    (λ front back cut. text_pieces (Preprocessed Thai plan font) (preprocessed_in_thai plan font) (thai_of plan font) old
+    (λ front back cut. text_pieces (Preprocessed Thai plan font) (preprocessed_in_thai plan font)
+    (thai_of plan font) old
     new front back cut.parts (thai_broken plan font old new so hooked (length front) cut.some_in_front
     (within_parts new.glyphs front back cut) (subst (λ gs. IsClear gs (length front)) refl cut.clear))) leaves
 
@@ -254,9 +256,11 @@ masks_leave Hangul plan tables old new by off is =
 masks_leave Indic plan tables old new by off is =
     glyphs_masked (masked_by_glyph Indic plan tables) (positions_read tables) old new (ap (λ (b : Buffer). b.glyphs) is)
 masks_leave Khmer plan tables old new by off is =
-    glyphs_masked (masked_by_glyph Khmer plan tables) (categories_read tables) old new (ap (λ (b : Buffer). b.glyphs) is)
+    glyphs_masked (masked_by_glyph Khmer plan tables) (categories_read tables) old new
+    (ap (λ (b : Buffer). b.glyphs) is)
 masks_leave Myanmar plan tables old new by off is =
-    glyphs_masked (masked_by_glyph Myanmar plan tables) (categories_read tables) old new (ap (λ (b : Buffer). b.glyphs) is)
+    glyphs_masked (masked_by_glyph Myanmar plan tables) (categories_read tables) old new
+    (ap (λ (b : Buffer). b.glyphs) is)
 masks_leave Hebrew plan tables old new by off is =
     glyphs_masked (λ g. g) still old new (ap (λ (b : Buffer). b.glyphs) is.1 ∙ sym (map-id old.glyphs))
 masks_leave MyanmarZawgyi plan tables old new by off is =
@@ -288,7 +292,8 @@ joined_by plan tables b = buffer_joined (breaks_of plan.plan_data) (masks_of pla
 
 pub joining_adds : (plan : hb_ot_shape_plan_t) (tables : CharacterTables) (b : Buffer)
     → OnlyFlagsAdded b.glyphs (joined_by plan tables b).glyphs
-joining_adds plan tables b = joined_added (breaks_of plan.plan_data) (masks_of plan.plan_data) plan.script tables.joining
+joining_adds plan tables b = joined_added (breaks_of plan.plan_data)
+    (masks_of plan.plan_data) plan.script tables.joining
     tables.general b (joined_by plan tables b) refl
 
 pub clusters-joined : (plan : hb_ot_shape_plan_t) (tables : CharacterTables) (b : Buffer)
@@ -296,7 +301,8 @@ pub clusters-joined : (plan : hb_ot_shape_plan_t) (tables : CharacterTables) (b 
 clusters-joined plan tables b = same_clusters b.glyphs (joined_by plan tables b).glyphs (joining_adds plan tables b)
 
 -- a text that was joined, cut at a clear place
-pub record JoinedInTwo (plan : hb_ot_shape_plan_t) (tables : CharacterTables) (old : Buffer) (front back : Glyphs) : Type 0
+pub record JoinedInTwo (plan : hb_ot_shape_plan_t) (tables : CharacterTables) (old : Buffer)
+    (front back : Glyphs) : Type 0
   where
     pub within : length front < length old.glyphs
     pub first : SameButFlags (joined_by plan tables (front_at (length front) old)).glyphs front
@@ -361,9 +367,11 @@ marks_text : (shaper : hb_ot_shaper_t) → KeepsLength shaper → MarkedBreaks s
 marks_text shaper keeps s e behind old new h l can inside done leaves =
     let gs = old.glyphs in
     let text : MarkedText = record { start = s; end = e; glyphs = gs } in
-    let Makes : MarkedText → Glyphs → Type 0 = λ x ys. SameButFlags (marks_after shaper old.level x.start x.end x.glyphs)
+    let Makes : MarkedText → Glyphs → Type 0 = λ x ys. SameButFlags
+    (marks_after shaper old.level x.start x.end x.glyphs)
     ys in
-    let many : length new.glyphs ≡ length gs = ap length (keeps.is s e old new done) ∙ keeps.long old.level s e gs h l in
+    let many : length new.glyphs ≡ length gs = ap length (keeps.is s e old new done)
+    ∙ keeps.long old.level s e gs h l in
     behind_pieces MarkedText CutAroundMarks Makes (MarkedPiece shaper old.level behind) behind text new.glyphs
     (λ x ys zs own made. made (marks_after shaper old.level x.start x.end x.glyphs) own)
     (λ front back cut.
@@ -376,7 +384,8 @@ marks_text shaper keeps s e behind old new h l can inside done leaves =
     let b = marks_after shaper old.level (s - p) (e - p) (drop p gs) in
     let long : length a ≡ length front = keeps.long old.level (min s p) (min e p) (take p gs) (omega (arith, h))
     (omega (arith, cut_long)) ∙ cut_long in
-    let parts = joined_parts new.glyphs front back a b cut.parts long (ap order_view broken.halves ∙ map-append plain a b)
+    let parts = joined_parts new.glyphs front back a b cut.parts long (ap order_view broken.halves
+    ∙ map-append plain a b)
     (ap clusters broken.halves ∙ map-append (λ g. g.cluster) a b) in
     record {
       before = record { start = min s p; end = min e p; glyphs = take p gs };
@@ -417,6 +426,8 @@ bare_text behind old new so is leaves =
         front = refl;
         back = refl;
       };
-      first = λ b h. subst (λ xs. SameButFlags xs front) (sym (ap (λ (b : Buffer). b.glyphs) h ∙ is_front)) (own_text front);
-      second = λ b h. subst (λ xs. SameButFlags xs back) (sym (ap (λ (b : Buffer). b.glyphs) h ∙ is_back)) (own_text back);
+      first = λ b h. subst (λ xs. SameButFlags xs front)
+          (sym (ap (λ (b : Buffer). b.glyphs) h ∙ is_front)) (own_text front);
+      second = λ b h. subst (λ xs. SameButFlags xs back)
+          (sym (ap (λ (b : Buffer). b.glyphs) h ∙ is_back)) (own_text back);
     }) leaves

@@ -30,8 +30,11 @@ row_other_cluster same = absurd (omega (arith, ap (λ cs. slice_index cs 0) same
 
 row_other_mask : SameButFlags (glyph 5 0 0 0 ∷ []) (glyph 5 0 8 0 ∷ []) → ⊥
 unfolding glyph
-row_other_mask same = absurd (omega
-    (arith, ap (λ ps. slice_index (map (λ (p : List hb_glyph_info_t). slice_index (map (λ g. g.mask) p) 0) ps) 0) same.0))
+row_other_mask same = absurd (omega (
+  arith,
+  ap (λ ps. slice_index (map (λ (p : List hb_glyph_info_t).
+      slice_index (map (λ g. g.mask) p) 0) ps) 0) same.0,
+))
 
 row_other_kind : SameButFlags (glyph 5 0 0 0x12 ∷ []) (glyph 5 0 0 0x13 ∷ []) → ⊥
 unfolding glyph
@@ -40,7 +43,8 @@ row_other_kind same = absurd (omega (
   ap (λ ps. slice_index (map (λ (p : List hb_glyph_info_t). slice_index (map (λ g. g.syllable) p) 0) ps) 0) same.0,
 ))
 
-row_other_border : SameButFlags (glyph 5 0 0 0x12 ∷ glyph 6 0 0 0x12 ∷ []) (glyph 5 0 0 0x12 ∷ glyph 6 0 0 0x22 ∷ []) → ⊥
+row_other_border : SameButFlags (glyph 5 0 0 0x12 ∷ glyph 6 0 0 0x12 ∷ [])
+    (glyph 5 0 0 0x12 ∷ glyph 6 0 0 0x22 ∷ []) → ⊥
 unfolding glyph
 row_other_border same = absurd (omega (arith, ap length same.0))
 
@@ -71,7 +75,11 @@ apart_ones zero (suc zero) il jl same = absurd (omega (arith, same))
 apart_ones zero (suc (suc j)) il jl same = absurd (omega (arith, jl))
 apart_ones (suc i) j il jl same = absurd (omega (arith, il))
 
-row_at_spans : CutAtSpans (record { spans = span 1 ∷ span 2 ∷ []; glyphs = glyph 5 0 0 0 ∷ glyph 6 1 0 0 ∷ glyph 7 1 0 0 ∷ [] })
+row_at_spans : CutAtSpans (record {
+  spans = span 1 ∷ span 2 ∷ [];
+  glyphs =
+      glyph 5 0 0 0 ∷ glyph 6 1 0 0 ∷ glyph 7 1 0 0 ∷ [];
+})
     (record { spans = span 1 ∷ []; glyphs = glyph 5 0 0 0 ∷ [] })
     (record { spans = span 2 ∷ []; glyphs = glyph 6 1 0 0 ∷ glyph 7 1 0 0 ∷ [] })
 unfolding glyph span
@@ -142,7 +150,8 @@ unfolding shown
 same_number gs hs same = sym (shown_number gs) ∙ ap number (same_text (order_view gs) (order_view hs) same.0)
     ∙ shown_number hs
 
-row_alone : (front back : List hb_glyph_info_t) → glyph 5 0 0 0 ∷ (glyph 6 1 0 0 ∷ []) ≡ front ++ back → 0 < length front
+row_alone : (front back : List hb_glyph_info_t) → glyph 5 0 0 0 ∷ (glyph 6 1 0 0 ∷ []) ≡ front ++ back
+    → 0 < length front
     → 0 < length back → number (looks_behind front) ≡ 9 → ⊥
 unfolding glyph looks_behind number
 row_alone [] back parts some more nine = absurd (omega (arith, some))

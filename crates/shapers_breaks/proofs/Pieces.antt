@@ -16,7 +16,8 @@ use Rattle.shapers_breaks.proofs.KeptFlags.{added_clear}
 use Rattle.shapers_breaks.proofs.SetUp.{Glyphs}
 
 -- what stands behind a step
-pub behind_pieces : (X : Type 0) (Cut : X → X → X → Type 0) (First Both : X → Glyphs → Type 0) (behind : Glyphs → Glyphs)
+pub behind_pieces : (X : Type 0) (Cut : X → X → X → Type 0) (First Both : X → Glyphs
+    → Type 0) (behind : Glyphs → Glyphs)
     (text : X) (mid : Glyphs) → ((x : X) (ys zs : Glyphs) → First x ys → MakesOf behind ys zs → Both x zs)
     → BreaksWhereCleared X Cut First text mid → LeavesPieces behind mid
     → BreaksWhereCleared X Cut Both text (behind mid)

@@ -49,7 +49,8 @@ but_serials gs hs same = (same-view gs hs same, same_clusters_too gs hs (same_te
 -- THE PARTS of a text at a place where a reordering may be broken
 part : (front order along : Glyphs) → order_view front ≡ order → map carried front ≡ along
     → combined order along ≡ front
-part front order along seen moved = ap (λ os. combined os along) (sym seen) ∙ ap (combined (order_view front)) (sym moved)
+part front order along seen moved = ap (λ os. combined os along) (sym seen)
+    ∙ ap (combined (order_view front)) (sym moved)
     ∙ seen_whole front
 
 parts_of : (r : Reordering) → ReorderLaws r.order r.steps → (level : BufferClusterLevel) (old new front back : Glyphs)
@@ -79,7 +80,8 @@ parts_of r laws level old new front back parts broken =
     )
 
 -- a text whose masks were set glyph by glyph, cut where these are
-record CutMasked (c : hb_glyph_info_t → hb_glyph_info_t) (gs : Glyphs) (front back : List Span) (before behind : Glyphs) :
+record CutMasked (c : hb_glyph_info_t → hb_glyph_info_t) (gs : Glyphs) (front back : List Span)
+    (before behind : Glyphs) :
     Type 0 where
   first_glyphs : Glyphs
   second_glyphs : Glyphs
@@ -135,11 +137,13 @@ chain_pieces c broken_kind r lookups spans old masked mid between reordered is f
     let at = made.cut in
     let own = cut_masked c old.glyphs at.front at.back at.before at.behind (sym is.masks ∙ at.text) in
     let (is_front, is_back) = parts_of r is.laws level between.glyphs reordered.glyphs front back cut.parts broken in
-    let results : (ss : List Span) (xs ys gs zs : Glyphs) → map c xs ≡ ys → SameButSerials gs (lookups (unsafe_spans ss ys))
+    let results : (ss : List Span) (xs ys gs zs : Glyphs) → map c xs ≡ ys
+    → SameButSerials gs (lookups (unsafe_spans ss ys))
     → reordered_text r level gs ≡ zs → Reorders r c lookups between (record { spans = ss; glyphs = xs }) zs =
     λ ss xs ys gs zs masks same result one done.
     let start = lookups (unsafe_spans ss (map c xs)) in
-    let first : SameButSerials start gs = sym (subst (λ hs. SameButSerials gs (lookups (unsafe_spans ss hs))) (sym masks)
+    let first : SameButSerials start gs = sym (subst (λ hs. SameButSerials gs (lookups (unsafe_spans ss hs)))
+    (sym masks)
     same) in
     subst (λ hs. SameButFlags hs zs) (sym (text_is r (record between { glyphs = start }) one done))
     (subst (SameButFlags (reordered_text r level start)) result
@@ -151,7 +155,8 @@ chain_pieces c broken_kind r lookups spans old masked mid between reordered is f
       pieces = record {
         split = at.split;
         parts = own.glyphs;
-        first = ap (λ n. spans_cover n at.front) (sym (length-map own.first_glyphs c) ∙ ap length own.first_is) ∙ at.first;
+        first = ap (λ n. spans_cover n at.front) (sym (length-map own.first_glyphs c)
+            ∙ ap length own.first_is) ∙ at.first;
         second = ap (λ n. spans_cover n at.back) (sym (length-map own.second_glyphs c) ∙ ap length own.second_is)
             ∙ at.second;
         apart = apart_by own.first_glyphs own.second_glyphs at.before at.behind
@@ -164,7 +169,8 @@ chain_pieces c broken_kind r lookups spans old masked mid between reordered is f
     }
 
 -- and what stands behind it
-all_behind : (c : hb_glyph_info_t → hb_glyph_info_t) (broken_kind : ℕ) (r : Reordering) (lookups behind : Glyphs → Glyphs)
+all_behind : (c : hb_glyph_info_t → hb_glyph_info_t) (broken_kind : ℕ) (r : Reordering)
+    (lookups behind : Glyphs → Glyphs)
     (spans : List Span) (old masked mid between reordered new : Buffer)
     → IsChain c broken_kind r lookups spans old masked mid between reordered → LeavesPieces behind reordered.glyphs
     → new.glyphs ≡ behind reordered.glyphs → BreaksWhereCleared SpannedText CutAtSpans
@@ -172,7 +178,8 @@ all_behind : (c : hb_glyph_info_t → hb_glyph_info_t) (broken_kind : ℕ) (r : 
 all_behind c broken_kind r lookups behind spans old masked mid between reordered new chain leaves is =
     let text : SpannedText = record { spans = spans; glyphs = old.glyphs } in
     subst (BreaksWhereCleared SpannedText CutAtSpans (SyllabicPiece r c lookups behind between) text) (sym is)
-    (behind_pieces SpannedText CutAtSpans (Reorders r c lookups between) (SyllabicPiece r c lookups behind between) behind
+    (behind_pieces SpannedText CutAtSpans (Reorders r c lookups between)
+    (SyllabicPiece r c lookups behind between) behind
     text reordered.glyphs (λ x ys zs own made one done. made one.glyphs (own one done))
     (chain_pieces c broken_kind r lookups spans old masked mid between reordered chain) leaves)
 
@@ -211,7 +218,8 @@ pub myanmar_text : MyanmarReorderLaws → MyanmarMovesMerged → MyanmarReadsNoS
     → SyllabicBreaks SetupSyllablesMyanmar ReorderMyanmar (λ plan. by_myanmar) IsInOrder
 myanmar_text laws inside reads plan font change lookups behind spans old new run mono =
     let r = by_myanmar font run.between in
-    all_behind change BROKEN_MYANMAR r lookups behind spans old run.masked run.mid run.between run.reordered new (record {
+    all_behind change BROKEN_MYANMAR r lookups behind spans old run.masked run.mid run.between run.reordered new
+    (record {
       keeps = clusters-changed change run.clusters_stay;
       masks = run.masks;
       spanned = run.spanned;
@@ -220,7 +228,8 @@ myanmar_text laws inside reads plan font change lookups behind spans old new run
       laws = laws;
       reads = reads;
       breaks = text_breaks r.order r.steps laws inside r.circles run.between run.reordered
-          (merging_still spans BROKEN_MYANMAR lookups run.masked run.mid run.between run.spanned run.syllables run.looked)
+          (merging_still spans BROKEN_MYANMAR lookups run.masked run.mid run.between run.spanned run.syllables
+          run.looked)
           run.looked.flags mono run.order;
     }) run.side_by_side run.glyphs
 

@@ -1,4 +1,4 @@
--- Stages of lookups and their pauses leave the results of a text's pieces side by side, and so does the whole from its masks on.
+-- Stages of lookups and their pauses leave the results of pieces side by side, and so does all from a text's masks on.
 use Rattle.std.proofs.Common.{ℕ, ◌<◌, ◌≡◌, if◌then◌else◌, Bool, true, false, List, [], ◌∷◌, length, take, drop, map, length-append, refl, sym, ap, ◌∙◌, subst, arith, inl, inr}
 use Rattle.std.specs.Prelude.{Option, None, Some}
 use Rattle.std.proofs.lemmas.Bool.{false≢true}
@@ -45,7 +45,8 @@ Glyphs = List hb_glyph_info_t
 abbrev InTurn : (S T : Buffer → Buffer → Type 0) → Buffer → Buffer → Type 0
 InTurn S T old new = (mid : Buffer) × (S old mid × ((mid.positions ≡ []) × T mid new))
 
-in_turn : (S T U : Buffer → Buffer → Type 0) → ((old new : Buffer) → old.positions ≡ [] → U old new → InTurn S T old new)
+in_turn : (S T U : Buffer → Buffer → Type 0) → ((old new : Buffer) → old.positions ≡ [] → U old new
+    → InTurn S T old new)
     → (a b c : Buffer) → StepLeavesPieces S a b → StepLeavesPieces T b c → StepLeavesPieces U a c
 in_turn S T U apart a b c one two front back cut =
     let made = two front back cut in
@@ -227,7 +228,8 @@ masked_each law shaper plan tables old by off set front back cut =
     let made : Buffer → Buffer = λ b. masks_set_by plan tables b shaper in
     let gs = old.glyphs in
     let n = length front in
-    let of : (b : Buffer) → (made b).glyphs ≡ change b.glyphs = λ b. (law shaper plan tables b (made b) by off (set b)).0 in
+    let of : (b : Buffer) → (made b).glyphs ≡ change b.glyphs = λ b. (law shaper plan tables b (made b) by off
+    (set b)).0 in
     let own = (law shaper plan tables old (made old) by off (set old)).1 front back
     (subst (λ xs. CutWhereClear xs front back) (of old) cut) in
     let as_long : length own.before ≡ n = sym (length-map own.before (masked_by_glyph shaper plan tables))
@@ -338,7 +340,8 @@ pipeline_breaks law p noted r ss old new so run pauses front back cut =
     let f = noted_glyph noted in
     let at : (b : Buffer) → b.positions ≡ [] → (glyphs_made p noted b).positions ≡ [] = λ b none.
     masked_positions p.shaper p.plan p.tables b ∙ none in
-    let staged = stages_leave law r ss (glyphs_made p noted old) new so.lookups_keep so.lookups (at old so.positions) run
+    let staged = stages_leave law r ss (glyphs_made p noted old) new so.lookups_keep so.lookups
+    (at old so.positions) run
     pauses front back cut in
     let glyphs = leaves_by_glyph f (reads_order f (reads_notes noted so.notes)) (set old).glyphs staged.before
     staged.behind (subst (λ gs. CutWhereClear gs staged.before staged.behind) (made_is p noted so.no_ranges old)
@@ -368,7 +371,8 @@ shaping_breaks law p noted r ss old new prepared so run pauses front back cut =
       before = own.before;
       behind = own.behind;
       pieces = own.pieces;
-      first = λ one ran. made.first one (subst (λ (b : Buffer). StagesRun r ss (glyphs_made p noted b) one) own.first ran);
+      first = λ one ran. made.first one (subst (λ (b : Buffer). StagesRun r ss
+          (glyphs_made p noted b) one) own.first ran);
       second = λ one ran. made.second one
           (subst (λ (b : Buffer). StagesRun r ss (glyphs_made p noted b) one) own.second ran);
     }
@@ -421,7 +425,8 @@ syllabic_stages set_up pause by IsSo law breaks first_keeps second_keeps r secon
       };
       glyphs = refl;
     }) so staged.before staged.behind staged.pieces in
-    let results : (piece : SpannedText) (ys zs : Glyphs) → SyllabicPiece reordering (λ g. g) lookups (λ gs. gs) between piece
+    let results : (piece : SpannedText) (ys zs : Glyphs) → SyllabicPiece reordering (λ g. g) lookups
+    (λ gs. gs) between piece
     ys → MakesSame (StagesRun r ss) ys zs → StagedPiece r second ss reordering mid piece zs =
     λ piece ys zs own makes one two order ran.
     let start = lookups (unsafe_spans piece.spans piece.glyphs) in
