@@ -174,6 +174,11 @@ pub passed_back : (f : List ℕ) (p : ℕ) (now : List ℕ) (q m least greatest 
     → Passing f p now q m least greatest → Passed f p now least greatest
 passed_back f p now q m least greatest e w = cycle_passed f p now q m least greatest (way_at (set now p q) p m q e) w
 
+pub passed_whole : (f : List ℕ) (p : ℕ) (now : List ℕ) (q m least greatest : ℕ) → m ≡ 0
+    → Passing f p now q m least greatest → Passed f p now least greatest
+passed_whole f p now q m least greatest e w =
+    cycle_passed f p now q m least greatest (ap (λ k. way_to (set now p q) p k q) e) w
+
 -- the same walk, its parts named otherwise
 pub passing_as : (f : List ℕ) (p : ℕ) (now now_1 : List ℕ) (q q_1 m m_1 least least_1 greatest greatest_1 : ℕ)
     → now_1 ≡ now → q_1 ≡ q → m_1 ≡ m → least_1 ≡ least → greatest_1 ≡ greatest → Passing f p now q m least greatest
@@ -298,21 +303,6 @@ once_listed s e places each =
     let all = subst (λ xs. IsPermutation xs (places_from s e places)) (from_range s (e - s)) moved in
     IsPermutation-keeps (range_with_len 0 (e - s)) EachOnce (once_range (e - s))
     (λ xs i j h k o. once-swap xs i j h k o) (places_from s e places) all
-
--- what a cycle merges lies within the syllable
-pub record Reach (s e base least greatest : ℕ) : Type 0 where
-  pub ordered : max base least ≤ greatest + 1
-  pub inside : s + greatest + 1 ≤ e
-
-pub cycle_reach : (s e base p : ℕ) (b0 b : Buffer) (least greatest : ℕ) → s ≤ e → base ≤ p → p < e - s
-    → Merging s e base p b0 b
-    → least ≡ fold min p (cycle (places_from s e b.places) p)
-    → greatest ≡ fold max p (cycle (places_from s e b.places) p) → Reach s e base least greatest
-cycle_reach s e base p b0 b least greatest k h l w low high =
-    let f = places_from s e b.places in
-    let n = length-places_from s e b.places in
-    let d = stretch_bounds f base p (omega (arith, n)) w.once in
-    record { ordered = omega (arith, d.least, d.greatest, low, high); inside = omega (arith, d.inside, high, n) }
 
 -- the merges by specification and length
 pub stretches_all : (old : Bool) (from : List ℕ) (base : ℕ) → (old || nat_lt 127 (length from)) ≡ true
