@@ -89,9 +89,6 @@ greatest_before P s (suc i) k is = elim (cases_lt i s) [
 pub least_first : (P : ℕ → Bool) (i n : ℕ) → i < n → least_place P i n ≡ cond (P i) (Some i) (least_place P (i + 1) n)
 least_first P i n l = ap (find P) (places_first i n l)
 
-pub least_further : (P : ℕ → Bool) (i n : ℕ) → i < n → P i ≡ false → least_place P i n ≡ least_place P (i + 1) n
-least_further P i n l e = least_first P i n l ∙ ap (λ b. cond b (Some i) (least_place P (i + 1) n)) e
-
 -- whether some place has a property, with the first place apart
 pub some_first : (P : ℕ → Bool) (i n : ℕ) → i < n → some_place P i n ≡ P i || some_place P (i + 1) n
 some_first P i n l = ap (list_any P) (places_first i n l)

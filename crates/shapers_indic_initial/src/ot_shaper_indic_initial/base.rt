@@ -27,7 +27,7 @@ pub(super) struct Base {
 /// Finds the base of a syllable and its reph.
 ///
 /// Ra, H with no other consonant forms no reph (0930 094D): Ra is the base then. With a ZWJ it does
-/// (0C30 0C4D 200D), since that asks for one.
+/// (0C30 0C4D 200D), since that requests one.
 #[inline]
 pub(super) fn find_base<F: hb_font_t>(rules: &Rules<F>, glyphs: &[hb_glyph_info_t]) -> Base
     ensures place { let font = F.font rules.now.face.now in
@@ -128,8 +128,8 @@ fn first_candidate(search: BaseSearch, glyphs: &[hb_glyph_info_t], start: usize)
     (start..glyphs.len()).find(|&place| may_be_base(search, glyphs, place))
 }
 
-// Whether the glyph at this place stops the search: a ZWJ behind an H asks for the half form of what
-// stands before (0915 094D 200D 0937). One before an H asks for the form below the base of what
+// Whether the glyph at this place stops the search: a ZWJ behind an H requests the half form of what
+// stands before (0915 094D 200D 0937). One before an H requests the form below the base of what
 // follows (09B0 200D 09CD 09AF), and the search goes on.
 #[inline]
 fn stops_search(glyphs: &[hb_glyph_info_t], place: usize) -> bool

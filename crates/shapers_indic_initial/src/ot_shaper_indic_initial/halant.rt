@@ -81,8 +81,8 @@ fn is_passed_by_halant(script: Option<Script>, glyph: &hb_glyph_info_t) -> bool
 
 /// Whether Kannada's opening Ra, H, ZWJ stands for Ra, ZWJ, H.
 ///
-/// Either asks for a whole Ra with what follows below it (0CB0 200D 0CCD 0C95); older texts have the
-/// ZWJ last (0CB0 0CCD 200D 0C95), where in other scripts it asks for a half form.
+/// Either requests a whole Ra with what follows below it (0CB0 200D 0CCD 0C95); older texts have the
+/// ZWJ last (0CB0 0CCD 200D 0C95), where in other scripts it requests a half form.
 #[inline]
 pub(super) fn joiner_comes_first(script: Option<Script>, glyphs: &[hb_glyph_info_t]) -> bool
     ensures { result ≡ joiner_comes_first script glyphs.now }

@@ -142,7 +142,7 @@ fn bits_after_base(plan: &indic_shape_plan_t) -> u32
 
 // Gives each Ra and H of an eyelash Ra the mask of below-base forms, where they have one. The older
 // specification has `blwf` for Ra below half forms, too, so before the base: in
-// 0924 094D 0930 094D 0915. A ZWJ behind its H asks for the eyelash form in place of that one:
+// 0924 094D 0930 094D 0915. A ZWJ behind its H requests the eyelash form in place of that one:
 // 0924 094D 0930 094D 200D 0915.
 #[inline]
 fn set_eyelash_mask(

@@ -93,12 +93,12 @@ fn move_to_end(buffer: &mut hb_buffer_t, from: usize, end: usize)
         but_places buffer.new ≡ record (but_places buffer.old) { glyphs = glyphs } }
     ensures moved { buffer.new.glyphs ≡ moved_behind from (end - 1) buffer.old.glyphs }
 {
-    let last = end - 1;
-    for place in from..last {
-        buffer.set_place(place, place + 1);
-    }
-    buffer.set_place(last, from);
-    buffer.apply(from, end, Placement::Listed);
+    let behind = Placement::Forward {
+        to: from,
+        from: from + 1,
+        count: end - from - 1,
+    };
+    buffer.apply(from, end, behind);
 }
 
 // Where a syllable stands whose glyphs get their positions by its base.

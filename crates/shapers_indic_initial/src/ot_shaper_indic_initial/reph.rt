@@ -15,8 +15,8 @@ use shapers_indic::ot_shaper_indic::glyphs::{is_joiner, number};
 use shapers_indic::ot_shaper_indic::indic_feature::RPHF;
 
 /// How many glyphs the reph that opens a syllable has, without joiners behind it; 0 if there is
-/// none. Which it is, the font decides: most form one of Ra, H (0930 094D 0915), Telugu only with a
-/// ZWJ behind them (0C30 0C4D 200D 0C15), and Malayalam has a character for it (0D4E 0D15).
+/// none. Most scripts have one where the font forms it of Ra, H (0930 094D 0915), Telugu of
+/// Ra, H, ZWJ (0C30 0C4D 200D 0C15), and Malayalam has a character for it (0D4E 0D15).
 #[inline]
 pub(crate) fn reph_len<F: hb_font_t>(rules: &Rules<F>, glyphs: &[hb_glyph_info_t]) -> usize
     ensures len { let font = F.font rules.now.face.now in
