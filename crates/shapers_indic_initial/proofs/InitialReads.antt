@@ -1,8 +1,8 @@
 -- What the initial reordering reads of glyphs: a view that shows another cluster, mask or syllable of
 -- each shows the same.
 use mathlib.Core.Path.{fun_ext}
-use Rattle.std.proofs.Common.{ℕ, zero, suc, ◌+◌, ◌-◌, ◌≡◌, ◌==◌, ◌&&◌, ◌||◌, min, not, Bool, cond, if◌then◌else◌, List, [], ◌∷◌, map, length, take, drop, Option, refl, ◌∙◌, ap}
-use Rattle.std.specs.Prelude.{nat_le, nat_lt, unwrap_or}
+use Rattle.std.proofs.Common.{ℕ, zero, suc, ◌+◌, ◌-◌, ◌≡◌, ◌==◌, ◌&&◌, ◌||◌, min, not, Bool, cond, if◌then◌else◌, List, [], ◌∷◌, map, length, take, drop, Option, refl, ◌∙◌, ap, max, flat_map}
+use Rattle.std.specs.Prelude.{nat_le, nat_lt, unwrap_or, filter, fold}
 use Rattle.std.specs.List.{prefix_len}
 use Rattle.std.specs.Option.{option_map_or, option_or}
 use Rattle.std.proofs.lemmas.List.{drop-map, length-map, take-map}
@@ -13,12 +13,12 @@ use Rattle.shapers_base.specs.declared.font.GlyphId.{GlyphId}
 use Rattle.shapers_base.specs.declared.plan.indic.RephMode.{RephMode}
 use Rattle.shapers_base.specs.declared.plan.indic.RephMode.TheVariants.{Explicit, Implicit, LogRepha}
 use Rattle.shapers_base.specs.declared.plan.ot_category_t.TheConstants.{OT_H, OT_ZWJ}
-use Rattle.shapers_base.specs.declared.plan.ot_position_t.TheConstants.{POS_BASE_C, POS_BELOW_C, POS_POST_C}
+use Rattle.shapers_base.specs.declared.plan.ot_position_t.TheConstants.{POS_BASE_C, POS_BELOW_C, POS_POST_C, POS_PRE_M}
 use Rattle.shapers_indic.specs.declared.ot_shaper_indic.indic_feature.TheConstants.{RPHF}
-use Rattle.shapers_indic.specs.Glyphs.{greatest_place, has_category, has_position, is_joiner, least_place, number, numbers, passes, some_place}
+use Rattle.shapers_indic.specs.Glyphs.{greatest_place, has_category, has_position, is_joiner, least_place, number, numbers, passes, some_place, is_matra, places}
 use Rattle.shapers_base.specs.declared.plan.indic.BaseSearch.{BaseSearch}
 use Rattle.shapers_indic_initial.specs.InitialBase.{base_from, base_place, has_indic_reph, is_base, is_base_candidate, has_below_form, joiner_comes_first, limit, limit_behind, may_be_base, opens_with_repha, reph_is_formed, indic_reph_len, search_start, third_lets_reph}
-use Rattle.shapers_indic_initial.specs.InitialOrder.{ordered_base}
+use Rattle.shapers_indic_initial.specs.InitialOrder.{group, group_in_order, indic_ordered_places, last_unit_first, ordered_base}
 use Rattle.shapers_indic_initial.specs.InitialRules.{Rules, mask_at}
 
 -- functions at several equal arguments
@@ -160,3 +160,22 @@ module _ (v : View) where
   ordered_base_stays gs =
       same_two (λ t n. unwrap_or (least_place t 0 n) n) (passes_stays (has_position POS_BASE_C) (λ g. refl) gs)
       (length-map gs f)
+
+  -- the order of a syllable
+  group_stays : (p : ℕ) (gs : List hb_glyph_info_t) → group (map f gs) p ≡ group gs p
+  group_stays p gs = same_two (λ t n. filter t (places 0 n)) (passes_stays (has_position p) (λ g. refl) gs)
+      (length-map gs f)
+
+  in_order_at : (p : ℕ) (gs : List hb_glyph_info_t) → group_in_order (map f gs) p ≡ group_in_order gs p
+  in_order_at p gs =
+      same_two (λ (t : ℕ → Bool) ps. if p == POS_PRE_M then last_unit_first t ps else ps)
+      (passes_stays is_matra (λ g. refl) gs) (group_stays p gs)
+
+  auxiliaries_stay : (gs : List hb_glyph_info_t) → map (λ g. g.auxiliary) (map f gs) ≡ map (λ g. g.auxiliary) gs
+  auxiliaries_stay [] = refl
+  auxiliaries_stay (g ∷ gs) = ap (λ ps. g.auxiliary ∷ ps) (auxiliaries_stay gs)
+
+  pub ordered_places_stay : (gs : List hb_glyph_info_t) → indic_ordered_places (map f gs) ≡ indic_ordered_places gs
+  ordered_places_stay gs =
+      same_two (λ (o : ℕ → List ℕ) ps. flat_map o ps) (fun_ext (λ p. in_order_at p gs))
+      (ap (λ ps. places 0 (suc (fold max 0 ps))) (auxiliaries_stay gs))

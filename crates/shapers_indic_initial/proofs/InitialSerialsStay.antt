@@ -1,7 +1,5 @@
 -- The initial reordering doesn't read the serials of syllables: what it makes of glyphs, and its steps.
-use mathlib.Core.Path.{fun_ext}
-use Rattle.std.proofs.Common.{ℕ, ◌≡◌, ◌==◌, max, Bool, true, false, if◌then◌else◌, List, [], ◌∷◌, map, flat_map, Option, None, Some, refl, sym, ◌∙◌, ap, suc, arith}
-use Rattle.std.specs.Prelude.{filter, fold}
+use Rattle.std.proofs.Common.{ℕ, ◌≡◌, ◌==◌, Bool, true, false, if◌then◌else◌, List, [], ◌∷◌, map, Option, None, Some, refl, sym, ◌∙◌, ap, arith}
 use Rattle.std.specs.List.{list_any}
 use Rattle.std.proofs.lemmas.List.{length-map}
 use Rattle.shapers_buffer.specs.declared.buffer.glyph.hb_glyph_info_t.{hb_glyph_info_t}
@@ -9,25 +7,23 @@ use Rattle.shapers_buffer.specs.declared.buffer.tag.Script.{Script}
 use Rattle.shapers_buffer.specs.Glyph.{at_position}
 use Rattle.shapers_buffer.specs.Places.{pick}
 use Rattle.shapers_buffer.specs.Syllables.{kind_of}
-use Rattle.shapers_base.specs.declared.plan.ot_position_t.TheConstants.{POS_BASE_C, POS_PRE_M}
 use Rattle.shapers_clusters.specs.Steps.{Step, still_step, swap_step}
 use Rattle.shapers_clusters.proofs.Picks.{pick-map}
-use Rattle.shapers_indic.specs.Glyphs.{has_position, is_matra, number, places}
 use Rattle.shapers_indic_initial.specs.InitialBase.{base_place}
 use Rattle.shapers_indic_initial.specs.InitialMasks.{with_initial_masks}
-use Rattle.shapers_indic_initial.specs.InitialOrder.{group, group_in_order, last_unit_first, ordered_base, indic_ordered_places, ordered_stretches}
+use Rattle.shapers_indic_initial.specs.InitialOrder.{ordered_base, ordered_stretches}
 use Rattle.shapers_indic_initial.specs.InitialPositions.{with_marks_attached, with_owners_after}
-use Rattle.shapers_indic_initial.specs.InitialReordering.{halant_step, in_indic_order, is_reordered_in_indic, joiner_step, masked_in_order, indic_order_step, steps_of_reordered, with_base_positions, with_joiner_first, initial_order, initial_steps}
+use Rattle.shapers_indic_initial.specs.InitialReordering.{halant_step, in_indic_order, is_reordered_in_indic, joiner_step, masked_in_order, indic_order_step, with_base_positions, with_joiner_first, initial_order, initial_steps}
 use Rattle.shapers_base.specs.declared.font.GlyphId.{GlyphId}
 use Rattle.shapers_base.specs.declared.plan.indic.indic_shape_plan_t.{indic_shape_plan_t}
 use Rattle.shapers_base.specs.Font.{Font}
 use Rattle.shapers_base.specs.Map.{Map}
 use Rattle.shapers_indic.specs.Plan.{virama_glyph}
-use Rattle.shapers_indic_initial.specs.InitialFont.{all_by_virama, by_virama, consonant_position, positions_by_font}
+use Rattle.shapers_indic_initial.specs.InitialFont.{all_by_virama, by_virama, positions_by_font}
 use Rattle.shapers_indic_initial.specs.InitialRules.{Rules, initial_rules}
 use Rattle.shapers_indic_initial.specs.InitialLaws.{OrderByFontReadsNoSerials}
-use Rattle.shapers_indic_initial.specs.Proved.InitialLaws.{all_three, halant_order, halant_step_of, masked_order}
-use Rattle.shapers_indic_initial.proofs.InitialReads.{View, base_stays, joiner_first_stays, ordered_base_stays, passes_stays, same_two}
+use Rattle.shapers_indic_initial.specs.Proved.InitialLaws.{halant_order, halant_step_of, masked_order}
+use Rattle.shapers_indic_initial.proofs.InitialReads.{View, base_stays, joiner_first_stays, ordered_base_stays, ordered_places_stay, same_two}
 use Rattle.shapers_indic_initial.proofs.MaskViews.{masks_shown}
 use Rattle.shapers_indic_initial.proofs.InitialWrites.{halant_places_stay, with_base_stays, with_marks_stays, with_owners_after_stays}
 use Rattle.shapers_syllabic.specs.declared.ot_shaper_syllabic.kinds.indic_syllable.TheConstants.{BROKEN_CLUSTER, CONSONANT_SYLLABLE, STANDALONE_CLUSTER, VOWEL_SYLLABLE}
@@ -48,7 +44,7 @@ joiner_step_stays script gs =
 
 joiner_moves_stays : (script : Option Script) (gs : List hb_glyph_info_t) → map unnumbered (with_joiner_first script gs)
     ≡ with_joiner_first script (map unnumbered gs)
-joiner_moves_stays script gs = sym (pick-map unnumbered (joiner_step script gs).places gs)
+joiner_moves_stays script gs = sym (pick-map _ _ gs)
     ∙ ap (λ (st : Step). pick st.places (map unnumbered gs)) (sym (joiner_step_stays script gs))
 
 -- the older specification's H
@@ -81,27 +77,9 @@ halant_order_stays r script gs =
     (sym (base_stays kinds r gs)) (sym (halant_step_of_stays r script gs))
 
 -- the order
-group_stays : (p : ℕ) (gs : List hb_glyph_info_t) → group (map unnumbered gs) p ≡ group gs p
-group_stays p gs = same_two (λ t n. filter t (places 0 n)) (passes_stays kinds (has_position p) (λ g. refl) gs)
-    (length-map gs unnumbered)
-
-in_order_at : (p : ℕ) (gs : List hb_glyph_info_t) → group_in_order (map unnumbered gs) p ≡ group_in_order gs p
-in_order_at p gs =
-    same_two (λ (t : ℕ → Bool) ps. if p == POS_PRE_M then last_unit_first t ps else ps)
-    (passes_stays kinds is_matra (λ g. refl) gs) (group_stays p gs)
-
-auxiliaries_stay : (gs : List hb_glyph_info_t) → map (λ g. g.auxiliary) (map unnumbered gs) ≡ map (λ g. g.auxiliary) gs
-auxiliaries_stay [] = refl
-auxiliaries_stay (g ∷ gs) = ap (λ ps. g.auxiliary ∷ ps) (auxiliaries_stay gs)
-
-ordered_places_stay : (gs : List hb_glyph_info_t) → indic_ordered_places (map unnumbered gs) ≡ indic_ordered_places gs
-ordered_places_stay gs =
-    same_two (λ (f : ℕ → List ℕ) ps. flat_map f ps) (fun_ext (λ p. in_order_at p gs))
-    (ap (λ ps. places 0 (suc (fold max 0 ps))) (auxiliaries_stay gs))
-
 in_order_stays : (gs : List hb_glyph_info_t) → map unnumbered (in_indic_order gs) ≡ in_indic_order (map unnumbered gs)
-in_order_stays gs = sym (pick-map unnumbered (indic_ordered_places gs) gs)
-    ∙ ap (λ ps. pick ps (map unnumbered gs)) (sym (ordered_places_stay gs))
+in_order_stays gs = sym (pick-map _ _ gs)
+    ∙ ap (λ ps. pick ps (map unnumbered gs)) (sym (ordered_places_stay kinds gs))
 
 order_step_stays : (r : Rules) (gs : List hb_glyph_info_t) → indic_order_step r (map unnumbered gs)
     ≡ indic_order_step r gs
@@ -111,7 +89,7 @@ order_step_stays r gs =
           [];
       places = ps;
       merged_then = ordered_stretches r ps base;
-    } in st) (ordered_places_stay gs)
+    } in st) (ordered_places_stay kinds gs)
     (ap ordered_base (sym (in_order_stays gs)) ∙ ordered_base_stays kinds (in_indic_order gs))
 
 -- masks
@@ -134,18 +112,17 @@ kinds_read (g ∷ gs) = let same : kind_of (kind_of g.syllable) ≡ kind_of g.sy
 initial_reads_no_serials : (r : Rules) (script : Option Script)
     → ReadsNoSerials (initial_order r script) (initial_steps r script)
 initial_reads_no_serials r script =
-    reads_where is_reordered_in_indic (all_three r script) (steps_of_reordered r script)
+    reads_where _ _ _
     (λ gs hs same. sym (kinds_read gs) ∙ ap is_reordered_in_indic same ∙ kinds_read hs)
-    (reads_then (with_joiner_first script) (λ gs. masked_order r script (halant_order r script gs))
-    (λ gs. joiner_step script gs ∷ []) (λ gs. halant_step_of r script gs
-    ∷ (indic_order_step r (halant_order r script gs) ∷ []))
-    (reads_by_view (with_joiner_first script) (λ gs. joiner_step script gs ∷ []) (joiner_moves_stays script)
+    (reads_then _ _
+    _ _
+    (reads_by_view _ _ (joiner_moves_stays script)
     (λ gs. ap (λ (st : Step). st ∷ []) (joiner_step_stays script gs)))
-    (reads_then (halant_order r script) (masked_order r script) (λ gs. halant_step_of r script gs ∷ [])
-    (λ gs. indic_order_step r gs ∷ [])
-    (reads_by_view (halant_order r script) (λ gs. halant_step_of r script gs ∷ []) (halant_order_stays r script)
+    (reads_then _ _ _
+    _
+    (reads_by_view _ _ (halant_order_stays r script)
     (λ gs. ap (λ (st : Step). st ∷ []) (halant_step_of_stays r script gs)))
-    (reads_by_view (masked_order r script) (λ gs. indic_order_step r gs ∷ []) (masked_order_stays r script)
+    (reads_by_view _ _ (masked_order_stays r script)
     (λ gs. ap (λ (st : Step). st ∷ []) (order_step_stays r gs)))))
 
 -- positions by the font
@@ -159,7 +136,7 @@ by_virama_stays : (font : Font) (m : Map) (p : indic_shape_plan_t) (v : GlyphId)
 by_virama_stays font m p v [] = refl
 by_virama_stays font m p v (g ∷ gs) =
     same_two (λ x (xs : List hb_glyph_info_t). x ∷ xs)
-    (if_position (has_position POS_BASE_C g) (consonant_position font m p v (number g)) g)
+    (if_position _ _ g)
     (by_virama_stays font m p v gs)
 
 all_by_virama_stay : (font : Font) (m : Map) (p : indic_shape_plan_t) (o : Option GlyphId) (gs : List hb_glyph_info_t)
@@ -178,8 +155,8 @@ pub order_by_font_reads_no_serials : OrderByFontReadsNoSerials
 order_by_font_reads_no_serials font m p script =
     let reads = initial_reads_no_serials (initial_rules font m p) script in
     record {
-      meant = λ gs hs same. reads.meant (positions_by_font font m p gs) (positions_by_font font m p hs)
+      meant = λ gs hs same. reads.meant _ _
           (by_font_same font m p gs hs same);
-      led = λ gs hs same. reads.led (positions_by_font font m p gs) (positions_by_font font m p hs)
+      led = λ gs hs same. reads.led _ _
           (by_font_same font m p gs hs same);
     }

@@ -35,19 +35,19 @@ flags-and : (a m : ℕ) → m % 8 ≡ 0 → m ≤ 0xFFFFFFFF → bit_and a (0xFF
 flags-and a m off fits =
     let all : (0xFFFFFFFF - m) % 8 ≡ 7 = omega arith in
     let low : a % 8 % 8 ≡ a % 8 = omega arith in
-    and_mod a (0xFFFFFFFF - m) 3 ∙ ap (bit_and (a % 8)) all ∙ and_mask (a % 8) 3 ∙ low
+    and_mod a _ 3 ∙ ap (bit_and (a % 8)) all ∙ and_mask (a % 8) 3 ∙ low
 
 plain-and : (a m : ℕ) → m % 8 ≡ 0 → m ≤ 0xFFFFFFFF → without_flags (bit_and a (0xFFFFFFFF - m))
     ≡ bit_and (without_flags a) (0xFFFFFFFF - m)
 plain-and a m off fits =
     let c = 0xFFFFFFFF - m in
     let x = bit_and a c in
-    let y = bit_and (without_flags a) c in
-    let low : x % 8 ≡ a % 8 = flags-and a m off fits in
-    let none : y % 8 ≡ 0 = flags-and (without_flags a) m off fits
+    let y = bit_and _ c in
+    let low = flags-and a m off fits in
+    let none : y % 8 ≡ 0 = flags-and _ m off fits
     ∙ (let z : without_flags a % 8 ≡ 0 = omega arith in z) in
     let front : without_flags a / 8 ≡ a / 8 = omega arith in
-    let same : x / 8 ≡ y / 8 = and_shr a c 3 ∙ ap (λ n. bit_and n (c / 8)) (sym front)
+    let same = and_shr a c 3 ∙ ap (λ n. bit_and n (c / 8)) (sym front)
     ∙ sym (and_shr (without_flags a) c 3) in
     omega arith
 

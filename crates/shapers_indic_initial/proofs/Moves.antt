@@ -2,21 +2,15 @@
 use Rattle.shapers_buffer.specs.declared.buffer.placement.Placement.TheVariants.{Forward}
 use Rattle.shapers_buffer.specs.Places.{brought_forward, placed_by}
 use Rattle.shapers_buffer.proofs.Placements.{brought_parts, brought_within, placed_forward}
-use Rattle.std.proofs.Common.{ℕ, zero, suc, ◌+◌, ◌-◌, ◌<◌, ◌≤◌, ◌≡◌, ◌==◌, true, false, if◌then◌else◌, List, [], ◌∷◌, ◌++◌, map, length, take, drop, get_or, inl, inr, refl, sym, ◌∙◌, ap, subst, arith, append_assoc}
+use Rattle.std.proofs.Common.{ℕ, suc, ◌+◌, ◌-◌, ◌<◌, ◌≤◌, ◌≡◌, List, [], ◌∷◌, ◌++◌, map, length, take, drop, refl, sym, ◌∙◌, ap, arith}
 use Rattle.std.specs.List.{range_with_len}
-use Rattle.std.specs.List.Sorted.{IsPermutation}
-use Rattle.std.proofs.lemmas.Bool.{cases_lt}
-use Rattle.std.proofs.lemmas.Bool.Decides.{nat_tests}
-use Rattle.std.proofs.lemmas.List.{drop_at, drop_more, length-append, length-drop, length-take-le, map-append, take_all, take-append-drop, take_at}
+use Rattle.std.proofs.lemmas.List.{length-drop, take_all}
 use Rattle.std.proofs.lemmas.List.FromFn.{length-range_with_len}
-use Rattle.std.proofs.lemmas.List.Sorted.{IsPermutation-append_comm}
 use Rattle.shapers_buffer.specs.declared.buffer.glyph.hb_glyph_info_t.{hb_glyph_info_t}
 use Rattle.shapers_buffer.specs.Buffer.{Buffer, but_places}
 use Rattle.shapers_buffer.specs.Clusters.{merge_all, stretch_of, with_stretch}
 use Rattle.shapers_buffer.specs.Glyph.{order_view}
-use Rattle.shapers_buffer.specs.Places.{listed, pick, place_at, placed, with_place}
-use Rattle.shapers_buffer.proofs.ClusterLemmas.{three_parts, length-stretch}
-use Rattle.shapers_buffer.proofs.PlaceLaws.{places_are_written}
+use Rattle.shapers_buffer.specs.Places.{pick}
 use Rattle.shapers_clusters.specs.Steps.{FitsStep, Step, run_steps, shifted, widened}
 use Rattle.shapers_clusters.proofs.Merging.{length-merge_all}
 use Rattle.shapers_clusters.proofs.Picks.{pick-append, pick-range}
@@ -90,21 +84,21 @@ pub stepped : (meaning : List hb_glyph_info_t → List hb_glyph_info_t) (steps :
 stepped meaning steps s e step old new h l f nothing kept is meant leads =
     let gs = old.glyphs in
     let xs = order_view gs in
-    let ms = merge_all old.level (shifted s step.merged_first) gs in
-    let w = widened s e (length gs) step in
-    let same : length ms ≡ length gs =
-    length-merge_all old.level (shifted s step.merged_first) gs
-    (fits-widened s e (length gs) step h l f).first_within in
-    let run : new.glyphs ≡ run_steps old.level (map (widened s e (length gs)) (step ∷ [])) gs =
+    let ms = merge_all _ (shifted s step.merged_first) gs in
+    let w = widened s e _ step in
+    let same =
+    length-merge_all _ _ gs
+    (fits-widened s e _ step h l f).first_within in
+    let run =
     is
-    ∙ sym (pick-widened s e step ms h (omega (arith, same)) f.within)
+    ∙ sym (pick-widened s e step ms h (omega arith) f.within)
     ∙ ap (λ n. pick (widened s e n step).places ms) same
     ∙ sym (ap (λ sts. merge_all old.level (shifted s sts) (pick w.places ms)) nothing) in
     record {
       others = kept;
       order =
           ap order_view run
-          ∙ order_view-widened old.level s e (step ∷ []) gs h l (f, tt)
+          ∙ order_view-widened _ s e (step ∷ []) gs h l (f, tt)
           ∙ ap (λ ps. take s xs ++ (pick ps (stretch_of s e xs) ++ drop e xs)) (old_places_one (e - s) step f)
           ∙ ap (λ ys. take s xs ++ (ys ++ drop e xs)) (sym meant);
       moved = ap (map carried) run

@@ -7,7 +7,7 @@ use Rattle.shapers_buffer.specs.declared.buffer.glyph.hb_glyph_info_t.{hb_glyph_
 use Rattle.shapers_buffer.specs.declared.buffer.tag.Script.{Script}
 use Rattle.shapers_buffer.specs.Buffer.{Buffer, but_places}
 use Rattle.shapers_buffer.specs.Clusters.{merge, merge_all, stretch_of, with_stretch}
-use Rattle.shapers_buffer.specs.Glyph.{default_glyph, order_view, plain}
+use Rattle.shapers_buffer.specs.Glyph.{order_view, plain}
 use Rattle.shapers_buffer.specs.Places.{pick}
 use Rattle.shapers_buffer.proofs.ClusterLemmas.{three_parts, length-stretch, map-stretch}
 use Rattle.shapers_clusters.specs.Steps.{FitsStep, Step, shifted, still_step, swap_step}
@@ -32,14 +32,14 @@ use Rattle.shapers_syllabic.proofs.SyllableThen.{changed_parts, syllable_as, syl
 
 pub seen_long : (s e : ℕ) (gs : List hb_glyph_info_t) → s ≤ e → e ≤ length gs → length (stretch_of s e (order_view gs))
     ≡ e - s
-seen_long s e gs h l = length-stretch s e (order_view gs) (omega (arith, length-map gs plain))
+seen_long s e gs h l = length-stretch s e _ (omega (arith, length-map gs plain))
 
 -- a stretch picked in its own order stays
 picked_still : (s e n : ℕ) (gs : List hb_glyph_info_t) → s ≤ e → e ≤ length gs → n ≡ e - s
     → gs ≡ with_stretch s e (pick (range_with_len 0 n)) gs
 picked_still s e n gs h l k =
     sym (three_parts s e gs h)
-    ∙ sym (ap (λ ys. take s gs ++ (ys ++ drop e gs)) (pick-all n (stretch_of s e gs) (length-stretch s e gs l ∙ sym k)))
+    ∙ sym (ap (λ ys. take s gs ++ (ys ++ drop e gs)) (pick-all n _ (length-stretch s e gs l ∙ sym k)))
 
 -- a stretch picked by a move
 picked_moved : (s e n h j : ℕ) (gs : List hb_glyph_info_t) → s ≤ e → e ≤ length gs → n ≡ e - s → h ≤ j → j < n
@@ -160,7 +160,7 @@ halant_stays_put r script base s e b h l there =
 pub halant_off : (r : Rules) (script : Option Script) (base s e : ℕ) (b : Buffer) → s ≤ e → e ≤ length b.glyphs
     → r.old ≡ false → SyllableReordered (with_halant_moved r script base) (halant_steps r script base) s e b b
 halant_off r script base s e b h l off =
-    let syl = stretch_of s e b.glyphs in
+    let syl = stretch_of s e _ in
     halant_stays_put r script base s e b h l
     (ap (λ c. if c then halant_from script syl (halant_after base syl) else places 0 (length syl)) off)
 
@@ -170,7 +170,7 @@ pub halant_left : (r : Rules) (script : Option Script) (base s e : ℕ) (b : Buf
     ≡ places 0 (length (stretch_of s e hs))
     → SyllableReordered (with_halant_moved r script base) (halant_steps r script base) s e b b
 halant_left r script base s e b hs h l same on there =
-    let syl = stretch_of s e b.glyphs in
+    let syl = stretch_of s e _ in
     halant_stays_put r script base s e b h l
     (ap (λ c. if c then halant_from script syl (halant_after base syl) else places 0 (length syl)) on
     ∙ subst (λ gs. halant_from script (stretch_of s e gs) (halant_after base (stretch_of s e gs))
@@ -185,7 +185,7 @@ pub halant_done : (r : Rules) (script : Option Script) (base s e a j : ℕ) (old
     → new.glyphs ≡ moved_behind (s + a) (s + j + 1 - 1) old.glyphs
     → SyllableReordered (with_halant_moved r script base) (halant_steps r script base) s e old new
 halant_done r script base s e a j old new hs h l same on up within there kept moved =
-    let syl = stretch_of s e old.glyphs in
+    let syl = stretch_of s e _ in
     halant_moves r script base s e a j old new h l up
     (subst (λ gs. j < length (stretch_of s e gs)) same within)
     (ap (λ c. if c then halant_from script syl (halant_after base syl) else places 0 (length syl)) on
@@ -222,13 +222,13 @@ marks_changed s e base old new h is walked =
 -- how long the syllable stays
 joiner_keeps_length : (script : Option Script) (gs : List hb_glyph_info_t) → length (with_joiner_first script gs)
     ≡ length gs
-joiner_keeps_length script gs = let f = joiner_fits script gs in length-pick (joiner_step script gs).places gs f.within
+joiner_keeps_length script gs = let f = joiner_fits script gs in length-pick _ gs f.within
     ∙ f.as_many
 
 halant_keeps_length : (r : Rules) (script : Option Script) (base : ℕ) (gs : List hb_glyph_info_t)
     → length (with_halant_moved r script base gs) ≡ length gs
 halant_keeps_length r script base gs = let f =
-    halant_fits r script base gs in length-pick (halant_places r script base gs) gs f.within ∙ f.as_many
+    halant_fits r script base gs in length-pick _ gs f.within ∙ f.as_many
 
 -- all of it
 pub syllable_opened : (r : Rules) (script : Option Script) (s e base : ℕ) (reph : Bool) (b0 b1 b2 b3 b4 : Buffer)
