@@ -41,7 +41,9 @@ pub none_at_base : (font : Font) (m : Map) (p : indic_shape_plan_t) (v : GlyphId
 none_at_base font m p v [] none = refl
 none_at_base font m p v (g ∷ gs) none =
     elim (cases_Bool _) [
-      | inl here ↦ absurd (let found = sym (ap (λ (b : Bool). if b then Some g else find (has_position POS_BASE_C) gs) here) ∙ none in cc)
+      | inl here ↦ absurd
+          (let found = sym (ap (λ (b : Bool). if b then Some g else find (has_position POS_BASE_C) gs) here) ∙ none in
+          cc)
       | inr other ↦
           ap (λ x. x ∷ map (by_virama font m p v) gs) (none_here font m p v g other)
           ∙ ap (λ xs. g ∷ xs)

@@ -21,8 +21,8 @@ returns-then-is_base c =
     let gs = c.args.glyphs.now in
     let e : l.place ≡ l.place - 1 + 1 = omega (arith, c.loop-place-test.true) in
     let s = subst (λ k. Searching c.args.search c.args.lo k l.below gs) e l.invariant in
-    found c.args.search c.args.lo (l.place - 1) l.below gs (omega (arith, c.loop-place-test.true)) s (sym c.stops_search.ensures
-    ∙ c.if-stops_search.false)
+    found c.args.search c.args.lo (l.place - 1) l.below gs (omega (arith, c.loop-place-test.true)) s
+    (sym c.stops_search.ensures ∙ c.if-stops_search.false)
     (base_there c.args.search gs (l.place - 1) l.below default_glyph (omega (arith, s.within)) s.below_seen
     ∙ sym c.is_base.ensures ∙ c.if-is_base.true)
 
@@ -32,8 +32,8 @@ loop-place-preserved-then-is_below c =
     let gs = c.args.glyphs.now in
     let e : l.place ≡ l.place - 1 + 1 = omega (arith, c.loop-place-test.true) in
     let s = subst (λ k. Searching c.args.search c.args.lo k l.below gs) e l.invariant in
-    let here = below_there c.args.search gs (l.place - 1) default_glyph (omega (arith, s.within)) ∙ sym c.is_below.ensures
-    ∙ c.if-is_below.true in
+    let here = below_there c.args.search gs (l.place - 1) default_glyph (omega (arith, s.within))
+    ∙ sym c.is_below.ensures ∙ c.if-is_below.true in
     searching_next c.args.search c.args.lo (l.place - 1) l.below _ gs (omega (arith, c.loop-place-test.true)) s
     (sym c.stops_search.ensures ∙ c.if-stops_search.false)
     (base_there c.args.search gs (l.place - 1) l.below default_glyph (omega (arith, s.within)) s.below_seen
@@ -46,8 +46,8 @@ loop-place-preserved c =
     let gs = c.args.glyphs.now in
     let e : l.place ≡ l.place - 1 + 1 = omega (arith, c.loop-place-test.true) in
     let s = subst (λ k. Searching c.args.search c.args.lo k l.below gs) e l.invariant in
-    let here = below_there c.args.search gs (l.place - 1) default_glyph (omega (arith, s.within)) ∙ sym c.is_below.ensures
-    ∙ c.if-is_below.false in
+    let here = below_there c.args.search gs (l.place - 1) default_glyph (omega (arith, s.within))
+    ∙ sym c.is_below.ensures ∙ c.if-is_below.false in
     searching_next c.args.search c.args.lo (l.place - 1) l.below _ gs (omega (arith, c.loop-place-test.true)) s
     (sym c.stops_search.ensures ∙ c.if-stops_search.false)
     (base_there c.args.search gs (l.place - 1) l.below default_glyph (omega (arith, s.within)) s.below_seen

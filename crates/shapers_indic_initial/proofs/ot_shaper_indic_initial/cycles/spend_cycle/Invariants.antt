@@ -10,6 +10,6 @@ invariant-loop l = record {
   others : l.buffer ≡ record l.fn.buffer { places = l.buffer.places };
   long : length l.buffer.glyphs ≡ length l.fn.buffer.glyphs;
   inside : l.place < l.end - l.start;
-  passing : Passing (places_from l.start l.end l.fn.buffer.places) l.first (places_from l.start l.end l.buffer.places) l.place
-      (l.end - l.counter) l.least l.greatest;
+  passing : Passing (places_from l.start l.end l.fn.buffer.places) l.first (places_from l.start l.end l.buffer.places)
+      l.place (l.end - l.counter) l.least l.greatest;
 }
