@@ -14,21 +14,21 @@ use Rattle.shapers_indic_initial.proofs.Cycles.{In, cycle_back, cycle_closed_bac
 -- a list with some places spent: they stay, the others are as they were
 pub length-with_spent : (f xs : List ℕ) → length (with_spent f xs) ≡ length f
 length-with_spent f [] = refl
-length-with_spent f (x ∷ xs) = length-with_spent (set f x x) xs ∙ length-set f x x
+length-with_spent f (x ∷ xs) = length-with_spent _ xs ∙ length-set f x x
 
 pub unspent_at : (f xs : List ℕ) (x : ℕ) → (In x xs → ⊥) → get_or (with_spent f xs) x 0 ≡ get_or f x 0
 unspent_at f [] x out = refl
-unspent_at f (y ∷ ys) x out = unspent_at (set f y y) ys x (λ i. out (inr i))
+unspent_at f (y ∷ ys) x out = unspent_at _ ys x (λ i. out (inr i))
     ∙ get_or-set_other f y x y 0 (λ e. out (inl e))
 
 pub spent_at : (f xs : List ℕ) (x : ℕ) → x < length f → In x xs → get_or (with_spent f xs) x 0 ≡ x
 spent_at f [] x h i = absurd i
 spent_at f (y ∷ ys) x h i = elim (in_or_not x ys) [
-  | inl j ↦ spent_at (set f y y) ys x (omega (arith, length-set f y y)) j
+  | inl j ↦ spent_at _ ys x (omega (arith, length-set f y y)) j
   | inr out ↦ elim i [
     | inr j ↦ absurd (out j)
-    | inl e ↦ unspent_at (set f y y) ys x out ∙ ap (λ m. get_or (set f y y) m 0) e
-        ∙ get_or-set_same f y y 0 (omega (arith, e)) ∙ sym e
+    | inl e ↦ unspent_at _ ys x out ∙ ap (λ m. get_or (set f y y) m 0) e
+        ∙ get_or-set_same f y y 0 (omega arith) ∙ sym e
   ]
 ]
 
@@ -39,23 +39,23 @@ once-spent f p h o =
     let g = with_spent f c in
     let n = length-with_spent f c in
     record {
-      within = λ i l. (let k : i < length f = omega (arith, n) in elim (in_or_not i c) [
-        | inl j ↦ omega (arith, n, spent_at f c i k j)
-        | inr out ↦ omega (arith, n, unspent_at f c i out, o.within i k)
+      within = λ i l. (let k : i < length f = omega arith in elim (in_or_not i c) [
+        | inl j ↦ omega (arith, spent_at f c i k j)
+        | inr out ↦ omega (arith, unspent_at f c i out)
       ]);
       once = λ i j l m e. (
-          let k : i < length f = omega (arith, n) in
-          let r : j < length f = omega (arith, n) in
+          let k : i < length f = omega arith in
+          let r : j < length f = omega arith in
           elim (in_or_not i c) [
             | inl a ↦ elim (in_or_not j c) [
               | inl b ↦ sym (spent_at f c i k a) ∙ e ∙ spent_at f c j r b
               | inr b ↦
-                  let there : i ≡ get_or f j 0 = sym (spent_at f c i k a) ∙ e ∙ unspent_at f c j b in
+                  let there = sym (spent_at f c i k a) ∙ e ∙ unspent_at f c j b in
                   absurd (b (cycle_closed_back f p j h r o (subst (λ z. In z c) there a)))
             ]
             | inr a ↦ elim (in_or_not j c) [
               | inl b ↦
-                  let there : j ≡ get_or f i 0 = sym (spent_at f c j r b) ∙ sym e ∙ unspent_at f c i a in
+                  let there = sym (spent_at f c j r b) ∙ sym e ∙ unspent_at f c i a in
                   absurd (a (cycle_closed_back f p i h k o (subst (λ z. In z c) there b)))
               | inr b ↦ o.once i j k r (sym (unspent_at f c i a) ∙ e ∙ unspent_at f c j b)
             ]
@@ -73,23 +73,23 @@ other_cycle f p r h l o out =
     let c = cycle f p in
     let g = with_spent f c in
     let n = length-with_spent f c in
-    let step : (y : ℕ) → y < length f → (In y c → ⊥) → Outside f p (get_or f y 0) =
+    let step : (y : ℕ) → y < length f → (In y c → ⊥) → Outside f p _ =
     λ y k off. record { inside = o.within y k; out = λ i. off (cycle_closed_back f p y h k o i) } in
-    let way : way_to f r (length f) (get_or f r 0) ≡ way_to g r (length f) (get_or f r 0) =
-    way_agrees (Outside f p) f g r (length f) (get_or f r 0)
+    let way =
+    way_agrees (Outside f p) f g r _ _
     (λ y a t. (sym (unspent_at f c y a.out), step y a.inside a.out)) (step r l out) in
     ap (λ m. r ∷ way_to g r m (get_or g r 0)) n ∙ ap (λ q. r ∷ way_to g r (length f) q) (unspent_at f c r out)
     ∙ ap (λ ys. r ∷ ys) (sym way)
 
 pub own_cycle : (g : List ℕ) (r : ℕ) → get_or g r 0 ≡ r → cycle g r ≡ r ∷ []
-own_cycle g r e = ap (λ ys. r ∷ ys) (way_at g r (length g) (get_or g r 0) e)
+own_cycle g r e = ap (λ ys. r ∷ ys) (way_at g r _ _ e)
 
 -- which place leads a cycle
 all_false : (test : ℕ → Bool) (x : ℕ) (xs : List ℕ) → In x xs → test x ≡ false → list_all test xs ≡ false
 all_false test x [] i e = absurd i
 all_false test x (y ∷ ys) i e = elim i [
   | inl s ↦ ap (λ b. b && list_all test ys) (sym (ap test s) ∙ e)
-  | inr j ↦ elim (cases_Bool (test y)) [
+  | inr j ↦ elim (cases_Bool _) [
     | inl t ↦ ap (λ b. b && list_all test ys) t ∙ all_false test x ys j e
     | inr t ↦ ap (λ b. b && list_all test ys) t
   ]
@@ -101,12 +101,12 @@ follows f base p r h l i = all_false (λ q. nat_lt q base || nat_le r q) p (cycl
 pub leads : (f : List ℕ) (base p : ℕ) → p < length f → EachOnce f → ((x : ℕ) → base ≤ x → x < p → get_or f x 0 ≡ x)
     → leads_cycle f base p ≡ true
 leads f base p h o own =
-    all_true (λ q. nat_lt q base || nat_le p q) (cycle f p) (λ x i. elim (cases_Bool (nat_lt x base || nat_le p x)) [
+    all_true _ (cycle f p) (λ x i. elim (cases_Bool (nat_lt x base || nat_le p x)) [
       | inl t ↦ t
       | inr n ↦
           let low : base ≤ x = grind (arith, nat_tests, n) in
           let high : x < p = grind (arith, nat_tests, n) in
-          let back : In p (x ∷ []) = subst (In p) (own_cycle f x (own x low high)) (cycle_back f p x h o i) in
+          let back = subst (In p) (own_cycle f x (own x low high)) (cycle_back f p x h o i) in
           elim back [ inl e ↦ absurd (omega (arith, e)) | inr j ↦ absurd j ]
     ])
 
@@ -127,10 +127,10 @@ merge_one level s e gs is =
 alone_merges : (level : BufferClusterLevel) (s : ℕ) (g : List ℕ) (base r : ℕ) (gs : List hb_glyph_info_t) → base ≤ r
     → cycle g r ≡ r ∷ [] → merge level (s + (cycle_stretch g base r).0) (s + (cycle_stretch g base r).1) gs ≡ gs
 alone_merges level s g base r gs h e =
-    merge_one level (s + (cycle_stretch g base r).0) (s + (cycle_stretch g base r).1) gs
-    (let a : fold min r (cycle g r) ≡ r = ap (fold min r) e ∙ (let m : min r r ≡ r = omega arith in m) in
-    let b : fold max r (cycle g r) ≡ r = ap (fold max r) e ∙ (let m : max r r ≡ r = omega arith in m) in
-    omega (arith, a, b))
+    merge_one level _ _ gs
+    (let a = ap (fold min r) e ∙ (let m : min r r ≡ r = omega arith in m) in
+    let b = ap (fold max r) e ∙ (let m : max r r ≡ r = omega arith in m) in
+    omega arith)
 
 -- a place whose cycle two lists have alike, and one that leads none in the first list and is alone in the second
 pub record Same (f g : List ℕ) (base r : ℕ) : Type 0 where
@@ -147,20 +147,20 @@ left_yes : (level : BufferClusterLevel) (s : ℕ) (f : List ℕ) (base a n : ℕ
     ≡ merge_all level (shifted s (merges_left_from f base (a + 1) n))
     (merge level (s + (cycle_stretch f base a).0) (s + (cycle_stretch f base a).1) gs)
 left_yes level s f base a n gs e = let rest =
-    filter (leads_cycle f base) (range_with_len (a + 1) n) in ap
+    filter (leads_cycle f base) _ in ap
     (λ b. merge_all level (shifted s (map (cycle_stretch f base) (cond b (a ∷ rest) rest))) gs) e
 
 left_no : (level : BufferClusterLevel) (s : ℕ) (f : List ℕ) (base a n : ℕ) (gs : List hb_glyph_info_t)
     → leads_cycle f base a ≡ false → merge_all level (shifted s (merges_left_from f base a (suc n))) gs
     ≡ merge_all level (shifted s (merges_left_from f base (a + 1) n)) gs
 left_no level s f base a n gs e = let rest =
-    filter (leads_cycle f base) (range_with_len (a + 1) n) in ap
+    filter (leads_cycle f base) _ in ap
     (λ b. merge_all level (shifted s (map (cycle_stretch f base) (cond b (a ∷ rest) rest))) gs) e
 
 left_alone : (level : BufferClusterLevel) (s : ℕ) (f : List ℕ) (base a n : ℕ) (gs : List hb_glyph_info_t) → base ≤ a
     → cycle f a ≡ a ∷ [] → merge_all level (shifted s (merges_left_from f base a (suc n))) gs
     ≡ merge_all level (shifted s (merges_left_from f base (a + 1) n)) gs
-left_alone level s f base a n gs h e = elim (cases_Bool (leads_cycle f base a)) [
+left_alone level s f base a n gs h e = elim (cases_Bool _) [
   | inl t ↦ left_yes level s f base a n gs t
       ∙ ap (merge_all level (shifted s (merges_left_from f base (a + 1) n))) (alone_merges level s f base a gs h e)
   | inr t ↦ left_no level s f base a n gs t
@@ -174,13 +174,13 @@ left_alike level s f g base a zero gs each = refl
 left_alike level s f g base a (suc n) gs each =
     let later = λ (r : ℕ) (h : a + 1 ≤ r) (l : r < a + 1 + n). each r (omega arith) (omega arith) in
     elim (each a (omega arith) (omega arith)) [
-      | inl same ↦ elim (cases_Bool (leads_cycle f base a)) [
+      | inl same ↦ elim (cases_Bool _) [
         | inl t ↦
             left_yes level s f base a n gs t
             ∙ ap (λ st. merge_all level (shifted s (merges_left_from f base (a + 1) n))
             (merge level (s + st.0) (s + st.1) gs)) same.stretch
             ∙ left_alike level s f g base (a + 1) n
-            (merge level (s + (cycle_stretch g base a).0) (s + (cycle_stretch g base a).1) gs) later
+            _ later
             ∙ sym (left_yes level s g base a n gs (sym same.led ∙ t))
         | inr t ↦ left_no level s f base a n gs t ∙ left_alike level s f g base (a + 1) n gs later
             ∙ sym (left_no level s g base a n gs (sym same.led ∙ t))
@@ -194,9 +194,9 @@ pub left_staying : (level : BufferClusterLevel) (s : ℕ) (f : List ℕ) (base p
     → base ≤ p → p < n → get_or f p 0 ≡ p → merge_all level (shifted s (merges_left_from f base p (n - p))) gs
     ≡ merge_all level (shifted s (merges_left_from f base (p + 1) (n - (p + 1)))) gs
 left_staying level s f base p n gs h l e =
-    let m : n - p ≡ suc (n - (p + 1)) = omega arith in
+    let m : n - p ≡ suc _ = omega arith in
     ap (λ k. merge_all level (shifted s (merges_left_from f base p k)) gs) m
-    ∙ left_alone level s f base p (n - (p + 1)) gs h (own_cycle f p e)
+    ∙ left_alone level s f base p _ gs h (own_cycle f p e)
 
 -- a place whose cycle merges and is spent
 alike_behind : (f : List ℕ) (base p r : ℕ) → base ≤ p → p < r → r < length f → EachOnce f
@@ -208,7 +208,7 @@ alike_behind f base p r h k l o =
       | inl i ↦ inr
           (record {
             led = follows f base p r h k (cycle_back f p r p_inside o i);
-            alone = own_cycle (with_spent f c) r
+            alone = own_cycle _ r
                 (spent_at f c r l i);
             behind = omega arith;
           })
@@ -249,7 +249,7 @@ pub stretch_bounds : (f : List ℕ) (base p : ℕ) → p < length f → EachOnce
 stretch_bounds f base p h o = record {
   least = fold_min-le p (cycle f p);
   greatest = fold_max-le p (cycle f p);
-  inside = fold_max-lt (length f) p (cycle f p) h (λ y i. cycle_within f p y h o i);
+  inside = fold_max-lt _ p (cycle f p) h (λ y i. cycle_within f p y h o i);
 }
 
 -- what is spent stays spent

@@ -14,7 +14,7 @@ use Rattle.std.proofs.lemmas.List.Sorted.{IsPermutation-keeps, IsPermutation-map
 use Rattle.shapers_buffer.specs.Clusters.{merge, merge_all}
 use Rattle.shapers_clusters.specs.Steps.{shifted}
 use Rattle.shapers_clusters.proofs.Merging.{length-merge}
-use Rattle.shapers_buffer.specs.Places.{ListsEachOnce, listed, place_at, with_place}
+use Rattle.shapers_buffer.specs.Places.{ListsEachOnce, place_at, with_place}
 use Rattle.shapers_buffer.proofs.PlaceLaws.{places_are_written}
 use Rattle.shapers_indic_initial.specs.CycleWalk.{EachOnce, places_from, with_spent}
 use Rattle.shapers_indic_initial.specs.InitialOrder.{cycle, cycle_stretch, cycle_stretches, stretches_by, way_to}
@@ -23,32 +23,32 @@ use Rattle.shapers_indic_initial.proofs.Cycles.{once-swap, swap_at, turned_first
 
 -- the placement list from s to e: how long it is, what it says, what a write makes of it
 pub length-places_from : (s e : ℕ) (places : List ℕ) → length (places_from s e places) ≡ e - s
-length-places_from s e places = length-map (listed s e places) (λ p. p - s)
-    ∙ length-map-range_with_len (place_at places) s (e - s)
+length-places_from s e places = length-map _ _
+    ∙ length-map-range_with_len _ s (e - s)
 
 pub places_from_at : (s e : ℕ) (places : List ℕ) (i : ℕ) → i < e - s → get_or (places_from s e places) i 0
     ≡ place_at places (s + i) - s
 places_from_at s e places i h =
     let n = length-map-range_with_len (place_at places) s (e - s) in
-    get_or-map (λ p. p - s) (listed s e places) i 0 0 (omega (arith, n))
-    ∙ ap (λ p. p - s) (get_or-map-range_with_len (place_at places) s (e - s) i (s + i) 0 h refl)
+    get_or-map _ _ i 0 0 (omega arith)
+    ∙ ap (λ p. p - s) (get_or-map-range_with_len _ s (e - s) i (s + i) 0 h refl)
 
 pub places_from_written : (s e : ℕ) (places : List ℕ) (i v : ℕ) → i < e - s
     → places_from s e (with_place (s + i) (s + v) places) ≡ set (places_from s e places) i v
 places_from_written s e places i v h =
     let old = places_from s e places in
-    let new = places_from s e (with_place (s + i) (s + v) places) in
+    let new = places_from s e _ in
     let n = length-places_from s e places in
-    let m = length-places_from s e (with_place (s + i) (s + v) places) in
-    ext_get_or 0 new (set old i v) (m ∙ sym (length-set old i v ∙ n)) (λ k l.
-    (let inside : k < e - s = omega (arith, m) in
-    places_from_at s e (with_place (s + i) (s + v) places) k inside
+    let m = length-places_from s e _ in
+    ext_get_or 0 new _ (m ∙ sym (length-set old i v ∙ n)) (λ k l.
+    (let inside : k < e - s = omega arith in
+    places_from_at s e _ k inside
     ∙ ap (λ p. p - s) (places_are_written (s + i) (s + v) places (s + k))
     ∙ elim (cases_eq k i) [
       | inl same ↦
           let t : (s + k == s + i) ≡ true = grind (arith, nat_tests) in
-          let there : get_or (set old i v) k 0 ≡ v = ap (λ j. get_or (set old i v) j 0) same
-          ∙ get_or-set_same old i v 0 (omega (arith, n)) in
+          let there = ap (λ j. get_or (set old i v) j 0) same
+          ∙ get_or-set_same old i v 0 (omega arith) in
           ap (λ b. (if b then s + v else place_at places (s + k)) - s) t ∙ (let d : s + v - s ≡ v = omega arith in d)
           ∙ sym there
       | inr other ↦
@@ -73,17 +73,17 @@ set_again : (f : List ℕ) (p : ℕ) → p < length f → set (set f p p) p (get
 set_again f p h =
     let a = set f p p in
     let n = length-set f p p in
-    ext_get_or 0 (set a p (get_or f p 0)) f (length-set a p (get_or f p 0) ∙ n) (λ k l. elim (cases_eq k p) [
+    ext_get_or 0 _ f (length-set a p _ ∙ n) (λ k l. elim (cases_eq k p) [
       | inl e ↦ ap (λ j. get_or (set a p (get_or f p 0)) j 0) e
-          ∙ get_or-set_same a p (get_or f p 0) 0 (omega (arith, n)) ∙ ap (λ j. get_or f j 0) (sym e)
-      | inr o ↦ get_or-set_other a p k (get_or f p 0) 0 o ∙ get_or-set_other f p k p 0 o
+          ∙ get_or-set_same a p _ 0 (omega arith) ∙ ap (λ j. get_or f j 0) (sym e)
+      | inr o ↦ get_or-set_other a p k _ 0 o ∙ get_or-set_other f p k p 0 o
     ])
 
 pub passing_start : (f : List ℕ) (p : ℕ) → p < length f → EachOnce f
     → Passing f p (set f p p) (get_or f p 0) (length f) p p
 passing_start f p h o =
     let q = get_or f p 0 in
-    let back : way_to (set (set f p p) p q) p (length f) q ≡ way_to f p (length f) q =
+    let back =
     ap (λ g. way_to g p (length f) q) (set_again f p h) in
     let low : min p p ≡ p = omega arith in
     let high : max p p ≡ p = omega arith in
@@ -92,7 +92,7 @@ passing_start f p h o =
       long = length-set f p p;
       once = subst EachOnce (sym (set_again f p h)) o;
       next_inside = o.within p h;
-      spent = ap (with_spent (set f p p)) back;
+      spent = ap (with_spent _) back;
       least_left = ap (fold min p) back ∙ ap (λ m. fold min m (way_to f p (length f) q)) (sym low);
       greatest_left = ap (fold max p) back ∙ ap (λ m. fold max m (way_to f p (length f) q)) (sym high);
     }
@@ -106,8 +106,8 @@ spent_swaps now p q h k n =
     let v = get_or now q 0 in
     let lg = length-set now p q in
     let la = length-set now q q in
-    ext_get_or 0 (set a p v) (swap g p q) (length-set a p v ∙ la ∙ sym (length-swap g p q ∙ lg)) (λ i l.
-    (let right = swap_at g p q i (omega (arith, lg)) (omega (arith, lg)) in
+    ext_get_or 0 _ _ (length-set a p v ∙ la ∙ sym (length-swap g p q ∙ lg)) (λ i l.
+    (let right = swap_at g p q i (omega arith) (omega arith) in
     elim (cases_eq i q) [
       | inl e ↦
           let o : i ≢ p = λ s. n (sym e ∙ s) in
@@ -115,7 +115,7 @@ spent_swaps now p q h k n =
           ∙ sym (right ∙ ap (λ j. get_or g j 0) (turned_second p q i e) ∙ get_or-set_same now p q 0 h)
       | inr o ↦ elim (cases_eq i p) [
         | inl e ↦
-            ap (λ j. get_or (set a p v) j 0) e ∙ get_or-set_same a p v 0 (omega (arith, la))
+            ap (λ j. get_or (set a p v) j 0) e ∙ get_or-set_same a p v 0 (omega arith)
             ∙ sym (right ∙ ap (λ j. get_or g j 0) (turned_first p q i o e) ∙ get_or-set_other now p q q 0 n)
         | inr m ↦
             get_or-set_other a p i v 0 m ∙ get_or-set_other now q i q 0 o
@@ -167,12 +167,17 @@ cycle_passed : (f : List ℕ) (p : ℕ) (now : List ℕ) (q m least greatest : �
 cycle_passed f p now q m least greatest none w = record {
   spent = sym (ap (with_spent now) none) ∙ w.spent;
   least_is = sym (ap (fold min least) none) ∙ w.least_left;
-  greatest_is = sym (ap (fold max greatest) none) ∙ w.greatest_left;
+  greatest_is = sym (ap (fold max _) none) ∙ w.greatest_left;
 }
 
 pub passed_back : (f : List ℕ) (p : ℕ) (now : List ℕ) (q m least greatest : ℕ) → q ≡ p
     → Passing f p now q m least greatest → Passed f p now least greatest
-passed_back f p now q m least greatest e w = cycle_passed f p now q m least greatest (way_at (set now p q) p m q e) w
+passed_back f p now q m least greatest e w = cycle_passed f p now q m least _ (way_at _ p m q e) w
+
+pub passed_whole : (f : List ℕ) (p : ℕ) (now : List ℕ) (q m least greatest : ℕ) → m ≡ 0
+    → Passing f p now q m least greatest → Passed f p now least greatest
+passed_whole f p now q m least greatest e w =
+    cycle_passed f p now q m least greatest (ap (λ k. way_to (set now p q) p k q) e) w
 
 -- the same walk, its parts named otherwise
 pub passing_as : (f : List ℕ) (p : ℕ) (now now_1 : List ℕ) (q q_1 m m_1 least least_1 greatest greatest_1 : ℕ)
@@ -188,7 +193,7 @@ passing_as f p now now_1 q q_1 m m_1 least least_1 greatest greatest_1 a b d g h
 -- a buffer of which only the placement list changed, after one more change of it
 pub others_next : (b0 b b1 : Buffer) → b ≡ record b0 { places = b.places } → b1 ≡ record b { places = b1.places }
     → b1 ≡ record b0 { places = b1.places }
-others_next b0 b b1 others is = is ∙ ap (λ x. (let r : Buffer = record x { places = b1.places } in r)) others
+others_next b0 b b1 others is = is ∙ ap (λ x. (let r = record x { places = b1.places } in r)) others
 
 -- A walk over the cycles on its way: the places from the base to p are spent, and what is left
 -- merges what all cycles merge.
@@ -201,7 +206,7 @@ pub record Merging (s e base p : ℕ) (b0 b : Buffer) : Type 0 where
 
 pub merging_start : (s e base : ℕ) (b : Buffer) → EachOnce (places_from s e b.places) → Merging s e base base b b
 merging_start s e base b o =
-    let n = length-places_from s e b.places in
+    let n = length-places_from s e _ in
     record {
       long = refl;
       once = o;
@@ -219,7 +224,7 @@ merging_stays s e base p b0 b h l stays w = record {
     | inl is ↦ ap (λ y. get_or (places_from s e b.places) y 0) is ∙ stays ∙ sym is
     | inr n ↦ w.own x low (omega arith)
   ]);
-  left = sym (left_staying b0.level s (places_from s e b.places) base p (e - s) b.glyphs h l stays) ∙ w.left;
+  left = sym (left_staying _ s _ base p (e - s) _ h l stays) ∙ w.left;
 }
 
 -- one cycle: spent, and merged
@@ -272,47 +277,30 @@ pub once_range : (n : ℕ) → EachOnce (range_with_len 0 n)
 once_range n =
     let m = length-range_with_len 0 n in
     record {
-      within = λ i l. omega (arith, m, get_or-range_with_len 0 n i 0 (omega (arith, m)));
+      within = λ i l. omega (arith, get_or-range_with_len 0 n i 0 (omega arith));
       once = λ i j l k e. omega (
         arith,
-        m,
-        e,
-        get_or-range_with_len 0 n i 0 (omega (arith, m)),
+        get_or-range_with_len 0 n i 0 (omega arith),
         get_or-range_with_len 0
-            n j 0 (omega (arith, m)),
+            n j 0 (omega arith),
       );
     }
 
 from_range : (s n : ℕ) → map (λ p. p - s) (range_with_len s n) ≡ range_with_len 0 n
 from_range s n =
-    let long = length-map-range_with_len (λ p. p - s) s n in
-    ext_get_or 0 (map (λ p. p - s) (range_with_len s n)) (range_with_len 0 n) (long ∙ sym (length-range_with_len 0 n))
+    let long = length-map-range_with_len _ s n in
+    ext_get_or 0 _ _ (long ∙ sym (length-range_with_len 0 n))
     (λ i l.
-    (let h : i < n = omega (arith, long) in
-    get_or-map-range_with_len (λ p. p - s) s n i (s + i) 0 h refl ∙ (let d : s + i - s ≡ 0 + i = omega arith in d)
+    (let h : i < n = omega arith in
+    get_or-map-range_with_len _ s n i (s + i) 0 h refl ∙ (let d : s + i - s ≡ 0 + i = omega arith in d)
     ∙ sym (get_or-range_with_len 0 n i 0 h)))
 
 pub once_listed : (s e : ℕ) (places : List ℕ) → ListsEachOnce s e places → EachOnce (places_from s e places)
 once_listed s e places each =
-    let moved = IsPermutation-map (λ (p : ℕ). p - s) (range_with_len s (e - s)) (listed s e places) each in
+    let moved = IsPermutation-map _ _ _ each in
     let all = subst (λ xs. IsPermutation xs (places_from s e places)) (from_range s (e - s)) moved in
-    IsPermutation-keeps (range_with_len 0 (e - s)) EachOnce (once_range (e - s))
-    (λ xs i j h k o. once-swap xs i j h k o) (places_from s e places) all
-
--- what a cycle merges lies within the syllable
-pub record Reach (s e base least greatest : ℕ) : Type 0 where
-  pub ordered : max base least ≤ greatest + 1
-  pub inside : s + greatest + 1 ≤ e
-
-pub cycle_reach : (s e base p : ℕ) (b0 b : Buffer) (least greatest : ℕ) → s ≤ e → base ≤ p → p < e - s
-    → Merging s e base p b0 b
-    → least ≡ fold min p (cycle (places_from s e b.places) p)
-    → greatest ≡ fold max p (cycle (places_from s e b.places) p) → Reach s e base least greatest
-cycle_reach s e base p b0 b least greatest k h l w low high =
-    let f = places_from s e b.places in
-    let n = length-places_from s e b.places in
-    let d = stretch_bounds f base p (omega (arith, n)) w.once in
-    record { ordered = omega (arith, d.least, d.greatest, low, high); inside = omega (arith, d.inside, high, n) }
+    IsPermutation-keeps _ _ (once_range (e - s))
+    (λ xs i j h k o. once-swap xs i j h k o) _ all
 
 -- the merges by specification and length
 pub stretches_all : (old : Bool) (from : List ℕ) (base : ℕ) → (old || nat_lt 127 (length from)) ≡ true
@@ -327,9 +315,9 @@ pub merged_from_base : (s e base : ℕ) (old : Bool) (b b1 : Buffer) → s ≤ e
     → b1.glyphs ≡ merge b.level (s + base) e b.glyphs
     → b1.glyphs ≡ merge_all b.level (shifted s (stretches_by old (places_from s e b.places) base)) b.glyphs
 merged_from_base s e base old b b1 h t is =
-    let f = places_from s e b.places in
-    let n = length-places_from s e b.places in
-    let end : e ≡ s + length f = omega (arith, n) in
+    let f = places_from s e _ in
+    let n = length-places_from s e _ in
+    let end : e ≡ s + length f = omega arith in
     is ∙ ap (λ m. merge b.level (s + base) m b.glyphs) end
     ∙ sym (ap (λ sts. merge_all b.level (shifted s sts) b.glyphs)
     (stretches_all old f base (ap (λ m. old || nat_lt 127 m) n ∙ t)))
@@ -338,8 +326,8 @@ pub merged_by_cycles : (s e base : ℕ) (old : Bool) (b b1 : Buffer) → (old ||
     → b1.glyphs ≡ merge_all b.level (shifted s (cycle_stretches (places_from s e b.places) base)) b.glyphs
     → b1.glyphs ≡ merge_all b.level (shifted s (stretches_by old (places_from s e b.places) base)) b.glyphs
 merged_by_cycles s e base old b b1 t is =
-    let f = places_from s e b.places in
-    let n = length-places_from s e b.places in
+    let f = places_from s e _ in
+    let n = length-places_from s e _ in
     is ∙ sym (ap (λ sts. merge_all b.level (shifted s sts) b.glyphs)
     (stretches_cycles old f base (ap (λ m. old || nat_lt 127 m) n ∙ t)))
 
@@ -348,10 +336,10 @@ pub others_merged : (b0 b b1 b2 : Buffer) (gs : List hb_glyph_info_t)
     → b ≡ record b0 { glyphs = b.glyphs; places = b.places } → b1 ≡ record b { places = b1.places }
     → b2 ≡ record b1 { glyphs = gs } → b2 ≡ record b0 { glyphs = b2.glyphs; places = b2.places }
 others_merged b0 b b1 b2 gs is0 is1 is2 =
-    let same_glyphs : gs ≡ b2.glyphs = sym (ap (λ x. x.glyphs) is2) in
-    let same_places : b1.places ≡ b2.places = sym (ap (λ x. x.places) is2) in
+    let same_glyphs = sym (ap (λ x. x.glyphs) is2) in
+    let same_places = sym (ap (λ x. x.places) is2) in
     is2
-    ∙ ap (λ x. (let r : Buffer = record x { glyphs = gs } in r)) is1
-    ∙ ap (λ x. (let r : Buffer = record x { glyphs = gs; places = b1.places } in r)) is0
-    ∙ ap (λ xs. (let r : Buffer = record b0 { glyphs = xs; places = b1.places } in r)) same_glyphs
-    ∙ ap (λ ps. (let r : Buffer = record b0 { glyphs = b2.glyphs; places = ps } in r)) same_places
+    ∙ ap (λ x. (let r = record x { glyphs = gs } in r)) is1
+    ∙ ap (λ x. (let r = record x { glyphs = gs; places = b1.places } in r)) is0
+    ∙ ap (λ xs. (let r = record b0 { glyphs = xs; places = b1.places } in r)) same_glyphs
+    ∙ ap (λ ps. (let r = record b0 { glyphs = b2.glyphs; places = ps } in r)) same_places

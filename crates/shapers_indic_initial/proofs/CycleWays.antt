@@ -27,7 +27,7 @@ range_in : (a n x : ℕ) → In x (range_with_len a n) → InRange a n x
 range_in a zero x i = absurd i
 range_in a (suc n) x i = elim i [
   | inl e ↦ record { low = omega arith; high = omega arith }
-  | inr j ↦ let k = range_in (a + 1) n x j in record { low = omega (arith, k.low); high = omega (arith, k.high) }
+  | inr j ↦ let k = range_in (a + 1) n x j in record { low = omega arith; high = omega arith }
 ]
 
 in_filter : (test : ℕ → Bool) (xs : List ℕ) (x : ℕ) → test x ≡ true → In x xs → In x (filter test xs)
@@ -62,7 +62,7 @@ holds_both s e r h = record { low = grind (arith, nat_tests); high = grind (arit
 held_by : (f : ℕ → ℕ × ℕ) (xs : List ℕ) (x r : ℕ) → In x xs → Holds (f x) r → held (map f xs) r ≡ true
 held_by f [] x r i h = absurd i
 held_by f (y ∷ ys) x r i h = elim i [
-  | inl e ↦ (let k : Holds (f y) r = subst (λ z. Holds (f z) r) e h in ap (λ b. b || held (map f ys) r)
+  | inl e ↦ (let k = subst (λ z. Holds (f z) r) e h in ap (λ b. b || held (map f ys) r)
       (holds (f y) r k.low k.high))
   | inr j ↦ elim (nat_lt (f y).0 r && nat_lt r (f y).1) as (λ b. (b || held (map f ys) r) ≡ true) [
     | true ↦ refl
@@ -77,7 +77,7 @@ record HeldBy (f : ℕ → ℕ × ℕ) (xs : List ℕ) (r : ℕ) : Type 0 where
 
 by_held : (f : ℕ → ℕ × ℕ) (xs : List ℕ) (r : ℕ) → held (map f xs) r ≡ true → HeldBy f xs r
 by_held f [] r h = absurd (cc h)
-by_held f (y ∷ ys) r h = elim (cases_Bool (nat_lt (f y).0 r && nat_lt r (f y).1)) [
+by_held f (y ∷ ys) r h = elim (cases_Bool _) [
   | inl t ↦ record { place = y; among = inl refl; holds_it = holds_both (f y).0 (f y).1 r t }
   | inr n ↦
       let rest = by_held f ys r (sym (ap (λ b. b || held (map f ys) r) n) ∙ h) in
@@ -125,7 +125,7 @@ cycle_holds : (f : List ℕ) (p z y : ℕ) → p < length f → EachOnce f → I
     → In y (cycle f p)
 cycle_holds f p z y h o i j = elim j [
   | inl e ↦ subst (λ w. In w (cycle f p)) (sym e) i
-  | inr k ↦ way_keeps (λ w. In w (cycle f p)) f z (length f) (get_or f z 0) y (λ w a _. cycle_closed f p w h o a)
+  | inr k ↦ way_keeps _ f z _ _ y (λ w a _. cycle_closed f p w h o a)
       (cycle_closed f p z h o i) k
 ]
 
@@ -156,7 +156,7 @@ least_in xs a (suc k) p e i = elim (in_or_not a xs) [
       let rest = least_in xs (a + 1) k p (omega arith) i in
       record {
         place = rest.place;
-        low = omega (arith, rest.low);
+        low = omega arith;
         among = rest.among;
         least = λ x l m j. elim (cases_lt a x) [
           | inl b ↦ rest.least x (omega arith) m j
@@ -168,18 +168,18 @@ least_in xs a (suc k) p e i = elim (in_or_not a xs) [
 before_or_from : (base l q : ℕ) → ((base ≤ q) → l ≤ q) → (nat_lt q base || nat_le l q) ≡ true
 before_or_from base l q h = elim (cases_lt q base) [
   | inl k ↦ grind (arith, nat_tests)
-  | inr k ↦ let m : l ≤ q = h k in grind (arith, nat_tests)
+  | inr k ↦ let m = h k in grind (arith, nat_tests)
 ]
 
 leader : (f : List ℕ) (base p : ℕ) → base ≤ p → p < length f → EachOnce f → Leader f base p
 leader f base p b h o =
     let found = least_in (cycle f p) base (p - base) p (omega arith) (inl refl) in
     let l = found.place in
-    let within : l < length f = cycle_within f p l h o found.among in
+    let within = cycle_within f p l h o found.among in
     record {
       place = l;
-      among = in_range base (length f - base) l found.low (omega arith);
-      leads = all_true (λ q. nat_lt q base || nat_le l q) (cycle f l)
+      among = in_range base _ l found.low (omega arith);
+      leads = all_true _ (cycle f l)
           (λ q i. before_or_from base l q (λ k. elim (cases_lt q l) [
             | inl m ↦ absurd (found.least q k m (cycle_holds f p l q h o found.among i))
             | inr m ↦ m
@@ -194,14 +194,14 @@ way_in_cycle f base p r b h o w =
     let found = leader f base p b h o in
     let l = found.place in
     let c = cycle f l in
-    let n = range_in base (length f - base) l found.among in
-    let inside : l < length f = omega (arith, n.low, n.high) in
+    let n = range_in base _ l found.among in
+    let inside : l < length f = omega arith in
     let next = cycle_closed f l p inside o found.has in
-    held_by (cycle_stretch f base) (filter (leads_cycle f base) (places base (length f))) l r
-    (in_filter (leads_cycle f base) (places base (length f)) l found.leads found.among)
+    held_by _ _ l r
+    (in_filter _ _ l found.leads found.among)
     (record {
-      low = omega (arith, w.low, least_bound l c p found.has, least_bound l c (get_or f p 0) next);
-      high = omega (arith, w.high, greatest_bound l c p found.has, greatest_bound l c (get_or f p 0) next);
+      low = omega (arith, least_bound l c p found.has, least_bound l c _ next);
+      high = omega (arith, greatest_bound l c p found.has, greatest_bound l c _ next);
     })
 
 -- where a cycle has places on both sides, some place of it has the next one on the other side
@@ -217,7 +217,7 @@ crosses_or_not f (y ∷ ys) r = elim (crosses_or_not f ys r) [
   | inl c ↦ inl (record { place = c.place; among = inr c.among; from_r = c.from_r; next_below = c.next_below })
   | inr none ↦ elim (cases_lt y r) [
     | inl l ↦ inr (λ x i k. elim i [ inl e ↦ absurd (omega arith) | inr j ↦ none x j k ])
-    | inr l ↦ elim (cases_lt (get_or f y 0) r) [
+    | inr l ↦ elim (cases_lt _ r) [
       | inl m ↦ inl (record { place = y; among = inl refl; from_r = l; next_below = m })
       | inr m ↦ inr (λ x i k. elim i [ inl e ↦ subst (λ z. r ≤ get_or f z 0) (sym e) m | inr j ↦ none x j k ])
     ]
@@ -229,11 +229,11 @@ stays_above : (f : List ℕ) (p z w r : ℕ) → p < length f → EachOnce f
 stays_above f p z w r h o none i k j =
     let inside = cycle_within f p z h o i in
     let A : ℕ → Type 0 = λ y. In y (cycle f p) × (r ≤ y) in
-    let next : (y : ℕ) → A y → y ≢ z → A (get_or f y 0) = λ y a _. (cycle_closed f p y h o a.0, none y a.0 a.1) in
-    let back : In w (cycle f z) = cycle_holds f z p w inside o (cycle_back f p z h o i) j in
+    let next : (y : ℕ) → A y → y ≢ z → A _ = λ y a _. (cycle_closed f p y h o a.0, none y a.0 a.1) in
+    let back = cycle_holds f z p w inside o (cycle_back f p z h o i) j in
     elim back [
       | inl e ↦ omega arith
-      | inr m ↦ (way_keeps A f z (length f) (get_or f z 0) w next (cycle_closed f p z h o i, none z i k) m).1
+      | inr m ↦ (way_keeps A f z _ _ w next (cycle_closed f p z h o i, none z i k) m).1
     ]
 
 cycle_in_ways : (f : List ℕ) (base l r : ℕ) → l < length f → EachOnce f → Holds (cycle_stretch f base l) r
@@ -245,13 +245,13 @@ cycle_in_ways f base l r h o w =
     elim (crosses_or_not f c r) [
       | inl x ↦ (
           let inside = cycle_within f l x.place h o x.among in
-          held_by (way_of f base) (places base (length f)) x.place r
-          (in_range base (length f - base) x.place (omega (arith, x.from_r)) (omega (arith, x.from_r)))
-          (record { low = omega (arith, x.from_r, x.next_below); high = omega (arith, x.from_r) }))
+          held_by _ _ x.place r
+          (in_range base _ x.place (omega arith) (omega arith))
+          (record { low = omega arith; high = omega arith }))
       | inr none ↦
-          let top : In (fold max l c) c = elim (greatest_reached l c) [ inl e ↦ inl e | inr i ↦ i ] in
-          let bottom : In (fold min l c) c = elim (least_reached l c) [ inl e ↦ inl e | inr i ↦ i ] in
-          absurd (omega (arith, stays_above f l (fold max l c) (fold min l c) r h o none top (omega arith) bottom))
+          let top : In _ c = elim (greatest_reached l c) [ inl e ↦ inl e | inr i ↦ i ] in
+          let bottom : In _ c = elim (least_reached l c) [ inl e ↦ inl e | inr i ↦ i ] in
+          absurd (omega (arith, stays_above f l _ _ r h o none top (omega arith) bottom))
     ]
 
 same_bool : (a b : Bool) → (a ≡ true → b ≡ true) → (b ≡ true → a ≡ true) → a ≡ b
@@ -260,13 +260,13 @@ same_bool false true f g = g refl
 same_bool false false f g = refl
 
 pub held_by_ways : (f : List ℕ) (base r : ℕ) → EachOnce f → held (cycle_stretches f base) r ≡ held (all_ways f base) r
-held_by_ways f base r o = same_bool (held (cycle_stretches f base) r) (held (all_ways f base) r)
+held_by_ways f base r o = same_bool _ _
     (λ t.
-    let x = by_held (cycle_stretch f base) (filter (leads_cycle f base) (places base (length f))) r t in
-    let n = range_in base (length f - base) x.place
-    (filter_in (leads_cycle f base) (places base (length f)) x.place x.among) in
-    cycle_in_ways f base x.place r (omega (arith, n.low, n.high)) o x.holds_it)
+    let x = by_held (cycle_stretch f base) _ r t in
+    let n = range_in base _ x.place
+    (filter_in (leads_cycle f base) _ x.place x.among) in
+    cycle_in_ways f base x.place r (omega (arith, n.high)) o x.holds_it)
     (λ t.
-    let x = by_held (way_of f base) (places base (length f)) r t in
+    let x = by_held _ _ r t in
     let n = range_in base (length f - base) x.place x.among in
-    way_in_cycle f base x.place r n.low (omega (arith, n.low, n.high)) o x.holds_it)
+    way_in_cycle f base x.place r n.low (omega arith) o x.holds_it)

@@ -63,11 +63,11 @@ pub swap_at : (xs : List ℕ) (p q i : ℕ) → p < length xs → q < length xs
 swap_at xs p q i h k =
     let a = get_or xs q 0 in
     let b = get_or xs p 0 in
-    let long : q < length (set xs p a) = omega (arith, length-set xs p a) in
+    let long : q < length _ = omega (arith, length-set xs p a) in
     ap (λ ys. get_or ys i 0) (sym (swap_is xs p q 0 h k)) ∙ elim (cases_eq i q) [
-      | inl e ↦ ap (λ m. get_or (set (set xs p a) q b) m 0) e ∙ get_or-set_same (set xs p a) q b 0 long
+      | inl e ↦ ap (λ m. get_or (set (set xs p a) q b) m 0) e ∙ get_or-set_same _ q b 0 long
           ∙ sym (ap (λ m. get_or xs m 0) (turned_second p q i e))
-      | inr n ↦ get_or-set_other (set xs p a) q i b 0 n ∙ elim (cases_eq i p) [
+      | inr n ↦ get_or-set_other _ q i b 0 n ∙ elim (cases_eq i p) [
         | inl e ↦ ap (λ m. get_or (set xs p a) m 0) e ∙ get_or-set_same xs p a 0 h
             ∙ sym (ap (λ m. get_or xs m 0) (turned_first p q i n e))
         | inr m ↦ get_or-set_other xs p i a 0 m ∙ sym (ap (λ m. get_or xs m 0) (turned_other p q i n m))
@@ -78,13 +78,13 @@ pub once-swap : (f : List ℕ) (p q : ℕ) → p < length f → q < length f →
 once-swap f p q h k o =
     let n = length-swap f p q in
     record {
-      within = λ i l. (let t : turned p q i < length f = turned_within (length f) p q i h k (omega (arith, n)) in omega
-          (arith, n, swap_at f p q i h k, o.within (turned p q i) t));
+      within = λ i l. (let t = turned_within _ p q i h k (omega arith) in omega
+          (arith, swap_at f p q i h k));
       once = λ i j l m e. (
-          let t : turned p q i < length f = turned_within (length f) p q i h k (omega (arith, n)) in
-          let u : turned p q j < length f = turned_within (length f) p q j h k (omega (arith, n)) in
+          let t = turned_within _ p q i h k (omega arith) in
+          let u = turned_within _ p q j h k (omega arith) in
           turned_once p q i j
-          (o.once (turned p q i) (turned p q j) t u (sym (swap_at f p q i h k) ∙ e ∙ swap_at f p q j h k)));
+          (o.once _ _ t u (sym (swap_at f p q i h k) ∙ e ∙ swap_at f p q j h k)));
     }
 
 -- the way to p, place by place
@@ -106,7 +106,7 @@ way_agrees A f g p (suc m) x step a = elim (cases_eq x p) [
   | inr n ↦
       let both = step x a n in
       way_next f p m x n
-      ∙ ap (λ ys. x ∷ ys) (way_agrees A f g p m (get_or f x 0) step both.1 ∙ ap (way_to g p m) both.0)
+      ∙ ap (λ ys. x ∷ ys) (way_agrees A f g p m _ step both.1 ∙ ap (way_to g p m) both.0)
       ∙ sym (way_next g p m x n)
 ]
 
@@ -117,7 +117,7 @@ way_keeps A f p (suc m) x y step a i = elim (cases_eq x p) [
   | inl e ↦ absurd (subst (In y) (way_at f p (suc m) x e) i)
   | inr n ↦ elim (subst (In y) (way_next f p m x n) i) [
     | inl e ↦ subst A (sym e) a
-    | inr i ↦ way_keeps A f p m (get_or f x 0) y step (step x a n) i
+    | inr i ↦ way_keeps A f p m _ y step (step x a n) i
   ]
 ]
 
@@ -127,7 +127,7 @@ way_apart f p (suc m) x y i = elim (cases_eq x p) [
   | inl e ↦ absurd (subst (In y) (way_at f p (suc m) x e) i)
   | inr n ↦ elim (subst (In y) (way_next f p m x n) i) [
     | inl e ↦ λ s. n (sym e ∙ s)
-    | inr i ↦ way_apart f p m (get_or f x 0) y i
+    | inr i ↦ way_apart f p m _ y i
   ]
 ]
 
@@ -150,7 +150,7 @@ length-way : (f : List ℕ) (p m q : ℕ) → ends_at f p m q ≢ p → length (
 length-way f p zero q n = refl
 length-way f p (suc m) q n = elim (cases_eq q p) [
   | inl e ↦ absurd (n (ends_there f p (suc m) q e))
-  | inr o ↦ ap length (way_next f p m q o) ∙ ap suc (length-way f p m (get_or f q 0) (λ e. n (ends_next f p m q o ∙ e)))
+  | inr o ↦ ap length (way_next f p m q o) ∙ ap suc (length-way f p m _ (λ e. n (ends_next f p m q o ∙ e)))
 ]
 
 -- what leads back to p, but for its first place: with that one spent the rest of the way is the same
@@ -171,44 +171,44 @@ pub way_spent : (f : List ℕ) (p m : ℕ) → p < length f → EachOnce f → g
     way_to f p m (get_or f q 0) ≡ way_to (swap f p q) p m (get_or (swap f p q) p 0)
 way_spent f p m h o n =
     let q = get_or f p 0 in
-    let k : q < length f = o.within p h in
-    let first : get_or (swap f p q) p 0 ≡ get_or f q 0 = swap_at f p q p h k
+    let k = o.within p h in
+    let first = swap_at f p q p h k
     ∙ ap (λ i. get_or f i 0) (turned_first p q p (λ e. n (sym e)) refl) in
-    way_agrees (OnTheWay f q) f (swap f p q) p m (get_or f q 0)
+    way_agrees _ f _ p m _
     (λ y a t. (
       sym (swap_at f p q y h k ∙ ap (λ i. get_or f i 0) (turned_other p q y a.other t)),
       keeps_off f p h o y a
           t,
     ))
     (second_off f p h o n)
-    ∙ ap (way_to (swap f p q) p m) (sym first)
+    ∙ ap (way_to _ p m) (sym first)
 
 -- no place is on it twice
 apart_all : (x : ℕ) (ys : List ℕ) → ((y : ℕ) → In y ys → y ≢ x) → AllByRecursion (λ y. eqb x y ≡ false) ys
 apart_all x [] apart = tt
-apart_all x (y ∷ ys) apart = let n : y ≢ x =
+apart_all x (y ∷ ys) apart = let n =
     apart y (inl refl) in (grind (arith, nat_tests), apart_all x ys (λ z i. apart z (inr i)))
 
 distinct_way : (f : List ℕ) (p m : ℕ) → p < length f → EachOnce f → IsDistinct eqb (way_to f p m (get_or f p 0))
 unfolding IsDistinct
 distinct_way f p zero h o = tt
-distinct_way f p (suc m) h o = elim (cases_eq (get_or f p 0) p) [
-  | inl e ↦ subst (IsDistinct eqb) (sym (way_at f p (suc m) (get_or f p 0) e)) tt
+distinct_way f p (suc m) h o = elim (cases_eq _ p) [
+  | inl e ↦ subst (IsDistinct eqb) (sym (way_at f p (suc m) _ e)) tt
   | inr n ↦
       let q = get_or f p 0 in
       let g = swap f p q in
-      let k : q < length f = o.within p h in
+      let k = o.within p h in
       let rest = subst (IsDistinct eqb) (sym (way_spent f p m h o n))
       (distinct_way g p m (omega (arith, length-swap f p q)) (once-swap f p q h k o)) in
       let off = λ (y : ℕ) (i : In y (way_to f p m (get_or f q 0))).
-      (way_keeps (OnTheWay f q) f p m (get_or f q 0) y (λ z a t. keeps_off f p h o z a t) (second_off f p h o n)
+      (way_keeps _ f p m _ y (λ z a t. keeps_off f p h o z a t) (second_off f p h o n)
       i).other in
       subst (IsDistinct eqb) (sym (way_next f p m q n))
-      (IsDistinct-cons eqb q (way_to f p m (get_or f q 0)) (apart_all q (way_to f p m (get_or f q 0)) off) rest)
+      (IsDistinct-cons eqb q _ (apart_all q _ off) rest)
 ]
 
 any_is_in : (q : ℕ) (xs : List ℕ) → list_any (eqb q) xs ≡ true → In q xs
-any_is_in q [] e = absurd (let x : false ≡ true = e in cc)
+any_is_in q [] e = absurd (let x = e in cc)
 any_is_in q (x ∷ xs) e = elim (cases_eq q x) [
   | inl s ↦ inl s
   | inr n ↦ let t : eqb q x ≡ false =
@@ -218,22 +218,22 @@ any_is_in q (x ∷ xs) e = elim (cases_eq q x) [
 -- all places of a cycle are places of the list
 pub cycle_within : (f : List ℕ) (p y : ℕ) → p < length f → EachOnce f → In y (cycle f p) → y < length f
 cycle_within f p y h o i = elim i [
-  | inl e ↦ omega (arith, h)
-  | inr j ↦ way_keeps (λ z. z < length f) f p (length f) (get_or f p 0) y (λ z a t. o.within z a) (o.within p h) j
+  | inl e ↦ omega arith
+  | inr j ↦ way_keeps _ f p _ _ y (λ z a t. o.within z a) (o.within p h) j
 ]
 
 -- so the way comes back
 pub comes_back : (f : List ℕ) (p : ℕ) → p < length f → EachOnce f → ends_at f p (length f) (get_or f p 0) ≡ p
-comes_back f p h o = elim (cases_eq (ends_at f p (length f) (get_or f p 0)) p) [
+comes_back f p h o = elim (cases_eq _ p) [
   | inl e ↦ e
   | inr n ↦
-      let way = way_to f p (length f) (get_or f p 0) in
-      let long = length-way f p (length f) (get_or f p 0) n in
-      let distinct = IsDistinct-cons eqb p way (apart_all p way (λ y i. way_apart f p (length f) (get_or f p 0) y i))
+      let way = way_to f p (length f) _ in
+      let long = length-way f p _ (get_or f p 0) n in
+      let distinct = IsDistinct-cons eqb p way (apart_all p way (λ y i. way_apart f p _ _ y i))
       (distinct_way f p (length f) h o) in
-      let short = length-le_from_distinct_below (p ∷ way) (length f) distinct
+      let short = length-le_from_distinct_below _ _ distinct
       (λ q e. cycle_within f p q h o (any_is_in q (p ∷ way) e)) in
-      absurd (omega (arith, long, short))
+      absurd (omega (arith, long))
 ]
 
 -- the place behind one of the cycle is in it
@@ -250,22 +250,22 @@ way_closed f p zero q x e i = absurd i
 way_closed f p (suc m) q x e i = elim (cases_eq q p) [
   | inl s ↦ absurd (subst (In x) (way_at f p (suc m) q s) i)
   | inr n ↦
-      let rest = way_to f p m (get_or f q 0) in
-      let back : ends_at f p m (get_or f q 0) ≡ p = sym (ends_next f p m q n) ∙ e in
+      let rest = way_to f p m _ in
+      let back = sym (ends_next f p m q n) ∙ e in
       let wider = λ (y : ℕ) (j : In y (p ∷ rest)). subst (λ ys. In y (p ∷ ys)) (sym (way_next f p m q n))
       (elim j as (λ _. In y (p ∷ (q ∷ rest))) [ inl s ↦ inl s | inr k ↦ inr (inr k) ]) in
       elim (subst (In x) (way_next f p m q n) i) [
-        | inl s ↦ wider (get_or f x 0)
-            (subst (λ z. In (get_or f z 0) (p ∷ rest)) (sym s) (head_in f p m (get_or f q 0) back))
-        | inr j ↦ wider (get_or f x 0) (way_closed f p m (get_or f q 0) x back j)
+        | inl s ↦ wider _
+            (subst (λ z. In (get_or f z 0) (p ∷ rest)) (sym s) (head_in f p m _ back))
+        | inr j ↦ wider _ (way_closed f p m _ x back j)
       ]
 ]
 
 pub cycle_closed : (f : List ℕ) (p x : ℕ) → p < length f → EachOnce f → In x (cycle f p) → In (get_or f x 0) (cycle f p)
 cycle_closed f p x h o i = elim i [
   | inl s ↦ subst (λ z. In (get_or f z 0) (cycle f p)) (sym s)
-      (head_in f p (length f) (get_or f p 0) (comes_back f p h o))
-  | inr j ↦ way_closed f p (length f) (get_or f p 0) x (comes_back f p h o) j
+      (head_in f p _ _ (comes_back f p h o))
+  | inr j ↦ way_closed f p _ _ x (comes_back f p h o) j
 ]
 
 -- the place before one of the cycle is in it
@@ -290,33 +290,33 @@ came_further f p m z y n c =
 
 came_from : (f : List ℕ) (p m z y : ℕ) → In y (way_to f p m (get_or f z 0)) → CameFrom f p m z y
 came_from f p zero z y i = absurd i
-came_from f p (suc m) z y i = elim (cases_eq (get_or f z 0) p) [
-  | inl s ↦ absurd (subst (In y) (way_at f p (suc m) (get_or f z 0) s) i)
-  | inr n ↦ elim (subst (In y) (way_next f p m (get_or f z 0) n) i) [
+came_from f p (suc m) z y i = elim (cases_eq _ p) [
+  | inl s ↦ absurd (subst (In y) (way_at f p (suc m) _ s) i)
+  | inr n ↦ elim (subst (In y) (way_next f p m _ n) i) [
     | inl s ↦ record { place = z; among = inl refl; leads = sym s }
-    | inr j ↦ came_further f p m z y n (came_from f p m (get_or f z 0) y j)
+    | inr j ↦ came_further f p m z y n (came_from f p m _ y j)
   ]
 ]
 
 came_back : (f : List ℕ) (p m z : ℕ) → ends_at f p m (get_or f z 0) ≡ p → CameFrom f p m z p
 came_back f p zero z e = record { place = z; among = inl refl; leads = e }
-came_back f p (suc m) z e = elim (cases_eq (get_or f z 0) p) [
+came_back f p (suc m) z e = elim (cases_eq _ p) [
   | inl s ↦ record { place = z; among = inl refl; leads = s }
-  | inr n ↦ came_further f p m z p n (came_back f p m (get_or f z 0) (sym (ends_next f p m (get_or f z 0) n) ∙ e))
+  | inr n ↦ came_further f p m z p n (came_back f p m _ (sym (ends_next f p m _ n) ∙ e))
 ]
 
 from_cycle : (f : List ℕ) (p y : ℕ) → p < length f → EachOnce f → In y (cycle f p) → CameFrom f p (length f) p y
 from_cycle f p y h o i = elim i [
-  | inl s ↦ subst (CameFrom f p (length f) p) (sym s) (came_back f p (length f) p (comes_back f p h o))
-  | inr j ↦ came_from f p (length f) p y j
+  | inl s ↦ subst (CameFrom f p _ p) (sym s) (came_back f p _ p (comes_back f p h o))
+  | inr j ↦ came_from f p _ p y j
 ]
 
 pub cycle_closed_back : (f : List ℕ) (p x : ℕ) → p < length f → x < length f → EachOnce f
     → In (get_or f x 0) (cycle f p) → In x (cycle f p)
 cycle_closed_back f p x h l o i =
-    let c = from_cycle f p (get_or f x 0) h o i in
-    let there : In c.place (cycle f p) = c.among in
-    let same : c.place ≡ x = o.once c.place x (cycle_within f p c.place h o there) l c.leads in
+    let c = from_cycle f p _ h o i in
+    let there = c.among in
+    let same = o.once c.place x (cycle_within f p c.place h o there) l c.leads in
     subst (λ z. In z (cycle f p)) same there
 
 -- what p leads to leads to p
@@ -327,7 +327,7 @@ leads_back f p (suc m) q r h k o i = elim (cases_eq q p) [
   | inl s ↦ absurd (subst (In r) (way_at f p (suc m) q s) i)
   | inr n ↦ elim (subst (In r) (way_next f p m q n) i) [
     | inl s ↦ inl (sym s)
-    | inr j ↦ cycle_closed_back f r q k h o (leads_back f p m (get_or f q 0) r (o.within q h) k o j)
+    | inr j ↦ cycle_closed_back f r q k h o (leads_back f p m _ r (o.within q h) k o j)
   ]
 ]
 
@@ -336,5 +336,5 @@ cycle_back f p r h o i = elim i [
   | inl s ↦ inl (sym s)
   | inr j ↦
       let k = cycle_within f p r h o (inr j) in
-      cycle_closed_back f r p k h o (leads_back f p (length f) (get_or f p 0) r (o.within p h) k o j)
+      cycle_closed_back f r p k h o (leads_back f p _ _ r (o.within p h) k o j)
 ]

@@ -47,7 +47,7 @@ circles_not_at_base (Some glyph) b =
       broken_kind = BROKEN_CLUSTER;
       circle = record default_glyph
           { glyph_id = glyph.0; category = OT_DOTTEDCIRCLE; auxiliary = POS_END };
-      repha = Some OT_Repha;
+      repha = Some _;
     } in
     elim (wants_circles b) as (λ w. NotAtBase (if w then Some rule else None)) [ true ↦ refl | false ↦ tt ]
 
@@ -55,7 +55,7 @@ circles_not_at_base (Some glyph) b =
 by_virama-others : (font : Font) (m : Map) (p : indic_shape_plan_t) (v : GlyphId) (g : hb_glyph_info_t)
     → at_position 0 (by_virama font m p v g) ≡ at_position 0 g
 by_virama-others font m p v g =
-    elim (has_position POS_BASE_C g) as (λ b. at_position 0
+    elim (has_position _ g) as (λ b. at_position 0
     (if b then at_position (consonant_position font m p v (number g)) g else g) ≡ at_position 0 g)
     [ true ↦ refl | false ↦ refl ]
 
@@ -70,9 +70,9 @@ circle_in_stays : (font : Font) (m : Map) (p : indic_shape_plan_t) (v : GlyphId)
 circle_in_stays font m p v c [] none = sym (circle_stays font m p v c none)
 circle_in_stays font m p v c (g ∷ xs) none =
     ap (λ (x : hb_glyph_info_t).
-    (let r : hb_glyph_info_t = record c { cluster = x.cluster; mask = x.mask; syllable = x.syllable } in r))
+    (let r = record c { cluster = x.cluster; mask = x.mask; syllable = x.syllable } in r))
     (by_virama-others font m p v g)
-    ∙ sym (circle_stays font m p v (circle_in (g ∷ xs) c) none)
+    ∙ sym (circle_stays font m p v _ none)
 
 rephas_stay : (font : Font) (m : Map) (p : indic_shape_plan_t) (v : GlyphId) (repha : Option ℕ)
     (xs : List hb_glyph_info_t) → rephas_len repha (map (by_virama font m p v) xs) ≡ rephas_len repha xs
@@ -93,17 +93,17 @@ circled_one : (font : Font) (m : Map) (p : indic_shape_plan_t) (v : GlyphId) (ru
     ≡ map (by_virama font m p v) (circled_syllable rule xs)
 circled_one font m p v rule none xs =
     let f = by_virama font m p v in
-    let n = rephas_len rule.repha xs in
+    let n = rephas_len _ xs in
     let c = rule.circle in
-    let one : with_circle rule (map f xs) ≡ map f (with_circle rule xs) =
-    ap (λ k. take k (map f xs) ++ circle_in (map f xs) c ∷ drop k (map f xs)) (rephas_stay font m p v rule.repha xs)
+    let one =
+    ap (λ k. take k (map f xs) ++ circle_in (map f xs) c ∷ drop k (map f xs)) (rephas_stay font m p v _ xs)
     ∙ ap (λ ys. ys ++ circle_in (map f xs) c ∷ drop n (map f xs)) (take-map f n xs)
     ∙ ap (λ x. map f (take n xs) ++ x ∷ drop n (map f xs)) (circle_in_stays font m p v c xs none)
     ∙ ap (λ ys. map f (take n xs) ++ f (circle_in xs c) ∷ ys) (drop-map f n xs)
-    ∙ sym (map-append f (take n xs) (circle_in xs c ∷ drop n xs)) in
-    ap (λ (b : Bool). if b then with_circle rule (map f xs) else map f xs) (kind_stays font m p v rule.broken_kind xs)
+    ∙ sym (map-append f _ _) in
+    ap (λ (b : Bool). if b then with_circle rule (map f xs) else map f xs) (kind_stays font m p v _ xs)
     ∙ ap (λ ys. if is_of_kind rule.broken_kind xs then ys else map f xs) one
-    ∙ (elim (is_of_kind rule.broken_kind xs) as (λ b. (if b then map f (with_circle rule xs) else map f xs)
+    ∙ (elim (is_of_kind _ xs) as (λ b. (if b then map f (with_circle rule xs) else map f xs)
     ≡ map f (if b then with_circle rule xs else xs)) [ true ↦ refl | false ↦ refl ])
 
 joined_past : (f : hb_glyph_info_t → hb_glyph_info_t) (change : List hb_glyph_info_t → List hb_glyph_info_t)
@@ -112,7 +112,7 @@ joined_past : (f : hb_glyph_info_t → hb_glyph_info_t) (change : List hb_glyph_
 joined_past f change past [] = refl
 joined_past f change past (x ∷ ps) = ap (λ ys. ys ++ flat_map change (map (map f) ps)) (past x)
     ∙ ap (λ ys. map f (change x) ++ ys) (joined_past f change past ps)
-    ∙ sym (map-append f (change x) (flat_map change ps))
+    ∙ sym (map-append f _ _)
 
 -- circles of the text with positions by the font
 pub circled_by_font : (font : Font) (m : Map) (p : indic_shape_plan_t) (v : Option GlyphId)
@@ -122,14 +122,14 @@ circled_by_font font m p None circles none gs = refl
 circled_by_font font m p (Some v) None none gs = refl
 circled_by_font font m p (Some v) (Some rule) none gs =
     let f = by_virama font m p v in
-    ap (flat_map (circled_syllable rule)) (syllables-viewed f (by_virama-syllable font m p v) gs)
-    ∙ joined_past f (circled_syllable rule) (circled_one font m p v rule none) (syllables gs)
+    ap (flat_map _) (syllables-viewed f (by_virama-syllable font m p v) gs)
+    ∙ joined_past f _ (circled_one font m p v rule none) (syllables gs)
 
 -- syllables of the text with positions by the font: what they become, and by which steps
 syllables_by_font : (font : Font) (m : Map) (p : indic_shape_plan_t) (v : Option GlyphId) (gs : List hb_glyph_info_t)
     → syllables (all_by_virama font m p v gs) ≡ map (all_by_virama font m p v) (syllables gs)
-syllables_by_font font m p None gs = sym (map-id (syllables gs))
-syllables_by_font font m p (Some v) gs = syllables-viewed (by_virama font m p v) (by_virama-syllable font m p v) gs
+syllables_by_font font m p None gs = sym (map-id _)
+syllables_by_font font m p (Some v) gs = syllables-viewed _ (by_virama-syllable font m p v) gs
 
 joined_after : (first change : List hb_glyph_info_t → List hb_glyph_info_t) (ps : List (List hb_glyph_info_t))
     → flat_map change (map first ps) ≡ flat_map (λ xs. change (first xs)) ps
@@ -171,22 +171,22 @@ same_pause font m p old =
     let I = initial_order r old.script in
     let S = initial_steps r old.script in
     let c = initial_circles font old in
-    let zs = circled c old.glyphs in
+    let zs = circled c _ in
     let xs = order_view zs in
-    let opened = circled c (A old.glyphs) in
-    let past : opened ≡ A zs =
-    circled_by_font font m p v c (circles_not_at_base (font.nominal 0x25CC) old) old.glyphs in
-    let view : order_view opened ≡ A xs = ap order_view past ∙ font_positions-viewed font m p v zs in
-    let pieces : syllables (A xs) ≡ map A (syllables xs) = syllables_by_font font m p v xs in
-    let led : text_steps S (order_view opened) ≡ text_steps (steps_by_font font m p old.script) xs =
+    let opened = circled c _ in
+    let past =
+    circled_by_font font m p v c (circles_not_at_base _ old) _ in
+    let view = ap order_view past ∙ font_positions-viewed font m p v zs in
+    let pieces = syllables_by_font font m p v xs in
+    let led =
     ap (text_steps S) view
     ∙ ap (λ ps. steps_along (length (A xs)) 0 (map (piece_of S) ps)) pieces
-    ∙ ap (steps_along (length (A xs)) 0) (pieces_after A S (length-font_positions font m p v) (syllables xs))
+    ∙ ap (steps_along _ 0) (pieces_after A S (length-font_positions font m p v) _)
     ∙ ap (λ n. steps_along n 0 (map (piece_of (λ ys. S (A ys))) (syllables xs)))
     (length-font_positions font m p v xs) in
     record {
-      order = ap (text_order I) view ∙ ap (flat_map I) pieces ∙ joined_after A I (syllables xs);
-      moved = run_steps-carried old.level (text_steps S (order_view opened)) opened zs (ap (map carried) past
+      order = ap (text_order I) view ∙ ap (flat_map I) pieces ∙ joined_after A I _;
+      moved = run_steps-carried _ (text_steps S (order_view opened)) opened zs (ap (map carried) past
           ∙ font_positions-carried font m p v zs)
           ∙ ap (λ sts. map carried (run_steps old.level sts zs)) led;
     }
@@ -223,11 +223,11 @@ pub opened_by_font : (font : Font) (m : Map) (p q : indic_shape_plan_t) (b0 b1 b
 opened_by_font font m p q b0 b1 b2 same opened placed =
     placed
     ∙ ap (λ (k : indic_shape_plan_t).
-    (let b : Buffer = record b1 { glyphs = positions_by_font font m k b1.glyphs } in b)) same
-    ∙ ap (λ (x : Buffer). (let b : Buffer = record x { glyphs = positions_by_font font m p x.glyphs } in b)) opened
+    (let b = record b1 { glyphs = positions_by_font font m k b1.glyphs } in b)) same
+    ∙ ap (λ (x : Buffer). (let b = record x { glyphs = positions_by_font font m p x.glyphs } in b)) opened
     ∙ sym (ap (λ (xs : List hb_glyph_info_t). (let b : Buffer = record b0 { glyphs = xs } in b))
-    (circled_by_font font m p (virama_glyph font p) (initial_circles font b0)
-    (circles_not_at_base (font.nominal 0x25CC) b0) b0.glyphs))
+    (circled_by_font font m p _ _
+    (circles_not_at_base (font.nominal 0x25CC) b0) _))
 
 pub linked_behind_circles : (font : Font) (m : Map) (p q : indic_shape_plan_t) (b0 b1 b2 new : Buffer) → q ≡ p
     → b1 ≡ (let b : Buffer = record b0 { glyphs = circled (initial_circles font b0) b0.glyphs } in b)
@@ -243,8 +243,8 @@ pub initially_linked : (font : Font) (m : Map) (p : indic_shape_plan_t) (old new
     → InitiallyLinked font m p old new → InitiallyReordered font m p old new
 initially_linked font m p old new chain =
     let r = initial_rules font m p in
-    text_moved (initial_order r) (initial_steps r) (InitialRelation r) (with_positions_and_circles font m p old) new
-    (λ script. numbers_kept (initial_order r script) (initial_steps r script) (initial_laws r script))
+    text_moved _ _ _ _ new
+    (λ script. numbers_kept _ _ (initial_laws r script))
     (λ s e b c done. done) chain
 
 pub initially_as_pause : InitiallyAsPause
@@ -254,8 +254,8 @@ initially_as_pause font m p old new = (paused_by_font font m p old new, initiall
 pub initial_cuts_between_spans : InitialCutsBetweenSpans
 initial_cuts_between_spans font m p spans old new kinds done =
     let script = old.script in
-    let mid = spans_set_up spans BROKEN_CLUSTER old in
-    let laws = laws_by_font font m p (virama_glyph font p) script in
-    pauses_cut_between_spans (order_by_font font m p script) (steps_by_font font m p script) BROKEN_CLUSTER laws
+    let mid = spans_set_up spans _ old in
+    let laws = laws_by_font font m p _ script in
+    pauses_cut_between_spans _ _ _ laws
     (order_by_font_reads_no_serials font m p script)
-    (initial_circles font mid) spans old new kinds (paused_by_font font m p mid new done)
+    _ spans old new kinds (paused_by_font font m p mid new done)

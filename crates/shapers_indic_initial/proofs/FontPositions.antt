@@ -9,9 +9,8 @@ use Rattle.shapers_base.specs.declared.plan.indic.indic_shape_plan_t.{indic_shap
 use Rattle.shapers_base.specs.declared.plan.ot_position_t.TheConstants.{POS_BASE_C}
 use Rattle.shapers_base.specs.Font.{Font}
 use Rattle.shapers_base.specs.declared.plan.indic.IndicWouldSubstituteFeature.{IndicWouldSubstituteFeature}
-use Rattle.shapers_base.specs.Map.{Map, lookups_in, would_one}
+use Rattle.shapers_base.specs.Map.{Map, would_one}
 use Rattle.shapers_indic.specs.Glyphs.{has_position, number}
-use Rattle.shapers_indic.specs.Plan.{virama_glyph}
 use Rattle.shapers_indic_initial.specs.InitialFont.{all_by_virama, by_virama, consonant_position, joins_virama}
 use Rattle.shapers_indic_initial.specs.KnownWalk.{has_forms, has_lookups}
 use Rattle.shapers_buffer.specs.declared.buffer.tag.Script.{Script}
@@ -24,12 +23,11 @@ use Rattle.shapers_indic_initial.specs.Proved.InitialLaws.{initial_laws}
 use Rattle.shapers_syllabic.specs.Reordering.{carried}
 use Rattle.shapers_syllabic.specs.ReorderingLaws.{ReorderLaws}
 use Rattle.shapers_syllabic.proofs.LawsThen.{laws_then}
-use Rattle.shapers_buffer.proofs.MappedLists.{map-hidden, map-seen}
 
 length_none : (xs : List ℕ) → not (length xs == 0) ≡ false → xs ≡ []
 length_none [] h = refl
 length_none (x ∷ xs) h =
-    let some : (length (x ∷ xs) == 0) ≡ false = ne_eqb (length (x ∷ xs)) 0 (λ e. absurd (omega arith)) in
+    let some = ne_eqb (length (x ∷ xs)) 0 (λ e. absurd (omega arith)) in
     absurd (let no : true ≡ false = sym (ap not some) ∙ h in cc)
 
 -- no consonant of position BASE_C, no change
@@ -42,9 +40,10 @@ pub none_at_base : (font : Font) (m : Map) (p : indic_shape_plan_t) (v : GlyphId
     → find (has_position POS_BASE_C) gs ≡ None → map (by_virama font m p v) gs ≡ gs
 none_at_base font m p v [] none = refl
 none_at_base font m p v (g ∷ gs) none =
-    elim (cases_Bool (has_position POS_BASE_C g)) [
-      | inl here ↦ absurd (let found : (if true then Some g else find (has_position POS_BASE_C) gs)
-          ≡ None = sym (ap (λ (b : Bool). if b then Some g else find (has_position POS_BASE_C) gs) here) ∙ none in cc)
+    elim (cases_Bool _) [
+      | inl here ↦ absurd
+          (let found = sym (ap (λ (b : Bool). if b then Some g else find (has_position POS_BASE_C) gs) here) ∙ none in
+          cc)
       | inr other ↦
           ap (λ x. x ∷ map (by_virama font m p v) gs) (none_here font m p v g other)
           ∙ ap (λ xs. g ∷ xs)
@@ -56,27 +55,27 @@ none_at_base font m p v (g ∷ gs) none =
 no_question : (font : Font) (m : Map) (q : IndicWouldSubstituteFeature) (v c : GlyphId) → has_lookups m q ≡ false
     → joins_virama font m q v c ≡ false
 no_question font m q v c none =
-    let empty : lookups_in q.lookups m ≡ [] = length_none (lookups_in q.lookups m) none in
+    let empty = length_none _ none in
     ap (λ ls. would_one font.applies ls (v ∷ (c ∷ [])) q.zero_context
     || would_one font.applies ls (c ∷ (v ∷ [])) q.zero_context) empty
 
 stays_at_base : (font : Font) (m : Map) (p : indic_shape_plan_t) (v : GlyphId) (g : hb_glyph_info_t)
     → has_forms m p ≡ false → by_virama font m p v g ≡ g
 stays_at_base font m p v g none =
-    let fourth = or_parts (has_lookups m p.blwf || has_lookups m p.vatu || has_lookups m p.pstf) (has_lookups m p.pref)
+    let fourth = or_parts _ (has_lookups m p.pref)
     none in
-    let third = or_parts (has_lookups m p.blwf || has_lookups m p.vatu) (has_lookups m p.pstf) fourth.0 in
-    let second = or_parts (has_lookups m p.blwf) (has_lookups m p.vatu) third.0 in
+    let third = or_parts _ _ fourth.0 in
+    let second = or_parts (has_lookups m p.blwf) _ third.0 in
     let c = number g in
     let blwf = no_question font m p.blwf v c second.0 in
     let vatu = no_question font m p.vatu v c second.1 in
     let pstf = no_question font m p.pstf v c third.1 in
     let pref = no_question font m p.pref v c fourth.1 in
-    elim (cases_Bool (has_position POS_BASE_C g)) [
+    elim (cases_Bool _) [
       | inl here ↦
-          let is : g.auxiliary ≡ 4 = eqb-true g.auxiliary 4 here in
+          let is : g.auxiliary ≡ 4 = eqb-true _ 4 here in
           rw (here, blwf, vatu, pstf, pref)
-          (ap (λ k. let x : hb_glyph_info_t = record g { auxiliary = k } in x) (sym is))
+          (ap (λ k. let x = record g { auxiliary = k } in x) (sym is))
       | inr other ↦ none_here font m p v g other
     ]
 
@@ -96,7 +95,7 @@ without_any font m p (Some v) gs none = without_forms font m p v gs none
 by_virama-plain : (font : Font) (m : Map) (p : indic_shape_plan_t) (v : GlyphId) (g : hb_glyph_info_t)
     → plain (by_virama font m p v g) ≡ by_virama font m p v (plain g)
 by_virama-plain font m p v g =
-    elim (has_position POS_BASE_C g) as (λ b. plain
+    elim (has_position _ g) as (λ b. plain
     (if b then at_position (consonant_position font m p v (number g)) g else g)
     ≡ (if b then at_position (consonant_position font m p v (number g)) (plain g) else plain g))
     [ true ↦ refl | false ↦ refl ]
@@ -104,7 +103,7 @@ by_virama-plain font m p v g =
 by_virama-carried : (font : Font) (m : Map) (p : indic_shape_plan_t) (v : GlyphId) (g : hb_glyph_info_t)
     → carried (by_virama font m p v g) ≡ carried g
 by_virama-carried font m p v g =
-    elim (has_position POS_BASE_C g) as (λ b. carried
+    elim (has_position _ g) as (λ b. carried
     (if b then at_position (consonant_position font m p v (number g)) g else g) ≡ carried g)
     [ true ↦ refl | false ↦ refl ]
 
@@ -112,28 +111,38 @@ pub by_virama-syllable : (font : Font) (m : Map) (p : indic_shape_plan_t) (v : G
     → (by_virama font m p v g).syllable ≡ g.syllable
 by_virama-syllable font m p v g = ap (λ x. x.syllable) (by_virama-carried font m p v g)
 
+map-same : (f h : hb_glyph_info_t → hb_glyph_info_t) → ((g : hb_glyph_info_t) → f (h g) ≡ f g)
+    → (gs : List hb_glyph_info_t) → map f (map h gs) ≡ map f gs
+map-same f h same [] = refl
+map-same f h same (g ∷ gs) = ap (λ x. x ∷ map f (map h gs)) (same g) ∙ ap (λ xs. f g ∷ xs) (map-same f h same gs)
+
+map-past : (f h : hb_glyph_info_t → hb_glyph_info_t) → ((g : hb_glyph_info_t) → f (h g) ≡ h (f g))
+    → (gs : List hb_glyph_info_t) → map f (map h gs) ≡ map h (map f gs)
+map-past f h same [] = refl
+map-past f h same (g ∷ gs) = ap (λ x. x ∷ map f (map h gs)) (same g) ∙ ap (λ xs. h (f g) ∷ xs) (map-past f h same gs)
+
 -- of glyphs
 pub font_positions-viewed : (font : Font) (m : Map) (p : indic_shape_plan_t) (v : Option GlyphId)
     (gs : List hb_glyph_info_t) → order_view (all_by_virama font m p v gs) ≡ all_by_virama font m p v (order_view gs)
 font_positions-viewed font m p None gs = refl
-font_positions-viewed font m p (Some v) gs = map-seen plain (by_virama font m p v) (by_virama-plain font m p v) gs
+font_positions-viewed font m p (Some v) gs = map-past plain _ (by_virama-plain font m p v) gs
 
 pub font_positions-carried : (font : Font) (m : Map) (p : indic_shape_plan_t) (v : Option GlyphId)
     (gs : List hb_glyph_info_t) → map carried (all_by_virama font m p v gs) ≡ map carried gs
 font_positions-carried font m p None gs = refl
-font_positions-carried font m p (Some v) gs = map-hidden carried (by_virama font m p v) (by_virama-carried font m p v) gs
+font_positions-carried font m p (Some v) gs = map-same carried _ (by_virama-carried font m p v) gs
 
 pub length-font_positions : (font : Font) (m : Map) (p : indic_shape_plan_t) (v : Option GlyphId)
     (gs : List hb_glyph_info_t) → length (all_by_virama font m p v gs) ≡ length gs
 length-font_positions font m p None gs = refl
-length-font_positions font m p (Some v) gs = length-map gs (by_virama font m p v)
+length-font_positions font m p (Some v) gs = length-map gs _
 
 -- the laws of an order behind positions by the font
 font_positions-seen : (font : Font) (m : Map) (p : indic_shape_plan_t) (v : Option GlyphId) (gs : List hb_glyph_info_t)
     → seen carried (all_by_virama font m p v gs) ≡ seen carried gs
 font_positions-seen font m p None gs = refl
 font_positions-seen font m p (Some v) gs =
-    map-hidden (λ g. plain (carried g)) (by_virama font m p v) (λ g. ap plain (by_virama-carried font m p v g)) gs
+    map-same _ _ (λ g. ap plain (by_virama-carried font m p v g)) gs
 
 font_laws : (font : Font) (m : Map) (p : indic_shape_plan_t) (v : Option GlyphId)
     → ReorderLaws (all_by_virama font m p v) (λ _. [])
@@ -141,16 +150,16 @@ font_laws font m p v = record {
   fits = λ gs. tt;
   permutes = λ gs. tt;
   agrees = λ gs. font_positions-seen font m p v gs
-      ∙ sym (pick-all (length gs) (seen carried gs) (length-map gs (λ g. plain (carried g))));
+      ∙ sym (pick-all _ _ (length-map gs _));
 }
 
 pub laws_by_font : (font : Font) (m : Map) (p : indic_shape_plan_t) (v : Option GlyphId) (script : Option Script)
     → ReorderLaws (λ gs. initial_order (initial_rules font m p) script (all_by_virama font m p v gs))
     (λ gs. initial_steps (initial_rules font m p) script (all_by_virama font m p v gs))
 laws_by_font font m p v script =
-    laws_then (all_by_virama font m p v) (initial_order (initial_rules font m p) script) (λ _. [])
-    (initial_steps (initial_rules font m p) script) (font_laws font m p v)
+    laws_then _ _ _
+    _ (font_laws font m p v)
     (initial_laws (initial_rules font m p) script)
 
 pub order_by_font_laws : OrderByFontLaws
-order_by_font_laws font m p script = laws_by_font font m p (virama_glyph font p) script
+order_by_font_laws font m p script = laws_by_font font m p _ script

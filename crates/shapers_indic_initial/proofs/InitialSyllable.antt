@@ -1,39 +1,40 @@
 -- The parts of the initial reordering of a syllable, one after another.
-use Rattle.std.proofs.Common.{◌≡◌, ℕ, ◌-◌, ◌≤◌, Bool, true, false, if◌then◌else◌, List, [], ◌∷◌, ◌++◌, length, refl, sym, ap, ◌∙◌, arith, Option}
+use Rattle.std.proofs.Common.{◌≡◌, ℕ, ◌-◌, ◌≤◌, Bool, true, false, if◌then◌else◌, List, [], ◌∷◌, ◌++◌, length, take, drop, refl, sym, ap, ◌∙◌, arith, Option, length-append, length-take-le, length-drop}
+use Rattle.std.proofs.lemmas.List.{length-map}
 use Rattle.shapers_buffer.specs.declared.buffer.glyph.hb_glyph_info_t.{hb_glyph_info_t}
 use Rattle.shapers_buffer.specs.declared.buffer.tag.Script.{Script}
 use Rattle.shapers_buffer.specs.Buffer.{Buffer}
 use Rattle.shapers_buffer.specs.Clusters.{stretch_of}
 use Rattle.shapers_buffer.specs.Glyph.{order_view, plain}
 use Rattle.shapers_buffer.proofs.ClusterLemmas.{map-stretch, three_parts}
+use Rattle.shapers_clusters.specs.Steps.{Step}
 use Rattle.shapers_clusters.proofs.Picks.{length-pick}
-use Rattle.shapers_indic_initial.specs.InitialReordering.{in_indic_order, initial_order, initial_steps, is_reordered_in_indic, joiner_step, masked_in_order, opening_steps, indic_order_step, positioned, steps_of_reordered, with_joiner_first}
+use Rattle.shapers_indic_initial.specs.InitialReordering.{in_indic_order, initial_order, initial_steps, is_reordered_in_indic, masked_in_order, opening_steps, indic_order_step, positioned, steps_of_reordered}
 use Rattle.shapers_indic_initial.specs.InitialRules.{Rules}
-use Rattle.shapers_indic_initial.specs.Proved.InitialLaws.{halant_laws, halant_order, halant_step_of, joiner_laws}
+use Rattle.shapers_indic_initial.specs.Proved.InitialLaws.{halant_laws, joiner_laws}
 use Rattle.shapers_indic_initial.specs.Proved.InitialSteps.{order_fits}
 use Rattle.shapers_indic_initial.proofs.Prepared.{seen_long}
 use Rattle.shapers_syllabic.specs.Reordering.{SyllableReordered}
 use Rattle.shapers_syllabic.specs.ReorderingLaws.{ReorderLaws}
 use Rattle.shapers_syllabic.proofs.LawsThen.{laws_then}
 use Rattle.shapers_syllabic.proofs.ReorderingWalk.{length-meaning}
-use Rattle.shapers_syllabic.proofs.SyllableThen.{syllable_as, syllable_then}
-use Rattle.shapers_syllabic.proofs.PartAfter.{part_after}
+use Rattle.shapers_syllabic.proofs.SyllableThen.{changed_parts, syllable_as, syllable_then}
 
 -- each part keeps the length
 positioned_laws : (r : Rules) (script : Option Script) → ReorderLaws (positioned r script) (opening_steps r script)
 positioned_laws r script =
-    laws_then (with_joiner_first script) (halant_order r script) (λ gs. joiner_step script gs ∷ [])
-    (λ gs. halant_step_of r script gs ∷ []) (joiner_laws script) (halant_laws r script)
+    laws_then _ _ _
+    _ (joiner_laws script) (halant_laws r script)
 
 length-positioned : (r : Rules) (script : Option Script) (gs : List hb_glyph_info_t) → length (positioned r script gs)
     ≡ length gs
 length-positioned r script gs =
-    length-meaning (positioned r script) (opening_steps r script) (positioned_laws r script) gs
+    length-meaning _ _ (positioned_laws r script) gs
 
 length-in_order : (r : Rules) (gs : List hb_glyph_info_t) → length (in_indic_order gs) ≡ length gs
 length-in_order r gs =
     let f = order_fits r gs in
-    length-pick (indic_order_step r gs).places gs f.within ∙ f.as_many
+    length-pick _ gs f.within ∙ f.as_many
 
 -- a syllable of the order view
 
@@ -45,6 +46,32 @@ kind-stretch : (s e : ℕ) (gs : List hb_glyph_info_t) → is_reordered_in_indic
     ≡ is_reordered_in_indic (stretch_of s e gs)
 kind-stretch s e gs = ap is_reordered_in_indic (sym (map-stretch plain s e gs)) ∙ kind-viewed (stretch_of s e gs)
 
+-- what a part leaves: as many glyphs, and its syllable
+record After (meaning : List hb_glyph_info_t → List hb_glyph_info_t) (s e : ℕ) (old new : Buffer) : Type 0 where
+  long : length new.glyphs ≡ length old.glyphs
+  syllable : stretch_of s e (order_view new.glyphs) ≡ meaning (stretch_of s e (order_view old.glyphs))
+
+after : (meaning : List hb_glyph_info_t → List hb_glyph_info_t) (steps : List hb_glyph_info_t → List Step) (s e : ℕ)
+    (old new : Buffer) → s ≤ e → e ≤ length old.glyphs → length (meaning (stretch_of s e (order_view old.glyphs)))
+    ≡ e - s → SyllableReordered meaning steps s e old new → After meaning s e old new
+after meaning steps s e old new h l k done =
+    let xs = order_view old.glyphs in
+    let n : length xs ≡ length old.glyphs = length-map old.glyphs plain in
+    let front : length (take s xs) ≡ s = length-take-le s xs (omega arith) in
+    let parts = changed_parts s e (take s xs) (meaning (stretch_of s e xs)) (drop e xs) (order_view new.glyphs) h front
+    k done.order in
+    record {
+      long = sym (length-map new.glyphs plain) ∙ ap length done.order
+          ∙ omega (
+            arith,
+            length-append (take s xs) (meaning (stretch_of s e xs) ++ drop e xs),
+            length-append
+                (meaning (stretch_of s e xs)) (drop e xs),
+            length-drop e xs,
+          );
+      syllable = parts.stretch;
+    }
+
 -- positions, order and masks
 ordered_and_masked : (r : Rules) (script : Option Script) (s e : ℕ) (b1 b2 b3 b4 : Buffer) → s ≤ e
     → e ≤ length b1.glyphs → SyllableReordered (positioned r script) (opening_steps r script) s e b1 b2
@@ -53,15 +80,15 @@ ordered_and_masked : (r : Rules) (script : Option Script) (s e : ℕ) (b1 b2 b3 
     → SyllableReordered (λ gs. masked_in_order r script (in_indic_order (positioned r script gs)))
     (λ gs. opening_steps r script gs ++ ((indic_order_step r (positioned r script gs) ∷ []) ++ [])) s e b1 b4
 ordered_and_masked r script s e b1 b2 b3 b4 h l p o m =
-    let x1 = stretch_of s e (order_view b1.glyphs) in
-    let n1 : length (positioned r script x1) ≡ e - s = length-positioned r script x1 ∙ seen_long s e b1.glyphs h l in
-    let a = part_after (positioned r script) (opening_steps r script) s e b1 b2 h l n1 p in
-    let l2 : e ≤ length b2.glyphs = omega (arith, a.long) in
-    let x2 = stretch_of s e (order_view b2.glyphs) in
-    let n2 : length (in_indic_order x2) ≡ e - s = length-in_order r x2 ∙ seen_long s e b2.glyphs h l2 in
-    syllable_then (positioned r script) (λ gs. masked_in_order r script (in_indic_order gs)) (opening_steps r script)
-    (λ gs. (indic_order_step r gs ∷ []) ++ []) s e b1 b2 b4 h l n1 p
-    (syllable_then in_indic_order (masked_in_order r script) (λ gs. indic_order_step r gs ∷ []) (λ _. []) s e b2 b3 b4 h
+    let x1 = stretch_of s e _ in
+    let n1 = length-positioned r script x1 ∙ seen_long s e _ h l in
+    let a = after _ _ s e b1 b2 h l n1 p in
+    let l2 : e ≤ length _ = omega arith in
+    let x2 = stretch_of s e _ in
+    let n2 = length-in_order r x2 ∙ seen_long s e _ h l2 in
+    syllable_then _ _ _
+    _ s e b1 b2 b4 h l n1 p
+    (syllable_then _ _ _ _ s e b2 b3 b4 h
     l2 n2 o m)
 
 -- a syllable that is reordered
@@ -72,26 +99,26 @@ pub initial_syllable : (r : Rules) (script : Option Script) (s e : ℕ) (b1 b2 b
     → SyllableReordered (masked_in_order r script) (λ _. []) s e b3 b4
     → SyllableReordered (initial_order r script) (initial_steps r script) s e b1 b4
 initial_syllable r script s e b1 b2 b3 b4 h l kind p o m =
-    let x1 = stretch_of s e (order_view b1.glyphs) in
-    let yes : is_reordered_in_indic x1 ≡ true = kind-stretch s e b1.glyphs ∙ kind in
-    syllable_as (λ gs. masked_in_order r script (in_indic_order (positioned r script gs))) (initial_order r script)
-    (λ gs. opening_steps r script gs ++ ((indic_order_step r (positioned r script gs) ∷ []) ++ []))
-    (initial_steps r script) s e b1 b4
+    let x1 = stretch_of s e _ in
+    let yes = kind-stretch s e _ ∙ kind in
+    syllable_as _ _
+    _
+    _ s e b1 b4
     (sym (ap (λ (b : Bool). if b then masked_in_order r script (in_indic_order (positioned r script x1)) else x1) yes))
     (sym (ap (λ (b : Bool). if b then steps_of_reordered r script x1 else []) yes))
     (ordered_and_masked r script s e b1 b2 b3 b4 h l p o m)
 
 -- another syllable stays
 still : (s e : ℕ) (b : Buffer) → s ≤ e → SyllableReordered (λ gs. gs) (λ _. []) s e b b
-still s e b h = record { others = refl; order = sym (three_parts s e (order_view b.glyphs) h); moved = refl }
+still s e b h = record { others = refl; order = sym (three_parts s e _ h); moved = refl }
 
 pub other_syllable : (r : Rules) (script : Option Script) (s e : ℕ) (b : Buffer) → s ≤ e
     → is_reordered_in_indic (stretch_of s e b.glyphs) ≡ false
     → SyllableReordered (initial_order r script) (initial_steps r script) s e b b
 other_syllable r script s e b h kind =
-    let x = stretch_of s e (order_view b.glyphs) in
-    let no : is_reordered_in_indic x ≡ false = kind-stretch s e b.glyphs ∙ kind in
-    syllable_as (λ gs. gs) (initial_order r script) (λ _. []) (initial_steps r script) s e b b
+    let x = stretch_of s e _ in
+    let no = kind-stretch s e _ ∙ kind in
+    syllable_as _ _ _ _ s e b b
     (sym (ap (λ (b : Bool). if b then masked_in_order r script (in_indic_order (positioned r script x)) else x) no))
     (sym (ap (λ (b : Bool). if b then steps_of_reordered r script x else []) no))
     (still s e b h)

@@ -18,7 +18,7 @@ pub mod InitialSerialsStay
 mod InitialSyllable
 mod InitialWords
 pub mod InitialWrites
-mod MaskViews
+pub mod MaskViews
 mod MaskWalks
 mod MarksAttached
 pub mod Moves

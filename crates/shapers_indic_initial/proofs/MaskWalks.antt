@@ -20,16 +20,15 @@ use Rattle.shapers_indic.specs.Glyphs.{has_category, has_position, is_one_of, le
 use Rattle.shapers_indic_initial.specs.InitialRules.{Rules, mask_at}
 use Rattle.std.proofs.lemmas.Bool.Decides.{nat_tests}
 use Rattle.shapers_syllabic.specs.Consonants.{is_consonant}
-use Rattle.shapers_indic_initial.specs.InitialMasks.{bits_of, has_eyelash, is_in_eyelash, loses_half, mask_after_base, mask_before_base, opens_eyelash, pref_pair, with_eyelash_mask, with_initial_masks, with_masks_around, with_pref_mask, with_reph_mask, without_bits, without_half}
-use Rattle.shapers_buffer.proofs.ListLaws.{none_in_front}
+use Rattle.shapers_indic_initial.specs.InitialMasks.{bits_of, has_eyelash, is_in_eyelash, loses_half, mask_after_base, mask_before_base, opens_eyelash, pref_pair, with_eyelash_mask, with_initial_masks, with_masks_around, with_pref_mask, without_bits, without_half}
 
 -- one glyph back, in the walk that takes half away
 pub half_step : (g : hb_glyph_info_t) (after : List hb_glyph_info_t)
     → (not (is_consonant g) && (is_one_of (OT_ZWNJ ∷ []) g || loses_half after)) ≡ loses_half (g ∷ after)
 half_step g after =
-    let n : ℕ = prefix_len (λ x. not (is_consonant x)) after in
+    let n = prefix_len _ after in
     let one : suc n ≡ 1 + n = omega arith in
-    elim (not (is_consonant g)) as (λ b. (b && (is_one_of (OT_ZWNJ ∷ []) g || loses_half after))
+    elim (not _) as (λ b. (b && (is_one_of (OT_ZWNJ ∷ []) g || loses_half after))
     ≡ list_any (is_one_of (OT_ZWNJ ∷ [])) (take (cond b (1 + n) 0) (g ∷ after))) [
       | true ↦ ap (λ m. list_any (is_one_of (OT_ZWNJ ∷ [])) (take m (g ∷ after))) one
       | false ↦ refl
@@ -38,32 +37,38 @@ half_step g after =
 -- a list whose first elements up to place k are those of another, at k
 seam : {X : Type 0} (gs rest : List X) (k : ℕ) (d : X) → k < length gs
     → take (k + 1) gs ++ rest ≡ take k gs ++ get_or gs k d ∷ rest
-seam gs rest k d h = ap (λ ys. ys ++ rest) (take_more gs k d h) ∙ append_assoc (take k gs) (get_or gs k d ∷ []) rest
+seam gs rest k d h = ap (λ ys. ys ++ rest) (take_more gs k d h) ∙ append_assoc _ _ rest
 
 seam_get : {X : Type 0} (gs rest : List X) (k : ℕ) (d : X) → k < length gs → get_or (take (k + 1) gs ++ rest) k d
     ≡ get_or gs k d
 seam_get gs rest k d h =
-    let front : length (take k gs) ≡ k = length-take-le k gs (omega arith) in
+    let front = length-take-le k gs (omega arith) in
     ap (λ ys. get_or ys k d) (seam gs rest k d h)
     ∙ subst (λ n. get_or (take k gs ++ get_or gs k d ∷ rest) n d ≡ get_or gs k d) front
-    (get_or-append_seam (take k gs) (get_or gs k d) rest d)
+    (get_or-append_seam (take k gs) _ rest d)
 
 seam_set : {X : Type 0} (gs rest : List X) (k : ℕ) (d y : X) → k < length gs → set (take (k + 1) gs ++ rest) k y
     ≡ take k gs ++ y ∷ rest
 seam_set gs rest k d y h =
-    let front : length (take k gs) ≡ k = length-take-le k gs (omega arith) in
+    let front = length-take-le k gs (omega arith) in
     ap (λ ys. set ys k y) (seam gs rest k d h)
     ∙ subst (λ n. set (take k gs ++ get_or gs k d ∷ rest) n y ≡ take k gs ++ y ∷ rest) front
-    (set-append_seam (take k gs) (get_or gs k d) rest y)
+    (set-append_seam _ _ rest y)
 
 -- without a ZWNJ nothing loses half
+none_in_front : (p : hb_glyph_info_t → Bool) (n : ℕ) (gs : List hb_glyph_info_t) → list_any p gs ≡ false
+    → list_any p (take n gs) ≡ false
+none_in_front p zero gs none = refl
+none_in_front p (suc n) [] none = refl
+none_in_front p (suc n) (g ∷ gs) none = grind (arith, nat_tests, none, none_in_front p n gs)
+
 pub no_half_taken : (bits : ℕ) (gs : List hb_glyph_info_t) → list_any (is_one_of (OT_ZWNJ ∷ [])) gs ≡ false
     → without_half bits gs ≡ gs
 no_half_taken bits [] none = refl
 no_half_taken bits (g ∷ gs) none =
-    let rest : list_any (is_one_of (OT_ZWNJ ∷ [])) gs ≡ false = grind (arith, nat_tests, none) in
+    let rest : list_any _ gs ≡ false = grind (arith, nat_tests, none) in
     ap (λ (b : Bool). (if b then without_bits bits g else g) ∷ without_half bits gs)
-    (none_in_front (is_one_of (OT_ZWNJ ∷ [])) (prefix_len (λ x. not (is_consonant x)) gs) gs rest)
+    (none_in_front _ _ gs rest)
     ∙ ap (λ xs. g ∷ xs) (no_half_taken bits gs rest)
 
 -- what becomes of a glyph in that walk
@@ -88,15 +93,15 @@ pub half_back : (bits : ℕ) (gs xs : List hb_glyph_info_t) (i k : ℕ) (loses r
 half_back bits gs xs i k loses r g d e h is l g_is r_is =
     let after = drop (k + 1) gs in
     let x = get_or gs k d in
-    let here : drop k gs ≡ x ∷ after = drop_more gs k d h in
-    let is' : xs ≡ take (k + 1) gs ++ without_half bits after =
+    let here = drop_more gs k d h in
+    let is' =
     subst (λ n. xs ≡ take n gs ++ without_half bits (drop n gs)) (sym e) is in
-    let l' : loses ≡ loses_half after = subst (λ n. loses ≡ loses_half (drop n gs)) (sym e) l in
-    let at : get_or xs k d ≡ x = ap (λ ys. get_or ys k d) is' ∙ seam_get gs (without_half bits after) k d h in
-    let g_is' : g ≡ half_taken bits (loses_half after) x = g_is ∙ ap (half_taken bits loses) at
+    let l' = subst (λ n. loses ≡ loses_half (drop n gs)) (sym e) l in
+    let at = ap (λ ys. get_or ys k d) is' ∙ seam_get gs _ k d h in
+    let g_is' = g_is ∙ ap (half_taken bits loses) at
     ∙ ap (λ b. half_taken bits b x) l' in
     record {
-      glyphs = ap (λ ys. set ys k g) is' ∙ seam_set gs (without_half bits after) k d g h
+      glyphs = ap (λ ys. set ys k g) is' ∙ seam_set gs _ k d g h
           ∙ ap (λ y. take k gs ++ y ∷ without_half bits after) g_is'
           ∙ sym (ap (λ ys. take k gs ++ without_half bits ys) here);
       loses = r_is ∙ ap (λ y. not (is_consonant y) && (is_one_of (OT_ZWNJ ∷ []) y || loses)) g_is'
@@ -108,12 +113,12 @@ half_back bits gs xs i k loses r g d e h is l g_is r_is =
 -- a search over places, one place on, and its answer
 pub search_on : (P : ℕ → Bool) (i e : ℕ) → i < e → P i ≡ false → find P (places (i + 1) e) ≡ find P (places i e)
 search_on P i e h fails =
-    let n : suc (e - (i + 1)) ≡ e - i = omega arith in
+    let n : suc _ ≡ e - i = omega arith in
     sym (ap (λ b. cond b (Some i) (find P (places (i + 1) e))) fails) ∙ ap (λ m. find P (range_with_len i m)) n
 
 pub search_found : (P : ℕ → Bool) (i e : ℕ) → i < e → P i ≡ true → Some i ≡ find P (places i e)
 search_found P i e h found =
-    let n : suc (e - (i + 1)) ≡ e - i = omega arith in
+    let n : suc _ ≡ e - i = omega arith in
     sym (ap (λ b. cond b (Some i) (find P (places (i + 1) e))) found) ∙ ap (λ m. find P (range_with_len i m)) n
 
 -- two neighbours, as the font is asked about them
@@ -154,7 +159,7 @@ categories_stay : (bits : ℕ) (test : ℕ → Bool) (n : ℕ) (gs : List hb_gly
     → map (λ g. g.category) (map (bits_if bits test) (enumerate_from n gs)) ≡ map (λ g. g.category) gs
 categories_stay bits test n [] = refl
 categories_stay bits test n (g ∷ gs) =
-    (elim (test n) as (λ b. (let x : hb_glyph_info_t = if b then with_bits bits g else g in x.category
+    (elim (test n) as (λ b. (let x = if b then with_bits bits g else g in x.category
     ∷ map (λ h. h.category) (map (bits_if bits test) (enumerate_from (n + 1) gs))
     ≡ g.category ∷ map (λ h. h.category) (map (bits_if bits test) (enumerate_from (n + 1) gs)))) [
       | true ↦ refl
@@ -168,10 +173,10 @@ bits_up_to bits test i gs = map (bits_if bits test) (enumerate_from 0 (take i gs
 categories_up_to : (bits : ℕ) (test : ℕ → Bool) (i : ℕ) (gs : List hb_glyph_info_t)
     → map (λ g. g.category) (bits_up_to bits test i gs) ≡ map (λ g. g.category) gs
 categories_up_to bits test i gs =
-    map-append (λ g. g.category) (map (bits_if bits test) (enumerate_from 0 (take i gs))) (drop i gs)
-    ∙ ap (λ cs. cs ++ map (λ g. g.category) (drop i gs)) (categories_stay bits test 0 (take i gs))
-    ∙ sym (map-append (λ g. g.category) (take i gs) (drop i gs))
-    ∙ ap (map (λ g. g.category)) (take-append-drop i gs)
+    map-append _ _ (drop i gs)
+    ∙ ap (λ cs. cs ++ map (λ g. g.category) (drop i gs)) (categories_stay bits test 0 _)
+    ∙ sym (map-append _ (take i gs) _)
+    ∙ ap (map _) (take-append-drop i gs)
 
 pub eyelash_next : (bits base : ℕ) (gs xs ys : List hb_glyph_info_t) (i : ℕ) (d : hb_glyph_info_t) (b : Bool)
     → i < length gs → xs ≡ bits_up_to bits (is_in_eyelash base gs) i gs → b ≡ is_in_eyelash base xs i
@@ -224,7 +229,7 @@ pub asked_pair : (P : List GlyphId → Bool) (gs : List hb_glyph_info_t) (i : �
     → i + 1 < length gs → a ≡ number (get_or gs i default_glyph) → b ≡ number (get_or gs (i + 1) default_glyph)
     → r ≡ P (a ∷ b ∷ []) → P (numbers (stretch_of i (i + 2) gs)) ≡ r
 asked_pair P gs i a b r h is_a is_b is =
-    ap P (pair_at gs i default_glyph h ∙ sym (ap (λ x. x ∷ number (get_or gs (i + 1) default_glyph) ∷ []) is_a)
+    ap P (pair_at gs i _ h ∙ sym (ap (λ x. x ∷ number (get_or gs (i + 1) default_glyph) ∷ []) is_a)
     ∙ sym (ap (λ x. a ∷ x ∷ []) is_b)) ∙ sym is
 
 -- the pair, where there is a mask and room
@@ -232,7 +237,7 @@ pub pref_pair_asked : (r : Rules) (base : ℕ) (gs : List hb_glyph_info_t) → 0
     → least_place (λ i. r.forms_pref (numbers (stretch_of i (i + 2) gs))) (base + 1) (length gs - 1)
     ≡ pref_pair r base gs
 pref_pair_asked r base gs m h =
-    let yes : (not (mask_at r PREF == 0) && nat_lt (base + 2) (length gs)) ≡ true = grind (arith, nat_tests) in
+    let yes : (not _ && nat_lt (base + 2) (length gs)) ≡ true = grind (arith, nat_tests) in
     sym (ap (λ (b : Bool). if b then least_place (λ i. r.forms_pref (numbers (stretch_of i (i + 2) gs))) (base + 1)
     (length gs - 1) else None) yes)
 
@@ -245,14 +250,14 @@ pub all_masks : (r : Rules) (script : Option Script) (base : ℕ) (gs g1 g2 g3 g
     → g3 ≡ with_eyelash_mask r script base g2 → g4 ≡ with_pref_mask r base g3 → b4 ≡ bits_of r HALF
     → g5 ≡ without_half b4 g4 → g5 ≡ with_initial_masks r script base gs
 all_masks r script base gs g1 g2 g3 g4 g5 b1 b2 b3 b4 e1 h1 e2 e3 h2 h3 h4 e4 h5 =
-    let one : g1 ≡ with_reph_mask r gs =
+    let one =
     h1 ∙ ap (λ b. with_stretch 0 (prefix_len (has_position POS_RA_TO_BECOME_REPH) gs) (map (with_bits b)) gs)
     e1 in
-    let two : g2 ≡ with_masks_around r base (with_reph_mask r gs) =
+    let two =
     h2 ∙ ap (λ b. with_stretch (base + 1) (length g1) (map (with_bits b3))
     (with_stretch 0 base (map (with_bits b)) g1)) e2
     ∙ ap (λ b. with_stretch (base + 1) (length g1) (map (with_bits b))
     (with_stretch 0 base (map (with_bits (mask_before_base r))) g1)) e3 ∙ ap (with_masks_around r base) one in
     h5 ∙ ap (λ b. without_half b g4) e4
-    ∙ ap (without_half (bits_of r HALF)) (h4
+    ∙ ap (without_half _) (h4
     ∙ ap (with_pref_mask r base) (h3 ∙ ap (with_eyelash_mask r script base) two))

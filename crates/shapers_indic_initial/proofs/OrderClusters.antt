@@ -13,7 +13,7 @@ use Rattle.shapers_clusters.specs.Cuts.{AllDifferent, EndWithin, ExactCuts, OneA
 use Rattle.shapers_clusters.specs.ClusterMerges.{joined_all}
 use Rattle.shapers_clusters.proofs.Moves.{HeldIn, all_held}
 use Rattle.shapers_clusters.proofs.Neighbours.{joined_all-linked, share_all}
-use Rattle.shapers_clusters.proofs.Permuted.{picked-permuted, length_permuted, within_permuted}
+use Rattle.shapers_clusters.proofs.Permuted.{picked-permuted}
 use Rattle.shapers_clusters.proofs.SparedCuts.{different_permuted}
 use Rattle.shapers_clusters.proofs.Picks.{length-pick}
 use Rattle.shapers_indic.specs.Glyphs.{places}
@@ -26,20 +26,20 @@ use Rattle.shapers_indic_initial.proofs.CycleSteps.{once_range}
 use Rattle.shapers_indic_initial.proofs.CycleWays.{held_by_ways}
 use Rattle.shapers_indic_initial.proofs.Cycles.{once-swap}
 use Rattle.shapers_clusters.proofs.GatheredCuts.{different_gathered, exact_gathered}
-use Rattle.shapers_indic_initial.specs.Proved.InitialSteps.{stretches_end}
+use Rattle.shapers_indic_initial.specs.Proved.InitialSteps.{length_permuted, stretches_end, within_permuted}
 use Rattle.shapers_indic_initial.specs.Proved.OrderedPlaces.{ordered_permutes}
 
 -- places in some order are each there once
 pub once_permuted : (n : ℕ) (from : List ℕ) → IsPermutation (range_with_len 0 n) from → EachOnce from
 once_permuted n from perm =
-    IsPermutation-keeps (range_with_len 0 n) EachOnce (once_range n) (λ xs i j h k o. once-swap xs i j h k o) from perm
+    IsPermutation-keeps _ _ (once_range n) (λ xs i j h k o. once-swap xs i j h k o) from perm
 
 -- the stretches that are kept together hold the neighbours that those hold that merge; they begin
 -- at the base or behind it and end within
 pub held_together : (r : Rules) (from : List ℕ) (base i : ℕ) → EachOnce from → held (ordered_stretches r from base) i
     ≡ held (kept_together r from base) i
 held_together r from base i o =
-    elim (r.old || nat_lt 127 (length from)) as (λ b. held (if b then (base, length from)
+    elim (r.old || nat_lt 127 _) as (λ b. held (if b then (base, length from)
     ∷ [] else cycle_stretches from base) i ≡ held (if b then (base, length from) ∷ [] else all_ways from base) i) [
       | true ↦ refl
       | false ↦ held_by_ways from base i o
@@ -101,18 +101,18 @@ pub one_cluster : (level : BufferClusterLevel) → merges level ≡ true → (st
     → EndWithin (length xs) sts → (st : ℕ × ℕ) → st.1 ≤ length xs → HeldIn sts st
     → OneAlong (joined_all level sts xs) st
 one_cluster level m sts xs ends st within all p q pl ph ql qh =
-    sym (share_all (joined_all level sts xs) p q
+    sym (share_all _ p q
     (λ i a b. joined_all-linked level m sts xs ends i (omega arith) (omega arith)
     (ap (λ c. slice_index xs (i - 1) == slice_index xs i || c) (all i (omega arith) (omega arith))
-    ∙ or_right (slice_index xs (i - 1) == slice_index xs i) true refl)) q (omega arith) (omega arith))
+    ∙ or_right _ true refl)) q (omega arith) (omega arith))
 
 -- a place before the base keeps its cluster
 unlinked_before : (base n : ℕ) (sts : List (ℕ × ℕ)) (xs : List ℕ) → AllByRecursion (Lies base n) sts
     → ((a c : ℕ) → a < c → c < length xs → get_or xs a 0 ≢ get_or xs c 0) → (i : ℕ) → 0 < i → i ≤ base → i < length xs
     → linked xs sts i ≡ true → ⊥
 unlinked_before base n sts xs lies different i z h l t =
-    elim (cases_Bool (slice_index xs (i - 1) == slice_index xs i)) [
-      | inl e ↦ different (i - 1) i (omega arith) l (eqb-true (get_or xs (i - 1) 0) (get_or xs i 0) e)
+    elim (cases_Bool _) [
+      | inl e ↦ different (i - 1) i (omega arith) l (eqb-true _ _ e)
       | inr f ↦ let b = held_behind base n sts i lies (sym (ap (λ b. b || held sts i) f) ∙ t) in let above =
           b.above in omega arith
     ]
@@ -139,14 +139,14 @@ order_merges r level gs cs m long =
     let n = length gs in
     let perm = ordered_permutes gs in
     let o = once_permuted n from perm in
-    let fl : length from ≡ length gs = length_permuted n from perm in
+    let fl = length_permuted n from perm in
     let sts = ordered_stretches r from base in
     let ways = kept_together r from base in
-    let within : AllByRecursion (λ p. p < length cs) from =
+    let within =
     subst (λ k. AllByRecursion (λ p. p < k) from) (sym long) (within_permuted n from perm) in
     let xs = pick from cs in
-    let xl : length xs ≡ length gs = length-pick from cs within ∙ fl in
-    let ends : EndWithin (length xs) sts = subst (λ k. EndWithin k sts) (sym xl) (stretches_end r from base n perm) in
+    let xl = length-pick from cs within ∙ fl in
+    let ends = subst (λ k. EndWithin k sts) (sym xl) (stretches_end r from base n perm) in
     let lies = together_lies r from base o in
     let same = λ (i : ℕ). held_together r from base i o in
     let js = joined_all level sts xs in
@@ -154,10 +154,10 @@ order_merges r level gs cs m long =
     let exact = λ (h : AllDifferent cs). exact_by xs sts ways js same
     (exact_gathered level m sts xs ends (different_gathered xs (different h))) in
     record {
-      together = all_by_two (Lies base (length from)) (HeldIn ways) (OneAlong js)
-          (λ st a b. one_cluster level m sts xs ends st (omega (arith, a.high)) (λ i x y. same i ∙ b i x y)) ways lies
+      together = all_by_two _ _ _
+          (λ st a b. one_cluster level m sts xs ends st (omega arith) (λ i x y. same i ∙ b i x y)) ways lies
           (all_held ways);
       exact = exact;
-      before = λ h p b l. kept_before base (length from) ways xs js lies (λ a c l k. different h a c 0 l k) (exact h) p
+      before = λ h p b l. kept_before base _ ways xs js lies (λ a c l k. different h a c 0 l k) (exact h) p
           b (omega arith);
     }

@@ -1,5 +1,5 @@
 -- A syllable of one plain consonant: nothing of it changes.
-use Rattle.std.proofs.Common.{ℕ, ◌+◌, ◌-◌, ◌<◌, ◌≤◌, ◌≡◌, ◌==◌, ◌&&◌, not, nat_lt, Bool, true, false, inl, inr, List, [], ◌∷◌, ◌++◌, map, length, refl, sym, ◌∙◌, ap, arith}
+use Rattle.std.proofs.Common.{ℕ, ◌+◌, ◌-◌, ◌<◌, ◌≤◌, ◌≡◌, ◌==◌, not, Bool, true, false, inl, inr, List, [], ◌∷◌, ◌++◌, map, length, refl, sym, ◌∙◌, ap, arith}
 use Rattle.std.specs.Prelude.{Option, Some, codes}
 use Rattle.std.specs.List.{range_with_len}
 use Rattle.std.proofs.lemmas.Bool.{and_parts, cases_Bool, eqb-true, lt-ltb}
@@ -21,9 +21,7 @@ use Rattle.shapers_buffer.specs.Marks.{is_ligated}
 use Rattle.shapers_base.specs.declared.plan.indic.RephMode.{RephMode}
 use Rattle.shapers_base.specs.declared.plan.indic.RephMode.TheVariants.{Implicit, Explicit, LogRepha}
 use Rattle.shapers_indic.specs.declared.ot_shaper_indic.indic_feature.TheConstants.{PREF, RPHF}
-use Rattle.shapers_base.specs.declared.plan.ot_category_t.TheConstants.{OT_C}
-use Rattle.shapers_base.specs.declared.plan.ot_position_t.TheConstants.{POS_BASE_C}
-use Rattle.shapers_indic.specs.Glyphs.{has_category, has_position, is_plain_consonant}
+use Rattle.shapers_indic.specs.Glyphs.{is_plain_consonant}
 use Rattle.shapers_indic.specs.Plan.{is_script}
 use Rattle.shapers_indic_initial.specs.InitialBase.{base_place, has_indic_reph, joiner_comes_first, opens_with_repha, indic_reph_len}
 use Rattle.shapers_indic_initial.specs.InitialMasks.{has_eyelash, with_eyelash_mask, with_initial_masks, with_pref_mask}
@@ -145,7 +143,7 @@ plain_steps_are : (r : Rules) (script : Option Script) (g : hb_glyph_info_t) →
 plain_steps_are r script g m =
     let x = plain_consonant g ∷ [] in
     let opened = with_joiner_first script x in
-    let second = halant_step r script (base_place r opened) (with_base_positions r opened) in
+    let second = halant_step r script (base_place r opened) _ in
     let third = indic_order_step r (positioned r script x) in
     ap (λ step. step ∷ (second ∷ (third ∷ []))) (first_step script g)
     ∙ ap (λ step. one_place [] ∷ (step ∷ (third ∷ []))) (second_step r script g m)
@@ -154,7 +152,7 @@ plain_steps_are r script g m =
 -- such steps change nothing
 merge_one : (level : BufferClusterLevel) (s e : ℕ) (gs : List hb_glyph_info_t) → e - s < 2 → merge level s e gs ≡ gs
 merge_one level s e gs short =
-    let few : nat_lt (e - s) 2 ≡ true = lt-ltb (e - s) 2 short in
+    let few = lt-ltb (e - s) 2 short in
     elim (cases_Bool (merges level)) [ inl on ↦ rw (on, few) refl | inr off ↦ rw off refl ]
 
 picks_all : (s n : ℕ) (gs : List hb_glyph_info_t) → s + 1 ≤ n → length gs ≡ n
@@ -171,7 +169,7 @@ still_run : (level : BufferClusterLevel) (s : ℕ) (gs : List hb_glyph_info_t) �
     → run_steps level (map (widened s (s + 1) (length gs)) plain_steps) gs ≡ gs
 still_run level s gs l =
     let n = length gs in
-    let w : List Step → List hb_glyph_info_t → List hb_glyph_info_t =
+    let w : List Step → List _ → List _ =
     λ steps hs. run_steps level (map (widened s (s + 1) n) steps) hs in
     let same = picks_all s n gs l refl in
     ap (w (one_place [] ∷ (one_place ((0, 1) ∷ []) ∷ []))) same
@@ -209,22 +207,22 @@ plain_syllable r script s e g b h l is m =
 plain_glyph : (s e : ℕ) (b : Buffer) (xs : List hb_glyph_info_t) → (r : Rules) → (script : Option Script) → s ≤ e
     → e ≤ length b.glyphs → stretch_of s e b.glyphs ≡ xs → is_plain_consonant xs ≡ true
     → SyllableReordered (initial_order r script) (initial_steps r script) s e b b
-plain_glyph s e b [] r script h l is on = absurd (let no : false ≡ true = on in cc)
-plain_glyph s e b (g ∷ (x ∷ xs)) r script h l is on = absurd (let no : false ≡ true = on in cc)
+plain_glyph s e b [] r script h l is on = absurd (let no = on in cc)
+plain_glyph s e b (g ∷ (x ∷ xs)) r script h l is on = absurd (let no = on in cc)
 plain_glyph s e b (g ∷ []) r script h l is on =
-    let first = and_parts (has_category OT_C g && has_position POS_BASE_C g) (not (is_ligated g.marks)) on in
-    let both = and_parts (has_category OT_C g) (has_position POS_BASE_C g) first.0 in
-    let category : g.category ≡ 1 = eqb-true g.category 1 both.0 in
-    let position : g.auxiliary ≡ 4 = eqb-true g.auxiliary 4 both.1 in
-    let unligated : is_ligated g.marks ≡ false = not_true (is_ligated g.marks) first.1 in
+    let first = and_parts _ _ on in
+    let both = and_parts _ _ first.0 in
+    let category = eqb-true _ 1 both.0 in
+    let position = eqb-true _ 4 both.1 in
+    let unligated = not_true _ first.1 in
     let v = plain g in
-    let viewed : v ≡ plain_consonant v =
-    ap (λ c. let x : hb_glyph_info_t = record v { category = c } in x) category
-    ∙ ap (λ a. let x : hb_glyph_info_t = record v { category = 1; auxiliary = a } in x) position in
-    plain_syllable r script s e v b h l (sym (map-stretch plain s e b.glyphs) ∙ ap order_view is
+    let viewed =
+    ap (λ c. let x = record v { category = c } in x) category
+    ∙ ap (λ a. let x = record v { category = 1; auxiliary = a } in x) position in
+    plain_syllable r script s e v b h l (sym (map-stretch plain s e _) ∙ ap order_view is
     ∙ ap (λ x. x ∷ []) viewed) unligated
 
 pub plain_here : (r : Rules) (script : Option Script) (s e : ℕ) (b : Buffer) → s ≤ e → e ≤ length b.glyphs
     → is_plain_consonant (stretch_of s e b.glyphs) ≡ true
     → SyllableReordered (initial_order r script) (initial_steps r script) s e b b
-plain_here r script s e b h l on = plain_glyph s e b (stretch_of s e b.glyphs) r script h l refl on
+plain_here r script s e b h l on = plain_glyph s e b _ r script h l refl on

@@ -38,28 +38,28 @@ walked_behind_base base reph i (g ∷ gs) h =
     let first : (i == 0) ≡ false = grind (arith, nat_tests) in
     let before : nat_lt i base ≡ false = grind (arith, nat_tests) in
     let here : (i == base) ≡ false = grind (arith, nat_tests) in
-    let stays : position_by_base base reph i g.auxiliary ≡ g.auxiliary =
+    let stays =
     ap (λ b. if reph && b then 1 else if nat_lt i base then min 3 g.auxiliary else if i == base then 4 else g.auxiliary)
     first
     ∙ ap (λ b. if b then 1 else if nat_lt i base then min 3 g.auxiliary else if i == base then 4 else g.auxiliary)
     (and_false reph)
     ∙ ap (λ b. if b then min 3 g.auxiliary else if i == base then 4 else g.auxiliary) before
     ∙ ap (λ b. if b then 4 else g.auxiliary) here in
-    ap (λ p. at_position p g ∷ walked (base_step base reph) (i + 1) gs) stays
+    ap (λ p. at_position p g ∷ walked _ (i + 1) gs) stays
     ∙ ap (λ xs. g ∷ xs) (walked_behind_base base reph (i + 1) gs (omega arith))
 
 pub based_all : (base : ℕ) (reph : Bool) (i : ℕ) (gs old : List hb_glyph_info_t) → (i < length gs → base < i)
     → take i gs ++ walked (base_step base reph) i (drop i gs) ≡ walked (base_step base reph) 0 old
     → gs ≡ by_base base reph old
 based_all base reph i gs old far same =
-    (elim (nat_lt i (length gs)) as (λ b. nat_lt i (length gs) ≡ b → gs ≡ walked (base_step base reph) 0 old) [
+    (elim (nat_lt i _) as (λ b. nat_lt i (length gs) ≡ b → gs ≡ walked (base_step base reph) 0 old) [
       | true ↦ (λ t.
           let inside : i < length gs = grind (arith, nat_tests) in
           sym (take-append-drop i gs)
-          ∙ sym (ap (λ xs. take i gs ++ xs) (walked_behind_base base reph i (drop i gs) (far inside))) ∙ same)
+          ∙ sym (ap (λ xs. take i gs ++ xs) (walked_behind_base base reph i _ (far inside))) ∙ same)
       | false ↦ (λ t.
           let done : length gs ≤ i = grind (arith, nat_tests) in
-          walk_done (base_step base reph) i gs (walked (base_step base reph) 0 old) i done same)
+          walk_done _ i gs _ i done same)
     ]) refl
     ∙ by_base_all base reph old
 
@@ -79,7 +79,7 @@ nearest_next test d before g =
       | true ↦ refl
       | false ↦ refl
     ])
-    ∙ sym (ap (λ xs. option_map_or (λ h. h.auxiliary) (find test xs) d) (reverse-append before (g ∷ [])))
+    ∙ sym (ap (λ xs. option_map_or (λ h. h.auxiliary) (find test xs) d) (reverse-append before _))
 
 pub carried_on : (test : hb_glyph_info_t → Bool) (change : ℕ → hb_glyph_info_t → hb_glyph_info_t) (d c : ℕ)
     (before gs : List hb_glyph_info_t) → c ≡ nearest_place test d before → walked (carry_step test change) c gs
@@ -95,7 +95,7 @@ abbrev pub attach_step : ℕ → hb_glyph_info_t → ℕ × hb_glyph_info_t
 attach_step = carry_step carries (λ p g. if is_attached g then at_position p g else g)
 
 pub attached_all : (gs : List hb_glyph_info_t) → walked attach_step 0 gs ≡ with_attached gs
-attached_all gs = carried_on carries (λ p g. if is_attached g then at_position p g else g) 0 0 [] gs refl
+attached_all gs = carried_on carries _ 0 0 [] gs refl
 
 abbrev pub halant_step_of : ℕ → hb_glyph_info_t → ℕ × hb_glyph_info_t
 halant_step_of =
@@ -104,8 +104,8 @@ halant_step_of =
 
 pub halants_all : (gs : List hb_glyph_info_t) → walked halant_step_of 2 gs ≡ with_halants gs
 halants_all gs =
-    carried_on (λ h. not (has_position 2 h))
-    (λ p g. if has_category 4 g && has_position 2 g then at_position p g else g) 2 2 [] gs refl
+    carried_on _
+    _ 2 2 [] gs refl
 
 -- what consonants own, from the right
 abbrev pub owner_position : Option hb_glyph_info_t → Option ℕ
@@ -121,15 +121,15 @@ pub record Owning (i : ℕ) (owner : Option ℕ) (old gs : List hb_glyph_info_t)
 pub owning_here : (k : ℕ) (owner : Option ℕ) (old gs : List hb_glyph_info_t) (d : hb_glyph_info_t)
     → Owning (k + 1) owner old gs → get_or gs k d ≡ get_or old k d
 owning_here k owner old gs d s =
-    let long : length (take (k + 1) old) ≡ k + 1 = length-take-le (k + 1) old s.within in
-    ap (λ xs. get_or xs k d) s.owned ∙ get_or_append_left (take (k + 1) old) (with_owners (drop (k + 1) old)) d k
+    let long = length-take-le (k + 1) old s.within in
+    ap (λ xs. get_or xs k d) s.owned ∙ get_or_append_left _ _ d k
     (omega arith) ∙ get_or-take (k + 1) old k d (omega arith)
 
 owned_is : (g : hb_glyph_info_t) (o : Option hb_glyph_info_t)
     → at_position (if nat_le 13 g.auxiliary then g.auxiliary else unwrap_or (owner_position o) g.auxiliary) g
     ≡ (if nat_le 13 g.auxiliary then g else owned_by o g)
 owned_is g None =
-    elim (nat_le 13 g.auxiliary) as (λ b. at_position (if b then g.auxiliary else g.auxiliary) g
+    elim (nat_le 13 _) as (λ b. at_position (if b then g.auxiliary else g.auxiliary) g
     ≡ (if b then g else g)) [
       | true ↦ refl
       | false ↦ refl
@@ -138,12 +138,12 @@ owned_is g (Some h) =
     (elim (is_consonant h) as (λ a. at_position
     (if nat_le 13 g.auxiliary then g.auxiliary else unwrap_or (if a then Some h.auxiliary else None) g.auxiliary) g
     ≡ (if nat_le 13 g.auxiliary then g else (if a then at_position h.auxiliary g else g))) [
-      | true ↦ (elim (nat_le 13 g.auxiliary) as (λ b. at_position (if b then g.auxiliary else h.auxiliary) g
+      | true ↦ (elim (nat_le 13 _) as (λ b. at_position (if b then g.auxiliary else h.auxiliary) g
           ≡ (if b then g else at_position h.auxiliary g)) [
             | true ↦ refl
             | false ↦ refl
           ])
-      | false ↦ (elim (nat_le 13 g.auxiliary) as (λ b. at_position (if b then g.auxiliary else g.auxiliary) g
+      | false ↦ (elim (nat_le 13 _) as (λ b. at_position (if b then g.auxiliary else g.auxiliary) g
           ≡ (if b then g else g)) [
             | true ↦ refl
             | false ↦ refl

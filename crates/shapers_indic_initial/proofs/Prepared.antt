@@ -7,7 +7,7 @@ use Rattle.shapers_buffer.specs.declared.buffer.glyph.hb_glyph_info_t.{hb_glyph_
 use Rattle.shapers_buffer.specs.declared.buffer.tag.Script.{Script}
 use Rattle.shapers_buffer.specs.Buffer.{Buffer, but_places}
 use Rattle.shapers_buffer.specs.Clusters.{merge, merge_all, stretch_of, with_stretch}
-use Rattle.shapers_buffer.specs.Glyph.{default_glyph, order_view, plain}
+use Rattle.shapers_buffer.specs.Glyph.{order_view, plain}
 use Rattle.shapers_buffer.specs.Places.{pick}
 use Rattle.shapers_buffer.proofs.ClusterLemmas.{three_parts, length-stretch, map-stretch}
 use Rattle.shapers_clusters.specs.Steps.{FitsStep, Step, shifted, still_step, swap_step}
@@ -18,7 +18,7 @@ use Rattle.shapers_indic_initial.specs.InitialBase.{base_place, has_indic_reph, 
 use Rattle.shapers_indic_initial.specs.InitialPositions.{by_base, halant_after, halant_from, halant_places, moved_behind, with_marks_attached, with_owners_after}
 use Rattle.shapers_indic_initial.specs.InitialReordering.{halant_step, halant_steps, joiner_step, joiner_steps, opening_steps, positioned, with_base_positions, with_halant_moved, with_joiner_first, with_marks_and_owners}
 use Rattle.shapers_indic_initial.specs.InitialRules.{Rules}
-use Rattle.shapers_indic_initial.proofs.InitialReads.{KeepsRead, base_stays, joiner_first_stays}
+use Rattle.shapers_indic_initial.proofs.InitialReads.{plain_view, base_stays, joiner_first_stays, same_two}
 use Rattle.shapers_indic_initial.specs.Proved.InitialSteps.{halant_fits, joiner_fits, joiner_long}
 use Rattle.shapers_indic_initial.specs.Proved.InitialViews.{carried_hides_positions, hidden-by_base, hidden-with_marks_attached, hidden-with_owners_after}
 use Rattle.shapers_indic_initial.proofs.InitialWrites.{halant_places_stay, with_base_stays, with_marks_stays, with_owners_after_stays}
@@ -27,36 +27,25 @@ use Rattle.shapers_indic_initial.specs.Proved.OrderedPlaces.{places_all}
 use Rattle.shapers_indic_initial.specs.Proved.InitialLaws.{length-with_base}
 use Rattle.shapers_syllabic.specs.Reordering.{SyllableReordered, carried}
 use Rattle.shapers_syllabic.proofs.SyllableThen.{changed_parts, syllable_as, syllable_changed, syllable_then}
-use Rattle.shapers_clusters.proofs.EqualArguments.{same_two}
-
--- the order view keeps what is read
-pub plain_keeps : KeepsRead plain
-plain_keeps = record {
-  glyph_id = λ g. refl;
-  category = λ g. refl;
-  auxiliary = λ g. refl;
-  marks = λ g. refl;
-  at_positions = λ p g. refl;
-}
 
 -- a syllable in the order view, and how long it is
 
 pub seen_long : (s e : ℕ) (gs : List hb_glyph_info_t) → s ≤ e → e ≤ length gs → length (stretch_of s e (order_view gs))
     ≡ e - s
-seen_long s e gs h l = length-stretch s e (order_view gs) (omega (arith, length-map gs plain))
+seen_long s e gs h l = length-stretch s e _ (omega (arith, length-map gs plain))
 
 -- a stretch picked in its own order stays
 picked_still : (s e n : ℕ) (gs : List hb_glyph_info_t) → s ≤ e → e ≤ length gs → n ≡ e - s
     → gs ≡ with_stretch s e (pick (range_with_len 0 n)) gs
 picked_still s e n gs h l k =
     sym (three_parts s e gs h)
-    ∙ sym (ap (λ ys. take s gs ++ (ys ++ drop e gs)) (pick-all n (stretch_of s e gs) (length-stretch s e gs l ∙ sym k)))
+    ∙ sym (ap (λ ys. take s gs ++ (ys ++ drop e gs)) (pick-all n _ (length-stretch s e gs l ∙ sym k)))
 
 -- a stretch picked by a move
 picked_moved : (s e n h j : ℕ) (gs : List hb_glyph_info_t) → s ≤ e → e ≤ length gs → n ≡ e - s → h ≤ j → j < n
     → moved_behind (s + h) (s + j) gs ≡ with_stretch s e (pick (moved_behind h j (range_with_len 0 n))) gs
 picked_moved s e n h j gs l r k a b =
-    moved_within default_glyph s e h j gs l r a (omega arith)
+    moved_within s e h j gs l r a (omega arith)
     ∙ sym (ap (λ ys. take s gs ++ (ys ++ drop e gs))
     (pick-moved h j n (stretch_of s e gs) (length-stretch s e gs r ∙ sym k) a b))
 
@@ -80,7 +69,7 @@ joiner_moves script s e old mid new h l first is kept moved =
     let n = length X in
     let long : n ≡ e - s = seen_long s e gs h l in
     let on : joiner_comes_first script X ≡ true = ap (joiner_comes_first script) (sym (map-stretch plain s e gs))
-    ∙ joiner_first_stays plain plain_keeps script (stretch_of s e gs) ∙ first in
+    ∙ joiner_first_stays plain_view script (stretch_of s e gs) ∙ first in
     let step = joiner_step script X in
     let swaps : step ≡ swap_step n 1 = ap (λ b. if b then swap_step n 1 else still_step n) on in
     let two : 2 < n = joiner_long script X on in
@@ -110,7 +99,7 @@ joiner_stays_put script s e b h l first =
     let n = length X in
     let long : n ≡ e - s = seen_long s e gs h l in
     let off : joiner_comes_first script X ≡ false = ap (joiner_comes_first script) (sym (map-stretch plain s e gs))
-    ∙ joiner_first_stays plain plain_keeps script (stretch_of s e gs) ∙ first in
+    ∙ joiner_first_stays plain_view script (stretch_of s e gs) ∙ first in
     let step = joiner_step script X in
     let still : step ≡ still_step n = ap (λ c. if c then swap_step n 1 else still_step n) off in
     stepped (with_joiner_first script) (joiner_steps script) s e step b b h l
@@ -137,7 +126,7 @@ halant_moves r script base s e a j old new h l up within there kept moved =
     let step = halant_step r script base X in
     let moves : step.places ≡ moved_behind a j (range_with_len 0 n) =
     ap (halant_places r script base) (sym (map-stretch plain s e gs))
-    ∙ halant_places_stay plain plain_keeps r script base (stretch_of s e gs) ∙ there
+    ∙ halant_places_stay plain_view r script base (stretch_of s e gs) ∙ there
     ∙ ap (moved_behind a j) (places_all n) in
     let last : s + j + 1 - 1 ≡ s + j = omega arith in
     stepped (with_halant_moved r script base) (halant_steps r script base) s e step old new h l
@@ -160,7 +149,7 @@ halant_stays_put r script base s e b h l there =
     let step = halant_step r script base X in
     let stays : step.places ≡ range_with_len 0 n =
     ap (halant_places r script base) (sym (map-stretch plain s e gs))
-    ∙ halant_places_stay plain plain_keeps r script base (stretch_of s e gs) ∙ there ∙ places_all n in
+    ∙ halant_places_stay plain_view r script base (stretch_of s e gs) ∙ there ∙ places_all n in
     stepped (with_halant_moved r script base) (halant_steps r script base) s e step b b h l
     (subst (λ m. FitsStep m step) (seen_long s e gs h l) (halant_fits r script base X))
     refl
@@ -171,7 +160,7 @@ halant_stays_put r script base s e b h l there =
 pub halant_off : (r : Rules) (script : Option Script) (base s e : ℕ) (b : Buffer) → s ≤ e → e ≤ length b.glyphs
     → r.old ≡ false → SyllableReordered (with_halant_moved r script base) (halant_steps r script base) s e b b
 halant_off r script base s e b h l off =
-    let syl = stretch_of s e b.glyphs in
+    let syl = stretch_of s e _ in
     halant_stays_put r script base s e b h l
     (ap (λ c. if c then halant_from script syl (halant_after base syl) else places 0 (length syl)) off)
 
@@ -181,7 +170,7 @@ pub halant_left : (r : Rules) (script : Option Script) (base s e : ℕ) (b : Buf
     ≡ places 0 (length (stretch_of s e hs))
     → SyllableReordered (with_halant_moved r script base) (halant_steps r script base) s e b b
 halant_left r script base s e b hs h l same on there =
-    let syl = stretch_of s e b.glyphs in
+    let syl = stretch_of s e _ in
     halant_stays_put r script base s e b h l
     (ap (λ c. if c then halant_from script syl (halant_after base syl) else places 0 (length syl)) on
     ∙ subst (λ gs. halant_from script (stretch_of s e gs) (halant_after base (stretch_of s e gs))
@@ -196,7 +185,7 @@ pub halant_done : (r : Rules) (script : Option Script) (base s e a j : ℕ) (old
     → new.glyphs ≡ moved_behind (s + a) (s + j + 1 - 1) old.glyphs
     → SyllableReordered (with_halant_moved r script base) (halant_steps r script base) s e old new
 halant_done r script base s e a j old new hs h l same on up within there kept moved =
-    let syl = stretch_of s e old.glyphs in
+    let syl = stretch_of s e _ in
     halant_moves r script base s e a j old new h l up
     (subst (λ gs. j < length (stretch_of s e gs)) same within)
     (ap (λ c. if c then halant_from script syl (halant_after base syl) else places 0 (length syl)) on
@@ -216,7 +205,7 @@ by_base_changed r s e base reph old new h base_is reph_is is walked =
     syllable_changed (with_base_positions r) (with_base_positions r) s e old new h (ap but_places is)
     (walked ∙ same_two (λ b c. take s gs ++ (by_base b c syl ++ drop e gs)) base_is reph_is)
     (hidden-by_base carried carried_hides_positions (base_place r syl) (has_indic_reph r syl) syl)
-    (sym (with_base_stays plain plain_keeps r syl))
+    (sym (with_base_stays plain_view r syl))
 
 marks_changed : (s e base : ℕ) (old new : Buffer) → s ≤ e
     → new ≡ (let b : Buffer = record old { glyphs = new.glyphs } in b)
@@ -227,19 +216,19 @@ marks_changed s e base old new h is walked =
     syllable_changed (with_marks_and_owners base) (with_marks_and_owners base) s e old new h (ap but_places is) walked
     (hidden-with_owners_after carried carried_hides_positions base (with_marks_attached syl)
     ∙ hidden-with_marks_attached carried carried_hides_positions syl)
-    (sym (ap (with_owners_after base) (with_marks_stays plain plain_keeps syl)
-    ∙ with_owners_after_stays plain plain_keeps base (with_marks_attached syl)))
+    (sym (ap (with_owners_after base) (with_marks_stays plain_view syl)
+    ∙ with_owners_after_stays plain_view base (with_marks_attached syl)))
 
 -- how long the syllable stays
 joiner_keeps_length : (script : Option Script) (gs : List hb_glyph_info_t) → length (with_joiner_first script gs)
     ≡ length gs
-joiner_keeps_length script gs = let f = joiner_fits script gs in length-pick (joiner_step script gs).places gs f.within
+joiner_keeps_length script gs = let f = joiner_fits script gs in length-pick _ gs f.within
     ∙ f.as_many
 
 halant_keeps_length : (r : Rules) (script : Option Script) (base : ℕ) (gs : List hb_glyph_info_t)
     → length (with_halant_moved r script base gs) ≡ length gs
 halant_keeps_length r script base gs = let f =
-    halant_fits r script base gs in length-pick (halant_places r script base gs) gs f.within ∙ f.as_many
+    halant_fits r script base gs in length-pick _ gs f.within ∙ f.as_many
 
 -- all of it
 pub syllable_opened : (r : Rules) (script : Option Script) (s e base : ℕ) (reph : Bool) (b0 b1 b2 b3 b4 : Buffer)
@@ -265,7 +254,7 @@ syllable_opened r script s e base reph b0 b1 b2 b3 b4 h l long1 one base_is reph
     let front : length (take s xs) ≡ s = length-take-le s xs (omega (arith, length-map b0.glyphs plain)) in
     let parts = changed_parts s e (take s xs) Y (drop e xs) (order_view b1.glyphs) h front kY one.order in
     let there : order_view (stretch_of s e b1.glyphs) ≡ Y = map-stretch plain s e b1.glyphs ∙ parts.stretch in
-    let base_eq : base ≡ base_place r Y = base_is ∙ sym (base_stays plain plain_keeps r (stretch_of s e b1.glyphs))
+    let base_eq : base ≡ base_place r Y = base_is ∙ sym (base_stays plain_view r (stretch_of s e b1.glyphs))
     ∙ ap (base_place r) there in
     let two = by_base_changed r s e base reph b1 b2 h base_is reph_is is2 walked2 in
     let four = marks_changed s e base b3 b4 h is4 walked4 in

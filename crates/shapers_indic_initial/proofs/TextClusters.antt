@@ -7,11 +7,11 @@ use Rattle.shapers_buffer.specs.declared.buffer.glyph.hb_glyph_info_t.{hb_glyph_
 use Rattle.shapers_buffer.specs.declared.buffer.level.BufferClusterLevel.{BufferClusterLevel}
 use Rattle.shapers_buffer.specs.declared.buffer.tag.Script.{Script}
 use Rattle.shapers_buffer.specs.Clusters.{merges, stretch_of}
-use Rattle.shapers_buffer.specs.Glyph.{clusters, order_view, plain}
+use Rattle.shapers_buffer.specs.Glyph.{plain}
 use Rattle.shapers_buffer.specs.Places.{pick}
 use Rattle.shapers_buffer.specs.Syllables.{syllables}
 use Rattle.shapers_buffer.proofs.MappedLists.{all-append, all-mapped}
-use Rattle.shapers_clusters.specs.Cuts.{EndWithin, OneAlong, StandsApart, held}
+use Rattle.shapers_clusters.specs.Cuts.{EndWithin, OneAlong, held}
 use Rattle.shapers_clusters.specs.ClusterMerges.{joined_all}
 use Rattle.shapers_clusters.specs.Steps.{FitSteps, FitsStep, joined_step, joined_steps, shifted, steps_along, widened}
 use Rattle.shapers_clusters.proofs.Halves.{along-append}
@@ -26,19 +26,18 @@ use Rattle.shapers_indic_initial.specs.InitialPause.{with_positions_and_circles}
 use Rattle.shapers_indic_initial.specs.InitialOrder.{ordered_base, indic_ordered_places, ordered_stretches}
 use Rattle.shapers_indic_initial.specs.InitialReordering.{halant_step, in_indic_order, initial_steps, joiner_step, indic_order_step, positioned, steps_of_reordered, with_base_positions, with_joiner_first}
 use Rattle.shapers_indic_initial.specs.InitialRules.{Rules, initial_rules}
-use Rattle.shapers_indic_initial.specs.Proved.InitialLaws.{halant_laws, halant_order, halant_step_of, initial_laws, initial_text_reordered, joiner_laws, three_laws}
-use Rattle.shapers_indic_initial.specs.Proved.InitialSteps.{order_fits}
+use Rattle.shapers_indic_initial.specs.Proved.InitialLaws.{halant_laws, initial_laws, initial_text_reordered, joiner_laws, three_laws}
+use Rattle.shapers_indic_initial.specs.Proved.InitialSteps.{length_permuted, order_fits}
 use Rattle.shapers_clusters.proofs.Alone.{apart_own, same_stretch, stretch_own}
 use Rattle.shapers_clusters.proofs.StepsOutside.{Leaves, along_elsewhere, leaves_elsewhere}
 use Rattle.shapers_clusters.proofs.Spread.{length-stretch}
 use Rattle.shapers_clusters.proofs.Moves.{HeldIn, all_held}
 use Rattle.shapers_syllabic.proofs.SyllableAlone.{glyphs_cut, pieces_cut}
-use Rattle.shapers_indic_initial.proofs.OrderClusters.{Lies, all_by_two, held_together, once_permuted, one_cluster, order_merges, together_lies}
+use Rattle.shapers_indic_initial.proofs.OrderClusters.{all_by_two, held_together, once_permuted, one_cluster, order_merges, together_lies}
 use Rattle.shapers_indic_initial.specs.Proved.OrderedPlaces.{ordered_permutes}
 use Rattle.shapers_syllabic.specs.Reordering.{glyphs_before, text_steps}
 use Rattle.shapers_syllabic.proofs.ReorderingLaws.{each_piece, sum-pieces}
 use Rattle.shapers_syllabic.proofs.ReorderingWalk.{length-meaning, pieces_of}
-use Rattle.shapers_clusters.proofs.Permuted.{length_permuted}
 
 -- one cluster still, after what leaves neighbours together
 one_cluster_left : (s e : ℕ) (cs js : List ℕ) → Leaves s e cs js → (st : ℕ × ℕ) → s ≤ st.0 → st.1 ≤ e → OneAlong cs st
@@ -47,14 +46,14 @@ one_cluster_left s e cs js f st low within one p q pl ph ql qh =
     sym (share_all js p q (λ i a b.
     let same : suc (i - 1) ≡ i = omega arith in
     f.shared (i - 1) (omega arith) (omega arith)
-    (one (i - 1) (suc (i - 1)) (omega arith) (omega arith) (omega arith) (omega arith))
+    (one (i - 1) _ (omega arith) (omega arith) (omega arith) (omega arith))
     ∙ ap (λ k. get_or js k 0) same) q (omega arith) (omega arith))
 
 -- stretches of the syllable, as stretches of the text
 held_in_text : (s : ℕ) (sts : List (ℕ × ℕ)) (st : ℕ × ℕ) → HeldIn sts st → HeldIn (shifted s sts) (s + st.0, s + st.1)
 held_in_text s sts st h i a b =
     let same : s + (i - s) ≡ i = omega arith in
-    ap (held (shifted s sts)) (sym same) ∙ held-shifted s (i - s) sts ∙ h (i - s) (omega arith) (omega arith)
+    ap (held _) (sym same) ∙ held-shifted s (i - s) sts ∙ h (i - s) (omega arith) (omega arith)
 
 -- the order step of a syllable in its text
 record OrderInText (r : Rules) (s e : ℕ) (xs : List hb_glyph_info_t) (cs ms : List ℕ) : Type 0 where
@@ -71,28 +70,28 @@ order_in_text r level s e xs cs m h l size =
     let from = indic_ordered_places xs in
     let base = ordered_base (in_indic_order xs) in
     let perm = ordered_permutes xs in
-    let o = once_permuted (length xs) from perm in
-    let fl : length from ≡ length xs = length_permuted (length xs) from perm in
+    let o = once_permuted _ from perm in
+    let fl = length_permuted _ from perm in
     let sts = ordered_stretches r from base in
     let ways = kept_together r from base in
-    let f : FitsStep (e - s) (indic_order_step r xs) =
+    let f =
     subst (λ k. FitsStep k (indic_order_step r xs)) size (order_fits r xs) in
-    let w = widened s e (length cs) (indic_order_step r xs) in
-    let fits = fits-widened s e (length cs) (indic_order_step r xs) h l f in
-    let picked = pick w.places cs in
-    let pl : length picked ≡ length cs = length-pick w.places cs fits.within ∙ fits.as_many in
-    let ends : EndWithin (length picked) (shifted s sts) =
+    let w = widened s e _ (indic_order_step r xs) in
+    let fits = fits-widened s e _ _ h l f in
+    let picked = pick _ cs in
+    let pl = length-pick _ cs fits.within ∙ fits.as_many in
+    let ends =
     subst (λ k. EndWithin k (shifted s sts)) (sym pl) fits.then_within in
     let lies = together_lies r from base o in
     let ms = joined_all level (shifted s sts) picked in
     let all = clusters_hold level (w ∷ []) cs (fits, tt) in
     record {
       same_length = all.same_length;
-      together = all_by_two (Lies base (length from)) (HeldIn ways) (λ st. OneAlong ms (s + st.0, s + st.1)) (λ st a b.
-          one_cluster level m (shifted s sts) picked ends (s + st.0, s + st.1) (omega (arith, a.high))
+      together = all_by_two _ _ _ (λ st a b.
+          one_cluster level m _ picked ends _ (omega arith)
           (held_in_text s sts st (λ i x y. held_together r from base i o ∙ b i x y)))
           ways lies (all_held ways);
-      lies = all_by_two (Lies base (length from)) (HeldIn ways) (λ st. s + st.1 ≤ e) (λ st a b. omega (arith, a.high))
+      lies = all_by_two _ _ _ (λ st a b. omega arith)
           ways lies (all_held ways);
     }
 
@@ -107,25 +106,25 @@ syllable_merges r level s e xs cs js m h l size left =
     let base = ordered_base (in_indic_order xs) in
     let ways = kept_together r from base in
     let step = indic_order_step r xs in
-    let ms = joined_step level (widened s e (length cs) step) cs in
+    let ms = joined_step level (widened s e _ step) cs in
     let done = order_in_text r level s e xs cs m h l size in
-    let f : FitsStep (e - s) step = subst (λ k. FitsStep k step) size (order_fits r xs) in
-    let both = all_by_two (λ st. OneAlong ms (s + st.0, s + st.1)) (λ st. s + st.1 ≤ e)
-    (λ st. OneAlong js (s + st.0, s + st.1))
-    (λ st a b. one_cluster_left s e ms js left (s + st.0, s + st.1) (omega arith) b a) ways done.together
+    let f = subst (λ k. FitsStep k step) size (order_fits r xs) in
+    let both = all_by_two _ _
+    _
+    (λ st a b. one_cluster_left s e ms js left _ (omega arith) b a) ways done.together
     done.lies in
     record {
-      together = all-mapped (λ (st : ℕ × ℕ). OneAlong js (s + st.0, s + st.1)) (OneAlong js)
-          (λ st. (s + st.0, s + st.1)) ways (λ st k. k) both;
+      together = all-mapped _ _
+          _ ways (λ st k. k) both;
       own = λ own.
-          let apart : StandsApart s e cs = own.others in
+          let apart = own.others in
           let seg = stretch_of s e cs in
-          let long : length seg ≡ length xs = length-stretch s e cs l ∙ sym size in
+          let long = length-stretch s e cs l ∙ sym size in
           let law = order_merges r level xs seg m long in
-          let stays : StandsApart s e ms = apart_own level s e (step ∷ []) cs h l (f, tt) apart in
+          let stays = apart_own level s e (step ∷ []) cs h l (f, tt) apart in
           let ml = done.same_length in
           let jl = left.same_length in
-          let same : stretch_of s e js ≡ joined_step level step seg =
+          let same =
           same_stretch s e js ms (omega arith) (omega arith) (λ p x y. left.own stays p x y)
           ∙ stretch_own level s e (step ∷ []) cs h l (f, tt) apart in
           subst (OrderMerges base ways from seg) (sym same) law;
@@ -134,9 +133,9 @@ syllable_merges r level s e xs cs js m h l size left =
 length-positioned : (r : Rules) (script : Option Script) (syl : List hb_glyph_info_t) → length (positioned r script syl)
     ≡ length syl
 length-positioned r script syl =
-    length-meaning (halant_order r script) (λ gs. halant_step_of r script gs ∷ []) (halant_laws r script)
-    (with_joiner_first script syl)
-    ∙ length-meaning (with_joiner_first script) (λ gs. joiner_step script gs ∷ []) (joiner_laws script) syl
+    length-meaning _ _ (halant_laws r script)
+    _
+    ∙ length-meaning _ _ (joiner_laws script) syl
 
 pub initial_clusters : InitialClustersLaw
 initial_clusters r script level gs cs m long before behind syl cut on =
@@ -216,7 +215,7 @@ initial_text_merges font m p old new done merging =
     let r = initial_rules font m p in
     let gs = (with_positions_and_circles font m p old).glyphs in
     let text = initial_text_reordered font m p old new done in
-    let long : length (clusters gs) ≡ length (order_view gs) = length-map gs (λ g. g.cluster)
+    let long = length-map gs _
     ∙ sym (length-map gs plain) in
-    subst (EachSyllableMerges r old.script old.level (order_view gs) (clusters gs)) (sym text.glyphs.clusters_are)
-    (initial_clusters r old.script old.level (order_view gs) (clusters gs) merging long)
+    subst (EachSyllableMerges r old.script _ _ _) (sym text.glyphs.clusters_are)
+    (initial_clusters r old.script _ _ _ merging long)

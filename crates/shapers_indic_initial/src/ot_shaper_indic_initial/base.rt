@@ -5,6 +5,7 @@ ghost use Rattle.shapers_indic.specs.Glyphs.{greatest_place, has_position, least
 ghost use Rattle.shapers_indic_initial.specs.InitialBase.{base_place, has_indic_reph, is_base, is_base_candidate, last_or_first, may_be_base, search_from, stops_search};
 ghost use Rattle.shapers_indic_initial.specs.InitialRules.{initial_rules};
 
+use super::places::is_of_category;
 use super::reph::{limit, reph_len};
 use super::rules::Rules;
 use shapers_base::buffer::hb_glyph_info_t;
@@ -24,6 +25,9 @@ pub(super) struct Base {
 }
 
 /// Finds the base of a syllable and its reph.
+///
+/// Ra, H with no other consonant forms no reph (0930 094D): Ra is the base then. With a ZWJ it does
+/// (0C30 0C4D 200D), since that requests one.
 #[inline]
 pub(super) fn find_base<F: hb_font_t>(rules: &Rules<F>, glyphs: &[hb_glyph_info_t]) -> Base
     ensures place { let font = F.font rules.now.face.now in
@@ -34,10 +38,10 @@ pub(super) fn find_base<F: hb_font_t>(rules: &Rules<F>, glyphs: &[hb_glyph_info_
         result.has_reph ≡ has_indic_reph r glyphs.now }
 {
     let reph = reph_len(rules, glyphs);
-    let limit = limit(reph, glyphs);
+    let limit = limit(glyphs, reph);
     let otherwise = if reph == 0 { glyphs.len() } else { 0 };
     let lo = limit.min(glyphs.len().saturating_sub(1));
-    let place = last_or_first(rules.plan.base_search, lo, glyphs).unwrap_or(otherwise);
+    let place = last_or_first(rules.plan.base_search, glyphs, lo).unwrap_or(otherwise);
     Base {
         place,
         has_reph: reph != 0 && !(place == 0 && limit <= 2),
@@ -47,39 +51,39 @@ pub(super) fn find_base<F: hb_font_t>(rules: &Rules<F>, glyphs: &[hb_glyph_info_
 // The base from place `lo` on, or behind what stops the search: the last consonant without a
 // below-base or post-base form, else the first consonant.
 #[inline]
-fn last_or_first(search: BaseSearch, lo: usize, glyphs: &[hb_glyph_info_t]) -> Option<usize>
+fn last_or_first(search: BaseSearch, glyphs: &[hb_glyph_info_t], lo: usize) -> Option<usize>
     requires { lo ≤ length glyphs.now }
     ensures { result ≡ last_or_first search (search_from lo glyphs.now) glyphs.now }
 {
-    if let Some(base) = last_base(search, lo, glyphs) {
+    if let Some(base) = last_base(search, glyphs, lo) {
         return Some(base);
     }
-    first_candidate(search, search_from(lo, glyphs), glyphs)
+    first_candidate(search, glyphs, search_from(glyphs, lo))
 }
 
 // The last consonant without a below-base or post-base form from place `lo` on, or behind what
 // stops the search.
 #[inline]
-fn last_base(search: BaseSearch, lo: usize, glyphs: &[hb_glyph_info_t]) -> Option<usize>
+fn last_base(search: BaseSearch, glyphs: &[hb_glyph_info_t], lo: usize) -> Option<usize>
     requires { lo ≤ length glyphs.now }
     ensures { let gs = glyphs.now in
         result ≡ greatest_place (is_base search gs) (search_from lo gs) (length gs) }
 {
     let mut below = false;
-    for i in (lo..glyphs.len()).rev() {
-        if stops_search(glyphs, i) {
+    for place in (lo..glyphs.len()).rev() {
+        if stops_search(glyphs, place) {
             return None;
         }
-        if is_base(search, &glyphs[i], below) {
-            return Some(i);
+        if is_base(search, &glyphs[place], below) {
+            return Some(place);
         }
-        below = is_below(search, &glyphs[i]) || below;
+        below = is_below(search, &glyphs[place]) || below;
     }
     None
 }
 
 // Whether the search may end with a glyph: a consonant that has no below-base form, nor a post-base
-// one unless a consonant with a below-base form follows.
+// one unless a consonant with a below-base form follows, since post-base forms stand behind those.
 #[inline]
 fn is_base(search: BaseSearch, glyph: &hb_glyph_info_t, below: bool) -> bool
     ensures { let g = glyph.now in let candidate = is_base_candidate search g in
@@ -102,41 +106,47 @@ fn is_below(search: BaseSearch, glyph: &hb_glyph_info_t) -> bool
 
 // Where the search ends: behind the last glyph that stops it, or at place `lo`.
 #[inline]
-fn search_from(lo: usize, glyphs: &[hb_glyph_info_t]) -> usize
+fn search_from(glyphs: &[hb_glyph_info_t], lo: usize) -> usize
     requires { lo ≤ length glyphs.now }
     ensures from { result ≡ search_from lo glyphs.now }
     ensures within { result ≤ length glyphs.now }
 {
-    for i in (lo..glyphs.len()).rev() {
-        if stops_search(glyphs, i) {
-            return i + 1;
+    for place in (lo..glyphs.len()).rev() {
+        if stops_search(glyphs, place) {
+            return place + 1;
         }
     }
     lo
 }
 
 // The first consonant that may be the base from place `start` on.
-#[allow(clippy::manual_find, clippy::needless_range_loop)]
 #[inline]
-fn first_candidate(search: BaseSearch, start: usize, glyphs: &[hb_glyph_info_t]) -> Option<usize>
+fn first_candidate(search: BaseSearch, glyphs: &[hb_glyph_info_t], start: usize) -> Option<usize>
     requires { start ≤ length glyphs.now }
     ensures { result ≡ least_place (may_be_base search glyphs.now) start (length glyphs.now) }
 {
-    for i in start..glyphs.len() {
-        if is_base_candidate(search, &glyphs[i]) {
-            return Some(i);
-        }
-    }
-    None
+    (start..glyphs.len()).find(|&place| may_be_base(search, glyphs, place))
 }
 
-// Whether the glyph at place `i` stops the search: a ZWJ behind an H.
+// Whether the glyph at this place stops the search: a ZWJ behind an H requests the half form of what
+// stands before (0915 094D 200D 0937). One before an H requests the form below the base of what
+// follows (09B0 200D 09CD 09AF), and the search goes on.
 #[inline]
-fn stops_search(glyphs: &[hb_glyph_info_t], i: usize) -> bool
-    requires { i < length glyphs.now }
-    ensures { result ≡ stops_search glyphs.now i }
+fn stops_search(glyphs: &[hb_glyph_info_t], place: usize) -> bool
+    ensures { result ≡ stops_search glyphs.now place }
 {
-    i > 0 && glyphs[i].category == OT_ZWJ && glyphs[i - 1].category == OT_H
+    place > 0 && is_of_category(glyphs, place, OT_ZWJ) && is_of_category(glyphs, place - 1, OT_H)
+}
+
+// Whether there is a consonant at this place that may be the base.
+#[inline]
+fn may_be_base(search: BaseSearch, glyphs: &[hb_glyph_info_t], place: usize) -> bool
+    ensures { result ≡ may_be_base search glyphs.now place }
+{
+    match glyphs.get(place) {
+        Some(glyph) => is_base_candidate(search, glyph),
+        None => false,
+    }
 }
 
 // Whether a glyph is a consonant that may be the base.

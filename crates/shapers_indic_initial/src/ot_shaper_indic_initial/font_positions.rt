@@ -61,7 +61,7 @@ struct ByVirama<'a, F: hb_font_t> {
 }
 
 impl<'a, F: hb_font_t> ByVirama<'a, F> {
-    // The position of a consonant.
+    // The position of a consonant. Below-base forms of Ra may be in `vatu` alone.
     #[inline]
     fn consonant_position_from_face(&self, consonant: GlyphId) -> Position
         ensures { let r = self.now.rules.now in
@@ -166,7 +166,10 @@ impl<'a, F: hb_font_t> ByVirama<'a, F> {
         }
     }
 
-    // Whether a feature would substitute the virama and a consonant, in either order.
+    // Whether a feature would substitute the virama and a consonant, in either order. Lookups of the
+    // older specification have the consonant first. Some fonts, FreeSans among them, have these for
+    // the newer one, too, and Uniscribe goes by them: in 0924 094D 0930 the base is the first
+    // consonant.
     #[inline(always)]
     fn joins(&self, feature: &IndicWouldSubstituteFeature, consonant: GlyphId) -> bool
         ensures { let r = self.now.rules.now in

@@ -5,6 +5,7 @@ ghost use Rattle.shapers_indic_initial.specs.InitialBase.{joiner_comes_first, op
 ghost use Rattle.shapers_indic_initial.specs.InitialPositions.{halant_after, halant_from, is_passed_by_halant, last_after_halant, moved_places};
 ghost use Rattle.shapers_indic.specs.Glyphs.{is_one_of};
 
+use super::places::is_of_category;
 use shapers_base::buffer::{Script, hb_glyph_info_t};
 use shapers_base::plan::ot_category_t::{OT_H, OT_Ra, OT_ZWJ};
 use shapers_syllabic::ot_shaper_syllabic::is_consonant;
@@ -13,19 +14,24 @@ const KANNADA: Option<Script> = Some(Script(*b"Knda"));
 
 /// The place of the first H after the base and that of the glyph behind which it goes: the last
 /// consonant after it, in Kannada not over another H. `None` if it stays.
+///
+/// Fonts of the older specification have their lookups for a consonant with its H behind it, where
+/// text has H first. Uniscribe moves H also where the syllable ends in another one, in Malayalam
+/// (0D38 0D4D 0D31 0D4D 0D31 0D4D), Bengali (0998 09CD 09AF 09CD) and Devanagari
+/// (091F 094D 0930 094D); in Kannada (0C9A 0CCD 0C9A 0CCD) it then leaves it.
 #[inline]
 pub(super) fn halant_move(
     script: Option<Script>,
-    base: usize,
     glyphs: &[hb_glyph_info_t],
+    base: usize,
 ) -> Option<(usize, usize)>
     ensures places { let moved = moved_places result (length glyphs.now) in
         halant_from script glyphs.now (halant_after base glyphs.now) ≡ moved }
     ensures in_order { IfSome result (λ move. move.0 < move.1) }
     ensures within { IfSome result (λ move. move.1 < length glyphs.now) }
 {
-    let halant = halant_after(base, glyphs)?;
-    let last = last_after_halant(script, halant, glyphs)?;
+    let halant = halant_after(glyphs, base)?;
+    let last = last_after_halant(script, glyphs, halant)?;
     if glyphs[last].category == OT_H {
         return None;
     }
@@ -33,21 +39,15 @@ pub(super) fn halant_move(
 }
 
 // The place of the first H after the base.
-#[allow(clippy::manual_find, clippy::needless_range_loop)]
 #[inline]
-fn halant_after(base: usize, glyphs: &[hb_glyph_info_t]) -> Option<usize>
+fn halant_after(glyphs: &[hb_glyph_info_t], base: usize) -> Option<usize>
     ensures place { result ≡ halant_after base glyphs.now }
     ensures within { IfSome result (λ place. place < length glyphs.now) }
 {
     if base >= glyphs.len() {
         return None;
     }
-    for i in base + 1..glyphs.len() {
-        if glyphs[i].category == OT_H {
-            return Some(i);
-        }
-    }
-    None
+    (base + 1..glyphs.len()).find(|&place| is_of_category(glyphs, place, OT_H))
 }
 
 // The place of the last glyph after an H at this place over which the H goes.
@@ -55,17 +55,17 @@ fn halant_after(base: usize, glyphs: &[hb_glyph_info_t]) -> Option<usize>
 #[inline]
 fn last_after_halant(
     script: Option<Script>,
-    halant: usize,
     glyphs: &[hb_glyph_info_t],
+    halant: usize,
 ) -> Option<usize>
     requires { halant < length glyphs.now }
     ensures place { result ≡ last_after_halant script glyphs.now halant }
     ensures behind { IfSome result (λ place. halant < place) }
     ensures within { IfSome result (λ place. place < length glyphs.now) }
 {
-    for i in (halant + 1..glyphs.len()).rev() {
-        if is_passed_by_halant(script, &glyphs[i]) {
-            return Some(i);
+    for place in (halant + 1..glyphs.len()).rev() {
+        if is_passed_by_halant(script, &glyphs[place]) {
+            return Some(place);
         }
     }
     None
@@ -80,6 +80,9 @@ fn is_passed_by_halant(script: Option<Script>, glyph: &hb_glyph_info_t) -> bool
 }
 
 /// Whether Kannada's opening Ra, H, ZWJ stands for Ra, ZWJ, H.
+///
+/// Either requests a whole Ra with what follows below it (0CB0 200D 0CCD 0C95); older texts have the
+/// ZWJ last (0CB0 0CCD 200D 0C95), where in other scripts it requests a half form.
 #[inline]
 pub(super) fn joiner_comes_first(script: Option<Script>, glyphs: &[hb_glyph_info_t]) -> bool
     ensures { result ≡ joiner_comes_first script glyphs.now }
@@ -93,7 +96,9 @@ fn opens_with_ra_h_zwj(glyphs: &[hb_glyph_info_t]) -> bool
     ensures { result ≡ opens_with_ra_h_zwj glyphs.now }
 {
     match glyphs {
-        [a, b, c, ..] => is_plain(a, OT_Ra) && is_plain(b, OT_H) && is_plain(c, OT_ZWJ),
+        [ra, halant, joiner, ..] => {
+            is_plain(ra, OT_Ra) && is_plain(halant, OT_H) && is_plain(joiner, OT_ZWJ)
+        }
         _ => false,
     }
 }

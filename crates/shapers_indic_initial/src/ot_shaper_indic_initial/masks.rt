@@ -10,17 +10,18 @@ ghost use Rattle.shapers_base.specs.Map.{Map};
 ghost use Rattle.shapers_base.specs.declared.plan.ot_category_t.TheConstants.{OT_ZWNJ};
 ghost use Rattle.shapers_base.specs.declared.plan.ot_position_t.TheConstants.{POS_RA_TO_BECOME_REPH};
 ghost use Rattle.shapers_indic.specs.declared.ot_shaper_indic.indic_feature.TheConstants.{HALF};
-ghost use Rattle.shapers_indic.specs.Glyphs.{has_category, has_position, is_one_of, passes};
+ghost use Rattle.shapers_indic.specs.Glyphs.{has_position, is_one_of};
 ghost use Rattle.shapers_syllabic.specs.Consonants.{is_consonant};
 ghost use Rattle.shapers_indic_initial.specs.InitialMasks.{applies_before_base, bits_of, has_eyelash, is_in_eyelash, mask_after_base, mask_before_base, opens_eyelash, pref_pair, with_eyelash_mask, with_initial_masks, with_pref_mask, without_half};
 ghost use Rattle.shapers_indic_initial.specs.InitialRules.{initial_rules};
 
+use super::places::is_of_category;
 use super::rules::Rules;
 use shapers_base::buffer::{Script, hb_glyph_info_t};
 use shapers_base::font::hb_font_t;
 use shapers_base::plan::ot_category_t::{OT_H, OT_Ra, OT_ZWJ, OT_ZWNJ};
 use shapers_base::plan::ot_position_t::POS_RA_TO_BECOME_REPH;
-use shapers_base::plan::{BlwfMode, Category, indic_shape_plan_t};
+use shapers_base::plan::{BlwfMode, indic_shape_plan_t};
 use shapers_indic::ot_shaper_indic::glyphs::number;
 use shapers_indic::ot_shaper_indic::indic_feature::{ABVF, BLWF, HALF, PREF, PSTF, RPHF};
 use shapers_syllabic::ot_shaper_syllabic::is_consonant;
@@ -139,7 +140,10 @@ fn bits_after_base(plan: &indic_shape_plan_t) -> u32
     bits_of(plan, BLWF) | bits_of(plan, ABVF) | bits_of(plan, PSTF)
 }
 
-// Gives each Ra and H of an eyelash Ra the mask of below-base forms, where they have one.
+// Gives each Ra and H of an eyelash Ra the mask of below-base forms, where they have one. The older
+// specification has `blwf` for Ra below half forms, too, so before the base: in
+// 0924 094D 0930 094D 0915. A ZWJ behind its H requests the eyelash form in place of that one:
+// 0924 094D 0930 094D 200D 0915.
 #[inline]
 fn set_eyelash_mask(
     plan: &indic_shape_plan_t,
@@ -200,18 +204,8 @@ fn opens_eyelash(base: usize, glyphs: &[hb_glyph_info_t], i: usize) -> bool
         && !(i + 2 < base && is_of_category(glyphs, i + 2, OT_ZWJ))
 }
 
-// Whether there is a glyph of this category at `i`.
-#[inline]
-fn is_of_category(glyphs: &[hb_glyph_info_t], i: usize, category: Category) -> bool
-    ensures { result ≡ passes (has_category category) glyphs.now i }
-{
-    match glyphs.get(i) {
-        Some(glyph) => glyph.category == category,
-        None => false,
-    }
-}
-
-// Gives the first two neighbours after the base that pref would substitute its mask.
+// Gives the first two neighbours after the base that pref would substitute its mask: the H and Ra of
+// Malayalam's 0D15 0D4D 0D30, which the final reordering puts before the base.
 #[inline]
 fn set_pref_mask<F: hb_font_t>(rules: &Rules<F>, base: usize, glyphs: &mut [hb_glyph_info_t])
     requires { base ≤ length glyphs.old }
@@ -251,7 +245,7 @@ fn pref_pair<F: hb_font_t>(
 }
 
 // A ZWNJ takes mask bits from the glyphs before it back to the nearest consonant, that one
-// included. Most syllables have none.
+// included: 0915 094D 200C 0937 shows its H and has no half form. Most syllables have none.
 #[inline]
 fn clear_half(bits: u32, glyphs: &mut [hb_glyph_info_t])
     ensures { glyphs.new ≡ without_half bits glyphs.old }

@@ -20,7 +20,7 @@ use shapers_syllabic::ot_shaper_syllabic::is_consonant;
 /// Sets the positions of the reph, of what stands before the base, and of the base.
 #[allow(clippy::needless_range_loop)]
 #[inline]
-pub(super) fn set_positions_by_base(base: Base, glyphs: &mut [hb_glyph_info_t])
+pub(super) fn set_positions_by_base(glyphs: &mut [hb_glyph_info_t], base: Base)
     ensures { glyphs.new ≡ by_base base.place base.has_reph glyphs.old }
 {
     let end = if base.place < glyphs.len() {
@@ -50,6 +50,9 @@ fn position_by_base(base: Base, i: usize, position: u8) -> u8
 }
 
 /// Gives signs, joiners and halants the positions of what they go with.
+///
+/// An H stays behind where Uniscribe moves a left matra before it: 092B 093F 094D. Sinhala's
+/// 0D9A 0DDA needs that, whose sign is in two parts, 0DD9, a left matra, and 0DCA, an H.
 #[inline]
 pub(super) fn attach_marks(glyphs: &mut [hb_glyph_info_t])
     ensures { glyphs.new ≡ with_marks_attached glyphs.old }
@@ -102,7 +105,8 @@ fn is_attached(glyph: &hb_glyph_info_t) -> bool
     )
 }
 
-// Whether a glyph is a syllable modifier that goes with the one directly behind it.
+// Whether a glyph is a syllable modifier that goes with the one directly behind it: Gurmukhi's bindi
+// may be typed before the vowel sign II that it stands on, as in 0A15 0A02 0A40.
 #[inline]
 fn draws_sign(glyph: &hb_glyph_info_t, next: &hb_glyph_info_t) -> bool
     ensures { result ≡ draws_sign glyph.now next.now }
@@ -123,9 +127,10 @@ fn next_behind(position: u8, behind: u8) -> u8
     }
 }
 
-/// Gives what stands before a consonant, after the base at this place, the consonant's position.
+/// Gives what stands before a consonant, after the base at this place, the consonant's position: the
+/// H that joins a below-base form to the base goes where that form goes (0915 094D 0930).
 #[inline]
-pub(super) fn own(base: usize, glyphs: &mut [hb_glyph_info_t])
+pub(super) fn own(glyphs: &mut [hb_glyph_info_t], base: usize)
     ensures { glyphs.new ≡ with_owners_after base glyphs.old }
 {
     if base < glyphs.len() {

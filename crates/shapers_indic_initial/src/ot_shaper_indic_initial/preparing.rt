@@ -38,15 +38,8 @@ pub(super) fn prepare_for_order<F: hb_font_t>(
     put_joiner_first(script, buffer, start, end);
     let base = find_base(rules, &buffer.glyphs()[start..end]);
     buffer.walk(&mut PositionsByBase { base, start, end });
-    move_halant(
-        rules.plan.is_old_spec,
-        script,
-        base.place,
-        buffer,
-        start,
-        end,
-    );
     let base = base.place;
+    move_halant(rules.plan.is_old_spec, script, buffer, start, end, base);
     buffer.walk(&mut PositionsOfMarks { base, start, end });
 }
 
@@ -70,10 +63,10 @@ fn put_joiner_first(script: Option<Script>, buffer: &mut hb_buffer_t, start: usi
 fn move_halant(
     is_old_spec: bool,
     script: Option<Script>,
-    base: usize,
     buffer: &mut hb_buffer_t,
     start: usize,
     end: usize,
+    base: usize,
 )
     requires in_order { start ≤ end }
     requires in_range { end ≤ length buffer.old.glyphs }
@@ -86,7 +79,7 @@ fn move_halant(
     if !is_old_spec {
         return;
     }
-    if let Some((halant, last)) = halant_move(script, base, &buffer.glyphs()[start..end]) {
+    if let Some((halant, last)) = halant_move(script, &buffer.glyphs()[start..end], base) {
         move_to_end(buffer, start + halant, start + last + 1);
     }
 }
@@ -100,12 +93,12 @@ fn move_to_end(buffer: &mut hb_buffer_t, from: usize, end: usize)
         but_places buffer.new ≡ record (but_places buffer.old) { glyphs = glyphs } }
     ensures moved { buffer.new.glyphs ≡ moved_behind from (end - 1) buffer.old.glyphs }
 {
-    let last = end - 1;
-    for i in from..last {
-        buffer.set_place(i, i + 1);
-    }
-    buffer.set_place(last, from);
-    buffer.apply(from, end, Placement::Listed);
+    let behind = Placement::Forward {
+        to: from,
+        from: from + 1,
+        count: end - from - 1,
+    };
+    buffer.apply(from, end, behind);
 }
 
 // Where a syllable stands whose glyphs get their positions by its base.
@@ -128,7 +121,7 @@ impl GlyphWalk for PositionsByBase {
 
     #[inline]
     fn walk(&mut self, glyphs: &mut [hb_glyph_info_t]) {
-        set_positions_by_base(self.base, &mut glyphs[self.start..self.end]);
+        set_positions_by_base(&mut glyphs[self.start..self.end], self.base);
     }
 }
 
@@ -152,15 +145,15 @@ impl GlyphWalk for PositionsOfMarks {
 
     #[inline]
     fn walk(&mut self, glyphs: &mut [hb_glyph_info_t]) {
-        set_positions_of_marks(self.base, &mut glyphs[self.start..self.end]);
+        set_positions_of_marks(&mut glyphs[self.start..self.end], self.base);
     }
 }
 
 // Sets the positions of a syllable with this base by what its glyphs go with.
 #[inline]
-fn set_positions_of_marks(base: usize, syllable: &mut [hb_glyph_info_t])
+fn set_positions_of_marks(syllable: &mut [hb_glyph_info_t], base: usize)
     ensures { syllable.new ≡ with_marks_and_owners base syllable.old }
 {
     attach_marks(syllable);
-    own(base, syllable);
+    own(syllable, base);
 }

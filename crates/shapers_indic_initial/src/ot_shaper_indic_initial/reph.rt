@@ -15,7 +15,8 @@ use shapers_indic::ot_shaper_indic::glyphs::{is_joiner, number};
 use shapers_indic::ot_shaper_indic::indic_feature::RPHF;
 
 /// How many glyphs the reph that opens a syllable has, without joiners behind it; 0 if there is
-/// none.
+/// none. Most scripts have one where the font forms it of Ra, H (0930 094D 0915), Telugu of
+/// Ra, H, ZWJ (0C30 0C4D 200D 0C15), and Malayalam has a character for it (0D4E 0D15).
 #[inline]
 pub(crate) fn reph_len<F: hb_font_t>(rules: &Rules<F>, glyphs: &[hb_glyph_info_t]) -> usize
     ensures len { let font = F.font rules.now.face.now in
@@ -33,7 +34,7 @@ pub(crate) fn reph_len<F: hb_font_t>(rules: &Rules<F>, glyphs: &[hb_glyph_info_t
 /// Where the search for the base ends, if no ZWJ ends it before: behind the reph and the joiners
 /// that follow it, or at the start.
 #[inline]
-pub(crate) fn limit(reph_len: usize, glyphs: &[hb_glyph_info_t]) -> usize
+pub(crate) fn limit(glyphs: &[hb_glyph_info_t], reph_len: usize) -> usize
     requires { reph_len ≤ length glyphs.now }
     ensures limit { result ≡ limit_behind reph_len glyphs.now }
     ensures within { result ≤ length glyphs.now }

@@ -12,6 +12,7 @@ mod moving;
 mod order;
 mod ordered_base;
 mod pause;
+mod places;
 mod positions;
 mod preparing;
 mod reordering;

@@ -2,5 +2,5 @@
 use Rattle.shapers_indic_initial.proofs.Bases.{Searching}
 use Rattle.shapers_indic_initial.proofs.ot_shaper_indic_initial.base.last_base.Given as goal
 
-abbrev pub invariant-loop-i : goal.invariant-loop-i
-invariant-loop-i l = Searching l.search l.lo l.i l.below l.glyphs
+abbrev pub invariant-loop-place : goal.invariant-loop-place
+invariant-loop-place l = Searching l.search l.lo l.place l.below l.glyphs

@@ -3,9 +3,9 @@ use Rattle.std.proofs.Common.{◌≡◌, ◌≤◌}
 use Rattle.shapers_indic_initial.proofs.CycleSteps.{Merging}
 use Rattle.shapers_indic_initial.proofs.ot_shaper_indic_initial.cycles.merge_cycles.Given as goal
 
-abbrev pub invariant-loop-p : goal.invariant-loop-p
-invariant-loop-p l = record {
-  from : l.base ≤ l.p;
+abbrev pub invariant-loop-place : goal.invariant-loop-place
+invariant-loop-place l = record {
+  from : l.base ≤ l.place;
   others : l.buffer ≡ record l.fn.buffer { glyphs = l.buffer.glyphs; places = l.buffer.places };
-  merging : Merging l.start l.end l.base l.p l.fn.buffer l.buffer;
+  merging : Merging l.start l.end l.base l.place l.fn.buffer l.buffer;
 }

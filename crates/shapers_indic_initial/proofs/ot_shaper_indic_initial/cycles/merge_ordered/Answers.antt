@@ -5,7 +5,7 @@ use Rattle.shapers_indic_initial.proofs.ot_shaper_indic_initial.cycles.merge_ord
 
 pub returns-then-merges_all-clause-merged : goal.returns-then-merges_all-clause-merged
 returns-then-merges_all-clause-merged c =
-    merged_from_base c.args.start c.args.end c.args.base c.args.old_spec c.args.buffer.now c.merge_clusters.new.self
+    merged_from_base c.args.start c.args.end c.args.base c.args.is_old_spec c.args.buffer.now c.merge_clusters.new.self
     c.requires.in_order (sym c.merges_all.ensures ∙ c.if-merges_all.true)
     (ap (λ b. b.glyphs) c.merge_clusters.ensures)
 
@@ -14,5 +14,5 @@ merge_cycles-requires-clause-once c = once_listed c.args.start c.args.end c.args
 
 pub returns-clause-merged : goal.returns-clause-merged
 returns-clause-merged c =
-    merged_by_cycles c.args.start c.args.end c.args.base c.args.old_spec c.args.buffer.now c.merge_cycles.new.buffer
+    merged_by_cycles c.args.start c.args.end c.args.base c.args.is_old_spec c.args.buffer.now c.merge_cycles.new.buffer
     (sym c.merges_all.ensures ∙ c.if-merges_all.false) c.merge_cycles.ensures.merged

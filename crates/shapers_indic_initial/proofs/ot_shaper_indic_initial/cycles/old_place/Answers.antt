@@ -7,4 +7,4 @@ pub returns : goal.returns
 returns c = λ e inside.
     c.saturating_sub.ensures
     ∙ ap (λ p. p - c.args.start) c.place.ensures
-    ∙ sym (places_from_at c.args.start e c.args.buffer.now.places c.args.i inside)
+    ∙ sym (places_from_at c.args.start e c.args.buffer.now.places c.args.place inside)

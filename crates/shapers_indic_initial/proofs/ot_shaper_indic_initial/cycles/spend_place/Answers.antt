@@ -7,4 +7,4 @@ use Rattle.shapers_indic_initial.proofs.ot_shaper_indic_initial.cycles.spend_pla
 pub returns-clause-spent : goal.returns-clause-spent
 returns-clause-spent c = λ e inside.
     ap (λ b. places_from c.args.start e b.places) c.set_place.ensures
-    ∙ places_from_written c.args.start e c.args.buffer.now.places c.args.i c.args.i inside
+    ∙ places_from_written c.args.start e c.args.buffer.now.places c.args.place c.args.place inside

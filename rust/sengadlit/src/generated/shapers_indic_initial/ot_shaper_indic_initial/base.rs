@@ -3,6 +3,7 @@
 //! The base consonant of a syllable, and whether it has a reph. (OpenType, development of Indic
 //! scripts: "Find base consonant".)
 
+use super::places::is_of_category;
 use super::reph::{limit, reph_len};
 use super::rules::Rules;
 use crate::generated::shapers_base::buffer::GlyphInfo;
@@ -22,13 +23,16 @@ pub(super) struct Base {
 }
 
 /// Finds the base of a syllable and its reph.
+///
+/// Ra, H with no other consonant forms no reph (0930 094D): Ra is the base then. With a ZWJ it does
+/// (0C30 0C4D 200D), since that requests one.
 #[inline]
 pub(super) fn find_base<F: Font>(rules: &Rules<F>, glyphs: &[GlyphInfo]) -> Base {
     let reph = reph_len(rules, glyphs);
-    let limit = limit(reph, glyphs);
+    let limit = limit(glyphs, reph);
     let otherwise = if reph == 0 { glyphs.len() } else { 0 };
     let lo = limit.min(glyphs.len().saturating_sub(1));
-    let place = last_or_first(rules.plan.base_search, lo, glyphs).unwrap_or(otherwise);
+    let place = last_or_first(rules.plan.base_search, glyphs, lo).unwrap_or(otherwise);
     Base {
         place,
         has_reph: reph != 0 && !(place == 0 && limit <= 2),
@@ -38,32 +42,32 @@ pub(super) fn find_base<F: Font>(rules: &Rules<F>, glyphs: &[GlyphInfo]) -> Base
 // The base from place `lo` on, or behind what stops the search: the last consonant without a
 // below-base or post-base form, else the first consonant.
 #[inline]
-fn last_or_first(search: BaseSearch, lo: usize, glyphs: &[GlyphInfo]) -> Option<usize> {
-    if let Some(base) = last_base(search, lo, glyphs) {
+fn last_or_first(search: BaseSearch, glyphs: &[GlyphInfo], lo: usize) -> Option<usize> {
+    if let Some(base) = last_base(search, glyphs, lo) {
         return Some(base);
     }
-    first_candidate(search, search_from(lo, glyphs), glyphs)
+    first_candidate(search, glyphs, search_from(glyphs, lo))
 }
 
 // The last consonant without a below-base or post-base form from place `lo` on, or behind what
 // stops the search.
 #[inline]
-fn last_base(search: BaseSearch, lo: usize, glyphs: &[GlyphInfo]) -> Option<usize> {
+fn last_base(search: BaseSearch, glyphs: &[GlyphInfo], lo: usize) -> Option<usize> {
     let mut below = false;
-    for i in (lo..glyphs.len()).rev() {
-        if stops_search(glyphs, i) {
+    for place in (lo..glyphs.len()).rev() {
+        if stops_search(glyphs, place) {
             return None;
         }
-        if is_base(search, &glyphs[i], below) {
-            return Some(i);
+        if is_base(search, &glyphs[place], below) {
+            return Some(place);
         }
-        below = is_below(search, &glyphs[i]) || below;
+        below = is_below(search, &glyphs[place]) || below;
     }
     None
 }
 
 // Whether the search may end with a glyph: a consonant that has no below-base form, nor a post-base
-// one unless a consonant with a below-base form follows.
+// one unless a consonant with a below-base form follows, since post-base forms stand behind those.
 #[inline]
 fn is_base(search: BaseSearch, glyph: &GlyphInfo, below: bool) -> bool {
     is_base_candidate(search, glyph)
@@ -79,31 +83,36 @@ fn is_below(search: BaseSearch, glyph: &GlyphInfo) -> bool {
 
 // Where the search ends: behind the last glyph that stops it, or at place `lo`.
 #[inline]
-fn search_from(lo: usize, glyphs: &[GlyphInfo]) -> usize {
-    for i in (lo..glyphs.len()).rev() {
-        if stops_search(glyphs, i) {
-            return i + 1;
+fn search_from(glyphs: &[GlyphInfo], lo: usize) -> usize {
+    for place in (lo..glyphs.len()).rev() {
+        if stops_search(glyphs, place) {
+            return place + 1;
         }
     }
     lo
 }
 
 // The first consonant that may be the base from place `start` on.
-#[allow(clippy::manual_find, clippy::needless_range_loop)]
 #[inline]
-fn first_candidate(search: BaseSearch, start: usize, glyphs: &[GlyphInfo]) -> Option<usize> {
-    for i in start..glyphs.len() {
-        if is_base_candidate(search, &glyphs[i]) {
-            return Some(i);
-        }
-    }
-    None
+fn first_candidate(search: BaseSearch, glyphs: &[GlyphInfo], start: usize) -> Option<usize> {
+    (start..glyphs.len()).find(|&place| may_be_base(search, glyphs, place))
 }
 
-// Whether the glyph at place `i` stops the search: a ZWJ behind an H.
+// Whether the glyph at this place stops the search: a ZWJ behind an H requests the half form of what
+// stands before (0915 094D 200D 0937). One before an H requests the form below the base of what
+// follows (09B0 200D 09CD 09AF), and the search goes on.
 #[inline]
-fn stops_search(glyphs: &[GlyphInfo], i: usize) -> bool {
-    i > 0 && glyphs[i].category == OT_ZWJ && glyphs[i - 1].category == OT_H
+fn stops_search(glyphs: &[GlyphInfo], place: usize) -> bool {
+    place > 0 && is_of_category(glyphs, place, OT_ZWJ) && is_of_category(glyphs, place - 1, OT_H)
+}
+
+// Whether there is a consonant at this place that may be the base.
+#[inline]
+fn may_be_base(search: BaseSearch, glyphs: &[GlyphInfo], place: usize) -> bool {
+    match glyphs.get(place) {
+        Some(glyph) => is_base_candidate(search, glyph),
+        None => false,
+    }
 }
 
 // Whether a glyph is a consonant that may be the base.

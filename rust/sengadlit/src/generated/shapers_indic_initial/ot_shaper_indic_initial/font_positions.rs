@@ -50,7 +50,7 @@ struct ByVirama<'a, F: Font> {
 }
 
 impl<'a, F: Font> ByVirama<'a, F> {
-    // The position of a consonant.
+    // The position of a consonant. Below-base forms of Ra may be in `vatu` alone.
     #[inline]
     fn consonant_position_from_face(&self, consonant: GlyphId) -> Position {
         let plan = self.rules.plan;
@@ -110,7 +110,10 @@ impl<'a, F: Font> ByVirama<'a, F> {
         }
     }
 
-    // Whether a feature would substitute the virama and a consonant, in either order.
+    // Whether a feature would substitute the virama and a consonant, in either order. Lookups of the
+    // older specification have the consonant first. Some fonts, FreeSans among them, have these for
+    // the newer one, too, and Uniscribe goes by them: in 0924 094D 0930 the base is the first
+    // consonant.
     #[inline(always)]
     fn joins(&self, feature: &IndicWouldSubstituteFeature, consonant: GlyphId) -> bool {
         feature.would_substitute(self.rules.map, self.rules.face, &[self.virama, consonant])

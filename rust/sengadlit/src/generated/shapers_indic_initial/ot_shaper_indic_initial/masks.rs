@@ -3,12 +3,13 @@
 //! The masks of a syllable in its new order. (OpenType, development of Indic scripts: which
 //! features apply where.)
 
+use super::places::is_of_category;
 use super::rules::Rules;
 use crate::generated::shapers_base::buffer::{GlyphInfo, Script};
 use crate::generated::shapers_base::font::Font;
 use crate::generated::shapers_base::plan::ot_category_t::{OT_H, OT_Ra, OT_ZWJ, OT_ZWNJ};
 use crate::generated::shapers_base::plan::ot_position_t::POS_RA_TO_BECOME_REPH;
-use crate::generated::shapers_base::plan::{BlwfMode, Category, IndicPlan};
+use crate::generated::shapers_base::plan::{BlwfMode, IndicPlan};
 use crate::generated::shapers_indic::ot_shaper_indic::glyphs::number;
 use crate::generated::shapers_indic::ot_shaper_indic::indic_feature::{
     ABVF, BLWF, HALF, PREF, PSTF, RPHF,
@@ -99,7 +100,10 @@ fn bits_after_base(plan: &IndicPlan) -> u32 {
     bits_of(plan, BLWF) | bits_of(plan, ABVF) | bits_of(plan, PSTF)
 }
 
-// Gives each Ra and H of an eyelash Ra the mask of below-base forms, where they have one.
+// Gives each Ra and H of an eyelash Ra the mask of below-base forms, where they have one. The older
+// specification has `blwf` for Ra below half forms, too, so before the base: in
+// 0924 094D 0930 094D 0915. A ZWJ behind its H requests the eyelash form in place of that one:
+// 0924 094D 0930 094D 200D 0915.
 #[inline]
 fn set_eyelash_mask(
     plan: &IndicPlan,
@@ -144,16 +148,8 @@ fn opens_eyelash(base: usize, glyphs: &[GlyphInfo], i: usize) -> bool {
         && !(i + 2 < base && is_of_category(glyphs, i + 2, OT_ZWJ))
 }
 
-// Whether there is a glyph of this category at `i`.
-#[inline]
-fn is_of_category(glyphs: &[GlyphInfo], i: usize, category: Category) -> bool {
-    match glyphs.get(i) {
-        Some(glyph) => glyph.category == category,
-        None => false,
-    }
-}
-
-// Gives the first two neighbours after the base that pref would substitute its mask.
+// Gives the first two neighbours after the base that pref would substitute its mask: the H and Ra of
+// Malayalam's 0D15 0D4D 0D30, which the final reordering puts before the base.
 #[inline]
 fn set_pref_mask<F: Font>(rules: &Rules<F>, base: usize, glyphs: &mut [GlyphInfo]) {
     if let Some(pair) = pref_pair(rules, base, glyphs) {
@@ -178,7 +174,7 @@ fn pref_pair<F: Font>(rules: &Rules<F>, base: usize, glyphs: &[GlyphInfo]) -> Op
 }
 
 // A ZWNJ takes mask bits from the glyphs before it back to the nearest consonant, that one
-// included. Most syllables have none.
+// included: 0915 094D 200C 0937 shows its H and has no half form. Most syllables have none.
 #[inline]
 fn clear_half(bits: u32, glyphs: &mut [GlyphInfo]) {
     if has_non_joiner(glyphs) {

@@ -17,7 +17,7 @@ use crate::generated::shapers_syllabic::ot_shaper_syllabic::is_consonant;
 /// Sets the positions of the reph, of what stands before the base, and of the base.
 #[allow(clippy::needless_range_loop)]
 #[inline]
-pub(super) fn set_positions_by_base(base: Base, glyphs: &mut [GlyphInfo]) {
+pub(super) fn set_positions_by_base(glyphs: &mut [GlyphInfo], base: Base) {
     let end = if base.place < glyphs.len() {
         base.place + 1
     } else {
@@ -43,6 +43,9 @@ fn position_by_base(base: Base, i: usize, position: u8) -> u8 {
 }
 
 /// Gives signs, joiners and halants the positions of what they go with.
+///
+/// An H stays behind where Uniscribe moves a left matra before it: 092B 093F 094D. Sinhala's
+/// 0D9A 0DDA needs that, whose sign is in two parts, 0DD9, a left matra, and 0DCA, an H.
 #[inline]
 pub(super) fn attach_marks(glyphs: &mut [GlyphInfo]) {
     let mut carrier = 0;
@@ -86,7 +89,8 @@ fn is_attached(glyph: &GlyphInfo) -> bool {
     )
 }
 
-// Whether a glyph is a syllable modifier that goes with the one directly behind it.
+// Whether a glyph is a syllable modifier that goes with the one directly behind it: Gurmukhi's bindi
+// may be typed before the vowel sign II that it stands on, as in 0A15 0A02 0A40.
 #[inline]
 fn draws_sign(glyph: &GlyphInfo, next: &GlyphInfo) -> bool {
     glyph.category == OT_SM && next.category == OT_MPst && next.auxiliary != POS_SMVD
@@ -103,9 +107,10 @@ fn next_behind(position: u8, behind: u8) -> u8 {
     }
 }
 
-/// Gives what stands before a consonant, after the base at this place, the consonant's position.
+/// Gives what stands before a consonant, after the base at this place, the consonant's position: the
+/// H that joins a below-base form to the base goes where that form goes (0915 094D 0930).
 #[inline]
-pub(super) fn own(base: usize, glyphs: &mut [GlyphInfo]) {
+pub(super) fn own(glyphs: &mut [GlyphInfo], base: usize) {
     if base < glyphs.len() {
         own_each(&mut glyphs[base + 1..]);
     }

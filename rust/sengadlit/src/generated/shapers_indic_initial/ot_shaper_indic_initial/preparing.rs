@@ -24,15 +24,8 @@ pub(super) fn prepare_for_order<F: Font>(
     put_joiner_first(script, buffer, start, end);
     let base = find_base(rules, &buffer.glyphs()[start..end]);
     buffer.walk(&mut PositionsByBase { base, start, end });
-    move_halant(
-        rules.plan.is_old_spec,
-        script,
-        base.place,
-        buffer,
-        start,
-        end,
-    );
     let base = base.place;
+    move_halant(rules.plan.is_old_spec, script, buffer, start, end, base);
     buffer.walk(&mut PositionsOfMarks { base, start, end });
 }
 
@@ -50,15 +43,15 @@ fn put_joiner_first(script: Option<Script>, buffer: &mut Buffer, start: usize, e
 fn move_halant(
     is_old_spec: bool,
     script: Option<Script>,
-    base: usize,
     buffer: &mut Buffer,
     start: usize,
     end: usize,
+    base: usize,
 ) {
     if !is_old_spec {
         return;
     }
-    if let Some((halant, last)) = halant_move(script, base, &buffer.glyphs()[start..end]) {
+    if let Some((halant, last)) = halant_move(script, &buffer.glyphs()[start..end], base) {
         move_to_end(buffer, start + halant, start + last + 1);
     }
 }
@@ -66,12 +59,12 @@ fn move_halant(
 // Moves the glyph at place `from` behind all others up to `end`.
 #[inline]
 fn move_to_end(buffer: &mut Buffer, from: usize, end: usize) {
-    let last = end - 1;
-    for i in from..last {
-        buffer.set_place(i, i + 1);
-    }
-    buffer.set_place(last, from);
-    buffer.apply(from, end, Placement::Listed);
+    let behind = Placement::Forward {
+        to: from,
+        from: from + 1,
+        count: end - from - 1,
+    };
+    buffer.apply(from, end, behind);
 }
 
 // Where a syllable stands whose glyphs get their positions by its base.
@@ -84,7 +77,7 @@ struct PositionsByBase {
 impl GlyphWalk for PositionsByBase {
     #[inline]
     fn walk(&mut self, glyphs: &mut [GlyphInfo]) {
-        set_positions_by_base(self.base, &mut glyphs[self.start..self.end]);
+        set_positions_by_base(&mut glyphs[self.start..self.end], self.base);
     }
 }
 
@@ -98,13 +91,13 @@ struct PositionsOfMarks {
 impl GlyphWalk for PositionsOfMarks {
     #[inline]
     fn walk(&mut self, glyphs: &mut [GlyphInfo]) {
-        set_positions_of_marks(self.base, &mut glyphs[self.start..self.end]);
+        set_positions_of_marks(&mut glyphs[self.start..self.end], self.base);
     }
 }
 
 // Sets the positions of a syllable with this base by what its glyphs go with.
 #[inline]
-fn set_positions_of_marks(base: usize, syllable: &mut [GlyphInfo]) {
+fn set_positions_of_marks(syllable: &mut [GlyphInfo], base: usize) {
     attach_marks(syllable);
-    own(base, syllable);
+    own(syllable, base);
 }

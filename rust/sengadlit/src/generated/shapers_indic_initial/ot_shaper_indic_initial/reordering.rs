@@ -35,7 +35,7 @@ impl<'a, F: Font> Reorder for InitialOrder<'a, F> {
         }
         if is_reordered(&buffer.glyphs()[start..end]) {
             prepare_for_order(self.rules, buffer, start, end);
-            let base = order_syllable(buffer, start, end, self.rules.plan.is_old_spec);
+            let base = order_syllable(self.rules.plan.is_old_spec, buffer, start, end);
             self.mask_syllable(buffer, base, start, end);
         }
         Ok(())

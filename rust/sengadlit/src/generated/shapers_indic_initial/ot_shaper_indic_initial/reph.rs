@@ -12,7 +12,8 @@ use crate::generated::shapers_indic::ot_shaper_indic::glyphs::{is_joiner, number
 use crate::generated::shapers_indic::ot_shaper_indic::indic_feature::RPHF;
 
 /// How many glyphs the reph that opens a syllable has, without joiners behind it; 0 if there is
-/// none.
+/// none. Most scripts have one where the font forms it of Ra, H (0930 094D 0915), Telugu of
+/// Ra, H, ZWJ (0C30 0C4D 200D 0C15), and Malayalam has a character for it (0D4E 0D15).
 #[inline]
 pub(crate) fn reph_len<F: Font>(rules: &Rules<F>, glyphs: &[GlyphInfo]) -> usize {
     let mode = rules.plan.config.reph_mode;
@@ -25,7 +26,7 @@ pub(crate) fn reph_len<F: Font>(rules: &Rules<F>, glyphs: &[GlyphInfo]) -> usize
 /// Where the search for the base ends, if no ZWJ ends it before: behind the reph and the joiners
 /// that follow it, or at the start.
 #[inline]
-pub(crate) fn limit(reph_len: usize, glyphs: &[GlyphInfo]) -> usize {
+pub(crate) fn limit(glyphs: &[GlyphInfo], reph_len: usize) -> usize {
     if reph_len == 0 {
         return 0;
     }
