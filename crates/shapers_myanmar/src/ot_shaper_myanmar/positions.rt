@@ -22,7 +22,8 @@ pub(super) fn set_positions(syllable: &mut [hb_glyph_info_t])
     set_behind_reph(rest);
 }
 
-// How many glyphs the reph of a syllable has: Ra, As, H, or none.
+// How many glyphs the reph of a syllable has: Ra, As, H, or none. It is the kinzi, drawn above the
+// base though text has it before: 1004 103A 1039 1000.
 #[inline]
 fn reph_len(syllable: &[hb_glyph_info_t]) -> usize
     ensures len { result ≡ myanmar_reph_len syllable.now }
@@ -128,8 +129,8 @@ fn part_of(glyph: &hb_glyph_info_t, before: u8) -> u8
 }
 
 // The position of a glyph behind the base: the medial Ra and the vowels before the base stand in
-// front of it, a selector with the glyph before it, an anusvara before the vowels below, and others
-// in their part.
+// front of it (1000 103C 1031 is drawn as 1031 103C 1000), a selector with the glyph before it, an
+// anusvara before the vowels below, and others in their part.
 #[inline]
 fn own_position(glyph: &hb_glyph_info_t, part: u8, before: u8) -> u8
     ensures { result ≡ own_position before (in_part part glyph.now) }

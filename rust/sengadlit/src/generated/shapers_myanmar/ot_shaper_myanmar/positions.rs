@@ -19,7 +19,8 @@ pub(super) fn set_positions(syllable: &mut [GlyphInfo]) {
     set_behind_reph(rest);
 }
 
-// How many glyphs the reph of a syllable has: Ra, As, H, or none.
+// How many glyphs the reph of a syllable has: Ra, As, H, or none. It is the kinzi, drawn above the
+// base though text has it before: 1004 103A 1039 1000.
 #[inline]
 fn reph_len(syllable: &[GlyphInfo]) -> usize {
     if has_reph(syllable) { 3 } else { 0 }
@@ -103,8 +104,8 @@ fn part_of(glyph: &GlyphInfo, before: u8) -> u8 {
 }
 
 // The position of a glyph behind the base: the medial Ra and the vowels before the base stand in
-// front of it, a selector with the glyph before it, an anusvara before the vowels below, and others
-// in their part.
+// front of it (1000 103C 1031 is drawn as 1031 103C 1000), a selector with the glyph before it, an
+// anusvara before the vowels below, and others in their part.
 #[inline]
 fn own_position(glyph: &GlyphInfo, part: u8, before: u8) -> u8 {
     match glyph.category {
