@@ -1,11 +1,11 @@
 -- A syllable that is reordered behind a run that isn't written: the same as behind the run in its cluster.
-use Rattle.std.proofs.Common.{ℕ, append_assoc, ◌+◌, ◌-◌, ◌%◌, ◌<◌, ◌≤◌, ◌≡◌, List, [], ◌∷◌, ◌++◌, map, length, get_or, slice_set, take, drop, refl, sym, ◌∙◌, ap, subst, arith, length-append, length-take, length-drop}
-use Rattle.std.specs.Prelude.{Bool, false, Option, MatchOption}
+use Rattle.std.proofs.Common.{ℕ, append_assoc, inl, inr, ◌+◌, ◌-◌, ◌%◌, ◌<◌, ◌≤◌, ◌≡◌, List, [], ◌∷◌, ◌++◌, map, length, get_or, slice_set, take, drop, refl, sym, ◌∙◌, ap, subst, arith, length-append, length-take, length-drop}
+use Rattle.std.specs.Prelude.{Bool, false, Option}
 use Rattle.std.specs.List.{list_any}
+use Rattle.std.proofs.Math.Nat.{eq-or-lt_of_le}
 use Rattle.std.proofs.Math.Seq.{map-set_same}
 use Rattle.std.proofs.lemmas.List.{drop-drop, drop-set-lt, drop_at, length-map, length-set, drop-map, map-append, take-append-drop, take-append-le, take-map, take-take, take_at, take_more, take_more_set}
 use Rattle.shapers_buffer.specs.declared.buffer.glyph.hb_glyph_info_t.{hb_glyph_info_t}
-use Rattle.shapers_buffer.specs.declared.buffer.level.BufferClusterLevel.{BufferClusterLevel}
 use Rattle.shapers_buffer.specs.declared.buffer.tag.Script.{Script}
 use Rattle.shapers_buffer.specs.Buffer.{Buffer, but_places}
 use Rattle.shapers_buffer.specs.ClusterRuns.{none_below}
@@ -14,7 +14,7 @@ use Rattle.shapers_buffer.specs.Glyph.{default_glyph, order_view, plain, without
 use Rattle.shapers_buffer.specs.Syllables.{first_syllable_len}
 use Rattle.shapers_buffer.proofs.ClusterLemmas.{length-stretch, map-stretch}
 use Rattle.shapers_buffer.proofs.OneCluster.{last_of_end}
-use Rattle.shapers_clusters.specs.CarriedRuns.{EndsAbove, IsCarried, carried_cluster, with_carried}
+use Rattle.shapers_clusters.specs.CarriedRuns.{IsCarried, carried_cluster, with_carried}
 use Rattle.shapers_clusters.specs.declared.carried_runs.CarriedRun.{CarriedRun}
 use Rattle.shapers_clusters.specs.Steps.{FitSteps, Step, run_steps, widened}
 use Rattle.shapers_clusters.proofs.CarriedGlyphs.{none_carried, parts_of_run, run_changed, run_kept}
@@ -24,10 +24,11 @@ use Rattle.shapers_clusters.proofs.Moves.{falls-run_steps}
 use Rattle.shapers_clusters.proofs.Widened.{all_fit-widened}
 use Rattle.shapers_syllabic.proofs.LinkedSyllables.{Leads, Link, Meaning, Orders, PermutesNumbers, Stays, ToLink, linked_end, linked_passes, next_syllable, numbers-view, past_changing, takes_next, to_changing, to_link_all}
 use Rattle.shapers_syllabic.proofs.Skipping.{to_end}
+use Rattle.shapers_syllabic.specs.declared.ot_shaper_syllabic.reordering.Carrying.{Carrying}
 use Rattle.shapers_syllabic.specs.Borders.{MeetAtBorder}
 use Rattle.shapers_syllabic.specs.Reordering.{SyllableReordered, SyllablesLinked, TakesText, carried, glyph_numbers}
 use Rattle.shapers_syllabic.specs.ReorderingLaws.{IsNextChanging, ReorderLaws}
-use Rattle.shapers_syllabic.specs.ReorderingWalk.{ReorderedBehind, ReorderedGuarded, guarded_at, written}
+use Rattle.shapers_syllabic.specs.ReorderingWalk.{CarryingFits, Guarded, ReorderedBehind, Settled, guarded_at, run_written}
 
 abbrev zip_with : {X Y Z : Type 0} → (X → Y → Z) → List X → List Y → List Z
 zip_with f [] ys = []
@@ -106,19 +107,10 @@ next_same changes start first gs hs many same next =
       changing = ap (λ l. list_any changes (take (first_syllable_len l) l)) (sym rest) ∙ next.changing;
     }
 
-pub numbers_same : (run : CarriedRun) (s e : ℕ) (gs : List hb_glyph_info_t) → run.start ≤ run.end →
-    glyph_numbers (stretch_of s e (with_carried run gs)) ≡ glyph_numbers (stretch_of s e gs)
-numbers_same run s e gs order =
-    let number : hb_glyph_info_t → ℕ = λ g. g.glyph_id in
-    map-stretch number s e (with_carried run gs)
-    ∙ ap (stretch_of s e) (sym (numbers-view (with_carried run gs)) ∙ ap glyph_numbers (order_view-carried run gs order)
-    ∙ numbers-view gs)
-    ∙ sym (map-stretch number s e gs)
-
 -- THE SYLLABLE. What the guarded one comes to, the run is carried on by.
 pub record CarriedOn (meaning : List hb_glyph_info_t → List hb_glyph_info_t) (steps : List hb_glyph_info_t →
     List Step) (first end : ℕ) (run : CarriedRun) (old new : Buffer) : Type 0 where
-  pub reordered : SyllableReordered meaning steps first end (written run old) (written run new)
+  pub reordered : SyllableReordered meaning steps first end (run_written run old) (run_written run new)
   pub fits : IsCarried run new.glyphs
 
 pub carried_on : (meaning : List hb_glyph_info_t → List hb_glyph_info_t) (steps : List hb_glyph_info_t → List Step)
@@ -249,7 +241,7 @@ carried_on meaning steps run first end old between laws some at order within fit
 pub carried_none : (run : CarriedRun) (gs : List hb_glyph_info_t) → run.start ≡ run.end → with_carried run gs ≡ gs
 carried_none run gs none = none_carried run (map (in_cluster (carried_cluster run gs))) gs none refl
 
-pub written_none : (run : CarriedRun) (b : Buffer) → run.start ≡ run.end → written run b ≡ b
+pub written_none : (run : CarriedRun) (b : Buffer) → run.start ≡ run.end → run_written run b ≡ b
 written_none run b none =
     ap (λ (gs : List hb_glyph_info_t). record b { glyphs = gs })
     (carried_none run b.glyphs none)
@@ -266,17 +258,6 @@ none_fits run gs none within =
       apart = λ some. absurd (omega arith);
       noted = λ some. absurd (omega arith);
     }
-
--- a syllable that is reordered behind none; the run that begins then has its cluster already
-pub behind_none : (link : Link) (first end : ℕ) (run after : CarriedRun) (old new : Buffer) → run.start ≡ run.end →
-    link first end old new → with_carried after new.glyphs ≡ new.glyphs → IsCarried after new.glyphs →
-    after.end ≤ first → ReorderedBehind link first end run old after new
-behind_none link first end run after old new none linked same fits ends = record {
-  linked = subst (λ b. link first end b (written after new)) (sym (written_none run old none))
-      (subst (link first end old) (ap (λ (gs : List hb_glyph_info_t). record new { glyphs = gs }) (sym same)) linked);
-  fits = fits;
-  ends = ends;
-}
 
 -- it keeps the length
 pub length_reordered : (meaning : List hb_glyph_info_t → List hb_glyph_info_t) (steps : List hb_glyph_info_t →
@@ -300,55 +281,166 @@ abbrev pub Suffices : Meaning → (Option Script → List hb_glyph_info_t → Li
 Suffices meaning steps link = (s e : ℕ) (b c : Buffer) →
     SyllableReordered (meaning b.script) (steps b.script) s e b c → link s e b c
 
-pub behind_run : (meaning : Meaning) (steps : Option Script → List hb_glyph_info_t → List Step) (link : Link) →
-    Leads meaning steps link → Suffices meaning steps link → (run : CarriedRun) (first end : ℕ) (old new : Buffer) →
-    ReorderLaws (meaning old.script) (steps old.script) → run.start < run.end → run.end ≡ first → first ≤ end →
-    end ≤ length old.glyphs → IsCarried run old.glyphs → ReorderedGuarded link first end run.above old new →
-    ReorderedBehind link first end run old run new
-behind_run meaning steps link leads suffices run first end old new laws some at order within fits done =
-    let guarded : Buffer = record old { glyphs = guarded_at (first - 2) run.above old.glyphs } in
-    let on = carried_on (meaning old.script) (steps old.script) run first end old done.between laws some at order
-    within fits (leads first end guarded done.between done.linked) in
-    subst (λ b. ReorderedBehind link first end run old run b) (sym done.taken_back) (record {
-      linked = suffices first end (written run old) _ on.reordered;
-      fits = on.fits;
-      ends = omega arith;
-    })
-
--- WHAT THE WALK STILL HAS TO DO, if the run were written
-pub record ToCarry (takes : List ℕ → Type 0) (link : Link) (old : Buffer) (run : CarriedRun) (now : Buffer)
-    (start : ℕ) : Type 0 where
-  pub fits : IsCarried run now.glyphs
-  pub ends : run.end ≤ start
-  pub to : ToLink takes link old (written run now) start
-
 length_carried : (run : CarriedRun) (gs : List hb_glyph_info_t) → run.start ≤ run.end →
     length (with_carried run gs) ≡ length gs
 length_carried run gs order =
     sym (length-map (with_carried run gs) plain) ∙ ap length (order_view-carried run gs order) ∙ length-map gs plain
 
-pub to_carry_all : (takes : List ℕ → Type 0) (link : Link) (old : Buffer) (run : CarriedRun) →
-    run.start ≡ 0 → run.end ≡ 0 → TakesText takes old.glyphs → ToCarry takes link old run old 0
-to_carry_all takes link old run start_is end_is all =
-    let none : run.start ≡ run.end = omega arith in
-    record {
-      fits = none_fits run old.glyphs none (omega arith);
-      ends = omega arith;
-      to = subst (λ b. ToLink takes link old b 0) (sym (written_none run old none)) (to_link_all takes link old all);
-    }
-
--- the buffer between two syllables: as long, and without positions, if the text was
-pub record CarriedStands (old now : Buffer) (start : ℕ) : Type 0 where
-  pub inside : start ≤ length now.glyphs
+-- with the guard, nothing that the order reads is another one
+pub record GuardedStands (old now : Buffer) : Type 0 where
+  pub view : order_view now.glyphs ≡ order_view old.glyphs
+  pub same_length : length now.glyphs ≡ length old.glyphs
   pub positions : now.positions ≡ old.positions
 
-pub carried_stands : (takes : List ℕ → Type 0) (link : Link) (old : Buffer) (run : CarriedRun) (now : Buffer)
-    (start : ℕ) → ToCarry takes link old run now start → CarriedStands old now start
-carried_stands takes link old run now start state =
+pub guarded_stands : (first : ℕ) (it after : Carrying) (old now : Buffer) → CarryingFits first it old.glyphs →
+    Guarded first it old after now → GuardedStands old now
+guarded_stands first it after old now fits g =
+    let between = g.between in
+    let order = g.fits.fits.in_order in
+    let view : order_view now.glyphs ≡ order_view between.glyphs = elim (eq-or-lt_of_le order) [
+      | inl none ↦ ap (λ (b : Buffer). order_view b.glyphs) (g.none none)
+      | inr some ↦ ap (λ (b : Buffer). order_view b.glyphs) (g.guard some)
+          ∙ order_view-guarded (first - 2) after.run.above between.glyphs
+    ] in
+    let positions : now.positions ≡ between.positions = elim (eq-or-lt_of_le order) [
+      | inl none ↦ ap (λ (b : Buffer). b.positions) (g.none none)
+      | inr some ↦ ap (λ (b : Buffer). b.positions) (g.guard some)
+    ] in
+    let all = view ∙ sym (order_view-carried after.run between.glyphs order)
+    ∙ ap (λ (b : Buffer). order_view b.glyphs) g.same ∙ order_view-carried it.run old.glyphs fits.fits.in_order in
+    record {
+      view = all;
+      same_length = sym (length-map now.glyphs plain) ∙ ap length all ∙ length-map old.glyphs plain;
+      positions = positions ∙ ap (λ (b : Buffer). b.positions) g.same;
+    }
+
+pub numbers_by_view : (s e : ℕ) (gs hs : List hb_glyph_info_t) → order_view gs ≡ order_view hs →
+    glyph_numbers (stretch_of s e gs) ≡ glyph_numbers (stretch_of s e hs)
+numbers_by_view s e gs hs same =
+    let number : hb_glyph_info_t → ℕ = λ g. g.glyph_id in
+    map-stretch number s e gs ∙ ap (stretch_of s e) (sym (numbers-view gs) ∙ ap glyph_numbers same ∙ numbers-view hs)
+    ∙ sym (map-stretch number s e hs)
+
+-- where clusters don't fall, nothing is carried
+pub guarded_idle : (first : ℕ) (it : Carrying) (b : Buffer) → CarryingFits first it b.glyphs → it.falls ≡ false →
+    Guarded first it b it b
+guarded_idle first it b fits falls =
+    let none = fits.idle falls in
+    record {
+      between = b;
+      same = refl;
+      fits = fits;
+      at = λ some. absurd (omega arith);
+      none = λ same. refl;
+      guard = λ some. absurd (omega arith);
+      kept = λ some. absurd (omega arith);
+    }
+
+pub settled_idle : (first : ℕ) (it : Carrying) (b : Buffer) → first ≤ length b.glyphs →
+    it.run.start ≡ it.run.end → it.run.end ≤ first → Settled first it b it b
+settled_idle first it b inside none within = record {
+  taken_back = λ some. absurd (omega arith);
+  kept = λ some. refl;
+  begun = λ same. refl;
+  same = λ same. carried_none it.run b.glyphs none;
+  fits = λ same. none_fits it.run b.glyphs none (omega arith);
+  ends = λ same. within;
+  idle = λ falls. none;
+}
+
+pub behind_carried_run : (meaning : Meaning) (steps : Option Script → List hb_glyph_info_t → List Step) (link : Link) →
+    Leads meaning steps link → Suffices meaning steps link →
+    ((script : Option Script) → ReorderLaws (meaning script) (steps script)) → (first end : ℕ)
+    (it mid after : Carrying) (old now reordered new : Buffer) → first ≤ end → end ≤ length old.glyphs →
+    CarryingFits first it old.glyphs → Guarded first it old mid now → link first end now reordered →
+    Settled first mid reordered after new → ReorderedBehind link first end it old after new
+behind_carried_run meaning steps link leads suffices laws first end it mid after old now reordered new order within fits g
+    linked settled =
+    let between = g.between in
+    let many : length between.glyphs ≡ length old.glyphs =
+    sym (length_carried mid.run between.glyphs g.fits.fits.in_order)
+    ∙ ap (λ (b : Buffer). length b.glyphs) g.same ∙ length_carried it.run old.glyphs fits.fits.in_order in
+    elim (eq-or-lt_of_le g.fits.fits.in_order) [
+      | inl none ↦
+          let is = settled.begun none in
+          let alone : link first end between reordered =
+          subst (λ b. link first end b reordered) (g.none none) linked in
+          let wrote : run_written after.run new ≡ reordered = ap (run_written after.run) is
+          ∙ ap (λ (gs : List hb_glyph_info_t). record reordered { glyphs = gs }) (settled.same none) in
+          record {
+            linked = subst (λ b. link first end b (run_written after.run new)) (sym (written_none mid.run between none)
+                ∙ g.same) (subst (link first end between) (sym wrote) alone);
+            fits = record {
+              fits = subst (λ b. IsCarried after.run b.glyphs) (sym is) (settled.fits none);
+              ends = settled.ends none;
+              idle = settled.idle;
+            };
+          }
+      | inr some ↦
+          let guarded : Buffer = record between { glyphs = guarded_at (first - 2) mid.run.above between.glyphs } in
+          let guarded_linked : link first end guarded reordered =
+          subst (λ b. link first end b reordered) (g.guard some) linked in
+          let on = carried_on (meaning between.script) (steps between.script) mid.run first end between reordered
+          (laws between.script) some (g.at some) order (omega arith) g.fits.fits
+          (leads first end guarded reordered guarded_linked) in
+          let is : new ≡ record reordered {
+            glyphs = slice_set reordered.glyphs (first - 2) (get_or between.glyphs (first - 2) default_glyph);
+          } = settled.taken_back some
+          ∙ ap (λ (glyph : hb_glyph_info_t). record reordered {
+            glyphs = slice_set reordered.glyphs (first - 2) glyph;
+          }) (g.kept some) in
+          let run_is = settled.kept some in
+          let done = suffices first end (run_written mid.run between) _ on.reordered in
+          record {
+            linked = subst (λ b. link first end b (run_written after.run new)) g.same
+                (subst (λ run. link first end (run_written mid.run between) (run_written run new)) (sym run_is)
+                (subst (λ b. link first end (run_written mid.run between) (run_written mid.run b)) (sym is) done));
+            fits = record {
+              fits = subst (λ run. IsCarried run new.glyphs) (sym run_is)
+                  (subst (λ b. IsCarried mid.run b.glyphs) (sym is) on.fits);
+              ends = (let ends = g.fits.ends in omega (arith, ap (λ (run : CarriedRun). run.end) run_is));
+              idle = settled.idle;
+            };
+          }
+    ]
+
+-- WHAT THE WALK STILL HAS TO DO, if the run were written
+pub record ToCarry (takes : List ℕ → Type 0) (link : Link) (old : Buffer) (it : Carrying) (now : Buffer)
+    (start : ℕ) : Type 0 where
+  pub fits : CarryingFits start it now.glyphs
+  pub to : ToLink takes link old (run_written it.run now) start
+
+pub to_carry_all : (takes : List ℕ → Type 0) (link : Link) (old : Buffer) (it : Carrying) →
+    it.run.start ≡ 0 → it.run.end ≡ 0 → TakesText takes old.glyphs → ToCarry takes link old it old 0
+to_carry_all takes link old it start_is end_is all =
+    let none : it.run.start ≡ it.run.end = omega arith in
+    record {
+      fits = record {
+        fits = none_fits it.run old.glyphs none (omega arith);
+        ends = omega arith;
+        idle = λ falls. none;
+      };
+      to = subst (λ b. ToLink takes link old b 0) (sym (written_none it.run old none)) (to_link_all takes link old all);
+    }
+
+-- between two syllables: the buffer is as long, and has no positions, if the text had none
+pub record CarriedStands (it : Carrying) (old now : Buffer) (start : ℕ) : Type 0 where
+  pub inside : start ≤ length now.glyphs
+  pub positions : now.positions ≡ old.positions
+  pub fits : (first : ℕ) → start ≤ first → CarryingFits first it now.glyphs
+
+pub carried_stands : (takes : List ℕ → Type 0) (link : Link) (old : Buffer) (it : Carrying) (now : Buffer)
+    (start : ℕ) → ToCarry takes link old it now start → CarriedStands it old now start
+carried_stands takes link old it now start state =
     let inside = state.to.inside in
     record {
-      inside = subst (λ n. start ≤ n) (length_carried run now.glyphs state.fits.in_order) inside;
+      inside = subst (λ n. start ≤ n) (length_carried it.run now.glyphs state.fits.fits.in_order) inside;
       positions = ap (λ (b : Buffer). b.positions) state.to.others;
+      fits = λ first further. record {
+        fits = state.fits.fits;
+        ends = (let ends = state.fits.ends in omega arith);
+        idle = state.fits.idle;
+      };
     }
 
 -- where the next syllable is looked for, the run makes no difference
@@ -361,71 +453,76 @@ next_carried changes run start first gs read is fits ends found =
     (ap (drop start) is ∙ sym (behind_carried run start gs fits.in_order ends fits.in_range)) found
 
 pub takes_carried : (meaning : Meaning) (takes : List ℕ → Type 0) (changes : hb_glyph_info_t → Bool) (link : Link)
-    (old : Buffer) (run : CarriedRun) (now : Buffer) (read : List hb_glyph_info_t) (start first end : ℕ)
-    (after : CarriedRun) (mid : Buffer) → read ≡ now.glyphs → PermutesNumbers meaning → Orders meaning link →
-    Stays changes link → IsNextChanging changes start read first → ToCarry takes link old run now start →
-    end ≡ first + first_syllable_len (drop first now.glyphs) → written after mid ≡ written run now →
-    IsCarried after mid.glyphs → takes (glyph_numbers (stretch_of first end mid.glyphs))
-takes_carried meaning takes changes link old run now read start first end after mid is permutes orders stays found state
-    end_is same fits =
+    (old : Buffer) (it : Carrying) (now : Buffer) (read : List hb_glyph_info_t) (start first end : ℕ) →
+    read ≡ now.glyphs → PermutesNumbers meaning → Orders meaning link → Stays changes link →
+    IsNextChanging changes start read first → ToCarry takes link old it now start →
+    end ≡ first + first_syllable_len (drop first now.glyphs) →
+    takes (glyph_numbers (stretch_of first end now.glyphs))
+takes_carried meaning takes changes link old it now read start first end is permutes orders stays found state end_is =
+    let run = it.run in
     let meant = with_carried run now.glyphs in
-    let ends = state.ends in
+    let ends = state.fits.ends in
+    let fits = state.fits.fits in
     let order = found.in_order in
-    let inside = found.inside in
-    let found_meant = next_carried changes run start first now.glyphs read is state.fits ends found in
-    let to = to_changing meaning takes changes link old (written run now) meant start first refl permutes orders stays
+    let found_meant = next_carried changes run start first now.glyphs read is fits ends found in
+    let to = to_changing meaning takes changes link old (run_written run now) meant start first refl permutes orders stays
     found_meant state.to in
     let rest : drop first meant ≡ drop first now.glyphs =
-    behind_carried run first now.glyphs state.fits.in_order (omega arith) state.fits.in_range in
+    behind_carried run first now.glyphs fits.in_order (omega arith) fits.in_range in
     let end_meant : end ≡ first + first_syllable_len (drop first meant) = end_is
     ∙ ap (λ l. first + first_syllable_len l) (sym rest) in
-    subst takes (ap (λ (b : Buffer). glyph_numbers (stretch_of first end b.glyphs)) (sym same)
-    ∙ numbers_same after first end mid.glyphs fits.in_order)
-    (takes_next takes link old (written run now) first end to
+    subst takes (numbers_by_view first end meant now.glyphs (order_view-carried run now.glyphs fits.in_order))
+    (takes_next takes link old (run_written run now) first end to
     (next_syllable meant first end found_meant.inside end_meant))
 
 -- past the next syllable that may change
-pub record CarriedNext (takes : List ℕ → Type 0) (link : Link) (old now : Buffer) (run : CarriedRun) (new : Buffer)
+pub record CarriedNext (takes : List ℕ → Type 0) (link : Link) (old now : Buffer) (it : Carrying) (new : Buffer)
     (end : ℕ) : Type 0 where
   pub same_length : length new.glyphs ≡ length now.glyphs
-  pub state : ToCarry takes link old run new end
+  pub state : ToCarry takes link old it new end
 
 pub carry_next : (meaning : Meaning) (takes : List ℕ → Type 0) (changes : hb_glyph_info_t → Bool) (link : Link)
-    (old : Buffer) (run : CarriedRun) (now : Buffer) (read : List hb_glyph_info_t) (start first end : ℕ)
-    (carried_run : CarriedRun) (mid : Buffer) (after : CarriedRun) (new : Buffer) → read ≡ now.glyphs →
-    PermutesNumbers meaning → Orders meaning link → Stays changes link → IsNextChanging changes start read first →
-    ToCarry takes link old run now start → end ≡ first + first_syllable_len (drop first now.glyphs) → first ≤ end →
-    written carried_run mid ≡ written run now → ReorderedBehind link first end carried_run mid after new →
-    CarriedNext takes link old now after new end
-carry_next meaning takes changes link old run now read start first end carried_run mid after new is permutes orders
-    stays found state end_is further same done =
+    (old : Buffer) (it : Carrying) (now : Buffer) (read : List hb_glyph_info_t) (start first end : ℕ)
+    (after : Carrying) (new : Buffer) → read ≡ now.glyphs → PermutesNumbers meaning → Orders meaning link →
+    Stays changes link → IsNextChanging changes start read first → ToCarry takes link old it now start →
+    end ≡ first + first_syllable_len (drop first now.glyphs) → first ≤ end →
+    ReorderedBehind link first end it now after new → CarriedNext takes link old now after new end
+carry_next meaning takes changes link old it now read start first end after new is permutes orders stays found state
+    end_is further done =
+    let run = it.run in
     let meant = with_carried run now.glyphs in
-    let ends = state.ends in
+    let ends = state.fits.ends in
+    let fits = state.fits.fits in
     let order = found.in_order in
-    let ends_after = done.ends in
-    let found_meant = next_carried changes run start first now.glyphs read is state.fits ends found in
+    let ends_after = done.fits.ends in
+    let found_meant = next_carried changes run start first now.glyphs read is fits ends found in
     let rest : drop first meant ≡ drop first now.glyphs =
-    behind_carried run first now.glyphs state.fits.in_order (omega arith) state.fits.in_range in
-    let next = past_changing meaning takes changes link old (written run now) (written after new) meant start first end
-    refl permutes orders stays found_meant state.to (end_is ∙ ap (λ l. first + first_syllable_len l) (sym rest))
-    (subst (λ b. link first end b (written after new)) same done.linked) in
+    behind_carried run first now.glyphs fits.in_order (omega arith) fits.in_range in
+    let next = past_changing meaning takes changes link old (run_written run now) (run_written after.run new) meant start first
+    end refl permutes orders stays found_meant state.to (end_is ∙ ap (λ l. first + first_syllable_len l) (sym rest))
+    done.linked in
     record {
-      same_length = sym (length_carried after new.glyphs done.fits.in_order) ∙ next.same_length
-          ∙ length_carried run now.glyphs state.fits.in_order;
-      state = record { fits = done.fits; ends = omega arith; to = next.to };
+      same_length = sym (length_carried after.run new.glyphs done.fits.fits.in_order) ∙ next.same_length
+          ∙ length_carried run now.glyphs fits.in_order;
+      state = record {
+        fits = record { fits = done.fits.fits; ends = omega arith; idle = done.fits.idle };
+        to = next.to;
+      };
     }
 
 -- behind the last one the run is written
 pub carry_end : (meaning : Meaning) (takes : List ℕ → Type 0) (changes : hb_glyph_info_t → Bool) (link : Link)
-    (old : Buffer) (run : CarriedRun) (now : Buffer) (read : List hb_glyph_info_t) (start : ℕ) (new : Buffer) →
+    (old : Buffer) (it : Carrying) (now : Buffer) (read : List hb_glyph_info_t) (start : ℕ) (new : Buffer) →
     read ≡ now.glyphs → PermutesNumbers meaning → Orders meaning link → Stays changes link →
-    list_any changes (drop start read) ≡ false → ToCarry takes link old run now start →
-    new ≡ but_places (written run now) → SyllablesLinked link old new
-carry_end meaning takes changes link old run now read start new is permutes orders stays none state new_is =
+    list_any changes (drop start read) ≡ false → ToCarry takes link old it now start →
+    new ≡ but_places (run_written it.run now) → SyllablesLinked link old new
+carry_end meaning takes changes link old it now read start new is permutes orders stays none state new_is =
+    let run = it.run in
     let meant = with_carried run now.glyphs in
-    let rest : drop start meant ≡ drop start read = behind_carried run start now.glyphs state.fits.in_order state.ends
-    state.fits.in_range ∙ ap (drop start) (sym is) in
-    let passes = linked_passes meaning takes changes link old (written run now) permutes orders stays in
-    linked_end takes link old (written run now) new
-    (to_end changes meant (ToLink takes link old (written run now)) passes start state.to.inside
+    let fits = state.fits.fits in
+    let rest : drop start meant ≡ drop start read = behind_carried run start now.glyphs fits.in_order state.fits.ends
+    fits.in_range ∙ ap (drop start) (sym is) in
+    let passes = linked_passes meaning takes changes link old (run_written run now) permutes orders stays in
+    linked_end takes link old (run_written run now) new
+    (to_end changes meant (ToLink takes link old (run_written run now)) passes start state.to.inside
     (ap (list_any changes) rest ∙ none) state.to) new_is

@@ -1,34 +1,56 @@
--- Words of the code's walk over syllables: runs of earlier syllables that aren't written yet.
-use Rattle.std.specs.Prelude.{ℕ, ◌-◌, ◌≡◌, ◌≤◌, List, get_or, slice_set}
+-- Words of the code's walk over syllables: a run of glyphs that isn't written yet.
+use Rattle.std.specs.Prelude.{ℕ, ◌-◌, ◌<◌, ◌≡◌, ◌≤◌, false, List, get_or, slice_set}
 use Rattle.shapers_buffer.specs.declared.buffer.glyph.hb_glyph_info_t.{hb_glyph_info_t}
 use Rattle.shapers_buffer.specs.Buffer.{Buffer}
 use Rattle.shapers_buffer.specs.Glyph.{default_glyph}
 use Rattle.shapers_clusters.specs.CarriedRuns.{IsCarried, with_carried}
 use Rattle.shapers_clusters.specs.declared.carried_runs.CarriedRun.{CarriedRun}
+use Rattle.shapers_syllabic.specs.declared.ot_shaper_syllabic.reordering.Carrying.{Carrying}
 
 -- the buffer with a run in its cluster
-abbrev pub written : CarriedRun → Buffer → Buffer
-written run b = record b { glyphs = with_carried run b.glyphs }
+abbrev pub run_written : CarriedRun → Buffer → Buffer
+run_written run b = record b { glyphs = with_carried run b.glyphs }
 
--- The syllable from first to end is reordered, behind a run; and what the run is then.
-pub record ReorderedBehind (link : ℕ → ℕ → Buffer → Buffer → Type 0) (first end : ℕ) (run :
-    CarriedRun) (old : Buffer) (after : CarriedRun) (new : Buffer) : Type 0 where
-  pub linked : link first end (written run old) (written after new)
-  pub fits : IsCarried after new.glyphs
-  pub ends : after.end ≤ first
+-- What is carried fits these glyphs, up to a place; where clusters don't fall, there is no run.
+pub record CarryingFits (place : ℕ) (it : Carrying) (gs : List hb_glyph_info_t) : Type 0 where
+  pub fits : IsCarried it.run gs
+  pub ends : it.run.end ≤ place
+  pub idle : it.falls ≡ false → it.run.start ≡ it.run.end
 
--- the list with another cluster at a place, and the buffer
+-- The syllable from first to end is reordered, behind what is carried; and what is carried then.
+pub record ReorderedBehind (link : ℕ → ℕ → Buffer → Buffer → Type 0) (first end : ℕ) (it :
+    Carrying) (old : Buffer) (after : Carrying) (new : Buffer) : Type 0 where
+  pub linked : link first end (run_written it.run old) (run_written after.run new)
+  pub fits : CarryingFits first after new.glyphs
+
+-- the list with another cluster at a place
 abbrev pub guarded_at : ℕ → ℕ → List hb_glyph_info_t → List hb_glyph_info_t
 guarded_at place cluster gs =
     let g : hb_glyph_info_t = get_or gs place default_glyph in
     slice_set gs place (record g { cluster = cluster })
 
--- It is reordered with another cluster two places before it, which is taken back then.
-pub record ReorderedGuarded (link : ℕ → ℕ → Buffer → Buffer → Type 0) (first end above : ℕ)
-    (old new : Buffer) : Type 0 where
+-- Before a syllable, which starts at first: the run ends there, with another cluster two places
+-- before it; or there is none.
+pub record Guarded (first : ℕ) (it : Carrying) (old : Buffer) (after : Carrying) (new : Buffer) :
+    Type 0 where
   pub between : Buffer
-  pub linked :
-      link first end (record old { glyphs = guarded_at (first - 2) above old.glyphs }) between
-  pub taken_back : new ≡ record between {
-    glyphs = slice_set between.glyphs (first - 2) (get_or old.glyphs (first - 2) default_glyph);
-  }
+  pub same : run_written after.run between ≡ run_written it.run old
+  pub fits : CarryingFits first after between.glyphs
+  pub at : after.run.start < after.run.end → after.run.end ≡ first
+  pub none : after.run.start ≡ after.run.end → new ≡ between
+  pub guard : after.run.start < after.run.end →
+      new ≡ record between { glyphs = guarded_at (first - 2) after.run.above between.glyphs }
+  pub kept : after.run.start < after.run.end →
+      after.glyph ≡ get_or between.glyphs (first - 2) default_glyph
+
+-- Behind it: the cluster is taken back; or a run begins, of glyphs that are in its cluster.
+pub record Settled (first : ℕ) (it : Carrying) (old : Buffer) (after : Carrying) (new : Buffer) :
+    Type 0 where
+  pub taken_back : it.run.start < it.run.end →
+      new ≡ record old { glyphs = slice_set old.glyphs (first - 2) it.glyph }
+  pub kept : it.run.start < it.run.end → after.run ≡ it.run
+  pub begun : it.run.start ≡ it.run.end → new ≡ old
+  pub same : it.run.start ≡ it.run.end → with_carried after.run old.glyphs ≡ old.glyphs
+  pub fits : it.run.start ≡ it.run.end → IsCarried after.run old.glyphs
+  pub ends : it.run.start ≡ it.run.end → after.run.end ≤ first
+  pub idle : after.falls ≡ false → after.run.start ≡ after.run.end

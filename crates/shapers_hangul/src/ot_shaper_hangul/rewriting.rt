@@ -2,20 +2,22 @@
 ghost use Rattle.std.specs.Prelude.{◌≡◌, ◌+◌, ◌-◌, ◌<◌, ◌≤◌, ◌++◌, ◌∷◌, [], true, false, drop, length, take, vec_capacity, Ok, OnOk, OnErr, IfOk, IfErr, IsOk};
 ghost use Rattle.shapers_buffer.specs.Glyph.{characters};
 ghost use Rattle.shapers_buffer.specs.GlyphFlags.{unsafe_all};
+ghost use Rattle.shapers_clusters.specs.CarriedRuns.{IsCarried, with_carried};
 ghost use Rattle.shapers_hangul.specs.HangulLaws.{AllKept};
 ghost use Rattle.shapers_hangul.specs.RewritingWalk.{rewritten_items, InTurn, change_output, changed_from};
 ghost use Rattle.shapers_buffer.specs.Refusals.{RefusesLength};
 ghost use Rattle.shapers_buffer.specs.declared.buffer.refusal.ShaperError.TheVariants.{TooLong};
-ghost use Rattle.shapers_hangul.specs.Hangul.{first_item, item_len, items_at, items_flagged, glyph_copies, outputs, Fit, all_joined, rewritten, allows_circles, is_kept, whole_items, KeptBefore, rewritten_by};
+ghost use Rattle.shapers_hangul.specs.Hangul.{first_item, item_len, items_at, items_flagged, glyph_copies, outputs, Fit, all_joined, item_joined, rewritten, allows_circles, is_kept, whole_items, KeptBefore, rewritten_by};
 
 use super::item::{Item, first_item, stays_alone};
 use bitflags::Flags;
 use shapers_base::buffer::{
-    BufferClusterLevel, BufferFlags, GlyphRewriting, ShaperError, hb_buffer_t, hb_glyph_info_t,
-    unsafe_to_break_in,
+    BufferClusterLevel, BufferFlags, GlyphRewriting, ShaperError, change_each_in, hb_buffer_t,
+    hb_glyph_info_t, unsafe_to_break_in,
 };
 use shapers_base::font::hb_font_t;
 use shapers_base::plan::BreakFlags;
+use shapers_clusters::carried_runs::CarriedRun;
 use std::alloc::Global;
 
 // The item at a place of the text.
@@ -169,15 +171,85 @@ fn flag_breaks(breaks: BreakFlags, cut: &[(usize, Item)], glyphs: &mut [hb_glyph
     }
 }
 
-// Flags and merges what the items flag and merge, one after another.
+// Flags and merges what the items flag and merge, one after another. Where an item's merge floods
+// what stands before, that is carried along and written once.
 #[inline]
 fn join_items(cut: &[(usize, Item)], level: BufferClusterLevel, glyphs: &mut [hb_glyph_info_t])
     requires { Fit (length glyphs.old) cut.now }
     ensures { glyphs.new ≡ all_joined level cut.now glyphs.old }
 {
+    let mut run = CarriedRun::NONE;
     for entry in cut {
-        entry.1.join(level, glyphs, entry.0);
+        run = carried_to(run, glyphs, entry.0);
+        run = join_behind(entry.1, level, run, glyphs, entry.0);
     }
+    write_run(run, glyphs);
+}
+
+// The run up to a place, if all glyphs before that are in its cluster; else it is written, and none
+// is left.
+#[inline]
+fn carried_to(run: CarriedRun, glyphs: &mut [hb_glyph_info_t], place: usize) -> CarriedRun
+    requires in_range { place ≤ length glyphs.old }
+    requires fits { IsCarried run glyphs.old }
+    ensures same { with_carried result glyphs.new ≡ with_carried run glyphs.old }
+    ensures fits { IsCarried result glyphs.new }
+    ensures ends { result.start < result.end → result.end ≡ place }
+    ensures within { result.end ≤ place }
+    ensures same_length { length glyphs.new ≡ length glyphs.old }
+{
+    if run.is_none() {
+        return CarriedRun::NONE;
+    }
+    if let Some(run) = run.reaching(glyphs, place) {
+        return run;
+    }
+    write_run(run, glyphs);
+    CarriedRun::NONE
+}
+
+// Puts the glyphs of a run into its cluster.
+#[inline]
+fn write_run(run: CarriedRun, glyphs: &mut [hb_glyph_info_t])
+    requires { IsCarried run glyphs.old }
+    ensures written { glyphs.new ≡ with_carried run glyphs.old }
+    ensures same_length { length glyphs.new ≡ length glyphs.old }
+{
+    let cluster = run.cluster(glyphs);
+    change_each_in(&mut glyphs[run.start..run.end], &cluster);
+}
+
+// Flags and merges what the item at a place flags and merges, behind a run that ends there, or
+// behind none. The run stays, or one begins where merges flooded what stands before.
+#[inline]
+fn join_behind(
+    item: Item,
+    level: BufferClusterLevel,
+    run: CarriedRun,
+    glyphs: &mut [hb_glyph_info_t],
+    place: usize,
+) -> CarriedRun
+    requires item { place + item_len item ≤ length glyphs.old }
+    requires torn { place + item.unsafe_len ≤ length glyphs.old }
+    requires fits { IsCarried run glyphs.old }
+    requires ends { run.start < run.end → run.end ≡ place }
+    requires within { run.end ≤ place }
+    ensures joined { with_carried result glyphs.new
+        ≡ item_joined level place item (with_carried run glyphs.old) }
+    ensures fits { IsCarried result glyphs.new }
+    ensures same_length { length glyphs.new ≡ length glyphs.old }
+{
+    if !run.is_none() {
+        item.join(level, &mut glyphs[place - 1..], 1);
+        return run;
+    }
+    if place == 0 {
+        item.join(level, glyphs, place);
+        return CarriedRun::NONE;
+    }
+    let cluster = glyphs[place - 1].cluster;
+    item.join(level, glyphs, place);
+    CarriedRun::fallen(glyphs, place, cluster)
 }
 
 // Adds the text from one place to another.

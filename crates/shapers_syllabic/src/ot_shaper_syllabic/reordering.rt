@@ -1,13 +1,13 @@
 //! Reordering a text syllable by syllable.
-ghost use Rattle.std.specs.Prelude.{◌≡◌, ◌<◌, ◌≤◌, ℕ, [], IfOk, OnOk, drop, get_or, length};
+ghost use Rattle.std.specs.Prelude.{◌≡◌, ◌<◌, ◌≤◌, ℕ, [], OnOk, true, false, drop, get_or, length};
 ghost use Rattle.std.specs.List.{position};
 ghost use Rattle.shapers_buffer.specs.Clusters.{stretch_of};
 ghost use Rattle.shapers_buffer.specs.Glyph.{default_glyph};
 ghost use Rattle.shapers_syllabic.specs.Borders.{MeetAtBorder};
 ghost use Rattle.shapers_syllabic.specs.Reordering.{RefusesIf, SyllablesLinked, TakesText, TextOrdered, glyph_numbers};
-ghost use Rattle.shapers_clusters.specs.CarriedRuns.{IsCarried};
+ghost use Rattle.shapers_clusters.specs.CarriedRuns.{IsCarried, with_carried};
 ghost use Rattle.shapers_syllabic.specs.ReorderingLaws.{NextChanging};
-ghost use Rattle.shapers_syllabic.specs.ReorderingWalk.{ReorderedBehind, ReorderedGuarded, written};
+ghost use Rattle.shapers_syllabic.specs.ReorderingWalk.{CarryingFits, Guarded, ReorderedBehind, Settled, run_written};
 
 use shapers_base::buffer::{ShaperError, hb_buffer_t, hb_glyph_info_t};
 use shapers_clusters::carried_runs::CarriedRun;
@@ -120,56 +120,43 @@ pub fn reorder_syllables<R: ReorderBySteps>(
         (SyllablesLinked (R.relation order.now) buffer.old buffer.new) }
     ensures refusal { RefusesIf (R.may_refuse order.now) result }
 {
-    let mut run = CarriedRun::NONE;
+    let mut carrying = Carrying {
+        falls: clusters_fall(buffer.glyphs()),
+        run: CarriedRun::NONE,
+        glyph: hb_glyph_info_t::DEFAULT,
+    };
     let mut start = 0;
     while let Some(first) = next_changing(order, buffer.glyphs(), start) {
         let end = buffer.next_syllable(first);
-        run = carried_to(run, buffer, first);
-        reorder_behind(order, &mut run, buffer, first, end)?;
+        reorder_behind(order, &mut carrying, buffer, first, end)?;
         start = end;
     }
-    write(run, buffer);
+    write(carrying.run, buffer);
     buffer.clear_places();
     Ok(())
 }
 
-// The run up to a place, if all glyphs before that are in its cluster; else it is written, and none
-// is left.
-#[inline]
-fn carried_to(run: CarriedRun, buffer: &mut hb_buffer_t, place: usize) -> CarriedRun
-    requires in_range { place ≤ length buffer.old.glyphs }
-    requires fits { IsCarried run buffer.old.glyphs }
-    ensures same { written result buffer.new ≡ written run buffer.old }
-    ensures fits { IsCarried result buffer.new.glyphs }
-    ensures ends { result.start < result.end → result.end ≡ place }
-    ensures within { result.end ≤ place }
-{
-    if run.is_none() {
-        return CarriedRun::NONE;
-    }
-    if let Some(run) = run.reaching(buffer.glyphs(), place) {
-        return run;
-    }
-    write(run, buffer);
-    CarriedRun::NONE
+// What the walk carries along, in a text whose clusters may fall: the run that merges flooded, if
+// there is one, and the glyph whose cluster they may change or that stands for a guard.
+#[derive(Clone, Copy)]
+struct Carrying {
+    falls: bool,
+    run: CarriedRun,
+    glyph: hb_glyph_info_t,
 }
 
-// Puts the glyphs of a run into its cluster.
+// Whether the last cluster is below the first one. Where they never fall, no merge floods what
+// stands before its syllable.
 #[inline]
-fn write(run: CarriedRun, buffer: &mut hb_buffer_t)
-    requires { IsCarried run buffer.old.glyphs }
-    ensures { buffer.new ≡ written run buffer.old }
-{
-    let cluster = run.cluster(buffer.glyphs());
-    buffer.change_each(run.start, run.end, &cluster);
+fn clusters_fall(glyphs: &[hb_glyph_info_t]) -> bool {
+    !glyphs.is_empty() && glyphs[glyphs.len() - 1].cluster < glyphs[0].cluster
 }
 
-// Reorders a syllable behind a run that ends where it starts, or behind none. The run stays, or one
-// begins where merges flooded what stands before.
+// Reorders a syllable, while floods to the left stop at the last glyph of the run but one.
 #[inline]
 fn reorder_behind<R: ReorderBySteps>(
     order: &R,
-    run: &mut CarriedRun,
+    carrying: &mut Carrying,
     buffer: &mut hb_buffer_t,
     first: usize,
     end: usize,
@@ -178,55 +165,121 @@ fn reorder_behind<R: ReorderBySteps>(
     requires in_range { end ≤ length buffer.old.glyphs }
     requires without_positions { buffer.old.positions ≡ [] }
     requires takes { R.takes order.now (glyph_numbers (stretch_of first end buffer.old.glyphs)) }
-    requires fits { IsCarried run.old buffer.old.glyphs }
-    requires ends { run.old.start < run.old.end → run.old.end ≡ first }
-    requires within { run.old.end ≤ first }
+    requires fits { CarryingFits first carrying.old buffer.old.glyphs }
     ensures behind { OnOk result (ReorderedBehind (R.relation order.now) first end
-        run.old buffer.old run.new buffer.new) }
+        carrying.old buffer.old carrying.new buffer.new) }
     ensures refusal { RefusesIf (R.may_refuse order.now) result }
 {
-    if !run.is_none() {
-        return reorder_guarded(order, buffer, run.above, first, end);
-    }
-    if first == 0 {
-        return order.reorder(buffer, first, end);
-    }
-    let cluster = buffer.get(first - 1).cluster;
+    guard(carrying, buffer, first);
     order.reorder(buffer, first, end)?;
-    *run = CarriedRun::fallen(buffer.glyphs(), first, cluster);
+    settle(carrying, buffer, first);
     Ok(())
 }
 
-// Reorders a syllable while the last glyph but one before it has another cluster, where floods to
-// the left stop.
+// Carries the run up to a syllable, with another cluster in its last place but one, or writes it.
 #[inline]
-fn reorder_guarded<R: ReorderBySteps>(
-    order: &R,
-    buffer: &mut hb_buffer_t,
-    above: u32,
-    first: usize,
-    end: usize,
-) -> Result<(), ShaperError>
-    requires two { 1 < first }
-    requires in_order { first ≤ end }
-    requires in_range { end ≤ length buffer.old.glyphs }
-    requires without_positions { buffer.old.positions ≡ [] }
-    requires takes { R.takes order.now (glyph_numbers (stretch_of first end buffer.old.glyphs)) }
-    ensures guarded { OnOk result
-        (ReorderedGuarded (R.relation order.now) first end above buffer.old buffer.new) }
-    ensures refusal { RefusesIf (R.may_refuse order.now) result }
+fn guard(carrying: &mut Carrying, buffer: &mut hb_buffer_t, first: usize)
+    requires in_range { first ≤ length buffer.old.glyphs }
+    requires fits { CarryingFits first carrying.old buffer.old.glyphs }
+    ensures { Guarded first carrying.old buffer.old carrying.new buffer.new }
 {
-    let glyph = buffer.get(first - 2);
-    buffer.set(
-        first - 2,
-        hb_glyph_info_t {
-            cluster: above,
-            ..glyph
-        },
-    );
-    order.reorder(buffer, first, end)?;
-    buffer.set(first - 2, glyph);
-    Ok(())
+    if carrying.falls {
+        guard_run(carrying, buffer, first);
+    }
+}
+
+#[cold]
+#[inline(never)]
+fn guard_run(carrying: &mut Carrying, buffer: &mut hb_buffer_t, first: usize)
+    requires in_range { first ≤ length buffer.old.glyphs }
+    requires falls { carrying.old.falls ≡ true }
+    requires fits { CarryingFits first carrying.old buffer.old.glyphs }
+    ensures { Guarded first carrying.old buffer.old carrying.new buffer.new }
+{
+    if let Some(run) = carrying.run.reaching(buffer.glyphs(), first) {
+        let glyph = buffer.get(first - 2);
+        buffer.set(
+            first - 2,
+            hb_glyph_info_t {
+                cluster: run.above,
+                ..glyph
+            },
+        );
+        carrying.run = run;
+        carrying.glyph = glyph;
+        return;
+    }
+    write(carrying.run, buffer);
+    carrying.run = CarriedRun::NONE;
+    carrying.glyph = glyph_before(buffer.glyphs(), first);
+}
+
+// The glyph before a place.
+#[inline]
+fn glyph_before(glyphs: &[hb_glyph_info_t], place: usize) -> hb_glyph_info_t
+    requires { place ≤ length glyphs.now }
+{
+    if place == 0 {
+        hb_glyph_info_t::DEFAULT
+    } else {
+        glyphs[place - 1]
+    }
+}
+
+// Takes the guard away; or a run begins, where merges flooded what stands before the syllable.
+#[inline]
+fn settle(carrying: &mut Carrying, buffer: &mut hb_buffer_t, first: usize)
+    requires in_range { first ≤ length buffer.old.glyphs }
+    requires in_order { carrying.old.run.start ≤ carrying.old.run.end }
+    requires two { carrying.old.run.start < carrying.old.run.end → 1 < first }
+    requires idle { carrying.old.falls ≡ false → carrying.old.run.start ≡ carrying.old.run.end }
+    requires within { carrying.old.run.end ≤ first }
+    ensures { Settled first carrying.old buffer.old carrying.new buffer.new }
+{
+    if carrying.falls {
+        settle_run(carrying, buffer, first);
+    }
+}
+
+#[cold]
+#[inline(never)]
+fn settle_run(carrying: &mut Carrying, buffer: &mut hb_buffer_t, first: usize)
+    requires in_range { first ≤ length buffer.old.glyphs }
+    requires in_order { carrying.old.run.start ≤ carrying.old.run.end }
+    requires two { carrying.old.run.start < carrying.old.run.end → 1 < first }
+    requires falls { carrying.old.falls ≡ true }
+    ensures { Settled first carrying.old buffer.old carrying.new buffer.new }
+{
+    if carrying.run.is_none() {
+        carrying.run = begun(buffer.glyphs(), first, carrying.glyph.cluster);
+    } else {
+        buffer.set(first - 2, carrying.glyph);
+    }
+}
+
+// The run that ends before a place, if the cluster of the glyph there fell from this one.
+#[inline]
+fn begun(glyphs: &[hb_glyph_info_t], place: usize, cluster: u32) -> CarriedRun
+    requires in_range { place ≤ length glyphs.now }
+    ensures same { with_carried result glyphs.now ≡ glyphs.now }
+    ensures fits { IsCarried result glyphs.now }
+    ensures at { result.end ≤ place }
+{
+    if place == 0 {
+        CarriedRun::NONE
+    } else {
+        CarriedRun::fallen(glyphs, place, cluster)
+    }
+}
+
+// Puts the glyphs of a run into its cluster.
+#[inline(never)]
+fn write(run: CarriedRun, buffer: &mut hb_buffer_t)
+    requires { IsCarried run buffer.old.glyphs }
+    ensures { buffer.new ≡ run_written run buffer.old }
+{
+    let cluster = run.cluster(buffer.glyphs());
+    buffer.change_each(run.start, run.end, &cluster);
 }
 
 /// Where the next syllable starts that may change, of those from `start` on.

@@ -1,10 +1,12 @@
--- What is left of the items makes the whole of what is joined so far.
+-- What is left of the items makes the whole of what is joined so far, if the run were written.
 use Rattle.std.proofs.Common.{◌≡◌, drop, length}
+use Rattle.shapers_clusters.specs.CarriedRuns.{IsCarried, with_carried}
 use Rattle.shapers_hangul.specs.Hangul.{all_joined}
 use Rattle.shapers_hangul.proofs.ot_shaper_hangul.rewriting.join_items.Given as goal
 
 abbrev pub invariant-loop-entry : goal.invariant-loop-entry
 invariant-loop-entry l = record {
   same_length : length l.glyphs ≡ length l.initial.glyphs;
-  walk : all_joined l.level (drop l.entry-index l.cut) l.glyphs ≡ all_joined l.level l.cut l.initial.glyphs;
+  fits : IsCarried l.run l.glyphs;
+  walk : all_joined l.level (drop l.entry-index l.cut) (with_carried l.run l.glyphs) ≡ all_joined l.level l.cut l.initial.glyphs;
 }

@@ -1,54 +1,56 @@
--- Behind a run; before the first glyph; and where a run may begin.
-use Rattle.std.proofs.Common.{◌≡◌, ◌≤◌, ◌<◌, ◌∙◌, arith, ap, length, refl, subst, sym}
-use Rattle.std.proofs.lemmas.Bool.Decides.{nat_tests}
-use Rattle.std.proofs.lemmas.Result.{on_ok_weaker}
-use Rattle.shapers_syllabic.proofs.CarriedSyllables.{behind_none, behind_run, carried_none, length_reordered, none_fits}
-use Rattle.shapers_clusters.specs.CarriedRuns.{IsCarried, with_carried}
+-- What the guard leaves, the order reads; and what is carried on behind it.
+use Rattle.std.proofs.Common.{◌∙◌, arith, subst, sym}
+use Rattle.shapers_syllabic.proofs.CarriedSyllables.{behind_carried_run, guarded_stands, length_reordered, numbers_by_view}
 use Rattle.shapers_syllabic.proofs.ot_shaper_syllabic.reordering.reorder_behind.Goals as goal
 
-pub returns-then-not-is_none-clause-behind : goal.returns-then-not-is_none-clause-behind
-returns-then-not-is_none-clause-behind g c =
-    let order = c.args.order.now in
-    let old = c.args.buffer.now in
-    let run = c.args.run.now in
-    let in_order = c.requires.fits.in_order in
-    let some : run.start < run.end = grind (arith, nat_tests, in_order, c.is_none.ensures, c.if-not-is_none.true) in
-    on_ok_weaker c.reorder_guarded.result (behind_run (g.R.Reorder.meaning order) (g.R.ReorderBySteps.steps order)
-    (g.R.Reorder.relation order) (g.met.R.ReorderBySteps.leads order) (g.met.R.ReorderBySteps.suffices order) run
-    c.args.first c.args.end old c.reorder_guarded.new.buffer (g.met.R.ReorderBySteps.laws order old.script) some
-    (c.requires.ends some) c.requires.in_order c.requires.in_range c.requires.fits) c.reorder_guarded.ensures.guarded
+pub reorder-requires-clause-in_range : goal.reorder-requires-clause-in_range
+reorder-requires-clause-in_range g c =
+    let stands = guarded_stands c.args.first c.args.carrying.now c.guard.new.carrying c.args.buffer.now
+    c.guard.new.buffer c.requires.fits c.guard.ensures in
+    omega (arith, stands.same_length, c.requires.in_range)
 
-pub returns-then-first-eq0-clause-behind : goal.returns-then-first-eq0-clause-behind
-returns-then-first-eq0-clause-behind g c =
+pub reorder-requires-clause-without_positions : goal.reorder-requires-clause-without_positions
+reorder-requires-clause-without_positions g c =
+    let stands = guarded_stands c.args.first c.args.carrying.now c.guard.new.carrying c.args.buffer.now
+    c.guard.new.buffer c.requires.fits c.guard.ensures in
+    stands.positions ∙ c.requires.without_positions
+
+pub reorder-requires-clause-takes : goal.reorder-requires-clause-takes
+reorder-requires-clause-takes g c =
+    let stands = guarded_stands c.args.first c.args.carrying.now c.guard.new.carrying c.args.buffer.now
+    c.guard.new.buffer c.requires.fits c.guard.ensures in
+    subst (g.R.Reorder.takes c.args.order.now) (sym (numbers_by_view c.args.first c.args.end c.guard.new.buffer.glyphs
+    c.args.buffer.now.glyphs stands.view)) c.requires.takes
+
+pub settle-requires-clause-in_range : goal.settle-requires-clause-in_range
+settle-requires-clause-in_range g c =
     let order = c.args.order.now in
-    let run = c.args.run.now in
+    let now = c.guard.new.buffer in
     let new = c.reorder.new.buffer in
-    let in_order = c.requires.fits.in_order in
-    let within = c.requires.within in
-    let here = c.if-first-eq0.true in
-    let none : run.start ≡ run.end = grind (arith, nat_tests, c.is_none.ensures, c.if-not-is_none.false) in
-    on_ok_weaker c.reorder.result (λ linked. behind_none (g.R.Reorder.relation order) c.args.first c.args.end run run
-    c.args.buffer.now new none linked (carried_none run new.glyphs none)
-    (none_fits run new.glyphs none (omega arith)) (omega arith)) c.reorder.ensures.related
-
-pub fallen-requires-clause-in_range : goal.fallen-requires-clause-in_range
-fallen-requires-clause-in_range g c =
-    let order = c.args.order.now in
-    let old = c.args.buffer.now in
-    let new = c.reorder-2.new.buffer in
+    let stands = guarded_stands c.args.first c.args.carrying.now c.guard.new.carrying c.args.buffer.now now
+    c.requires.fits c.guard.ensures in
     let ordered = c.requires.in_order in
     let within = c.requires.in_range in
-    let same = length_reordered (g.R.Reorder.meaning order old.script) (g.R.ReorderBySteps.steps order old.script)
-    c.args.first c.args.end old new (g.met.R.ReorderBySteps.laws order old.script) ordered within
-    (g.met.R.ReorderBySteps.leads order c.args.first c.args.end old new c.in_ok-reorder.ensures.related) in
-    omega (arith, same, ap length c.glyphs.ensures)
+    let many = stands.same_length in
+    let same = length_reordered (g.R.Reorder.meaning order now.script) (g.R.ReorderBySteps.steps order now.script)
+    c.args.first c.args.end now new (g.met.R.ReorderBySteps.laws order now.script) ordered (omega arith)
+    (g.met.R.ReorderBySteps.leads order c.args.first c.args.end now new c.in_ok-reorder.ensures.related) in
+    omega arith
+
+pub settle-requires-clause-in_order : goal.settle-requires-clause-in_order
+settle-requires-clause-in_order g c = c.guard.ensures.fits.fits.in_order
+
+pub settle-requires-clause-two : goal.settle-requires-clause-two
+settle-requires-clause-two g c some =
+    let at = c.guard.ensures.at some in
+    let two = c.guard.ensures.fits.fits.two some in
+    omega arith
 
 pub returns-clause-behind : goal.returns-clause-behind
 returns-clause-behind g c =
     let order = c.args.order.now in
-    let run = c.args.run.now in
-    let none : run.start ≡ run.end = grind (arith, nat_tests, c.is_none.ensures, c.if-not-is_none.false) in
-    behind_none (g.R.Reorder.relation order) c.args.first c.args.end run c.fallen.result c.args.buffer.now
-    c.reorder-2.new.buffer none c.in_ok-reorder.ensures.related
-    (subst (λ gs. with_carried c.fallen.result gs ≡ gs) c.glyphs.ensures c.fallen.ensures.same)
-    (subst (IsCarried c.fallen.result) c.glyphs.ensures c.fallen.ensures.fits) c.fallen.ensures.at
+    behind_carried_run (g.R.Reorder.meaning order) (g.R.ReorderBySteps.steps order) (g.R.Reorder.relation order)
+    (g.met.R.ReorderBySteps.leads order) (g.met.R.ReorderBySteps.suffices order) (g.met.R.ReorderBySteps.laws order)
+    c.args.first c.args.end c.args.carrying.now c.guard.new.carrying c.settle.new.carrying c.args.buffer.now
+    c.guard.new.buffer c.reorder.new.buffer c.settle.new.buffer c.requires.in_order c.requires.in_range c.requires.fits
+    c.guard.ensures c.in_ok-reorder.ensures.related c.settle.ensures

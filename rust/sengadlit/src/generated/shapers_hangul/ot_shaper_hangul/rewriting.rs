@@ -7,10 +7,11 @@ use crate::support::prelude::*;
 use super::item::{Item, first_item, stays_alone};
 use crate::generated::shapers_base::buffer::{
     Buffer, BufferClusterLevel, BufferFlags, GlyphInfo, GlyphRewriting, ShaperError,
-    unsafe_to_break_in,
+    change_each_in, unsafe_to_break_in,
 };
 use crate::generated::shapers_base::font::Font;
 use crate::generated::shapers_base::plan::BreakFlags;
+use crate::generated::shapers_clusters::carried_runs::CarriedRun;
 use crate::support::alloc::Global;
 
 // The item at a place of the text.
@@ -123,12 +124,60 @@ fn flag_breaks(breaks: BreakFlags, cut: &[(usize, Item)], glyphs: &mut [GlyphInf
     }
 }
 
-// Flags and merges what the items flag and merge, one after another.
+// Flags and merges what the items flag and merge, one after another. Where an item's merge floods
+// what stands before, that is carried along and written once.
 #[inline]
 fn join_items(cut: &[(usize, Item)], level: BufferClusterLevel, glyphs: &mut [GlyphInfo]) {
+    let mut run = CarriedRun::NONE;
     for entry in cut {
-        entry.1.join(level, glyphs, entry.0);
+        run = carried_to(run, glyphs, entry.0);
+        run = join_behind(entry.1, level, run, glyphs, entry.0);
     }
+    write_run(run, glyphs);
+}
+
+// The run up to a place, if all glyphs before that are in its cluster; else it is written, and none
+// is left.
+#[inline]
+fn carried_to(run: CarriedRun, glyphs: &mut [GlyphInfo], place: usize) -> CarriedRun {
+    if run.is_none() {
+        return CarriedRun::NONE;
+    }
+    if let Some(run) = run.reaching(glyphs, place) {
+        return run;
+    }
+    write_run(run, glyphs);
+    CarriedRun::NONE
+}
+
+// Puts the glyphs of a run into its cluster.
+#[inline]
+fn write_run(run: CarriedRun, glyphs: &mut [GlyphInfo]) {
+    let cluster = run.cluster(glyphs);
+    change_each_in(&mut glyphs[run.start..run.end], &cluster);
+}
+
+// Flags and merges what the item at a place flags and merges, behind a run that ends there, or
+// behind none. The run stays, or one begins where merges flooded what stands before.
+#[inline]
+fn join_behind(
+    item: Item,
+    level: BufferClusterLevel,
+    run: CarriedRun,
+    glyphs: &mut [GlyphInfo],
+    place: usize,
+) -> CarriedRun {
+    if !run.is_none() {
+        item.join(level, &mut glyphs[place - 1..], 1);
+        return run;
+    }
+    if place == 0 {
+        item.join(level, glyphs, place);
+        return CarriedRun::NONE;
+    }
+    let cluster = glyphs[place - 1].cluster;
+    item.join(level, glyphs, place);
+    CarriedRun::fallen(glyphs, place, cluster)
 }
 
 // Adds the text from one place to another.

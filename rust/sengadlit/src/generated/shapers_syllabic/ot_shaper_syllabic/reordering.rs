@@ -100,83 +100,125 @@ pub fn reorder_syllables<R: ReorderBySteps>(
     order: &R,
     buffer: &mut Buffer,
 ) -> Result<(), ShaperError> {
-    let mut run = CarriedRun::NONE;
+    let mut carrying = Carrying {
+        falls: clusters_fall(buffer.glyphs()),
+        run: CarriedRun::NONE,
+        glyph: GlyphInfo::DEFAULT,
+    };
     let mut start = 0;
     while let Some(first) = next_changing(order, buffer.glyphs(), start) {
         let end = buffer.next_syllable(first);
-        run = carried_to(run, buffer, first);
-        reorder_behind(order, &mut run, buffer, first, end)?;
+        reorder_behind(order, &mut carrying, buffer, first, end)?;
         start = end;
     }
-    write(run, buffer);
+    write(carrying.run, buffer);
     buffer.clear_places();
     Ok(())
 }
 
-// The run up to a place, if all glyphs before that are in its cluster; else it is written, and none
-// is left.
-#[inline]
-fn carried_to(run: CarriedRun, buffer: &mut Buffer, place: usize) -> CarriedRun {
-    if run.is_none() {
-        return CarriedRun::NONE;
-    }
-    if let Some(run) = run.reaching(buffer.glyphs(), place) {
-        return run;
-    }
-    write(run, buffer);
-    CarriedRun::NONE
+// What the walk carries along, in a text whose clusters may fall: the run that merges flooded, if
+// there is one, and the glyph whose cluster they may change or that stands for a guard.
+#[derive(Clone, Copy)]
+struct Carrying {
+    falls: bool,
+    run: CarriedRun,
+    glyph: GlyphInfo,
 }
 
-// Puts the glyphs of a run into its cluster.
+// Whether the last cluster is below the first one. Where they never fall, no merge floods what
+// stands before its syllable.
 #[inline]
-fn write(run: CarriedRun, buffer: &mut Buffer) {
-    let cluster = run.cluster(buffer.glyphs());
-    buffer.change_each(run.start, run.end, &cluster);
+fn clusters_fall(glyphs: &[GlyphInfo]) -> bool {
+    !glyphs.is_empty() && glyphs[glyphs.len() - 1].cluster < glyphs[0].cluster
 }
 
-// Reorders a syllable behind a run that ends where it starts, or behind none. The run stays, or one
-// begins where merges flooded what stands before.
+// Reorders a syllable, while floods to the left stop at the last glyph of the run but one.
 #[inline]
 fn reorder_behind<R: ReorderBySteps>(
     order: &R,
-    run: &mut CarriedRun,
+    carrying: &mut Carrying,
     buffer: &mut Buffer,
     first: usize,
     end: usize,
 ) -> Result<(), ShaperError> {
-    if !run.is_none() {
-        return reorder_guarded(order, buffer, run.above, first, end);
-    }
-    if first == 0 {
-        return order.reorder(buffer, first, end);
-    }
-    let cluster = buffer.get(first - 1).cluster;
+    guard(carrying, buffer, first);
     order.reorder(buffer, first, end)?;
-    *run = CarriedRun::fallen(buffer.glyphs(), first, cluster);
+    settle(carrying, buffer, first);
     Ok(())
 }
 
-// Reorders a syllable while the last glyph but one before it has another cluster, where floods to
-// the left stop.
+// Carries the run up to a syllable, with another cluster in its last place but one, or writes it.
 #[inline]
-fn reorder_guarded<R: ReorderBySteps>(
-    order: &R,
-    buffer: &mut Buffer,
-    above: u32,
-    first: usize,
-    end: usize,
-) -> Result<(), ShaperError> {
-    let glyph = buffer.get(first - 2);
-    buffer.set(
-        first - 2,
-        GlyphInfo {
-            cluster: above,
-            ..glyph
-        },
-    );
-    order.reorder(buffer, first, end)?;
-    buffer.set(first - 2, glyph);
-    Ok(())
+fn guard(carrying: &mut Carrying, buffer: &mut Buffer, first: usize) {
+    if carrying.falls {
+        guard_run(carrying, buffer, first);
+    }
+}
+
+#[cold]
+#[inline(never)]
+fn guard_run(carrying: &mut Carrying, buffer: &mut Buffer, first: usize) {
+    if let Some(run) = carrying.run.reaching(buffer.glyphs(), first) {
+        let glyph = buffer.get(first - 2);
+        buffer.set(
+            first - 2,
+            GlyphInfo {
+                cluster: run.above,
+                ..glyph
+            },
+        );
+        carrying.run = run;
+        carrying.glyph = glyph;
+        return;
+    }
+    write(carrying.run, buffer);
+    carrying.run = CarriedRun::NONE;
+    carrying.glyph = glyph_before(buffer.glyphs(), first);
+}
+
+// The glyph before a place.
+#[inline]
+fn glyph_before(glyphs: &[GlyphInfo], place: usize) -> GlyphInfo {
+    if place == 0 {
+        GlyphInfo::DEFAULT
+    } else {
+        glyphs[place - 1]
+    }
+}
+
+// Takes the guard away; or a run begins, where merges flooded what stands before the syllable.
+#[inline]
+fn settle(carrying: &mut Carrying, buffer: &mut Buffer, first: usize) {
+    if carrying.falls {
+        settle_run(carrying, buffer, first);
+    }
+}
+
+#[cold]
+#[inline(never)]
+fn settle_run(carrying: &mut Carrying, buffer: &mut Buffer, first: usize) {
+    if carrying.run.is_none() {
+        carrying.run = begun(buffer.glyphs(), first, carrying.glyph.cluster);
+    } else {
+        buffer.set(first - 2, carrying.glyph);
+    }
+}
+
+// The run that ends before a place, if the cluster of the glyph there fell from this one.
+#[inline]
+fn begun(glyphs: &[GlyphInfo], place: usize, cluster: u32) -> CarriedRun {
+    if place == 0 {
+        CarriedRun::NONE
+    } else {
+        CarriedRun::fallen(glyphs, place, cluster)
+    }
+}
+
+// Puts the glyphs of a run into its cluster.
+#[inline(never)]
+fn write(run: CarriedRun, buffer: &mut Buffer) {
+    let cluster = run.cluster(buffer.glyphs());
+    buffer.change_each(run.start, run.end, &cluster);
 }
 
 /// Where the next syllable starts that may change, of those from `start` on.
