@@ -12,7 +12,7 @@ use common::plans::{PAUSES, bare_plan, plan_of};
 use common::spoiled::Wrong;
 use common::watchdog::{caught, in_time};
 use sengadlit::buffer::{Buffer, BufferSettings, GlyphInfo, ShaperError, Span};
-use sengadlit::ot_shaper_syllabic::{MayChange, Reorder, reorder_syllables};
+use sengadlit::ot_shaper_syllabic::{MayChange, Reorder, ReorderBySteps, reorder_syllables};
 use sengadlit::plan::{Pause, Plan};
 use sengadlit::shaper::Shaper;
 use sengadlit::shaper::checked::{CallError, Condition};
@@ -237,6 +237,8 @@ impl Reorder for Growing {
         buffer.push(letter(0x1780, 9))
     }
 }
+
+impl ReorderBySteps for Growing {}
 
 #[test]
 fn a_wrong_order_leaves_no_more_glyphs_than_the_buffer_may_have() {
