@@ -1,8 +1,20 @@
 -- Words of the code's walk over a Hangul text: only the items that change it are listed.
-use Rattle.std.specs.Prelude.{ℕ, ◌+◌, ◌-◌, ◌≤◌, List, [], ◌∷◌, ◌++◌, take, drop, if◌then◌else◌}
+use Rattle.std.specs.Prelude.{ℕ, ◌+◌, ◌-◌, ◌≤◌, Bool, ◌&&◌, ◌||◌, not, List, [], ◌∷◌, ◌++◌, take, drop, get_or, if◌then◌else◌}
 use Rattle.shapers_buffer.specs.declared.buffer.glyph.hb_glyph_info_t.{hb_glyph_info_t}
 use Rattle.shapers_hangul.specs.declared.ot_shaper_hangul.item.Item.{Item}
-use Rattle.shapers_hangul.specs.Hangul.{is_kept, item_len, item_output, glyph_copies}
+use Rattle.shapers_base.specs.Font.{Font, dotted_circle, has_nominal}
+use Rattle.shapers_hangul.specs.Hangul.{glyph_copies, is_kept, is_s, is_t, is_tone, is_v, item_len, item_output}
+
+-- What a look at a character and the next one settles: that a syllable character stays which the
+-- font has and nothing joins, a tone that gets no circle, and any other character that nothing joins.
+abbrev pub stays_at_sight : Font → Bool → List ℕ → Bool
+stays_at_sight font circles us =
+    let u = get_or us 0 0 in
+    let v = get_or us 1 0 in
+    let alone = not (is_v v || (is_t v || is_tone v)) in
+    if is_s u then alone && has_nominal font u
+    else if is_tone u then not circles || not (has_nominal font dotted_circle)
+    else alone
 
 -- the items that aren't one character that stays as it is
 abbrev pub rewritten_items : List (ℕ × Item) → List (ℕ × Item)

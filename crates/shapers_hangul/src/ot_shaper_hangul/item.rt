@@ -1,6 +1,7 @@
 //! The units of a Hangul text, and the tones that join them.
 ghost use Rattle.std.specs.Prelude.{◌≡◌, ◌+◌, ◌<◌, ◌≤◌, ◌++◌, ◌∷◌, [], take, drop, length, get_or, true, vec_capacity, ◌||◌, ◌&&◌};
 ghost use Rattle.shapers_buffer.specs.Glyph.{characters};
+ghost use Rattle.shapers_hangul.specs.RewritingWalk.{stays_at_sight};
 ghost use Rattle.shapers_hangul.specs.Hangul.{is_s, is_lv, has_jamo_of, is_narrow, jamo_two, jamo_three, jamo_unit, jamo_parts, syllable_unit, lone_tone, lone_unit, first_unit, taken, is_syllable, is_marked, joined_tone, is_split, unsafe_len, first_item, tone_len, item_len, glyph_copies, unit_output, item_output, is_merged, item_joined, output_len, is_kept};
 
 use super::jamo::{
@@ -308,8 +309,9 @@ fn read_item<F: hb_font_t>(face: &F, circles: bool, glyphs: &[hb_glyph_info_t]) 
 // Whether the character that opens the text stays as it is, as far as it and the next one decide.
 #[inline]
 pub(super) fn stays_alone<F: hb_font_t>(face: &F, circles: bool, glyphs: &[hb_glyph_info_t]) -> bool
-    ensures { let us = characters glyphs.now in
+    ensures kept { let us = characters glyphs.now in
         result ≡ true → is_kept (first_item (F.font face.now) circles us) ≡ true }
+    ensures exact { result ≡ stays_at_sight (F.font face.now) circles (characters glyphs.now) }
 {
     let u = character_at(glyphs, 0);
     let v = character_at(glyphs, 1);

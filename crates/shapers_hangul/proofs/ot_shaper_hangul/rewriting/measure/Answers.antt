@@ -57,7 +57,7 @@ returns-then-room-eq0-clause-length g c =
     let circles = c.args.circles in
     let stays : is_kept (first_item font circles (characters (drop l.place gs))) ≡ true =
     subst (λ (xs : List hb_glyph_info_t). is_kept (first_item font circles (characters xs)) ≡ true) c.rest_from.ensures
-    (c.stays_alone.ensures c.if-stays_alone.true) in
+    (c.stays_alone.ensures.kept c.if-stays_alone.true) in
     omega (
       arith,
       length_staying font circles gs l.place c.loop-place-test.true stays,
@@ -73,7 +73,7 @@ loop-place-preserved-then-stays_alone g c =
     let circles = c.args.circles in
     let stays : is_kept (first_item font circles (characters (drop l.place gs))) ≡ true =
     subst (λ (xs : List hb_glyph_info_t). is_kept (first_item font circles (characters xs)) ≡ true) c.rest_from.ensures
-    (c.stays_alone.ensures c.if-stays_alone.true) in
+    (c.stays_alone.ensures.kept c.if-stays_alone.true) in
     record {
       within = omega (arith, c.loop-place-test.true);
       room_left = omega (
