@@ -1,5 +1,4 @@
-//! The messages of `ShaperError`, which are written by hand: a sentence for each name that its source
-//! declares, and the program prints.
+//! The messages of `ShaperError`, which are written by hand, are those that its source declares.
 
 use sengadlit::ShaperError;
 use std::fs;
@@ -24,12 +23,12 @@ fn declared(source: &str) -> Vec<&str> {
 }
 
 #[test]
-fn each_name_of_the_source_has_a_sentence() {
+fn each_message_is_that_of_the_source() {
     let path = Path::new(env!("CARGO_MANIFEST_DIR")).join(SOURCE);
     let source = fs::read_to_string(path).unwrap();
-    let names = ERRORS.map(|error| format!("{error:?}").split('(').next().unwrap().to_owned());
-    assert_eq!(names.as_slice(), declared(&source));
-    for message in ERRORS.map(|error| error.to_string()) {
+    let messages = ERRORS.map(|error| error.to_string());
+    assert_eq!(messages.as_slice(), declared(&source));
+    for message in messages {
         assert!(
             message.contains(' ') && !message.ends_with('.'),
             "{message}"
