@@ -1,12 +1,12 @@
 -- The search for the base, from the right.
 use Rattle.std.proofs.Common.{◌≡◌, ℕ, suc, ◌+◌, ◌<◌, ◌≤◌, Bool, true, false, cond, not, ◌&&◌, ◌||◌, get_or, List, length, Option, None, Some, refl, sym, ap, ◌∙◌, arith}
 use Rattle.std.specs.Option.{option_map_or, option_or}
-use Rattle.std.proofs.lemmas.Option.{slice_get-get_or}
 use Rattle.shapers_buffer.specs.declared.buffer.glyph.hb_glyph_info_t.{hb_glyph_info_t}
 use Rattle.shapers_base.specs.declared.plan.indic.BaseSearch.{BaseSearch}
 use Rattle.shapers_indic.specs.Glyphs.{greatest_place, has_position, passes, some_place}
+use Rattle.shapers_indic.proofs.PlaceSearch.{greatest_last, greatest_none, passes_there}
 use Rattle.shapers_indic_initial.specs.InitialBase.{is_base, is_base_candidate, has_below_form, search_from, stops_search}
-use Rattle.shapers_indic_initial.proofs.PlaceSearch.{greatest_back, greatest_here, greatest_before, greatest_first, greatest_further, greatest_last, greatest_none, some_first, some_none}
+use Rattle.shapers_indic_initial.proofs.PlaceSearch.{greatest_back, greatest_here, greatest_before, greatest_first, greatest_further, some_first, some_none}
 
 -- the places from i on are searched: nothing there stops the search, no base stands there, and this
 -- says whether a consonant with a below-base form does
@@ -90,10 +90,6 @@ none_found search lo below gs s =
     ∙ greatest_none _ lo lo (omega arith))))
 
 -- what is said of a place by the glyph there
-pub passes_there : (test : hb_glyph_info_t → Bool) (gs : List hb_glyph_info_t) (i : ℕ) (d : hb_glyph_info_t)
-    → i < length gs → passes test gs i ≡ test (get_or gs i d)
-passes_there test gs i d l = ap (λ o. option_map_or test o false) (slice_get-get_or gs i d l)
-
 pub below_there : (search : BaseSearch) (gs : List hb_glyph_info_t) (i : ℕ) (d : hb_glyph_info_t) → i < length gs
     → has_below_form search gs i ≡ is_base_candidate search (get_or gs i d) && has_position 8 (get_or gs i d)
 below_there search gs i d l =

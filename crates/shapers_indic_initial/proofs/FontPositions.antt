@@ -14,6 +14,7 @@ use Rattle.shapers_indic.specs.Glyphs.{has_position, number}
 use Rattle.shapers_indic_initial.specs.InitialFont.{all_by_virama, by_virama, consonant_position, joins_virama}
 use Rattle.shapers_indic_initial.specs.KnownWalk.{has_forms, has_lookups}
 use Rattle.shapers_buffer.specs.declared.buffer.tag.Script.{Script}
+use Rattle.shapers_buffer.proofs.MappedLists.{map-hidden, map-seen}
 use Rattle.shapers_clusters.specs.Flags.{seen}
 use Rattle.shapers_clusters.proofs.Picks.{pick-all}
 use Rattle.shapers_indic_initial.specs.InitialLaws.{OrderByFontLaws}
@@ -111,26 +112,16 @@ pub by_virama-syllable : (font : Font) (m : Map) (p : indic_shape_plan_t) (v : G
     → (by_virama font m p v g).syllable ≡ g.syllable
 by_virama-syllable font m p v g = ap (λ x. x.syllable) (by_virama-carried font m p v g)
 
-map-same : (f h : hb_glyph_info_t → hb_glyph_info_t) → ((g : hb_glyph_info_t) → f (h g) ≡ f g)
-    → (gs : List hb_glyph_info_t) → map f (map h gs) ≡ map f gs
-map-same f h same [] = refl
-map-same f h same (g ∷ gs) = ap (λ x. x ∷ map f (map h gs)) (same g) ∙ ap (λ xs. f g ∷ xs) (map-same f h same gs)
-
-map-past : (f h : hb_glyph_info_t → hb_glyph_info_t) → ((g : hb_glyph_info_t) → f (h g) ≡ h (f g))
-    → (gs : List hb_glyph_info_t) → map f (map h gs) ≡ map h (map f gs)
-map-past f h same [] = refl
-map-past f h same (g ∷ gs) = ap (λ x. x ∷ map f (map h gs)) (same g) ∙ ap (λ xs. h (f g) ∷ xs) (map-past f h same gs)
-
 -- of glyphs
 pub font_positions-viewed : (font : Font) (m : Map) (p : indic_shape_plan_t) (v : Option GlyphId)
     (gs : List hb_glyph_info_t) → order_view (all_by_virama font m p v gs) ≡ all_by_virama font m p v (order_view gs)
 font_positions-viewed font m p None gs = refl
-font_positions-viewed font m p (Some v) gs = map-past plain _ (by_virama-plain font m p v) gs
+font_positions-viewed font m p (Some v) gs = map-seen plain _ (by_virama-plain font m p v) gs
 
 pub font_positions-carried : (font : Font) (m : Map) (p : indic_shape_plan_t) (v : Option GlyphId)
     (gs : List hb_glyph_info_t) → map carried (all_by_virama font m p v gs) ≡ map carried gs
 font_positions-carried font m p None gs = refl
-font_positions-carried font m p (Some v) gs = map-same carried _ (by_virama-carried font m p v) gs
+font_positions-carried font m p (Some v) gs = map-hidden carried _ (by_virama-carried font m p v) gs
 
 pub length-font_positions : (font : Font) (m : Map) (p : indic_shape_plan_t) (v : Option GlyphId)
     (gs : List hb_glyph_info_t) → length (all_by_virama font m p v gs) ≡ length gs
@@ -142,7 +133,7 @@ font_positions-seen : (font : Font) (m : Map) (p : indic_shape_plan_t) (v : Opti
     → seen carried (all_by_virama font m p v gs) ≡ seen carried gs
 font_positions-seen font m p None gs = refl
 font_positions-seen font m p (Some v) gs =
-    map-same _ _ (λ g. ap plain (by_virama-carried font m p v g)) gs
+    map-hidden (λ g. plain (carried g)) _ (λ g. ap plain (by_virama-carried font m p v g)) gs
 
 font_laws : (font : Font) (m : Map) (p : indic_shape_plan_t) (v : Option GlyphId)
     → ReorderLaws (all_by_virama font m p v) (λ _. [])

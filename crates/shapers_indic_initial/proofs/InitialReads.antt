@@ -14,20 +14,13 @@ use Rattle.shapers_base.specs.declared.plan.indic.RephMode.{RephMode}
 use Rattle.shapers_base.specs.declared.plan.indic.RephMode.TheVariants.{Explicit, Implicit, LogRepha}
 use Rattle.shapers_base.specs.declared.plan.ot_category_t.TheConstants.{OT_H, OT_ZWJ}
 use Rattle.shapers_base.specs.declared.plan.ot_position_t.TheConstants.{POS_BASE_C, POS_BELOW_C, POS_POST_C, POS_PRE_M}
+use Rattle.shapers_clusters.proofs.EqualArguments.{same_two, same_three}
 use Rattle.shapers_indic.specs.declared.ot_shaper_indic.indic_feature.TheConstants.{RPHF}
 use Rattle.shapers_indic.specs.Glyphs.{greatest_place, has_category, has_position, is_joiner, least_place, number, numbers, passes, some_place, is_matra, places}
 use Rattle.shapers_base.specs.declared.plan.indic.BaseSearch.{BaseSearch}
 use Rattle.shapers_indic_initial.specs.InitialBase.{base_from, base_place, has_indic_reph, is_base, is_base_candidate, has_below_form, joiner_comes_first, limit, limit_behind, may_be_base, opens_with_repha, reph_is_formed, indic_reph_len, search_start, third_lets_reph}
 use Rattle.shapers_indic_initial.specs.InitialOrder.{group, group_in_order, indic_ordered_places, last_unit_first, ordered_base}
 use Rattle.shapers_indic_initial.specs.InitialRules.{Rules, mask_at}
-
--- functions at several equal arguments
-pub same_two : {A B C : Type 0} (f : A → B → C) {a b : A} {c d : B} → a ≡ b → c ≡ d → f a c ≡ f b d
-same_two f {a} {b} {c} {d} p q = ap (λ x. f x c) p ∙ ap (f b) q
-
-pub same_three : {A B C D : Type 0} (f : A → B → C → D) {a b : A} {c d : B} {e g : C} → a ≡ b → c ≡ d → e ≡ g
-    → f a c e ≡ f b d g
-same_three f {a} {b} {c} {d} {e} {g} p q r = ap (λ x. f x c e) p ∙ same_two (f b) q r
 
 -- what a view shows of clusters, masks and syllables; it shows all else as it is
 pub record View : Type 0 where

@@ -8,6 +8,7 @@ use Rattle.shapers_buffer.specs.Glyph.{at_position}
 use Rattle.shapers_buffer.specs.Places.{pick}
 use Rattle.shapers_buffer.specs.Syllables.{kind_of}
 use Rattle.shapers_clusters.specs.Steps.{Step, still_step, swap_step}
+use Rattle.shapers_clusters.proofs.EqualArguments.{same_two}
 use Rattle.shapers_clusters.proofs.Picks.{pick-map}
 use Rattle.shapers_indic_initial.specs.InitialBase.{base_place}
 use Rattle.shapers_indic_initial.specs.InitialMasks.{with_initial_masks}
@@ -23,7 +24,7 @@ use Rattle.shapers_indic_initial.specs.InitialFont.{all_by_virama, by_virama, po
 use Rattle.shapers_indic_initial.specs.InitialRules.{Rules, initial_rules}
 use Rattle.shapers_indic_initial.specs.InitialLaws.{OrderByFontReadsNoSerials}
 use Rattle.shapers_indic_initial.specs.Proved.InitialLaws.{halant_order, halant_step_of, masked_order}
-use Rattle.shapers_indic_initial.proofs.InitialReads.{View, base_stays, joiner_first_stays, ordered_base_stays, ordered_places_stay, same_two}
+use Rattle.shapers_indic_initial.proofs.InitialReads.{View, base_stays, joiner_first_stays, ordered_base_stays, ordered_places_stay}
 use Rattle.shapers_indic_initial.proofs.MaskViews.{masks_shown}
 use Rattle.shapers_indic_initial.proofs.InitialWrites.{halant_places_stay, with_base_stays, with_marks_stays, with_owners_after_stays}
 use Rattle.shapers_syllabic.specs.declared.ot_shaper_syllabic.kinds.indic_syllable.TheConstants.{BROKEN_CLUSTER, CONSONANT_SYLLABLE, STANDALONE_CLUSTER, VOWEL_SYLLABLE}

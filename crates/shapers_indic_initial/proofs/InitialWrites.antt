@@ -9,12 +9,13 @@ use Rattle.shapers_buffer.specs.Glyph.{at_position}
 use Rattle.shapers_buffer.specs.Lists.{each_after}
 use Rattle.shapers_base.specs.declared.plan.ot_category_t.TheConstants.{OT_H}
 use Rattle.shapers_base.specs.declared.plan.ot_position_t.TheConstants.{POS_PRE_M, POS_SMVD}
+use Rattle.shapers_clusters.proofs.EqualArguments.{same_two}
 use Rattle.shapers_indic.specs.Glyphs.{greatest_place, has_category, has_position, least_place, places}
 use Rattle.shapers_indic_initial.specs.InitialBase.{base_place, has_indic_reph}
 use Rattle.shapers_indic_initial.specs.InitialPositions.{attached_to, before_next, bounds, by_base, carries, draws_sign, halant_after, halant_behind, halant_from, halant_places, halant_to, is_attached, is_passed_by_halant, last_after_halant, moved_behind, owned_by, position_by_base, with_attached, with_halants, with_marks_attached, with_owner, with_owners, with_owners_after, with_signs}
 use Rattle.shapers_indic_initial.specs.InitialReordering.{with_base_positions}
 use Rattle.shapers_indic_initial.specs.InitialRules.{Rules}
-use Rattle.shapers_indic_initial.proofs.InitialReads.{View, base_stays, has_reph_stays, passes_stays, same_two, shown}
+use Rattle.shapers_indic_initial.proofs.InitialReads.{View, base_stays, has_reph_stays, passes_stays, shown}
 use Rattle.shapers_syllabic.specs.Consonants.{is_consonant}
 use Rattle.shapers_buffer.proofs.MappedLists.{map-reverse}
 

@@ -4,7 +4,7 @@ use Rattle.std.proofs.Common.{◌≡◌, ℕ, ◌+◌, ◌-◌, ◌%◌, ◌/◌
 use Rattle.std.specs.Prelude.{bit_and, nat_lt}
 use Rattle.std.specs.List.{enumerate_from, list_any, prefix_len}
 use Rattle.std.proofs.lemmas.List.{drop-map, length-map, map-append, take-map}
-use Rattle.std.proofs.lemmas.Nat.{and_mask, and_mod, and_shr}
+use Rattle.std.proofs.lemmas.Nat.{and_shr}
 use Rattle.shapers_buffer.specs.declared.buffer.glyph.hb_glyph_info_t.{hb_glyph_info_t}
 use Rattle.shapers_buffer.specs.declared.buffer.tag.Script.{Script}
 use Rattle.shapers_buffer.specs.Buffer.{Buffer, but_places}
@@ -16,7 +16,8 @@ use Rattle.shapers_buffer.proofs.MappedLists.{list_any-map, map-seen}
 use Rattle.shapers_buffer.proofs.ClusterLemmas.{map-stretch}
 use Rattle.shapers_base.specs.declared.plan.ot_category_t.TheConstants.{OT_H, OT_Ra, OT_ZWJ, OT_ZWNJ}
 use Rattle.shapers_base.specs.declared.plan.ot_position_t.TheConstants.{POS_RA_TO_BECOME_REPH}
-use Rattle.shapers_clusters.proofs.FlagCalls.{flags-or, plain-or}
+use Rattle.shapers_clusters.proofs.EqualArguments.{same_three, same_two}
+use Rattle.shapers_clusters.proofs.FlagCalls.{flags-and, flags-or, plain-or}
 use Rattle.shapers_indic.specs.declared.ot_shaper_indic.indic_feature.TheConstants.{BLWF, HALF, PREF, RPHF}
 use Rattle.shapers_indic.specs.Glyphs.{has_category, has_position, is_one_of, least_place, numbers}
 use Rattle.shapers_indic_initial.specs.InitialMasks.{bits_of, has_eyelash, is_in_eyelash, loses_half, mask_after_base, mask_before_base, opens_eyelash, pref_pair, with_bits_on_pair, with_eyelash_mask, with_initial_masks, with_masks_around, with_pref_mask, with_reph_mask, without_bits, without_half}
@@ -24,19 +25,13 @@ use Rattle.shapers_indic_initial.specs.InitialOrder.{ordered_base}
 use Rattle.shapers_indic_initial.specs.InitialReordering.{masked_in_order}
 use Rattle.shapers_indic_initial.specs.InitialRules.{Rules, mask_at}
 use Rattle.shapers_indic_initial.specs.Proved.InitialViews.{HidesMasks, after_off, before_off, bits_off, hidden-with_initial_masks}
-use Rattle.shapers_indic_initial.proofs.InitialReads.{View, numbers_stay, ordered_base_stays, passes_stays, plain_view, prefix_stays, same_three, same_two, shown}
+use Rattle.shapers_indic_initial.proofs.InitialReads.{View, numbers_stay, ordered_base_stays, passes_stays, plain_view, prefix_stays, shown}
 use Rattle.shapers_indic_initial.proofs.InitialWrites.{numbered_stays}
 use Rattle.shapers_syllabic.specs.Consonants.{is_consonant}
 use Rattle.shapers_syllabic.specs.Reordering.{SyllableReordered, carried}
 use Rattle.shapers_syllabic.proofs.SyllableThen.{syllable_changed}
 
--- bits that touch no glyph flag leave those of a mask, given or taken
-flags-and : (a m : ℕ) → m % 8 ≡ 0 → m ≤ 0xFFFFFFFF → bit_and a (0xFFFFFFFF - m) % 8 ≡ a % 8
-flags-and a m off fits =
-    let all : (0xFFFFFFFF - m) % 8 ≡ 7 = omega arith in
-    let low : a % 8 % 8 ≡ a % 8 = omega arith in
-    and_mod a _ 3 ∙ ap (bit_and (a % 8)) all ∙ and_mask (a % 8) 3 ∙ low
-
+-- bits that touch no glyph flag, where flags are left out
 plain-and : (a m : ℕ) → m % 8 ≡ 0 → m ≤ 0xFFFFFFFF → without_flags (bit_and a (0xFFFFFFFF - m))
     ≡ bit_and (without_flags a) (0xFFFFFFFF - m)
 plain-and a m off fits =

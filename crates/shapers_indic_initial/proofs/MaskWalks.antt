@@ -9,6 +9,7 @@ use Rattle.std.proofs.lemmas.List.FromFn.{length-enumerate_from}
 use Rattle.shapers_buffer.specs.declared.buffer.glyph.hb_glyph_info_t.{hb_glyph_info_t}
 use Rattle.shapers_buffer.specs.Clusters.{stretch_of, with_stretch}
 use Rattle.shapers_buffer.specs.GlyphFlags.{with_bits}
+use Rattle.shapers_buffer.proofs.ListLaws.{none_in_front}
 use Rattle.shapers_buffer.proofs.MappedLists.{enumerate-append, values-enumerate_from}
 use Rattle.shapers_base.specs.declared.plan.ot_category_t.TheConstants.{OT_H, OT_Ra, OT_ZWJ, OT_ZWNJ}
 use Rattle.shapers_buffer.specs.declared.buffer.tag.Script.{Script}
@@ -56,12 +57,6 @@ seam_set gs rest k d y h =
     (set-append_seam _ _ rest y)
 
 -- without a ZWNJ nothing loses half
-none_in_front : (p : hb_glyph_info_t → Bool) (n : ℕ) (gs : List hb_glyph_info_t) → list_any p gs ≡ false
-    → list_any p (take n gs) ≡ false
-none_in_front p zero gs none = refl
-none_in_front p (suc n) [] none = refl
-none_in_front p (suc n) (g ∷ gs) none = grind (arith, nat_tests, none, none_in_front p n gs)
-
 pub no_half_taken : (bits : ℕ) (gs : List hb_glyph_info_t) → list_any (is_one_of (OT_ZWNJ ∷ [])) gs ≡ false
     → without_half bits gs ≡ gs
 no_half_taken bits [] none = refl

@@ -13,7 +13,7 @@ use Rattle.shapers_clusters.specs.Cuts.{AllDifferent, EndWithin, ExactCuts, OneA
 use Rattle.shapers_clusters.specs.ClusterMerges.{joined_all}
 use Rattle.shapers_clusters.proofs.Moves.{HeldIn, all_held}
 use Rattle.shapers_clusters.proofs.Neighbours.{joined_all-linked, share_all}
-use Rattle.shapers_clusters.proofs.Permuted.{picked-permuted}
+use Rattle.shapers_clusters.proofs.Permuted.{length_permuted, picked-permuted, within_permuted}
 use Rattle.shapers_clusters.proofs.SparedCuts.{different_permuted}
 use Rattle.shapers_clusters.proofs.Picks.{length-pick}
 use Rattle.shapers_indic.specs.Glyphs.{places}
@@ -26,7 +26,7 @@ use Rattle.shapers_indic_initial.proofs.CycleSteps.{once_range}
 use Rattle.shapers_indic_initial.proofs.CycleWays.{held_by_ways}
 use Rattle.shapers_indic_initial.proofs.Cycles.{once-swap}
 use Rattle.shapers_clusters.proofs.GatheredCuts.{different_gathered, exact_gathered}
-use Rattle.shapers_indic_initial.specs.Proved.InitialSteps.{length_permuted, stretches_end, within_permuted}
+use Rattle.shapers_indic_initial.specs.Proved.InitialSteps.{stretches_end}
 use Rattle.shapers_indic_initial.specs.Proved.OrderedPlaces.{ordered_permutes}
 
 -- places in some order are each there once

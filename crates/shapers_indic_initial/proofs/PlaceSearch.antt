@@ -5,22 +5,11 @@ use Rattle.std.specs.Option.{option_or}
 use Rattle.std.proofs.lemmas.Bool.{cases_lt}
 use Rattle.std.proofs.lemmas.List.{reverse-append}
 use Rattle.std.proofs.lemmas.List.Folds.{find-append}
-use Rattle.shapers_clusters.proofs.Widened.{range-append}
-use Rattle.shapers_indic.specs.Glyphs.{greatest_place, least_place, places, some_place}
+use Rattle.shapers_buffer.proofs.Ranges.{range-append}
+use Rattle.shapers_indic.specs.Glyphs.{greatest_place, places, some_place}
+use Rattle.shapers_indic.proofs.PlaceSearch.{greatest_last, greatest_none, places_first, places_none}
 
--- the first place, and the last one, apart; none; two stretches
-pub places_first : (i n : ℕ) → i < n → places i n ≡ i ∷ places (i + 1) n
-places_first i n l = let e : n - i ≡ suc (n - (i + 1)) = omega arith in ap (range_with_len i) e
-
-pub places_last : (s i : ℕ) → s ≤ i → places s (i + 1) ≡ places s i ++ i ∷ []
-places_last s i l =
-    let e : i + 1 - s ≡ (i - s) + 1 = omega arith in
-    let at : s + (i - s) ≡ i = omega arith in
-    ap (range_with_len s) e ∙ range-append s (i - s) 1 ∙ ap (λ k. places s i ++ k ∷ []) at
-
-pub places_none : (s e : ℕ) → e ≤ s → places s e ≡ []
-places_none s e l = let n : e - s ≡ 0 = omega arith in ap (range_with_len s) n
-
+-- two stretches of places
 pub places_split : (s i e : ℕ) → s ≤ i → i ≤ e → places s e ≡ places s i ++ places i e
 places_split s i e h l =
     let n : e - s ≡ (i - s) + (e - i) = omega arith in
@@ -28,19 +17,11 @@ places_split s i e h l =
     ap (range_with_len s) n ∙ range-append s (i - s) (e - i) ∙ ap (λ k. places s i ++ range_with_len k (e - i)) at
 
 -- the greatest place, with the last place apart
-pub greatest_last : (P : ℕ → Bool) (s i : ℕ) → s ≤ i
-    → greatest_place P s (i + 1) ≡ cond (P i) (Some i) (greatest_place P s i)
-greatest_last P s i l = ap (λ xs. find P (reverse xs)) (places_last s i l)
-    ∙ ap (find P) (reverse-append (places s i) (i ∷ []))
-
 pub greatest_back : (P : ℕ → Bool) (s i : ℕ) → s ≤ i → P i ≡ false → greatest_place P s (i + 1) ≡ greatest_place P s i
 greatest_back P s i l e = greatest_last P s i l ∙ ap (λ b. cond b (Some i) (greatest_place P s i)) e
 
 pub greatest_here : (P : ℕ → Bool) (s i : ℕ) → s ≤ i → P i ≡ true → greatest_place P s (i + 1) ≡ Some i
 greatest_here P s i l e = greatest_last P s i l ∙ ap (λ b. cond b (Some i) (greatest_place P s i)) e
-
-pub greatest_none : (P : ℕ → Bool) (s e : ℕ) → e ≤ s → greatest_place P s e ≡ None
-greatest_none P s e l = ap (λ xs. find P (reverse xs)) (places_none s e l)
 
 -- with the first place apart
 pub greatest_first : (P : ℕ → Bool) (i n : ℕ) → i < n
@@ -84,10 +65,6 @@ greatest_before P s (suc i) k is = elim (cases_lt i s) [
         | false ↦ λ e. let u : k < i = greatest_before P s i k e in omega arith
       ]) step
 ]
-
--- the least place, with the first place apart
-pub least_first : (P : ℕ → Bool) (i n : ℕ) → i < n → least_place P i n ≡ cond (P i) (Some i) (least_place P (i + 1) n)
-least_first P i n l = ap (find P) (places_first i n l)
 
 -- whether some place has a property, with the first place apart
 pub some_first : (P : ℕ → Bool) (i n : ℕ) → i < n → some_place P i n ≡ P i || some_place P (i + 1) n

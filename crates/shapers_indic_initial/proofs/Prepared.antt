@@ -11,6 +11,7 @@ use Rattle.shapers_buffer.specs.Glyph.{order_view, plain}
 use Rattle.shapers_buffer.specs.Places.{pick}
 use Rattle.shapers_buffer.proofs.ClusterLemmas.{three_parts, length-stretch, map-stretch}
 use Rattle.shapers_clusters.specs.Steps.{FitsStep, Step, shifted, still_step, swap_step}
+use Rattle.shapers_clusters.proofs.EqualArguments.{same_two}
 use Rattle.shapers_clusters.proofs.Merging.{length-merge}
 use Rattle.shapers_clusters.proofs.Picks.{length-pick, pick-all}
 use Rattle.shapers_indic.specs.Glyphs.{places}
@@ -18,7 +19,7 @@ use Rattle.shapers_indic_initial.specs.InitialBase.{base_place, has_indic_reph, 
 use Rattle.shapers_indic_initial.specs.InitialPositions.{by_base, halant_after, halant_from, halant_places, moved_behind, with_marks_attached, with_owners_after}
 use Rattle.shapers_indic_initial.specs.InitialReordering.{halant_step, halant_steps, joiner_step, joiner_steps, opening_steps, positioned, with_base_positions, with_halant_moved, with_joiner_first, with_marks_and_owners}
 use Rattle.shapers_indic_initial.specs.InitialRules.{Rules}
-use Rattle.shapers_indic_initial.proofs.InitialReads.{plain_view, base_stays, joiner_first_stays, same_two}
+use Rattle.shapers_indic_initial.proofs.InitialReads.{plain_view, base_stays, joiner_first_stays}
 use Rattle.shapers_indic_initial.specs.Proved.InitialSteps.{halant_fits, joiner_fits, joiner_long}
 use Rattle.shapers_indic_initial.specs.Proved.InitialViews.{carried_hides_positions, hidden-by_base, hidden-with_marks_attached, hidden-with_owners_after}
 use Rattle.shapers_indic_initial.proofs.InitialWrites.{halant_places_stay, with_base_stays, with_marks_stays, with_owners_after_stays}

@@ -16,6 +16,7 @@ use Rattle.shapers_clusters.specs.ClusterMerges.{joined_all}
 use Rattle.shapers_clusters.specs.Steps.{FitSteps, FitsStep, joined_step, joined_steps, shifted, steps_along, widened}
 use Rattle.shapers_clusters.proofs.Halves.{along-append}
 use Rattle.shapers_clusters.proofs.Neighbours.{share_all}
+use Rattle.shapers_clusters.proofs.Permuted.{length_permuted}
 use Rattle.shapers_clusters.proofs.Picks.{length-pick}
 use Rattle.shapers_clusters.proofs.Proved.{clusters_hold}
 use Rattle.shapers_clusters.proofs.Widened.{all_along, fits-widened, held-shifted}
@@ -27,7 +28,7 @@ use Rattle.shapers_indic_initial.specs.InitialOrder.{ordered_base, indic_ordered
 use Rattle.shapers_indic_initial.specs.InitialReordering.{halant_step, in_indic_order, initial_steps, joiner_step, indic_order_step, positioned, steps_of_reordered, with_base_positions, with_joiner_first}
 use Rattle.shapers_indic_initial.specs.InitialRules.{Rules, initial_rules}
 use Rattle.shapers_indic_initial.specs.Proved.InitialLaws.{halant_laws, initial_laws, initial_text_reordered, joiner_laws, three_laws}
-use Rattle.shapers_indic_initial.specs.Proved.InitialSteps.{length_permuted, order_fits}
+use Rattle.shapers_indic_initial.specs.Proved.InitialSteps.{order_fits}
 use Rattle.shapers_clusters.proofs.Alone.{apart_own, same_stretch, stretch_own}
 use Rattle.shapers_clusters.proofs.StepsOutside.{Leaves, along_elsewhere, leaves_elsewhere}
 use Rattle.shapers_clusters.proofs.Spread.{length-stretch}

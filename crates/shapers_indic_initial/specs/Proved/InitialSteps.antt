@@ -1,13 +1,10 @@
 -- The steps of the initial reordering fit their syllable and take each of its places once.
-use Rattle.std.proofs.Common.{ℕ, zero, suc, ◌+◌, ◌-◌, ◌<◌, ◌≤◌, ◌≡◌, ◌==◌, Bool, true, false, max, cond, List, [], ◌∷◌, ◌++◌, length, take, drop, reverse, slice_index, Option, None, Some, refl, sym, ◌∙◌, ap, subst, arith, append_assoc, if◌then◌else◌, inl, inr}
-use Rattle.std.specs.Prelude.{filter, find, fold, nat_lt, unwrap_or, ◌||◌}
+use Rattle.std.proofs.Common.{ℕ, zero, suc, ◌+◌, ◌-◌, ◌<◌, ◌≤◌, ◌≡◌, ◌==◌, Bool, true, false, max, cond, List, [], ◌∷◌, ◌++◌, length, take, drop, slice_index, Option, None, Some, refl, sym, ◌∙◌, ap, subst, arith, append_assoc, if◌then◌else◌, inl, inr}
+use Rattle.std.specs.Prelude.{filter, fold, nat_lt, ◌||◌}
 use Rattle.std.specs.List.{AllByRecursion, range_with_len}
 use Rattle.std.specs.List.Sorted.{IsPermutation}
 use Rattle.std.proofs.lemmas.Bool.{and_parts, cases_Bool, true≢false}
-use Rattle.std.proofs.lemmas.List.{drop-drop, take-append-drop}
-use Rattle.std.proofs.lemmas.List.Elements.{All-from_recursion, recursion_from_All}
-use Rattle.std.proofs.lemmas.List.FromFn.{length-range_with_len}
-use Rattle.std.proofs.lemmas.List.Sorted.{All-permutation, IsPermutation-append_comm, IsPermutation-append_left, IsPermutation-append_right, IsPermutation-refl, IsPermutation-reverse, length_permutation}
+use Rattle.std.proofs.lemmas.List.Sorted.{IsPermutation-append_comm, IsPermutation-append_left, IsPermutation-append_right, IsPermutation-refl}
 use Rattle.shapers_buffer.specs.declared.buffer.glyph.hb_glyph_info_t.{hb_glyph_info_t}
 use Rattle.shapers_buffer.specs.declared.buffer.tag.Script.{Script}
 use Rattle.shapers_buffer.specs.Clusters.{stretch_of}
@@ -15,11 +12,13 @@ use Rattle.shapers_buffer.proofs.ClusterLemmas.{three_parts}
 use Rattle.shapers_buffer.proofs.MappedLists.{all-mapped, all-range}
 use Rattle.shapers_base.specs.declared.plan.ot_category_t.TheConstants.{OT_H}
 use Rattle.shapers_clusters.specs.Cuts.{EndWithin}
-use Rattle.shapers_clusters.specs.Steps.{FitsStep, Permutes, Step}
-use Rattle.shapers_clusters.proofs.Permuted.{still_permutes, swap_permutes}
+use Rattle.shapers_clusters.specs.Steps.{FitsStep, Permutes}
+use Rattle.shapers_clusters.proofs.Permuted.{fits_permuted, length_permuted, still_permutes, swap_permutes, within_permuted}
 use Rattle.shapers_clusters.proofs.Picks.{within_at}
 use Rattle.shapers_clusters.proofs.Swaps.{still_moves_merged, swap_moves_merged}
-use Rattle.shapers_indic.specs.Glyphs.{greatest_place, has_category, passes, places}
+use Rattle.shapers_clusters.proofs.Widened.{stretch-rest}
+use Rattle.shapers_indic.specs.Glyphs.{has_category, passes, places}
+use Rattle.shapers_indic.proofs.PlaceSearch.{PlaceWithin, greatest_within}
 use Rattle.shapers_indic_initial.specs.InitialBase.{joiner_comes_first, opens_with_ra_h_zwj}
 use Rattle.shapers_indic_initial.specs.InitialOrder.{cycle, cycle_stretch, cycle_stretches, leads_cycle, ordered_base, indic_ordered_places, ordered_stretches, way_to}
 use Rattle.shapers_indic_initial.specs.InitialPositions.{halant_after, halant_from, halant_places, halant_to, is_passed_by_halant, last_after_halant, moved_behind}
@@ -27,61 +26,7 @@ use Rattle.shapers_indic_initial.specs.InitialReordering.{halant_step, in_indic_
 use Rattle.shapers_indic_initial.specs.InitialRules.{Rules}
 use Rattle.shapers_indic_initial.specs.Proved.OrderedPlaces.{ordered_permutes, places_all}
 
--- a step that takes each place once fits, if what it merges ends within
-pub within_permuted : (n : ℕ) (places : List ℕ) → IsPermutation (range_with_len 0 n) places
-    → AllByRecursion (λ p. p < n) places
-within_permuted n places perm =
-    let P : ℕ → Type 0 = λ p. p < n in
-    recursion_from_All P places
-    (All-permutation P (range_with_len 0 n) places perm
-    (All-from_recursion P (range_with_len 0 n) (all-range P 0 n (λ p low high. omega arith))))
-
-pub length_permuted : (n : ℕ) (places : List ℕ) → IsPermutation (range_with_len 0 n) places → length places ≡ n
-length_permuted n places perm = length_permutation (range_with_len 0 n) places perm ∙ length-range_with_len 0 n
-
-pub fits_permuted : (n : ℕ) (step : Step) → Permutes n step → EndWithin n step.merged_first
-    → EndWithin n step.merged_then → FitsStep n step
-fits_permuted n step perm first last = record {
-  as_many = length_permuted n step.places perm;
-  within = within_permuted n step.places perm;
-  first_within = first;
-  then_within = last;
-}
-
--- what is found lies where it is looked for
-find_among : (test : ℕ → Bool) (P : ℕ → Type 0) (xs : List ℕ) (x : ℕ) → AllByRecursion P xs → find test xs ≡ Some x
-    → P x
-find_among test P [] x all found = absurd (cc found)
-find_among test P (y ∷ ys) x all found = elim (test y) as (λ b. cond b (Some y) (find test ys) ≡ Some x → P x) [
-  | true ↦ λ e. subst P (ap (λ o. unwrap_or o y) e) all.0
-  | false ↦ λ e. find_among test P ys x all.1 e
-] found
-
-all_reversed : (P : ℕ → Type 0) (xs : List ℕ) → AllByRecursion P xs → AllByRecursion P (reverse xs)
-all_reversed P xs all =
-    recursion_from_All P (reverse xs)
-    (All-permutation P xs (reverse xs) (IsPermutation-reverse xs) (All-from_recursion P xs all))
-
-pub record PlaceWithin (s e j : ℕ) : Type 0 where
-  pub low : s ≤ j
-  pub high : j < e
-
-all_places : (s e : ℕ) → AllByRecursion (PlaceWithin s e) (places s e)
-all_places s e = all-range (PlaceWithin s e) s (e - s) (λ p low high. record { low = low; high = omega arith })
-
-pub greatest_place_within : (test : ℕ → Bool) (s e j : ℕ) → greatest_place test s e ≡ Some j → PlaceWithin s e j
-greatest_place_within test s e j found =
-    find_among test (PlaceWithin s e) (reverse (places s e)) j
-    (all_reversed (PlaceWithin s e) (places s e) (all_places s e)) found
-
 -- an element moved behind another, and the older specification's H
-rest_of : {X : Type 0} (s e : ℕ) (xs : List X) → s ≤ e → stretch_of s e xs ++ drop e xs ≡ drop s xs
-rest_of s e xs h =
-    let n : s + (e - s) ≡ e = omega arith in
-    let behind : drop e xs ≡ drop (e - s) (drop s xs) = ap (λ k. drop k xs) (omega arith)
-    ∙ sym (drop-drop (e - s) s xs) in
-    ap (λ ys. stretch_of s e xs ++ ys) behind ∙ take-append-drop (e - s) (drop s xs)
-
 pub moved_behind_permutes : {X : Type 0} (h j : ℕ) (xs : List X) → h ≤ j → IsPermutation xs (moved_behind h j xs)
 moved_behind_permutes h j xs l =
     let a = take h xs in
@@ -89,7 +34,8 @@ moved_behind_permutes h j xs l =
     let over = stretch_of (h + 1) (j + 1) xs in
     let behind = drop (j + 1) xs in
     let parts : a ++ ((one ++ over) ++ behind) ≡ xs =
-    ap (λ ys. a ++ ys) (append_assoc one over behind ∙ ap (λ ys. one ++ ys) (rest_of (h + 1) (j + 1) xs (omega arith)))
+    ap (λ ys. a ++ ys) (append_assoc one over behind
+    ∙ ap (λ ys. one ++ ys) (stretch-rest (h + 1) (j + 1) xs (omega arith)))
     ∙ three_parts h (h + 1) xs (omega arith) in
     let turned : a ++ ((over ++ one) ++ behind) ≡ moved_behind h j xs =
     ap (λ ys. a ++ ys) (append_assoc over one behind) in
@@ -120,7 +66,7 @@ from_permutes : (script : Option Script) (gs : List hb_glyph_info_t) (o : Option
 from_permutes script gs None = all_still (length gs)
 from_permutes script gs (Some h) =
     to_permutes gs h (last_after_halant script gs h)
-    (λ j found. greatest_place_within (passes (is_passed_by_halant script) gs) (h + 1) (length gs) j found)
+    (λ j found. greatest_within (passes (is_passed_by_halant script) gs) (h + 1) (length gs) j found)
 
 pub halant_permutes : (r : Rules) (script : Option Script) (base : ℕ) (gs : List hb_glyph_info_t)
     → IsPermutation (range_with_len 0 (length gs)) (halant_places r script base gs)

@@ -2,8 +2,8 @@
 use Rattle.std.proofs.Common.{◌≡◌, ◌+◌, ◌-◌, sym, ap, ◌∙◌, arith}
 use Rattle.shapers_buffer.specs.Glyph.{default_glyph}
 use Rattle.shapers_indic.specs.Glyphs.{greatest_place, passes}
+use Rattle.shapers_indic.proofs.PlaceSearch.{passes_there}
 use Rattle.shapers_indic_initial.specs.InitialPositions.{is_passed_by_halant}
-use Rattle.shapers_indic_initial.proofs.Bases.{passes_there}
 use Rattle.shapers_indic_initial.proofs.PlaceSearch.{greatest_back, greatest_here}
 use Rattle.shapers_indic_initial.proofs.ot_shaper_indic_initial.halant.last_after_halant.Goals as goal
 
