@@ -6,7 +6,7 @@ use Rattle.shapers_base.specs.Font.{Font, dotted_circle, has_nominal}
 use Rattle.shapers_hangul.specs.Hangul.{glyph_copies, is_kept, is_s, is_t, is_tone, is_v, item_len, item_output}
 
 -- What a look at a character and the next one settles: that a syllable character stays which the
--- font has and nothing joins, a tone that gets no circle, and any other character that nothing joins.
+-- font has and nothing joins, a tone that gets no circle, and any other that nothing joins.
 abbrev pub stays_at_sight : Font → Bool → List ℕ → Bool
 stays_at_sight font circles us =
     let u = get_or us 0 0 in
