@@ -1,5 +1,5 @@
 -- Stages of lookups and their pauses leave the results of pieces side by side, and so does all from a text's masks on.
-use Rattle.std.proofs.Common.{ℕ, ◌<◌, ◌≡◌, if◌then◌else◌, Bool, true, false, List, [], ◌∷◌, length, take, drop, map, length-append, refl, sym, ap, ◌∙◌, subst, arith, inl, inr}
+use Rattle.std.proofs.Common.{ℕ, ◌<◌, ◌≡◌, true, false, List, [], ◌∷◌, length, take, drop, map, length-append, refl, sym, ap, ◌∙◌, subst, arith, inl, inr}
 use Rattle.std.specs.Prelude.{Option, None, Some}
 use Rattle.std.proofs.lemmas.Bool.{false≢true}
 use Rattle.std.proofs.lemmas.List.{drop_at, length-map, map-id, take_at}
@@ -8,7 +8,7 @@ use Rattle.shapers_arabic.specs.Breaks.{back_at, front_at}
 use Rattle.shapers_base.specs.Font.{CharacterTables, Font}
 use Rattle.shapers_base.specs.declared.plan.hb_ot_shape_plan_t.{hb_ot_shape_plan_t}
 use Rattle.shapers_base.specs.declared.plan.pause.Pause.{Pause}
-use Rattle.shapers_base.specs.declared.plan.pause.Pause.TheVariants.{SetupSyllablesIndic, SetupSyllablesKhmer, SetupSyllablesMyanmar, SetupSyllablesUse, InitialReordering, ReorderKhmer, ReorderMyanmar, ReorderUse, FinalReordering, RecordStch, RecordRphf, RecordPref, SyllabicClearVar, ClearSubstitutionFlags, ArabicFallbackShape}
+use Rattle.shapers_base.specs.declared.plan.pause.Pause.TheVariants.{SetupSyllablesIndic, SetupSyllablesKhmer, SetupSyllablesMyanmar, InitialReordering, ReorderKhmer, ReorderMyanmar}
 use Rattle.shapers_buffer.specs.Buffer.{Buffer}
 use Rattle.shapers_buffer.specs.Glyph.{plain}
 use Rattle.shapers_buffer.specs.declared.buffer.glyph.hb_glyph_info_t.{hb_glyph_info_t}
@@ -16,7 +16,6 @@ use Rattle.shapers_buffer.specs.declared.buffer.syllables.Span.{Span}
 use Rattle.shapers_clusters.specs.Breaks.{IsClear}
 use Rattle.shapers_clusters.proofs.FlagLaw.{added_same}
 use Rattle.shapers_syllabic.specs.Borders.{unnumbered}
-use Rattle.shapers_stretch.specs.Recorded.{has_stch, with_tiles}
 use Rattle.shapers_universal.specs.PlanData.{arabic_of}
 use Rattle.shapers_syllabic.specs.Syllabic.{unsafe_spans}
 use Rattle.rustybuzz_shapers.specs.Hooks.{MasksOffFlags, MasksSet}
@@ -36,6 +35,7 @@ use Rattle.shapers_pipeline.specs.Masks.{as_glyph, with_features}
 use Rattle.shapers_pipeline.specs.Prepared.{Preparation, text_in_fractions}
 use Rattle.shapers_pipeline.specs.ShaperSteps.{masks_set_by, masks_set_for, universal_masks_set}
 use Rattle.shapers_pipeline.specs.Stages.{PauseRun, PauseRunIf, StageRun, StagesRun, Substitution, stage_looked_up}
+use Rattle.shapers_pipeline.proofs.Pausing.{pause_positions}
 use Rattle.shapers_editing.specs.PipelineBreaks.{CutBufferWhereClear, LookupsLeavePieces, MakesSame, MasksInPieces, MasksSetInPieces, NotesReadOrder, PauseLeaves, PipelineBreaks, ShaperStagesBreak, ShapingBreaks, StagedPiece, StagesLeavePieces, StepLeavesPieces, SyllabicStagesBreak, glyphs_looked_up, glyphs_made}
 
 abbrev Glyphs : Type 0
@@ -104,30 +104,6 @@ looked f keeps leaves (x ∷ xs) b none =
     (looked f keeps leaves xs (f x b) (after b none))
 
 -- PAUSES
-tiles_positions : (stretches : Bool) (old : Buffer) → (if stretches then with_tiles old else old).positions
-    ≡ old.positions
-tiles_positions true old = refl
-tiles_positions false old = refl
-
-keep_positions : (pause : Pause) (plan : hb_ot_shape_plan_t) (font : Font) (spans : List Span) (old new : Buffer)
-    → Paused pause plan font spans old new → new.positions ≡ old.positions
-keep_positions InitialReordering plan font spans old new done = ap (λ (b : Buffer). b.positions) done.0.others
-keep_positions ReorderKhmer plan font spans old new done = ap (λ (b : Buffer). b.positions) done.others
-keep_positions ReorderMyanmar plan font spans old new done = ap (λ (b : Buffer). b.positions) done.others
-keep_positions ReorderUse plan font spans old new done = ap (λ (b : Buffer). b.positions) done.others
-keep_positions FinalReordering plan font spans old new done = ap (λ (b : Buffer). b.positions) done.others
-keep_positions RecordStch plan font spans old new done = ap (λ (b : Buffer). b.positions) done
-    ∙ tiles_positions (has_stch plan.plan_data) old
-keep_positions SetupSyllablesIndic plan font spans old new done = ap (λ (b : Buffer). b.positions) done
-keep_positions SetupSyllablesKhmer plan font spans old new done = ap (λ (b : Buffer). b.positions) done
-keep_positions SetupSyllablesMyanmar plan font spans old new done = ap (λ (b : Buffer). b.positions) done
-keep_positions SetupSyllablesUse plan font spans old new done = ap (λ (b : Buffer). b.positions) done
-keep_positions RecordRphf plan font spans old new done = ap (λ (b : Buffer). b.positions) done
-keep_positions RecordPref plan font spans old new done = ap (λ (b : Buffer). b.positions) done
-keep_positions SyllabicClearVar plan font spans old new done = ap (λ (b : Buffer). b.positions) done
-keep_positions ClearSubstitutionFlags plan font spans old new done = ap (λ (b : Buffer). b.positions) done
-keep_positions ArabicFallbackShape plan font spans old new done = ap (λ (b : Buffer). b.positions) done
-
 by_glyph : PausesLeavePieces → (pause : Pause) (plan : hb_ot_shape_plan_t) (font : Font) (old new : Buffer)
     → is_by_glyph pause ≡ true → PauseRun pause plan font old new → StepLeavesPieces (PauseRun pause plan font) old new
 by_glyph law pause plan font old new by run front back cut =
@@ -157,7 +133,7 @@ paused_positions : (pause : Option Pause) (plan : hb_ot_shape_plan_t) (font : Fo
     → PauseRunIf pause plan font old new → old.positions ≡ [] → new.positions ≡ []
 paused_positions None plan font old new is none = ap (λ (b : Buffer). b.positions) is ∙ none
 paused_positions (Some pause) plan font old new run none =
-    keep_positions pause plan font run.spans old new run.paused ∙ none
+    pause_positions pause plan font run.spans old new run.paused ∙ none
 
 -- STAGES
 stage : PausesLeavePieces → (r : Substitution) (s : Stage) (old new : Buffer) → LookupsKeep r.substituted
@@ -444,11 +420,11 @@ syllabic_stages set_up pause by IsSo law breaks first_keeps second_keeps r secon
 pub shaper_stages : PausesLeavePieces → ShapersBreakLaw → ShaperStagesBreak
 shaper_stages law all = (
   syllabic_stages SetupSyllablesKhmer ReorderKhmer by_khmer IsInOrder law (all Khmer)
-      (keep_positions SetupSyllablesKhmer) (keep_positions ReorderKhmer),
+      (pause_positions SetupSyllablesKhmer) (pause_positions ReorderKhmer),
   (
     syllabic_stages SetupSyllablesMyanmar ReorderMyanmar (λ plan. by_myanmar) IsInOrder law (all Myanmar)
-        (keep_positions SetupSyllablesMyanmar) (keep_positions ReorderMyanmar),
+        (pause_positions SetupSyllablesMyanmar) (pause_positions ReorderMyanmar),
     syllabic_stages SetupSyllablesIndic InitialReordering by_initial IsApart law ((all Indic).0)
-        (keep_positions SetupSyllablesIndic) (keep_positions InitialReordering),
+        (pause_positions SetupSyllablesIndic) (pause_positions InitialReordering),
   ),
 )

@@ -7,7 +7,7 @@ mod LengthBounds
 mod LengthRows
 mod LookupRows
 mod MaskRows
-mod Pausing
+pub mod Pausing
 pub mod Placing
 mod PositionClusters
 mod PositionedRows

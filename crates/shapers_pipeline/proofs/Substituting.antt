@@ -1,13 +1,8 @@
 -- A plan's parts, as its readers return them, are those that its value has.
-use Rattle.std.proofs.Common.{◌≡◌, ◌∙◌, ◌⊎◌, ap, inr, subst, List, Result, Ok, Err, IfErr, OnErr}
+use Rattle.std.proofs.Common.{◌≡◌, ◌⊎◌, inr, subst, List, Result, Ok, Err, IfErr, OnErr}
 use Rattle.shapers_buffer.specs.Buffer.{Buffer}
 use Rattle.shapers_plan.specs.declared.ot_map.lookups.Stage.{Stage}
 use Rattle.shapers_pipeline.specs.Stages.{StagesRun, StagesStopped, Substitution}
-
--- a function of four equal things
-pub four : {A B C D R : Type 0} (f : A → B → C → D → R) {a x : A} {b y : B} {c z : C} {d w : D} → a ≡ x → b ≡ y → c ≡ z → d ≡ w → f a b c d ≡ f x y z w
-four f {a} {x} {b} {y} {c} {z} {d} {w} p q r s =
-    ap (λ v. f v b c d) p ∙ ap (λ v. f x v c d) q ∙ ap (λ v. f x y v d) r ∙ ap (λ v. f x y z v) s
 
 -- what stages do, for an equal list of stages that read equal things, from an equal text
 pub run_alike : {r s : Substitution} {ss ts : List Stage} {old mid : Buffer} (new : Buffer) → r ≡ s → ss ≡ ts → old ≡ mid → StagesRun r ss old new → StagesRun s ts mid new

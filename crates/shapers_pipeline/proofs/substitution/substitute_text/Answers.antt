@@ -11,13 +11,14 @@ use Rattle.shapers_pipeline.specs.Prepared.{Preparation, text_prepared}
 use Rattle.shapers_pipeline.specs.Stages.{Substitution}
 use Rattle.shapers_pipeline.specs.Substituted.{preparation_by}
 use Rattle.shapers_pipeline.proofs.StageLengths.{passed_on, room_for_stages, stages_least}
-use Rattle.shapers_pipeline.proofs.Substituting.{as_stopped, four, run_alike, stopped_alike}
+use Rattle.shapers_clusters.proofs.EqualArguments.{same_four}
+use Rattle.shapers_pipeline.proofs.Substituting.{as_stopped, run_alike, stopped_alike}
 use Rattle.shapers_pipeline.proofs.TextLengths.{prepared_limit}
 use Rattle.shapers_pipeline.proofs.substitution.substitute_text.Goals as goal
 
 pub returns-clause-ok : goal.returns-clause-ok
 returns-clause-ok g c =
-    let prepared = c.note_glyphs.ensures ∙ ap (text_noted (g.L.Lookups.noted c.args.lookups.now)) (c.in_ok-prepare_text.ensures.ok ∙ four (λ shaper plan masks ranges.
+    let prepared = c.note_glyphs.ensures ∙ ap (text_noted (g.L.Lookups.noted c.args.lookups.now)) (c.in_ok-prepare_text.ensures.ok ∙ same_four (λ shaper plan masks ranges.
     let p : Preparation = record {
       shaper = shaper;
       plan = plan;
@@ -46,7 +47,7 @@ returns-clause-ok g c =
 
 pub returns-clause-err : goal.returns-clause-err
 returns-clause-err g c =
-    let prepared = c.note_glyphs.ensures ∙ ap (text_noted (g.L.Lookups.noted c.args.lookups.now)) (c.in_ok-prepare_text.ensures.ok ∙ four (λ shaper plan masks ranges.
+    let prepared = c.note_glyphs.ensures ∙ ap (text_noted (g.L.Lookups.noted c.args.lookups.now)) (c.in_ok-prepare_text.ensures.ok ∙ same_four (λ shaper plan masks ranges.
     let p : Preparation = record {
       shaper = shaper;
       plan = plan;
@@ -84,7 +85,7 @@ returns-clause-room g c grows room fits =
     let noted = g.L.Lookups.noted it in
     let b = c.note_glyphs.new.buffer in
     let is : b ≡ text_noted noted (text_prepared p old) =
-    c.note_glyphs.ensures ∙ ap (text_noted noted) (c.in_ok-prepare_text.ensures.ok ∙ four (λ shaper plan masks ranges.
+    c.note_glyphs.ensures ∙ ap (text_noted noted) (c.in_ok-prepare_text.ensures.ok ∙ same_four (λ shaper plan masks ranges.
     let q : Preparation = record {
       shaper = shaper;
       plan = plan;
