@@ -39,7 +39,7 @@ use Rattle.shapers_indic_final.specs.FinalClusters.{EachSyllableCuts, FinalCutsL
 use Rattle.shapers_clusters.proofs.SparedCuts.{exact_spared}
 use Rattle.shapers_indic_final.specs.FinalGlyphs.{last_goes_first}
 use Rattle.shapers_indic_final.specs.FinalMatras.{end_of_base, has_room, is_left, matra_step, matra_steps, matra_target, matras_go, merging_step}
-use Rattle.shapers_indic_final.specs.Proved.FinalMoves.{permutes_first_last, permutes_last_first, picks_first_last, picks_last_first}
+use Rattle.shapers_indic_final.specs.Proved.FinalMoves.{permutes_last_first, picks_first_last, picks_last_first}
 use Rattle.shapers_indic_final.specs.Proved.LeftMatraMoves.{lefts, lefts_no, lefts_yes, steps_of}
 use Rattle.shapers_clusters.specs.Steps.{SpareMerged, Spares, StaysAt}
 use Rattle.shapers_clusters.proofs.StaysMerged.{merged_stay, spare_moves, spare_then}
@@ -52,8 +52,10 @@ use Rattle.shapers_indic_final.specs.FinalReph.{opens_with_reph, final_reph_step
 use Rattle.shapers_indic_final.specs.declared.ot_shaper_indic_final.rules.Rules.{Rules}
 use Rattle.shapers_indic_final.specs.Proved.FinalHidden.{base_within, hidden-based, hidden-viramas}
 use Rattle.shapers_indic_final.specs.Proved.FinalLawsAt.{length_at, stretch_at}
-use Rattle.shapers_indic_final.specs.Proved.FinalTargets.{PlaceWithin, formed_pref_within, opens_some, pref_target_within, reph_target_within}
+use Rattle.shapers_indic_final.specs.Proved.FinalTargets.{formed_pref_within, opens_some, pref_target_within, reph_target_within}
 use Rattle.shapers_indic_final.specs.Proved.FinalLaws.{final_laws, matras_at, merging_at, reph_at, target_within}
+use Rattle.shapers_indic.proofs.PlaceSearch.{PlaceWithin}
+use Rattle.shapers_clusters.proofs.Permuted.{permuted-first_last}
 
 -- a stretch of places changed: those around it stay, those inside come from inside
 pub record ChangedWithin (i k n : ℕ) (ps : List ℕ) : Type 0 where
@@ -132,7 +134,7 @@ later_stay gs n e p (suc m) k st l h a b c =
     elim (cases_Bool (passes is_left gs m)) [
       | inl holds ↦
           let j = p - k in
-          let w = changed_within first_last permutes_first_last m (j + 1) n (omega arith) (omega arith) in
+          let w = changed_within first_last permuted-first_last m (j + 1) n (omega arith) (omega arith) in
           let one : StaysAt st (matra_step n e m j) = λ q x y. w.behind q (omega arith) (omega arith) in
           let rest = later_stay gs n e p m (k + 1) st (omega arith) h (omega arith) b (omega arith) in
           subst (λ qs. AllByRecursion (Spares n st) (steps_of n e p k qs))
@@ -204,10 +206,10 @@ moves_reph position base gs =
       | inl on ↦ rw on (
           let high : j < length gs = reph_target_within position base gs (opens_some gs on) in
           let ends : j + 1 ≤ length gs = omega arith in
-          let at = stretch_at first_last first_last picks_first_last permutes_first_last 0 (j + 1)
+          let at = stretch_at first_last first_last picks_first_last permuted-first_last 0 (j + 1)
           (final_reph_step (length gs) j) gs (omega arith) ends refl (ends, tt) tt in
           let fits = at.fits in (
-            change_moves first_last permutes_first_last 0 (j + 1) (length gs) (omega arith) ends
+            change_moves first_last permuted-first_last 0 (j + 1) (length gs) (omega arith) ends
                 (final_reph_step (length gs) j) refl refl refl fits.0,
             tt,
           ))

@@ -34,7 +34,7 @@ use Rattle.shapers_syllabic.specs.SpanCuts.{CutsAtBorders}
 use Rattle.shapers_syllabic.specs.Syllabic.{unsafe_spans}
 use Rattle.shapers_syllabic.proofs.Borders.{SameEnds, border-view, border_by, ends-kept, syllables-mapped, syllables_cut}
 use Rattle.shapers_syllabic.proofs.CircleLaws.{joined-syllables, no_new_cluster}
-use Rattle.shapers_syllabic.proofs.HiddenCuts.{pauses_cut_between_spans}
+use Rattle.shapers_syllabic.proofs.HiddenCuts.{pauses_cut_between_spans, map-twice}
 use Rattle.shapers_syllabic.proofs.PauseCuts.{clusters-set_up}
 use Rattle.shapers_syllabic.proofs.ReorderingCuts.{border-circled, circled-append, text_order-append, text_order-halves}
 use Rattle.shapers_syllabic.proofs.ReorderingLaws.{each_piece, nothing_lost, sum-syllables, text_steps-long}
@@ -174,11 +174,6 @@ met gs hs border some more same =
     ∙ ap (λ bs. slice_index bs 0) (sym (bytes_plain hs)))
 
 -- the bits of init, and serials
-map-twice : (h : hb_glyph_info_t → hb_glyph_info_t) (gs : Glyphs) → map (λ g. unnumbered (h g)) gs
-    ≡ map unnumbered (map h gs)
-map-twice h [] = refl
-map-twice h (g ∷ gs) = ap (λ l. unnumbered (h g) ∷ l) (map-twice h gs)
-
 bits_past : (bits : ℕ) (gs : Glyphs) → map unnumbered (map (with_bits bits) gs)
     ≡ map (with_bits bits) (map unnumbered gs)
 bits_past bits [] = refl

@@ -7,7 +7,7 @@ use Rattle.std.proofs.lemmas.List.Folds.{find-append}
 use Rattle.shapers_buffer.specs.declared.buffer.glyph.hb_glyph_info_t.{hb_glyph_info_t}
 use Rattle.shapers_indic.specs.Glyphs.{is_joiner, passes}
 use Rattle.shapers_indic_final.specs.FinalBase.{along_links, as_linked, is_unformed_below, last_link, links_from, links_written}
-use Rattle.shapers_indic_final.specs.Proved.FinalPlaces.{passes_there}
+use Rattle.shapers_indic.proofs.PlaceSearch.{passes_there}
 
 pub along_end : (f : hb_glyph_info_t → hb_glyph_info_t) (x : hb_glyph_info_t) (xs : List hb_glyph_info_t)
     → is_joiner x ≡ false → along_links f true (x ∷ xs) ≡ f x ∷ along_links f false xs

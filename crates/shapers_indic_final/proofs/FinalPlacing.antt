@@ -25,8 +25,8 @@ use Rattle.shapers_indic_final.specs.FinalMatras.{end_of_base, is_left, matra_st
 use Rattle.shapers_indic_final.specs.FinalPref.{formed_pref, pref_move, pref_step, pref_steps, pref_target}
 use Rattle.shapers_indic_final.specs.FinalReph.{opens_with_reph, final_reph_step, reph_steps, reph_target}
 use Rattle.shapers_indic_final.specs.Proved.FinalMoves.{permutes_last_first}
-use Rattle.shapers_indic_final.specs.Proved.FinalPlaces.{places_first}
 use Rattle.shapers_indic_final.specs.Proved.FinalSteps.{length-moved, matra_stepped, pref_stepped, reph_stepped}
+use Rattle.shapers_indic.proofs.PlaceSearch.{places_first}
 
 -- how many glyphs there are after a step
 pub length-reph : (level : BufferClusterLevel) (s e j : ℕ) (gs : List hb_glyph_info_t) → s + j < e → e ≤ length gs

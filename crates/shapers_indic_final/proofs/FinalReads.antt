@@ -31,14 +31,7 @@ use Rattle.shapers_indic_final.specs.FinalReph.{at_end, base_after_reph, behind_
 use Rattle.shapers_indic_final.specs.FinalRules.{has_no_half_forms, is_malayalam}
 use Rattle.shapers_indic_final.specs.declared.ot_shaper_indic_final.rules.Rules.{Rules}
 use Rattle.shapers_syllabic.proofs.Views.{View, seen_by, shown}
-
--- functions at several equal arguments
-same_two : {A B C : Type 0} (f : A → B → C) {a b : A} {c d : B} → a ≡ b → c ≡ d → f a c ≡ f b d
-same_two f {a} {b} {c} {d} p q = ap (λ x. f x c) p ∙ ap (f b) q
-
-same_three : {A B C D : Type 0} (f : A → B → C → D) {a b : A} {c d : B} {e g : C} → a ≡ b → c ≡ d → e ≡ g
-    → f a c e ≡ f b d g
-same_three f {a} {b} {c} {d} {e} {g} p q r = ap (λ x. f x c e) p ∙ same_two (f b) q r
+use Rattle.shapers_clusters.proofs.EqualArguments.{same_two, same_three}
 
 -- the bits of a mask that show the same
 abbrev pub KeepsMask : View → ℕ → Type 0

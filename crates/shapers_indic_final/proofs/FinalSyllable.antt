@@ -1,5 +1,5 @@
 -- The parts of the final reordering of a syllable, one after another.
-use Rattle.std.proofs.Common.{◌≡◌, ℕ, ◌-◌, ◌%◌, ◌≤◌, Bool, true, false, if◌then◌else◌, List, [], ◌++◌, length, map, take, drop, refl, sym, ap, subst, ◌∙◌, arith, Option, None, Some, length-append, length-take-le, length-drop}
+use Rattle.std.proofs.Common.{◌≡◌, ℕ, ◌-◌, ◌%◌, ◌≤◌, Bool, true, false, if◌then◌else◌, List, [], ◌++◌, length, map, take, drop, refl, sym, ap, subst, ◌∙◌, arith, Option, None, Some, length-take-le, length-drop}
 use Rattle.std.proofs.lemmas.List.{length-map}
 use Rattle.shapers_base.specs.declared.font.GlyphId.{GlyphId}
 use Rattle.shapers_buffer.specs.declared.buffer.glyph.hb_glyph_info_t.{hb_glyph_info_t}
@@ -28,36 +28,11 @@ use Rattle.shapers_indic_final.specs.Proved.FinalLawsAt.{LawsAt, length_at}
 use Rattle.shapers_indic_final.proofs.FinalPlain.{TouchesNoFlag, base_after_reph_plain, base_glyphs_plain, base_place_plain, base_tries_plain, matra_steps_plain, pref_steps_plain, reph_steps_plain, viramas_plain}
 use Rattle.shapers_syllabic.specs.Reordering.{SyllableReordered, carried}
 use Rattle.shapers_syllabic.proofs.SyllableThen.{changed_parts, syllable_as, syllable_changed, syllable_mapped, syllable_still, syllable_then}
+use Rattle.shapers_syllabic.proofs.PartAfter.{part_after}
 
 -- how long a syllable of the order view is
 length-view : (s e : ℕ) (gs : List hb_glyph_info_t) → e ≤ length gs → length (stretch_of s e (order_view gs)) ≡ e - s
 length-view s e gs l = length-stretch s e (order_view gs) (omega (arith, length-map gs plain))
-
--- what a part leaves: as many glyphs, and its syllable
-record After (meaning : List hb_glyph_info_t → List hb_glyph_info_t) (s e : ℕ) (old new : Buffer) : Type 0 where
-  long : length new.glyphs ≡ length old.glyphs
-  syllable : stretch_of s e (order_view new.glyphs) ≡ meaning (stretch_of s e (order_view old.glyphs))
-
-after : (meaning : List hb_glyph_info_t → List hb_glyph_info_t) (steps : List hb_glyph_info_t → List Step) (s e : ℕ)
-    (old new : Buffer) → s ≤ e → e ≤ length old.glyphs → length (meaning (stretch_of s e (order_view old.glyphs)))
-    ≡ e - s → SyllableReordered meaning steps s e old new → After meaning s e old new
-after meaning steps s e old new h l k done =
-    let xs = order_view old.glyphs in
-    let n : length xs ≡ length old.glyphs = length-map old.glyphs plain in
-    let front : length (take s xs) ≡ s = length-take-le s xs (omega arith) in
-    let parts = changed_parts s e (take s xs) (meaning (stretch_of s e xs)) (drop e xs) (order_view new.glyphs) h front
-    k done.order in
-    record {
-      long = sym (length-map new.glyphs plain) ∙ ap length done.order
-          ∙ omega (
-            arith,
-            length-append (take s xs) (meaning (stretch_of s e xs) ++ drop e xs),
-            length-append
-                (meaning (stretch_of s e xs)) (drop e xs),
-            length-drop e xs,
-          );
-      syllable = parts.stretch;
-    }
 
 -- a part that its steps make, by the syllable of the order view
 pub moved_part : (meaning : List hb_glyph_info_t → List hb_glyph_info_t) (steps : List hb_glyph_info_t
@@ -272,7 +247,7 @@ final_syllable r script s e base next tries b0 b1 b2 b3 b4 b5 viewed c last =
     let k0 : length x0 ≡ e - s = length-view s e b0.glyphs l in
     let kb : length B.glyphs ≡ e - s =
     length-same carried B.glyphs x0 (hidden-based r script (with_viramas r x0) ∙ hidden-viramas r x0) ∙ k0 in
-    let a2 = after (λ gs. (based r script gs).glyphs) (λ _. []) s e b0 b2 h l kb opening in
+    let a2 = part_after (λ gs. (based r script gs).glyphs) (λ _. []) s e b0 b2 h l kb opening in
     let l2 : e ≤ length b2.glyphs = omega (arith, a2.long) in
     let x2 = stretch_of s e (order_view b2.glyphs) in
     let k2 : length x2 ≡ e - s = length-view s e b2.glyphs l2 in
@@ -295,7 +270,7 @@ final_syllable r script s e base next tries b0 b1 b2 b3 b4 b5 viewed c last =
     c.matras in
     let k3 : length (with_matras script base x2) ≡ e - s =
     length_at x2 (with_matras script base x2) (matra_steps script base x2) m_laws ∙ k2 in
-    let a3 = after (with_matras script base) (matra_steps script base) s e b2 b3 h l2 k3 matras_done in
+    let a3 = part_after (with_matras script base) (matra_steps script base) s e b2 b3 h l2 k3 matras_done in
     let l3 : e ≤ length b3.glyphs = omega (arith, a3.long) in
     let x3 = stretch_of s e (order_view b3.glyphs) in
     let v3 = viewed (stretch_of s e b3.glyphs) in
@@ -306,7 +281,7 @@ final_syllable r script s e base next tries b0 b1 b2 b3 b4 b5 viewed c last =
     let k4 : length (with_reph r.reph_pos base x3) ≡ e - s =
     length_at x3 (with_reph r.reph_pos base x3) (reph_steps r.reph_pos base x3) r_laws
     ∙ length-view s e b3.glyphs l3 in
-    let a4 = after (with_reph r.reph_pos base) (reph_steps r.reph_pos base) s e b3 b4 h l3 k4 reph_done in
+    let a4 = part_after (with_reph r.reph_pos base) (reph_steps r.reph_pos base) s e b3 b4 h l3 k4 reph_done in
     let l4 : e ≤ length b4.glyphs = omega (arith, a4.long) in
     let next_at : next ≡ base_after_reph r.reph_pos base (with_matras script base B.glyphs) =
     c.next_is ∙ sym (v3.base_then base)

@@ -9,7 +9,7 @@ use Rattle.shapers_clusters.specs.Steps.{run_steps}
 use Rattle.shapers_indic.proofs.RowWords.{C, M, row_masks, numbers_of, script}
 use Rattle.shapers_indic_final.proofs.FinalWords.{rules}
 use Rattle.shapers_indic_final.specs.FinalLaws.{at_opening, SameButFirstBits, with_first_bits}
-use Rattle.shapers_indic_final.specs.FinalWordStart.{bound_from, continues_word, final_syllables, final_text, is_bound, last_or, with_init}
+use Rattle.shapers_indic_final.specs.FinalWordStart.{bound_from, continues_word, final_syllables, final_text, is_bound, last_or, starts_syllable, with_init}
 use Rattle.shapers_indic_final.specs.FinalReordering.{final_steps}
 use Rattle.shapers_syllabic.specs.Reordering.{text_steps}
 
@@ -122,3 +122,7 @@ openings : map (at_opening 1 (Some (one 0 0 Lo 0 0)) ((one 1 16 Mc M 2 ∷ []) �
     ∷ (one 3 48 Mc M 2 ∷ []) ∷ [])) (0 ∷ 1 ∷ 2 ∷ 3 ∷ 4 ∷ [])
     ≡ true ∷ true ∷ false ∷ false ∷ false ∷ []
 openings = refl
+
+-- where a syllable starts: the text, and each byte unlike the one before
+starts : map (λ k. starts_syllable k (pair 0 16 ++ pair 2 32)) (0 ∷ 1 ∷ 2 ∷ 3 ∷ []) ≡ true ∷ false ∷ true ∷ false ∷ []
+starts = refl

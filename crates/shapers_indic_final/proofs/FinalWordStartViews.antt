@@ -116,15 +116,16 @@ pub general-view : (gs : List hb_glyph_info_t) → map general (order_view gs) �
 general-view [] = refl
 general-view (g ∷ gs) = ap (λ cs. general g ∷ cs) (general-view gs)
 
-pub general-opened : (bits s : ℕ) (gs : List hb_glyph_info_t) → map general (opened bits s gs) ≡ map general gs
-general-opened bits s gs =
+pub map-opened : {X : Type 0} (f : hb_glyph_info_t → X) (bits s : ℕ) → HidesBits f 3 → HidesBits f bits
+    → (gs : List hb_glyph_info_t) → map f (opened bits s gs) ≡ map f gs
+map-opened f bits s flags inits gs =
     let before = before_place s gs in
     let rest = drop s gs in
-    map-bound general (λ g. refl) s (is_bound before rest) (take s gs ++ with_init bits before rest)
-    ∙ map-append general (take s gs) (with_init bits before rest)
-    ∙ ap (λ cs. map general (take s gs) ++ cs) (map-init general bits (λ g. refl) before rest)
-    ∙ sym (map-append general (take s gs) rest)
-    ∙ ap (map general) (take-append-drop s gs)
+    map-bound f flags s (is_bound before rest) (take s gs ++ with_init bits before rest)
+    ∙ map-append f (take s gs) (with_init bits before rest)
+    ∙ ap (λ cs. map f (take s gs) ++ cs) (map-init f bits inits before rest)
+    ∙ sym (map-append f (take s gs) rest)
+    ∙ ap (map f) (take-append-drop s gs)
 
 -- an unsafe break through the view of what is carried along
 carried-off : (m : ℕ) (g : hb_glyph_info_t) → carried (with_bits_off 3 m g) ≡ with_bits_off 3 m (carried g)

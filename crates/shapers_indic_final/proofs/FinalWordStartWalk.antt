@@ -1,23 +1,21 @@
 -- The pass that opens syllable by syllable: what it still has to do.
-use Rattle.std.proofs.Common.{ℕ, suc, ◌+◌, ◌-◌, ◌%◌, ◌<◌, ◌≤◌, ◌≡◌, List, [], ◌∷◌, ◌++◌, map, length, take, drop, get_or, None, refl, sym, subst, take-append-drop, ◌∙◌, ap, arith, append-nil, append_assoc, length-append, length-take-le, length-drop}
-use Rattle.std.specs.List.{list_any}
-use Rattle.std.proofs.lemmas.Bool.{or_parts}
+use Rattle.std.proofs.Common.{inl, inr, ◌==◌, ◌||◌, not, Bool, true, false, ℕ, suc, ◌+◌, ◌-◌, ◌%◌, ◌<◌, ◌≤◌, ◌≡◌, List, [], ◌∷◌, ◌++◌, map, length, take, drop, get_or, None, refl, sym, subst, take-append-drop, ◌∙◌, ap, arith, append-nil, append_assoc, length-append, length-take-le, length-drop}
+use Rattle.std.specs.List.{prefix_len}
+use Rattle.std.proofs.lemmas.Bool.{cases_Bool, eq-eqb, eqb-true, true≢false}
+use Rattle.std.proofs.Math.Nat.{eq-or-lt_of_le}
+use Rattle.std.proofs.lemmas.List.Sums.{prefix_len_passes, prefix_len_stops}
+use Rattle.std.proofs.lemmas.List.{get_or-drop, get_or-map}
 use Rattle.std.proofs.lemmas.List.{drop-drop, drop-map, drop_all, drop_at, drop_more, length-map, map-append, take-map, take_all, take_at}
 use Rattle.std.proofs.Math.Seq.{take-add}
 use Rattle.shapers_buffer.specs.declared.buffer.glyph.hb_glyph_info_t.{hb_glyph_info_t}
 use Rattle.shapers_buffer.specs.Buffer.{Buffer}
-use Rattle.shapers_buffer.specs.Clusters.{stretch_of}
 use Rattle.shapers_buffer.specs.Glyph.{default_glyph, order_view, plain}
-use Rattle.shapers_buffer.specs.Syllables.{first_syllable_len, syllables}
-use Rattle.shapers_indic_final.specs.FinalMatras.{is_left}
-use Rattle.shapers_indic_final.specs.FinalWordStart.{WordsOpened, before_place, bound_at, bound_from, is_bound, last_or, opened, with_init, with_inits, word_goes_on}
+use Rattle.shapers_buffer.specs.Syllables.{first_syllable_len, has_byte, syllables}
+use Rattle.shapers_indic_final.specs.FinalWordStart.{WordsOpened, before_place, bound_at, bound_from, is_bound, last_or, opened, starts_syllable, with_init, with_inits, word_goes_on}
 use Rattle.shapers_indic_final.proofs.FinalText.{last_or-append}
-use Rattle.shapers_indic_final.proofs.FinalWordStartCases.{opened_other}
-use Rattle.shapers_indic_final.proofs.FinalWordStartViews.{bound-long, bound-plain, bound-view, bound-word, carried-bound, carried-bound_from, carried-init, general, general-opened, general-view, init-long, init-plain, init-word, length-init, same_word}
+use Rattle.shapers_indic_final.proofs.FinalWordStartViews.{bound-long, bound-plain, bound-view, bound-word, carried-bound, carried-bound_from, carried-init, general, general-view, map-opened, init-long, init-plain, init-word, length-init, same_word}
 use Rattle.shapers_syllabic.specs.Reordering.{carried}
-use Rattle.shapers_syllabic.specs.ReorderingLaws.{IsNextChanging}
 use Rattle.shapers_syllabic.proofs.LinkedSyllables.{next_syllable}
-use Rattle.shapers_syllabic.proofs.Skipping.{PassesOver, to_next}
 
 -- What a pass at place start has still to do on the buffer as it is now, if the text was old at first: the glyphs
 -- from start on are as they were; and where these are opened, the whole is opened.
@@ -102,7 +100,7 @@ opened_next bits old now new start end off to some end_is opens_it =
             (ap (λ (b : Buffer). b.glyphs) opens_it));
         inside = omega arith;
         words = ap (map general) (ap (λ (b : Buffer). b.glyphs) opens_it)
-            ∙ general-opened bits start gs ∙ to.words;
+            ∙ map-opened general bits start (λ g. refl) (λ g. refl) gs ∙ to.words;
         behind = ap (drop end) view ∙ drop_at (front ++ opening) back end both ∙ sym old_back;
         order =
             ap (λ ys. ys ++ with_inits bits (before_place end xs) (syllables (drop end xs)))
@@ -137,33 +135,132 @@ to_open_all bits old = record {
   flags = refl;
 }
 
--- past a syllable without a left matra
-pub opening_passes : (bits : ℕ) (old now : Buffer) → bits % 8 ≡ 0
-    → PassesOver is_left now.glyphs (ToOpen bits old now)
-opening_passes bits old now off s e some within end_is none to =
-    let gs = now.glyphs in
-    let g = get_or gs s default_glyph in
-    let rest = take (e - s - 1) (drop (s + 1) gs) in
-    let size : e - s ≡ suc (e - s - 1) = omega arith in
-    let first : stretch_of s e gs ≡ g ∷ rest = ap (take (e - s)) (drop_more gs s default_glyph (omega arith))
-    ∙ ap (λ k. take k (g ∷ drop (s + 1) gs)) size in
-    let other = or_parts (is_left g) (list_any is_left rest) (ap (list_any is_left) (sym first) ∙ none) in
-    let next = opened_next bits old now now s e off to (omega arith) end_is
-    (ap (λ xs. let b : Buffer = record now { glyphs = xs } in b)
-    (opened_other bits s default_glyph gs (omega arith) other.0)) in
-    next.to
+-- The pass at a place: the text is opened up to the next start of a syllable.
+pub record Opening (bits : ℕ) (old now : Buffer) (place : ℕ) : Type 0 where
+  pub border : ℕ
+  pub low : place ≤ border
+  pub to : ToOpen bits old now border
+  pub none_before : (k : ℕ) → place ≤ k → k < border → starts_syllable k now.glyphs ≡ false
+  pub starts : border < length now.glyphs → starts_syllable border now.glyphs ≡ true
 
--- one syllable that has one, behind those without
-pub past_left : (bits : ℕ) (old now new : Buffer) (xs : List hb_glyph_info_t) (start first end : ℕ) → xs ≡ now.glyphs
-    → bits % 8 ≡ 0 → IsNextChanging is_left start xs first → ToOpen bits old now start
-    → end ≡ first + first_syllable_len (drop first now.glyphs)
-    → new ≡ record now { glyphs = opened bits first now.glyphs } → OpenedNext bits old now new end
-past_left bits old now new xs start first end is off next to end_is opens_it =
-    let here : IsNextChanging is_left start now.glyphs first =
-    subst (λ ys. IsNextChanging is_left start ys first) is next in
-    opened_next bits old now new first end off
-    (to_next is_left now.glyphs (ToOpen bits old now) (opening_passes bits old now off) start first here to)
-    here.inside end_is opens_it
+byte : hb_glyph_info_t → ℕ
+byte g = g.syllable
+
+-- the bytes of a syllable, and the one behind it
+run_byte : (gs : List hb_glyph_info_t) (i j : ℕ) → i < length gs → i ≤ j → j < i + first_syllable_len (drop i gs)
+    → (get_or gs j default_glyph).syllable ≡ (get_or gs i default_glyph).syllable
+run_byte gs i j l low high =
+    let x = get_or gs i default_glyph in
+    let rest = drop (i + 1) gs in
+    let first : first_syllable_len (drop i gs) ≡ suc (prefix_len (has_byte x.syllable) rest) =
+    ap first_syllable_len (drop_more gs i default_glyph l) in
+    elim (eq-or-lt_of_le {n = i} {m = j} low) [
+      | inl is ↦ ap (λ k. (get_or gs k default_glyph).syllable) (sym is)
+      | inr more ↦ (let m = j - (i + 1) in
+          let same = prefix_len_passes (has_byte x.syllable) rest m default_glyph (omega arith) in
+          let at : get_or rest m default_glyph ≡ get_or gs j default_glyph = get_or-drop (i + 1) gs m default_glyph
+          ∙ ap (λ k. get_or gs k default_glyph) (omega arith) in
+          ap (λ (g : hb_glyph_info_t). g.syllable) (sym at) ∙ eqb-true (get_or rest m default_glyph).syllable x.syllable same)
+    ]
+
+behind_first : (k : ℕ) (b : Bool) → 0 < k → (k == 0 || b) ≡ b
+behind_first k b some = elim (cases_Bool (k == 0)) [
+  | inl first ↦ (let is = eqb-true k 0 first in absurd (omega arith))
+  | inr other ↦ ap (λ c. c || b) other
+]
+
+starts_not : (k : ℕ) (gs : List hb_glyph_info_t) → 0 < k
+    → (get_or gs k default_glyph).syllable ≡ (get_or gs (k - 1) default_glyph).syllable
+    → starts_syllable k gs ≡ false
+starts_not k gs some same =
+    let here = (get_or gs k default_glyph).syllable in
+    let there = (get_or gs (k - 1) default_glyph).syllable in
+    behind_first k (not (here == there)) some ∙ ap not (eq-eqb here there same)
+
+starts_behind : (gs : List hb_glyph_info_t) (i e : ℕ) → i < e → e ≡ i + first_syllable_len (drop i gs) → e < length gs
+    → starts_syllable e gs ≡ true
+starts_behind gs i e l is more =
+    let x = get_or gs i default_glyph in
+    let rest = drop (i + 1) gs in
+    let first : first_syllable_len (drop i gs) ≡ suc (prefix_len (has_byte x.syllable) rest) =
+    ap first_syllable_len (drop_more gs i default_glyph (omega arith)) in
+    let n = prefix_len (has_byte x.syllable) rest in
+    let other = prefix_len_stops (has_byte x.syllable) rest default_glyph (omega (arith, length-drop (i + 1) gs)) in
+    let at : get_or rest n default_glyph ≡ get_or gs e default_glyph = get_or-drop (i + 1) gs n default_glyph
+    ∙ ap (λ j. get_or gs j default_glyph) (omega arith) in
+    let last = run_byte gs i (e - 1) (omega arith) (omega arith) (omega arith) in
+    behind_first e (not ((get_or gs e default_glyph).syllable == (get_or gs (e - 1) default_glyph).syllable)) (omega arith)
+    ∙ ap not (ap (λ b. (get_or gs e default_glyph).syllable == b) last
+    ∙ ap (λ (g : hb_glyph_info_t). g.syllable == x.syllable) (sym at) ∙ other)
+
+-- opening keeps where syllables start
+starts-same : (k : ℕ) (gs hs : List hb_glyph_info_t) → map byte hs ≡ map byte gs → k < length gs
+    → length hs ≡ length gs → starts_syllable k hs ≡ starts_syllable k gs
+unfolding byte
+starts-same k gs hs same l long =
+    let at : (j : ℕ) → j < length gs → (get_or hs j default_glyph).syllable ≡ (get_or gs j default_glyph).syllable =
+    λ j less. sym (get_or-map byte hs j default_glyph 0 (omega arith)) ∙ ap (λ bs. get_or bs j 0) same
+    ∙ get_or-map byte gs j default_glyph 0 less in
+    ap (λ b. k == 0 || not (b == (get_or hs (k - 1) default_glyph).syllable)) (at k l)
+    ∙ ap (λ b. k == 0 || not ((get_or gs k default_glyph).syllable == b)) (at (k - 1) (omega arith))
+
+-- a place where none starts, and one where one does
+pub opening_on : (bits : ℕ) (old now : Buffer) (i : ℕ) → i < length now.glyphs
+    → starts_syllable i now.glyphs ≡ false → Opening bits old now i → Opening bits old now (i + 1)
+opening_on bits old now i l not_here at =
+    let border = at.border in
+    let low = at.low in
+    let further : i < border = elim (eq-or-lt_of_le {n = i} {m = border} low) [
+      | inl is ↦ absurd (true≢false (sym (at.starts (omega arith))
+          ∙ ap (λ k. starts_syllable k now.glyphs) (sym is) ∙ not_here))
+      | inr more ↦ more
+    ] in
+    record {
+      border = border;
+      low = omega arith;
+      to = at.to;
+      none_before = λ k from up. at.none_before k (omega arith) up;
+      starts = at.starts;
+    }
+
+pub opening_starts : (bits : ℕ) (old now new : Buffer) (i : ℕ) → bits % 8 ≡ 0 → i < length now.glyphs
+    → starts_syllable i now.glyphs ≡ true → new ≡ record now { glyphs = opened bits i now.glyphs }
+    → Opening bits old now i → Opening bits old new (i + 1)
+unfolding byte
+opening_starts bits old now new i off l here opens_it at =
+    let gs = now.glyphs in
+    let border = at.border in
+    let low = at.low in
+    let is : border ≡ i = elim (eq-or-lt_of_le {n = i} {m = border} low) [
+      | inl is ↦ sym is
+      | inr more ↦ absurd (true≢false (sym here ∙ at.none_before i (omega arith) more))
+    ] in
+    let end = i + first_syllable_len (drop i gs) in
+    let one = first_some (drop i gs) (omega (arith, length-drop i gs)) in
+    let next = opened_next bits old now new i end off (subst (ToOpen bits old now) is at.to) l refl opens_it in
+    let same : map byte new.glyphs ≡ map byte gs = ap (λ (b : Buffer). map byte b.glyphs) opens_it
+    ∙ map-opened byte bits i (λ g. refl) (λ g. refl) gs in
+    let long = next.same_length in
+    let inside = next.to.inside in
+    record {
+      border = end;
+      low = omega arith;
+      to = next.to;
+      none_before = λ k from up. starts-same k gs new.glyphs same (omega arith) long
+          ∙ starts_not k gs (omega arith) (run_byte gs i k l (omega arith) up
+          ∙ sym (run_byte gs i (k - 1) l (omega arith) (omega arith)));
+      starts = λ more. starts-same end gs new.glyphs same (omega arith) long
+          ∙ starts_behind gs i end (omega arith) refl (omega arith);
+    }
+
+pub opening_first : (bits : ℕ) (old : Buffer) → Opening bits old old 0
+opening_first bits old = record {
+  border = 0;
+  low = omega arith;
+  to = to_open_all bits old;
+  none_before = λ k from up. absurd (omega arith);
+  starts = λ more. refl;
+}
 
 -- at the end all are open
 pub all_opened : (bits : ℕ) (old now : Buffer) → ToOpen bits old now (length now.glyphs) → WordsOpened bits old now
@@ -180,3 +277,15 @@ all_opened bits old now to =
       flags = ap (λ ys. map carried (bound_from n (before_place n xs) (syllables ys) now.glyphs)) (sym none)
           ∙ to.flags;
     }
+
+pub as_long : (bits : ℕ) (old now : Buffer) (i : ℕ) → Opening bits old now i → length now.glyphs ≡ length old.glyphs
+as_long bits old now i at = sym (length-map now.glyphs general) ∙ ap length at.to.words ∙ length-map old.glyphs general
+
+pub opened_whole : (bits : ℕ) (old now : Buffer) (i : ℕ) → length old.glyphs ≤ i → Opening bits old now i
+    → WordsOpened bits old now
+opened_whole bits old now i past at =
+    let low = at.low in
+    let inside = at.to.inside in
+    let long = as_long bits old now i at in
+    let is : at.border ≡ length now.glyphs = omega arith in
+    all_opened bits old now (subst (ToOpen bits old now) is at.to)

@@ -17,13 +17,13 @@ use Rattle.shapers_indic.specs.Glyphs.{passes}
 use Rattle.shapers_indic_final.specs.declared.ot_shaper_indic_final.left_matras.Runs.{Runs}
 use Rattle.shapers_indic_final.specs.FinalMatras.{is_left, matra_step}
 use Rattle.shapers_indic_final.specs.LeftMatraWalk.{Merged, as_parted, gone, has_gone, has_stayed, put, staying, steps_to}
-use Rattle.shapers_indic_final.specs.Proved.FinalPlaces.{passes_there, places_none}
 use Rattle.shapers_indic_final.proofs.FinalPlacing.{lefts_from, lefts_no, lefts_yes, numbered_more, numbered_steps}
 use Rattle.shapers_indic_final.specs.Proved.FinalSteps.{matra_stepped}
 use Rattle.shapers_buffer.proofs.RunLemmas.{none_of_cluster}
 use Rattle.shapers_indic_final.proofs.LeftMatraPlaces.{chosen-all, chosen-none, chosen-one, chosen-same, chosen-split, gone_before, gone_behind, gone_same}
 use Rattle.shapers_indic_final.proofs.LeftMatraSplit.{gone_more, put_off, put_on}
 use Rattle.shapers_indic_final.proofs.LeftMatraSteps.{Fits, Lies, length-parted, one_more}
+use Rattle.shapers_indic.proofs.PlaceSearch.{passes_there, places_none}
 
 -- The left matras from place i to top have gone, and the next one goes to the target.
 pub record Walked (level : BufferClusterLevel) (e s i top p b : ℕ) (runs : Runs) (gs : List hb_glyph_info_t) : Type

@@ -17,7 +17,6 @@ use Rattle.std.proofs.lemmas.List.Folds.{list_any_at}
 use Rattle.std.proofs.lemmas.List.{get_or-drop, get_or-take, reverse-append}
 use Rattle.shapers_buffer.specs.declared.buffer.level.BufferClusterLevel.TheVariants.{Characters}
 use Rattle.shapers_buffer.proofs.ClusterLemmas.{length-stretch, three_parts}
-use Rattle.shapers_indic_final.specs.Proved.FinalPlaces.{passes_there}
 use Rattle.shapers_indic_final.proofs.FinalPlacing.{left_read, lefts_from, lefts_yes, length-matra}
 use Rattle.shapers_indic_final.specs.Proved.FinalSteps.{length-moved, matra_stepped}
 use Rattle.shapers_buffer.proofs.OneCluster.{one_merged}
@@ -26,6 +25,7 @@ use Rattle.shapers_indic_final.proofs.LeftMatrasListed.{parted_written}
 use Rattle.shapers_indic_final.proofs.LeftMatraPlaces.{filter-split, filter_none, same_filter}
 use Rattle.shapers_indic_final.proofs.LeftMatraSplit.{length-put}
 use Rattle.shapers_indic_final.proofs.LeftMatraSteps.{Lies, length-parted, parted_off}
+use Rattle.shapers_indic.proofs.PlaceSearch.{passes_there}
 
 -- the buffer after the move and the two writes
 pub written_there : (old mid one new : Buffer) (s top p b at len : ℕ) (runs : Runs) → s ≤ p → p ≤ b

@@ -1,12 +1,12 @@
 -- A left matra that opens a syllable: init at the start of a word, else no break before it; and the
 -- whole text.
-use Rattle.std.specs.Prelude.{ℕ, ◌+◌, ◌-◌, ◌≡◌, Bool, ◌&&◌, true, false, not, List, [], ◌∷◌, ◌++◌, length, map, take, drop, Option, None, Some, if◌then◌else◌}
+use Rattle.std.specs.Prelude.{ℕ, ◌+◌, ◌-◌, ◌==◌, ◌≡◌, Bool, ◌&&◌, ◌||◌, get_or, true, false, not, List, [], ◌∷◌, ◌++◌, length, map, take, drop, Option, None, Some, if◌then◌else◌}
 use Rattle.shapers_buffer.specs.declared.buffer.category.hb_unicode_general_category_t.{hb_unicode_general_category_t}
 use Rattle.shapers_buffer.specs.declared.buffer.category.hb_unicode_general_category_t.TheVariants.{Cf, Cn, Co, Cs, Ll, Lm, Lo, Lt, Lu, Mc, Me, Mn}
 use Rattle.shapers_buffer.specs.declared.buffer.glyph.hb_glyph_info_t.{hb_glyph_info_t}
 use Rattle.shapers_buffer.specs.declared.buffer.tag.Script.{Script}
 use Rattle.shapers_buffer.specs.Buffer.{Buffer}
-use Rattle.shapers_buffer.specs.Glyph.{order_view}
+use Rattle.shapers_buffer.specs.Glyph.{default_glyph, order_view}
 use Rattle.shapers_buffer.specs.GlyphFlags.{unsafe_inside, with_bits}
 use Rattle.shapers_buffer.specs.Syllables.{syllables}
 use Rattle.shapers_indic_final.specs.FinalMatras.{is_left}
@@ -70,6 +70,12 @@ final_text r script gs = with_inits r.init None (final_syllables r script gs)
 abbrev pub bound_at : ℕ → Bool → List hb_glyph_info_t → List hb_glyph_info_t
 bound_at s true gs = unsafe_inside (s - 1) (s + 1) gs
 bound_at s false gs = gs
+
+-- whether a syllable starts at a place: the text does, or its byte is not that of the one before
+abbrev pub starts_syllable : ℕ → List hb_glyph_info_t → Bool
+starts_syllable s gs =
+    s == 0
+    || not ((get_or gs s default_glyph).syllable == (get_or gs (s - 1) default_glyph).syllable)
 
 -- what stands before a place; the glyphs with the syllable from there on opened by it
 abbrev pub before_place : ℕ → List hb_glyph_info_t → Option hb_glyph_info_t

@@ -18,8 +18,9 @@ use Rattle.shapers_indic_final.specs.FinalGlyphs.{is_indic_halant, is_lost_viram
 use Rattle.shapers_base.specs.Masks.{has_bits}
 use Rattle.shapers_indic_final.specs.FinalRules.{is_malayalam}
 use Rattle.shapers_indic_final.specs.declared.ot_shaper_indic_final.rules.Rules.{Rules}
-use Rattle.shapers_indic_final.specs.Proved.FinalTargets.{PlaceWithin, find_passes, greatest_within, least_within, passes_within, run_within}
+use Rattle.shapers_indic_final.specs.Proved.FinalTargets.{find_passes, passes_within, run_within}
 use Rattle.shapers_syllabic.specs.Reordering.{carried}
+use Rattle.shapers_indic.proofs.PlaceSearch.{PlaceWithin, greatest_within, least_within}
 
 -- viramas
 hidden-recovered : (v : Option GlyphId) (g : hb_glyph_info_t) → carried (recovered v g) ≡ carried g

@@ -30,10 +30,11 @@ use Rattle.shapers_indic_final.specs.FinalRules.{has_no_half_forms}
 use Rattle.shapers_indic_final.specs.declared.ot_shaper_indic_final.rules.Rules.{Rules}
 use Rattle.shapers_indic_final.specs.Proved.FinalHidden.{base_within, hidden-based, hidden-viramas}
 use Rattle.shapers_indic_final.specs.Proved.FinalLawsAt.{LawsAt, agrees_at, same_at, step_laws_at, stretch_at, then_at}
-use Rattle.shapers_indic_final.specs.Proved.FinalMoves.{permutes_first_last, permutes_last_first, picks_first_last, picks_last_first}
+use Rattle.shapers_indic_final.specs.Proved.FinalMoves.{permutes_last_first, picks_first_last, picks_last_first}
 use Rattle.shapers_indic_final.specs.Proved.LeftMatraMoves.{all_at, is_other}
-use Rattle.shapers_indic_final.specs.Proved.FinalPlaces.{passes_there}
-use Rattle.shapers_indic_final.specs.Proved.FinalTargets.{PlaceWithin, formed_pref_within, greatest_within, opens_some, pref_target_within, reph_target_within}
+use Rattle.shapers_indic_final.specs.Proved.FinalTargets.{formed_pref_within, opens_some, pref_target_within, reph_target_within}
+use Rattle.shapers_indic.proofs.PlaceSearch.{passes_there, PlaceWithin, greatest_within}
+use Rattle.shapers_clusters.proofs.Permuted.{permuted-first_last}
 
 -- the left matras go to a place
 parting_at : (gs : List hb_glyph_info_t) (p e : ℕ) → p < length gs → passes is_left gs p ≡ false → e ≤ length gs
@@ -139,7 +140,7 @@ reph_at position base gs =
       | inl on ↦ rw on (
           let high : j < length gs = reph_target_within position base gs (opens_some gs on) in
           let ends : j + 1 ≤ length gs = omega arith in
-          stretch_at first_last first_last picks_first_last permutes_first_last 0 (j + 1)
+          stretch_at first_last first_last picks_first_last permuted-first_last 0 (j + 1)
           (final_reph_step (length gs) j) gs (omega arith) ends refl (ends, tt) tt)
       | inr off ↦ rw off (same_at gs gs refl)
     ]

@@ -2,8 +2,6 @@
 use Rattle.std.proofs.Common.{ℕ, ◌<◌, ◌≤◌, ◌≡◌, List, [], ◌∷◌, ◌++◌, map, length, refl, sym, ◌∙◌, ap, subst, arith}
 use Rattle.std.specs.List.{AllByRecursion, range_with_len}
 use Rattle.std.specs.List.Sorted.{IsPermutation}
-use Rattle.std.proofs.lemmas.List.FromFn.{length-range_with_len}
-use Rattle.std.proofs.lemmas.List.Sorted.{length_permutation}
 use Rattle.shapers_buffer.specs.declared.buffer.glyph.hb_glyph_info_t.{hb_glyph_info_t}
 use Rattle.shapers_buffer.specs.Clusters.{with_stretch}
 use Rattle.shapers_buffer.specs.Glyph.{plain}
@@ -17,10 +15,11 @@ use Rattle.shapers_clusters.proofs.Picks.{length-pick, pick-all, pick-map, pick-
 use Rattle.shapers_clusters.proofs.ViewedSteps.{length-same}
 use Rattle.shapers_clusters.proofs.Views.{seen-same}
 use Rattle.shapers_indic.specs.Glyphs.{places}
-use Rattle.shapers_indic_final.specs.Proved.FinalSteps.{Picks, all_within, stretch_permutes, stretch_picks}
+use Rattle.shapers_indic_final.specs.Proved.FinalSteps.{Picks, stretch_permutes, stretch_picks}
 use Rattle.shapers_syllabic.specs.Reordering.{carried}
 use Rattle.shapers_clusters.proofs.Moves.{old_places_then}
 use Rattle.shapers_syllabic.proofs.ReorderingLemmas.{old_places_one}
+use Rattle.shapers_clusters.proofs.Permuted.{fits_permuted}
 
 -- that the syllable gs becomes ms by these steps: they fit it, take each place once, and lead there
 pub record LawsAt (gs ms : List hb_glyph_info_t) (steps : List Step) : Type 0 where
@@ -68,16 +67,6 @@ agrees_at xs gs ms steps same laws =
     ∙ sym (pick-map view (old_places (length gs) steps) gs)
     ∙ ap (λ n. pick (old_places n steps) (seen carried gs)) (length-same carried gs xs same)
     ∙ ap (pick (old_places (length xs) steps)) (seen-same carried gs xs same)
-
--- a step that takes each place once fits, if what it merges ends within
-pub fits_permuted : (n : ℕ) (step : Step) → Permutes n step → EndWithin n step.merged_first
-    → EndWithin n step.merged_then → FitsStep n step
-fits_permuted n step perm first last = record {
-  as_many = length_permutation (range_with_len 0 n) step.places perm ∙ length-range_with_len 0 n;
-  within = all_within n step.places perm;
-  first_within = first;
-  then_within = last;
-}
 
 -- one step
 pub step_laws_at : (gs ms : List hb_glyph_info_t) (step : Step) → Permutes (length gs) step

@@ -3,7 +3,7 @@ use Rattle.std.proofs.Common.{◌≡◌, ℕ, suc, ◌+◌, ◌-◌, ◌<◌, �
 use Rattle.std.specs.List.{range_with_len, slice_rotate_right}
 use Rattle.std.specs.List.Sorted.{IsPermutation}
 use Rattle.std.proofs.lemmas.List.{length-take-le, reverse-append, reverse-reverse}
-use Rattle.std.proofs.lemmas.List.Sorted.{IsPermutation-append_comm, IsPermutation-refl, IsPermutation-reverse, IsPermutation-trans}
+use Rattle.std.proofs.lemmas.List.Sorted.{IsPermutation-reverse, IsPermutation-trans}
 use Rattle.shapers_buffer.specs.declared.buffer.glyph.hb_glyph_info_t.{hb_glyph_info_t}
 use Rattle.shapers_buffer.specs.Lists.{first_last}
 use Rattle.shapers_buffer.specs.Buffer.{Buffer}
@@ -15,6 +15,7 @@ use Rattle.shapers_buffer.proofs.Placements.{gone_back, placed_forward, rotated_
 use Rattle.shapers_clusters.proofs.Picks.{pick-append, pick-range, pick-within}
 use Rattle.shapers_clusters.proofs.Widened.{range-append}
 use Rattle.shapers_indic_final.specs.FinalGlyphs.{last_goes_first}
+use Rattle.shapers_clusters.proofs.Permuted.{permuted-first_last}
 
 pub last_goes_first-push : {X : Type 0} (xs : List X) (x : X) → last_goes_first (xs ++ x ∷ []) ≡ x ∷ xs
 last_goes_first-push xs x =
@@ -103,15 +104,11 @@ picks_last_first s e gs l w =
     ∙ sym (ap last_goes_first is ∙ last_goes_first-push (pick (range_with_len s m) gs) (get_or gs (s + m) d))
 
 -- each element stays once
-pub permutes_first_last : {X : Type 0} (xs : List X) → IsPermutation xs (first_last xs)
-permutes_first_last [] = IsPermutation-refl []
-permutes_first_last (x ∷ xs) = IsPermutation-append_comm (x ∷ []) xs
-
 pub permutes_last_first : {X : Type 0} (xs : List X) → IsPermutation xs (last_goes_first xs)
 permutes_last_first xs =
     let back = reverse xs in
     IsPermutation-trans xs back (last_goes_first xs) (IsPermutation-reverse xs)
-    (IsPermutation-trans back (first_last back) (last_goes_first xs) (permutes_first_last back)
+    (IsPermutation-trans back (first_last back) (last_goes_first xs) (permuted-first_last back)
     (IsPermutation-reverse (first_last back)))
 
 -- a buffer whose places are listed, and then whose glyphs are put so

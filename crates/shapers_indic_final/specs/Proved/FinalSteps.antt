@@ -4,9 +4,8 @@ use Rattle.std.proofs.Math.Seq.{take-add}
 use Rattle.std.specs.List.{AllByRecursion, range_with_len}
 use Rattle.std.specs.List.Sorted.{IsPermutation}
 use Rattle.std.proofs.lemmas.List.{drop-drop, drop-take, take-take, take_at}
-use Rattle.std.proofs.lemmas.List.Elements.{All-from_recursion, recursion_from_All}
 use Rattle.std.proofs.lemmas.List.FromFn.{length-range_with_len}
-use Rattle.std.proofs.lemmas.List.Sorted.{All-permutation, IsPermutation-append_left, IsPermutation-append_right, length_permutation}
+use Rattle.std.proofs.lemmas.List.Sorted.{IsPermutation-append_left, IsPermutation-append_right, length_permutation}
 use Rattle.shapers_buffer.specs.declared.buffer.glyph.hb_glyph_info_t.{hb_glyph_info_t}
 use Rattle.shapers_buffer.specs.declared.buffer.level.BufferClusterLevel.{BufferClusterLevel}
 use Rattle.shapers_buffer.specs.Lists.{first_last}
@@ -17,14 +16,15 @@ use Rattle.shapers_buffer.proofs.MappedLists.{drop-range}
 use Rattle.shapers_buffer.proofs.ClusterLemmas.{three_parts}
 use Rattle.shapers_clusters.specs.Steps.{Step, run_step, widened}
 use Rattle.shapers_clusters.proofs.Merging.{length-merge}
-use Rattle.shapers_clusters.proofs.Picks.{pick-append, pick-range, within_range}
+use Rattle.shapers_clusters.proofs.Picks.{pick-append, pick-range}
 use Rattle.shapers_clusters.proofs.Widened.{pick-widened, range-append}
 use Rattle.shapers_indic.specs.Glyphs.{places}
 use Rattle.shapers_indic_final.specs.FinalGlyphs.{last_goes_first}
 use Rattle.shapers_indic_final.specs.FinalMatras.{matra_step}
 use Rattle.shapers_indic_final.specs.FinalPref.{pref_move}
 use Rattle.shapers_indic_final.specs.FinalReph.{final_reph_step}
-use Rattle.shapers_indic_final.specs.Proved.FinalMoves.{permutes_first_last, permutes_last_first, picks_first_last, picks_last_first}
+use Rattle.shapers_indic_final.specs.Proved.FinalMoves.{permutes_last_first, picks_first_last, picks_last_first}
+use Rattle.shapers_clusters.proofs.Permuted.{within_permuted, permuted-first_last}
 
 -- a stretch of a stretch
 pub stretch_inside : {X : Type 0} (s e i k : ℕ) (f : List X → List X) (xs : List X) → s ≤ e → i ≤ k → k ≤ e - s
@@ -104,12 +104,6 @@ stretch_permutes f permutes i k n l =
     subst (λ m. IsPermutation ps (with_stretch i k f (range_with_len 0 m))) (sym all)
     (subst (λ qs. IsPermutation qs (with_stretch i k f ps)) (three_parts i k ps l) is)
 
-pub all_within : (n : ℕ) (ps : List ℕ) → IsPermutation (range_with_len 0 n) ps → AllByRecursion (λ q. q < n) ps
-all_within n ps p =
-    recursion_from_All (λ q. q < n) ps
-    (All-permutation (λ q. q < n) (range_with_len 0 n) ps p
-    (All-from_recursion (λ q. q < n) (range_with_len 0 n) (within_range 0 n n (omega arith))))
-
 -- what a widened step with such places moves
 pub moved_by : (f : List ℕ → List ℕ) (g : List hb_glyph_info_t → List hb_glyph_info_t) → Picks f g
     → ((ps : List ℕ) → IsPermutation ps (f ps)) → (s e i k : ℕ) (step : Step) (gs : List hb_glyph_info_t) → s ≤ e
@@ -121,7 +115,7 @@ moved_by f g picks permutes s e i k step gs h l m b is =
     let order = stretch_permutes f permutes i k (e - s) (omega arith) in
     let within : AllByRecursion (λ p. p < e - s) step.places =
     subst (AllByRecursion (λ p. p < e - s)) (sym is)
-    (all_within (e - s) (with_stretch i k f (places 0 (e - s))) order) in
+    (within_permuted (e - s) (with_stretch i k f (places 0 (e - s))) order) in
     pick-widened s e step gs h l within
     ∙ ap (λ ys. take s gs ++ (ys ++ drop e gs)) (ap (λ ps. pick ps part) is
     ∙ stretch_picks f g picks i k (e - s) part m b long)
@@ -138,7 +132,7 @@ reph_stepped level s e j gs l m =
     let to : s + j + 1 ≡ s + (j + 1) = omega arith in
     ap (λ a. with_stretch a (s + j + 1) first_last (merge level a (s + j + 1) gs)) from
     ∙ ap (λ b. with_stretch (s + 0) b first_last (merge level (s + 0) b gs)) to
-    ∙ sym (moved_by first_last first_last picks_first_last permutes_first_last s e 0 (j + 1) (final_reph_step (e - s) j)
+    ∙ sym (moved_by first_last first_last picks_first_last permuted-first_last s e 0 (j + 1) (final_reph_step (e - s) j)
     ms (omega arith) (omega (arith, n, m)) (omega arith) (omega arith) refl)
     ∙ ap (λ k. pick (widened s e k (final_reph_step (e - s) j)).places ms) n
 
@@ -163,7 +157,7 @@ matra_stepped level s e b i j gs h l m =
     let to : s + j + 1 ≡ s + (j + 1) = omega arith in
     ap (λ k. merge level (s + j) (s + b) (with_stretch (s + i) k first_last gs)) to
     ∙ ap (merge level (s + j) (s + b))
-    (sym (moved_by first_last first_last picks_first_last permutes_first_last s e i (j + 1)
+    (sym (moved_by first_last first_last picks_first_last permuted-first_last s e i (j + 1)
     (matra_step (e - s) b i j) gs (omega arith) m (omega arith) (omega arith) refl))
 
 -- moving keeps the length
@@ -171,7 +165,7 @@ pub length-moved : (s e : ℕ) (gs : List hb_glyph_info_t) → s ≤ e → lengt
 length-moved s e gs l =
     let part = stretch_of s e gs in
     let is = IsPermutation-append_right (take s gs) (part ++ drop e gs) (first_last part ++ drop e gs)
-    (IsPermutation-append_left (drop e gs) part (first_last part) (permutes_first_last part)) in
+    (IsPermutation-append_left (drop e gs) part (first_last part) (permuted-first_last part)) in
     length_permutation (take s gs ++ (part ++ drop e gs)) (with_stretch s e first_last gs) is
     ∙ ap length (three_parts s e gs l)
 

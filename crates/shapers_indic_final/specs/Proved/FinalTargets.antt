@@ -1,35 +1,24 @@
 -- The places that a reph and a formed pref glyph go to lie in the syllable.
-use Rattle.std.proofs.Common.{ℕ, suc, ◌+◌, ◌-◌, ◌<◌, ◌≤◌, ◌≡◌, Bool, true, false, cond, if◌then◌else◌, List, [], ◌∷◌, length, drop, length-drop, reverse, Option, None, Some, refl, sym, ◌∙◌, ap, subst, arith, inl, inr}
+use Rattle.std.proofs.Common.{ℕ, suc, ◌+◌, ◌-◌, ◌<◌, ◌≤◌, ◌≡◌, Bool, true, false, cond, if◌then◌else◌, List, [], ◌∷◌, length, drop, length-drop, Option, None, Some, refl, sym, ◌∙◌, ap, subst, arith, inl, inr}
 use Rattle.std.specs.Prelude.{find, nat_lt, not, unwrap_or, ◌&&◌}
-use Rattle.std.specs.List.{AllByRecursion, prefix_len}
+use Rattle.std.specs.List.{prefix_len}
 use Rattle.std.specs.Option.{option_map_or}
 use Rattle.std.proofs.lemmas.Bool.{and_parts, cases_Bool, cases_lt, true≢false}
 use Rattle.std.proofs.lemmas.Bool.Decides.{nat_tests}
-use Rattle.std.proofs.lemmas.List.Elements.{All-from_recursion, recursion_from_All}
-use Rattle.std.proofs.lemmas.List.Sorted.{All-permutation, IsPermutation-reverse}
 use Rattle.std.proofs.lemmas.Option.{slice_get_past}
 use Rattle.shapers_buffer.specs.declared.buffer.glyph.hb_glyph_info_t.{hb_glyph_info_t}
 use Rattle.shapers_buffer.specs.declared.buffer.tag.Script.{Script}
 use Rattle.shapers_base.specs.declared.plan.indic.RephPosition.{RephPosition}
 use Rattle.shapers_base.specs.declared.plan.indic.RephPosition.TheVariants.{AfterMain, BeforeSub, AfterSub, BeforePost, AfterPost}
 use Rattle.shapers_base.specs.declared.plan.ot_position_t.TheConstants.{POS_SMVD}
-use Rattle.shapers_buffer.proofs.MappedLists.{all-range}
-use Rattle.shapers_indic.specs.Glyphs.{greatest_place, has_position, is_joiner, least_place, passes, places}
+use Rattle.shapers_indic.specs.Glyphs.{greatest_place, has_position, is_joiner, passes, places}
 use Rattle.shapers_indic_final.specs.FinalBase.{pref_place}
 use Rattle.shapers_indic_final.specs.FinalGlyphs.{is_formed, is_indic_halant, is_matra_or_halant}
 use Rattle.shapers_base.specs.Masks.{has_bits}
 use Rattle.shapers_indic_final.specs.FinalPref.{formed_pref, if_formed, is_joiner_behind_halant, place_before_base, pref_target}
 use Rattle.shapers_indic_final.specs.FinalReph.{at_end, behind_base, end_of_run, halant_after_start, is_with_main, is_with_sub, last_but_signs, matras_between, opens_with_reph, reph_target, with_joiner}
 use Rattle.shapers_indic_final.specs.FinalRules.{has_no_half_forms}
-
--- what is found lies where it is looked for
-find_among : (test : ℕ → Bool) (P : ℕ → Type 0) (xs : List ℕ) (x : ℕ) → AllByRecursion P xs → find test xs ≡ Some x
-    → P x
-find_among test P [] x all found = absurd (cc found)
-find_among test P (y ∷ ys) x all found = elim (test y) as (λ b. cond b (Some y) (find test ys) ≡ Some x → P x) [
-  | true ↦ λ e. subst P (ap (λ o. unwrap_or o y) e) all.0
-  | false ↦ λ e. find_among test P ys x all.1 e
-] found
+use Rattle.shapers_indic.proofs.PlaceSearch.{PlaceWithin, least_within, greatest_within}
 
 pub find_passes : (test : ℕ → Bool) (xs : List ℕ) (x : ℕ) → find test xs ≡ Some x → test x ≡ true
 find_passes test [] x found = absurd (cc found)
@@ -39,26 +28,6 @@ find_passes test (y ∷ ys) x found = elim (cases_Bool (test y)) [
       ≡ true) is holds
   | inr fails ↦ find_passes test ys x (sym (ap (λ b. cond b (Some y) (find test ys)) fails) ∙ found)
 ]
-
-pub record PlaceWithin (s e j : ℕ) : Type 0 where
-  pub low : s ≤ j
-  pub high : j < e
-
-all_places : (s e : ℕ) → AllByRecursion (PlaceWithin s e) (places s e)
-all_places s e = all-range (PlaceWithin s e) s (e - s) (λ p low high. record { low = low; high = omega arith })
-
-all_reversed : (P : ℕ → Type 0) (xs : List ℕ) → AllByRecursion P xs → AllByRecursion P (reverse xs)
-all_reversed P xs all =
-    recursion_from_All P (reverse xs)
-    (All-permutation P xs (reverse xs) (IsPermutation-reverse xs) (All-from_recursion P xs all))
-
-pub least_within : (test : ℕ → Bool) (s e j : ℕ) → least_place test s e ≡ Some j → PlaceWithin s e j
-least_within test s e j found = find_among test (PlaceWithin s e) (places s e) j (all_places s e) found
-
-pub greatest_within : (test : ℕ → Bool) (s e j : ℕ) → greatest_place test s e ≡ Some j → PlaceWithin s e j
-greatest_within test s e j found =
-    find_among test (PlaceWithin s e) (reverse (places s e)) j
-    (all_reversed (PlaceWithin s e) (places s e) (all_places s e)) found
 
 -- a glyph that passes is there
 pub passes_within : (test : hb_glyph_info_t → Bool) (gs : List hb_glyph_info_t) (i : ℕ) → passes test gs i ≡ true

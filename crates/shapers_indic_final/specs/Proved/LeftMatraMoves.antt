@@ -13,8 +13,9 @@ use Rattle.shapers_clusters.specs.Steps.{Step}
 use Rattle.shapers_indic.specs.Glyphs.{passes, places}
 use Rattle.shapers_indic_final.specs.FinalMatras.{is_left, matra_step}
 use Rattle.shapers_indic_final.specs.Proved.FinalLawsAt.{LawsAt, same_at, stretch_at, then_at}
-use Rattle.shapers_indic_final.specs.Proved.FinalMoves.{permutes_first_last, picks_first_last}
-use Rattle.shapers_indic_final.specs.Proved.FinalPlaces.{passes_there, places_last}
+use Rattle.shapers_indic_final.specs.Proved.FinalMoves.{picks_first_last}
+use Rattle.shapers_indic.proofs.PlaceSearch.{passes_there, places_last}
+use Rattle.shapers_clusters.proofs.Permuted.{permuted-first_last}
 
 abbrev pub is_other : hb_glyph_info_t → Bool
 is_other g = not (is_left g)
@@ -67,7 +68,7 @@ one_at a b c x n e i j long ends at to =
     stretch_between first_last i (j + 1) a (x ∷ b) c (sym at) (omega arith)
     ∙ ap (λ xs. a ++ xs) (append_assoc b (x ∷ []) c) in
     subst (λ ms. LawsAt gs ms (matra_step n e i j ∷ [])) is
-    (stretch_at first_last first_last picks_first_last permutes_first_last i (j + 1) (matra_step n e i j) gs
+    (stretch_at first_last first_last picks_first_last permuted-first_last i (j + 1) (matra_step n e i j) gs
     (omega arith) within
     (ap (λ k. with_stretch i (j + 1) first_last (places 0 k)) long) tt (omega arith, tt))
 

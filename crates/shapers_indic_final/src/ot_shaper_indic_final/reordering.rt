@@ -86,6 +86,8 @@ impl<'a> ReorderBySteps for FinalOrder<'a> {
     ghost laws = { λ it _. final_laws it.rules.now it.script };
 
     ghost leads = { λ _ _ _ _ _ done. done };
+
+    ghost suffices = { λ _ _ _ _ _ done. done };
 }
 
 // Whether a glyph may change its syllable: a left matra, a reph, what `pref` may form, a virama to

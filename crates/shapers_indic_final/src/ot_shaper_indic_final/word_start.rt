@@ -2,13 +2,12 @@
 //! a word a break before it is unsafe: Bengali's 09C7 has a form of its own at the start, in which a
 //! piece of text that begins there would be drawn.
 ghost use Rattle.std.specs.Prelude.{◌%◌, ◌≡◌, ◌<◌, ◌≤◌, length};
-ghost use Rattle.shapers_indic_final.specs.FinalWordStart.{WordsOpened, before_place, continues_word, opened, word_goes_on};
+ghost use Rattle.shapers_indic_final.specs.FinalWordStart.{WordsOpened, before_place, continues_word, opened, starts_syllable, word_goes_on};
 
 use super::matras::is_left;
 use shapers_base::buffer::{
     GlyphChange, hb_buffer_t, hb_glyph_info_t, hb_unicode_general_category_t,
 };
-use shapers_syllabic::ot_shaper_syllabic::{MayChange, next_changing};
 
 // Opens each syllable of the text.
 #[inline]
@@ -16,27 +15,20 @@ pub(super) fn open_words(init: u32, buffer: &mut hb_buffer_t)
     requires init { init % 8 ≡ 0 }
     ensures { WordsOpened init buffer.old buffer.new }
 {
-    let mut start = 0;
-    while let Some(first) = next_changing(&WithLeftMatra, buffer.glyphs(), start) {
-        let end = buffer.next_syllable(first);
-        open_syllable(init, buffer, first);
-        start = end;
+    for place in 0..buffer.len() {
+        if starts_syllable(buffer.glyphs(), place) {
+            open_syllable(init, buffer, place);
+        }
     }
 }
 
-// The syllables with a left matra: most have none, and cost a look at each position.
-#[derive(Clone, Copy)]
-struct WithLeftMatra;
-
-impl MayChange for WithLeftMatra {
-    ghost use Rattle.shapers_indic_final.specs.FinalMatras.{is_left};
-
-    ghost changes = { λ _. is_left };
-
-    #[inline]
-    fn may_change(&self, glyph: &hb_glyph_info_t) -> bool {
-        is_left(glyph)
-    }
+// Whether a syllable starts at place `s`.
+#[inline]
+fn starts_syllable(glyphs: &[hb_glyph_info_t], s: usize) -> bool
+    requires { s < length glyphs.now }
+    ensures { result ≡ starts_syllable s glyphs.now }
+{
+    s == 0 || glyphs[s].syllable != glyphs[s - 1].syllable
 }
 
 // Opens the syllable at place `s`.

@@ -3,8 +3,9 @@ use Rattle.std.proofs.Common.{length, unwrap_or, sym, ap, ◌∙◌, arith}
 use Rattle.shapers_buffer.specs.Glyph.{default_glyph}
 use Rattle.shapers_indic.specs.Glyphs.{passes}
 use Rattle.shapers_indic_final.specs.FinalBase.{is_from_base_on}
-use Rattle.shapers_indic_final.specs.Proved.FinalPlaces.{least_none, least_step, least_stop, passes_there}
+use Rattle.shapers_indic_final.specs.Proved.FinalPlaces.{least_none, least_step, least_stop}
 use Rattle.shapers_indic_final.proofs.ot_shaper_indic_final.base.first_base.Goals as goal
+use Rattle.shapers_indic.proofs.PlaceSearch.{passes_there}
 
 pub returns-then-is_from_base_on-clause-place : goal.returns-then-is_from_base_on-clause-place
 returns-then-is_from_base_on-clause-place c =

@@ -3,8 +3,9 @@ use Rattle.std.proofs.Common.{◌-◌, unwrap_or, sym, ap, ◌∙◌, arith}
 use Rattle.shapers_buffer.specs.Glyph.{default_glyph}
 use Rattle.shapers_indic.specs.Glyphs.{passes}
 use Rattle.shapers_indic_final.specs.FinalBase.{may_be_settled}
-use Rattle.shapers_indic_final.specs.Proved.FinalPlaces.{greatest_none, greatest_step, greatest_stop, passes_there}
+use Rattle.shapers_indic_final.specs.Proved.FinalPlaces.{greatest_step, greatest_stop}
 use Rattle.shapers_indic_final.proofs.ot_shaper_indic_final.base.nearest_settled.Goals as goal
+use Rattle.shapers_indic.proofs.PlaceSearch.{greatest_none, passes_there}
 
 pub returns-then-may_be_settled-clause-place : goal.returns-then-may_be_settled-clause-place
 returns-then-may_be_settled-clause-place c =

@@ -6,9 +6,9 @@ use Rattle.shapers_buffer.specs.Glyph.{default_glyph}
 use Rattle.shapers_buffer.proofs.ClusterLemmas.{length-stretch}
 use Rattle.shapers_indic_final.specs.FinalMatras.{is_left}
 use Rattle.shapers_indic_final.proofs.FinalPlacing.{lefts_from, lefts_no}
-use Rattle.shapers_indic_final.specs.Proved.FinalPlaces.{passes_there}
 use Rattle.shapers_indic_final.proofs.LeftMatrasAtOnce.{both_moved, first_moved, moved_as_long, one_in}
 use Rattle.shapers_indic_final.proofs.ot_shaper_indic_final.left_matras.part_matras.Goals as goal
+use Rattle.shapers_indic.proofs.PlaceSearch.{passes_there}
 
 pub part_further-requires-clause-in_range : goal.part_further-requires-clause-in_range
 part_further-requires-clause-in_range c =

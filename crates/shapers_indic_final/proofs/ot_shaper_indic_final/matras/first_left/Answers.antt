@@ -3,8 +3,9 @@ use Rattle.std.proofs.Common.{sym, ◌∙◌, arith}
 use Rattle.shapers_buffer.specs.Glyph.{default_glyph}
 use Rattle.shapers_indic.specs.Glyphs.{passes}
 use Rattle.shapers_indic_final.specs.FinalMatras.{is_left}
-use Rattle.shapers_indic_final.specs.Proved.FinalPlaces.{least_none, least_step, least_stop, passes_there}
+use Rattle.shapers_indic_final.specs.Proved.FinalPlaces.{least_none, least_step, least_stop}
 use Rattle.shapers_indic_final.proofs.ot_shaper_indic_final.matras.first_left.Goals as goal
+use Rattle.shapers_indic.proofs.PlaceSearch.{passes_there}
 
 pub returns-then-is_left-clause-place : goal.returns-then-is_left-clause-place
 returns-then-is_left-clause-place c =

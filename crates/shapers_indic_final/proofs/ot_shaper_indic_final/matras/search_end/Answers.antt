@@ -1,8 +1,9 @@
 -- One place more, back.
 use Rattle.std.proofs.Common.{◌-◌, unwrap_or, sym, ap, ◌∙◌, arith}
 use Rattle.shapers_indic_final.specs.FinalMatras.{ends_search}
-use Rattle.shapers_indic_final.specs.Proved.FinalPlaces.{greatest_none, greatest_step, greatest_stop}
+use Rattle.shapers_indic_final.specs.Proved.FinalPlaces.{greatest_step, greatest_stop}
 use Rattle.shapers_indic_final.proofs.ot_shaper_indic_final.matras.search_end.Goals as goal
+use Rattle.shapers_indic.proofs.PlaceSearch.{greatest_none}
 
 pub returns-then-ends_search-clause-end : goal.returns-then-ends_search-clause-end
 returns-then-ends_search-clause-end c =

@@ -4,8 +4,9 @@ use Rattle.std.specs.Option.{option_map_or}
 use Rattle.shapers_buffer.specs.Glyph.{default_glyph}
 use Rattle.shapers_indic.specs.Glyphs.{passes}
 use Rattle.shapers_indic_final.specs.FinalGlyphs.{is_matra_or_halant}
-use Rattle.shapers_indic_final.specs.Proved.FinalPlaces.{greatest_none, greatest_step, greatest_stop, passes_there}
+use Rattle.shapers_indic_final.specs.Proved.FinalPlaces.{greatest_step, greatest_stop}
 use Rattle.shapers_indic_final.proofs.ot_shaper_indic_final.pref.behind_sign.Goals as goal
+use Rattle.shapers_indic.proofs.PlaceSearch.{greatest_none, passes_there}
 
 pub returns-then-is_matra_or_halant-clause-place : goal.returns-then-is_matra_or_halant-clause-place
 returns-then-is_matra_or_halant-clause-place c =

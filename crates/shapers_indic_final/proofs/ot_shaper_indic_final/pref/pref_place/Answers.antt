@@ -3,9 +3,10 @@ use Rattle.std.proofs.Common.{◌+◌, length, ap, sym, ◌∙◌, arith}
 use Rattle.shapers_buffer.specs.Glyph.{default_glyph}
 use Rattle.shapers_indic.specs.Glyphs.{least_place, passes}
 use Rattle.shapers_base.specs.Masks.{has_bits}
-use Rattle.shapers_indic_final.specs.Proved.FinalPlaces.{least_none, least_step, least_stop, passes_there}
+use Rattle.shapers_indic_final.specs.Proved.FinalPlaces.{least_none, least_step, least_stop}
 use Rattle.shapers_indic_final.proofs.FinalNoMask.{no_place}
 use Rattle.shapers_indic_final.proofs.ot_shaper_indic_final.pref.pref_place.Goals as goal
+use Rattle.shapers_indic.proofs.PlaceSearch.{passes_there}
 
 pub returns-then-pref-eq0-clause-place : goal.returns-then-pref-eq0-clause-place
 returns-then-pref-eq0-clause-place c =

@@ -3,8 +3,9 @@ use Rattle.std.proofs.Common.{sym, ◌∙◌, arith}
 use Rattle.shapers_buffer.specs.Glyph.{default_glyph}
 use Rattle.shapers_indic.specs.Glyphs.{passes}
 use Rattle.shapers_indic_final.specs.FinalGlyphs.{is_indic_halant}
-use Rattle.shapers_indic_final.specs.Proved.FinalPlaces.{least_none, least_step, least_stop, passes_there}
+use Rattle.shapers_indic_final.specs.Proved.FinalPlaces.{least_none, least_step, least_stop}
 use Rattle.shapers_indic_final.proofs.ot_shaper_indic_final.reph.halant_after_start.Goals as goal
+use Rattle.shapers_indic.proofs.PlaceSearch.{passes_there}
 
 pub returns-then-is_halant-clause-place : goal.returns-then-is_halant-clause-place
 returns-then-is_halant-clause-place c =

@@ -2,8 +2,9 @@
 use Rattle.std.proofs.Common.{◌-◌, not, unwrap_or, sym, ap, ◌∙◌, arith}
 use Rattle.shapers_buffer.specs.Glyph.{default_glyph}
 use Rattle.shapers_indic.specs.Glyphs.{has_position, passes}
-use Rattle.shapers_indic_final.specs.Proved.FinalPlaces.{greatest_none, greatest_step, greatest_stop, passes_there}
+use Rattle.shapers_indic_final.specs.Proved.FinalPlaces.{greatest_step, greatest_stop}
 use Rattle.shapers_indic_final.proofs.ot_shaper_indic_final.reph.last_but_signs.Goals as goal
+use Rattle.shapers_indic.proofs.PlaceSearch.{greatest_none, passes_there}
 
 pub returns-then-not-is_sign-clause-place : goal.returns-then-not-is_sign-clause-place
 returns-then-not-is_sign-clause-place c =

@@ -6,28 +6,21 @@
 
 use super::matras::is_left;
 use crate::generated::shapers_base::buffer::{Buffer, GeneralCategory, GlyphChange, GlyphInfo};
-use crate::generated::shapers_syllabic::ot_shaper_syllabic::{MayChange, next_changing};
 
 // Opens each syllable of the text.
 #[inline]
 pub(super) fn open_words(init: u32, buffer: &mut Buffer) {
-    let mut start = 0;
-    while let Some(first) = next_changing(&WithLeftMatra, buffer.glyphs(), start) {
-        let end = buffer.next_syllable(first);
-        open_syllable(init, buffer, first);
-        start = end;
+    for place in 0..buffer.len() {
+        if starts_syllable(buffer.glyphs(), place) {
+            open_syllable(init, buffer, place);
+        }
     }
 }
 
-// The syllables with a left matra: most have none, and cost a look at each position.
-#[derive(Clone, Copy)]
-struct WithLeftMatra;
-
-impl MayChange for WithLeftMatra {
-    #[inline]
-    fn may_change(&self, glyph: &GlyphInfo) -> bool {
-        is_left(glyph)
-    }
+// Whether a syllable starts at place `s`.
+#[inline]
+fn starts_syllable(glyphs: &[GlyphInfo], s: usize) -> bool {
+    s == 0 || glyphs[s].syllable != glyphs[s - 1].syllable
 }
 
 // Opens the syllable at place `s`.
