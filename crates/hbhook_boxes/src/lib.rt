@@ -21,7 +21,6 @@ pub use boxes::draw_boxes;
 pub use fault::{DrawFault, Ended, MOST_GLYPHS};
 pub use glyphs::write_glyphs;
 pub use legend::Legend;
-pub use names::refusal_name;
 pub use numbers::Numbers;
 pub use page::{
     Context, FOOT, HEAD, Line, shortened, write_answers, write_fault, write_lines, write_note,

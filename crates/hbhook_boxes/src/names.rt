@@ -1,7 +1,7 @@
 //! The names that shapers have for categories, auxiliary bytes and kinds of syllables.
 use hbhook_commands::ShaperName;
 use shapers_arabic::ot_shaper_arabic::arabic_action_t;
-use shapers_base::buffer::{ShaperError, hb_tag_t};
+use shapers_base::buffer::hb_tag_t;
 use shapers_base::plan::{ot_category_t, ot_position_t};
 use shapers_syllabic::ot_shaper_syllabic::{
     indic_syllable, khmer_syllable, myanmar_syllable, use_syllable,
@@ -13,18 +13,6 @@ use shapers_universal::ot_shaper_use::category as use_category;
 pub(crate) struct Name {
     pub short: &'static str,
     pub meaning: &'static str,
-}
-
-/// What a refusal is called, on standard error too.
-pub const fn refusal_name(refusal: ShaperError) -> &'static str {
-    match refusal {
-        ShaperError::Memory => "Memory",
-        ShaperError::TooLong => "TooLong",
-        ShaperError::UnknownSyllable(_) => "UnknownSyllable",
-        ShaperError::SpansDontCover => "SpansDontCover",
-        // (the crate that callers take may add refusals, so it wants an arm for the others)
-        _ => "StretchOverflow",
-    }
 }
 
 /// What a shaper calls a category.

@@ -1,8 +1,7 @@
 //! The page round the rows: its style, and the lines that say what ran.
 use crate::escaped::push_escaped;
 use crate::fault::{DrawFault, MOST_GLYPHS};
-use crate::names::refusal_name;
-use hbhook_commands::LineFault;
+use hbhook_commands::{LineFault, refusal_name};
 use shapers_base::buffer::{Direction, hb_buffer_t};
 use std::alloc::{AllocError, Global};
 
@@ -169,7 +168,7 @@ pub fn write_fault(page: &mut String, line: &Line, fault: DrawFault) -> Result<(
     line.write(page)?;
     match fault.of_line() {
         LineFault::Unreadable(_) => page.push_str("<br>unreadable")?,
-        LineFault::Refused(refusal) => write!(page, "<br>refused: {}", refusal_name(refusal))?,
+        LineFault::Refused(refusal) => write!(page, "<br>refused: {}", refusal_name(&refusal))?,
     }
     if let DrawFault::TooMany(count) = fault {
         write!(

@@ -1,7 +1,6 @@
 //! The messages of the errors that the sources declare.
 
-use crate::generated::hbhook_boxes::refusal_name;
-use crate::generated::hbhook_commands::{Expected, Fault};
+use crate::generated::hbhook_commands::{Expected, Fault, refusal_name};
 use std::error::Error;
 use std::fmt;
 
@@ -41,7 +40,7 @@ impl fmt::Display for Fault {
     fn fmt(&self, f: &mut fmt::Formatter<'_>) -> fmt::Result {
         match self {
             Fault::Unreadable(line, _) => write!(f, "line {line}: unreadable"),
-            Fault::Refused(refusal, _) => write!(f, "refused: {}", refusal_name(*refusal)),
+            Fault::Refused(refusal, _) => write!(f, "refused: {}", refusal_name(refusal)),
             Fault::Broken => write!(f, "broken"),
         }
     }
@@ -62,7 +61,7 @@ mod tests {
         let mut variants = Vec::new();
         for line in source.lines().map(str::trim) {
             if let Some(text) = line.strip_prefix("#[error(\"") {
-                message = text.strip_suffix("\")]");
+                message = text.split_once('"').map(|(message, _)| message);
             } else if let Some(text) = message.filter(|_| !line.starts_with("///")) {
                 let name = line.split(['(', ',']).next().unwrap_or(line);
                 variants.push((name, text));
@@ -81,7 +80,10 @@ mod tests {
         assert_eq!(declared.len(), errors.len());
         for ((name, message), (variant, error, value)) in declared.into_iter().zip(errors) {
             assert_eq!(name, *variant);
-            assert_eq!(error.to_string(), message.replace("{0}", value));
+            assert_eq!(
+                error.to_string(),
+                message.replace("{0}", value).replace("{name}", value)
+            );
         }
     }
 

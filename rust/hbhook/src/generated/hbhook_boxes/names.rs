@@ -3,7 +3,7 @@
 //! The names that shapers have for categories, auxiliary bytes and kinds of syllables.
 
 use crate::generated::hbhook_commands::ShaperName;
-use sengadlit::buffer::{ShaperError, Tag};
+use sengadlit::buffer::Tag;
 use sengadlit::ot_shaper_arabic::arabic_action_t;
 use sengadlit::ot_shaper_syllabic::{
     indic_syllable, khmer_syllable, myanmar_syllable, use_syllable,
@@ -16,18 +16,6 @@ use sengadlit::plan::{ot_category_t, ot_position_t};
 pub(crate) struct Name {
     pub short: &'static str,
     pub meaning: &'static str,
-}
-
-/// What a refusal is called, on standard error too.
-pub const fn refusal_name(refusal: ShaperError) -> &'static str {
-    match refusal {
-        ShaperError::Memory => "Memory",
-        ShaperError::TooLong => "TooLong",
-        ShaperError::UnknownSyllable(_) => "UnknownSyllable",
-        ShaperError::SpansDontCover => "SpansDontCover",
-        // (the crate that callers take may add refusals, so it wants an arm for the others)
-        _ => "StretchOverflow",
-    }
 }
 
 /// What a shaper calls a category.

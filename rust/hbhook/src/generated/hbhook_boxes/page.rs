@@ -6,8 +6,7 @@ use crate::support::prelude::*;
 
 use crate::generated::hbhook_boxes::escaped::push_escaped;
 use crate::generated::hbhook_boxes::fault::{DrawFault, MOST_GLYPHS};
-use crate::generated::hbhook_boxes::names::refusal_name;
-use crate::generated::hbhook_commands::LineFault;
+use crate::generated::hbhook_commands::{LineFault, refusal_name};
 use crate::support::alloc::{AllocError, Global};
 use sengadlit::buffer::{Buffer, Direction};
 
@@ -172,7 +171,7 @@ pub fn write_fault(page: &mut String, line: &Line, fault: DrawFault) -> Result<(
     line.write(page)?;
     match fault.of_line() {
         LineFault::Unreadable(_) => page.push_str("<br>unreadable")?,
-        LineFault::Refused(refusal) => write!(page, "<br>refused: {}", refusal_name(refusal))?,
+        LineFault::Refused(refusal) => write!(page, "<br>refused: {}", refusal_name(&refusal))?,
     }
     if let DrawFault::TooMany(count) = fault {
         write!(
