@@ -120,16 +120,69 @@ pub fn reorder_syllables<R: ReorderBySteps>(
         (SyllablesLinked (R.relation order.now) buffer.old buffer.new) }
     ensures refusal { RefusesIf (R.may_refuse order.now) result }
 {
+    if clusters_fall(buffer.glyphs()) {
+        reorder_carrying(order, buffer)
+    } else {
+        reorder_in_turn(order, buffer)
+    }
+}
+
+// Whether the last cluster is below the first one. Where they never fall, no merge floods what
+// stands before its syllable.
+#[inline]
+fn clusters_fall(glyphs: &[hb_glyph_info_t]) -> bool {
+    !glyphs.is_empty() && glyphs[glyphs.len() - 1].cluster < glyphs[0].cluster
+}
+
+// Reorders the syllables one after another.
+#[inline]
+fn reorder_in_turn<R: ReorderBySteps>(
+    order: &R,
+    buffer: &mut hb_buffer_t,
+) -> Result<(), ShaperError>
+    requires without_positions { buffer.old.positions ≡ [] }
+    requires takes { TakesText (R.takes order.now) buffer.old.glyphs }
+    ensures ordered { OnOk result
+        (TextOrdered (R.meaning order.now buffer.old.script) buffer.old buffer.new) }
+    ensures linked { OnOk result
+        (SyllablesLinked (R.relation order.now) buffer.old buffer.new) }
+    ensures refusal { RefusesIf (R.may_refuse order.now) result }
+{
+    let mut start = 0;
+    while let Some(first) = next_changing(order, buffer.glyphs(), start) {
+        let end = buffer.next_syllable(first);
+        order.reorder(buffer, first, end)?;
+        start = end;
+    }
+    buffer.clear_places();
+    Ok(())
+}
+
+// The same in a text whose clusters fall: what merges flood before their syllables is carried along
+// and written once.
+#[inline(never)]
+fn reorder_carrying<R: ReorderBySteps>(
+    order: &R,
+    buffer: &mut hb_buffer_t,
+) -> Result<(), ShaperError>
+    requires without_positions { buffer.old.positions ≡ [] }
+    requires takes { TakesText (R.takes order.now) buffer.old.glyphs }
+    ensures ordered { OnOk result
+        (TextOrdered (R.meaning order.now buffer.old.script) buffer.old buffer.new) }
+    ensures linked { OnOk result
+        (SyllablesLinked (R.relation order.now) buffer.old buffer.new) }
+    ensures refusal { RefusesIf (R.may_refuse order.now) result }
+{
     let mut carrying = Carrying {
-        falls: clusters_fall(buffer.glyphs()),
+        falls: true,
         run: CarriedRun::NONE,
         glyph: hb_glyph_info_t::DEFAULT,
     };
     let mut start = 0;
     while let Some(first) = next_changing(order, buffer.glyphs(), start) {
-        let end = buffer.next_syllable(first);
-        reorder_behind(order, &mut carrying, buffer, first, end)?;
-        start = end;
+        let after = buffer.next_syllable(first);
+        reorder_behind(order, &mut carrying, buffer, first, after)?;
+        start = after;
     }
     write(carrying.run, buffer);
     buffer.clear_places();
@@ -143,13 +196,6 @@ struct Carrying {
     falls: bool,
     run: CarriedRun,
     glyph: hb_glyph_info_t,
-}
-
-// Whether the last cluster is below the first one. Where they never fall, no merge floods what
-// stands before its syllable.
-#[inline]
-fn clusters_fall(glyphs: &[hb_glyph_info_t]) -> bool {
-    !glyphs.is_empty() && glyphs[glyphs.len() - 1].cluster < glyphs[0].cluster
 }
 
 // Reorders a syllable, while floods to the left stop at the last glyph of the run but one.

@@ -100,16 +100,47 @@ pub fn reorder_syllables<R: ReorderBySteps>(
     order: &R,
     buffer: &mut Buffer,
 ) -> Result<(), ShaperError> {
+    if clusters_fall(buffer.glyphs()) {
+        reorder_carrying(order, buffer)
+    } else {
+        reorder_in_turn(order, buffer)
+    }
+}
+
+// Whether the last cluster is below the first one. Where they never fall, no merge floods what
+// stands before its syllable.
+#[inline]
+fn clusters_fall(glyphs: &[GlyphInfo]) -> bool {
+    !glyphs.is_empty() && glyphs[glyphs.len() - 1].cluster < glyphs[0].cluster
+}
+
+// Reorders the syllables one after another.
+#[inline]
+fn reorder_in_turn<R: ReorderBySteps>(order: &R, buffer: &mut Buffer) -> Result<(), ShaperError> {
+    let mut start = 0;
+    while let Some(first) = next_changing(order, buffer.glyphs(), start) {
+        let end = buffer.next_syllable(first);
+        order.reorder(buffer, first, end)?;
+        start = end;
+    }
+    buffer.clear_places();
+    Ok(())
+}
+
+// The same in a text whose clusters fall: what merges flood before their syllables is carried along
+// and written once.
+#[inline(never)]
+fn reorder_carrying<R: ReorderBySteps>(order: &R, buffer: &mut Buffer) -> Result<(), ShaperError> {
     let mut carrying = Carrying {
-        falls: clusters_fall(buffer.glyphs()),
+        falls: true,
         run: CarriedRun::NONE,
         glyph: GlyphInfo::DEFAULT,
     };
     let mut start = 0;
     while let Some(first) = next_changing(order, buffer.glyphs(), start) {
-        let end = buffer.next_syllable(first);
-        reorder_behind(order, &mut carrying, buffer, first, end)?;
-        start = end;
+        let after = buffer.next_syllable(first);
+        reorder_behind(order, &mut carrying, buffer, first, after)?;
+        start = after;
     }
     write(carrying.run, buffer);
     buffer.clear_places();
@@ -123,13 +154,6 @@ struct Carrying {
     falls: bool,
     run: CarriedRun,
     glyph: GlyphInfo,
-}
-
-// Whether the last cluster is below the first one. Where they never fall, no merge floods what
-// stands before its syllable.
-#[inline]
-fn clusters_fall(glyphs: &[GlyphInfo]) -> bool {
-    !glyphs.is_empty() && glyphs[glyphs.len() - 1].cluster < glyphs[0].cluster
 }
 
 // Reorders a syllable, while floods to the left stop at the last glyph of the run but one.

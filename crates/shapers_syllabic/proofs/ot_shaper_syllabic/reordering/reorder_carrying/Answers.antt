@@ -3,7 +3,7 @@ use Rattle.std.proofs.Common.{◌∙◌, ap, arith, refl}
 use Rattle.shapers_buffer.specs.Buffer.{but_places}
 use Rattle.shapers_syllabic.proofs.CarriedSyllables.{carried_stands, carry_end, carry_next, takes_carried, to_carry_all}
 use Rattle.shapers_syllabic.proofs.LinkedSyllables.{text_ordered}
-use Rattle.shapers_syllabic.proofs.ot_shaper_syllabic.reordering.reorder_syllables.Goals as goal
+use Rattle.shapers_syllabic.proofs.ot_shaper_syllabic.reordering.reorder_carrying.Goals as goal
 
 pub loop-first-init : goal.loop-first-init
 loop-first-init g c =
@@ -14,10 +14,10 @@ pub reorder_behind-requires-clause-takes : goal.reorder_behind-requires-clause-t
 reorder_behind-requires-clause-takes g c =
     let order = c.args.order.now in
     takes_carried (g.R.Reorder.meaning order) (g.R.Reorder.takes order) (g.R.MayChange.changes order)
-    (g.R.Reorder.relation order) c.args.buffer.now c.loop-first.carrying c.loop-first.buffer c.glyphs-in-loop-first.result.now
-    c.loop-first.start c.in-Some.first c.next_syllable-end.result
-    c.glyphs-in-loop-first.ensures (g.met.R.Reorder.permutes order) (g.met.R.Reorder.orders order) (g.met.R.Reorder.stays order)
-    c.in-Some.ensures c.loop-first.invariant c.next_syllable-end.ensures.end
+    (g.R.Reorder.relation order) c.args.buffer.now c.loop-first.carrying c.loop-first.buffer c.glyphs.result.now
+    c.loop-first.start c.in-Some.first c.next_syllable-after.result
+    c.glyphs.ensures (g.met.R.Reorder.permutes order) (g.met.R.Reorder.orders order) (g.met.R.Reorder.stays order)
+    c.in-Some.ensures c.loop-first.invariant c.next_syllable-after.ensures.end
 
 pub reorder_behind-requires-clause-fits : goal.reorder_behind-requires-clause-fits
 reorder_behind-requires-clause-fits g c =
@@ -34,27 +34,27 @@ reorder_behind-requires-clause-without_positions g c =
 pub loop-first-smaller : goal.loop-first-smaller
 loop-first-smaller g c =
     let order = c.args.order.now in
-    let further = c.next_syllable-end.ensures.further in
+    let further = c.next_syllable-after.ensures.further in
     let next = carry_next (g.R.Reorder.meaning order) (g.R.Reorder.takes order) (g.R.MayChange.changes order)
-    (g.R.Reorder.relation order) c.args.buffer.now c.loop-first.carrying c.loop-first.buffer c.glyphs-in-loop-first.result.now
-    c.loop-first.start c.in-Some.first c.next_syllable-end.result c.reorder_behind.new.carrying
-    c.reorder_behind.new.buffer c.glyphs-in-loop-first.ensures (g.met.R.Reorder.permutes order) (g.met.R.Reorder.orders order) (g.met.R.Reorder.stays order)
-    c.in-Some.ensures c.loop-first.invariant c.next_syllable-end.ensures.end
+    (g.R.Reorder.relation order) c.args.buffer.now c.loop-first.carrying c.loop-first.buffer c.glyphs.result.now
+    c.loop-first.start c.in-Some.first c.next_syllable-after.result c.reorder_behind.new.carrying
+    c.reorder_behind.new.buffer c.glyphs.ensures (g.met.R.Reorder.permutes order) (g.met.R.Reorder.orders order) (g.met.R.Reorder.stays order)
+    c.in-Some.ensures c.loop-first.invariant c.next_syllable-after.ensures.end
     (omega arith) c.in_ok-reorder_behind.ensures.behind in
     let same = next.same_length in
     let ordered = c.in-Some.ensures.in_order in
-    let within = c.next_syllable-end.ensures.within in
+    let within = c.next_syllable-after.ensures.within in
     omega arith
 
 pub loop-first-preserved : goal.loop-first-preserved
 loop-first-preserved g c =
     let order = c.args.order.now in
-    let further = c.next_syllable-end.ensures.further in
+    let further = c.next_syllable-after.ensures.further in
     let next = carry_next (g.R.Reorder.meaning order) (g.R.Reorder.takes order) (g.R.MayChange.changes order)
-    (g.R.Reorder.relation order) c.args.buffer.now c.loop-first.carrying c.loop-first.buffer c.glyphs-in-loop-first.result.now
-    c.loop-first.start c.in-Some.first c.next_syllable-end.result c.reorder_behind.new.carrying
-    c.reorder_behind.new.buffer c.glyphs-in-loop-first.ensures (g.met.R.Reorder.permutes order) (g.met.R.Reorder.orders order) (g.met.R.Reorder.stays order)
-    c.in-Some.ensures c.loop-first.invariant c.next_syllable-end.ensures.end
+    (g.R.Reorder.relation order) c.args.buffer.now c.loop-first.carrying c.loop-first.buffer c.glyphs.result.now
+    c.loop-first.start c.in-Some.first c.next_syllable-after.result c.reorder_behind.new.carrying
+    c.reorder_behind.new.buffer c.glyphs.ensures (g.met.R.Reorder.permutes order) (g.met.R.Reorder.orders order) (g.met.R.Reorder.stays order)
+    c.in-Some.ensures c.loop-first.invariant c.next_syllable-after.ensures.end
     (omega arith) c.in_ok-reorder_behind.ensures.behind in
     next.state
 
@@ -62,8 +62,8 @@ pub returns-clause-linked : goal.returns-clause-linked
 returns-clause-linked g c =
     let order = c.args.order.now in
     carry_end (g.R.Reorder.meaning order) (g.R.Reorder.takes order) (g.R.MayChange.changes order)
-    (g.R.Reorder.relation order) c.args.buffer.now c.loop-first.carrying c.loop-first.buffer c.glyphs-in-loop-first.result.now
-    c.loop-first.start c.clear_places.new.self c.glyphs-in-loop-first.ensures (g.met.R.Reorder.permutes order)
+    (g.R.Reorder.relation order) c.args.buffer.now c.loop-first.carrying c.loop-first.buffer c.glyphs.result.now
+    c.loop-first.start c.clear_places.new.self c.glyphs.ensures (g.met.R.Reorder.permutes order)
     (g.met.R.Reorder.orders order) (g.met.R.Reorder.stays order) c.in_default.ensures c.loop-first.invariant
     (c.clear_places.ensures ∙ ap but_places c.write.ensures)
 
