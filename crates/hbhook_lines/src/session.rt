@@ -8,7 +8,7 @@ use hbhook_commands::{
     Command, Expected, Feature, GlyphField, LineFault, LineFont, Setting, Settings, ShaperName,
     Side, print_buffer, read_line,
 };
-use rustybuzz_shapers::buffer::{GlyphPosition, hb_buffer_t, hb_glyph_info_t};
+use rustybuzz_shapers::buffer::{GlyphPosition, UnicodeProps, hb_buffer_t, hb_glyph_info_t};
 use rustybuzz_shapers::font::Tables;
 use rustybuzz_shapers::shaper::hb_ot_shaper_t;
 use shapers_spans::{Indic, Khmer, Myanmar, Universal, spans_into};
@@ -175,7 +175,10 @@ impl Session {
             self.buffer.push(hb_glyph_info_t {
                 glyph_id: u32::from(*character),
                 cluster: u32::try_from(i).map_err(|_| LineFault::Unreadable(TEXT_LENGTH))?,
-                general_category: self.settings.tables.general_category(*character),
+                unicode_props: UnicodeProps::new(
+                    self.settings.tables.general_category(*character),
+                    0,
+                ),
                 ..hb_glyph_info_t::DEFAULT
             })?;
         }

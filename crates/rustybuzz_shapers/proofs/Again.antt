@@ -13,7 +13,7 @@ use Rattle.shapers_buffer.specs.Glyph.{clusters}
 use Rattle.shapers_buffer.specs.GlyphFlags.{flagged, with_bits, with_bits_off}
 use Rattle.shapers_buffer.specs.declared.buffer.syllables.Span.{Span}
 use Rattle.shapers_buffer.specs.declared.buffer.glyph.hb_glyph_info_t.{hb_glyph_info_t}
-use Rattle.shapers_buffer.specs.Marks.{is_multiplied, is_substituted}
+use Rattle.shapers_buffer.specs.Properties.{is_multiplied, is_substituted, component}
 use Rattle.shapers_buffer.specs.Syllables.{in_syllable, span_bytes, syllables, with_bytes}
 use Rattle.shapers_base.specs.Masks.{has_bits, masks_kept, with_numbered_mask}
 use Rattle.shapers_stretch.specs.Recorded.{has_stch, recorded, tile_action, with_tiles}
@@ -43,25 +43,25 @@ glyphs_once f once old mid new first second =
     second ∙ ap again first ∙ ap (λ gs. let c : Buffer = record old { glyphs = gs } in c) (once old.glyphs) ∙ sym first
 
 -- TILES
-tile_once : (b : Bool) (g : hb_glyph_info_t) → is_multiplied g.marks ≡ b → recorded (recorded g) ≡ recorded g
+tile_once : (b : Bool) (g : hb_glyph_info_t) → is_multiplied g.glyph_props ≡ b → recorded (recorded g) ≡ recorded g
 tile_once true g is =
-    let tile : hb_glyph_info_t = record g { auxiliary = tile_action g.lig_comp } in
+    let tile : hb_glyph_info_t = record g { auxiliary = tile_action (component g.lig_props) } in
     let one : recorded g ≡ tile = ap (λ b. cond b tile g) is in
     ap recorded one ∙ ap (λ b. cond b tile tile) is ∙ sym one
 tile_once false g is =
-    let tile : hb_glyph_info_t = record g { auxiliary = tile_action g.lig_comp } in
+    let tile : hb_glyph_info_t = record g { auxiliary = tile_action (component g.lig_props) } in
     let one : recorded g ≡ g = ap (λ b. cond b tile g) is in
     ap recorded one
 
-any_tile : (gs : List hb_glyph_info_t) → list_any (λ g. is_multiplied g.marks) (map recorded gs)
-    ≡ list_any (λ g. is_multiplied g.marks) gs
+any_tile : (gs : List hb_glyph_info_t) → list_any (λ g. is_multiplied g.glyph_props) (map recorded gs)
+    ≡ list_any (λ g. is_multiplied g.glyph_props) gs
 any_tile [] = refl
 any_tile (g ∷ gs) =
-    ap (λ b. b || list_any (λ h. is_multiplied h.marks) (map recorded gs)) (same (is_multiplied g.marks) g)
-    ∙ ap (λ b. is_multiplied g.marks || b) (any_tile gs)
+    ap (λ b. b || list_any (λ h. is_multiplied h.glyph_props) (map recorded gs)) (same (is_multiplied g.glyph_props) g)
+    ∙ ap (λ b. is_multiplied g.glyph_props || b) (any_tile gs)
   where
     same : (b : Bool) (h : hb_glyph_info_t)
-        → is_multiplied (cond b (record h { auxiliary = tile_action h.lig_comp }) h).marks ≡ is_multiplied h.marks
+        → is_multiplied (cond b (record h { auxiliary = tile_action (component h.lig_props) }) h).glyph_props ≡ is_multiplied h.glyph_props
     same true h = refl
     same false h = refl
 
@@ -71,13 +71,13 @@ marked_once false b = refl
 
 tiles_once : (b : Buffer) → with_tiles (with_tiles b) ≡ with_tiles b
 tiles_once b =
-    let any = list_any (λ (g : hb_glyph_info_t). is_multiplied g.marks) in
+    let any = list_any (λ (g : hb_glyph_info_t). is_multiplied g.glyph_props) in
     ap (λ gs. let c : Buffer = record b {
       glyphs = gs;
       stch = any (map recorded b.glyphs)
           || (any b.glyphs || b.stch);
     } in c)
-    (each_once recorded (λ g. tile_once (is_multiplied g.marks) g refl) b.glyphs)
+    (each_once recorded (λ g. tile_once (is_multiplied g.glyph_props) g refl) b.glyphs)
     ∙ ap (λ s. let c : Buffer = record b { glyphs = map recorded b.glyphs; stch = s } in c)
     (ap (λ a. a || (any b.glyphs || b.stch)) (any_tile b.glyphs) ∙ marked_once (any b.glyphs) b.stch)
 
@@ -118,7 +118,7 @@ first_keeps : (c byte : ℕ) (gs : List hb_glyph_info_t) → AllByRecursion (λ 
     → AllByRecursion (λ g. g.syllable ≡ byte) (first_recorded c gs)
 first_keeps c byte [] own = tt
 first_keeps c byte (g ∷ gs) own =
-    elim (is_substituted g.marks) as (λ b. AllByRecursion (λ h. h.syllable ≡ byte)
+    elim (is_substituted g.glyph_props) as (λ b. AllByRecursion (λ h. h.syllable ≡ byte)
     (cond b (in_category c g ∷ gs) (g ∷ first_recorded c gs))) [
       | true ↦ (own.0, own.1)
       | false ↦ (own.0, first_keeps c byte gs own.1)
@@ -127,7 +127,7 @@ first_keeps c byte (g ∷ gs) own =
 first_long : (c : ℕ) (gs : List hb_glyph_info_t) → length (first_recorded c gs) ≡ length gs
 first_long c [] = refl
 first_long c (g ∷ gs) =
-    elim (is_substituted g.marks) as (λ b. length (cond b (in_category c g ∷ gs) (g ∷ first_recorded c gs))
+    elim (is_substituted g.glyph_props) as (λ b. length (cond b (in_category c g ∷ gs) (g ∷ first_recorded c gs))
     ≡ suc (length gs)) [
       | true ↦ refl
       | false ↦ ap suc (first_long c gs)
@@ -136,7 +136,7 @@ first_long c (g ∷ gs) =
 first_once : (c : ℕ) (gs : List hb_glyph_info_t) → first_recorded c (first_recorded c gs) ≡ first_recorded c gs
 first_once c [] = refl
 first_once c (g ∷ gs) =
-    elim (is_substituted g.marks) as (λ b. is_substituted g.marks ≡ b
+    elim (is_substituted g.glyph_props) as (λ b. is_substituted g.glyph_props ≡ b
     → first_recorded c (cond b (in_category c g ∷ gs) (g ∷ first_recorded c gs))
     ≡ cond b (in_category c g ∷ gs) (g ∷ first_recorded c gs)) [
       | true ↦ λ is. ap (λ b. cond b (in_category c g ∷ gs) (in_category c g ∷ first_recorded c gs)) is
@@ -154,16 +154,16 @@ one_more k = omega arith
 
 leading_step : (mask : ℕ) (g : hb_glyph_info_t) (gs : List hb_glyph_info_t)
     → rphf_recorded mask (g ∷ gs)
-    ≡ cond (has_bits mask g) (cond (is_substituted g.marks) (in_category R g ∷ gs) (g ∷ rphf_recorded mask gs)) (g ∷ gs)
+    ≡ cond (has_bits mask g) (cond (is_substituted g.glyph_props) (in_category R g ∷ gs) (g ∷ rphf_recorded mask gs)) (g ∷ gs)
 leading_step mask g gs =
     let k = prefix_len (has_bits mask) gs in
     ap (λ n. first_recorded R (take (cond (has_bits mask g) n 0) (g ∷ gs))
     ++ drop (cond (has_bits mask g) n 0) (g ∷ gs)) (one_more k)
     ∙ elim (has_bits mask g) as (λ a. first_recorded R (take (cond a (suc k) 0) (g ∷ gs))
     ++ drop (cond a (suc k) 0) (g ∷ gs)
-    ≡ cond a (cond (is_substituted g.marks) (in_category R g ∷ gs) (g ∷ rphf_recorded mask gs)) (g ∷ gs)) [
+    ≡ cond a (cond (is_substituted g.glyph_props) (in_category R g ∷ gs) (g ∷ rphf_recorded mask gs)) (g ∷ gs)) [
       | true ↦
-          elim (is_substituted g.marks) as (λ b. cond b (in_category R g ∷ take k gs) (g ∷ first_recorded R (take k gs))
+          elim (is_substituted g.glyph_props) as (λ b. cond b (in_category R g ∷ take k gs) (g ∷ first_recorded R (take k gs))
           ++ drop k gs ≡ cond b (in_category R g ∷ gs) (g ∷ rphf_recorded mask gs)) [
             | true ↦ ap (λ xs. in_category R g ∷ xs) (take-append-drop k gs)
             | false ↦ refl
@@ -178,9 +178,9 @@ leading_keeps mask byte (g ∷ gs) own =
     let later = leading_keeps mask byte gs own.1 in
     subst (λ xs. AllByRecursion (λ h. h.syllable ≡ byte) xs) (sym (leading_step mask g gs))
     (elim (has_bits mask g) as (λ a. AllByRecursion (λ h. h.syllable ≡ byte)
-    (cond a (cond (is_substituted g.marks) (in_category R g ∷ gs) (g ∷ rphf_recorded mask gs)) (g ∷ gs))) [
+    (cond a (cond (is_substituted g.glyph_props) (in_category R g ∷ gs) (g ∷ rphf_recorded mask gs)) (g ∷ gs))) [
       | true ↦
-          elim (is_substituted g.marks) as (λ b. AllByRecursion (λ h. h.syllable ≡ byte)
+          elim (is_substituted g.glyph_props) as (λ b. AllByRecursion (λ h. h.syllable ≡ byte)
           (cond b (in_category R g ∷ gs) (g ∷ rphf_recorded mask gs))) [
             | true ↦ (own.0, own.1)
             | false ↦ (own.0, later)
@@ -202,31 +202,31 @@ leading_long mask gs =
 
 leading_twice : (mask : ℕ) (g : hb_glyph_info_t) (gs : List hb_glyph_info_t)
     → rphf_recorded mask (rphf_recorded mask gs) ≡ rphf_recorded mask gs → (a b : Bool) → has_bits mask g ≡ a
-    → is_substituted g.marks ≡ b
+    → is_substituted g.glyph_props ≡ b
     → rphf_recorded mask (cond a (cond b (in_category R g ∷ gs) (g ∷ rphf_recorded mask gs)) (g ∷ gs))
     ≡ cond a (cond b (in_category R g ∷ gs) (g ∷ rphf_recorded mask gs)) (g ∷ gs)
 leading_twice mask g gs again true true has put =
     leading_step mask (in_category R g) gs
-    ∙ ap (λ a. cond a (cond (is_substituted g.marks) (in_category R g ∷ gs) (in_category R g ∷ rphf_recorded mask gs))
+    ∙ ap (λ a. cond a (cond (is_substituted g.glyph_props) (in_category R g ∷ gs) (in_category R g ∷ rphf_recorded mask gs))
     (in_category R g ∷ gs)) has
     ∙ ap (λ b. cond b (in_category R g ∷ gs) (in_category R g ∷ rphf_recorded mask gs)) put
 leading_twice mask g gs again true false has put =
     leading_step mask g (rphf_recorded mask gs)
     ∙ ap (λ a. cond a
-    (cond (is_substituted g.marks) (in_category R g ∷ rphf_recorded mask gs)
+    (cond (is_substituted g.glyph_props) (in_category R g ∷ rphf_recorded mask gs)
     (g ∷ rphf_recorded mask (rphf_recorded mask gs))) (g ∷ rphf_recorded mask gs)) has
     ∙ ap (λ b. cond b (in_category R g ∷ rphf_recorded mask gs) (g ∷ rphf_recorded mask (rphf_recorded mask gs))) put
     ∙ ap (λ xs. g ∷ xs) again
 leading_twice mask g gs again false b has put =
     leading_step mask g gs
-    ∙ ap (λ a. cond a (cond (is_substituted g.marks) (in_category R g ∷ gs) (g ∷ rphf_recorded mask gs)) (g ∷ gs)) has
+    ∙ ap (λ a. cond a (cond (is_substituted g.glyph_props) (in_category R g ∷ gs) (g ∷ rphf_recorded mask gs)) (g ∷ gs)) has
 
 leading_once : (mask : ℕ) (gs : List hb_glyph_info_t) → rphf_recorded mask (rphf_recorded mask gs)
     ≡ rphf_recorded mask gs
 leading_once mask [] = refl
 leading_once mask (g ∷ gs) =
     ap (rphf_recorded mask) (leading_step mask g gs)
-    ∙ leading_twice mask g gs (leading_once mask gs) (has_bits mask g) (is_substituted g.marks) refl refl
+    ∙ leading_twice mask g gs (leading_once mask gs) (has_bits mask g) (is_substituted g.glyph_props) refl refl
     ∙ sym (leading_step mask g gs)
 
 rphf_bytewise : (mask : ℕ) → Bytewise (rphf_recorded mask)

@@ -11,6 +11,7 @@ use Rattle.shapers_hangul.specs.Hangul.{preprocessed}
 use Rattle.shapers_universal.specs.Universal.{universal_order}
 use Rattle.shapers_text.specs.Hebrew.{hebrew_mark_step}
 use Rattle.shapers_text.specs.ThaiForms.{preprocessed_text}
+use Rattle.shapers_buffer.specs.Properties.{modified_combining_class, properties}
 
 abbrev text : List ℕ → List hb_glyph_info_t
 text us = map (λ u. let g : hb_glyph_info_t = record default_glyph { glyph_id = u } in g) us
@@ -46,10 +47,10 @@ hangul_tone_again = refl
 
 -- Hebrew: of two triples of marks each time the first one changes
 abbrev of_classes : List ℕ → List hb_glyph_info_t
-of_classes cs = map (λ c. let g : hb_glyph_info_t = record default_glyph { modified_combining_class = c } in g) cs
+of_classes cs = map (λ c. let g : hb_glyph_info_t = record default_glyph { unicode_props = properties Cc c } in g) cs
 
 abbrev classes : List hb_glyph_info_t → List ℕ
-classes gs = map (λ g. g.modified_combining_class) gs
+classes gs = map (λ g. (modified_combining_class g.unicode_props)) gs
 
 abbrev swapped : List hb_glyph_info_t → List hb_glyph_info_t
 swapped gs = run_step MonotoneGraphemes (hebrew_mark_step 0 6 gs) gs
@@ -64,8 +65,8 @@ hebrew_marks_again = refl
 -- Arabic: a modifier of class 230 before one of class 220 comes first, in a class below 220, and so
 -- the other passes it then; marks in the order of their classes have no such neighbours
 abbrev modifiers_turned : List hb_glyph_info_t
-modifiers_turned = record default_glyph { glyph_id = 0x0654; modified_combining_class = 230 }
-    ∷ record default_glyph { glyph_id = 0x0655; modified_combining_class = 220 } ∷ []
+modifiers_turned = record default_glyph { glyph_id = 0x0654; unicode_props = record { 0 = 0xE600 } }
+    ∷ record default_glyph { glyph_id = 0x0655; unicode_props = record { 0 = 0xDC00 } } ∷ []
 
 arabic_marks : characters (marks_reordered 0 2 modifiers_turned) ≡ 0x0654 ∷ 0x0655 ∷ []
 arabic_marks = refl

@@ -2,7 +2,7 @@
 use Rattle.std.proofs.Common.{◌≡◌, ℕ, true, false, cond, List, [], ◌∷◌, ◌++◌, Option, None, Some, map, take, drop, refl, sym, subst}
 use Rattle.std.specs.List.{prefix_len}
 use Rattle.std.proofs.lemmas.List.{take-append-drop}
-use Rattle.shapers_buffer.specs.Marks.{is_multiplied, is_substituted}
+use Rattle.shapers_buffer.specs.Properties.{is_multiplied, is_substituted, component}
 use Rattle.shapers_buffer.specs.Syllables.{in_syllable}
 use Rattle.shapers_base.specs.declared.plan.PlanData.{PlanData}
 use Rattle.shapers_clusters.proofs.Falls.{all_append}
@@ -74,7 +74,7 @@ masks_added Universal plan tables old new is = universal_added (arabic_of plan.p
 first_added : (c : ℕ) (gs : List hb_glyph_info_t) → OnlyFlagsAdded gs (first_recorded c gs)
 first_added c [] = tt
 first_added c (g ∷ gs) =
-    elim (is_substituted g.marks) as (λ b. OnlyFlagsAdded (g ∷ gs)
+    elim (is_substituted g.glyph_props) as (λ b. OnlyFlagsAdded (g ∷ gs)
     (cond b (in_category c g ∷ gs) (g ∷ first_recorded c gs))) [
       | true ↦ (added_same g (in_category c g) refl refl, same_added gs)
       | false ↦ (added_same g g refl refl, first_added c gs)
@@ -100,8 +100,8 @@ pref_record_added old new is =
 
 tile_added : (g : hb_glyph_info_t) → FlagsAdded g (recorded g)
 tile_added g =
-    elim (is_multiplied g.marks) as (λ b. FlagsAdded g (cond b (record g { auxiliary = tile_action g.lig_comp }) g)) [
-      | true ↦ added_same g (record g { auxiliary = tile_action g.lig_comp }) refl refl
+    elim (is_multiplied g.glyph_props) as (λ b. FlagsAdded g (cond b (record g { auxiliary = tile_action (component g.lig_props) }) g)) [
+      | true ↦ added_same g (record g { auxiliary = tile_action (component g.lig_props) }) refl refl
       | false ↦ added_same g g refl refl
     ]
 

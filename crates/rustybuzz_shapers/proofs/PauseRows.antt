@@ -77,14 +77,12 @@ full = record {
   glyph_id = 0x916;
   cluster = 5;
   mask = 0x1F;
-  var = 0x7A;
   syllable = 0x24;
   category = 1;
   auxiliary = 3;
-  general_category = Mn;
-  modified_combining_class = 9;
-  lig_comp = 2;
-  marks = record { 0 = 31 };
+  glyph_props = record { 0 = 0x70 };
+  lig_props = record { 0 = 2 };
+  unicode_props = record { 0 = 0x09AC };
 }
 
 abbrev full_text : List hb_glyph_info_t → Buffer
@@ -95,7 +93,7 @@ Makes pause g = (plan : hb_ot_shape_plan_t) (font : Font) → Paused pause plan 
     [] (full_text (full ∷ full ∷ [])) (full_text (g ∷ g ∷ []))
 
 cleared : Makes SyllabicClearVar (record full { syllable = 0 })
-    × Makes ClearSubstitutionFlags (record full { marks = record { 0 = 30 } }) × Makes ArabicFallbackShape full
+    × Makes ClearSubstitutionFlags (record full { glyph_props = record { 0 = 0x60 }; unicode_props = record { 0 = 0x00A0 } }) × Makes ArabicFallbackShape full
 cleared = (λ plan font. refl, λ plan font. refl, λ plan font. refl)
 
 -- set-up refuses spans that don't cover, and nothing else; the others refuse nothing

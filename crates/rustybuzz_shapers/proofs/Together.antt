@@ -21,6 +21,7 @@ use Rattle.shapers_universal.specs.PlanData.{arabic_of}
 use Rattle.shapers_universal.specs.UniversalMasks.{MasksAreSet, categorized, with_categories}
 use Rattle.rustybuzz_shapers.specs.Together.{TextsConcatenate}
 use Rattle.rustybuzz_shapers.specs.declared.shaper.hb_ot_shaper_t.TheVariants.{Arabic, Universal}
+use Rattle.shapers_buffer.specs.Properties.{general_category}
 
 -- joined buffers put together
 together_by : (breaks : BreakFlags) (masks : List ℕ) (script : Option Script) (tables : CharacterTables) (n m : ℕ)
@@ -45,7 +46,7 @@ together_by breaks masks script tables n m one two one_new two_new new first sec
 pub types-categorized : (joining : ℕ → hb_arabic_joining_type_t) (tables : CharacterTables) (gs : List hb_glyph_info_t)
     → stored_types joining (map (categorized tables.universal) gs) ≡ stored_types joining gs
 types-categorized joining tables gs =
-    map-map (λ (g : hb_glyph_info_t). resolved (joining g.glyph_id) g.general_category) (categorized tables.universal)
+    map-map (λ (g : hb_glyph_info_t). resolved (joining g.glyph_id) (general_category g.unicode_props)) (categorized tables.universal)
     gs
 
 categories-together : (tables : CharacterTables) (n m : ℕ) (one two : Buffer)

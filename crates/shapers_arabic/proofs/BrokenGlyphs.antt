@@ -36,6 +36,7 @@ use Rattle.shapers_arabic.proofs.JoiningLaws.{length-forms_of}
 use Rattle.shapers_arabic.proofs.JoiningLists.{length-forms}
 use Rattle.shapers_arabic.proofs.Selectors.{selected-halves}
 use Rattle.shapers_arabic.proofs.SoundOrder.{calls-in_order}
+use Rattle.shapers_buffer.specs.Properties.{general_category}
 
 -- flags don't show in the order view
 pub view-joined : (breaks : BreakFlags) (masks : List ℕ) (flags : BufferFlags) (script : Option Script) (text : Text)
@@ -162,7 +163,7 @@ text-front joining general n b =
       types =
           ts;
       after = [];
-    } in t) (sym (take-map (λ g. resolved (joining g.glyph_id) g.general_category) n b.glyphs))
+    } in t) (sym (take-map (λ g. resolved (joining g.glyph_id) (general_category g.unicode_props)) n b.glyphs))
 
 text-back : (joining : ℕ → hb_arabic_joining_type_t) (general : ℕ → hb_unicode_general_category_t) (n : ℕ) (b : Buffer)
     → text_of joining general (back_at n b) ≡ second_half n [] (text_of joining general b)
@@ -183,11 +184,11 @@ text-back joining general n b =
       types = ts;
       after = after;
     } in t)
-    (sym (drop-map (λ g. resolved (joining g.glyph_id) g.general_category) n b.glyphs))
+    (sym (drop-map (λ g. resolved (joining g.glyph_id) (general_category g.unicode_props)) n b.glyphs))
 
 pub types_long : (joining : ℕ → hb_arabic_joining_type_t) (gs : List hb_glyph_info_t) → length (stored_types joining gs)
     ≡ length gs
-types_long joining gs = length-map gs (λ g. resolved (joining g.glyph_id) g.general_category)
+types_long joining gs = length-map gs (λ g. resolved (joining g.glyph_id) (general_category g.unicode_props))
 
 -- the halves of a buffer, joined by themselves
 halves-are : (breaks : BreakFlags) (masks : List ℕ) (script : Option Script) (joining : ℕ → hb_arabic_joining_type_t)

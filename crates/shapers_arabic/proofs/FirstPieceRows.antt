@@ -38,7 +38,7 @@ masks = 8 ∷ 16 ∷ 32 ∷ 64 ∷ 128 ∷ 256 ∷ 512 ∷ 0 ∷ []
 
 abbrev glyph : ℕ → ℕ → hb_glyph_info_t
 glyph c cluster = let g : hb_glyph_info_t =
-    record default_glyph { glyph_id = c; cluster = cluster; general_category = Lo } in g
+    record default_glyph { glyph_id = c; cluster = cluster; unicode_props = record { 0 = 0x0007 } } in g
 
 -- two letters in clusters that rise, or that fall
 abbrev rising : ℕ → ℕ → Buffer

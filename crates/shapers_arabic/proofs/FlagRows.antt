@@ -183,14 +183,12 @@ full = record {
   glyph_id = 0x916;
   cluster = 5;
   mask = 0x13;
-  var = 0x7A;
   syllable = 0x24;
   category = 1;
   auxiliary = 3;
-  general_category = Mn;
-  modified_combining_class = 9;
-  lig_comp = 2;
-  marks = record { 0 = 31 };
+  glyph_props = record { 0 = 0x70 };
+  lig_props = record { 0 = 2 };
+  unicode_props = record { 0 = 0x09AC };
 }
 
 in_its_form : with_form (0x100 ∷ 0x210 ∷ []) 1 full ≡ record full { auxiliary = 1; mask = 0x213 }

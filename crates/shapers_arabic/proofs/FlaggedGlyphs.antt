@@ -20,6 +20,7 @@ use Rattle.shapers_arabic.specs.declared.ot_shaper_arabic.arabic_action_t.TheCon
 use Rattle.shapers_arabic.specs.Joining.{resolved}
 use Rattle.shapers_arabic.specs.JoinedText.{stored_types, AreCharacters}
 use Rattle.shapers_arabic.specs.JoiningWalk.{FlaggedBy, SameText, IsWithin, given_flags, given_last, unformed, unjoined}
+use Rattle.shapers_buffer.specs.Properties.{general_category}
 
 -- flags are those of the glyphs without their forms
 pub unformed-passes : PassesFlags unformed
@@ -97,9 +98,9 @@ still-character gs hs i d same all h =
 
 pub type-at : (joining : ℕ → hb_arabic_joining_type_t) (gs hs : List hb_glyph_info_t) (i : ℕ) (d : hb_glyph_info_t)
     → i < length hs → SameText gs hs → get_or (stored_types joining gs) i U
-    ≡ resolved (joining (get_or hs i d).glyph_id) (get_or hs i d).general_category
+    ≡ resolved (joining (get_or hs i d).glyph_id) (general_category (get_or hs i d).unicode_props)
 type-at joining gs hs i d h same =
-    let type_of = λ (g : hb_glyph_info_t). resolved (joining g.glyph_id) g.general_category in
+    let type_of = λ (g : hb_glyph_info_t). resolved (joining g.glyph_id) (general_category g.unicode_props) in
     ap (λ ts. get_or ts i U) (sym (map-same_text type_of (λ g. refl) gs hs same)) ∙ get_or-map type_of hs i d U h
 
 -- the last letter keeps its form, or takes the one that it is given

@@ -15,6 +15,7 @@ use Rattle.shapers_arabic.specs.JoinedText.{Text, context_types, flag_calls, for
 use Rattle.shapers_arabic.proofs.BrokenGlyphs.{types_long, view-joined}
 use Rattle.shapers_arabic.proofs.JoiningLaws.{length-forms_of, text_long}
 use Rattle.shapers_arabic.proofs.SoundOrder.{calls-in_order}
+use Rattle.shapers_buffer.specs.Properties.{general_category}
 
 -- glyphs in their forms, cut at a place
 take-formed : (masks : List ℕ) (n : ℕ) (fs : List ℕ) (gs : List hb_glyph_info_t)
@@ -98,7 +99,7 @@ pub text-parts : (joining : ℕ → hb_arabic_joining_type_t) (general : ℕ →
 text-parts joining general b xs ys e =
     let before = context_types joining general b.before in
     let after = context_types joining general b.after in
-    let type_of = λ (g : hb_glyph_info_t). resolved (joining g.glyph_id) g.general_category in
+    let type_of = λ (g : hb_glyph_info_t). resolved (joining g.glyph_id) (general_category g.unicode_props) in
     ap (λ cs. text_by before cs (stored_types joining b.glyphs) after) (ap (map (λ (g : hb_glyph_info_t). g.glyph_id)) e
     ∙ map-append (λ (g : hb_glyph_info_t). g.glyph_id) xs ys)
     ∙ ap (λ ts. text_by before (map (λ g. g.glyph_id) xs ++ map (λ g. g.glyph_id) ys) ts after)

@@ -16,6 +16,7 @@ use Rattle.shapers_arabic.specs.JoinedText.{flag_calls, forms_of, buffer_joined,
 use Rattle.shapers_base.specs.declared.plan.breaks.BreakFlags.{BreakFlags}
 use Rattle.shapers_arabic.proofs.SoundOrder.{calls-in_order}
 use Rattle.shapers_arabic.proofs.JoiningLaws.{length-forms_of, text_long}
+use Rattle.shapers_buffer.specs.Properties.{general_category}
 
 formed_added : (masks fs : List ℕ) (gs : List hb_glyph_info_t) → length fs ≡ length gs
     → OnlyFlagsAdded gs (with_joining_forms masks fs gs)
@@ -37,7 +38,7 @@ joined_added breaks masks script joining general old new is =
     let calls = flag_calls breaks script text in
     let formed = with_joining_forms masks fs old.glyphs in
     let long = length-forms_of script text (text_long joining general old)
-    ∙ length-map old.glyphs (λ g. resolved (joining g.glyph_id) g.general_category) in
+    ∙ length-map old.glyphs (λ g. resolved (joining g.glyph_id) (general_category g.unicode_props)) in
     let concat = has_flag flags_concat old.flags in
     let tatweel = has_flag flags_tatweel old.flags in
     let flagged = flags_called concat tatweel calls formed in

@@ -17,6 +17,7 @@ use Rattle.shapers_arabic.proofs.SoundOrder.{calls-in_order}
 use Rattle.shapers_arabic.proofs.JoinedGlyphs.{forms-joined}
 use Rattle.shapers_arabic.proofs.SelectedLists.{length-selected, selected-append, selected-same, zip-append}
 use Rattle.shapers_arabic.proofs.JoiningLists.{forms-contexts, length-forms, forms-append}
+use Rattle.shapers_buffer.specs.Properties.{general_category}
 
 -- so two texts before differ in the selectors that open the text alone
 pub selected-opening : (before others : List (ℕ × ℕ)) (cs fs : List ℕ)
@@ -104,7 +105,7 @@ length-forms_of script text long =
 pub text_long : (joining : ℕ → hb_arabic_joining_type_t) (general : ℕ → hb_unicode_general_category_t) (old : Buffer)
     → let text = text_of joining general old in length text.characters ≡ length text.types
 text_long joining general old = length-map old.glyphs (λ g. g.glyph_id)
-    ∙ sym (length-map old.glyphs (λ g. resolved (joining g.glyph_id) g.general_category))
+    ∙ sym (length-map old.glyphs (λ g. resolved (joining g.glyph_id) (general_category g.unicode_props)))
 
 pub forms_left : (breaks : BreakFlags) (masks : List ℕ) (script : Option Script) (joining : ℕ
     → hb_arabic_joining_type_t) (general : ℕ → hb_unicode_general_category_t) (old new : Buffer)
@@ -114,7 +115,7 @@ forms_left breaks masks script joining general old new is =
     let text = text_of joining general old in
     let calls = flag_calls breaks script text in
     let types_long : length text.types ≡ length old.glyphs =
-    length-map old.glyphs (λ g. resolved (joining g.glyph_id) g.general_category) in
+    length-map old.glyphs (λ g. resolved (joining g.glyph_id) (general_category g.unicode_props)) in
     let fs_long : length old.glyphs ≡ length (forms_of script text) = sym types_long
     ∙ sym (length-forms_of script text (text_long joining general old)) in
     ap (λ (b : Buffer). map (λ g. g.auxiliary) b.glyphs) is
@@ -158,7 +159,7 @@ types-agree : (joining : ℕ → hb_arabic_joining_type_t) (general : ℕ → hb
 types-agree joining general [] all = refl
 types-agree joining general (g ∷ gs) all =
     ap (λ category. resolved (joining g.glyph_id) category ∷ context_types joining general (map (λ h. h.glyph_id) gs))
-    (sym all.0) ∙ ap (λ ts. resolved (joining g.glyph_id) g.general_category ∷ ts)
+    (sym all.0) ∙ ap (λ ts. resolved (joining g.glyph_id) (general_category g.unicode_props) ∷ ts)
     (types-agree joining general gs all.1)
 
 agrees-take : (general : ℕ → hb_unicode_general_category_t) (n : ℕ) (gs : List hb_glyph_info_t)
@@ -206,7 +207,7 @@ copied-cut script joining general b n h all onward backward =
     let gs = b.glyphs in
     let text = text_of joining general b in
     let ids = λ (g : hb_glyph_info_t). g.glyph_id in
-    let type_of = λ (g : hb_glyph_info_t). resolved (joining g.glyph_id) g.general_category in
+    let type_of = λ (g : hb_glyph_info_t). resolved (joining g.glyph_id) (general_category g.unicode_props) in
     let front : take n text.types ≡ stored_types joining (take n gs) = take-map type_of n gs in
     let back : drop n text.types ≡ stored_types joining (drop n gs) = drop-map type_of n gs in
     let inner_after = take 5 (drop n text.types ++ text.after) in

@@ -13,6 +13,7 @@ use Rattle.shapers_arabic.specs.declared.ot_shaper_arabic.joining.TheConstants.{
 use Rattle.shapers_arabic.specs.JoiningWalk.{row_of}
 use Rattle.shapers_arabic.specs.Joining.{resolved, act, forms, is_selector}
 use Rattle.shapers_arabic.specs.JoinedText.{Text, is_mongolian, forms_of, context_look_ups, look_ups, opening, text_of, first_of, second_of}
+use Rattle.shapers_buffer.specs.Properties.{properties}
 
 -- the numbers of the forms
 numbers : ISOL ∷ FINA ∷ FIN2 ∷ FIN3 ∷ MEDI ∷ MED2 ∷ INIT ∷ NONE ∷ STRETCHING_FIXED ∷ STRETCHING_REPEATING ∷ []
@@ -164,7 +165,7 @@ abbrev joining_of : ℕ → hb_arabic_joining_type_t
 joining_of c = if c == 1 then D else if c == 3 then X else if c == 0x180B then T else U
 
 abbrev glyph : ℕ → hb_unicode_general_category_t → hb_glyph_info_t
-glyph c category = record default_glyph { glyph_id = c; general_category = category }
+glyph c category = record default_glyph { glyph_id = c; unicode_props = properties category 0 }
 
 abbrev marks : ℕ → hb_unicode_general_category_t
 marks c = gc.Mn

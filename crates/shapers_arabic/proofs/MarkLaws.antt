@@ -211,7 +211,7 @@ marks_view level s e gs = reordered-plain s e (marks_merged level s e gs)
 class_hidden : HidesFields without_class
 class_hidden = record {
   shows = record { cluster = λ g. refl; flags = λ g. refl };
-  apart = λ g. ap (λ (m : ℕ). record g { cluster = 0; mask = m; modified_combining_class = 0 })
+  apart = λ g. ap (λ (m : ℕ). record g { cluster = 0; mask = m; unicode_props = record { 0 = 0 } })
       (without_flags-twice g.mask);
 }
 

@@ -11,12 +11,13 @@ use Rattle.shapers_clusters.specs.Steps.{run_step}
 use Rattle.shapers_arabic.specs.declared.ot_shaper_arabic.marks.TheConstants.{ABOVE}
 use Rattle.shapers_arabic.specs.MarkParts.{lengths_of, passed_by, last_marks_first}
 use Rattle.shapers_arabic.specs.Marks.{modifiers, has_lower_class, is_modifier_of, split_marks, with_modifiers_first, marks_reordered, marks_merged, merged_for, passed, places_moved, arabic_mark_step, text_step, without_class}
+use Rattle.shapers_buffer.specs.Properties.{modified_combining_class, properties}
 
 abbrev mark : ℕ × ℕ × ℕ → hb_glyph_info_t
-mark p = record default_glyph { glyph_id = p.0; modified_combining_class = p.1; cluster = p.2 }
+mark p = record default_glyph { glyph_id = p.0; unicode_props = properties Cc p.1; cluster = p.2 }
 
 abbrev view : List hb_glyph_info_t → List (ℕ × ℕ)
-view gs = map (λ g. (g.glyph_id, g.modified_combining_class)) gs
+view gs = map (λ g. (g.glyph_id, (modified_combining_class g.unicode_props))) gs
 
 classes_of_modifiers : CCC22 ∷ CCC26 ∷ [] ≡ 25 ∷ 26 ∷ []
 classes_of_modifiers = refl
@@ -178,18 +179,16 @@ full = record {
   glyph_id = 0x0655;
   cluster = 7;
   mask = 23;
-  var = 0x7A;
   syllable = 33;
   category = 5;
   auxiliary = 6;
-  general_category = Mn;
-  modified_combining_class = 220;
-  lig_comp = 3;
-  marks = record { 0 = 31 };
+  glyph_props = record { 0 = 0x70 };
+  lig_props = record { 0 = 3 };
+  unicode_props = record { 0 = 0xDCAC };
 }
 
 kept_fields : marks_reordered 0 2 (marks_merged MonotoneGraphemes 0 2 (mark (0x064E, 31, 5) ∷ full ∷ []))
-    ≡ record full { mask = 16; cluster = 5; modified_combining_class = 25 } ∷ mark (0x064E, 31, 5) ∷ []
+    ≡ record full { mask = 16; cluster = 5; unicode_props = record { 0 = 0x1900 } } ∷ mark (0x064E, 31, 5) ∷ []
 kept_fields = refl
 
 -- an empty stretch, and one of 32 modifiers
@@ -220,5 +219,5 @@ last_first_row : view (last_marks_first 2 25 five) ≡ (0x0654, 25) ∷ (0x0653,
     ∷ (0x065C, 220) ∷ []
 last_first_row = refl
 
-hidden_class : without_class full ≡ record full { modified_combining_class = 0 }
+hidden_class : without_class full ≡ record full { unicode_props = record { 0 = 0 } }
 hidden_class = refl

@@ -9,6 +9,7 @@ use Rattle.shapers_buffer.specs.Buffer.{Buffer}
 use Rattle.shapers_buffer.specs.Clusters.{stretch_of, with_stretch, merge_all}
 use Rattle.shapers_clusters.specs.Laws.{ReorderedHold}
 use Rattle.shapers_clusters.specs.Steps.{Step, widened}
+use Rattle.shapers_buffer.specs.Properties.{modified_combining_class, with_high_byte, with_modified_combining_class}
 
 -- the marks that modify a letter
 abbrev pub modifiers : List ℕ
@@ -17,12 +18,12 @@ modifiers = 0x0654 ∷ 0x0655 ∷ 0x0658 ∷ 0x06DC ∷ 0x06E3 ∷ 0x06E7 ∷ 0x
 
 -- whether a mark is of a class below this one
 abbrev pub has_lower_class : ℕ → hb_glyph_info_t → Bool
-has_lower_class class g = nat_lt g.modified_combining_class class
+has_lower_class class g = nat_lt (modified_combining_class g.unicode_props) class
 
 -- whether a mark is of this class and modifies a letter
 abbrev pub is_modifier_of : ℕ → hb_glyph_info_t → Bool
 is_modifier_of class g =
-    g.modified_combining_class == class && list_any (λ c. c == g.glyph_id) modifiers
+    (modified_combining_class g.unicode_props) == class && list_any (λ c. c == g.glyph_id) modifiers
 
 -- the longest front all of which passes a test, and what stands behind it
 abbrev pub front_of : (hb_glyph_info_t → Bool) → List hb_glyph_info_t → List hb_glyph_info_t
@@ -55,7 +56,8 @@ split_marks gs =
 
 -- the modifiers come to the front, those of 220 first, in classes of their own
 abbrev pub in_class : ℕ → hb_glyph_info_t → hb_glyph_info_t
-in_class class g = record g { modified_combining_class = class }
+in_class class g =
+    record g { unicode_props = with_modified_combining_class class g.unicode_props }
 
 abbrev pub with_modifiers_first : Marks → List hb_glyph_info_t
 with_modifiers_first s =
@@ -107,7 +109,7 @@ marks_merged level start end gs = merge_all level (text_step start end gs).merge
 
 -- the view that hides classes
 abbrev pub without_class : hb_glyph_info_t → hb_glyph_info_t
-without_class g = record g { modified_combining_class = 0 }
+without_class g = record g { unicode_props = with_high_byte 0 g.unicode_props }
 
 -- what the reordering promises, through that view: no glyph is lost, and the laws hold
 abbrev pub ArabicMarksReordered : ℕ → ℕ → Buffer → Buffer → Type 0

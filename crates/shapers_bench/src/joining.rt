@@ -3,7 +3,7 @@ ghost use Rattle.std.specs.Prelude.{◌≡◌, ◌<◌, IfOk};
 ghost use Rattle.rustybuzz_shapers.specs.JoinedText.{AreCharacters};
 
 use rustybuzz_shapers::buffer::{
-    ShaperError, hb_buffer_t, hb_glyph_info_t, hb_unicode_general_category_t,
+    ShaperError, UnicodeProps, hb_buffer_t, hb_glyph_info_t, hb_unicode_general_category_t,
 };
 use rustybuzz_shapers::font::Tables;
 use rustybuzz_shapers::ot_shaper_arabic::{LookUps, arabic_shape_plan_t, setup_masks_counted};
@@ -90,7 +90,7 @@ fn glyph(c: char, cluster: u32) -> hb_glyph_info_t
     hb_glyph_info_t {
         glyph_id: u32::from(c),
         cluster,
-        general_category: hb_unicode_general_category_t::Lo,
+        unicode_props: UnicodeProps::new(hb_unicode_general_category_t::Lo, 0),
         ..hb_glyph_info_t::DEFAULT
     }
 }

@@ -5,11 +5,11 @@ use Rattle.std.proofs.lemmas.List.{drop-map, drop_at, length-map, map-append, ta
 use Rattle.std.proofs.lemmas.List.Concat.{flat_map-append}
 use Rattle.std.proofs.lemmas.List.Elements.{All-from_get_or, All-get_or, AllZip-get_or}
 use Rattle.shapers_buffer.specs.declared.buffer.glyph.hb_glyph_info_t.{hb_glyph_info_t}
-use Rattle.shapers_buffer.specs.declared.buffer.glyph_marks.GlyphMarks.{GlyphMarks}
+use Rattle.shapers_buffer.specs.declared.buffer.glyph_props.GlyphProps.{GlyphProps}
 use Rattle.shapers_buffer.specs.Buffer.{Buffer}
 use Rattle.shapers_buffer.specs.Clusters.{least}
 use Rattle.shapers_buffer.specs.Glyph.{clusters, default_glyph}
-use Rattle.shapers_buffer.specs.Marks.{is_substituted}
+use Rattle.shapers_buffer.specs.Properties.{is_substituted}
 use Rattle.shapers_buffer.specs.Syllables.{syllables}
 use Rattle.shapers_buffer.proofs.MappedLists.{map-hidden, map-seen, prefix_len-seen}
 use Rattle.shapers_base.specs.Masks.{has_bits}
@@ -257,7 +257,7 @@ between_each view byte f shape serials seen =
 -- the records of rphf and pref
 recorded_shape : (c : ℕ) (gs : Glyphs) → map bare (first_recorded c gs) ≡ map bare gs
 recorded_shape c [] = refl
-recorded_shape c (g ∷ gs) = elim (is_substituted g.marks) as
+recorded_shape c (g ∷ gs) = elim (is_substituted g.glyph_props) as
     (λ b. map bare (if b then in_category c g ∷ gs else g ∷ first_recorded c gs) ≡ map bare (g ∷ gs)) [
       | true ↦ refl
       | false ↦ ap (λ l. bare g ∷ l) (recorded_shape c gs)
@@ -266,17 +266,17 @@ recorded_shape c (g ∷ gs) = elim (is_substituted g.marks) as
 -- a view that shows marks and categories as they are
 pub record ShowsCategories (view : hb_glyph_info_t → hb_glyph_info_t) : Type 0 where
   pub byte : (g : hb_glyph_info_t) → (view g).syllable ≡ g.syllable
-  pub marks : (g : hb_glyph_info_t) → (view g).marks ≡ g.marks
+  pub marks : (g : hb_glyph_info_t) → (view g).glyph_props ≡ g.glyph_props
   pub category : (c : ℕ) (g : hb_glyph_info_t) → in_category c (view g) ≡ view (in_category c g)
 
-recorded_seen : (view : hb_glyph_info_t → hb_glyph_info_t) → ((g : hb_glyph_info_t) → (view g).marks ≡ g.marks)
+recorded_seen : (view : hb_glyph_info_t → hb_glyph_info_t) → ((g : hb_glyph_info_t) → (view g).glyph_props ≡ g.glyph_props)
     → (c : ℕ) → ((g : hb_glyph_info_t) → in_category c (view g) ≡ view (in_category c g)) → (gs : Glyphs)
     → first_recorded c (map view gs) ≡ map view (first_recorded c gs)
 recorded_seen view marks c category [] = refl
 recorded_seen view marks c category (g ∷ gs) =
-    ap (λ (m : GlyphMarks). if is_substituted m then in_category c (view g) ∷ map view gs
+    ap (λ (m : GlyphProps). if is_substituted m then in_category c (view g) ∷ map view gs
     else view g ∷ first_recorded c (map view gs)) (marks g)
-    ∙ elim (is_substituted g.marks) as (λ b. (if b then in_category c (view g) ∷ map view gs
+    ∙ elim (is_substituted g.glyph_props) as (λ b. (if b then in_category c (view g) ∷ map view gs
     else view g ∷ first_recorded c (map view gs))
     ≡ map view (if b then in_category c g ∷ gs else g ∷ first_recorded c gs)) [
       | true ↦ ap (λ x. x ∷ map view gs) (category g)
@@ -296,7 +296,7 @@ rphf_shape mask gs =
     ∙ ap (λ l. l ++ map bare (drop n gs)) (recorded_shape R (take n gs))
     ∙ sym (map-append bare (take n gs) (drop n gs)) ∙ ap (map bare) (take-append-drop n gs)
 
-rphf_seen : (view : hb_glyph_info_t → hb_glyph_info_t) → ((g : hb_glyph_info_t) → (view g).marks ≡ g.marks)
+rphf_seen : (view : hb_glyph_info_t → hb_glyph_info_t) → ((g : hb_glyph_info_t) → (view g).glyph_props ≡ g.glyph_props)
     → ((g : hb_glyph_info_t) → in_category R (view g) ≡ view (in_category R g)) → (mask : ℕ)
     → ((g : hb_glyph_info_t) → has_bits mask (view g) ≡ has_bits mask g) → (gs : Glyphs)
     → rphf_recorded mask (map view gs) ≡ map view (rphf_recorded mask gs)

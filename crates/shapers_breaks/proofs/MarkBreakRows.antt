@@ -6,13 +6,14 @@ use Rattle.shapers_buffer.specs.Glyph.{clusters, default_glyph}
 use Rattle.shapers_clusters.specs.Breaks.{IsClear}
 use Rattle.rustybuzz_shapers.specs.declared.shaper.hb_ot_shaper_t.TheVariants.{Arabic, Hebrew, Thai}
 use Rattle.shapers_breaks.specs.MarkBreaks.{NoneClearInside, marks_after}
+use Rattle.shapers_buffer.specs.Properties.{modified_combining_class, properties}
 
 -- a mark in this cluster: its character and class
 mark : ℕ → ℕ → ℕ → hb_glyph_info_t
-mark c u class = record default_glyph { cluster = c; glyph_id = u; modified_combining_class = class }
+mark c u class = record default_glyph { cluster = c; glyph_id = u; unicode_props = properties Cc class }
 
 classes : List hb_glyph_info_t → List ℕ
-classes gs = map (λ g. g.modified_combining_class) gs
+classes gs = map (λ g. (modified_combining_class g.unicode_props)) gs
 
 -- Arabic, a letter, 0651 of class 33 and 0655 in one cluster, a letter: 0655 comes first, with class 22, which HarfBuzz
 -- numbers 25

@@ -5,7 +5,7 @@ use Rattle.shapers_base.specs.declared.plan.pause.Pause.TheVariants.{SetupSyllab
 use Rattle.shapers_arabic.specs.Requests.{arabic_list, is_arabic}
 use Rattle.shapers_buffer.specs.Buffer.{Buffer}
 use Rattle.shapers_buffer.specs.Glyph.{plain}
-use Rattle.shapers_buffer.specs.Marks.{is_multiplied}
+use Rattle.shapers_buffer.specs.Properties.{is_multiplied, component}
 use Rattle.shapers_buffer.specs.declared.buffer.glyph.hb_glyph_info_t.{hb_glyph_info_t}
 use Rattle.shapers_clusters.specs.FlagLaw.{FlagsAdded}
 use Rattle.shapers_clusters.proofs.FlagLaw.{added_same}
@@ -30,7 +30,7 @@ cleared = record {
 }
 
 as_tile : hb_glyph_info_t → hb_glyph_info_t
-as_tile g = record g { auxiliary = tile_action g.lig_comp }
+as_tile g = record g { auxiliary = tile_action (component g.lig_props) }
 
 if_tile : Bool → hb_glyph_info_t → hb_glyph_info_t
 if_tile b g = if b then as_tile g else g
@@ -61,10 +61,10 @@ tile_byte false g = refl
 tiles : ReadsOrder recorded
 unfolding if_tile as_tile
 tiles = record {
-  added = λ g. tile_added (is_multiplied g.marks) g;
-  byte = λ g. tile_byte (is_multiplied g.marks) g;
-  viewed = λ g. tile_viewed (is_multiplied g.marks) g;
-  counted = λ g. tile_counted (is_multiplied g.marks) g;
+  added = λ g. tile_added (is_multiplied g.glyph_props) g;
+  byte = λ g. tile_byte (is_multiplied g.glyph_props) g;
+  viewed = λ g. tile_viewed (is_multiplied g.glyph_props) g;
+  counted = λ g. tile_counted (is_multiplied g.glyph_props) g;
 }
 
 if_stretched : (b : Bool) → ChangesGlyphs (λ g. if b then recorded g else g)

@@ -22,6 +22,7 @@ use Rattle.shapers_text.specs.ThaiForms.{preprocessed_flagged, preprocessed_text
 use Rattle.shapers_breaks.specs.HangulBreaks.{NarrowTonesJoin}
 use Rattle.shapers_breaks.specs.TextBreaks.{IsClusterBorder, back_half, front_half}
 use Rattle.shapers_breaks.specs.ThaiBreaks.{ThaiMarksJoin, sara_ams_taken}
+use Rattle.shapers_buffer.specs.Properties.{properties}
 
 abbrev glyph : ℕ → ℕ → hb_glyph_info_t
 glyph u c = record default_glyph { glyph_id = u; cluster = c }
@@ -223,7 +224,7 @@ row_syllables_clear = record { differ = λ e. absurd (omega (arith, e)); unflagg
 -- STRETCH. A space, a letter of 140 and a fixed tile of 100
 abbrev drawn : ℕ → ℕ → hb_unicode_general_category_t → ℕ → hb_glyph_info_t
 drawn n c category action =
-    record default_glyph { glyph_id = n; cluster = c; general_category = category; auxiliary = action }
+    record default_glyph { glyph_id = n; cluster = c; unicode_props = properties category 0; auxiliary = action }
 
 abbrev wide : ℤ → GlyphPosition
 wide advance = record default_position { x_advance = advance }

@@ -8,7 +8,7 @@ use Rattle.std.proofs.lemmas.List.{length-map}
 use Rattle.shapers_buffer.specs.declared.buffer.glyph.hb_glyph_info_t.{hb_glyph_info_t}
 use Rattle.shapers_buffer.specs.declared.buffer.syllables.Span.{Span}
 use Rattle.shapers_buffer.specs.Glyph.{default_glyph}
-use Rattle.shapers_buffer.specs.Marks.{SUBSTITUTED, no_marks, with_mark}
+use Rattle.shapers_buffer.specs.Properties.{SUBSTITUTED, no_marks, with_mark}
 use Rattle.shapers_buffer.specs.Syllables.{syllables}
 use Rattle.shapers_base.specs.Map.{Map}
 use Rattle.shapers_base.specs.declared.plan.PlanData.TheVariants.{Universal}
@@ -71,7 +71,7 @@ recorded : List hb_glyph_info_t → List hb_glyph_info_t
 recorded gs = flat_map (rphf_recorded 1) (syllables gs)
 
 abbrev put_in : hb_glyph_info_t
-put_in = record (glyph 0) { marks = with_mark SUBSTITUTED no_marks }
+put_in = record (glyph 0) { glyph_props = with_mark SUBSTITUTED no_marks }
 
 row_records : ReadsOnly without_glyph_flags recorded → ⊥
 unfolding recorded

@@ -1,6 +1,5 @@
 -- Buffers and their glyphs, each field: defaults, growth, copied places, the order view.
 use Rattle.std.specs.Prelude.{◌≡◌, ℕ, ◌+◌, true, false, [], ◌∷◌, map, None, Some, codes, pos, refl}
-use Rattle.shapers_buffer.specs.declared.buffer.category.hb_unicode_general_category_t.TheVariants.{Cc, Mn}
 use Rattle.shapers_buffer.specs.declared.buffer.glyph.TheConstants.GlyphPosition as zero
 use Rattle.shapers_buffer.specs.declared.buffer.glyph.TheConstants.hb_glyph_info_t as zeroes
 use Rattle.shapers_buffer.specs.declared.buffer.glyph.GlyphPosition.{GlyphPosition}
@@ -17,14 +16,12 @@ full = record {
   glyph_id = 0x916;
   cluster = 5;
   mask = 0x1F;
-  var = 0x7A;
   syllable = 0x24;
   category = 1;
   auxiliary = 3;
-  general_category = Mn;
-  modified_combining_class = 9;
-  lig_comp = 2;
-  marks = record { 0 = 31 };
+  glyph_props = record { 0 = 0x70 };
+  lig_props = record { 0 = 2 };
+  unicode_props = record { 0 = 0x09AC };
 }
 
 -- the default glyph is all zero, of category Cc, without marks
@@ -33,14 +30,12 @@ blank = record {
   glyph_id = 0;
   cluster = 0;
   mask = 0;
-  var = 0;
   syllable = 0;
   category = 0;
   auxiliary = 0;
-  general_category = Cc;
-  modified_combining_class = 0;
-  lig_comp = 0;
-  marks = record { 0 = 0 };
+  glyph_props = record { 0 = 0 };
+  lig_props = record { 0 = 0 };
+  unicode_props = record { 0 = 0 };
 }
 
 glyph_by_default : default_glyph ≡ blank
@@ -51,10 +46,10 @@ DEFAULT = refl
 
 -- a position whose fields differ, and the default one
 abbrev position_from : ℕ → GlyphPosition
-position_from n = record { x_advance = pos n; y_advance = pos (n + 1); x_offset = pos (n + 2); y_offset = pos (n + 3) }
+position_from n = record { x_advance = pos n; y_advance = pos (n + 1); x_offset = pos (n + 2); y_offset = pos (n + 3); var = n + 4 }
 
 abbrev nowhere : GlyphPosition
-nowhere = record { x_advance = pos 0; y_advance = pos 0; x_offset = pos 0; y_offset = pos 0 }
+nowhere = record { x_advance = pos 0; y_advance = pos 0; x_offset = pos 0; y_offset = pos 0; var = 0 }
 
 position_by_default : default_position ≡ nowhere
 position_by_default = refl

@@ -1,6 +1,5 @@
 -- Glyph flags, computed on small texts: who gets which bits.
 use Rattle.std.specs.Prelude.{◌≡◌, ℕ, true, false, List, [], ◌∷◌, map, refl}
-use Rattle.shapers_buffer.specs.declared.buffer.category.hb_unicode_general_category_t.TheVariants.{Mn}
 use Rattle.shapers_buffer.specs.declared.buffer.glyph.hb_glyph_info_t.{hb_glyph_info_t}
 use Rattle.shapers_buffer.specs.Buffer.{asks, has_flag, new_buffer}
 use Rattle.shapers_buffer.specs.Glyph.{default_glyph}
@@ -23,14 +22,12 @@ full = record {
   glyph_id = 0x916;
   cluster = 5;
   mask = 0x1F;
-  var = 0x7A;
   syllable = 0x24;
   category = 1;
   auxiliary = 3;
-  general_category = Mn;
-  modified_combining_class = 9;
-  lig_comp = 2;
-  marks = record { 0 = 31 };
+  glyph_props = record { 0 = 0x70 };
+  lig_props = record { 0 = 2 };
+  unicode_props = record { 0 = 0x09AC };
 }
 
 -- of clusters that fall, rise and repeat: every place outside the least cluster, wherever that stands and however often

@@ -1,3 +1,4 @@
+pub mod BitLemmas
 mod BufferRows
 mod CategoryRows
 pub mod ClusterLemmas
@@ -7,13 +8,13 @@ mod GlyphFlagRows
 pub mod ListLaws
 pub mod Listing
 pub mod MappedLists
-pub mod MarkLemmas
-mod MarkRows
 pub mod MaskBits
 mod NumberRows
 pub mod PieceLaws
 pub mod PlaceLaws
 mod PlaceRows
+pub mod PropertyLemmas
+mod PropertyRows
 mod Rows
 pub mod RunLemmas
 mod SettingsRows

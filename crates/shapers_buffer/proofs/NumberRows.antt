@@ -6,7 +6,8 @@ use Rattle.shapers_buffer.specs.declared.buffer.level.BufferClusterLevel.TheVari
 use Rattle.shapers_buffer.specs.declared.buffer.level.Direction.TheVariants as direction
 use Rattle.shapers_buffer.specs.declared.buffer.level.TheConstants.BufferClusterLevel as all_levels
 use Rattle.shapers_buffer.specs.declared.buffer.level.TheConstants.Direction as all_directions
-use Rattle.shapers_buffer.specs.Numbers.{categories, direction_number, directions, from_harfbuzz, levels, to_harfbuzz}
+use Rattle.shapers_buffer.specs.Category.{categories, category_number}
+use Rattle.shapers_buffer.specs.Numbers.{direction_number, directions, from_harfbuzz, levels, to_harfbuzz}
 
 -- general categories, 0 to 29, as HarfBuzz's hb_unicode_general_category_t has them
 first_categories : map (slice_get categories) (0 ∷ 1 ∷ 2 ∷ 3 ∷ 4 ∷ 5 ∷ 6 ∷ 7 ∷ 8 ∷ 9 ∷ []) ≡ Some category.Cc
@@ -23,6 +24,11 @@ last_categories : map (slice_get categories) (20 ∷ 21 ∷ 22 ∷ 23 ∷ 24 ∷
     ≡ Some category.Pi ∷ Some category.Po ∷ Some category.Ps ∷ Some category.Sc ∷ Some category.Sk ∷ Some category.Sm
     ∷ Some category.So ∷ Some category.Zl ∷ Some category.Zp ∷ Some category.Zs ∷ None ∷ []
 last_categories = refl
+
+-- and the number of each
+numbers : map category_number categories ≡ 0 ∷ 1 ∷ 2 ∷ 3 ∷ 4 ∷ 5 ∷ 6 ∷ 7 ∷ 8 ∷ 9 ∷ 10 ∷ 11 ∷ 12 ∷ 13 ∷ 14 ∷ 15 ∷ 16 ∷ 17
+    ∷ 18 ∷ 19 ∷ 20 ∷ 21 ∷ 22 ∷ 23 ∷ 24 ∷ 25 ∷ 26 ∷ 27 ∷ 28 ∷ 29 ∷ []
+numbers = refl
 
 -- levels, 0 to 2
 levels_by_number : map (slice_get levels) (0 ∷ 1 ∷ 2 ∷ 3 ∷ []) ≡ Some level.MonotoneGraphemes

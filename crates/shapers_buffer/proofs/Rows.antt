@@ -1,6 +1,5 @@
 -- The definitions, computed on small texts.
 use Rattle.std.specs.Prelude.{◌≡◌, ℕ, true, false, List, [], ◌∷◌, map, length, refl}
-use Rattle.shapers_buffer.specs.declared.buffer.category.hb_unicode_general_category_t.TheVariants.{Mn}
 use Rattle.shapers_buffer.specs.declared.buffer.glyph.hb_glyph_info_t.{hb_glyph_info_t}
 use Rattle.shapers_buffer.specs.declared.buffer.level.BufferClusterLevel.TheVariants.{MonotoneGraphemes, MonotoneCharacters, Characters}
 use Rattle.shapers_buffer.specs.declared.buffer.syllables.Span.{Span}
@@ -78,14 +77,12 @@ full c m = record {
   glyph_id = 1;
   cluster = c;
   mask = m;
-  var = 0x7A;
   syllable = 2;
   category = 3;
   auxiliary = 4;
-  general_category = Mn;
-  modified_combining_class = 5;
-  lig_comp = 6;
-  marks = record { 0 = 31 };
+  glyph_props = record { 0 = 0x70 };
+  lig_props = record { 0 = 6 };
+  unicode_props = record { 0 = 0x05AC };
 }
 
 all_fields : merge MonotoneGraphemes 0 2 (full 4 255 ∷ full 3 255 ∷ full 3 7 ∷ full 9 7 ∷ []) ≡ full 3 248 ∷ full 3 255

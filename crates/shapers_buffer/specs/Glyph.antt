@@ -1,31 +1,28 @@
 -- The glyph on its own: its default, its order view, the kind of its syllable.
 use Rattle.std.specs.Prelude.{ℕ, ◌-◌, ◌%◌, List, map}
-use Rattle.shapers_buffer.specs.declared.buffer.category.hb_unicode_general_category_t.TheVariants.{Cc}
 use Rattle.shapers_buffer.specs.declared.buffer.glyph.hb_glyph_info_t.{hb_glyph_info_t}
 use Rattle.shapers_buffer.specs.declared.buffer.glyph.GlyphPosition.{GlyphPosition}
 use Rattle.std.specs.Prelude.{pos}
-use Rattle.shapers_buffer.specs.Marks.{no_marks}
+use Rattle.shapers_buffer.specs.Properties.{no_ligature, no_marks, no_properties}
 
 -- the default glyph: all zero, of category Cc, with no marks
 abbrev pub default_glyph : hb_glyph_info_t
 default_glyph = record {
   glyph_id = 0;
-  cluster = 0;
   mask = 0;
-  var = 0;
+  cluster = 0;
+  glyph_props = no_marks;
+  lig_props = no_ligature;
   syllable = 0;
+  unicode_props = no_properties;
   category = 0;
   auxiliary = 0;
-  general_category = Cc;
-  modified_combining_class = 0;
-  lig_comp = 0;
-  marks = no_marks;
 }
 
 -- the default position: all zero
 abbrev pub default_position : GlyphPosition
 default_position =
-    record { x_advance = pos 0; y_advance = pos 0; x_offset = pos 0; y_offset = pos 0 }
+    record { x_advance = pos 0; y_advance = pos 0; x_offset = pos 0; y_offset = pos 0; var = 0 }
 
 -- a mask without its three glyph flags, the low three bits
 abbrev pub without_flags : ℕ → ℕ

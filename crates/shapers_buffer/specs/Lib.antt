@@ -6,9 +6,9 @@ pub mod Glyph
 pub mod GlyphFlags
 pub mod ListingWalk
 pub mod Lists
-pub mod Marks
 pub mod Numbers
 pub mod Places
+pub mod Properties
 pub mod Refusals
 pub mod Settings
 pub mod RunWalk

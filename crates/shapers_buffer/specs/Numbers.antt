@@ -1,18 +1,10 @@
--- General categories, levels, directions and flags by their numbers.
+-- Levels, directions and flags by their numbers.
 use Rattle.std.specs.Prelude.{ℕ, ◌==◌, bit_and, bit_or, List, [], ◌∷◌, if◌then◌else◌}
 use Rattle.shapers_buffer.specs.Buffer.{no_dotted_circle, flags_concat, flags_tatweel}
-use Rattle.shapers_buffer.specs.declared.buffer.category.hb_unicode_general_category_t.{hb_unicode_general_category_t}
-use Rattle.shapers_buffer.specs.declared.buffer.category.hb_unicode_general_category_t.TheVariants.{Cc, Cf, Cn, Co, Cs, Ll, Lm, Lo, Lt, Lu, Mc, Me, Mn, Nd, Nl, No, Pc, Pd, Pe, Pf, Pi, Po, Ps, Sc, Sk, Sm, So, Zl, Zp, Zs}
 use Rattle.shapers_buffer.specs.declared.buffer.level.BufferClusterLevel.{BufferClusterLevel}
 use Rattle.shapers_buffer.specs.declared.buffer.level.BufferClusterLevel.TheVariants.{MonotoneGraphemes, MonotoneCharacters, Characters}
 use Rattle.shapers_buffer.specs.declared.buffer.level.Direction.{Direction}
 use Rattle.shapers_buffer.specs.declared.buffer.level.Direction.TheVariants.{Invalid, LeftToRight, RightToLeft, TopToBottom, BottomToTop}
-
--- the general categories, each at the place of its number
-abbrev pub categories : List hb_unicode_general_category_t
-categories =
-    Cc ∷ Cf ∷ Cn ∷ Co ∷ Cs ∷ Ll ∷ Lm ∷ Lo ∷ Lt ∷ Lu ∷ Mc ∷ Me ∷ Mn ∷ Nd ∷ Nl ∷ No ∷ Pc ∷ Pd ∷ Pe
-    ∷ Pf ∷ Pi ∷ Po ∷ Ps ∷ Sc ∷ Sk ∷ Sm ∷ So ∷ Zl ∷ Zp ∷ Zs ∷ []
 
 -- the cluster levels, each at the place of its number
 abbrev pub levels : List BufferClusterLevel

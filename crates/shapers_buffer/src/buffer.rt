@@ -9,6 +9,7 @@ use placement::{copy_places, make_room};
 use std::alloc::Global;
 use std::marker::Model;
 
+mod bits;
 mod category;
 mod cluster_runs;
 mod exchanging;
@@ -16,9 +17,10 @@ mod fields;
 mod flags;
 mod glyph;
 mod glyph_flags;
-mod glyph_marks;
+mod glyph_props;
 mod laws;
 mod level;
+mod lig_props;
 mod merging;
 pub mod modified_combining_class;
 mod placement;
@@ -28,6 +30,7 @@ mod reversing;
 mod settings;
 mod syllables;
 mod tag;
+mod unicode_props;
 mod walking;
 
 pub use category::hb_unicode_general_category_t;
@@ -37,9 +40,13 @@ pub use glyph::{GlyphPosition, hb_glyph_info_t};
 pub use glyph_flags::{
     glyph_flag, safe_to_insert_tatweel_in, unsafe_to_break_in, unsafe_to_concat_in,
 };
-pub use glyph_marks::GlyphMarks;
-pub use laws::{marks_are_set_alone, parts_change_places, places_are_written, syllables_are_runs};
+pub use glyph_props::GlyphProps;
+pub use laws::{
+    bits_are_set_alone, parts_change_places, places_are_written, properties_are_set,
+    syllables_are_runs,
+};
 pub use level::{BufferClusterLevel, Direction};
+pub use lig_props::LigProps;
 pub use merging::{least_cluster, merge_clusters_in};
 pub use placement::Placement;
 pub use refusal::ShaperError;
@@ -47,6 +54,7 @@ pub use replacing::GlyphRewriting;
 pub use settings::{BufferSettings, context_characters};
 pub use syllables::{Span, first_syllable_len, has_span_of_kind, set_syllable, spans_cover};
 pub use tag::{Script, hb_tag_t};
+pub use unicode_props::UnicodeProps;
 pub use walking::{GlyphChange, GlyphWalk, PositionedWalk, change_each_in};
 
 /// How many characters of context a buffer keeps on each side.

@@ -114,7 +114,7 @@ row_bits = refl
 -- neither cluster nor glyph flags
 a_glyph : ℕ → ℕ → ℕ → hb_glyph_info_t
 a_glyph c m k =
-    record default_glyph { glyph_id = 65; cluster = c; mask = m; category = k; modified_combining_class = 7 }
+    record default_glyph { glyph_id = 65; cluster = c; mask = m; category = k; unicode_props = record { 0 = 0x0700 } }
 
 row_seen : seen (λ g. record g { mask = g.mask % 8; category = 0 }) (a_glyph 4 255 3 ∷ []) ≡ a_glyph 0 0 0 ∷ []
 unfolding a_glyph
@@ -134,10 +134,10 @@ masks_hidden = record {
   apart = λ g. ap (λ (m : ℕ). record g { cluster = 0; mask = m; category = 0; auxiliary = 0 }) (rests g.mask);
 }
 
-classes_hidden : HidesFields (λ g. record g { modified_combining_class = 0 })
+classes_hidden : HidesFields (λ g. record g { unicode_props = record { 0 = 0 } })
 classes_hidden = record {
   shows = record { cluster = λ g. refl; flags = λ g. refl };
-  apart = λ g. ap (λ (m : ℕ). record g { cluster = 0; mask = m; modified_combining_class = 0 })
+  apart = λ g. ap (λ (m : ℕ). record g { cluster = 0; mask = m; unicode_props = record { 0 = 0 } })
       (without_flags-twice g.mask);
 }
 

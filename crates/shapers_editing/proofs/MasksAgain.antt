@@ -27,6 +27,7 @@ use Rattle.rustybuzz_shapers.specs.Again.{MasksOnce}
 use Rattle.rustybuzz_shapers.specs.declared.shaper.hb_ot_shaper_t.TheVariants.{Arabic, Hangul, Hebrew, Indic, Khmer, Myanmar, MyanmarZawgyi, Thai, Universal}
 use Rattle.shapers_editing.specs.MasksAgain.{MasksSetOnce}
 use Rattle.shapers_editing.proofs.AddedBits.{ors, flags-pass, flags-twice}
+use Rattle.shapers_buffer.specs.Properties.{general_category}
 
 abbrev flags_called_by : Bool → Bool → BreakFlags → Option Script → Text → List hb_glyph_info_t → List hb_glyph_info_t
 flags_called_by concat tatweel breaks script text = flags_called concat tatweel (flag_calls breaks script text)
@@ -90,7 +91,7 @@ text-stays breaks masks script joining general b =
     let fs = forms_of script text in
     let long : length fs ≡ length b.glyphs = length-forms_of script text (text_long joining general b)
     ∙ types_long joining b.glyphs in
-    let type_of = λ (g : hb_glyph_info_t). resolved (joining g.glyph_id) g.general_category in
+    let type_of = λ (g : hb_glyph_info_t). resolved (joining g.glyph_id) (general_category g.unicode_props) in
     let before = context_types joining general b.before in
     let after = context_types joining general b.after in
     let characters : map (λ g. g.glyph_id) (joined_glyphs breaks masks b.flags script text b.glyphs) ≡ map

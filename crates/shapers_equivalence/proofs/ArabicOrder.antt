@@ -16,6 +16,7 @@ use Rattle.shapers_equivalence.specs.Equivalence.{SameButForOrder}
 use Rattle.shapers_equivalence.specs.Laws.{mark_class}
 use Rattle.shapers_equivalence.proofs.Projections as order
 use Rattle.shapers_equivalence.proofs.Apart.{AreMarks, IsMark, OtherMarks, Same, TakesApart, apart_text, apart-append, mark_parts, other_parts}
+use Rattle.shapers_buffer.specs.Properties.{modified_combining_class}
 
 abbrev Glyphs : Type 0
 Glyphs = List hb_glyph_info_t
@@ -64,8 +65,8 @@ byte_by true c some = refl
 byte_by false c some = absurd (some refl)
 
 -- a mark's class is its byte
-pub byte_of : (g : hb_glyph_info_t) → class_of g ≢ 0 → class_of g ≡ g.modified_combining_class
-byte_of g some = byte_by (is_mark_glyph g) g.modified_combining_class some
+pub byte_of : (g : hb_glyph_info_t) → class_of g ≢ 0 → class_of g ≡ (modified_combining_class g.unicode_props)
+byte_of g some = byte_by (is_mark_glyph g) (modified_combining_class g.unicode_props) some
 
 abbrev InClass : Context → ℕ → Glyphs → Type 0
 InClass context a gs = AllByRecursion (λ g. IsMark context g × (class_of g ≡ a)) gs
@@ -74,17 +75,17 @@ modifiers_in : (context : Context) (a : ℕ) (gs : Glyphs) → AreMarks context 
     → InClass context a gs
 modifiers_in context a [] marks all = tt
 modifiers_in context a (g ∷ gs) marks all =
-    let parts = and_parts (eqb g.modified_combining_class a) (list_any (λ c. eqb c g.glyph_id) modifiers) all.0 in
-    let is : class_of g ≡ a = byte_of g marks.0.1 ∙ eqb-true g.modified_combining_class a parts.0 in
+    let parts = and_parts (eqb (modified_combining_class g.unicode_props) a) (list_any (λ c. eqb c g.glyph_id) modifiers) all.0 in
+    let is : class_of g ≡ a = byte_of g marks.0.1 ∙ eqb-true (modified_combining_class g.unicode_props) a parts.0 in
     ((marks.0, is), modifiers_in context a gs marks.1 all.1)
 
 lower_out : (context : Context) (high a : ℕ) (gs : Glyphs) → high ≤ a → AreMarks context gs
     → Passing (has_lower_class high) gs → OtherMarks context a gs
 lower_out context high a [] least marks all = tt
 lower_out context high a (g ∷ gs) least marks all =
-    let byte : class_of g ≡ g.modified_combining_class = byte_of g marks.0.1 in
-    let test : nat_lt g.modified_combining_class high ≡ true = all.0 in
-    let less : g.modified_combining_class < high = grind (arith, nat_tests) in
+    let byte : class_of g ≡ (modified_combining_class g.unicode_props) = byte_of g marks.0.1 in
+    let test : nat_lt (modified_combining_class g.unicode_props) high ≡ true = all.0 in
+    let less : (modified_combining_class g.unicode_props) < high = grind (arith, nat_tests) in
     ((marks.0, λ e. absurd (omega arith)), lower_out context high a gs least marks.1 all.1)
 
 all_in : (context : Context) (full : ℕ → List ℕ) → TakesApart context full → (a : ℕ) (gs : Glyphs)

@@ -181,7 +181,7 @@ blocked_below = refl
 
 -- a mark whose glyph has another class than its character
 abbrev in_class_220 : hb_glyph_info_t → hb_glyph_info_t
-in_class_220 g = record g { modified_combining_class = 220 }
+in_class_220 g = record g { unicode_props = record { 0 = 0xDC00 } }
 
 other_class : characters (normalized whole Always MonotoneGraphemes
     (text (0x41 ∷ []) ++ (map in_class_220 (text (0x305 ∷ [])) ++ text (0x301 ∷ [])))) ≡ 0xC1 ∷ 0x305 ∷ []

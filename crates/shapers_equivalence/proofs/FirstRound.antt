@@ -27,6 +27,7 @@ use Rattle.shapers_normal.proofs.Pairs.{together}
 use Rattle.shapers_normal.proofs.Viewed.{variants-view}
 use Rattle.shapers_equivalence.specs.Laws.{HaveOwnClasses, mark_class}
 use Rattle.shapers_equivalence.proofs.Apart.{TakesApart, apart_text, apart-append, apart-view, own_of_view, view_own}
+use Rattle.shapers_buffer.specs.Properties.{general_category, modified_combining_class, properties}
 
 -- ---- one character
 
@@ -124,25 +125,25 @@ pub record SameCharacter (old new : hb_glyph_info_t) : Type 0 where
   pub class : class_of new ≡ class_of old
 
 abbrev as_space : hb_glyph_info_t → ℕ × GlyphId → hb_glyph_info_t
-as_space g space = record g { var = space.1.0; modified_combining_class = space.0 }
+as_space g space = record g { glyph_props = record { 0 = space.1.0 }; unicode_props = properties Cc space.0 }
 
-space_same : (g new : hb_glyph_info_t) (o : Option (ℕ × GlyphId)) → is_mark g.general_category ≡ false
+space_same : (g new : hb_glyph_info_t) (o : Option (ℕ × GlyphId)) → is_mark (general_category g.unicode_props) ≡ false
     → SameCharacter g new → SameCharacter g (option_map_or (as_space g) o new)
 space_same g new None e same = same
 space_same g new (Some space) e same = record {
   character = refl;
   class = ap (λ b. cond b space.0 0) e ∙ sym
-      (ap (λ b. cond b g.modified_combining_class 0) e);
+      (ap (λ b. cond b (modified_combining_class g.unicode_props) 0) e);
 }
 
 without_same : (g new : hb_glyph_info_t) (o : Option (ℕ × GlyphId)) (space : Bool)
-    → is_space_separator g.general_category ≡ space → SameCharacter g new
+    → is_space_separator (general_category g.unicode_props) ≡ space → SameCharacter g new
     → SameCharacter g (option_map_or (as_space g) (cond space o None) new)
-without_same g new o true e same = space_same g new o (no_mark g.general_category e) same
+without_same g new o true e same = space_same g new o (no_mark (general_category g.unicode_props) e) same
 without_same g new o false e same = same
 
 own_by : (g new : hb_glyph_info_t) (o : Option GlyphId) → SameCharacter g new
-    → SameCharacter g (option_map_or (λ (glyph : GlyphId). let r : hb_glyph_info_t = record g { var = glyph.0 }
+    → SameCharacter g (option_map_or (λ (glyph : GlyphId). let r : hb_glyph_info_t = record g { glyph_props = record { 0 = glyph.0 } }
     in r) o new)
 own_by g new None same = same
 own_by g new (Some glyph) same = record { character = refl; class = refl }
@@ -151,7 +152,7 @@ pub own_same : (context : Context) (g : hb_glyph_info_t) → SameCharacter g (wi
 own_same context g =
     own_by g (without_glyph context g) (context.nominal g.glyph_id)
     (without_same g (record g { var = cond (g.glyph_id == 0x2011) (glyph_number context 0x2010) 0 }) _
-    (is_space_separator g.general_category) refl
+    (is_space_separator (general_category g.unicode_props)) refl
     (record { character = refl; class = refl }))
 
 -- a character that is written anew has its own class

@@ -23,6 +23,7 @@ use Rattle.shapers_equivalence.proofs.Projections as order
 use Rattle.shapers_equivalence.proofs.Apart.{AreMarks, IsMark, Same, TakesApart, apart_text, mark_parts, other_parts, same_beside}
 use Rattle.shapers_equivalence.proofs.ArabicOrder.{byte_of, marks_parts}
 use Rattle.shapers_equivalence.proofs.ShortRuns.{stretch_whole}
+use Rattle.shapers_buffer.specs.Properties.{modified_combining_class}
 
 abbrev Glyphs : Type 0
 Glyphs = List hb_glyph_info_t
@@ -190,11 +191,11 @@ triple_same context full t front a b c rest marks opens =
     let own = (marks_parts context front (a ∷ (b ∷ (c ∷ rest))) marks).1 in
     let mb = own.1.0 in
     let mc = own.1.1.0 in
-    let parts = and_parts (is_patah_or_qamats a.modified_combining_class && is_sheva_or_hiriq
-    b.modified_combining_class) (is_meteg_or_below c.modified_combining_class) opens in
-    let second = (and_parts (is_patah_or_qamats a.modified_combining_class)
-    (is_sheva_or_hiriq b.modified_combining_class) parts.0).1 in
-    let bytes = differ b.modified_combining_class c.modified_combining_class second parts.1 in
+    let parts = and_parts (is_patah_or_qamats (modified_combining_class a.unicode_props) && is_sheva_or_hiriq
+    (modified_combining_class b.unicode_props)) (is_meteg_or_below (modified_combining_class c.unicode_props)) opens in
+    let second = (and_parts (is_patah_or_qamats (modified_combining_class a.unicode_props))
+    (is_sheva_or_hiriq (modified_combining_class b.unicode_props)) parts.0).1 in
+    let bytes = differ (modified_combining_class b.unicode_props) (modified_combining_class c.unicode_props) second parts.1 in
     let other : class_of b ≢ class_of c = λ e. bytes (sym (byte_of b mb.1) ∙ e ∙ byte_of c mc.1) in
     let fb = full b.glyph_id in
     let fc = full c.glyph_id in

@@ -6,7 +6,7 @@ use Rattle.std.proofs.lemmas.List.{append-nil}
 use Rattle.shapers_buffer.specs.declared.buffer.glyph.hb_glyph_info_t.{hb_glyph_info_t}
 use Rattle.shapers_buffer.specs.declared.buffer.level.BufferClusterLevel.{BufferClusterLevel}
 use Rattle.shapers_buffer.specs.Glyph.{characters}
-use Rattle.shapers_buffer.specs.Marks.{set_mark}
+use Rattle.shapers_buffer.specs.Properties.{set_mark, HIDDEN, set_property}
 use Rattle.shapers_normal.specs.Context.{Context}
 use Rattle.shapers_normal.specs.Decomposition.{come_off, first_round}
 use Rattle.shapers_normal.specs.Normalization.{composes, has_rounds, joiners_shown, later_rounds, passes_over, shown_behind}
@@ -72,7 +72,7 @@ record Alike (g h : hb_glyph_info_t) : Type 0 where
 passed_alike : (before behind : ℕ) (g : hb_glyph_info_t) → Alike g (passes_over before behind g)
 passed_alike before behind g =
     elim (eqb g.glyph_id 0x034F && (eqb behind 0 || nat_le before behind)) as
-    (λ b. Alike g (cond b (let r : hb_glyph_info_t = record g { marks = set_mark 32 false g.marks } in r) g)) [
+    (λ b. Alike g (cond b (let r : hb_glyph_info_t = record g { unicode_props = set_property HIDDEN false g.unicode_props } in r) g)) [
       | true ↦ record { character = refl; class = refl }
       | false ↦ record { character = refl; class = refl }
     ]

@@ -241,14 +241,12 @@ full_glyph u cluster =
       glyph_id = u;
       cluster = cluster;
       mask = 0x1F;
-      var = 0x7A;
       syllable = 7;
       category = 8;
       auxiliary = 9;
-      general_category = Mn;
-      modified_combining_class = 10;
-      lig_comp = 11;
-      marks = record { 0 = 31 };
+      glyph_props = record { 0 = 0x70 };
+      lig_props = record { 0 = 11 };
+      unicode_props = record { 0 = 0x0AAC };
     }
 
 copied_whole : preprocessed (wide (0xAC00 ∷ [])) true MonotoneGraphemes (full_glyph 0x1100 4 ∷ full_glyph 0x1161 3 ∷ [])

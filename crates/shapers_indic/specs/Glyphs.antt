@@ -3,7 +3,7 @@ use Rattle.std.specs.Prelude.{ℕ, ◌-◌, ◌==◌, Bool, ◌&&◌, false, not
 use Rattle.std.specs.List.{list_any, range_with_len, slice_get}
 use Rattle.std.specs.Option.{option_map_or}
 use Rattle.shapers_buffer.specs.declared.buffer.glyph.hb_glyph_info_t.{hb_glyph_info_t}
-use Rattle.shapers_buffer.specs.Marks.{is_ligated}
+use Rattle.shapers_buffer.specs.Properties.{is_ligated}
 use Rattle.shapers_base.specs.declared.font.GlyphId.{GlyphId}
 use Rattle.shapers_base.specs.declared.plan.ot_category_t.TheConstants.{OT_C, OT_M, OT_MPst, OT_ZWJ, OT_ZWNJ}
 use Rattle.shapers_base.specs.declared.plan.ot_position_t.TheConstants.{POS_BASE_C}
@@ -20,7 +20,7 @@ abbrev pub has_category : ℕ → hb_glyph_info_t → Bool
 has_category c g = g.category == c
 
 abbrev pub is_one_of : List ℕ → hb_glyph_info_t → Bool
-is_one_of cs g = not (is_ligated g.marks) && list_any (λ c. c == g.category) cs
+is_one_of cs g = not (is_ligated g.glyph_props) && list_any (λ c. c == g.category) cs
 
 abbrev pub is_joiner : hb_glyph_info_t → Bool
 is_joiner = is_one_of (OT_ZWJ ∷ OT_ZWNJ ∷ [])
@@ -53,5 +53,5 @@ greatest_place property s e = find property (reverse (places s e))
 abbrev pub is_plain_consonant : List hb_glyph_info_t → Bool
 is_plain_consonant [] = false
 is_plain_consonant (g ∷ []) =
-    has_category OT_C g && has_position POS_BASE_C g && not (is_ligated g.marks)
+    has_category OT_C g && has_position POS_BASE_C g && not (is_ligated g.glyph_props)
 is_plain_consonant (g ∷ (h ∷ gs)) = false

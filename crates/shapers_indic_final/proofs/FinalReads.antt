@@ -12,7 +12,7 @@ use Rattle.shapers_buffer.specs.declared.buffer.tag.Script.{Script}
 use Rattle.shapers_buffer.specs.Lists.{first_last}
 use Rattle.shapers_buffer.specs.Glyph.{at_position}
 use Rattle.shapers_buffer.specs.Clusters.{stretch_of, with_stretch}
-use Rattle.shapers_buffer.specs.Marks.{LIGATED, MULTIPLIED, is_ligated, is_multiplied, without_mark}
+use Rattle.shapers_buffer.specs.Properties.{LIGATED, MULTIPLIED, is_ligated, is_multiplied, without_mark}
 use Rattle.shapers_buffer.proofs.MappedLists.{map-reverse}
 use Rattle.shapers_base.specs.declared.font.GlyphId.{GlyphId}
 use Rattle.shapers_base.specs.declared.plan.indic.RephPosition.{RephPosition}
@@ -100,9 +100,9 @@ pub recovered_stays : (v : View) (virama : Option GlyphId) (g : hb_glyph_info_t)
 recovered_stays v None g = refl
 recovered_stays v (Some virama) g =
     let made : hb_glyph_info_t → hb_glyph_info_t =
-    λ h. record h { category = OT_H; marks = without_mark MULTIPLIED (without_mark LIGATED h.marks) } in
-    elim (g.glyph_id == virama.0 && is_ligated g.marks
-    && is_multiplied g.marks) as (λ b. shown v (if b then made g else g)
+    λ h. record h { category = OT_H; glyph_props = without_mark MULTIPLIED (without_mark LIGATED h.glyph_props) } in
+    elim (g.glyph_id == virama.0 && is_ligated g.glyph_props
+    && is_multiplied g.glyph_props) as (λ b. shown v (if b then made g else g)
     ≡ (if b then made (shown v g) else shown v g)) [ true ↦ refl | false ↦ refl ]
 
 pub viramas_stay : (v : View) (r : Rules) (gs : List hb_glyph_info_t) → seen_by v (with_viramas r gs)

@@ -7,7 +7,7 @@ use Rattle.shapers_buffer.specs.declared.buffer.tag.Script.{Script}
 use Rattle.shapers_buffer.specs.Buffer.{Buffer, but_places}
 use Rattle.shapers_buffer.specs.Clusters.{stretch_of, with_stretch}
 use Rattle.shapers_buffer.specs.Glyph.{order_view, plain}
-use Rattle.shapers_buffer.specs.Marks.{LIGATED, MULTIPLIED, without_mark}
+use Rattle.shapers_buffer.specs.Properties.{LIGATED, MULTIPLIED, without_mark}
 use Rattle.shapers_buffer.specs.Places.{pick}
 use Rattle.shapers_buffer.proofs.ClusterLemmas.{length-stretch, map-stretch}
 use Rattle.shapers_base.specs.declared.plan.ot_category_t.TheConstants.{OT_H}
@@ -109,7 +109,7 @@ viewed_in r script off gs =
 
 -- the viramas
 abbrev recovered_one : hb_glyph_info_t → hb_glyph_info_t
-recovered_one g = record g { category = OT_H; marks = without_mark MULTIPLIED (without_mark LIGATED g.marks) }
+recovered_one g = record g { category = OT_H; glyph_props = without_mark MULTIPLIED (without_mark LIGATED g.glyph_props) }
 
 recovered-carried : (virama : Option GlyphId) (g : hb_glyph_info_t) → carried (recovered virama g) ≡ carried g
 recovered-carried virama g =

@@ -13,7 +13,7 @@ use Rattle.shapers_buffer.specs.declared.buffer.tag.Script.{Script}
 use Rattle.shapers_buffer.specs.Buffer.{Buffer}
 use Rattle.shapers_buffer.specs.Glyph.{clusters, order_view, plain, without_flags}
 use Rattle.shapers_buffer.specs.GlyphFlags.{with_bits}
-use Rattle.shapers_buffer.specs.Marks.{no_marks}
+use Rattle.shapers_buffer.specs.Properties.{no_marks}
 use Rattle.shapers_buffer.specs.Syllables.{syllables}
 use Rattle.shapers_buffer.proofs.MaskBits.{or_twice}
 use Rattle.shapers_clusters.specs.Flags.{FlagsFall, seen}
@@ -90,7 +90,7 @@ text_fits r script level gs =
 hidden-break : HidesBits (λ g. plain (carried g)) 3
 hidden-break g =
     let no_flags : (m : ℕ) → without_flags (m % 8) ≡ 0 = λ m. omega arith in
-    ap (λ (m : ℕ). record g { cluster = 0; mask = m; category = 0; auxiliary = 0; marks = no_marks })
+    ap (λ (m : ℕ). record g { cluster = 0; mask = m; category = 0; auxiliary = 0; glyph_props = record { 0 = 0 } })
     (no_flags (bit_or g.mask 3) ∙ sym (no_flags g.mask))
 
 -- What the pause comes to: the order view, what is carried along, and clusters.

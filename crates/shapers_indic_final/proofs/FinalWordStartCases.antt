@@ -11,7 +11,7 @@ last_or-push o [] x = refl
 last_or-push o (y ∷ ys) x = last_or-push (Some y) ys x
 
 pub before_there : (i s : ℕ) (d : hb_glyph_info_t) (gs : List hb_glyph_info_t) → s ≡ suc i → i < length gs
-    → word_goes_on (before_place s gs) ≡ continues_word (get_or gs i d).general_category
+    → word_goes_on (before_place s gs) ≡ continues_word (general_category (get_or gs i d).unicode_props)
 before_there i s d gs e l = ap (λ k. word_goes_on (last_or None (take k gs))) e
     ∙ ap (λ xs. word_goes_on (last_or None xs)) (take-suc gs i d l)
     ∙ ap word_goes_on (last_or-push None (take i gs) (get_or gs i d))

@@ -12,6 +12,7 @@ use Rattle.shapers_indic_final.specs.FinalLaws.{at_opening, SameButFirstBits, wi
 use Rattle.shapers_indic_final.specs.FinalWordStart.{bound_from, continues_word, final_syllables, final_text, is_bound, last_or, starts_syllable, with_init}
 use Rattle.shapers_indic_final.specs.FinalReordering.{final_steps}
 use Rattle.shapers_syllabic.specs.Reordering.{text_steps}
+use Rattle.shapers_buffer.specs.Properties.{properties}
 
 -- every category: Cc no, Cf to Mn yes, the rest no
 categories : map continues_word (Cc ∷ Cf ∷ Cn ∷ Co ∷ Cs ∷ Ll ∷ Lm ∷ Lo ∷ Lt ∷ Lu ∷ Mc ∷ Me ∷ Mn ∷ Nd ∷ Nl ∷ No ∷ Pc ∷ Pd
@@ -29,7 +30,7 @@ one i byte general c p =
       cluster = i;
       mask = 64;
       syllable = byte;
-      general_category = general;
+      unicode_props = properties general 0;
       category =
           c;
       auxiliary = p;
@@ -99,7 +100,7 @@ texts = refl
 
 -- the glyph before a syllable is the last of the one before in its new order: a reph that went to
 -- its end, of the category of blanks
-reph_before : after (record (one 0 16 Zs C 1) { marks = record { 0 = 2 } } ∷ one 1 16 Lo C 4 ∷ pair 2 32)
+reph_before : after (record (one 0 16 Zs C 1) { glyph_props = record { 0 = 0x20 } } ∷ one 1 16 Lo C 4 ∷ pair 2 32)
     ≡ (1 ∷ 0 ∷ 2 ∷ 3 ∷ []) ∷ (64 ∷ 64 ∷ 96 ∷ 64 ∷ []) ∷ (0 ∷ 0 ∷ 2 ∷ 2 ∷ []) ∷ (1 ∷ 0 ∷ 2 ∷ 3 ∷ [])
     ∷ (0 ∷ 0 ∷ 0 ∷ 0 ∷ []) ∷ []
 reph_before = refl

@@ -7,7 +7,7 @@ use Rattle.shapers_buffer.specs.declared.buffer.glyph.hb_glyph_info_t.{hb_glyph_
 use Rattle.shapers_buffer.specs.declared.buffer.tag.Script.{Script}
 use Rattle.shapers_buffer.specs.Glyph.{at_position}
 use Rattle.shapers_buffer.specs.Clusters.{with_stretch}
-use Rattle.shapers_buffer.specs.Marks.{is_substituted}
+use Rattle.shapers_buffer.specs.Properties.{is_substituted}
 use Rattle.shapers_base.specs.declared.plan.ot_category_t.TheConstants.{OT_H, OT_N, OT_ZWJ}
 use Rattle.shapers_base.specs.declared.plan.ot_position_t.TheConstants.{POS_BASE_C, POS_BELOW_C}
 use Rattle.shapers_indic.specs.Glyphs.{greatest_place, has_position, is_joiner, is_one_of, least_place, passes}
@@ -30,7 +30,7 @@ pref_place pref base gs = least_place (passes (has_bits pref) gs) (base + 1) (le
 
 -- that glyph, if pref did not apply to it: it is not both substituted and formed
 abbrev pub is_unformed : hb_glyph_info_t → Bool
-is_unformed g = not (is_substituted g.marks && is_formed g)
+is_unformed g = not (is_substituted g.glyph_props && is_formed g)
 
 abbrev pub if_unformed : List hb_glyph_info_t → Option ℕ → Option ℕ
 if_unformed gs None = None

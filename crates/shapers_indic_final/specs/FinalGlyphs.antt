@@ -1,7 +1,7 @@
 -- What the final reordering reads of a glyph, and the two moves of a list.
 use Rattle.std.specs.Prelude.{◌==◌, Bool, ◌&&◌, false, not, List, [], ◌∷◌, reverse, Option, None, Some, if◌then◌else◌}
 use Rattle.shapers_buffer.specs.declared.buffer.glyph.hb_glyph_info_t.{hb_glyph_info_t}
-use Rattle.shapers_buffer.specs.Marks.{LIGATED, MULTIPLIED, is_ligated, is_multiplied, without_mark}
+use Rattle.shapers_buffer.specs.Properties.{LIGATED, MULTIPLIED, is_ligated, is_multiplied, without_mark}
 use Rattle.shapers_buffer.specs.Lists.{first_last}
 use Rattle.shapers_base.specs.declared.font.GlyphId.{GlyphId}
 use Rattle.shapers_base.specs.declared.plan.ot_category_t.TheConstants.{OT_H, OT_M, OT_MPst}
@@ -16,19 +16,19 @@ is_matra_or_halant = is_one_of (OT_M ∷ OT_MPst ∷ OT_H ∷ [])
 
 -- whether lookups formed one glyph of several, and did not take it apart again
 abbrev pub is_formed : hb_glyph_info_t → Bool
-is_formed g = is_ligated g.marks && not (is_multiplied g.marks)
+is_formed g = is_ligated g.glyph_props && not (is_multiplied g.glyph_props)
 
 -- a halant that lookups put in for several and took apart: a halant again, without these marks
 abbrev pub is_lost_virama : Option GlyphId → hb_glyph_info_t → Bool
 is_lost_virama None g = false
 is_lost_virama (Some virama) g =
-    g.glyph_id == virama.0 && is_ligated g.marks && is_multiplied g.marks
+    g.glyph_id == virama.0 && is_ligated g.glyph_props && is_multiplied g.glyph_props
 
 abbrev pub recovered : Option GlyphId → hb_glyph_info_t → hb_glyph_info_t
 recovered virama g =
     if is_lost_virama virama g then record g {
       category = OT_H;
-      marks = without_mark MULTIPLIED (without_mark LIGATED g.marks);
+      glyph_props = without_mark MULTIPLIED (without_mark LIGATED g.glyph_props);
     }
     else g
 

@@ -13,6 +13,7 @@ use Rattle.shapers_indic_final.specs.FinalMatras.{is_left}
 use Rattle.shapers_indic_final.specs.FinalReordering.{final_order, final_steps}
 use Rattle.shapers_indic_final.specs.declared.ot_shaper_indic_final.rules.Rules.{Rules}
 use Rattle.shapers_syllabic.specs.Reordering.{SyllableReordered, SyllablesLinked, SyllablesReordered, carried}
+use Rattle.shapers_buffer.specs.Properties.{general_category}
 
 -- the categories that a word goes on behind: formats, letters, marks, and what has none
 abbrev pub continues_word : hb_unicode_general_category_t → Bool
@@ -33,7 +34,7 @@ continues_word _ = false
 -- whether a word goes on behind what stands before a syllable; at the start of the text none does
 abbrev pub word_goes_on : Option hb_glyph_info_t → Bool
 word_goes_on None = false
-word_goes_on (Some g) = continues_word g.general_category
+word_goes_on (Some g) = continues_word (general_category g.unicode_props)
 
 -- a syllable behind a glyph, with the mask of init on a left matra that opens it and a word
 abbrev pub with_init : ℕ → Option hb_glyph_info_t → List hb_glyph_info_t → List hb_glyph_info_t

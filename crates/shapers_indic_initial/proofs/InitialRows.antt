@@ -100,14 +100,12 @@ full = record {
   glyph_id = 7;
   cluster = 5;
   mask = 0x1000;
-  var = 0x7A;
   syllable = 0x20;
   category = M;
   auxiliary = 2;
-  general_category = Mn;
-  modified_combining_class = 9;
-  lig_comp = 3;
-  marks = record { 0 = 13 };
+  glyph_props = record { 0 = 0x50 };
+  lig_props = record { 0 = 3 };
+  unicode_props = record { 0 = 0x092C };
 }
 
 fields_stay : initial_order (rules "Deva" false each_mask) (script "Deva")

@@ -11,7 +11,7 @@ use Rattle.shapers_buffer.specs.Buffer.{Buffer, but_places}
 use Rattle.shapers_buffer.specs.Clusters.{stretch_of, with_stretch}
 use Rattle.shapers_buffer.specs.Glyph.{order_view, without_flags}
 use Rattle.shapers_buffer.specs.GlyphFlags.{with_bits}
-use Rattle.shapers_buffer.specs.Marks.{no_marks}
+use Rattle.shapers_buffer.specs.Properties.{no_marks}
 use Rattle.shapers_buffer.proofs.MappedLists.{list_any-map, map-seen}
 use Rattle.shapers_buffer.proofs.ClusterLemmas.{map-stretch}
 use Rattle.shapers_base.specs.declared.plan.ot_category_t.TheConstants.{OT_H, OT_Ra, OT_ZWJ, OT_ZWNJ}
@@ -48,9 +48,9 @@ plain-and a m off fits =
 
 carried_hides_masks : (half : ℕ) → half % 8 ≡ 0 → half ≤ 0xFFFFFFFF → HidesMasks carried half
 carried_hides_masks half off fits = record {
-  given = λ m g none. ap (λ (x : ℕ). record g { mask = x; category = 0; auxiliary = 0; marks = no_marks })
+  given = λ m g none. ap (λ (x : ℕ). record g { mask = x; category = 0; auxiliary = 0; glyph_props = record { 0 = 0 } })
       (flags-or g.mask m none);
-  taken = λ g. ap (λ (x : ℕ). record g { mask = x; category = 0; auxiliary = 0; marks = no_marks })
+  taken = λ g. ap (λ (x : ℕ). record g { mask = x; category = 0; auxiliary = 0; glyph_props = record { 0 = 0 } })
       (flags-and g.mask half off fits);
 }
 

@@ -17,7 +17,7 @@ use Rattle.shapers_clusters.proofs.Picks.{pick-all}
 use Rattle.shapers_clusters.proofs.Widened.{range-three}
 use Rattle.shapers_syllabic.specs.Reordering.{SyllableReordered, carried}
 use Rattle.shapers_syllabic.proofs.ReorderingLemmas.{stretch_stays}
-use Rattle.shapers_buffer.specs.Marks.{is_ligated}
+use Rattle.shapers_buffer.specs.Properties.{is_ligated}
 use Rattle.shapers_base.specs.declared.plan.indic.RephMode.{RephMode}
 use Rattle.shapers_base.specs.declared.plan.indic.RephMode.TheVariants.{Implicit, Explicit, LogRepha}
 use Rattle.shapers_indic.specs.declared.ot_shaper_indic.indic_feature.TheConstants.{PREF, RPHF}
@@ -53,7 +53,7 @@ no_reph r g =
     let off = no_repha r.config.reph_mode g in
     elim (cases_Bool (mask_at r RPHF == 0)) [ inl none ↦ rw (none, off) refl | inr some ↦ rw (some, off) refl ]
 
-is_the_base : (r : Rules) (g : hb_glyph_info_t) → is_ligated g.marks ≡ false → base_place r (plain_consonant g ∷ []) ≡ 0
+is_the_base : (r : Rules) (g : hb_glyph_info_t) → is_ligated g.glyph_props ≡ false → base_place r (plain_consonant g ∷ []) ≡ 0
 is_the_base r g m = let none = no_reph r g in rw (none, m) refl
 
 reph_is_none : (r : Rules) (g : hb_glyph_info_t) → has_indic_reph r (plain_consonant g ∷ []) ≡ false
@@ -67,7 +67,7 @@ consonant_joined : (script : Option Script) (g : hb_glyph_info_t) → with_joine
     ≡ plain_consonant g ∷ []
 consonant_joined script g = let off = no_joiner script g in rw off refl
 
-consonant_based : (r : Rules) (g : hb_glyph_info_t) → is_ligated g.marks ≡ false
+consonant_based : (r : Rules) (g : hb_glyph_info_t) → is_ligated g.glyph_props ≡ false
     → with_base_positions r (plain_consonant g ∷ []) ≡ plain_consonant g ∷ []
 consonant_based r g m =
     ap (λ n. by_base n (has_indic_reph r (plain_consonant g ∷ [])) (plain_consonant g ∷ [])) (is_the_base r g m)
@@ -80,7 +80,7 @@ unmoved r script g = let still = still_halants r script g in rw still refl
 marks_stay : (g : hb_glyph_info_t) → with_marks_and_owners 0 (plain_consonant g ∷ []) ≡ plain_consonant g ∷ []
 marks_stay g = refl
 
-pub plain_positioned : (r : Rules) (script : Option Script) (g : hb_glyph_info_t) → is_ligated g.marks ≡ false
+pub plain_positioned : (r : Rules) (script : Option Script) (g : hb_glyph_info_t) → is_ligated g.glyph_props ≡ false
     → positioned r script (plain_consonant g ∷ []) ≡ plain_consonant g ∷ []
 plain_positioned r script g m =
     let x = plain_consonant g ∷ [] in
@@ -105,7 +105,7 @@ masks_stay r script g =
     let pair = no_pair r (plain_consonant g) in
     rw (eyelash, pair) refl
 
-plain_ordered : (r : Rules) (script : Option Script) (g : hb_glyph_info_t) → is_ligated g.marks ≡ false
+plain_ordered : (r : Rules) (script : Option Script) (g : hb_glyph_info_t) → is_ligated g.glyph_props ≡ false
     → masked_in_order r script (in_indic_order (positioned r script (plain_consonant g ∷ []))) ≡ plain_consonant g ∷ []
 plain_ordered r script g m = ap (λ gs. masked_in_order r script (in_indic_order gs)) (plain_positioned r script g m)
     ∙ masks_stay r script g
@@ -123,7 +123,7 @@ merges_alone r = elim (cases_Bool r.old) [ inl on ↦ rw on refl | inr off ↦ r
 first_step : (script : Option Script) (g : hb_glyph_info_t) → joiner_step script (plain_consonant g ∷ []) ≡ one_place []
 first_step script g = let off = no_joiner script g in rw off refl
 
-second_step : (r : Rules) (script : Option Script) (g : hb_glyph_info_t) → is_ligated g.marks ≡ false
+second_step : (r : Rules) (script : Option Script) (g : hb_glyph_info_t) → is_ligated g.glyph_props ≡ false
     → halant_step r script (base_place r (with_joiner_first script (plain_consonant g ∷ [])))
     (with_base_positions r (with_joiner_first script (plain_consonant g ∷ []))) ≡ one_place []
 second_step r script g m =
@@ -134,11 +134,11 @@ second_step r script g m =
     ∙ ap (λ ps. let step : Step = record { merged_first = []; places = ps; merged_then = [] } in step)
     (still_halants r script g)
 
-third_step : (r : Rules) (script : Option Script) (g : hb_glyph_info_t) → is_ligated g.marks ≡ false
+third_step : (r : Rules) (script : Option Script) (g : hb_glyph_info_t) → is_ligated g.glyph_props ≡ false
     → indic_order_step r (positioned r script (plain_consonant g ∷ [])) ≡ one_place ((0, 1) ∷ [])
 third_step r script g m = ap (indic_order_step r) (plain_positioned r script g m) ∙ ap one_place (merges_alone r)
 
-plain_steps_are : (r : Rules) (script : Option Script) (g : hb_glyph_info_t) → is_ligated g.marks ≡ false
+plain_steps_are : (r : Rules) (script : Option Script) (g : hb_glyph_info_t) → is_ligated g.glyph_props ≡ false
     → steps_of_reordered r script (plain_consonant g ∷ []) ≡ plain_steps
 plain_steps_are r script g m =
     let x = plain_consonant g ∷ [] in
@@ -178,7 +178,7 @@ still_run level s gs l =
     ∙ merge_one level (s + 0) (s + 1) gs (omega arith)
 
 pub plain_syllable : (r : Rules) (script : Option Script) (s e : ℕ) (g : hb_glyph_info_t) (b : Buffer) → s ≤ e
-    → e ≤ length b.glyphs → stretch_of s e (order_view b.glyphs) ≡ plain_consonant g ∷ [] → is_ligated g.marks ≡ false
+    → e ≤ length b.glyphs → stretch_of s e (order_view b.glyphs) ≡ plain_consonant g ∷ [] → is_ligated g.glyph_props ≡ false
     → SyllableReordered (initial_order r script) (initial_steps r script) s e b b
 plain_syllable r script s e g b h l is m =
     let v = order_view b.glyphs in

@@ -103,12 +103,11 @@ full = record default_glyph {
   glyph_id = 0x179A;
   cluster = 7;
   mask = 0x1003;
-  var = 0x7A;
   syllable = 0x21;
   category = 4;
   auxiliary = 5;
-  modified_combining_class = 9;
-  lig_comp = 2;
+  lig_props = record { 0 = 2 };
+  unicode_props = record { 0 = 0x0900 };
 }
 
 wanted : with_mask_if true 0x25 full ≡ record full { mask = 0x1023 }

@@ -41,13 +41,11 @@ full = record default_glyph {
   glyph_id = 0x179A;
   cluster = 7;
   mask = 0x1003;
-  var = 0x7A;
   syllable = 0x21;
   category = 4;
   auxiliary = 5;
-  general_category = Lo;
-  modified_combining_class = 9;
-  lig_comp = 2;
+  lig_props = record { 0 = 2 };
+  unicode_props = record { 0 = 0x0907 };
 }
 
 categories : with_category table full ≡ record full { category = 15 }
@@ -176,7 +174,7 @@ broken = refl
 
 -- nothing but masks and places changes, and no mark counts
 abbrev full_of : ℕ → hb_glyph_info_t
-full_of category = record full { category = category; marks = record { 0 = 31 } }
+full_of category = record full { category = category; glyph_props = record { 0 = 0x70 }; unicode_props = record { 0 = 0x00A0 } }
 
 fields_stay : khmer_order by_masks (full_of 1 ∷ full_of 4 ∷ full_of 15 ∷ []) ≡ record (full_of 4) { mask = 0x10F3 }
     ∷ record (full_of 15) { mask = 0x10F3 } ∷ full_of 1 ∷ []

@@ -135,7 +135,7 @@ size_all follows (g ∷ gs) = size_first follows g (cut_before_others follows gs
 
 -- a cluster that is kept doesn't grow
 form_by : (context : Context) (g selector : hb_glyph_info_t) (more : List hb_glyph_info_t) (o : Option GlyphId)
-    → length (option_map_or (λ (variant : GlyphId). (let r : hb_glyph_info_t = record g { var = variant.0 } in r)
+    → length (option_map_or (λ (variant : GlyphId). (let r : hb_glyph_info_t = record g { glyph_props = record { 0 = variant.0 } } in r)
     ∷ map (with_number context) more) o
     (with_number context g ∷ with_number context (selecting_nothing context selector) ∷ map (with_number context) more))
     ≤ length (g ∷ (selector ∷ more))

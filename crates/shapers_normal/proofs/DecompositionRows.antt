@@ -13,6 +13,7 @@ use Rattle.shapers_normal.specs.Decomposition.{first_round, space_kind, text_dec
 use Rattle.shapers_normal.specs.Variants.{selects_form}
 use Rattle.shapers_normal.specs.Properties.{is_seen_by_lookups}
 use Rattle.shapers_normal.proofs.RowContext.{with_font, text}
+use Rattle.shapers_buffer.specs.Properties.{general_category, modified_combining_class}
 
 abbrev latin : List ℕ
 latin = 0x65 ∷ 0xEA ∷ 0x1EBF ∷ 0xE9 ∷ 0x301 ∷ 0x302 ∷ 0x308 ∷ 0x323 ∷ 0x41 ∷ 0xC5 ∷ 0x30A ∷ 0x344 ∷ 0xFE00 ∷ 0x20
@@ -100,7 +101,7 @@ nine_steps = refl
 -- the numbers of glyphs, and the byte that a space's width is kept in
 abbrev numbers : List ℕ → List ℕ → List (ℕ × ℕ)
 numbers font cs =
-    map (λ g. (g.var, g.modified_combining_class))
+    map (λ g. (g.var, (modified_combining_class g.unicode_props)))
     (text_decomposed (with_font AUTO font) (text (with_font AUTO font) cs))
 
 own : numbers latin (0x65 ∷ 0x1EBF ∷ []) ≡ (0x65, 0) ∷ (0x1EBF, 0) ∷ []
@@ -183,7 +184,7 @@ fallen_flagged = refl
 -- a selector that selects nothing becomes a format character, and isn't ignorable where it is drawn
 abbrev unselected : Bool → List (ℕ × ℕ × hb_unicode_general_category_t)
 unselected draws =
-    map (λ g. (g.marks.0, g.modified_combining_class, g.general_category))
+    map (λ g. (g.marks.0, (modified_combining_class g.unicode_props), (general_category g.unicode_props)))
     (text_decomposed (record (with_font AUTO latin) { draws_selectors = draws })
     (text (with_font AUTO latin) (0x41 ∷ 0xFE00 ∷ 0xFE01 ∷ [])))
 

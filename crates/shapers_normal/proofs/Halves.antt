@@ -7,14 +7,13 @@ use Rattle.std.proofs.lemmas.Bool.{false≢true}
 use Rattle.shapers_buffer.specs.declared.buffer.glyph.hb_glyph_info_t.{hb_glyph_info_t}
 use Rattle.shapers_buffer.specs.declared.buffer.level.BufferClusterLevel.{BufferClusterLevel}
 use Rattle.shapers_buffer.specs.Glyph.{clusters, order_view, plain}
-use Rattle.shapers_buffer.specs.Marks.{set_mark}
+use Rattle.shapers_buffer.specs.Properties.{set_mark, modified_combining_class, HIDDEN, set_property}
 use Rattle.shapers_clusters.specs.Cuts.{ShareNone}
 use Rattle.shapers_clusters.proofs.Halves.{Each}
 use Rattle.shapers_normal.specs.Context.{Context}
 use Rattle.shapers_normal.specs.Decomposition.{first_round}
 use Rattle.shapers_normal.specs.Laws.{ComesApartInHalves, NormalizesInHalves, OrdersAlone, ends_in_joiner, opens_anew}
 use Rattle.shapers_normal.specs.Normalization.{composes, joiners_shown, later_rounds, passes_over, shown_behind}
-use Rattle.shapers_normal.specs.Properties.{HIDDEN}
 use Rattle.shapers_normal.specs.Recomposition.{recomposed}
 use Rattle.shapers_normal.specs.Sorting.{class_of, is_mark_glyph, marks_ordered}
 use Rattle.shapers_normal.proofs.Beside.{Not, each_of}
@@ -28,7 +27,7 @@ pub not_joiner : (before behind : ℕ) (g : hb_glyph_info_t) → eqb g.glyph_id 
     → passes_over before behind g ≡ g
 not_joiner before behind g other =
     ap (λ b. cond (b && (eqb behind 0 || nat_le before behind))
-    (let r : hb_glyph_info_t = record g { marks = set_mark HIDDEN false g.marks } in r) g) other
+    (let r : hb_glyph_info_t = record g { unicode_props = set_property HIDDEN false g.unicode_props } in r) g) other
 
 shown_halves : (c : ℕ) (front : List hb_glyph_info_t) (g : hb_glyph_info_t) (behind : List hb_glyph_info_t)
     → ends_in_joiner front ≡ false → eqb g.glyph_id 0x034F ≡ false → shown_behind c (front ++ g ∷ behind)
@@ -56,7 +55,7 @@ each-passed : (P : ℕ → Type 0) (before behind : ℕ) (g : hb_glyph_info_t) �
     → P (passes_over before behind g).cluster
 each-passed P before behind g p =
     elim (eqb g.glyph_id 0x034F && (eqb behind 0 || nat_le before behind)) as (λ b. P
-    (cond b (let r : hb_glyph_info_t = record g { marks = set_mark HIDDEN false g.marks } in r) g).cluster)
+    (cond b (let r : hb_glyph_info_t = record g { unicode_props = set_property HIDDEN false g.unicode_props } in r) g).cluster)
     [ true ↦ p | false ↦ p ]
 
 each-shown_behind : (P : ℕ → Type 0) (c : ℕ) (gs : List hb_glyph_info_t) → Each P gs → Each P (shown_behind c gs)
@@ -126,7 +125,7 @@ later_halves P context o level front [] opened last p n =
     ∙ ap (λ xs. later_rounds context true level front ++ xs) (sym none)
 later_halves P context o level front (g ∷ behind) opened last p n =
     let start = opens g (is_mark_glyph g) (eqb g.glyph_id 0x034F) refl refl opened in
-    let letter : class_of g ≡ 0 = ap (λ b. cond b g.modified_combining_class 0) start.letter in
+    let letter : class_of g ≡ 0 = ap (λ b. cond b (modified_combining_class g.unicode_props) 0) start.letter in
     let round = λ (gs : List hb_glyph_info_t). cond (composes context.mode)
     (recomposed context level (joiners_shown gs)) (joiners_shown gs) in
     ap round (ordered_halves P context o level front g behind p n letter)

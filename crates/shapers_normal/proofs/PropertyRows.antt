@@ -12,28 +12,24 @@ busy = record {
   glyph_id = 3;
   cluster = 5;
   mask = 7;
-  var = 11;
   syllable = 13;
   category = 17;
   auxiliary = 19;
-  general_category = Sm;
-  modified_combining_class = 23;
-  lig_comp = 14;
-  marks = record { 0 = 255 };
+  glyph_props = record { 0 = 0x70 };
+  lig_props = record { 0 = 14 };
+  unicode_props = record { 0 = 0x17F9 };
 }
 
 as_mark : as_character (with_font AUTO []) 0x301 99 busy ≡ record {
   glyph_id = 0x301;
   cluster = 5;
   mask = 7;
-  var = 99;
   syllable = 13;
   category = 17;
   auxiliary = 19;
-  general_category = Mn;
-  modified_combining_class = 230;
-  lig_comp = 14;
-  marks = record { 0 = 215 };
+  glyph_props = record { 0 = 0x70 };
+  lig_props = record { 0 = 14 };
+  unicode_props = record { 0 = 0xE68C };
 }
 as_mark = refl
 

@@ -10,6 +10,7 @@ use Rattle.shapers_normal.specs.Recomposition.{recomposed}
 use Rattle.shapers_normal.specs.declared.ot_shape_normalize.normalizing.Rounds.{Rounds}
 use Rattle.shapers_normal.specs.declared.ot_shape_normalize.normalizing.Rounds.TheVariants.{AsCode, Always}
 use Rattle.shapers_normal.proofs.RowContext.{with_font, text}
+use Rattle.shapers_buffer.specs.Properties.{modified_combining_class}
 
 abbrev font : List ℕ
 font = 0x65 ∷ 0xEA ∷ 0x1EBF ∷ 0xE9 ∷ 0x301 ∷ 0x302 ∷ 0x308 ∷ 0x323 ∷ 0x9C7 ∷ 0x9BE ∷ 0x9CB ∷ 0x34F ∷ []
@@ -66,7 +67,7 @@ never_merged : compose_clusters Characters (0x65 ∷ 0x65 ∷ 0x323 ∷ 0x301 �
 never_merged = refl
 
 -- what it becomes has the properties of its character, and its glyph
-made : map {B = ℕ × ℕ} (λ g. (g.var, g.modified_combining_class))
+made : map {B = ℕ × ℕ} (λ g. (g.var, (modified_combining_class g.unicode_props)))
     (recomposed (with_font AUTO font) MonotoneGraphemes (text (with_font AUTO font) (0x65 ∷ 0x301 ∷ [])))
     ≡ (0xE9, 0) ∷ []
 made = refl

@@ -52,11 +52,11 @@ all-viewed f view same (x ∷ xs) =
 -- ---- what they become
 
 form-by : (context : Context) (g selector : hb_glyph_info_t) (more : List hb_glyph_info_t) (o : Option GlyphId) →
-    length (option_map_or (λ (variant : GlyphId). (let r : hb_glyph_info_t = record (plain g) { var = variant.0 } in r)
+    length (option_map_or (λ (variant : GlyphId). (let r : hb_glyph_info_t = record (plain g) { glyph_props = record { 0 = variant.0 } } in r)
     ∷ map (with_number context) (map plain more)) o (with_number context (plain g)
     ∷ with_number context (selecting_nothing context (plain selector))
     ∷ map (with_number context) (map plain more)))
-    ≡ length (option_map_or (λ (variant : GlyphId). (let r : hb_glyph_info_t = record g { var = variant.0 } in r)
+    ≡ length (option_map_or (λ (variant : GlyphId). (let r : hb_glyph_info_t = record g { glyph_props = record { 0 = variant.0 } } in r)
     ∷ map (with_number context) more) o
     (with_number context g ∷ with_number context (selecting_nothing context selector)
     ∷ map (with_number context) more))

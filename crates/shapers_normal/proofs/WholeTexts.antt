@@ -20,6 +20,7 @@ use Rattle.shapers_normal.specs.Variants.{is_selector_glyph, is_selector_behind,
 use Rattle.shapers_normal.specs.declared.ot_shape_normalize.decomposing.Way.{Way}
 use Rattle.shapers_normal.specs.declared.ot_shape_normalize.decomposing.Way.TheVariants.{Short, Whole}
 use Rattle.shapers_normal.proofs.Halves.{not_joiner}
+use Rattle.shapers_buffer.specs.Properties.{modified_combining_class}
 
 -- a glyph that stays by itself
 record Stays (context : Context) (g : hb_glyph_info_t) : Type 0 where
@@ -68,7 +69,7 @@ one_becomes : (context : Context) (g : hb_glyph_info_t) → is_short_alone conte
     → cluster_becomes context (g ∷ []) ≡ with_number context g ∷ []
 one_becomes context g short s =
     let c = g.glyph_id in
-    let f = λ (glyph : GlyphId). let r : hb_glyph_info_t = record g { var = glyph.0 } in r in
+    let f = λ (glyph : GlyphId). let r : hb_glyph_info_t = record g { glyph_props = record { 0 = glyph.0 } } in r in
     ap (λ b. by_way context g (cond b Short Whole)) short
     ∙ ap (λ b. written_as context g (cond b [] (apart_in context true 8 c)) ++ []) s.has
     ∙ ap (λ (h : hb_glyph_info_t). h ∷ []) (whichever f (context.nominal c) (without_glyph context g) g s.has)
@@ -120,7 +121,7 @@ whole_length context level gs whole =
 
 seen_through : (context : Context) (g : hb_glyph_info_t) (o : Option GlyphId) (Same : hb_glyph_info_t → Type 0)
     → ((n : ℕ) → Same (record g { var = n })) → Same g
-    → Same (option_map_or (λ (glyph : GlyphId). let r : hb_glyph_info_t = record g { var = glyph.0 } in r) o g)
+    → Same (option_map_or (λ (glyph : GlyphId). let r : hb_glyph_info_t = record g { glyph_props = record { 0 = glyph.0 } } in r) o g)
 seen_through context g None Same some none = none
 seen_through context g (Some glyph) Same some none = some glyph.0
 
@@ -141,7 +142,7 @@ runs_empty : (context : Context) (i : ℕ) (gs : List hb_glyph_info_t) → AllBy
     → AllByRecursion Empty (mark_runs i i (classes gs))
 runs_empty context i [] all = (refl, tt)
 runs_empty context i (g ∷ gs) all =
-    let letter : class_of g ≡ 0 = ap (λ b. cond b g.modified_combining_class 0) all.0.no_mark in
+    let letter : class_of g ≡ 0 = ap (λ b. cond b (modified_combining_class g.unicode_props) 0) all.0.no_mark in
     subst (λ c. AllByRecursion Empty
     (cond (eqb c 0) ((i, i) ∷ mark_runs (i + 1) (i + 1) (classes gs)) (mark_runs i (i + 1) (classes gs))))
     (sym letter) (refl, runs_empty context (i + 1) gs all.1)

@@ -9,6 +9,7 @@ use Rattle.shapers_buffer.specs.declared.buffer.category.hb_unicode_general_cate
 use Rattle.shapers_buffer.specs.declared.buffer.category.hb_unicode_general_category_t.TheVariants.{Zs}
 use Rattle.shapers_buffer.specs.declared.buffer.glyph.hb_glyph_info_t.{hb_glyph_info_t}
 use Rattle.shapers_buffer.specs.declared.buffer.level.BufferClusterLevel.{BufferClusterLevel}
+use Rattle.shapers_buffer.specs.Properties.{general_category, with_high_byte}
 use Rattle.shapers_normal.specs.Context.{Context, has_glyph}
 use Rattle.shapers_normal.specs.Properties.{as_character}
 use Rattle.shapers_normal.specs.Sorting.{is_mark_glyph}
@@ -83,7 +84,7 @@ kind_with_glyph (Some kind) glyph = option_map (λ glyph. (kind, glyph)) glyph
 -- or else the one for what isn't drawn
 abbrev pub drawn_space : Context → hb_glyph_info_t → Option (ℕ × GlyphId)
 drawn_space context g =
-    if is_space_separator g.general_category
+    if is_space_separator (general_category g.unicode_props)
     then kind_with_glyph (space_kind g.glyph_id)
     (option_or (context.nominal 0x20) context.invisible)
     else None
@@ -93,14 +94,17 @@ drawn_space context g =
 abbrev pub without_glyph : Context → hb_glyph_info_t → hb_glyph_info_t
 without_glyph context g = option_map_or
     (λ space. let r : hb_glyph_info_t =
-    record g { var = space.1.0; modified_combining_class = space.0 } in r)
+    record g {
+    glyph_props = record { 0 = space.1.0 };
+    unicode_props = with_high_byte space.0 g.unicode_props;
+    } in r)
     (drawn_space context g)
-    (record g { var = if g.glyph_id == 0x2011 then glyph_number context 0x2010 else 0 })
+    (record g { glyph_props = record { 0 = if g.glyph_id == 0x2011 then glyph_number context 0x2010 else 0 } })
 
 -- a character that stays, with its glyph
 abbrev pub with_own_glyph : Context → hb_glyph_info_t → hb_glyph_info_t
 with_own_glyph context g = option_map_or
-    (λ (glyph : GlyphId). let r : hb_glyph_info_t = record g { var = glyph.0 } in r)
+    (λ (glyph : GlyphId). let r : hb_glyph_info_t = record g { glyph_props = record { 0 = glyph.0 } } in r)
     (context.nominal g.glyph_id) (without_glyph context g)
 
 -- a glyph as a part of its character; what it becomes, one way or the other: its own character, or

@@ -5,10 +5,10 @@ use Rattle.shapers_base.specs.declared.plan.record.NormalizationMode.{Normalizat
 use Rattle.shapers_base.specs.declared.plan.record.NormalizationMode.TheVariants as modes
 use Rattle.shapers_buffer.specs.declared.buffer.glyph.hb_glyph_info_t.{hb_glyph_info_t}
 use Rattle.shapers_buffer.specs.declared.buffer.level.BufferClusterLevel.{BufferClusterLevel}
-use Rattle.shapers_buffer.specs.Marks.{set_mark}
+use Rattle.shapers_buffer.specs.Properties.{HIDDEN, set_property}
 use Rattle.shapers_normal.specs.Context.{Context}
 use Rattle.shapers_normal.specs.Decomposition.{first_round}
-use Rattle.shapers_normal.specs.Properties.{HIDDEN, grapheme_joiner}
+use Rattle.shapers_normal.specs.Properties.{grapheme_joiner}
 use Rattle.shapers_normal.specs.Recomposition.{recomposed}
 use Rattle.shapers_normal.specs.Sorting.{class_of, is_mark_glyph, marks_ordered}
 use Rattle.shapers_normal.specs.declared.ot_shape_normalize.normalizing.Rounds.{Rounds}
@@ -19,7 +19,7 @@ use Rattle.shapers_normal.specs.declared.ot_shape_normalize.normalizing.Rounds.T
 abbrev pub passes_over : ℕ → ℕ → hb_glyph_info_t → hb_glyph_info_t
 passes_over before behind g =
     if g.glyph_id == grapheme_joiner && (behind == 0 || nat_le before behind)
-    then (let r : hb_glyph_info_t = record g { marks = set_mark HIDDEN false g.marks } in r) else g
+    then (let r : hb_glyph_info_t = record g { unicode_props = set_property HIDDEN false g.unicode_props } in r) else g
 
 -- the glyphs behind one of this class, but for the last, with such joiners
 abbrev pub shown_behind : ℕ → List hb_glyph_info_t → List hb_glyph_info_t

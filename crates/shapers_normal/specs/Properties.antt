@@ -1,14 +1,10 @@
 -- The properties of a character, as its glyph keeps them.
 use Rattle.std.specs.Prelude.{ℕ, ◌==◌, nat_le, Bool, ◌&&◌, ◌||◌, if◌then◌else◌}
 use Rattle.shapers_buffer.specs.declared.buffer.glyph.hb_glyph_info_t.{hb_glyph_info_t}
-use Rattle.shapers_buffer.specs.declared.buffer.glyph_marks.GlyphMarks.{GlyphMarks}
+use Rattle.shapers_buffer.specs.declared.buffer.unicode_props.UnicodeProps.{UnicodeProps}
 use Rattle.shapers_buffer.specs.Category.{is_mark}
-use Rattle.shapers_buffer.specs.Marks.{IGNORABLE, CONTINUATION, set_mark}
+use Rattle.shapers_buffer.specs.Properties.{CONTINUATION, HIDDEN, IGNORABLE, properties, set_property}
 use Rattle.shapers_normal.specs.Context.{Context}
-
--- ignorable, but lookups don't pass over it
-abbrev pub HIDDEN : ℕ
-HIDDEN = 32
 
 -- the combining grapheme joiner, which keeps marks apart
 abbrev pub grapheme_joiner : ℕ
@@ -32,7 +28,7 @@ is_ignorable_in context c = nat_le 0x80 c && context.ignorable c
 abbrev pub is_mark_in : Context → ℕ → Bool
 is_mark_in context c = nat_le 0x80 c && is_mark (context.general c)
 
--- what the byte of a mark's class holds: 1 for an ignorable zero width joiner, 2 for a non-joiner
+-- what the high byte of a character's properties holds: 1 for an ignorable zero width joiner, 2 for a non-joiner
 abbrev pub joiner_class : ℕ → ℕ
 joiner_class c = if c == 0x200D then 1 else if c == 0x200C then 2 else 0
 
@@ -41,19 +37,18 @@ class_byte context c =
     if is_mark_in context c then context.class c
     else if is_ignorable_in context c then joiner_class c else 0
 
--- the marks of a glyph with those of its character
-abbrev pub character_marks : Context → ℕ → GlyphMarks → GlyphMarks
-character_marks context c marks =
-    set_mark HIDDEN (is_ignorable_in context c && is_seen_by_lookups c)
-    (set_mark CONTINUATION (is_mark_in context c)
-    (set_mark IGNORABLE (is_ignorable_in context c) marks))
+-- the properties of a character
+abbrev pub character_properties : Context → ℕ → UnicodeProps
+character_properties context c =
+    set_property HIDDEN (is_ignorable_in context c && is_seen_by_lookups c)
+    (set_property CONTINUATION (is_mark_in context c)
+    (set_property IGNORABLE (is_ignorable_in context c)
+    (properties (context.general c) (class_byte context c))))
 
 -- the glyph as a character, whose glyph in the font is kept beside it
 abbrev pub as_character : Context → ℕ → ℕ → hb_glyph_info_t → hb_glyph_info_t
 as_character context c glyph g = record g {
   glyph_id = c;
-  var = glyph;
-  general_category = context.general c;
-  modified_combining_class = class_byte context c;
-  marks = character_marks context c g.marks;
+  glyph_props = record { 0 = glyph };
+  unicode_props = character_properties context c;
 }

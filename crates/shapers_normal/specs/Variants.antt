@@ -6,7 +6,7 @@ use Rattle.shapers_base.specs.declared.font.GlyphId.{GlyphId}
 use Rattle.shapers_buffer.specs.declared.buffer.category.hb_unicode_general_category_t.TheVariants.{Cf}
 use Rattle.shapers_buffer.specs.declared.buffer.glyph.hb_glyph_info_t.{hb_glyph_info_t}
 use Rattle.shapers_buffer.specs.declared.buffer.level.BufferClusterLevel.{BufferClusterLevel}
-use Rattle.shapers_buffer.specs.Marks.{IGNORABLE, set_mark}
+use Rattle.shapers_buffer.specs.Properties.{IGNORABLE, set_property, with_general_category, with_high_byte}
 use Rattle.shapers_normal.specs.Context.{Context}
 use Rattle.shapers_normal.specs.Properties.{is_from_to}
 use Rattle.shapers_normal.specs.Recomposition.{glyph_at}
@@ -40,23 +40,23 @@ is_kept_cluster cluster = list_any is_selector_glyph cluster
 -- a glyph with the number of its character's glyph, if the font has one
 abbrev pub with_number : Context → hb_glyph_info_t → hb_glyph_info_t
 with_number context g = option_map_or
-    (λ (glyph : GlyphId). let r : hb_glyph_info_t = record g { var = glyph.0 } in r)
+    (λ (glyph : GlyphId). let r : hb_glyph_info_t = record g { glyph_props = record { 0 = glyph.0 } } in r)
     (context.nominal g.glyph_id) g
 
--- A selector that selects nothing: a format character from here on, by whose class byte HarfBuzz
+-- A selector that selects nothing: a format character from here on, by whose high byte HarfBuzz
 -- knows it again. It isn't ignorable if the caller has a glyph for such selectors.
 abbrev pub selecting_nothing : Context → hb_glyph_info_t → hb_glyph_info_t
-selecting_nothing context g = record g {
-  general_category = Cf;
-  modified_combining_class = 4;
-  marks = if context.draws_selectors then set_mark IGNORABLE false g.marks else g.marks;
-}
+selecting_nothing context g =
+    let selector = with_high_byte 4 (with_general_category Cf g.unicode_props) in
+    record g {
+      unicode_props = if context.draws_selectors then set_property IGNORABLE false selector else selector;
+    }
 
 -- A character and the selectors behind it. Where the font has the form that the first of them
 -- selects, its glyph stands for both, and else both stay; further selectors stay.
 abbrev pub form_written : Context → List hb_glyph_info_t → List hb_glyph_info_t
 form_written context (g ∷ (selector ∷ more)) = option_map_or
-    (λ (variant : GlyphId). (let r : hb_glyph_info_t = record g { var = variant.0 } in r)
+    (λ (variant : GlyphId). (let r : hb_glyph_info_t = record g { glyph_props = record { 0 = variant.0 } } in r)
     ∷ map (with_number context) more)
     (context.variant g.glyph_id selector.glyph_id)
     (with_number context g ∷ with_number context (selecting_nothing context selector)

@@ -16,6 +16,5 @@ pub use laws::{
     whole_texts_law,
 };
 pub use normalizing::{Rounds, normalize};
-pub use properties::HIDDEN;
 pub use recomposing::recompose_in;
 pub use sorting::{MAX_COMBINING_MARKS, order_marks_in, sort_marks_in};

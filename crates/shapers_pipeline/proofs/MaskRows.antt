@@ -14,10 +14,9 @@ glyph c mask var cluster = record {
   syllable = 13;
   category = 17;
   auxiliary = 19;
-  general_category = Lo;
-  modified_combining_class = 23;
-  lig_comp = 14;
-  marks = record { 0 = 255 };
+  glyph_props = record { 0 = 0x70 };
+  lig_props = record { 0 = 14 };
+  unicode_props = record { 0 = 0x17E7 };
 }
 
 -- a mask with flags goes whole; nothing else changes

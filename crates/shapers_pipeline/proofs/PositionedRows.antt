@@ -80,7 +80,7 @@ text direction = record (new_buffer 9) {
   glyphs =
       record default_glyph { glyph_id = 10; cluster = 0; mask = 0x10 } ∷ record default_glyph
       { glyph_id = 20; cluster = 0; mask = 0x21 }
-      ∷ record default_glyph { glyph_id = 30; cluster = 1; mask = 0x40; marks = record { 0 = 8 } } ∷ [];
+      ∷ record default_glyph { glyph_id = 30; cluster = 1; mask = 0x40; glyph_props = record { 0 = 0 }; unicode_props = record { 0 = 0x0020 } } ∷ [];
   direction = direction;
 }
 
@@ -134,7 +134,7 @@ backward_positions = refl
 -- a space of half an em that the font lacks
 abbrev half_em : Buffer
 half_em = record (new_buffer 9) {
-  glyphs = record default_glyph { glyph_id = 3; general_category = Zs; modified_combining_class = 2 } ∷ [];
+  glyphs = record default_glyph { glyph_id = 3; unicode_props = record { 0 = 0x021D } } ∷ [];
   direction = LeftToRight;
 }
 

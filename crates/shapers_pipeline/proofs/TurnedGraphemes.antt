@@ -11,7 +11,7 @@ use Rattle.shapers_buffer.specs.declared.buffer.level.BufferClusterLevel.TheVari
 use Rattle.shapers_buffer.specs.Clusters.{merge, merge_all, merges, stretch_of}
 use Rattle.shapers_buffer.specs.Glyph.{clusters, default_glyph}
 use Rattle.shapers_buffer.specs.GlyphFlags.{unsafe_all}
-use Rattle.shapers_buffer.specs.Marks.{is_continuation}
+use Rattle.shapers_buffer.specs.Properties.{is_continuation}
 use Rattle.shapers_buffer.proofs.ClusterLemmas.{get_or-stretch, map-stretch}
 use Rattle.shapers_buffer.proofs.MappedLists.{map-reverse}
 use Rattle.shapers_clusters.specs.Cuts.{EndWithin, IsMonotone}
@@ -36,7 +36,7 @@ ends_from s i n (false ∷ cs) within = (omega arith, ends_from i (i + 1) n cs (
 pub ends_within : (gs : List hb_glyph_info_t) → EndWithin (length gs) (graphemes gs)
 ends_within [] = tt
 ends_within (g ∷ gs) = ends_from 0 1 (suc (length gs)) (continuations gs)
-    (omega (arith, length-map gs (λ (h : hb_glyph_info_t). is_continuation h.marks)))
+    (omega (arith, length-map gs (λ (h : hb_glyph_info_t). is_continuation h.unicode_props)))
 
 rise_from : (s i : ℕ) (cs : List Bool) → s ≤ i → AllByRecursion (λ st. st.0 ≤ st.1) (graphemes_from s i cs)
 rise_from s i [] order = (order, tt)
@@ -82,12 +82,12 @@ merged_alike (st ∷ sts) gs = merged_alike sts (merge MonotoneCharacters st.0 s
 
 -- what carries on a grapheme has the cluster of what stands before it
 abbrev Whole : List hb_glyph_info_t → Type 0
-Whole gs = (p : ℕ) → 0 < p → p < length gs → is_continuation (get_or gs p default_glyph).marks ≡ true →
+Whole gs = (p : ℕ) → 0 < p → p < length gs → is_continuation (get_or gs p default_glyph).unicode_props ≡ true →
     get_or (clusters gs) (p - 1) 0 ≡ get_or (clusters gs) p 0
 
 merged_whole : NoGraphemeSplits → (gs : List hb_glyph_info_t) → Whole (merge_all MonotoneGraphemes (graphemes gs) gs)
 merged_whole splits gs p some inside is =
-    let f : hb_glyph_info_t → Bool = λ g. is_continuation g.marks in
+    let f : hb_glyph_info_t → Bool = λ g. is_continuation g.unicode_props in
     let text = merge_all MonotoneGraphemes (graphemes gs) gs in
     let alike : continuations text ≡ continuations gs = map-merge_all f (λ g. refl) MonotoneGraphemes
     (graphemes gs) gs in
@@ -104,7 +104,7 @@ OneFrom cs s i = (j : ℕ) → s ≤ j → j < i → get_or cs j 0 ≡ get_or cs
 one_goes_on : (gs : List hb_glyph_info_t) → Whole gs → (s i : ℕ) (cs : List Bool) → s < i → drop i (continuations gs)
     ≡ true ∷ cs → OneFrom (clusters gs) s i → OneFrom (clusters gs) s (i + 1)
 one_goes_on gs whole s i cs order rest one j low high =
-    let f : hb_glyph_info_t → Bool = λ g. is_continuation g.marks in
+    let f : hb_glyph_info_t → Bool = λ g. is_continuation g.unicode_props in
     let within : i < length gs = omega (arith, ap length rest, length-drop i (continuations gs), length-map gs f) in
     let none : i + 0 ≡ i = omega arith in
     let read : get_or (continuations gs) i false ≡ true = ap (λ n. get_or (continuations gs) n false) (sym none) ∙ sym

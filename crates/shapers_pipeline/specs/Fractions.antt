@@ -12,12 +12,13 @@ use Rattle.shapers_buffer.specs.GlyphFlags.{unsafe_inside, unsafe_to_concat_in, 
 use Rattle.shapers_prepare.specs.NativeDirection.{is_decimal_number}
 use Rattle.shapers_plan.specs.declared.ot_shape_plan.DriverMasks.{DriverMasks}
 use Rattle.shapers_pipeline.specs.declared.fractions.SlashMasks.{SlashMasks}
+use Rattle.shapers_buffer.specs.Properties.{general_category}
 
 abbrev pub is_fraction_slash : hb_glyph_info_t → Bool
 is_fraction_slash g = g.glyph_id == 0x2044
 
 abbrev pub is_decimal_glyph : hb_glyph_info_t → Bool
-is_decimal_glyph g = is_decimal_number g.general_category
+is_decimal_glyph g = is_decimal_number (general_category g.unicode_props)
 
 -- how many decimal numbers stand right before a place, and right behind it
 abbrev pub decimals_before : ℕ → List hb_glyph_info_t → ℕ

@@ -5,7 +5,9 @@ use Rattle.shapers_base.specs.declared.plan.pause.Pause.TheVariants.{SetupSyllab
 use Rattle.shapers_buffer.specs.Buffer.{Buffer}
 use Rattle.shapers_buffer.specs.Clusters.{merges}
 use Rattle.shapers_buffer.specs.Glyph.{clusters, without_flags}
+use Rattle.shapers_buffer.specs.Properties.{no_ligature}
 use Rattle.shapers_buffer.specs.declared.buffer.glyph.hb_glyph_info_t.{hb_glyph_info_t}
+use Rattle.shapers_buffer.specs.declared.buffer.glyph_props.GlyphProps.{GlyphProps}
 use Rattle.shapers_buffer.specs.declared.buffer.syllables.Span.{Span}
 use Rattle.shapers_clusters.specs.Cuts.{IsMonotone}
 use Rattle.shapers_syllabic.specs.CircleLaws.{NoNewCluster}
@@ -30,21 +32,20 @@ pub record LookupGrows (times : ℕ) (old new : Buffer) : Type 0 where
   pub one : 1 ≤ times
   pub few : length new.glyphs ≤ length old.glyphs * times
 
--- What a lookup of GPOS keeps of a text with positions: everything but positions, notes and glyph
--- flags.
+-- What a lookup of GPOS keeps of a text with positions: everything but positions and glyph flags.
 abbrev pub unplaced : hb_glyph_info_t → hb_glyph_info_t
-unplaced g = record g { mask = without_flags g.mask; var = 0 }
+unplaced g = record g { mask = without_flags g.mask }
 
 pub record PositionKeeps (old new : Buffer) : Type 0 where
   pub others : new ≡ record old { glyphs = new.glyphs; positions = new.positions }
   pub glyphs : map unplaced new.glyphs ≡ map unplaced old.glyphs
   pub positions : length new.positions ≡ length old.positions
 
--- the notes that the lookups keep beside each glyph, once it is one
-abbrev pub with_note : (hb_glyph_info_t → ℕ) → hb_glyph_info_t → hb_glyph_info_t
-with_note noted g = record g { var = noted g }
+-- what the lookups keep of each glyph, once it is one; none is of a ligature yet
+abbrev pub with_note : (hb_glyph_info_t → GlyphProps) → hb_glyph_info_t → hb_glyph_info_t
+with_note noted g = record g { glyph_props = noted g; lig_props = no_ligature }
 
-abbrev pub text_noted : (hb_glyph_info_t → ℕ) → Buffer → Buffer
+abbrev pub text_noted : (hb_glyph_info_t → GlyphProps) → Buffer → Buffer
 text_noted noted b = record b { glyphs = map (with_note noted) b.glyphs }
 
 -- what these lookups make of a text, one after another

@@ -1,6 +1,7 @@
 -- The masks that the plan gives a text, besides those of its shaper.
 use Rattle.std.specs.Prelude.{ℕ, nat_le, nat_lt, bit_and, bit_or, ◌&&◌, fold, List, if◌then◌else◌}
 use Rattle.std.specs.Int.{bit_not, w32}
+use Rattle.shapers_buffer.specs.Properties.{no_marks}
 use Rattle.shapers_buffer.specs.declared.buffer.glyph.hb_glyph_info_t.{hb_glyph_info_t}
 use Rattle.shapers_plan.specs.declared.ot_shape_plan.user.UserRange.{UserRange}
 
@@ -23,4 +24,4 @@ with_features features g = fold with_feature g features
 
 -- the glyph of a character, which normalization kept beside it
 abbrev pub as_glyph : hb_glyph_info_t → hb_glyph_info_t
-as_glyph g = record g { glyph_id = g.var; var = 0 }
+as_glyph g = record g { glyph_id = g.glyph_props.0; glyph_props = no_marks }

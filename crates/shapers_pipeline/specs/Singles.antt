@@ -3,7 +3,7 @@
 use Rattle.std.specs.Prelude.{◌==◌, bit_and, Bool, true, ◌&&◌, List, find, map, if◌then◌else◌}
 use Rattle.std.specs.Option.{option_map_or}
 use Rattle.shapers_buffer.specs.Buffer.{Buffer}
-use Rattle.shapers_buffer.specs.Marks.{SUBSTITUTED, set_mark}
+use Rattle.shapers_buffer.specs.Properties.{SUBSTITUTED, set_mark}
 use Rattle.shapers_buffer.specs.declared.buffer.glyph.hb_glyph_info_t.{hb_glyph_info_t}
 use Rattle.shapers_plan.specs.declared.ot_map.lookups.StageLookup.{StageLookup}
 use Rattle.shapers_pipeline.specs.declared.singles.Single.{Single}
@@ -14,7 +14,7 @@ is_single_for lookup g s = s.lookup == lookup.index && s.glyph == g.glyph_id
 
 abbrev pub with_single : hb_glyph_info_t → Single → hb_glyph_info_t
 with_single g s =
-    record g { glyph_id = s.substitute; marks = set_mark SUBSTITUTED true g.marks }
+    record g { glyph_id = s.substitute; glyph_props = set_mark SUBSTITUTED true g.glyph_props }
 
 -- a glyph that has a bit of the lookup's mask, with what the first entry for it puts in its place
 abbrev pub single_applied : List Single → StageLookup → hb_glyph_info_t → hb_glyph_info_t

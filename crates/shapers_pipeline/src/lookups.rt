@@ -4,7 +4,9 @@ ghost use Rattle.shapers_buffer.specs.declared.buffer.refusal.ShaperError.TheVar
 ghost use Rattle.shapers_pipeline.specs.Lengths.{looked_up_bound};
 ghost use Rattle.shapers_pipeline.specs.Lookups.{FoundSpans, StoppedIn, looked_up, text_noted};
 
-use shapers_base::buffer::{GlyphChange, ShaperError, Span, hb_buffer_t, hb_glyph_info_t};
+use shapers_base::buffer::{
+    GlyphChange, GlyphProps, LigProps, ShaperError, Span, hb_buffer_t, hb_glyph_info_t,
+};
 use shapers_base::plan::Pause;
 use shapers_plan::ot_map::StageLookup;
 use shapers_position::ot_shape_position::GlyphClasses;
@@ -17,11 +19,12 @@ use std::mem;
 pub trait Lookups: GlyphClasses {
     ghost use Rattle.shapers_buffer.specs.Buffer.{Buffer};
     ghost use Rattle.shapers_buffer.specs.declared.buffer.glyph.hb_glyph_info_t.{hb_glyph_info_t};
+    ghost use Rattle.shapers_buffer.specs.declared.buffer.glyph_props.GlyphProps.{GlyphProps};
     ghost use Rattle.shapers_pipeline.specs.Lookups.{LookupGrows, LookupKeeps, PositionKeeps};
     ghost use Rattle.shapers_plan.specs.declared.ot_map.lookups.StageLookup.{StageLookup};
 
-    /// What is kept beside a glyph.
-    ghost noted: { Self → hb_glyph_info_t → ℕ };
+    /// What is kept of a glyph.
+    ghost noted: { Self → hb_glyph_info_t → GlyphProps };
 
     /// What a lookup of GSUB makes of a text.
     ghost substituted: { Self → StageLookup → Buffer → Buffer };
@@ -34,9 +37,9 @@ pub trait Lookups: GlyphClasses {
 
     ghost finished: { Self → Buffer → Buffer };
 
-    /// What the lookups keep in `var` of a glyph, as its class, before the first of them: it is
-    /// called once for each glyph, whose `var` is 0.
-    fn note(&self, glyph: &hb_glyph_info_t) -> u32
+    /// What the lookups keep in `glyph_props`, as the glyph's class of `GDEF`, before the first of
+    /// them: it is called once for each glyph, of which no bit is set there yet.
+    fn glyph_props(&self, glyph: &hb_glyph_info_t) -> GlyphProps
         ensures { result ≡ noted self.now glyph.now };
 
     /// How many times as long a lookup of GSUB makes a text at most: 1 where none gets longer, and the
@@ -59,7 +62,7 @@ pub trait Lookups: GlyphClasses {
             length buffer.old.glyphs * times ≤ buffer.old.max_len → result ≢ Err TooLong }
         ensures err { OnErr result (buffer.new ≡ buffer.old) };
 
-    /// Applies a lookup of GPOS to a text of glyphs with positions. It writes these, `var` and glyph
+    /// Applies a lookup of GPOS to a text of glyphs with positions. It writes these and glyph
     /// flags alone.
     ///
     /// # Errors
@@ -90,7 +93,7 @@ pub trait Lookups: GlyphClasses {
         PositionKeeps b (finished it b) };
 }
 
-// Notes beside each glyph what the lookups keep there.
+// Notes of each glyph what the lookups keep there; none is of a ligature yet.
 pub(crate) fn note_glyphs<L: Lookups>(lookups: &L, buffer: &mut hb_buffer_t)
     ensures { buffer.new ≡ text_noted (L.noted lookups.now) buffer.old }
 {
@@ -115,7 +118,8 @@ impl<'a, L: Lookups> GlyphChange for Noting<'a, L> {
 
     #[inline]
     fn change(&self, glyph: &mut hb_glyph_info_t) {
-        glyph.var = self.lookups.note(glyph);
+        glyph.glyph_props = self.lookups.glyph_props(glyph);
+        glyph.lig_props = LigProps::NONE;
     }
 }
 

@@ -2,7 +2,7 @@
 ghost use Rattle.std.specs.Prelude.{◌≡◌, map};
 ghost use Rattle.shapers_pipeline.specs.Masks.{as_glyph, with_feature, with_features, with_mask_alone};
 
-use shapers_base::buffer::{GlyphChange, hb_buffer_t, hb_glyph_info_t};
+use shapers_base::buffer::{GlyphChange, GlyphProps, hb_buffer_t, hb_glyph_info_t};
 use shapers_plan::ot_shape_plan::UserRange;
 
 // Gives each glyph the features that hold for the whole text, and no others.
@@ -88,7 +88,7 @@ impl GlyphChange for AsGlyph {
 
     #[inline]
     fn change(&self, glyph: &mut hb_glyph_info_t) {
-        glyph.glyph_id = glyph.var;
-        glyph.var = 0;
+        glyph.glyph_id = u32::from(glyph.glyph_props.0);
+        glyph.glyph_props = GlyphProps::NONE;
     }
 }

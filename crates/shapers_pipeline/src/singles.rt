@@ -3,7 +3,7 @@ ghost use Rattle.std.specs.Prelude.{◌≡◌, find};
 ghost use Rattle.shapers_pipeline.specs.Singles.{is_single_for, single_applied};
 
 use crate::lookups::Lookups;
-use shapers_base::buffer::{GlyphChange, ShaperError, hb_buffer_t, hb_glyph_info_t};
+use shapers_base::buffer::{GlyphChange, GlyphProps, ShaperError, hb_buffer_t, hb_glyph_info_t};
 use shapers_plan::ot_map::StageLookup;
 use shapers_position::ot_shape_position::GlyphClasses;
 
@@ -40,10 +40,11 @@ impl<'a> GlyphClasses for SingleLookups<'a> {
 
 impl<'a> Lookups for SingleLookups<'a> {
     ghost use Rattle.std.specs.Prelude.{refl};
+    ghost use Rattle.shapers_buffer.specs.Properties.{no_marks};
     ghost use Rattle.shapers_pipeline.specs.Singles.{singles_applied};
     ghost use Rattle.shapers_pipeline.specs.SingleLaws.{singles_grow, singles_keep};
 
-    ghost noted = { λ it g. 0 };
+    ghost noted = { λ it g. no_marks };
 
     ghost substituted = { λ it lookup b. singles_applied it.singles.now lookup b };
 
@@ -54,8 +55,8 @@ impl<'a> Lookups for SingleLookups<'a> {
     ghost finished = { λ it b. b };
 
     #[inline]
-    fn note(&self, _glyph: &hb_glyph_info_t) -> u32 {
-        0
+    fn glyph_props(&self, _glyph: &hb_glyph_info_t) -> GlyphProps {
+        GlyphProps::NONE
     }
 
     #[inline]
@@ -117,7 +118,7 @@ impl<'a> GlyphChange for SingleChange<'a> {
         }
         if let Some(single) = single_for(self.singles, &self.lookup, glyph) {
             glyph.glyph_id = u32::from(single.substitute);
-            glyph.marks.set_substituted(true);
+            glyph.glyph_props.set_substituted(true);
         }
     }
 }

@@ -97,27 +97,23 @@ full = record {
   glyph_id = 0x916;
   cluster = 5;
   mask = 0x8000001F;
-  var = 0x7A;
   syllable = 0x24;
   category = 1;
   auxiliary = 3;
-  general_category = Mn;
-  modified_combining_class = 9;
-  lig_comp = 2;
-  marks = record { 0 = 31 };
+  glyph_props = record { 0 = 0x70 };
+  lig_props = record { 0 = 2 };
+  unicode_props = record { 0 = 0x09AC };
 }
 
 fields : with_flags 1 full ≡ record {
   glyph_id = 0x916;
   cluster = 5;
   mask = 0x80000019;
-  var = 0x7A;
   syllable = 0x24;
   category = 1;
   auxiliary = 3;
-  general_category = Mn;
-  modified_combining_class = 9;
-  lig_comp = 2;
+  lig_props = record { 0 = 2 };
+  unicode_props = record { 0 = 0x090C };
   marks =
       record { 0 = 31 };
 }

@@ -14,10 +14,10 @@ abbrev letter : ℕ → ℕ → hb_glyph_info_t
 letter c m = record default_glyph { glyph_id = 7; cluster = c; mask = m }
 
 abbrev joiner : ℕ → ℕ → hb_glyph_info_t
-joiner c m = record default_glyph { glyph_id = 8; cluster = c; mask = m; marks = record { 0 = 8 } }
+joiner c m = record default_glyph { glyph_id = 8; cluster = c; mask = m; glyph_props = record { 0 = 0 }; unicode_props = record { 0 = 0x0020 } }
 
 abbrev seen : ℕ → ℕ → hb_glyph_info_t
-seen c m = record default_glyph { glyph_id = 9; cluster = c; mask = m; marks = record { 0 = 9 } }
+seen c m = record default_glyph { glyph_id = 9; cluster = c; mask = m; glyph_props = record { 0 = 0x10 }; unicode_props = record { 0 = 0x0020 } }
 
 -- clusters and masks of what stays
 abbrev masks : List hb_glyph_info_t → List ℕ
@@ -107,28 +107,24 @@ full = record {
   glyph_id = 0x916;
   cluster = 5;
   mask = 0x8000001F;
-  var = 0x7A;
   syllable = 0x24;
   category = 1;
   auxiliary = 3;
-  general_category = Mn;
-  modified_combining_class = 9;
-  lig_comp = 2;
-  marks = record { 0 = 30 };
+  glyph_props = record { 0 = 0x60 };
+  lig_props = record { 0 = 2 };
+  unicode_props = record { 0 = 0x09AC };
 }
 
 in_place : in_place_of (letter 2 0x44) full ≡ record {
   glyph_id = 0x916;
   cluster = 2;
   mask = 0x8000001C;
-  var = 0x7A;
   syllable = 0x24;
   category = 1;
   auxiliary = 3;
-  general_category = Mn;
-  modified_combining_class = 9;
-  lig_comp = 2;
-  marks = record { 0 = 30 };
+  glyph_props = record { 0 = 0x60 };
+  lig_props = record { 0 = 2 };
+  unicode_props = record { 0 = 0x09AC };
 }
 in_place = refl
 
@@ -136,14 +132,12 @@ drawn : drawn_by (record { 0 = 3 }) full ≡ record {
   glyph_id = 3;
   cluster = 5;
   mask = 0x8000001F;
-  var = 0x7A;
   syllable = 0x24;
   category = 1;
   auxiliary = 3;
-  general_category = Mn;
-  modified_combining_class = 9;
-  lig_comp = 2;
-  marks = record { 0 = 30 };
+  glyph_props = record { 0 = 0x60 };
+  lig_props = record { 0 = 2 };
+  unicode_props = record { 0 = 0x09AC };
 }
 drawn = refl
 

@@ -93,7 +93,7 @@ abbrev space : ℕ → hb_glyph_info_t
 space byte = record default_glyph { general_category = Zs; modified_combining_class = 1; marks = record { 0 = byte } }
 
 abbrev no_space : hb_glyph_info_t
-no_space = record default_glyph { general_category = Lo; modified_combining_class = 1 }
+no_space = record default_glyph { unicode_props = record { 0 = 0x0107 } }
 
 spaces : map is_space_glyph (space 0 ∷ space 1 ∷ space 2 ∷ space 0xFD ∷ space 0xFF ∷ no_space ∷ []) ≡ true ∷ true ∷
     false ∷ true ∷ false ∷ false ∷ []

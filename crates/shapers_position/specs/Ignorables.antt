@@ -11,7 +11,7 @@ use Rattle.shapers_buffer.specs.Buffer.{Buffer}
 use Rattle.shapers_buffer.specs.Clusters.{has_cluster, last_cluster, merge}
 use Rattle.shapers_buffer.specs.Glyph.{without_flags}
 use Rattle.shapers_buffer.specs.Lists.{before_last_run, last_run}
-use Rattle.shapers_buffer.specs.Marks.{is_ignorable, is_substituted}
+use Rattle.shapers_buffer.specs.Properties.{is_ignorable, is_substituted}
 use Rattle.shapers_choice.specs.Choice.{is_horizontal}
 use Rattle.shapers_position.specs.declared.ot_shape_position.ignorables.DefaultIgnorables.{DefaultIgnorables}
 use Rattle.shapers_position.specs.declared.ot_shape_position.ignorables.DefaultIgnorables.TheVariants.{Hide, Preserve, Remove}
@@ -24,7 +24,7 @@ ignorables_for bits =
 
 -- the character need not be drawn, and no lookup put the glyph in
 abbrev pub is_default_ignorable : hb_glyph_info_t → Bool
-is_default_ignorable g = is_ignorable g.marks && not (is_substituted g.marks)
+is_default_ignorable g = is_ignorable g.unicode_props && not (is_substituted g.glyph_props)
 
 -- the others
 abbrev pub stays_in_text : hb_glyph_info_t → Bool

@@ -5,7 +5,7 @@ use Rattle.std.specs.Option.{option_map_or}
 use Rattle.shapers_base.specs.Font.{Font}
 use Rattle.shapers_buffer.specs.declared.buffer.glyph.GlyphPosition.{GlyphPosition}
 use Rattle.shapers_buffer.specs.declared.buffer.glyph.hb_glyph_info_t.{hb_glyph_info_t}
-use Rattle.shapers_buffer.specs.Marks.{is_ligated}
+use Rattle.shapers_buffer.specs.Properties.{is_ligated, general_category, high_byte}
 use Rattle.shapers_normal.specs.Decomposition.{is_space_separator}
 use Rattle.shapers_position.specs.Metrics.{Metrics, along_line, line_advance}
 
@@ -45,12 +45,12 @@ space_width font metrics horizontal kind advance =
 
 -- a space that no lookup put in for several glyphs
 abbrev pub is_space_glyph : hb_glyph_info_t → Bool
-is_space_glyph g = is_space_separator g.general_category && not (is_ligated g.marks)
+is_space_glyph g = is_space_separator (general_category g.unicode_props) && not (is_ligated g.glyph_props)
 
 -- a glyph's position, with that width along the line if it is such a space
 abbrev pub space_placed : Font → Metrics → Bool → hb_glyph_info_t → GlyphPosition → GlyphPosition
 space_placed font metrics horizontal g p =
-    let width = space_width font metrics horizontal g.modified_combining_class in
+    let width = space_width font metrics horizontal (high_byte g.unicode_props) in
     if not (is_space_glyph g) then p
     else if horizontal then record p { x_advance = width p.x_advance }
     else record p { y_advance = width p.y_advance }

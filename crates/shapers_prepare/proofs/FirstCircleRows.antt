@@ -9,6 +9,7 @@ use Rattle.shapers_buffer.specs.declared.buffer.glyph.hb_glyph_info_t.{hb_glyph_
 use Rattle.shapers_buffer.specs.Buffer.{Buffer, new_buffer}
 use Rattle.shapers_prepare.specs.CharacterProperties.{CharacterProperties}
 use Rattle.shapers_prepare.specs.FirstCircle.{with_first_circle}
+use Rattle.shapers_buffer.specs.Properties.{CONTINUATION, HIDDEN, IGNORABLE, properties, with_property}
 
 abbrev sample : CharacterProperties
 sample = record {
@@ -35,14 +36,12 @@ glyph general = record {
   glyph_id = 0x301;
   cluster = 5;
   mask = 0x80000007;
-  var = 11;
   syllable = 13;
   category = 17;
   auxiliary = 19;
-  general_category = general;
-  modified_combining_class = 23;
-  lig_comp = 14;
-  marks = record { 0 = 255 };
+  glyph_props = record { 0 = 0x70 };
+  lig_props = record { 0 = 14 };
+  unicode_props = with_property CONTINUATION (with_property HIDDEN (with_property IGNORABLE (properties general 23)));
 }
 
 abbrev buffer : ℕ → List ℕ → List hb_glyph_info_t → Buffer
@@ -54,14 +53,12 @@ circle_made : with_first_circle sample (font_with 0x25CC) (buffer 2 [] (glyph Mn
   glyph_id = 0x25CC;
   cluster = 5;
   mask = 0x80000007;
-  var = 0;
   syllable = 0;
   category = 0;
   auxiliary = 0;
-  general_category = So;
-  modified_combining_class = 0;
-  lig_comp = 0;
-  marks = record { 0 = 0 };
+  glyph_props = record { 0 = 0 };
+  lig_props = record { 0 = 0 };
+  unicode_props = record { 0 = 0x001A };
 } ∷ glyph Mn ∷ glyph Lo ∷ []
 circle_made = refl
 

@@ -7,7 +7,7 @@ use Rattle.shapers_buffer.specs.declared.buffer.glyph.hb_glyph_info_t.{hb_glyph_
 use Rattle.shapers_buffer.specs.declared.buffer.level.BufferClusterLevel.TheVariants.{MonotoneGraphemes}
 use Rattle.shapers_buffer.specs.Clusters.{stretch_of}
 use Rattle.shapers_buffer.specs.Glyph.{clusters, default_glyph}
-use Rattle.shapers_buffer.specs.Marks.{is_continuation}
+use Rattle.shapers_buffer.specs.Properties.{is_continuation}
 use Rattle.shapers_clusters.specs.Cuts.{EndWithin, ShareCluster, held}
 use Rattle.shapers_clusters.proofs.Moves.{clusters-merge_all, held_share}
 use Rattle.shapers_clusters.proofs.Proved.{exact_cuts_hold}
@@ -24,7 +24,7 @@ ends_within : (gs : List hb_glyph_info_t) → EndWithin (length gs) (graphemes g
 ends_within [] = tt
 ends_within (g ∷ gs) =
     ends_from 0 1 (suc (length gs)) (continuations gs)
-    (omega (arith, length-map gs (λ (h : hb_glyph_info_t). is_continuation h.marks)))
+    (omega (arith, length-map gs (λ (h : hb_glyph_info_t). is_continuation h.unicode_props)))
 
 -- the places between the first one of a grapheme and the one that it has come to
 or_right : (a b : Bool) → b ≡ true → (a || b) ≡ true
@@ -58,14 +58,14 @@ holds_from s i (suc k) (false ∷ cs) order is =
     or_right (nat_lt s (i + suc k) && nat_lt (i + suc k) i) (held (graphemes_from i (i + 1) cs) (i + suc k))
     (ap (held (graphemes_from i (i + 1) cs)) (sym there) ∙ holds_from i (i + 1) k cs (omega arith) is)
 
-holds : (gs : List hb_glyph_info_t) (p : ℕ) → 0 < p → p < length gs → is_continuation (get_or gs p default_glyph).marks
+holds : (gs : List hb_glyph_info_t) (p : ℕ) → 0 < p → p < length gs → is_continuation (get_or gs p default_glyph).unicode_props
     ≡ true → held (graphemes gs) p ≡ true
 holds [] p some inside is = absurd (omega arith)
 holds (g ∷ gs) zero some inside is = absurd (omega arith)
 holds (g ∷ gs) (suc k) some inside is =
     let there : 1 + k ≡ suc k = omega arith in
     let read : get_or (continuations gs) k false ≡ true =
-    get_or-map (λ (h : hb_glyph_info_t). is_continuation h.marks) gs k default_glyph false (omega arith) ∙ is in
+    get_or-map (λ (h : hb_glyph_info_t). is_continuation h.unicode_props) gs k default_glyph false (omega arith) ∙ is in
     ap (held (graphemes_from 0 1 (continuations gs))) (sym there)
     ∙ holds_from 0 1 k (continuations gs) (omega arith) read
 
@@ -102,4 +102,4 @@ pub graphemes_cover : GraphemesCover
 graphemes_cover [] = refl
 graphemes_cover (g ∷ gs) =
     cover_from (g ∷ gs) 0 1 (continuations gs) (omega arith)
-    (omega (arith, length-map gs (λ (h : hb_glyph_info_t). is_continuation h.marks)))
+    (omega (arith, length-map gs (λ (h : hb_glyph_info_t). is_continuation h.unicode_props)))

@@ -3,7 +3,7 @@ use Rattle.std.specs.Prelude.{◌≡◌, ℕ, Bool, true, false, [], ◌∷◌, 
 use Rattle.shapers_buffer.specs.declared.buffer.glyph.hb_glyph_info_t.{hb_glyph_info_t}
 use Rattle.shapers_buffer.specs.declared.buffer.level.BufferClusterLevel.TheVariants.{MonotoneGraphemes, MonotoneCharacters, Characters}
 use Rattle.shapers_buffer.specs.Glyph.{clusters, default_glyph}
-use Rattle.shapers_buffer.specs.Marks.{CONTINUATION, set_mark}
+use Rattle.shapers_buffer.specs.Properties.{CONTINUATION, set_property}
 use Rattle.shapers_prepare.specs.Graphemes.{clusters_formed, grapheme_stretches}
 
 -- the graphemes: two, one alone, one that begins with what goes on; none
@@ -16,7 +16,7 @@ stretches = refl
 abbrev text : List (ℕ × Bool) → List hb_glyph_info_t
 text ps = map
     (λ p. let g : hb_glyph_info_t = record default_glyph
-    { cluster = p.0; mask = 8; marks = set_mark CONTINUATION p.1 default_glyph.marks } in g) ps
+    { cluster = p.0; mask = 8; unicode_props = set_property CONTINUATION p.1 default_glyph.unicode_props } in g) ps
 
 abbrev seen : List hb_glyph_info_t → List (ℕ × ℕ)
 seen gs = map (λ g. (g.cluster, g.mask)) gs

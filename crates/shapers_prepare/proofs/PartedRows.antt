@@ -102,25 +102,21 @@ circle : vowel_circle (record {
   glyph_id = 0x93E;
   cluster = 5;
   mask = 7;
-  var = 11;
   syllable = 13;
   category = 17;
   auxiliary = 19;
-  general_category = Mc;
-  modified_combining_class = 23;
-  lig_comp = 14;
-  marks = record { 0 = 255 };
+  glyph_props = record { 0 = 0x70 };
+  lig_props = record { 0 = 14 };
+  unicode_props = record { 0 = 0x17EA };
 }) ≡ record {
   glyph_id = 0x25CC;
   cluster = 5;
   mask = 7;
-  var = 11;
   syllable = 13;
   category = 17;
   auxiliary = 19;
-  general_category = Mc;
-  modified_combining_class = 23;
-  lig_comp = 14;
-  marks = record { 0 = 239 };
+  glyph_props = record { 0 = 0x70 };
+  lig_props = record { 0 = 14 };
+  unicode_props = record { 0 = 0x176A };
 }
 circle = refl

@@ -4,7 +4,7 @@ use Rattle.shapers_buffer.specs.declared.buffer.category.hb_unicode_general_cate
 use Rattle.shapers_buffer.specs.declared.buffer.category.hb_unicode_general_category_t.TheVariants.{Cf, Lm, Lo, Mc, Me, Mn, Sk, Sm, So}
 use Rattle.shapers_buffer.specs.declared.buffer.glyph.hb_glyph_info_t.{hb_glyph_info_t}
 use Rattle.shapers_buffer.specs.Glyph.{default_glyph}
-use Rattle.shapers_buffer.specs.Marks.{is_continuation}
+use Rattle.shapers_buffer.specs.Properties.{is_continuation}
 use Rattle.shapers_normal.specs.Properties.{is_from_to}
 use Rattle.shapers_prepare.specs.CharacterProperties.{CharacterProperties}
 use Rattle.shapers_prepare.specs.GlyphProperties.{kept_class, kept_marks, properties_set, with_properties}
@@ -36,28 +36,24 @@ busy = record {
   glyph_id = 0x301;
   cluster = 5;
   mask = 7;
-  var = 11;
   syllable = 13;
   category = 17;
   auxiliary = 19;
-  general_category = Sm;
-  modified_combining_class = 23;
-  lig_comp = 14;
-  marks = record { 0 = 255 };
+  glyph_props = record { 0 = 0x70 };
+  lig_props = record { 0 = 14 };
+  unicode_props = record { 0 = 0x17F9 };
 }
 
 as_mark : with_properties sample true busy ≡ record {
   glyph_id = 0x301;
   cluster = 5;
   mask = 7;
-  var = 11;
   syllable = 13;
   category = 17;
   auxiliary = 19;
-  general_category = Mn;
-  modified_combining_class = 230;
-  lig_comp = 14;
-  marks = record { 0 = 215 };
+  glyph_props = record { 0 = 0x70 };
+  lig_props = record { 0 = 14 };
+  unicode_props = record { 0 = 0xE68C };
 }
 as_mark = refl
 
@@ -76,7 +72,7 @@ bytes_of = refl
 -- which of these characters carry on a grapheme
 abbrev going_on : List ℕ → List Bool
 going_on cs =
-    map (λ g. is_continuation g.marks)
+    map (λ g. is_continuation g.unicode_props)
     (properties_set sample (map (λ c. let g : hb_glyph_info_t = record default_glyph { glyph_id = c } in g) cs))
 
 -- the three kinds of marks, also in front; none of ASCII's is

@@ -39,14 +39,12 @@ glyph c = record {
   glyph_id = c;
   cluster = 5;
   mask = 0x103;
-  var = 11;
   syllable = 13;
   category = 17;
   auxiliary = 19;
-  general_category = Sm;
-  modified_combining_class = 23;
-  lig_comp = 14;
-  marks = record { 0 = 255 };
+  glyph_props = record { 0 = 0x70 };
+  lig_props = record { 0 = 14 };
+  unicode_props = record { 0 = 0x17F9 };
 }
 
 -- the mirrored bracket, which the font has: nothing else changes

@@ -7,6 +7,7 @@ use Rattle.shapers_buffer.specs.Category.{is_mark}
 use Rattle.shapers_buffer.specs.Glyph.{default_glyph}
 use Rattle.shapers_prepare.specs.CharacterProperties.{CharacterProperties}
 use Rattle.shapers_prepare.specs.GlyphProperties.{with_properties_behind}
+use Rattle.shapers_buffer.specs.Properties.{general_category}
 
 -- the flag of a buffer whose text is the beginning of one, as a paragraph's
 abbrev pub begins_text : ℕ
@@ -14,7 +15,7 @@ begins_text = 0x02
 
 abbrev pub begins_with_mark : List hb_glyph_info_t → Bool
 begins_with_mark [] = false
-begins_with_mark (g ∷ gs) = is_mark g.general_category
+begins_with_mark (g ∷ gs) = is_mark (general_category g.unicode_props)
 
 -- whether a text wants a circle in front: it is the beginning of one, with nothing before it, it
 -- begins with a mark, and the caller allows circles

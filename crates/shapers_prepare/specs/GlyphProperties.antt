@@ -4,12 +4,12 @@
 use Rattle.std.specs.Prelude.{ℕ, ◌==◌, ◌%◌, nat_le, Bool, not, ◌&&◌, ◌||◌, List, [], map, if◌then◌else◌}
 use Rattle.std.specs.List.{suffix_len}
 use Rattle.shapers_buffer.specs.declared.buffer.glyph.hb_glyph_info_t.{hb_glyph_info_t}
-use Rattle.shapers_buffer.specs.declared.buffer.glyph_marks.GlyphMarks.{GlyphMarks}
+use Rattle.shapers_buffer.specs.declared.buffer.unicode_props.UnicodeProps.{UnicodeProps}
 use Rattle.shapers_buffer.specs.Category.{is_mark}
 use Rattle.shapers_buffer.specs.Glyph.{characters}
 use Rattle.shapers_buffer.specs.Lists.{each_after}
-use Rattle.shapers_buffer.specs.Marks.{IGNORABLE, CONTINUATION, set_mark}
-use Rattle.shapers_normal.specs.Properties.{HIDDEN, is_from_to, is_seen_by_lookups, joiner_class}
+use Rattle.shapers_buffer.specs.Properties.{CONTINUATION, HIDDEN, IGNORABLE, properties, set_property}
+use Rattle.shapers_normal.specs.Properties.{is_from_to, is_seen_by_lookups, joiner_class}
 use Rattle.shapers_prepare.specs.CharacterProperties.{CharacterProperties}
 
 -- ZWJ, which joins pictographs
@@ -52,26 +52,25 @@ continues_grapheme p before c =
     is_mark_character p c || always_continues c || (ends_joined before && p.pictographic c)
     || (ends_in_half_flag before && is_regional_indicator c)
 
--- what the byte of a mark's class holds: the class of a mark, or which joiner a character is that
+-- what the high byte of a character's properties holds: the class of a mark, or which joiner a character is that
 -- need not be drawn
 abbrev pub kept_class : CharacterProperties → ℕ → ℕ
 kept_class p c =
     if is_mark_character p c then p.class c
     else if need_not_be_drawn p c then joiner_class c else 0
 
--- the marks of a glyph with those of its character; lookups see some characters that need not be
--- drawn
-abbrev pub kept_marks : CharacterProperties → Bool → ℕ → GlyphMarks → GlyphMarks
-kept_marks p continues c marks =
-    set_mark HIDDEN (need_not_be_drawn p c && is_seen_by_lookups c)
-    (set_mark CONTINUATION continues (set_mark IGNORABLE (need_not_be_drawn p c) marks))
+-- what a glyph keeps of its character; lookups see some characters that need not be drawn
+abbrev pub kept_properties : CharacterProperties → Bool → ℕ → UnicodeProps
+kept_properties p continues c =
+    set_property HIDDEN (need_not_be_drawn p c && is_seen_by_lookups c)
+    (set_property CONTINUATION continues
+    (set_property IGNORABLE (need_not_be_drawn p c)
+    (properties (p.general c) (kept_class p c))))
 
 -- a glyph with the properties of its character
 abbrev pub with_properties : CharacterProperties → Bool → hb_glyph_info_t → hb_glyph_info_t
 with_properties p continues g = record g {
-  general_category = p.general g.glyph_id;
-  modified_combining_class = kept_class p g.glyph_id;
-  marks = kept_marks p continues g.glyph_id g.marks;
+  unicode_props = kept_properties p continues g.glyph_id;
 }
 
 -- the same behind these glyphs

@@ -4,7 +4,7 @@ use Rattle.shapers_buffer.specs.declared.buffer.glyph.hb_glyph_info_t.{hb_glyph_
 use Rattle.shapers_buffer.specs.declared.buffer.level.BufferClusterLevel.TheVariants.{MonotoneGraphemes}
 use Rattle.shapers_buffer.specs.Clusters.{stretch_of}
 use Rattle.shapers_buffer.specs.Glyph.{clusters, default_glyph}
-use Rattle.shapers_buffer.specs.Marks.{is_continuation}
+use Rattle.shapers_buffer.specs.Properties.{is_continuation}
 use Rattle.shapers_clusters.specs.Cuts.{ExactCuts, IsMonotone, ShareCluster}
 use Rattle.shapers_prepare.specs.Graphemes.{clusters_formed, graphemes}
 
@@ -17,7 +17,7 @@ GraphemesCover = (gs : List hb_glyph_info_t) →
 -- cluster.
 abbrev pub NoGraphemeSplits : Type 0
 NoGraphemeSplits = (gs : List hb_glyph_info_t) (p : ℕ) → 0 < p → p < length gs →
-    is_continuation (slice_index_or gs p default_glyph).marks ≡ true →
+    is_continuation (slice_index_or gs p default_glyph).unicode_props ≡ true →
     ShareCluster (clusters (clusters_formed MonotoneGraphemes gs)) (p - 1) p
 
 -- Where clusters never decrease, or never increase, they still do so, each is one that the text

@@ -5,11 +5,11 @@ use Rattle.shapers_buffer.specs.declared.buffer.level.BufferClusterLevel.{Buffer
 use Rattle.shapers_buffer.specs.declared.buffer.level.BufferClusterLevel.TheVariants.{MonotoneGraphemes}
 use Rattle.shapers_buffer.specs.Clusters.{merge_all}
 use Rattle.shapers_buffer.specs.GlyphFlags.{unsafe_all}
-use Rattle.shapers_buffer.specs.Marks.{is_continuation}
+use Rattle.shapers_buffer.specs.Properties.{is_continuation}
 
 -- of each glyph, whether it carries on the grapheme before it
 abbrev pub continuations : List hb_glyph_info_t → List Bool
-continuations gs = map (λ g. is_continuation g.marks) gs
+continuations gs = map (λ g. is_continuation g.unicode_props) gs
 
 -- the graphemes as stretches, each from its first place to the place behind its last one; the first
 -- of them begins at s, and these say from place i on which glyphs carry on the one before them

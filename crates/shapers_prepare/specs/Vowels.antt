@@ -6,7 +6,7 @@ use Rattle.shapers_base.specs.Font.{dotted_circle}
 use Rattle.shapers_buffer.specs.declared.buffer.glyph.hb_glyph_info_t.{hb_glyph_info_t}
 use Rattle.shapers_buffer.specs.declared.buffer.tag.Script.{Script}
 use Rattle.shapers_buffer.specs.Buffer.{Buffer, asks, no_dotted_circle}
-use Rattle.shapers_buffer.specs.Marks.{CONTINUATION, without_mark}
+use Rattle.shapers_buffer.specs.Properties.{CONTINUATION, without_property}
 use Rattle.shapers_choice.specs.Choice.{is_code}
 use Rattle.shapers_prepare.specs.declared.ot_shape_prepare.vowels.VowelScript.{VowelScript}
 use Rattle.shapers_prepare.specs.declared.ot_shape_prepare.vowels.VowelScript.TheVariants as scripts
@@ -83,7 +83,8 @@ left_behind s n g gs = if n == 0 then pair_behind s g.glyph_id gs else n - 1
 -- the circle before the last one of a pair or triple: a copy of that, which begins a grapheme
 abbrev pub vowel_circle : hb_glyph_info_t → hb_glyph_info_t
 vowel_circle g =
-    record g { glyph_id = dotted_circle; marks = without_mark CONTINUATION g.marks }
+    let begun = without_property CONTINUATION g.unicode_props in
+    record g { glyph_id = dotted_circle; unicode_props = begun }
 
 abbrev pub circle_before_last : ℕ → hb_glyph_info_t → List hb_glyph_info_t
 circle_before_last n g = if n == 1 then vowel_circle g ∷ [] else []

@@ -13,10 +13,10 @@ unfoldable pub kind_by : Grammar → List ℕ → ℕ
 kind_by g w = first_kind g.kinds (after w g.rules)
 
 letter : ℕ → hb_glyph_info_t
-letter c = record default_glyph { category = c; general_category = Lo }
+letter c = record default_glyph { category = c; unicode_props = record { 0 = 0x0007 } }
 
 mark : ℕ → hb_glyph_info_t
-mark c = record default_glyph { category = c; general_category = Mn }
+mark c = record default_glyph { category = c; unicode_props = record { 0 = 0x000C } }
 
 -- CGJ is passed over, whatever is around it; ZWNJ before a mark, CGJs between them apart
 read : read_of opens_passed (letter 6 ∷ letter 1 ∷ letter 6 ∷ letter 14 ∷ letter 6 ∷ mark 33 ∷ letter 14 ∷ letter 1

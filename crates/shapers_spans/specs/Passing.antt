@@ -2,11 +2,12 @@
 use Rattle.std.specs.Prelude.{◌==◌, ◌||◌, ◌&&◌, Bool, false, List, [], ◌∷◌, if◌then◌else◌}
 use Rattle.shapers_buffer.specs.declared.buffer.glyph.hb_glyph_info_t.{hb_glyph_info_t}
 use Rattle.shapers_buffer.specs.Category.{is_mark}
+use Rattle.shapers_buffer.specs.Properties.{general_category}
 
 -- whether the first glyph that isn't CGJ is a mark
 abbrev pub next_is_mark : List hb_glyph_info_t → Bool
 next_is_mark [] = false
-next_is_mark (g ∷ gs) = if g.category == 6 then next_is_mark gs else is_mark g.general_category
+next_is_mark (g ∷ gs) = if g.category == 6 then next_is_mark gs else is_mark (general_category g.unicode_props)
 
 -- whether the text begins with a glyph that is passed over
 abbrev pub opens_passed : List hb_glyph_info_t → Bool

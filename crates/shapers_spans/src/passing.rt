@@ -17,7 +17,7 @@ fn next_is_mark(glyphs: &[hb_glyph_info_t]) -> bool
 {
     for glyph in glyphs {
         if glyph.category != CGJ {
-            return glyph.general_category.is_mark();
+            return glyph.unicode_props.general_category().is_mark();
         }
     }
     false

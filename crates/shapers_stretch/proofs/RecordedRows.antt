@@ -16,7 +16,6 @@ set marks component action =
       glyph_id = 5;
       cluster = 6;
       mask = 7;
-      var = 0x7A;
       syllable = 8;
       category = 9;
       auxiliary = action;

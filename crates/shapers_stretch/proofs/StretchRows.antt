@@ -15,6 +15,7 @@ use Rattle.shapers_base.specs.declared.plan.arabic.StretchStart.TheVariants.{AsC
 use Rattle.shapers_base.specs.Font.{Font}
 use Rattle.shapers_stretch.specs.Cells.{Cell, parts_of_text, tiles_of, word_of, before_word, is_word_category}
 use Rattle.shapers_stretch.specs.Stretch.{cells, marks_stretched, stretch_refusal}
+use Rattle.shapers_buffer.specs.Properties.{properties}
 
 -- a font by the advances of its glyphs
 abbrev pub font : (ℕ → ℤ) → Font
@@ -33,14 +34,12 @@ cell n cluster category action advance =
       glyph_id = n;
       cluster = cluster;
       mask = 16;
-      var = 0x7A;
       syllable = 8;
       category = 9;
       auxiliary =
           action;
-      general_category = category;
-      modified_combining_class = 11;
-      lig_comp = 5;
+      lig_props = record { 0 = 5 };
+      unicode_props = properties category 11;
       marks =
           record { 0 = 7 };
     } in

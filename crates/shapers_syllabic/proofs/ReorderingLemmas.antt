@@ -8,7 +8,7 @@ use Rattle.shapers_buffer.specs.declared.buffer.level.BufferClusterLevel.{Buffer
 use Rattle.shapers_buffer.specs.Buffer.{Buffer, but_places}
 use Rattle.shapers_buffer.specs.Clusters.{merge, merge_all, stretch_of, with_stretch}
 use Rattle.shapers_buffer.specs.Glyph.{order_view, plain, without_flags}
-use Rattle.shapers_buffer.specs.Marks.{no_marks}
+use Rattle.shapers_buffer.specs.Properties.{no_marks}
 use Rattle.shapers_buffer.specs.Places.{listed, pick, placed}
 use Rattle.shapers_buffer.proofs.ClusterLemmas.{three_parts, map-stretch}
 use Rattle.shapers_clusters.specs.Flags.{HidesFields, seen}
@@ -29,7 +29,7 @@ carried_hides = record {
   shows = record { cluster = λ g. refl; flags = λ g. (let i : g.mask % 8 % 8 ≡ g.mask % 8 = omega arith in i) };
   apart = λ g. (let i : without_flags (without_flags g.mask % 8)
       ≡ without_flags (g.mask % 8) =
-      omega arith in ap (λ (x : ℕ). record g { cluster = 0; mask = x; category = 0; auxiliary = 0; marks = no_marks })
+      omega arith in ap (λ (x : ℕ). record g { cluster = 0; mask = x; category = 0; auxiliary = 0; glyph_props = record { 0 = 0 } })
       i);
 }
 
@@ -40,7 +40,7 @@ carried_passes = record {
       (if b then g else record g { cluster = m; mask = without_flags g.mask })
       ≡ (if b then carried g else record (carried g) { cluster = m; mask = without_flags (g.mask % 8) })) [
         | true ↦ refl
-        | false ↦ ap (λ (x : ℕ). record g { cluster = m; mask = x; category = 0; auxiliary = 0; marks = no_marks })
+        | false ↦ ap (λ (x : ℕ). record g { cluster = m; mask = x; category = 0; auxiliary = 0; glyph_props = record { 0 = 0 } })
             (flags-carried g.mask)
       ];
 }

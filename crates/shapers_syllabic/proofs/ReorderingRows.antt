@@ -24,14 +24,12 @@ full = record {
   glyph_id = 0x916;
   cluster = 5;
   mask = 0x1F;
-  var = 0x7A;
   syllable = 0x24;
   category = 1;
   auxiliary = 3;
-  general_category = Mn;
-  modified_combining_class = 9;
-  lig_comp = 2;
-  marks = record { 0 = 31 };
+  glyph_props = record { 0 = 0x70 };
+  lig_props = record { 0 = 2 };
+  unicode_props = record { 0 = 0x09AC };
 }
 
 carried_full : carried full
@@ -39,14 +37,12 @@ carried_full : carried full
       glyph_id = 0x916;
       cluster = 5;
       mask = 7;
-      var = 0x7A;
       syllable = 0x24;
       category = 0;
       auxiliary = 0;
-      general_category = Mn;
-      modified_combining_class = 9;
-      lig_comp = 2;
-      marks = record { 0 = 0 };
+      glyph_props = record { 0 = 0 };
+      lig_props = record { 0 = 2 };
+      unicode_props = record { 0 = 0x090C };
     }
 carried_full = refl
 

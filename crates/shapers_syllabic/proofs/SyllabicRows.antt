@@ -41,24 +41,22 @@ full = record {
   glyph_id = 0x916;
   cluster = 5;
   mask = 0x1F;
-  var = 0x7A;
   syllable = 0x24;
   category = 1;
   auxiliary = 3;
-  general_category = Mn;
-  modified_combining_class = 9;
-  lig_comp = 2;
-  marks = record { 0 = 31 };
+  glyph_props = record { 0 = 0x70 };
+  lig_props = record { 0 = 2 };
+  unicode_props = record { 0 = 0x09AC };
 }
 
 cleared_syllable : in_syllable 0 full ≡ record full { syllable = 0 }
 cleared_syllable = refl
 
-cleared_substitution : unsubstituted full ≡ record full { marks = record { 0 = 30 } }
+cleared_substitution : unsubstituted full ≡ record full { glyph_props = record { 0 = 0x60 }; unicode_props = record { 0 = 0x00A0 } }
 cleared_substitution = refl
 
-cleared_of_others : unsubstituted (record full { marks = record { 0 = 10 } })
-    ≡ record full { marks = record { 0 = 10 } }
+cleared_of_others : unsubstituted (record full { glyph_props = record { 0 = 0x20 }; unicode_props = record { 0 = 0x0020 } })
+    ≡ record full { glyph_props = record { 0 = 0x20 }; unicode_props = record { 0 = 0x0020 } }
 cleared_of_others = refl
 
 -- the span pause: bytes, flags inside each syllable, and the mark of a broken one

@@ -3,7 +3,7 @@ use Rattle.std.specs.Prelude.{ℕ, ◌==◌, Bool, ◌&&◌, not, List, [], ◌�
 use Rattle.std.specs.List.{list_any}
 use Rattle.shapers_buffer.specs.declared.buffer.glyph.hb_glyph_info_t.{hb_glyph_info_t}
 use Rattle.shapers_base.specs.declared.plan.ot_category_t.TheConstants.{OT_C, OT_CS, OT_Ra, OT_CM, OT_V, OT_PLACEHOLDER, OT_DOTTEDCIRCLE}
-use Rattle.shapers_buffer.specs.Marks.{is_ligated}
+use Rattle.shapers_buffer.specs.Properties.{is_ligated}
 
 -- the categories that may carry a syllable: consonants, vowels, what stands for one (OpenType)
 abbrev pub consonants : List ℕ
@@ -11,4 +11,4 @@ consonants = OT_C ∷ OT_CS ∷ OT_Ra ∷ OT_CM ∷ OT_V ∷ OT_PLACEHOLDER ∷ 
 
 -- whether a glyph is a consonant: of one of these categories, and no lookup put it in for several
 abbrev pub is_consonant : hb_glyph_info_t → Bool
-is_consonant g = not (is_ligated g.marks) && list_any (λ c. c == g.category) consonants
+is_consonant g = not (is_ligated g.glyph_props) && list_any (λ c. c == g.category) consonants

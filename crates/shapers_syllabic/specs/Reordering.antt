@@ -6,7 +6,7 @@ use Rattle.shapers_buffer.specs.declared.buffer.glyph.hb_glyph_info_t.{hb_glyph_
 use Rattle.shapers_buffer.specs.Buffer.{Buffer, but_places}
 use Rattle.shapers_buffer.specs.Clusters.{stretch_of, with_stretch}
 use Rattle.shapers_buffer.specs.Glyph.{order_view}
-use Rattle.shapers_buffer.specs.Marks.{no_marks}
+use Rattle.shapers_buffer.specs.Properties.{no_marks}
 use Rattle.shapers_buffer.specs.Syllables.{syllables, unknown_syllable}
 use Rattle.shapers_base.specs.Font.{Font, dotted_circle}
 use Rattle.shapers_buffer.specs.declared.buffer.refusal.ShaperError.{ShaperError}
@@ -18,7 +18,7 @@ use Rattle.shapers_clusters.specs.Steps.{Step, run_steps, steps_along, widened}
 
 -- What a reordering carries along: all but feature masks, category, auxiliary byte and marks.
 abbrev pub carried : hb_glyph_info_t → hb_glyph_info_t
-carried g = record g { mask = g.mask % 8; category = 0; auxiliary = 0; marks = no_marks }
+carried g = record g { mask = g.mask % 8; category = 0; auxiliary = 0; glyph_props = record { 0 = 0 } }
 
 -- what a text becomes whose syllables each become what the meaning says: the text order
 abbrev pub text_order : (List hb_glyph_info_t → List hb_glyph_info_t) → List hb_glyph_info_t →

@@ -5,7 +5,7 @@ use Rattle.shapers_buffer.specs.declared.buffer.glyph.hb_glyph_info_t.{hb_glyph_
 use Rattle.shapers_buffer.specs.declared.buffer.syllables.Span.{Span}
 use Rattle.shapers_buffer.specs.Buffer.{Buffer}
 use Rattle.shapers_buffer.specs.GlyphFlags.{flagged}
-use Rattle.shapers_buffer.specs.Marks.{SUBSTITUTED, without_mark}
+use Rattle.shapers_buffer.specs.Properties.{SUBSTITUTED, without_mark}
 use Rattle.shapers_buffer.specs.Syllables.{kind_of, syllables, in_syllable, span_bytes, spans_cover, with_bytes}
 
 -- the glyphs with the inside of each syllable unsafe to break and to concatenate
@@ -38,4 +38,4 @@ in_unsafe_syllable byte gs = flagged 3 (map (in_syllable byte) gs)
 
 -- the glyph without the mark that a lookup substituted it
 abbrev pub unsubstituted : hb_glyph_info_t → hb_glyph_info_t
-unsubstituted g = record g { marks = without_mark SUBSTITUTED g.marks }
+unsubstituted g = record g { glyph_props = without_mark SUBSTITUTED g.glyph_props }

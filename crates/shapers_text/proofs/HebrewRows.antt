@@ -7,14 +7,15 @@ use Rattle.shapers_buffer.specs.declared.buffer.level.BufferClusterLevel.TheVari
 use Rattle.shapers_buffer.specs.Glyph.{default_glyph, clusters}
 use Rattle.shapers_clusters.specs.Steps.{run_step}
 use Rattle.shapers_text.specs.Hebrew.{composed_in_hebrew, hebrew_form, is_meteg_or_below, is_patah_or_qamats, is_sheva_or_hiriq, hebrew_mark_step, marks_swapped, second_of_triple, triple_place}
+use Rattle.shapers_buffer.specs.Properties.{CONTINUATION, IGNORABLE, modified_combining_class, properties, with_property}
 
 -- marks of these classes and clusters
 abbrev marks : List (ℕ × ℕ) → List hb_glyph_info_t
 marks ms = map
-    (λ m. let g : hb_glyph_info_t = record default_glyph { modified_combining_class = m.0; cluster = m.1 } in g) ms
+    (λ m. let g : hb_glyph_info_t = record default_glyph { unicode_props = properties Cc m.0; cluster = m.1 } in g) ms
 
 abbrev classes : List hb_glyph_info_t → List ℕ
-classes gs = map (λ g. g.modified_combining_class) gs
+classes gs = map (λ g. (modified_combining_class g.unicode_props)) gs
 
 abbrev twice : List hb_glyph_info_t
 twice = marks ((20, 0) ∷ (22, 1) ∷ (25, 2) ∷ (20, 3) ∷ (22, 4) ∷ (25, 5) ∷ [])
@@ -36,7 +37,7 @@ formed p = hebrew_form p.0 p.1
 
 -- marks of these classes
 abbrev of_classes : List ℕ → List hb_glyph_info_t
-of_classes cs = map (λ class. let g : hb_glyph_info_t = record default_glyph { modified_combining_class = class } in g)
+of_classes cs = map (λ class. let g : hb_glyph_info_t = record default_glyph { unicode_props = properties Cc class } in g)
     cs
 
 -- the fourteen pairs, from the names of the presentation forms
@@ -181,14 +182,12 @@ full class c m =
       glyph_id = 0x05B7;
       cluster = c;
       mask = m;
-      var = 0x7A;
       syllable = 0x24;
       category = 1;
       auxiliary = 3;
-      general_category = Mn;
-      modified_combining_class = class;
-      lig_comp = 2;
-      marks = record { 0 = 31 };
+      glyph_props = record { 0 = 0x70 };
+      lig_props = record { 0 = 2 };
+      unicode_props = with_property CONTINUATION (with_property IGNORABLE (properties Mn class));
     }
 
 full_swapped : run_step MonotoneGraphemes

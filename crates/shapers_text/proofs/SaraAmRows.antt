@@ -39,24 +39,22 @@ full = record {
   glyph_id = 0x0E33;
   cluster = 5;
   mask = 0x1F;
-  var = 0x7A;
   syllable = 0x24;
   category = 1;
   auxiliary = 3;
-  general_category = Cc;
-  modified_combining_class = 9;
-  lig_comp = 2;
-  marks = record { 0 = 15 };
+  glyph_props = record { 0 = 0x70 };
+  lig_props = record { 0 = 2 };
+  unicode_props = record { 0 = 0x0920 };
 }
 
-thai_nikhahit : nikhahit full ≡ record full { glyph_id = 0x0E4D; general_category = Mn; marks = record { 0 = 31 } }
+thai_nikhahit : nikhahit full ≡ record full { glyph_id = 0x0E4D; glyph_props = record { 0 = 0x70 }; unicode_props = record { 0 = 0x00AC } }
 thai_nikhahit = refl
 
 thai_sara_aa : sara_aa full ≡ record full { glyph_id = 0x0E32 }
 thai_sara_aa = refl
 
 lao_nikhahit : nikhahit (record full { glyph_id = 0x0EB3 })
-    ≡ record full { glyph_id = 0x0ECD; general_category = Mn; marks = record { 0 = 31 } }
+    ≡ record full { glyph_id = 0x0ECD; glyph_props = record { 0 = 0x70 }; unicode_props = record { 0 = 0x00AC } }
 lao_nikhahit = refl
 
 lao_sara_aa : sara_aa (record full { glyph_id = 0x0EB3 }) ≡ record full { glyph_id = 0x0EB2 }

@@ -11,9 +11,9 @@ use Rattle.shapers_buffer.specs.declared.buffer.glyph.hb_glyph_info_t.{hb_glyph_
 use Rattle.shapers_buffer.specs.declared.buffer.level.BufferClusterLevel.{BufferClusterLevel}
 use Rattle.shapers_buffer.specs.Glyph.{clusters, characters}
 use Rattle.shapers_buffer.specs.Clusters.{merge_all, merges}
-use Rattle.shapers_buffer.specs.Marks.{CONTINUATION}
+use Rattle.shapers_buffer.specs.Properties.{CONTINUATION}
 use Rattle.shapers_buffer.specs.Lists.{before_last_run, each_after}
-use Rattle.shapers_buffer.proofs.MarkLemmas.{cleared_after_set}
+use Rattle.shapers_buffer.proofs.BitLemmas.{cleared_after_set}
 use Rattle.shapers_buffer.proofs.MappedLists.{all-range, Contains-flat_map, Contains-each_after}
 use Rattle.shapers_base.specs.declared.plan.breaks.BreakFlags.{BreakFlags}
 use Rattle.shapers_clusters.specs.Cuts.{ShareCluster}

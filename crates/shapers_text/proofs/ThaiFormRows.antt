@@ -382,14 +382,12 @@ full = record {
   glyph_id = 0x0E0D;
   cluster = 5;
   mask = 0x18;
-  var = 0x7A;
   syllable = 0x24;
   category = 1;
   auxiliary = 3;
-  general_category = Mn;
-  modified_combining_class = 9;
-  lig_comp = 2;
-  marks = record { 0 = 31 };
+  glyph_props = record { 0 = 0x70 };
+  lig_props = record { 0 = 2 };
+  unicode_props = record { 0 = 0x09AC };
 }
 
 forms_keep : pua_shaped has_all (full ∷ record full { glyph_id = 0x0E38 }

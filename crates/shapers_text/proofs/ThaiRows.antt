@@ -8,7 +8,7 @@ use Rattle.shapers_buffer.specs.declared.buffer.glyph.hb_glyph_info_t.{hb_glyph_
 use Rattle.shapers_buffer.specs.declared.buffer.level.BufferClusterLevel.{BufferClusterLevel}
 use Rattle.shapers_buffer.specs.declared.buffer.level.BufferClusterLevel.TheVariants.{MonotoneGraphemes, MonotoneCharacters}
 use Rattle.shapers_buffer.specs.Glyph.{default_glyph, clusters, characters}
-use Rattle.shapers_buffer.specs.Marks.{is_continuation}
+use Rattle.shapers_buffer.specs.Properties.{is_continuation, general_category, modified_combining_class}
 use Rattle.shapers_text.specs.Thai.{sara_am_sources, sara_am_stretches}
 use Rattle.shapers_buffer.specs.Buffer.{new_buffer}
 use Rattle.shapers_base.specs.Font.{Font}
@@ -50,11 +50,11 @@ tone-new_place : new_place (0x0E14 ∷ 0x0E4B ∷ []) ≡ 1
 tone-new_place = refl
 
 -- only NIKHAHIT is made a mark and a continuation
-made-marks : map (λ g. is_continuation g.marks) (found MonotoneGraphemes (0x0E14 ∷ 0x0E4B ∷ 0x0E33 ∷ []))
+made-marks : map (λ g. is_continuation g.unicode_props) (found MonotoneGraphemes (0x0E14 ∷ 0x0E4B ∷ 0x0E33 ∷ []))
     ≡ false ∷ true ∷ false ∷ false ∷ []
 made-marks = refl
 
-made-categories : map (λ g. g.general_category) (found MonotoneGraphemes (0x0E14 ∷ 0x0E4B ∷ 0x0E33 ∷ []))
+made-categories : map (λ g. (general_category g.unicode_props)) (found MonotoneGraphemes (0x0E14 ∷ 0x0E4B ∷ 0x0E33 ∷ []))
     ≡ Cc ∷ Mn ∷ Cc ∷ Cc ∷ []
 made-categories = refl
 
@@ -142,17 +142,15 @@ full = record {
   glyph_id = 0x916;
   cluster = 5;
   mask = 0x1F;
-  var = 0x7A;
   syllable = 0x24;
   category = 1;
   auxiliary = 3;
-  general_category = Mn;
-  modified_combining_class = 9;
-  lig_comp = 2;
-  marks = record { 0 = 31 };
+  glyph_props = record { 0 = 0x70 };
+  lig_props = record { 0 = 2 };
+  unicode_props = record { 0 = 0x09AC };
 }
 
-unnamed : without_name full ≡ record full { glyph_id = 0; general_category = Cc; marks = record { 0 = 15 } }
+unnamed : without_name full ≡ record full { glyph_id = 0; glyph_props = record { 0 = 0x70 }; unicode_props = record { 0 = 0x0020 } }
 unnamed = refl
 
 kept : kept_view false full ≡ record full { cluster = 0; mask = 0x18 }
@@ -171,8 +169,8 @@ not_told_by_number = refl
 told_by_mask : kept_view true full ≡ kept_view true (record full { mask = 0x27 }) → ⊥
 told_by_mask same = let e : 0x18 ≡ 0x20 = ap (λ g. g.mask) same in absurd (omega (arith, e))
 
-told_by_class : without_name full ≡ without_name (record full { modified_combining_class = 8 }) → ⊥
-told_by_class same = let e : 9 ≡ 8 = ap (λ g. g.modified_combining_class) same in absurd (omega (arith, e))
+told_by_class : without_name full ≡ without_name (record full { unicode_props = record { 0 = 0x0800 } }) → ⊥
+told_by_class same = let e : 9 ≡ 8 = ap (λ g. (modified_combining_class g.unicode_props)) same in absurd (omega (arith, e))
 
 -- the forms hang on the script of the plan, not on that of the buffer
 abbrev plan_for : String → hb_ot_shape_plan_t

@@ -7,7 +7,7 @@ use Rattle.shapers_buffer.specs.declared.buffer.level.BufferClusterLevel.{Buffer
 use Rattle.shapers_buffer.specs.declared.buffer.level.BufferClusterLevel.TheVariants.{MonotoneGraphemes}
 use Rattle.std.specs.Cmp.Lexicographic.{pointwise}
 use Rattle.shapers_buffer.specs.declared.buffer.tag.Script.{Script}
-use Rattle.shapers_buffer.specs.Marks.{CONTINUATION, with_mark}
+use Rattle.shapers_buffer.specs.Properties.{CONTINUATION, with_general_category, with_property}
 use Rattle.shapers_buffer.specs.Lists.{last_run, before_last_run, each_after, opened_pieces}
 
 -- SARA AM, of Thai and of Lao (Unicode: 0E33 and 0EB3)
@@ -29,8 +29,7 @@ is_above_base u = is_thai_above_base (bit_and u 0xFFFFFF7F)
 abbrev pub nikhahit : hb_glyph_info_t → hb_glyph_info_t
 nikhahit am = record am {
   glyph_id = am.glyph_id + 0x1A;
-  general_category = Mn;
-  marks = with_mark CONTINUATION am.marks;
+  unicode_props = with_property CONTINUATION (with_general_category Mn am.unicode_props);
 }
 
 abbrev pub sara_aa : hb_glyph_info_t → hb_glyph_info_t

@@ -5,7 +5,7 @@ use Rattle.std.specs.List.Sorted.{IsPermutation}
 use Rattle.shapers_buffer.specs.declared.buffer.glyph.hb_glyph_info_t.{hb_glyph_info_t}
 use Rattle.shapers_buffer.specs.declared.buffer.level.BufferClusterLevel.{BufferClusterLevel}
 use Rattle.shapers_buffer.specs.declared.buffer.category.hb_unicode_general_category_t.TheVariants.{Cc}
-use Rattle.shapers_buffer.specs.Marks.{CONTINUATION, without_mark}
+use Rattle.shapers_buffer.specs.Properties.{CONTINUATION, with_general_category, without_property}
 use Rattle.shapers_buffer.specs.Lists.{before_last_run}
 use Rattle.shapers_buffer.specs.Glyph.{clusters, plain, without_flags, characters}
 use Rattle.shapers_buffer.specs.Clusters.{merge_all, merges}
@@ -35,10 +35,11 @@ pub record ClustersInTwo (level : BufferClusterLevel) (us cs js : List ℕ) : Ty
 -- a glyph without what the rewriting changes
 abbrev pub without_name : hb_glyph_info_t → hb_glyph_info_t
 without_name g =
-    record g { glyph_id = 0; general_category = Cc; marks = without_mark CONTINUATION g.marks }
+    let character = with_general_category Cc g.unicode_props in
+    record g { glyph_id = 0; unicode_props = without_property CONTINUATION character }
 
 -- What it gives: rs. But for its order it is the merged text with each SARA AM taken in rule. Each
--- glyph is its source after the merges in all but character, category and continuation; so no
+-- glyph is its source after the merges in all but character, category, class and continuation; so no
 -- cluster rises, and glyph flags stay unless it fell.
 pub record InTwoHolds (level : BufferClusterLevel) (gs rs : List hb_glyph_info_t) : Type 0 where
   pub made : map without_name rs

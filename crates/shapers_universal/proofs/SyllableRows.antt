@@ -30,14 +30,12 @@ full = record {
   glyph_id = 0x916;
   cluster = 5;
   mask = 0x3F;
-  var = 0x7A;
   syllable = 0x24;
   category = 1;
   auxiliary = 3;
-  general_category = Mn;
-  modified_combining_class = 9;
-  lig_comp = 2;
-  marks = record { 0 = 31 };
+  glyph_props = record { 0 = 0x70 };
+  lig_props = record { 0 = 2 };
+  unicode_props = record { 0 = 0x09AC };
 }
 
 -- the masks of the four forms
@@ -282,7 +280,7 @@ mongolian before cs =
     forms_of (script "Mong")
     (text_of joins (λ c. Lo)
     (record (new_buffer 9) {
-      glyphs = map (λ c. categorized (λ d. 1) (record default_glyph { glyph_id = c; general_category = Lo })) cs;
+      glyphs = map (λ c. categorized (λ d. 1) (record default_glyph { glyph_id = c; unicode_props = record { 0 = 0x0007 } })) cs;
       before
           = before;
     }))

@@ -81,14 +81,12 @@ full category comp =
       glyph_id = 7;
       cluster = 5;
       mask = 0x1003;
-      var = 0x7A;
       syllable = 0x22;
       category = category;
       auxiliary = 3;
-      general_category = Mn;
-      modified_combining_class = 9;
-      lig_comp = comp;
-      marks = record { 0 = 31 };
+      glyph_props = record { 0 = 0x70 };
+      lig_props = record { 0 = comp };
+      unicode_props = record { 0 = 0x09AC };
     }
 
 fields_stay : universal_order (full 18 2 ∷ full 1 3 ∷ full 22 0 ∷ []) ≡ full 22 0 ∷ full 1 3 ∷ full 18 2 ∷ []
@@ -116,7 +114,7 @@ changing : that_pass may_reorder ≡ 18 ∷ 22 ∷ 23 ∷ []
 changing = refl
 
 -- a ligature is no halant; of several glyphs for one the first alone goes to the front
-ligatures : map (λ category. is_universal_halant (record (of_category category) { marks = record { 0 = 2 } }))
+ligatures : map (λ category. is_universal_halant (record (of_category category) { glyph_props = record { 0 = 0x20 } }))
     (12 ∷ 44 ∷ 53 ∷ []) ≡ false ∷ false ∷ false ∷ []
 ligatures = refl
 
@@ -125,19 +123,19 @@ other_marks : map (λ marks. is_universal_halant (record (of_category 12) { mark
 other_marks = refl
 
 -- a ligature of what stands after the base ends what a reph passes, one of a halant doesn't
-ligatures_passed : map (λ category. reph_passes (record (of_category category) { marks = record { 0 = 2 } }))
+ligatures_passed : map (λ category. reph_passes (record (of_category category) { glyph_props = record { 0 = 0x20 } }))
     (22 ∷ 33 ∷ 12 ∷ 1 ∷ []) ≡ false ∷ false ∷ true ∷ true ∷ []
 ligatures_passed = refl
 
-components : map (λ comp. goes_front (record (of_category 22) { lig_comp = comp })) (0 ∷ 1 ∷ 15 ∷ [])
+components : map (λ comp. goes_front (record (of_category 22) { lig_props = record { 0 = comp } })) (0 ∷ 1 ∷ 15 ∷ [])
     ≡ true ∷ false ∷ false ∷ []
 components = refl
 
-changing_components : map (λ comp. may_reorder (record (of_category 22) { lig_comp = comp })) (0 ∷ 1 ∷ 15 ∷ [])
+changing_components : map (λ comp. may_reorder (record (of_category 22) { lig_props = record { 0 = comp } })) (0 ∷ 1 ∷ 15 ∷ [])
     ≡ true ∷ false ∷ false ∷ []
 changing_components = refl
 
-changing_reph : may_reorder (record (of_category 18) { lig_comp = 1 }) ≡ true
+changing_reph : may_reorder (record (of_category 18) { lig_props = record { 0 = 1 } }) ≡ true
 changing_reph = refl
 
 -- dotted circles, of category 1, come into broken syllables, of kind 7, behind leading glyphs of category 18

@@ -5,7 +5,7 @@ use Rattle.std.specs.List.{flat_map, list_any, prefix_len, range_with_len, slice
 use Rattle.std.specs.Option.{option_map_or}
 use Rattle.shapers_buffer.specs.declared.buffer.glyph.hb_glyph_info_t.{hb_glyph_info_t}
 use Rattle.shapers_buffer.specs.Lists.{cut_after, first_last}
-use Rattle.shapers_buffer.specs.Marks.{is_ligated}
+use Rattle.shapers_buffer.specs.Properties.{is_ligated, component}
 use Rattle.shapers_clusters.specs.Steps.{Step, steps_along}
 use Rattle.shapers_syllabic.specs.Circles.{is_of_kinds}
 use Rattle.shapers_syllabic.specs.declared.ot_shaper_syllabic.kinds.use_syllable.TheConstants.{BROKEN_CLUSTER, SAKOT_TERMINATED_CLUSTER, STANDARD_CLUSTER, VIRAMA_TERMINATED_CLUSTER}
@@ -17,7 +17,7 @@ is_of_categories cs g = list_any (λ c. c == g.category) cs
 
 -- a halant: H, HVM or IS that is no ligature
 abbrev pub is_universal_halant : hb_glyph_info_t → Bool
-is_universal_halant g = is_of_categories (H ∷ HVM ∷ IS ∷ []) g && not (is_ligated g.marks)
+is_universal_halant g = is_of_categories (H ∷ HVM ∷ IS ∷ []) g && not (is_ligated g.glyph_props)
 
 -- the categories of what stands after the base
 abbrev pub post_base : List ℕ
@@ -43,7 +43,7 @@ reph_moved gs = first_behind (reph_run gs) gs
 
 -- what goes to the front of its piece: VPre and VMPre, of those put in for one glyph the first
 abbrev pub goes_front : hb_glyph_info_t → Bool
-goes_front g = is_of_categories (VPre ∷ VMPre ∷ []) g && g.lig_comp == 0
+goes_front g = is_of_categories (VPre ∷ VMPre ∷ []) g && component g.lig_props == 0
 
 -- a list with what passes a test in front, reversed
 abbrev pub reversed_first : {X : Type 0} → (X → Bool) → List X → List X

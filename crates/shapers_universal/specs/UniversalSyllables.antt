@@ -12,7 +12,7 @@ use Rattle.shapers_base.specs.declared.plan.breaks.BreakFlags.{BreakFlags}
 use Rattle.shapers_base.specs.declared.plan.breaks.BreakFlags.TheVariants.{AsCode, Sound}
 use Rattle.shapers_buffer.specs.Buffer.{Buffer}
 use Rattle.shapers_buffer.specs.GlyphFlags.{unsafe_all, with_bits}
-use Rattle.shapers_buffer.specs.Marks.{is_substituted}
+use Rattle.shapers_buffer.specs.Properties.{is_substituted}
 use Rattle.shapers_buffer.specs.Syllables.{kind_of, syllables, with_spans}
 use Rattle.shapers_syllabic.specs.Syllabic.{set_up_by_bytes, with_unsafe_syllables}
 use Rattle.shapers_syllabic.specs.declared.ot_shaper_syllabic.kinds.use_syllable.TheConstants.{BROKEN_CLUSTER, HIEROGLYPH_CLUSTER, NON_CLUSTER}
@@ -149,7 +149,7 @@ in_category c g = record g { category = c }
 abbrev pub first_recorded : ℕ → List hb_glyph_info_t → List hb_glyph_info_t
 first_recorded c [] = []
 first_recorded c (g ∷ gs) =
-    if is_substituted g.marks then in_category c g ∷ gs else g ∷ first_recorded c gs
+    if is_substituted g.glyph_props then in_category c g ∷ gs else g ∷ first_recorded c gs
 
 -- the record of rphf in a syllable: the first leading glyph with that mask put in becomes a reph
 abbrev pub rphf_recorded : ℕ → List hb_glyph_info_t → List hb_glyph_info_t

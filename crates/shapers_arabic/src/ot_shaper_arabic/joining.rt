@@ -229,11 +229,11 @@ fn stored_type<T: Tables, L: Ledger>(
 ) -> hb_arabic_joining_type_t
     requires { IsScalar glyph.now.glyph_id }
     ensures type_is { let own = (T.tables tables.now).joining glyph.now.glyph_id in
-        result ≡ resolved own glyph.now.general_category }
+        result ≡ resolved own (general_category glyph.now.unicode_props) }
     ensures counted { count.new ≡ count.old + 1 }
 {
     let c = char::from_u32(glyph.glyph_id).unwrap();
-    resolve(look_up(tables, c, count), glyph.general_category)
+    resolve(look_up(tables, c, count), glyph.unicode_props.general_category())
 }
 
 // The nearest type of a context that isn't transparent, by the table's own categories.

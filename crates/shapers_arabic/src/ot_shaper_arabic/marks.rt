@@ -148,7 +148,7 @@ fn count_below(class: u8, marks: &[hb_glyph_info_t]) -> usize
 {
     marks
         .iter()
-        .take_while(|mark| mark.modified_combining_class < class)
+        .take_while(|mark| mark.unicode_props.modified_combining_class() < class)
         .count()
 }
 
@@ -169,7 +169,7 @@ fn count_modifiers(class: u8, marks: &[hb_glyph_info_t]) -> usize
 fn is_modifier_of(class: u8, mark: &hb_glyph_info_t) -> bool
     ensures { result ≡ is_modifier_of class mark.now }
 {
-    mark.modified_combining_class == class && modifies(mark.glyph_id)
+    mark.unicode_props.modified_combining_class() == class && modifies(mark.glyph_id)
 }
 
 // Whether this mark modifies a letter.
@@ -249,6 +249,6 @@ fn set_class(marks: &mut [hb_glyph_info_t], class: u8)
     ensures { marks.new ≡ map (in_class class) marks.old }
 {
     for mark in marks.iter_mut() {
-        mark.modified_combining_class = class;
+        mark.unicode_props.set_modified_combining_class(class);
     }
 }

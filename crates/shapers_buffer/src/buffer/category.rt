@@ -1,6 +1,5 @@
 ghost use Rattle.std.specs.Prelude.{◌≡◌, Some, slice_get};
-ghost use Rattle.shapers_buffer.specs.Category.{is_mark};
-ghost use Rattle.shapers_buffer.specs.Numbers.{categories};
+ghost use Rattle.shapers_buffer.specs.Category.{categories, category_number, is_mark};
 
 /// The general categories of the Unicode Character Database, in their order: one byte, from 0 to 29,
 /// as HarfBuzz numbers them.
@@ -115,7 +114,8 @@ impl hb_unicode_general_category_t {
     /// The number of the category, its place in `ALL`.
     #[inline]
     pub fn number(self) -> u8
-        ensures { slice_get categories result ≡ Some self }
+        ensures number { result ≡ category_number self }
+        ensures place { slice_get categories result ≡ Some self }
     {
         self as u8
     }

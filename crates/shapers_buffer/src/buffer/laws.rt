@@ -1,11 +1,16 @@
-//! Laws of marks, places and syllables.
-ghost use Rattle.shapers_buffer.specs.Marks.{MarksAreSetAlone};
+//! Laws of bits, places and syllables.
+ghost use Rattle.shapers_buffer.specs.Properties.{BitsAreSetAlone, PropertiesAreSet};
 ghost use Rattle.shapers_buffer.specs.Places.{PartsChangePlaces, PlacesAreWritten};
 ghost use Rattle.shapers_buffer.specs.SyllableLaws.{SyllablesAreRuns};
 
-/// A setter changes its own mark and no other.
-pub fn marks_are_set_alone()
-    ensures { MarksAreSetAlone }
+/// A setter of one bit changes its own and no other.
+pub fn bits_are_set_alone()
+    ensures { BitsAreSetAlone }
+{}
+
+/// A category, a high byte and a bit are read as they were set, and each setter keeps the others.
+pub fn properties_are_set()
+    ensures { PropertiesAreSet }
 {}
 
 /// A place of the placement list reads what was written there last, or 0.

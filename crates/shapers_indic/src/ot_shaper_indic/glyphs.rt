@@ -20,7 +20,7 @@ pub fn number(glyph: &hb_glyph_info_t) -> GlyphId
 pub fn is_joiner(glyph: &hb_glyph_info_t) -> bool
     ensures { result ≡ is_joiner glyph.now }
 {
-    !glyph.marks.is_ligated() && matches!(glyph.category, OT_ZWJ | OT_ZWNJ)
+    !glyph.glyph_props.is_ligated() && matches!(glyph.category, OT_ZWJ | OT_ZWNJ)
 }
 
 /// Whether a glyph is a vowel sign.
@@ -39,7 +39,7 @@ pub fn is_plain_consonant(syllable: &[hb_glyph_info_t]) -> bool
 {
     match syllable {
         [glyph] => {
-            glyph.category == OT_C && glyph.auxiliary == POS_BASE_C && !glyph.marks.is_ligated()
+            glyph.category == OT_C && glyph.auxiliary == POS_BASE_C && !glyph.glyph_props.is_ligated()
         }
         _ => false,
     }

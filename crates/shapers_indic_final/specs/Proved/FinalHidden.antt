@@ -6,7 +6,7 @@ use Rattle.std.proofs.lemmas.List.{map-append, take-append-drop}
 use Rattle.shapers_buffer.specs.declared.buffer.glyph.hb_glyph_info_t.{hb_glyph_info_t}
 use Rattle.shapers_buffer.specs.declared.buffer.tag.Script.{Script}
 use Rattle.shapers_buffer.specs.Glyph.{at_position}
-use Rattle.shapers_buffer.specs.Marks.{LIGATED, MULTIPLIED, without_mark}
+use Rattle.shapers_buffer.specs.Properties.{LIGATED, MULTIPLIED, without_mark}
 use Rattle.shapers_base.specs.declared.font.GlyphId.{GlyphId}
 use Rattle.shapers_base.specs.declared.plan.ot_category_t.TheConstants.{OT_H, OT_ZWJ}
 use Rattle.shapers_base.specs.declared.plan.ot_position_t.TheConstants.{POS_BASE_C}
@@ -26,7 +26,7 @@ use Rattle.shapers_indic.proofs.PlaceSearch.{PlaceWithin, greatest_within, least
 hidden-recovered : (v : Option GlyphId) (g : hb_glyph_info_t) → carried (recovered v g) ≡ carried g
 hidden-recovered v g =
     elim (is_lost_virama v g) as (λ b. carried
-    (if b then record g { category = OT_H; marks = without_mark MULTIPLIED (without_mark LIGATED g.marks) } else g)
+    (if b then record g { category = OT_H; glyph_props = without_mark MULTIPLIED (without_mark LIGATED g.glyph_props) } else g)
     ≡ carried g) [ true ↦ refl | false ↦ refl ]
 
 pub hidden-viramas : (r : Rules) (gs : List hb_glyph_info_t) → map carried (with_viramas r gs) ≡ map carried gs

@@ -139,7 +139,7 @@ fn unformed_pref(pref: u32, base: usize, glyphs: &[hb_glyph_info_t]) -> Option<u
     ensures within { IfSome result (λ i. i < length glyphs.now) }
 {
     let i = pref_place(pref, base, glyphs)?;
-    if glyphs[i].marks.is_substituted() && is_formed(&glyphs[i]) {
+    if glyphs[i].glyph_props.is_substituted() && is_formed(&glyphs[i]) {
         None
     } else {
         Some(i)
@@ -227,7 +227,7 @@ fn before_joiner(base: usize, glyphs: &[hb_glyph_info_t]) -> usize
     ensures within { result ≤ length glyphs.now }
 {
     match glyphs {
-        [.., last] if base == glyphs.len() && !last.marks.is_ligated() && last.category == OT_ZWJ =>
+        [.., last] if base == glyphs.len() && !last.glyph_props.is_ligated() && last.category == OT_ZWJ =>
             { base - 1 }
         _ => base,
     }
@@ -268,7 +268,7 @@ fn nearest_settled(base: usize, glyphs: &[hb_glyph_info_t]) -> usize
 fn may_be_settled(glyph: &hb_glyph_info_t) -> bool
     ensures { result ≡ may_be_settled glyph.now }
 {
-    glyph.marks.is_ligated() || !matches!(glyph.category, OT_N | OT_H)
+    glyph.glyph_props.is_ligated() || !matches!(glyph.category, OT_N | OT_H)
 }
 
 // The base by links, in Malayalam; the last glyphs of links that become it get the base's position.

@@ -11,7 +11,7 @@ use shapers_base::plan::ot_category_t::{OT_H, OT_M, OT_MPst};
 pub(super) fn is_halant(glyph: &hb_glyph_info_t) -> bool
     ensures { result ≡ is_indic_halant glyph.now }
 {
-    !glyph.marks.is_ligated() && glyph.category == OT_H
+    !glyph.glyph_props.is_ligated() && glyph.category == OT_H
 }
 
 // Whether a glyph is a vowel sign or a halant, and no lookup put it in for several.
@@ -19,7 +19,7 @@ pub(super) fn is_halant(glyph: &hb_glyph_info_t) -> bool
 pub(super) fn is_matra_or_halant(glyph: &hb_glyph_info_t) -> bool
     ensures { result ≡ is_matra_or_halant glyph.now }
 {
-    !glyph.marks.is_ligated() && matches!(glyph.category, OT_M | OT_MPst | OT_H)
+    !glyph.glyph_props.is_ligated() && matches!(glyph.category, OT_M | OT_MPst | OT_H)
 }
 
 // Whether lookups formed one glyph of several, and did not take it apart again.
@@ -27,7 +27,7 @@ pub(super) fn is_matra_or_halant(glyph: &hb_glyph_info_t) -> bool
 pub(super) fn is_formed(glyph: &hb_glyph_info_t) -> bool
     ensures { result ≡ is_formed glyph.now }
 {
-    glyph.marks.is_ligated() && !glyph.marks.is_multiplied()
+    glyph.glyph_props.is_ligated() && !glyph.glyph_props.is_multiplied()
 }
 
 // Whether a glyph has some bit of a mask.

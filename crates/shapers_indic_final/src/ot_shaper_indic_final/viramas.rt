@@ -36,8 +36,8 @@ impl GlyphChange for Recover {
     fn change(&self, glyph: &mut hb_glyph_info_t) {
         if is_lost_virama(self.virama, glyph) {
             glyph.category = OT_H;
-            glyph.marks.set_ligated(false);
-            glyph.marks.set_multiplied(false);
+            glyph.glyph_props.set_ligated(false);
+            glyph.glyph_props.set_multiplied(false);
         }
     }
 }
@@ -50,8 +50,8 @@ pub(super) fn is_lost_virama(virama: Option<GlyphId>, glyph: &hb_glyph_info_t) -
     match virama {
         Some(virama) => {
             glyph.glyph_id == u32::from(virama.0)
-                && glyph.marks.is_ligated()
-                && glyph.marks.is_multiplied()
+                && glyph.glyph_props.is_ligated()
+                && glyph.glyph_props.is_multiplied()
         }
         None => false,
     }

@@ -11,7 +11,7 @@ use Rattle.shapers_buffer.specs.Clusters.{stretch_of, with_stretch}
 use Rattle.shapers_buffer.specs.GlyphFlags.{with_bits}
 use Rattle.shapers_buffer.specs.Glyph.{plain, without_flags, at_position}
 use Rattle.shapers_buffer.specs.Lists.{each_after}
-use Rattle.shapers_buffer.specs.Marks.{no_marks}
+use Rattle.shapers_buffer.specs.Properties.{no_marks}
 use Rattle.shapers_buffer.proofs.ClusterLemmas.{three_parts}
 use Rattle.shapers_base.specs.declared.plan.ot_position_t.TheConstants.{POS_RA_TO_BECOME_REPH, POS_SMVD}
 use Rattle.shapers_indic.specs.declared.ot_shaper_indic.indic_feature.TheConstants.{ABVF, BLWF, HALF, PREF, PSTF, RPHF}
@@ -235,7 +235,7 @@ hidden-with_initial_masks f r h script base gs =
 seen_hides_mask : (m : ℕ) (g : hb_glyph_info_t) → plain (carried (record g { mask = m })) ≡ plain (carried g)
 seen_hides_mask m g =
     let none : without_flags (m % 8) ≡ without_flags (g.mask % 8) = omega arith in
-    ap (λ (x : ℕ). record g { cluster = 0; mask = x; category = 0; auxiliary = 0; marks = no_marks }) none
+    ap (λ (x : ℕ). record g { cluster = 0; mask = x; category = 0; auxiliary = 0; glyph_props = record { 0 = 0 } }) none
 
 pub seen_hides_positions : HidesPositions (λ g. plain (carried g))
 seen_hides_positions = record { hidden = λ p g. refl }

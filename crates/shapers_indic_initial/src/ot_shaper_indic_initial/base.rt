@@ -154,7 +154,7 @@ fn may_be_base(search: BaseSearch, glyphs: &[hb_glyph_info_t], place: usize) -> 
 fn is_base_candidate(search: BaseSearch, glyph: &hb_glyph_info_t) -> bool
     ensures { result ≡ is_base_candidate search glyph.now }
 {
-    !glyph.marks.is_ligated()
+    !glyph.glyph_props.is_ligated()
         && match glyph.category {
             OT_C | OT_CS | OT_Ra | OT_V | OT_PLACEHOLDER | OT_DOTTEDCIRCLE => true,
             OT_CM => search == BaseSearch::AllConsonants,

@@ -108,5 +108,5 @@ fn opens_with_ra_h_zwj(glyphs: &[hb_glyph_info_t]) -> bool
 fn is_plain(glyph: &hb_glyph_info_t, category: u8) -> bool
     ensures { result ≡ is_one_of (category ∷ []) glyph.now }
 {
-    glyph.category == category && !glyph.marks.is_ligated()
+    glyph.category == category && !glyph.glyph_props.is_ligated()
 }

@@ -295,5 +295,5 @@ fn keeps_losing(glyph: &hb_glyph_info_t, loses: bool) -> bool
 fn is_non_joiner(glyph: &hb_glyph_info_t) -> bool
     ensures { result ≡ is_one_of (OT_ZWNJ ∷ []) glyph.now }
 {
-    glyph.category == OT_ZWNJ && !glyph.marks.is_ligated()
+    glyph.category == OT_ZWNJ && !glyph.glyph_props.is_ligated()
 }

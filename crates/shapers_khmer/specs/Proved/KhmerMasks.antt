@@ -7,7 +7,7 @@ use Rattle.std.proofs.Math.Seq.{take-append-add, drop-append-add}
 use Rattle.shapers_buffer.specs.declared.buffer.glyph.hb_glyph_info_t.{hb_glyph_info_t}
 use Rattle.shapers_buffer.specs.Clusters.{stretch_of}
 use Rattle.shapers_buffer.specs.Glyph.{order_view, plain, without_flags}
-use Rattle.shapers_buffer.specs.Marks.{no_marks}
+use Rattle.shapers_buffer.specs.Properties.{no_marks}
 use Rattle.shapers_buffer.proofs.ClusterLemmas.{three_parts}
 use Rattle.shapers_syllabic.specs.Reordering.{carried}
 use Rattle.shapers_syllabic.proofs.ReorderingLemmas.{stretch-viewed}
@@ -37,7 +37,7 @@ plain-with_mask m g = ap (λ (x : ℕ). record g { cluster = 0; mask = x }) (pla
 
 pub carried-with_mask : (m : ℕ) (g : hb_glyph_info_t) → carried (with_mask m g) ≡ carried g
 carried-with_mask m g =
-    ap (λ (x : ℕ). record g { mask = x; category = 0; auxiliary = 0; marks = no_marks }) (flags-or g.mask m)
+    ap (λ (x : ℕ). record g { mask = x; category = 0; auxiliary = 0; glyph_props = record { 0 = 0 } }) (flags-or g.mask m)
 
 -- what a view hides of one glyph with a mask it hides of all
 hidden_all : {X : Type 0} (f : hb_glyph_info_t → X) (m : ℕ) → ((g : hb_glyph_info_t) → f (with_mask m g) ≡ f g)

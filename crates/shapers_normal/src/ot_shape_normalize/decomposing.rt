@@ -17,8 +17,8 @@ use super::variants::{
 };
 use arrayvec::ArrayVec;
 use shapers_base::buffer::{
-    BufferClusterLevel, GlyphChange, GlyphRewriting, ShaperError, hb_buffer_t, hb_glyph_info_t,
-    hb_unicode_general_category_t,
+    BufferClusterLevel, GlyphChange, GlyphProps, GlyphRewriting, ShaperError, hb_buffer_t,
+    hb_glyph_info_t, hb_unicode_general_category_t,
 };
 use shapers_base::font::GlyphId;
 use shapers_base::plan::NormalizationMode;
@@ -570,7 +570,7 @@ fn settled<C: NormalizeContext>(context: &C, glyph: hb_glyph_info_t) -> hb_glyph
 {
     match context.get_nominal_glyph(glyph.glyph_id) {
         Some(own) => hb_glyph_info_t {
-            var: u32::from(own.0),
+            glyph_props: GlyphProps(own.0),
             ..glyph
         },
         None => without_glyph(context, glyph),
@@ -585,9 +585,11 @@ fn without_glyph<C: NormalizeContext>(context: &C, glyph: hb_glyph_info_t) -> hb
     ensures { result ≡ without_glyph (C.context context.now) glyph }
 {
     if let Some((kind, space)) = drawn_space(context, &glyph) {
+        let mut unicode_props = glyph.unicode_props;
+        unicode_props.set_high_byte(kind);
         return hb_glyph_info_t {
-            var: u32::from(space.0),
-            modified_combining_class: kind,
+            glyph_props: GlyphProps(space.0),
+            unicode_props,
             ..glyph
         };
     }
@@ -597,7 +599,7 @@ fn without_glyph<C: NormalizeContext>(context: &C, glyph: hb_glyph_info_t) -> hb
         0
     };
     hb_glyph_info_t {
-        var: u32::from(number),
+        glyph_props: GlyphProps(number),
         ..glyph
     }
 }
@@ -606,7 +608,7 @@ fn without_glyph<C: NormalizeContext>(context: &C, glyph: hb_glyph_info_t) -> hb
 fn drawn_space<C: NormalizeContext>(context: &C, glyph: &hb_glyph_info_t) -> Option<(u8, GlyphId)>
     ensures { result ≡ drawn_space (C.context context.now) glyph.now }
 {
-    if !is_space_separator(glyph.general_category) {
+    if !is_space_separator(glyph.unicode_props.general_category()) {
         return None;
     }
     let kind = space_kind(glyph.glyph_id)?;

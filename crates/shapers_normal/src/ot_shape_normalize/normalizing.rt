@@ -8,7 +8,7 @@ ghost use Rattle.shapers_normal.specs.Sorting.{is_mark_glyph, marks_ordered};
 
 use super::context::NormalizeContext;
 use super::decomposing::decompose;
-use super::properties::{GRAPHEME_JOINER, with_hidden};
+use super::properties::GRAPHEME_JOINER;
 use super::recomposing::recompose_in;
 use super::sorting::{class, is_mark, order_marks_in};
 use shapers_base::buffer::{
@@ -172,8 +172,10 @@ fn pass_over(before: u8, behind: u8, glyph: hb_glyph_info_t) -> hb_glyph_info_t
     ensures { result ≡ passes_over before behind glyph }
 {
     if glyph.glyph_id == GRAPHEME_JOINER && (behind == 0 || before <= behind) {
+        let mut unicode_props = glyph.unicode_props;
+        unicode_props.set_hidden(false);
         hb_glyph_info_t {
-            marks: with_hidden(glyph.marks, false),
+            unicode_props,
             ..glyph
         }
     } else {

@@ -1,13 +1,9 @@
 //! The properties of a character, as its glyph keeps them.
 ghost use Rattle.std.specs.Prelude.{◌≡◌};
-ghost use Rattle.shapers_buffer.specs.Marks.{set_mark};
-ghost use Rattle.shapers_normal.specs.Properties.{as_character, class_byte, is_ignorable_in, is_mark_in, is_seen_by_lookups, joiner_class, HIDDEN};
+ghost use Rattle.shapers_normal.specs.Properties.{as_character, class_byte, is_ignorable_in, is_mark_in, is_seen_by_lookups, joiner_class};
 
 use super::context::NormalizeContext;
-use shapers_base::buffer::{GlyphMarks, hb_glyph_info_t};
-
-/// The mark of an ignorable character that lookups don't pass over.
-pub const HIDDEN: u8 = 32;
+use shapers_base::buffer::{GlyphProps, UnicodeProps, hb_glyph_info_t};
 
 /// The combining grapheme joiner, which keeps marks apart.
 pub(super) const GRAPHEME_JOINER: u32 = 0x034F;
@@ -41,20 +37,7 @@ fn joiner_class(c: u32) -> u8
     }
 }
 
-// The marks with HIDDEN on or off.
-#[inline]
-pub(super) fn with_hidden(marks: GlyphMarks, on: bool) -> GlyphMarks
-    ensures { result ≡ set_mark HIDDEN on marks }
-{
-    if on {
-        GlyphMarks(marks.0 | HIDDEN)
-    } else {
-        GlyphMarks(marks.0 & (255 - HIDDEN))
-    }
-}
-
-/// Makes a glyph a character, with its properties and with the number of its glyph in `var`; the
-/// marks of lookups stay.
+/// Makes a glyph a character, with its properties and with the number of its glyph in `glyph_props`.
 #[inline]
 pub(super) fn set_character<C: NormalizeContext>(
     context: &C,
@@ -67,14 +50,13 @@ pub(super) fn set_character<C: NormalizeContext>(
     let general = context.general_category(c);
     let is_mark = c >= 0x80 && general.is_mark();
     let is_ignorable = is_ignorable(context, c);
-    let mut marks = glyph.marks;
-    marks.set_ignorable(is_ignorable);
-    marks.set_continuation(is_mark);
-    glyph.marks = with_hidden(marks, is_ignorable && is_seen_by_lookups(c));
+    let mut props = UnicodeProps::new(general, class_byte(context, c, is_mark, is_ignorable));
+    props.set_ignorable(is_ignorable);
+    props.set_continuation(is_mark);
+    props.set_hidden(is_ignorable && is_seen_by_lookups(c));
     glyph.glyph_id = c;
-    glyph.var = u32::from(number);
-    glyph.general_category = general;
-    glyph.modified_combining_class = class_byte(context, c, is_mark, is_ignorable);
+    glyph.glyph_props = GlyphProps(number);
+    glyph.unicode_props = props;
 }
 
 // The class of a mark, or which joiner an ignorable character is.

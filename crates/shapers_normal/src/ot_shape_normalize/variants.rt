@@ -6,7 +6,9 @@ ghost use Rattle.shapers_normal.specs.Variants.{form_written, forms_written, has
 use super::context::NormalizeContext;
 use super::decomposing::{put, rest_from};
 use super::sorting::{is_mark, join_in};
-use shapers_base::buffer::{BufferClusterLevel, hb_glyph_info_t, hb_unicode_general_category_t};
+use shapers_base::buffer::{
+    BufferClusterLevel, GlyphProps, hb_glyph_info_t, hb_unicode_general_category_t,
+};
 
 // What the byte of a mark's class holds of a selector that selects nothing, by HarfBuzz's number.
 const SELECTOR: u8 = 4;
@@ -197,7 +199,7 @@ fn write_form<C: NormalizeContext>(
             put(
                 to,
                 hb_glyph_info_t {
-                    var: u32::from(variant.0),
+                    glyph_props: GlyphProps(variant.0),
                     ..*glyph
                 },
             );
@@ -240,7 +242,7 @@ pub(super) fn with_number<C: NormalizeContext>(
 {
     match context.get_nominal_glyph(glyph.glyph_id) {
         Some(own) => hb_glyph_info_t {
-            var: u32::from(own.0),
+            glyph_props: GlyphProps(own.0),
             ..glyph
         },
         None => glyph,
@@ -252,14 +254,14 @@ pub(super) fn with_number<C: NormalizeContext>(
 fn selecting_nothing<C: NormalizeContext>(context: &C, glyph: hb_glyph_info_t) -> hb_glyph_info_t
     ensures { result ≡ selecting_nothing (C.context context.now) glyph }
 {
-    let mut marks = glyph.marks;
+    let mut unicode_props = glyph.unicode_props;
+    unicode_props.set_general_category(hb_unicode_general_category_t::Cf);
+    unicode_props.set_high_byte(SELECTOR);
     if context.draws_selectors() {
-        marks.set_ignorable(false);
+        unicode_props.set_ignorable(false);
     }
     hb_glyph_info_t {
-        general_category: hb_unicode_general_category_t::Cf,
-        modified_combining_class: SELECTOR,
-        marks,
+        unicode_props,
         ..glyph
     }
 }

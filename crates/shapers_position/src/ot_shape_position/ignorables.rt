@@ -43,5 +43,5 @@ impl DefaultIgnorables {
 pub(super) fn is_default_ignorable(glyph: &hb_glyph_info_t) -> bool
     ensures { result ≡ is_default_ignorable glyph.now }
 {
-    glyph.marks.is_ignorable() && !glyph.marks.is_substituted()
+    glyph.unicode_props.is_ignorable() && !glyph.glyph_props.is_substituted()
 }

@@ -68,7 +68,7 @@ impl<'a, F: MetricsFont> PositionChange for SpaceWidths<'a, F> {
         if !is_space_glyph(glyph) {
             return;
         }
-        let kind = glyph.modified_combining_class;
+        let kind = glyph.unicode_props.high_byte();
         if self.is_horizontal {
             position.x_advance = space_width(self.font, true, kind, position.x_advance);
         } else {
@@ -82,7 +82,7 @@ impl<'a, F: MetricsFont> PositionChange for SpaceWidths<'a, F> {
 fn is_space_glyph(glyph: &hb_glyph_info_t) -> bool
     ensures { result ≡ is_space_glyph glyph.now }
 {
-    is_space_separator(glyph.general_category) && !glyph.marks.is_ligated()
+    is_space_separator(glyph.unicode_props.general_category()) && !glyph.glyph_props.is_ligated()
 }
 
 #[inline]

@@ -69,7 +69,7 @@ fn wants_first_circle(buffer: &hb_buffer_t) -> bool
 fn begins_with_mark(glyphs: &[hb_glyph_info_t]) -> bool
     ensures { result ≡ begins_with_mark glyphs.now }
 {
-    !glyphs.is_empty() && glyphs[0].general_category.is_mark()
+    !glyphs.is_empty() && glyphs[0].unicode_props.general_category().is_mark()
 }
 
 // The circle before a glyph.

@@ -54,7 +54,7 @@ pub(super) fn merge_graphemes_in(level: BufferClusterLevel, glyphs: &mut [hb_gly
     let mut run = ClusterRun::NONE;
     let mut start = 0;
     for i in 1..glyphs.len() {
-        if !glyphs[i].marks.is_continuation() {
+        if !glyphs[i].unicode_props.is_continuation() {
             run = merge_run_in(level, glyphs, run, start, i);
             start = i;
         }
@@ -73,7 +73,7 @@ fn flag_graphemes_in(glyphs: &mut [hb_glyph_info_t])
     }
     let mut start = 0;
     for i in 1..glyphs.len() {
-        if !glyphs[i].marks.is_continuation() {
+        if !glyphs[i].unicode_props.is_continuation() {
             unsafe_to_break_in(glyphs, start, i);
             start = i;
         }

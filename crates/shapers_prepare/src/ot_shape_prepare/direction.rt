@@ -153,7 +153,7 @@ fn has_letter(glyphs: &[hb_glyph_info_t]) -> bool
 fn is_number_or_flag(glyph: &hb_glyph_info_t) -> bool
     ensures { result ≡ is_number_or_flag glyph.now }
 {
-    matches!(glyph.general_category, hb_unicode_general_category_t::Nd)
+    matches!(glyph.unicode_props.general_category(), hb_unicode_general_category_t::Nd)
         || is_regional_indicator(glyph.glyph_id)
 }
 
@@ -162,7 +162,7 @@ fn is_letter_glyph(glyph: &hb_glyph_info_t) -> bool
     ensures { result ≡ is_letter_glyph glyph.now }
 {
     matches!(
-        glyph.general_category,
+        glyph.unicode_props.general_category(),
         hb_unicode_general_category_t::Ll
             | hb_unicode_general_category_t::Lm
             | hb_unicode_general_category_t::Lo
@@ -239,7 +239,7 @@ fn turn_graphemes_in(glyphs: &mut [hb_glyph_info_t])
     }
     let mut start = 0;
     for i in 1..glyphs.len() {
-        if !glyphs[i].marks.is_continuation() {
+        if !glyphs[i].unicode_props.is_continuation() {
             turn_stretch(glyphs, start, i);
             start = i;
         }

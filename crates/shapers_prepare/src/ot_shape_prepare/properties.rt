@@ -1,13 +1,11 @@
 //! The properties of each character, as its glyph keeps them.
 ghost use Rattle.std.specs.Prelude.{◌≡◌, ◌&&◌, ◌||◌};
-ghost use Rattle.shapers_buffer.specs.Marks.{set_mark};
-ghost use Rattle.shapers_normal.specs.Properties.{HIDDEN, is_seen_by_lookups, joiner_class};
-ghost use Rattle.shapers_prepare.specs.GlyphProperties.{always_continues, is_mark_character, is_regional_indicator, kept_class, kept_marks, need_not_be_drawn, properties_set, with_properties};
+ghost use Rattle.shapers_normal.specs.Properties.{is_seen_by_lookups, joiner_class};
+ghost use Rattle.shapers_prepare.specs.GlyphProperties.{always_continues, is_mark_character, is_regional_indicator, kept_class, need_not_be_drawn, properties_set, with_properties};
 ghost use Rattle.shapers_prepare.specs.PropertyWalk.{goes_on_behind, then_open};
 
 use super::unicode::UnicodeProperties;
-use shapers_base::buffer::{GlyphMarks, GlyphWalk, hb_buffer_t, hb_glyph_info_t};
-use shapers_normal::ot_shape_normalize::HIDDEN;
+use shapers_base::buffer::{GlyphWalk, UnicodeProps, hb_buffer_t, hb_glyph_info_t};
 use std::mem;
 
 // ZWJ, which joins pictographs.
@@ -102,9 +100,11 @@ pub(super) fn set_properties<U: UnicodeProperties>(
     let is_mark = c >= 0x80 && general.is_mark();
     let is_ignorable = c >= 0x80 && unicode.is_default_ignorable(c);
     let continues = is_mark || goes_on_behind(unicode, before, c);
-    glyph.general_category = general;
-    glyph.modified_combining_class = kept_class(unicode, c, is_mark, is_ignorable);
-    glyph.marks = kept_marks(glyph.marks, c, is_ignorable, continues);
+    let mut props = UnicodeProps::new(general, kept_class(unicode, c, is_mark, is_ignorable));
+    props.set_ignorable(is_ignorable);
+    props.set_continuation(continues);
+    props.set_hidden(is_ignorable && is_seen_by_lookups(c));
+    glyph.unicode_props = props;
 }
 
 // Whether a character that is no mark carries on the grapheme before it.
@@ -161,23 +161,6 @@ fn joiner_class(c: u32) -> u8
         ZERO_WIDTH_JOINER => 1,
         0x200C => 2,
         _ => 0,
-    }
-}
-
-// These marks with those of a character.
-#[inline]
-fn kept_marks(marks: GlyphMarks, c: u32, is_ignorable: bool, continues: bool) -> GlyphMarks
-    ensures { let ignorable = set_mark 8 is_ignorable marks in
-        let continuation = set_mark 16 continues ignorable in
-        result ≡ set_mark HIDDEN (is_ignorable && is_seen_by_lookups c) continuation }
-{
-    let mut kept = marks;
-    kept.set_ignorable(is_ignorable);
-    kept.set_continuation(continues);
-    if is_ignorable && is_seen_by_lookups(c) {
-        GlyphMarks(kept.0 | HIDDEN)
-    } else {
-        GlyphMarks(kept.0 & (255 - HIDDEN))
     }
 }
 

@@ -11,7 +11,7 @@ use super::vowel_pairs::{
 };
 use bitflags::Flags;
 use shapers_base::buffer::{
-    BufferFlags, GlyphMarks, GlyphRewriting, Script, ShaperError, hb_buffer_t, hb_glyph_info_t,
+    BufferFlags, GlyphRewriting, Script, ShaperError, hb_buffer_t, hb_glyph_info_t,
 };
 
 // The character of the dotted circle.
@@ -230,9 +230,11 @@ fn put(glyph: hb_glyph_info_t, to: &mut Vec<hb_glyph_info_t>)
 fn vowel_circle(glyph: hb_glyph_info_t) -> hb_glyph_info_t
     ensures { result ≡ vowel_circle glyph }
 {
+    let mut unicode_props = glyph.unicode_props;
+    unicode_props.set_continuation(false);
     hb_glyph_info_t {
         glyph_id: DOTTED_CIRCLE,
-        marks: GlyphMarks(glyph.marks.0 & (255 - 16)),
+        unicode_props,
         ..glyph
     }
 }

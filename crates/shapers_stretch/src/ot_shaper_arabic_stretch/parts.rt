@@ -88,8 +88,8 @@ pub(super) fn repeats(glyph: &hb_glyph_info_t) -> bool
 fn in_word(glyph: &hb_glyph_info_t) -> bool
     ensures { result ≡ in_word glyph.now }
 {
-    let ignorable = glyph.marks.is_ignorable() && !glyph.marks.is_substituted();
-    !is_tile(glyph) && (ignorable || is_word_category(glyph.general_category))
+    let ignorable = glyph.unicode_props.is_ignorable() && !glyph.glyph_props.is_substituted();
+    !is_tile(glyph) && (ignorable || is_word_category(glyph.unicode_props.general_category()))
 }
 
 // Whether a character of this category can belong to the word before a run.

@@ -1,7 +1,7 @@
 //! The pause behind `stch`: glyphs that it multiplied are the tiles of a mark.
 ghost use Rattle.std.specs.Prelude.{◌≡◌, map};
 ghost use Rattle.std.specs.List.{list_any};
-ghost use Rattle.shapers_buffer.specs.Marks.{is_multiplied};
+ghost use Rattle.shapers_buffer.specs.Properties.{is_multiplied};
 ghost use Rattle.shapers_arabic.specs.PlanData.{IsArabic};
 ghost use Rattle.shapers_stretch.specs.Recorded.{recorded, tile_action, tiles_recorded, with_tiles};
 
@@ -48,13 +48,13 @@ struct TileRecorder {
 impl GlyphWalk for TileRecorder {
     ghost use Rattle.std.specs.Prelude.{◌≡◌, ⊤, map};
     ghost use Rattle.std.specs.List.{list_any};
-    ghost use Rattle.shapers_buffer.specs.Marks.{is_multiplied};
+    ghost use Rattle.shapers_buffer.specs.Properties.{is_multiplied};
     ghost use Rattle.shapers_stretch.specs.Recorded.{recorded};
 
     ghost can_walk = { λ _ _. ⊤ };
 
     ghost walks = { λ v w gs hs. (hs ≡ map recorded gs) × (w.has_stch ≡ list_any
-        (λ g. is_multiplied g.marks) gs) };
+        (λ g. is_multiplied g.glyph_props) gs) };
 
     #[inline]
     fn walk(&mut self, glyphs: &mut [hb_glyph_info_t]) {
@@ -67,12 +67,12 @@ impl GlyphWalk for TileRecorder {
 #[inline]
 pub fn record_stch_in(glyphs: &mut [hb_glyph_info_t]) -> bool
     ensures glyphs { glyphs.new ≡ map recorded glyphs.old }
-    ensures answer { result ≡ list_any (λ g. is_multiplied g.marks) glyphs.old }
+    ensures answer { result ≡ list_any (λ g. is_multiplied g.glyph_props) glyphs.old }
 {
     let mut has_stch = false;
     for glyph in glyphs.iter_mut() {
-        if glyph.marks.is_multiplied() {
-            glyph.auxiliary = tile_action(glyph.lig_comp);
+        if glyph.glyph_props.is_multiplied() {
+            glyph.auxiliary = tile_action(glyph.lig_props.component());
             has_stch = true;
         }
     }

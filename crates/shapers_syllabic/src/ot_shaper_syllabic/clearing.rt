@@ -65,6 +65,6 @@ impl GlyphChange for Unsubstituted {
 
     #[inline]
     fn change(&self, glyph: &mut hb_glyph_info_t) {
-        glyph.marks.set_substituted(false);
+        glyph.glyph_props.set_substituted(false);
     }
 }

@@ -13,7 +13,7 @@ use shapers_base::plan::ot_category_t::{
 pub fn is_consonant(glyph: &hb_glyph_info_t) -> bool
     ensures { result ≡ is_consonant glyph.now }
 {
-    !glyph.marks.is_ligated()
+    !glyph.glyph_props.is_ligated()
         && matches!(
             glyph.category,
             OT_C | OT_CS | OT_Ra | OT_CM | OT_V | OT_PLACEHOLDER | OT_DOTTEDCIRCLE

@@ -32,12 +32,12 @@ fn nikhahit_from_sara_am(am: hb_glyph_info_t) -> hb_glyph_info_t
     requires { is_sara_am am.glyph_id ≡ true }
     ensures { result ≡ nikhahit am }
 {
-    let mut marks = am.marks;
-    marks.set_continuation(true);
+    let mut unicode_props = am.unicode_props;
+    unicode_props.set_general_category(hb_unicode_general_category_t::Mn);
+    unicode_props.set_continuation(true);
     hb_glyph_info_t {
         glyph_id: am.glyph_id + (0x0E4D - 0x0E33),
-        general_category: hb_unicode_general_category_t::Mn,
-        marks,
+        unicode_props,
         ..am
     }
 }

@@ -417,7 +417,7 @@ fn is_halant(glyph: &hb_glyph_info_t) -> bool
 {
     let category = glyph.category;
     (category == category::H || category == category::HVM || category == category::IS)
-        && !glyph.marks.is_ligated()
+        && !glyph.glyph_props.is_ligated()
 }
 
 // How long the first piece is: up to the first halant, or all.
@@ -440,5 +440,5 @@ fn piece_len(glyphs: &[hb_glyph_info_t]) -> usize
 fn goes_front(glyph: &hb_glyph_info_t) -> bool
     ensures { result ≡ goes_front glyph.now }
 {
-    (glyph.category == category::VPre || glyph.category == category::VMPre) && glyph.lig_comp == 0
+    (glyph.category == category::VPre || glyph.category == category::VMPre) && glyph.lig_props.component() == 0
 }

@@ -101,7 +101,7 @@ fn record_glyph(glyph: &mut hb_glyph_info_t, category: u8) -> bool
     ensures { (rest : List hb_glyph_info_t) → first_recorded category (glyph.old ∷ rest)
         ≡ glyph.new ∷ (if result then first_recorded category rest else rest) }
 {
-    if !glyph.marks.is_substituted() {
+    if !glyph.glyph_props.is_substituted() {
         return true;
     }
     glyph.category = category;

@@ -8,6 +8,7 @@ use Rattle.shapers_arabic.specs.JoiningWalk.{FlaggedBy, given_last, given_by, st
 use Rattle.shapers_arabic.proofs.FlagWalk.{flagged-end, flagged-no_end}
 use Rattle.shapers_arabic.proofs.JoiningWalk.{walk-end, given-nothing}
 use Rattle.shapers_arabic.proofs.ot_shaper_arabic.joining.join.Goals as goal
+use Rattle.shapers_buffer.specs.Properties.{general_category}
 
 pub returns-in-Some : goal.returns-in-Some
 returns-in-Some g c =
@@ -19,7 +20,7 @@ returns-in-Some g c =
     let new = c.give_last.new.glyphs in
     let mid = map (λ g2. g2.auxiliary) between in
     let long : length gs ≡ length types =
-    sym (length-map gs (λ g2. resolved (joining g2.glyph_id) g2.general_category)) in
+    sym (length-map gs (λ g2. resolved (joining g2.glyph_id) (general_category g2.unicode_props))) in
     record {
       joined = λ front behind f b.
           let done = c.join_text-letters.ensures.walked front (c.state_at_start.ensures ∙ ap state_at_start (sym f)) in
@@ -50,7 +51,7 @@ returns-in_default-clause-joined g c = λ front behind f b.
     let between = c.join_text-letters.new.glyphs in
     let mid = map (λ g2. g2.auxiliary) between in
     let long : length gs ≡ length types =
-    sym (length-map gs (λ g2. resolved (joining g2.glyph_id) g2.general_category)) in
+    sym (length-map gs (λ g2. resolved (joining g2.glyph_id) (general_category g2.unicode_props))) in
     let done = c.join_text-letters.ensures.walked front (c.state_at_start.ensures ∙ ap state_at_start (sym f)) in
     record {
       forms_are = sym (ap (λ o. given_last letters.last (given_by letters.state o) mid) (b ∙ c.in_default.is)

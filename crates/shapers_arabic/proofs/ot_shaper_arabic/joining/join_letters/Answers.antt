@@ -7,6 +7,7 @@ use Rattle.shapers_arabic.specs.JoinedText.{stored_types}
 use Rattle.shapers_arabic.proofs.FlaggedGlyphs.{length-same_text, still-character, type-at}
 use Rattle.shapers_arabic.proofs.JoiningWalk.{walk-start}
 use Rattle.shapers_arabic.proofs.ot_shaper_arabic.joining.join_letters.Goals as goal
+use Rattle.shapers_buffer.specs.Properties.{general_category}
 
 pub loop-i-init : goal.loop-i-init
 loop-i-init g c =
@@ -17,7 +18,7 @@ loop-i-init g c =
         walked = walk-start before (stored_types (g.T.Tables.tables c.args.tables.now).joining gs) c.args.state
             (map (λ g2. g2.auxiliary) gs) e (length-map gs (λ g2. g2.auxiliary)
             ∙ sym (length-map gs (λ g2. resolved ((g.T.Tables.tables c.args.tables.now).joining g2.glyph_id)
-            g2.general_category)));
+            (general_category g2.unicode_props))));
         flagged = refl;
       };
       counted = omega arith;
@@ -39,7 +40,7 @@ loop-i-preserved g c =
       walked = λ before e. c.join_place.ensures.walked before (stored_types joining gs) gs
           (omega (
             arith,
-            length-map gs (λ g2. resolved (joining g2.glyph_id) g2.general_category),
+            length-map gs (λ g2. resolved (joining g2.glyph_id) (general_category g2.unicode_props)),
             length-same_text gs
                 l.glyphs l.invariant.text,
           )) (type-at joining gs l.glyphs l.i default_glyph (omega arith) l.invariant.text

@@ -2,7 +2,7 @@
 use Rattle.std.proofs.Common.{◌≡◌, ◌+◌, ◌<◌, ◌≤◌, [], ◌∷◌, drop, get_or, length, subst, sym, ap, ◌∙◌, refl, arith}
 use Rattle.std.proofs.lemmas.Bool.Decides.{nat_tests}
 use Rattle.shapers_buffer.specs.Glyph.{default_glyph}
-use Rattle.shapers_buffer.specs.Marks.{is_continuation}
+use Rattle.shapers_buffer.specs.Properties.{is_continuation}
 use Rattle.shapers_prepare.specs.Graphemes.{continuations, graphemes_from}
 use Rattle.shapers_prepare.proofs.GraphemeSteps.{grapheme_ends, grapheme_goes_on, graphemes_start, last_grapheme}
 use Rattle.shapers_prepare.proofs.TurningSteps.{Turned, read_behind, turned_all, turned_next, turned_start}
@@ -24,8 +24,8 @@ loop-i-preserved c =
     let all = c.args.glyphs.now in
     let next = c.if-not-is_continuation in
     let inside : l.i < length all = omega (arith, l.auto.glyphs) in
-    let read : is_continuation (get_or all l.i default_glyph).marks ≡ c.is_continuation.result =
-    ap (λ g. is_continuation g.marks)
+    let read : is_continuation (get_or all l.i default_glyph).unicode_props ≡ c.is_continuation.result =
+    ap (λ g. is_continuation g.unicode_props)
     (sym (read_behind all l.glyphs l.start l.i (omega (arith, l.invariant.in_order)) l.invariant.turned.behind))
     ∙ sym c.is_continuation.ensures in
     elim c.if-not-is_continuation.branch [
