@@ -13,7 +13,7 @@
 pub use crate::generated::shapers_buffer::buffer::Buffer;
 pub use crate::generated::shapers_buffer::buffer::{
     BufferClusterLevel, BufferFlags, BufferSettings, CONTEXT_LENGTH, ClusterRun, Direction,
-    GeneralCategory, GlyphChange, GlyphInfo, GlyphMarks, GlyphPosition, GlyphRewriting, GlyphWalk,
-    Placement, PositionedWalk, Script, ShaperError, Span, Tag, context_characters, glyph_flag,
-    modified_combining_class, spans_cover,
+    GeneralCategory, GlyphChange, GlyphInfo, GlyphPosition, GlyphProps, GlyphRewriting, GlyphWalk,
+    LigProps, Placement, PositionedWalk, Script, ShaperError, Span, Tag, UnicodeProps,
+    context_characters, glyph_flag, modified_combining_class, spans_cover,
 };

@@ -41,13 +41,13 @@
 //! assert_eq!(buffer.len(), 1);
 //! // the character, and the number of its glyph
 //! assert_eq!(buffer.get(0).glyph_id, 0x1026);
-//! assert_eq!(buffer.get(0).var, 0x1026);
+//! assert_eq!(buffer.get(0).glyph_props.0, 0x1026);
 //! # Ok::<(), sengadlit::ShaperError>(())
 //! ```
 
 pub use crate::generated::shapers_normal::ot_shape_normalize::{
-    HIDDEN, MAX_COMBINING_MARKS, MAX_STEPS, NormalizeContext, Rounds, decompose, length_bound,
-    normalize, order_marks_in, recompose_in, sort_marks_in,
+    MAX_COMBINING_MARKS, MAX_STEPS, NormalizeContext, Rounds, decompose, length_bound, normalize,
+    order_marks_in, recompose_in, sort_marks_in,
 };
 pub use crate::generated::shapers_normalize::{
     NormalizeFont, NormalizeSettings, NormalizeTables, ot_shape_normalize,

@@ -14,12 +14,12 @@
 //! ```
 //! use sengadlit::font::NominalOnly;
 //! use sengadlit::ot_shape_position::{DefaultIgnorables, hide_default_ignorables};
-//! use sengadlit::buffer::GlyphMarks;
+//! use sengadlit::buffer::UnicodeProps;
 //! use sengadlit::{Buffer, GlyphInfo};
 //!
 //! // a letter, and a joiner behind it that no lookup used, in a font without a space
 //! let joiner = GlyphInfo {
-//!     marks: GlyphMarks::IGNORABLE,
+//!     unicode_props: UnicodeProps::IGNORABLE,
 //!     ..GlyphInfo::of_character('\u{200D}', 0)
 //! };
 //! let mut buffer: Buffer = [GlyphInfo::of_character('\u{627}', 2), joiner].into_iter().collect();

@@ -1,14 +1,14 @@
 //! What a lookup of GSUB does to a buffer: other glyphs for a range of it.
 
-use crate::buffer::{Buffer, GlyphMarks, ShaperError};
+use crate::buffer::{Buffer, GlyphProps, LigProps, ShaperError};
 use core::ops::Range;
 
 impl Buffer {
     /// Puts glyphs of these numbers in the place of those of the range, as a multiple substitution
     /// does. Each is a copy of the first one of the range but for its number, in the cluster that
     /// the range has when its clusters are merged, with the mark
-    /// [`SUBSTITUTED`](GlyphMarks::SUBSTITUTED). Several for one glyph have the mark
-    /// [`MULTIPLIED`](GlyphMarks::MULTIPLIED), and in `lig_comp` their places among them. Where none
+    /// [`SUBSTITUTED`](GlyphProps::SUBSTITUTED). Several for one glyph have the mark
+    /// [`MULTIPLIED`](GlyphProps::MULTIPLIED), and as components their places among them. Where none
     /// are given, the clusters of the range go to the glyph behind it, or to the one before it.
     ///
     /// It takes time by the number of glyphs from the range on, and no memory unless the text grows.
@@ -56,10 +56,10 @@ impl Buffer {
             {
                 *glyph = first;
                 glyph.glyph_id = *number;
-                glyph.marks.insert(GlyphMarks::SUBSTITUTED);
+                glyph.glyph_props.insert(GlyphProps::SUBSTITUTED);
                 if is_multiplied {
-                    glyph.marks.insert(GlyphMarks::MULTIPLIED);
-                    glyph.lig_comp = place;
+                    glyph.glyph_props.insert(GlyphProps::MULTIPLIED);
+                    glyph.lig_props.set_component(place);
                 }
             }
         });
@@ -69,8 +69,8 @@ impl Buffer {
 
     /// Puts one glyph in the place of those of the range, as a ligature: a copy of the first one but
     /// for its number, in the merged cluster of all, with the marks
-    /// [`SUBSTITUTED`](GlyphMarks::SUBSTITUTED) and [`LIGATED`](GlyphMarks::LIGATED), and no longer
-    /// [`MULTIPLIED`](GlyphMarks::MULTIPLIED). It can't refuse and takes no memory. (Which marks stay
+    /// [`SUBSTITUTED`](GlyphProps::SUBSTITUTED) and [`LIGATED`](GlyphProps::LIGATED), and no longer
+    /// [`MULTIPLIED`](GlyphProps::MULTIPLIED). It can't refuse and takes no memory. (Which marks stay
     /// with which component GDEF says, and the caller keeps.)
     ///
     /// # Panics
@@ -81,10 +81,10 @@ impl Buffer {
         self.merge_clusters(range.start, range.end);
         let mut glyph = self.get(range.start);
         glyph.glyph_id = number;
-        glyph.marks.insert(GlyphMarks::SUBSTITUTED);
-        glyph.marks.insert(GlyphMarks::LIGATED);
-        glyph.marks.remove(GlyphMarks::MULTIPLIED);
-        glyph.lig_comp = 0;
+        glyph.glyph_props.insert(GlyphProps::SUBSTITUTED);
+        glyph.glyph_props.insert(GlyphProps::LIGATED);
+        glyph.glyph_props.remove(GlyphProps::MULTIPLIED);
+        glyph.lig_props = LigProps::NONE;
         self.set(range.start, glyph);
         let removed = range.len() - 1;
         self.with_glyphs_mut(|glyphs| glyphs[range.start + 1..].rotate_left(removed));
@@ -122,24 +122,30 @@ impl Buffer {
 
 #[cfg(test)]
 mod tests {
-    use crate::buffer::{Buffer, GlyphMarks, ShaperError};
+    use crate::buffer::{Buffer, GlyphProps, ShaperError};
     use std::vec::Vec;
 
     fn text() -> Buffer {
         Buffer::from("abcd")
     }
 
-    fn seen(buffer: &Buffer) -> Vec<(u32, u32, GlyphMarks, u8)> {
-        let fields =
-            |glyph: &crate::GlyphInfo| (glyph.glyph_id, glyph.cluster, glyph.marks, glyph.lig_comp);
+    fn seen(buffer: &Buffer) -> Vec<(u32, u32, GlyphProps, u8)> {
+        let fields = |glyph: &crate::GlyphInfo| {
+            (
+                glyph.glyph_id,
+                glyph.cluster,
+                glyph.glyph_props,
+                glyph.lig_props.component(),
+            )
+        };
         buffer.iter().map(fields).collect()
     }
 
-    const NONE: GlyphMarks = GlyphMarks::NONE;
-    const SUBSTITUTED: GlyphMarks = GlyphMarks::SUBSTITUTED;
+    const NONE: GlyphProps = GlyphProps::NONE;
+    const SUBSTITUTED: GlyphProps = GlyphProps::SUBSTITUTED;
 
-    fn both(first: GlyphMarks, second: GlyphMarks) -> GlyphMarks {
-        GlyphMarks(first.0 | second.0)
+    fn both(first: GlyphProps, second: GlyphProps) -> GlyphProps {
+        GlyphProps(first.0 | second.0)
     }
 
     #[test]
@@ -147,7 +153,7 @@ mod tests {
         let mut buffer = text();
         buffer.replace_range(1..2, &[7]).unwrap();
         assert_eq!(seen(&buffer)[1], (7, 1, SUBSTITUTED, 0));
-        let multiplied = both(SUBSTITUTED, GlyphMarks::MULTIPLIED);
+        let multiplied = both(SUBSTITUTED, GlyphProps::MULTIPLIED);
         buffer.replace_range(3..4, &[8, 9, 10]).unwrap();
         let parts = [
             (8, 3, multiplied, 0),
@@ -197,8 +203,8 @@ mod tests {
         let mut buffer = text();
         buffer.replace_range(2..3, &[5, 6]).unwrap();
         buffer.ligate(1..3, 9);
-        let ligated = both(SUBSTITUTED, GlyphMarks::LIGATED);
-        let multiplied = both(SUBSTITUTED, GlyphMarks::MULTIPLIED);
+        let ligated = both(SUBSTITUTED, GlyphProps::LIGATED);
+        let multiplied = both(SUBSTITUTED, GlyphProps::MULTIPLIED);
         let glyphs = [
             (97, 0, NONE, 0),
             (9, 1, ligated, 0),

@@ -3,6 +3,7 @@
 use crate::alloc::{Global, Vec};
 use crate::buffer::{
     Buffer, BufferSettings, Direction, GeneralCategory, GlyphInfo, GlyphPosition, ShaperError,
+    UnicodeProps,
 };
 use crate::font::Tables;
 use core::fmt;
@@ -175,7 +176,7 @@ fn nearest(characters: impl Iterator<Item = char>, room: &mut [char; 5]) -> &[ch
 fn set_categories<T: Tables>(tables: &T, glyphs: &mut [GlyphInfo]) {
     for glyph in glyphs {
         if let Some(character) = char::from_u32(glyph.glyph_id) {
-            glyph.general_category = tables.general_category(character);
+            glyph.unicode_props = UnicodeProps::new(tables.general_category(character), 0);
         }
     }
 }

@@ -9,13 +9,13 @@ pub use crate::generated::shapers_unicode::{
     modified_combining_class, universal_category, vertical_form,
 };
 
-use crate::buffer::{Buffer, GlyphInfo, GlyphMarks, ShaperError};
+use crate::buffer::{Buffer, GlyphInfo, ShaperError, UnicodeProps};
 
 impl Buffer {
     /// A buffer of the characters of a text, as [`Buffer::push_str`] adds them, with what Unicode says
-    /// of each: general category, modified combining class, and the marks
-    /// [`IGNORABLE`](GlyphMarks::IGNORABLE) and, for characters that are marks (Mn, Mc, Me),
-    /// [`CONTINUATION`](GlyphMarks::CONTINUATION).
+    /// of each: general category, modified combining class, and the bits
+    /// [`IGNORABLE`](UnicodeProps::IGNORABLE) and, for characters that are marks (Mn, Mc, Me),
+    /// [`CONTINUATION`](UnicodeProps::CONTINUATION).
     /// [`set_unicode_properties`](crate::ot_shape_prepare::set_unicode_properties) notes what else
     /// continues a grapheme, as in emoji and flags.
     ///
@@ -24,10 +24,10 @@ impl Buffer {
     /// use sengadlit::{Buffer, GeneralCategory};
     ///
     /// let buffer = Buffer::from_text("\u{0E01}\u{0E48}", &UnicodeTables)?;
-    /// let mai_ek = buffer.get(1);
-    /// assert_eq!(mai_ek.general_category, GeneralCategory::Mn);
-    /// assert_eq!(mai_ek.modified_combining_class, 107);
-    /// assert!(mai_ek.marks.is_continuation());
+    /// let mai_ek = buffer.get(1).unicode_props;
+    /// assert_eq!(mai_ek.general_category(), GeneralCategory::Mn);
+    /// assert_eq!(mai_ek.modified_combining_class(), 107);
+    /// assert!(mai_ek.is_continuation());
     /// # Ok::<(), sengadlit::ShaperError>(())
     /// ```
     ///
@@ -57,14 +57,16 @@ fn set_properties(glyph: &mut GlyphInfo) {
     let Some(character) = char::from_u32(glyph.glyph_id) else {
         return;
     };
-    glyph.general_category = general_category(character);
-    if is_default_ignorable(character) {
-        glyph.marks |= GlyphMarks::IGNORABLE;
-    }
-    if glyph.general_category.is_mark() {
-        glyph.marks |= GlyphMarks::CONTINUATION;
-        glyph.modified_combining_class = modified_combining_class(character);
-    }
+    let category = general_category(character);
+    let class = if category.is_mark() {
+        modified_combining_class(character)
+    } else {
+        0
+    };
+    let mut props = UnicodeProps::new(category, class);
+    props.set_ignorable(is_default_ignorable(character));
+    props.set_continuation(category.is_mark());
+    glyph.unicode_props = props;
 }
 
 #[cfg(test)]

@@ -88,8 +88,8 @@ impl Row<'_> {
             let name = self.auxiliary_name(glyph);
             details.push(self.named(Style::Auxiliary, name, "aux", glyph.auxiliary)?)?;
         }
-        if glyph.modified_combining_class != 0 {
-            let class = glyph.modified_combining_class;
+        let class = glyph.unicode_props.high_byte();
+        if class != 0 {
             details.push(self.named(Style::Auxiliary, None, "class", class)?)?;
         }
         self.add_masks(glyph.mask & !GLYPH_FLAGS, &mut details)?;

@@ -28,7 +28,7 @@ impl Shown {
     /// What is shown of a glyph. What a lookup put in is no character any more, and neither is a
     /// number that only a glyph of the font has.
     pub(crate) fn of(glyph: &GlyphInfo, numbers: &Numbers) -> Self {
-        let marks = glyph.marks;
+        let marks = glyph.glyph_props;
         let is_new = marks.is_substituted() || marks.is_ligated() || marks.is_multiplied();
         if is_new || numbers.is_of_a_glyph(glyph.glyph_id) {
             return Shown::Glyph;

@@ -30,7 +30,7 @@ fn print_glyph(text: &mut String, buffer: &Buffer, i: usize) -> Result<(), Alloc
         glyph.syllable,
         glyph.category,
         glyph.auxiliary,
-        glyph.modified_combining_class
+        glyph.unicode_props.high_byte()
     )?;
     if i < buffer.positions_len() {
         let position = buffer.position(i);

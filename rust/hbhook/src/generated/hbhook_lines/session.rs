@@ -13,7 +13,7 @@ use crate::generated::hbhook_commands::{
 use crate::generated::hbhook_lines::shapers::shaper_of;
 use crate::support::alloc::{AllocError, Global};
 use core::mem;
-use sengadlit::buffer::{Buffer, GlyphInfo, GlyphPosition};
+use sengadlit::buffer::{Buffer, GlyphInfo, GlyphPosition, UnicodeProps};
 use sengadlit::font::Tables;
 use sengadlit::shaper::Shaper;
 use sengadlit::spans::{Indic, Khmer, Myanmar, Universal, spans_into};
@@ -184,7 +184,10 @@ impl Session {
             self.buffer.push(GlyphInfo {
                 glyph_id: u32::from(*character),
                 cluster: u32::try_from(i).map_err(|_| LineFault::Unreadable(TEXT_LENGTH))?,
-                general_category: self.settings.tables.general_category(*character),
+                unicode_props: UnicodeProps::new(
+                    self.settings.tables.general_category(*character),
+                    0,
+                ),
                 ..GlyphInfo::DEFAULT
             })?;
         }

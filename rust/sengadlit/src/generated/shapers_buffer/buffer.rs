@@ -8,6 +8,7 @@ use crate::support::alloc::Global;
 use crate::support::arrayvec::ArrayVec;
 use placement::{copy_places, make_room};
 
+mod bits;
 mod category;
 mod cluster_runs;
 mod exchanging;
@@ -15,8 +16,9 @@ mod fields;
 mod flags;
 mod glyph;
 mod glyph_flags;
-mod glyph_marks;
+mod glyph_props;
 mod level;
+mod lig_props;
 mod merging;
 pub mod modified_combining_class;
 mod placement;
@@ -26,6 +28,7 @@ mod reversing;
 mod settings;
 mod syllables;
 mod tag;
+mod unicode_props;
 mod walking;
 
 pub use category::GeneralCategory;
@@ -35,8 +38,9 @@ pub use glyph::{GlyphInfo, GlyphPosition};
 pub use glyph_flags::{
     glyph_flag, safe_to_insert_tatweel_in, unsafe_to_break_in, unsafe_to_concat_in,
 };
-pub use glyph_marks::GlyphMarks;
+pub use glyph_props::GlyphProps;
 pub use level::{BufferClusterLevel, Direction};
+pub use lig_props::LigProps;
 pub use merging::{least_cluster, merge_clusters_in};
 pub use placement::Placement;
 pub use refusal::ShaperError;
@@ -44,6 +48,7 @@ pub use replacing::GlyphRewriting;
 pub use settings::{BufferSettings, context_characters};
 pub use syllables::{Span, first_syllable_len, has_span_of_kind, set_syllable, spans_cover};
 pub use tag::{Script, Tag};
+pub use unicode_props::UnicodeProps;
 pub use walking::{GlyphChange, GlyphWalk, PositionedWalk, change_each_in};
 
 /// How many characters of context a buffer keeps on each side.

@@ -15,6 +15,5 @@ pub use context::NormalizeContext;
 pub use decomposing::{MAX_STEPS, decompose};
 pub use laws::length_bound;
 pub use normalizing::{Rounds, normalize};
-pub use properties::HIDDEN;
 pub use recomposing::recompose_in;
 pub use sorting::{MAX_COMBINING_MARKS, order_marks_in, sort_marks_in};

@@ -125,7 +125,7 @@ fn is_fraction_slash(glyph: &GlyphInfo) -> bool {
 
 #[inline]
 fn is_decimal_glyph(glyph: &GlyphInfo) -> bool {
-    matches!(glyph.general_category, GeneralCategory::Nd)
+    matches!(glyph.unicode_props.general_category(), GeneralCategory::Nd)
 }
 
 // Flags a slash that lacks numbers on one side.

@@ -4,7 +4,9 @@
 
 use crate::support::prelude::*;
 
-use crate::generated::shapers_base::buffer::{Buffer, GlyphChange, GlyphInfo, ShaperError, Span};
+use crate::generated::shapers_base::buffer::{
+    Buffer, GlyphChange, GlyphInfo, GlyphProps, LigProps, ShaperError, Span,
+};
 use crate::generated::shapers_base::plan::Pause;
 use crate::generated::shapers_plan::ot_map::StageLookup;
 use crate::generated::shapers_position::ot_shape_position::GlyphClasses;
@@ -15,8 +17,8 @@ use core::mem;
 /// The lookups of a font's GSUB and GPOS. Each is a function of the text: the same text becomes the
 /// same.
 pub trait Lookups: GlyphClasses {
-    /// What the lookups keep in `var` of a glyph, as its class, before the first of them: it is
-    /// called once for each glyph, whose `var` is 0.
+    /// What the lookups keep in `glyph_props`, as the glyph's class of `GDEF`, before the first of
+    /// them: it is called once for each glyph, of which no bit is set there yet.
     ///
     /// <details><summary>Contract</summary>
     ///
@@ -27,7 +29,7 @@ pub trait Lookups: GlyphClasses {
     /// ```
     ///
     /// </details>
-    fn note(&self, glyph: &GlyphInfo) -> u32;
+    fn glyph_props(&self, glyph: &GlyphInfo) -> GlyphProps;
 
     /// How many times as long a lookup of GSUB makes a text at most: 1 where none gets longer, and the
     /// greatest number where no bound is known.
@@ -69,7 +71,7 @@ pub trait Lookups: GlyphClasses {
     /// [`TooLong`]: crate::ShaperError::TooLong
     fn substitute(&self, lookup: &StageLookup, buffer: &mut Buffer) -> Result<(), ShaperError>;
 
-    /// Applies a lookup of GPOS to a text of glyphs with positions. It writes these, `var` and glyph
+    /// Applies a lookup of GPOS to a text of glyphs with positions. It writes these and glyph
     /// flags alone.
     ///
     /// # Errors
@@ -105,7 +107,7 @@ pub trait Lookups: GlyphClasses {
     fn finish_positions(&self, buffer: &mut Buffer);
 }
 
-// Notes beside each glyph what the lookups keep there.
+// Notes of each glyph what the lookups keep there; none is of a ligature yet.
 pub(crate) fn note_glyphs<L: Lookups>(lookups: &L, buffer: &mut Buffer) {
     // (lookups that panic leave the empty buffer, and no text with some of its glyphs noted)
     let empty = Buffer::new(buffer.alloc(), buffer.max_len());
@@ -123,7 +125,8 @@ struct Noting<'a, L: Lookups> {
 impl<'a, L: Lookups> GlyphChange for Noting<'a, L> {
     #[inline]
     fn change(&self, glyph: &mut GlyphInfo) {
-        glyph.var = self.lookups.note(glyph);
+        glyph.glyph_props = self.lookups.glyph_props(glyph);
+        glyph.lig_props = LigProps::NONE;
     }
 }
 

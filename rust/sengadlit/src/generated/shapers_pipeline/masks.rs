@@ -2,7 +2,7 @@
 
 //! The masks that the plan gives a text, besides those of its shaper.
 
-use crate::generated::shapers_base::buffer::{Buffer, GlyphChange, GlyphInfo};
+use crate::generated::shapers_base::buffer::{Buffer, GlyphChange, GlyphInfo, GlyphProps};
 use crate::generated::shapers_plan::ot_shape_plan::UserRange;
 
 // Gives each glyph the features that hold for the whole text, and no others.
@@ -66,7 +66,7 @@ struct AsGlyph;
 impl GlyphChange for AsGlyph {
     #[inline]
     fn change(&self, glyph: &mut GlyphInfo) {
-        glyph.glyph_id = glyph.var;
-        glyph.var = 0;
+        glyph.glyph_id = u32::from(glyph.glyph_props.0);
+        glyph.glyph_props = GlyphProps::NONE;
     }
 }

@@ -2,7 +2,9 @@
 
 //! Lookups that put single glyphs for others.
 
-use crate::generated::shapers_base::buffer::{Buffer, GlyphChange, GlyphInfo, ShaperError};
+use crate::generated::shapers_base::buffer::{
+    Buffer, GlyphChange, GlyphInfo, GlyphProps, ShaperError,
+};
 use crate::generated::shapers_pipeline::lookups::Lookups;
 use crate::generated::shapers_plan::ot_map::StageLookup;
 use crate::generated::shapers_position::ot_shape_position::GlyphClasses;
@@ -36,8 +38,8 @@ impl<'a> GlyphClasses for SingleLookups<'a> {
 
 impl<'a> Lookups for SingleLookups<'a> {
     #[inline]
-    fn note(&self, _glyph: &GlyphInfo) -> u32 {
-        0
+    fn glyph_props(&self, _glyph: &GlyphInfo) -> GlyphProps {
+        GlyphProps::NONE
     }
 
     #[inline]
@@ -77,7 +79,7 @@ impl<'a> GlyphChange for SingleChange<'a> {
         }
         if let Some(single) = single_for(self.singles, &self.lookup, glyph) {
             glyph.glyph_id = u32::from(single.substitute);
-            glyph.marks.set_substituted(true);
+            glyph.glyph_props.set_substituted(true);
         }
     }
 }

@@ -14,7 +14,7 @@ const ZWNJ: u8 = 14;
 fn next_is_mark(glyphs: &[GlyphInfo]) -> bool {
     for glyph in glyphs {
         if glyph.category != CGJ {
-            return glyph.general_category.is_mark();
+            return glyph.unicode_props.general_category().is_mark();
         }
     }
     false

@@ -122,9 +122,9 @@ fn opens_triple(marks: &[GlyphInfo]) -> bool {
     let [a, b, c, ..] = marks else {
         return false;
     };
-    matches!(a.modified_combining_class, CCC17 | CCC18)
-        && matches!(b.modified_combining_class, CCC10 | CCC14)
-        && matches!(c.modified_combining_class, CCC22 | BELOW)
+    matches!(a.unicode_props.modified_combining_class(), CCC17 | CCC18)
+        && matches!(b.unicode_props.modified_combining_class(), CCC10 | CCC14)
+        && matches!(c.unicode_props.modified_combining_class(), CCC22 | BELOW)
 }
 
 /// The composition of two characters: the table's, or else, where GPOS places no marks, the Hebrew

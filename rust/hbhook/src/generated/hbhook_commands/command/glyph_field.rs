@@ -5,7 +5,7 @@
 use super::fields::{decimal, decimal_to, general_category, hexadecimal, signed};
 use crate::generated::hbhook_commands::expected::{BYTE, Expected, FOUR_BYTES};
 use crate::generated::hbhook_commands::fault::LineFault;
-use sengadlit::buffer::{GeneralCategory, GlyphInfo, GlyphMarks};
+use sengadlit::buffer::{GeneralCategory, GlyphInfo, GlyphProps};
 
 // The names of the fields.
 const FIELDS: &str = "glyph, cluster, mask, syllable, cat, aux, gc, class, comp, marks, adv";
@@ -25,8 +25,16 @@ pub enum GlyphField {
     GeneralCategory(GeneralCategory),
     CombiningClass(u8),
     Component(u8),
-    Marks(GlyphMarks),
+    Marks(Marks),
     Advance(i32),
+}
+
+/// What lookups did to a glyph, and two properties of its character.
+#[derive(Clone, Copy)]
+pub struct Marks {
+    by_lookups: GlyphProps,
+    is_ignorable: bool,
+    is_continuation: bool,
 }
 
 impl GlyphField {
@@ -57,26 +65,37 @@ impl GlyphField {
             GlyphField::Syllable(syllable) => glyph.syllable = syllable,
             GlyphField::Category(category) => glyph.category = category,
             GlyphField::Auxiliary(auxiliary) => glyph.auxiliary = auxiliary,
-            GlyphField::GeneralCategory(category) => glyph.general_category = category,
-            GlyphField::CombiningClass(class) => glyph.modified_combining_class = class,
-            GlyphField::Component(component) => glyph.lig_comp = component,
-            GlyphField::Marks(marks) => glyph.marks = marks,
+            GlyphField::GeneralCategory(category) => {
+                // (the class stays, in whatever order lines set the two)
+                let class = glyph.unicode_props.high_byte();
+                glyph.unicode_props.set_general_category(category);
+                glyph.unicode_props.set_high_byte(class);
+            }
+            GlyphField::CombiningClass(class) => glyph.unicode_props.set_high_byte(class),
+            GlyphField::Component(component) => glyph.lig_props.set_component(component),
+            GlyphField::Marks(marks) => {
+                glyph.glyph_props = marks.by_lookups;
+                glyph.unicode_props.set_ignorable(marks.is_ignorable);
+                glyph.unicode_props.set_continuation(marks.is_continuation);
+            }
             GlyphField::Advance(_) => {}
         }
     }
 }
 
 // The marks of these letters; `-` alone is none.
-fn marks_of(letters: &str) -> Result<GlyphMarks, LineFault> {
+fn marks_of(letters: &str) -> Result<Marks, LineFault> {
     let is_mark = |letter: u8| b"slmic".contains(&letter);
     if letters.is_empty() || letters != "-" && !letters.bytes().all(is_mark) {
         return Err(LineFault::Unreadable(Expected::Word(MARKS)));
     }
-    let mut marks = GlyphMarks::NONE;
-    marks.set_substituted(letters.contains('s'));
-    marks.set_ligated(letters.contains('l'));
-    marks.set_multiplied(letters.contains('m'));
-    marks.set_ignorable(letters.contains('i'));
-    marks.set_continuation(letters.contains('c'));
-    Ok(marks)
+    let mut by_lookups = GlyphProps::NONE;
+    by_lookups.set_substituted(letters.contains('s'));
+    by_lookups.set_ligated(letters.contains('l'));
+    by_lookups.set_multiplied(letters.contains('m'));
+    Ok(Marks {
+        by_lookups,
+        is_ignorable: letters.contains('i'),
+        is_continuation: letters.contains('c'),
+    })
 }

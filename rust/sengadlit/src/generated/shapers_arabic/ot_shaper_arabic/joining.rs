@@ -183,7 +183,7 @@ fn look_up<T: Tables>(tables: &T, c: char) -> JoiningType {
 #[inline]
 fn stored_type<T: Tables>(glyph: &GlyphInfo, tables: &T) -> JoiningType {
     let c = char::from_u32(glyph.glyph_id).unwrap();
-    resolve(look_up(tables, c), glyph.general_category)
+    resolve(look_up(tables, c), glyph.unicode_props.general_category())
 }
 
 // The nearest type of a context that isn't transparent, by the table's own categories.

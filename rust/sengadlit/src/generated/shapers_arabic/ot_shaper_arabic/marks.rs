@@ -148,7 +148,7 @@ fn parts_of(marks: &[GlyphInfo]) -> Parts {
 fn count_below(class: u8, marks: &[GlyphInfo]) -> usize {
     marks
         .iter()
-        .take_while(|mark| mark.modified_combining_class < class)
+        .take_while(|mark| mark.unicode_props.modified_combining_class() < class)
         .count()
 }
 
@@ -164,7 +164,7 @@ fn count_modifiers(class: u8, marks: &[GlyphInfo]) -> usize {
 // Whether a mark is of this class and modifies a letter.
 #[inline]
 fn is_modifier_of(class: u8, mark: &GlyphInfo) -> bool {
-    mark.modified_combining_class == class && modifies(mark.glyph_id)
+    mark.unicode_props.modified_combining_class() == class && modifies(mark.glyph_id)
 }
 
 // Whether this mark modifies a letter.
@@ -222,6 +222,6 @@ fn bring_last(marks: &mut [GlyphInfo], count: usize, class: u8) {
 #[inline]
 fn set_class(marks: &mut [GlyphInfo], class: u8) {
     for mark in marks.iter_mut() {
-        mark.modified_combining_class = class;
+        mark.unicode_props.set_modified_combining_class(class);
     }
 }

@@ -112,7 +112,7 @@ impl GeneralCategory {
     /// ensures { result ≡ slice_get categories number }
     /// ```
     ///
-    /// - `categories`: `crates/shapers_buffer/specs/Numbers.antt`
+    /// - `categories`: `crates/shapers_buffer/specs/Category.antt`
     ///
     /// </details>
     #[inline]
@@ -127,10 +127,11 @@ impl GeneralCategory {
     /// # Contract
     ///
     /// ```text
-    /// ensures { slice_get categories result ≡ Some self }
+    /// ensures number { result ≡ category_number self }
+    /// ensures place { slice_get categories result ≡ Some self }
     /// ```
     ///
-    /// - `categories`: `crates/shapers_buffer/specs/Numbers.antt`
+    /// - `categories`, `category_number`: `crates/shapers_buffer/specs/Category.antt`
     ///
     /// </details>
     #[inline]

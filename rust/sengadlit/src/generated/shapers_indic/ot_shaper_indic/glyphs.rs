@@ -40,7 +40,7 @@ pub fn number(glyph: &GlyphInfo) -> GlyphId {
 /// </details>
 #[inline]
 pub fn is_joiner(glyph: &GlyphInfo) -> bool {
-    !glyph.marks.is_ligated() && matches!(glyph.category, OT_ZWJ | OT_ZWNJ)
+    !glyph.glyph_props.is_ligated() && matches!(glyph.category, OT_ZWJ | OT_ZWNJ)
 }
 
 /// Whether a glyph is a vowel sign.
@@ -79,7 +79,9 @@ pub fn is_matra(glyph: &GlyphInfo) -> bool {
 pub fn is_plain_consonant(syllable: &[GlyphInfo]) -> bool {
     match syllable {
         [glyph] => {
-            glyph.category == OT_C && glyph.auxiliary == POS_BASE_C && !glyph.marks.is_ligated()
+            glyph.category == OT_C
+                && glyph.auxiliary == POS_BASE_C
+                && !glyph.glyph_props.is_ligated()
         }
         _ => false,
     }

@@ -98,7 +98,7 @@ fn is_from_base_on(glyph: &GlyphInfo) -> bool {
 #[inline]
 fn unformed_pref(pref: u32, base: usize, glyphs: &[GlyphInfo]) -> Option<usize> {
     let i = pref_place(pref, base, glyphs)?;
-    if glyphs[i].marks.is_substituted() && is_formed(&glyphs[i]) {
+    if glyphs[i].glyph_props.is_substituted() && is_formed(&glyphs[i]) {
         None
     } else {
         Some(i)
@@ -161,7 +161,9 @@ fn stepped_back(base: usize, glyphs: &[GlyphInfo]) -> usize {
 fn before_joiner(base: usize, glyphs: &[GlyphInfo]) -> usize {
     match glyphs {
         [.., last]
-            if base == glyphs.len() && !last.marks.is_ligated() && last.category == OT_ZWJ =>
+            if base == glyphs.len()
+                && !last.glyph_props.is_ligated()
+                && last.category == OT_ZWJ =>
         {
             base - 1
         }
@@ -193,7 +195,7 @@ fn nearest_settled(base: usize, glyphs: &[GlyphInfo]) -> usize {
 // Whether a glyph is neither a nukta nor a halant.
 #[inline]
 fn may_be_settled(glyph: &GlyphInfo) -> bool {
-    glyph.marks.is_ligated() || !matches!(glyph.category, OT_N | OT_H)
+    glyph.glyph_props.is_ligated() || !matches!(glyph.category, OT_N | OT_H)
 }
 
 // The base by links, in Malayalam; the last glyphs of links that become it get the base's position.

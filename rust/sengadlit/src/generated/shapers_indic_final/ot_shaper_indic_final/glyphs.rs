@@ -8,19 +8,19 @@ use crate::generated::shapers_base::plan::ot_category_t::{OT_H, OT_M, OT_MPst};
 // Whether a glyph is a halant.
 #[inline]
 pub(super) fn is_halant(glyph: &GlyphInfo) -> bool {
-    !glyph.marks.is_ligated() && glyph.category == OT_H
+    !glyph.glyph_props.is_ligated() && glyph.category == OT_H
 }
 
 // Whether a glyph is a vowel sign or a halant, and no lookup put it in for several.
 #[inline]
 pub(super) fn is_matra_or_halant(glyph: &GlyphInfo) -> bool {
-    !glyph.marks.is_ligated() && matches!(glyph.category, OT_M | OT_MPst | OT_H)
+    !glyph.glyph_props.is_ligated() && matches!(glyph.category, OT_M | OT_MPst | OT_H)
 }
 
 // Whether lookups formed one glyph of several, and did not take it apart again.
 #[inline]
 pub(super) fn is_formed(glyph: &GlyphInfo) -> bool {
-    glyph.marks.is_ligated() && !glyph.marks.is_multiplied()
+    glyph.glyph_props.is_ligated() && !glyph.glyph_props.is_multiplied()
 }
 
 // Whether a glyph has some bit of a mask.

@@ -26,8 +26,8 @@ impl GlyphChange for Recover {
     fn change(&self, glyph: &mut GlyphInfo) {
         if is_lost_virama(self.virama, glyph) {
             glyph.category = OT_H;
-            glyph.marks.set_ligated(false);
-            glyph.marks.set_multiplied(false);
+            glyph.glyph_props.set_ligated(false);
+            glyph.glyph_props.set_multiplied(false);
         }
     }
 }
@@ -38,8 +38,8 @@ pub(super) fn is_lost_virama(virama: Option<GlyphId>, glyph: &GlyphInfo) -> bool
     match virama {
         Some(virama) => {
             glyph.glyph_id == u32::from(virama.0)
-                && glyph.marks.is_ligated()
-                && glyph.marks.is_multiplied()
+                && glyph.glyph_props.is_ligated()
+                && glyph.glyph_props.is_multiplied()
         }
         None => false,
     }

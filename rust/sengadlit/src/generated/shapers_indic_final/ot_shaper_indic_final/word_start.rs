@@ -42,7 +42,7 @@ fn goes_on(glyphs: &[GlyphInfo], s: usize) -> bool {
     if s == 0 {
         return false;
     }
-    continues_word(glyphs[s - 1].general_category)
+    continues_word(glyphs[s - 1].unicode_props.general_category())
 }
 
 // The mask of `init` to be added.

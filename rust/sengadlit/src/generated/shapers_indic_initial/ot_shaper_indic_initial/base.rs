@@ -118,7 +118,7 @@ fn may_be_base(search: BaseSearch, glyphs: &[GlyphInfo], place: usize) -> bool {
 // Whether a glyph is a consonant that may be the base.
 #[inline]
 fn is_base_candidate(search: BaseSearch, glyph: &GlyphInfo) -> bool {
-    !glyph.marks.is_ligated()
+    !glyph.glyph_props.is_ligated()
         && match glyph.category {
             OT_C | OT_CS | OT_Ra | OT_V | OT_PLACEHOLDER | OT_DOTTEDCIRCLE => true,
             OT_CM => search == BaseSearch::AllConsonants,

@@ -81,5 +81,5 @@ fn opens_with_ra_h_zwj(glyphs: &[GlyphInfo]) -> bool {
 // Whether a glyph is of this category, and no lookup put it in for several.
 #[inline]
 fn is_plain(glyph: &GlyphInfo, category: u8) -> bool {
-    glyph.category == category && !glyph.marks.is_ligated()
+    glyph.category == category && !glyph.glyph_props.is_ligated()
 }

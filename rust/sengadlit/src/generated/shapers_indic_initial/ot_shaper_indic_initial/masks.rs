@@ -213,5 +213,5 @@ fn keeps_losing(glyph: &GlyphInfo, loses: bool) -> bool {
 // Whether a glyph is a ZWNJ, and no lookup put it in for several.
 #[inline]
 fn is_non_joiner(glyph: &GlyphInfo) -> bool {
-    glyph.category == OT_ZWNJ && !glyph.marks.is_ligated()
+    glyph.category == OT_ZWNJ && !glyph.glyph_props.is_ligated()
 }

@@ -11,8 +11,8 @@ use super::variants::{
     has_selector, is_kept, join_variants, room_behind_forms, with_number, write_forms,
 };
 use crate::generated::shapers_base::buffer::{
-    Buffer, BufferClusterLevel, GeneralCategory, GlyphChange, GlyphInfo, GlyphRewriting,
-    ShaperError,
+    Buffer, BufferClusterLevel, GeneralCategory, GlyphChange, GlyphInfo, GlyphProps,
+    GlyphRewriting, ShaperError,
 };
 use crate::generated::shapers_base::font::GlyphId;
 use crate::generated::shapers_base::plan::NormalizationMode;
@@ -444,7 +444,7 @@ fn number_of<C: NormalizeContext>(context: &C, c: u32) -> u16 {
 fn settled<C: NormalizeContext>(context: &C, glyph: GlyphInfo) -> GlyphInfo {
     match context.nominal_glyph(glyph.glyph_id) {
         Some(own) => GlyphInfo {
-            var: u32::from(own.0),
+            glyph_props: GlyphProps(own.0),
             ..glyph
         },
         None => without_glyph(context, glyph),
@@ -457,9 +457,11 @@ fn settled<C: NormalizeContext>(context: &C, glyph: GlyphInfo) -> GlyphInfo {
 #[cold]
 fn without_glyph<C: NormalizeContext>(context: &C, glyph: GlyphInfo) -> GlyphInfo {
     if let Some((kind, space)) = drawn_space(context, &glyph) {
+        let mut unicode_props = glyph.unicode_props;
+        unicode_props.set_high_byte(kind);
         return GlyphInfo {
-            var: u32::from(space.0),
-            modified_combining_class: kind,
+            glyph_props: GlyphProps(space.0),
+            unicode_props,
             ..glyph
         };
     }
@@ -469,14 +471,14 @@ fn without_glyph<C: NormalizeContext>(context: &C, glyph: GlyphInfo) -> GlyphInf
         0
     };
     GlyphInfo {
-        var: u32::from(number),
+        glyph_props: GlyphProps(number),
         ..glyph
     }
 }
 
 // The width that a space stands for, and the glyph that is drawn for it.
 fn drawn_space<C: NormalizeContext>(context: &C, glyph: &GlyphInfo) -> Option<(u8, GlyphId)> {
-    if !is_space_separator(glyph.general_category) {
+    if !is_space_separator(glyph.unicode_props.general_category()) {
         return None;
     }
     let kind = space_kind(glyph.glyph_id)?;

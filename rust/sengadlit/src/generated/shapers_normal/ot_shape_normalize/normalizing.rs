@@ -4,7 +4,7 @@
 
 use super::context::NormalizeContext;
 use super::decomposing::decompose;
-use super::properties::{GRAPHEME_JOINER, with_hidden};
+use super::properties::GRAPHEME_JOINER;
 use super::recomposing::recompose_in;
 use super::sorting::{class, is_mark, order_marks_in};
 use crate::generated::shapers_base::buffer::{
@@ -165,8 +165,10 @@ fn show_joiners(glyphs: &mut [GlyphInfo]) {
 #[inline]
 fn pass_over(before: u8, behind: u8, glyph: GlyphInfo) -> GlyphInfo {
     if glyph.glyph_id == GRAPHEME_JOINER && (behind == 0 || before <= behind) {
+        let mut unicode_props = glyph.unicode_props;
+        unicode_props.set_hidden(false);
         GlyphInfo {
-            marks: with_hidden(glyph.marks, false),
+            unicode_props,
             ..glyph
         }
     } else {

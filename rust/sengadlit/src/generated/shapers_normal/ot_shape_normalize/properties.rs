@@ -3,10 +3,7 @@
 //! The properties of a character, as its glyph keeps them.
 
 use super::context::NormalizeContext;
-use crate::generated::shapers_base::buffer::{GlyphInfo, GlyphMarks};
-
-/// The mark of an ignorable character that lookups don't pass over.
-pub const HIDDEN: u8 = 32;
+use crate::generated::shapers_base::buffer::{GlyphInfo, GlyphProps, UnicodeProps};
 
 /// The combining grapheme joiner, which keeps marks apart.
 pub(super) const GRAPHEME_JOINER: u32 = 0x034F;
@@ -34,18 +31,7 @@ fn joiner_class(c: u32) -> u8 {
     }
 }
 
-// The marks with HIDDEN on or off.
-#[inline]
-pub(super) fn with_hidden(marks: GlyphMarks, on: bool) -> GlyphMarks {
-    if on {
-        GlyphMarks(marks.0 | HIDDEN)
-    } else {
-        GlyphMarks(marks.0 & (255 - HIDDEN))
-    }
-}
-
-/// Makes a glyph a character, with its properties and with the number of its glyph in `var`; the
-/// marks of lookups stay.
+/// Makes a glyph a character, with its properties and with the number of its glyph in `glyph_props`.
 #[inline]
 pub(super) fn set_character<C: NormalizeContext>(
     context: &C,
@@ -56,14 +42,13 @@ pub(super) fn set_character<C: NormalizeContext>(
     let general = context.general_category(c);
     let is_mark = c >= 0x80 && general.is_mark();
     let is_ignorable = is_ignorable(context, c);
-    let mut marks = glyph.marks;
-    marks.set_ignorable(is_ignorable);
-    marks.set_continuation(is_mark);
-    glyph.marks = with_hidden(marks, is_ignorable && is_seen_by_lookups(c));
+    let mut props = UnicodeProps::new(general, class_byte(context, c, is_mark, is_ignorable));
+    props.set_ignorable(is_ignorable);
+    props.set_continuation(is_mark);
+    props.set_hidden(is_ignorable && is_seen_by_lookups(c));
     glyph.glyph_id = c;
-    glyph.var = u32::from(number);
-    glyph.general_category = general;
-    glyph.modified_combining_class = class_byte(context, c, is_mark, is_ignorable);
+    glyph.glyph_props = GlyphProps(number);
+    glyph.unicode_props = props;
 }
 
 // The class of a mark, or which joiner an ignorable character is.

@@ -7,7 +7,9 @@ use crate::support::prelude::*;
 use super::context::NormalizeContext;
 use super::decomposing::{put, rest_from};
 use super::sorting::{is_mark, join_in};
-use crate::generated::shapers_base::buffer::{BufferClusterLevel, GeneralCategory, GlyphInfo};
+use crate::generated::shapers_base::buffer::{
+    BufferClusterLevel, GeneralCategory, GlyphInfo, GlyphProps,
+};
 
 // What the byte of a mark's class holds of a selector that selects nothing, by HarfBuzz's number.
 const SELECTOR: u8 = 4;
@@ -149,7 +151,7 @@ fn write_form<C: NormalizeContext>(context: &C, form: &[GlyphInfo], to: &mut Vec
             put(
                 to,
                 GlyphInfo {
-                    var: u32::from(variant.0),
+                    glyph_props: GlyphProps(variant.0),
                     ..*glyph
                 },
             );
@@ -178,7 +180,7 @@ fn write_kept<C: NormalizeContext>(context: &C, glyphs: &[GlyphInfo], to: &mut V
 pub(super) fn with_number<C: NormalizeContext>(context: &C, glyph: GlyphInfo) -> GlyphInfo {
     match context.nominal_glyph(glyph.glyph_id) {
         Some(own) => GlyphInfo {
-            var: u32::from(own.0),
+            glyph_props: GlyphProps(own.0),
             ..glyph
         },
         None => glyph,
@@ -188,14 +190,14 @@ pub(super) fn with_number<C: NormalizeContext>(context: &C, glyph: GlyphInfo) ->
 // A selector that selects nothing.
 #[inline]
 fn selecting_nothing<C: NormalizeContext>(context: &C, glyph: GlyphInfo) -> GlyphInfo {
-    let mut marks = glyph.marks;
+    let mut unicode_props = glyph.unicode_props;
+    unicode_props.set_general_category(GeneralCategory::Cf);
+    unicode_props.set_high_byte(SELECTOR);
     if context.draws_selectors() {
-        marks.set_ignorable(false);
+        unicode_props.set_ignorable(false);
     }
     GlyphInfo {
-        general_category: GeneralCategory::Cf,
-        modified_combining_class: SELECTOR,
-        marks,
+        unicode_props,
         ..glyph
     }
 }

@@ -51,5 +51,5 @@ impl DefaultIgnorables {
 // wants it seen.
 #[inline]
 pub(super) fn is_default_ignorable(glyph: &GlyphInfo) -> bool {
-    glyph.marks.is_ignorable() && !glyph.marks.is_substituted()
+    glyph.unicode_props.is_ignorable() && !glyph.glyph_props.is_substituted()
 }

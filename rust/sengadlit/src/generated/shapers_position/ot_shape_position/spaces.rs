@@ -69,7 +69,7 @@ impl<'a, F: MetricsFont> PositionChange for SpaceWidths<'a, F> {
         if !is_space_glyph(glyph) {
             return;
         }
-        let kind = glyph.modified_combining_class;
+        let kind = glyph.unicode_props.high_byte();
         if self.is_horizontal {
             position.x_advance = space_width(self.font, true, kind, position.x_advance);
         } else {
@@ -81,7 +81,7 @@ impl<'a, F: MetricsFont> PositionChange for SpaceWidths<'a, F> {
 // Whether a glyph is a space, and no lookup put it in for several.
 #[inline]
 fn is_space_glyph(glyph: &GlyphInfo) -> bool {
-    is_space_separator(glyph.general_category) && !glyph.marks.is_ligated()
+    is_space_separator(glyph.unicode_props.general_category()) && !glyph.glyph_props.is_ligated()
 }
 
 #[inline]

@@ -82,7 +82,7 @@ fn wants_first_circle(buffer: &Buffer) -> bool {
 // Whether the first of these glyphs is a mark.
 #[inline]
 fn begins_with_mark(glyphs: &[GlyphInfo]) -> bool {
-    !glyphs.is_empty() && glyphs[0].general_category.is_mark()
+    !glyphs.is_empty() && glyphs[0].unicode_props.general_category().is_mark()
 }
 
 // The circle before a glyph.

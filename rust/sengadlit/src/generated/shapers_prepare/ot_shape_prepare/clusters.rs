@@ -52,7 +52,7 @@ pub(super) fn merge_graphemes_in(level: BufferClusterLevel, glyphs: &mut [GlyphI
     let mut run = ClusterRun::NONE;
     let mut start = 0;
     for i in 1..glyphs.len() {
-        if !glyphs[i].marks.is_continuation() {
+        if !glyphs[i].unicode_props.is_continuation() {
             run = merge_run_in(level, glyphs, run, start, i);
             start = i;
         }
@@ -69,7 +69,7 @@ fn flag_graphemes_in(glyphs: &mut [GlyphInfo]) {
     }
     let mut start = 0;
     for i in 1..glyphs.len() {
-        if !glyphs[i].marks.is_continuation() {
+        if !glyphs[i].unicode_props.is_continuation() {
             unsafe_to_break_in(glyphs, start, i);
             start = i;
         }

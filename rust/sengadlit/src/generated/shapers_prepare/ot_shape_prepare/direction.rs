@@ -141,13 +141,14 @@ fn has_letter(glyphs: &[GlyphInfo]) -> bool {
 
 #[inline]
 fn is_number_or_flag(glyph: &GlyphInfo) -> bool {
-    matches!(glyph.general_category, GeneralCategory::Nd) || is_regional_indicator(glyph.glyph_id)
+    matches!(glyph.unicode_props.general_category(), GeneralCategory::Nd)
+        || is_regional_indicator(glyph.glyph_id)
 }
 
 #[inline]
 fn is_letter_glyph(glyph: &GlyphInfo) -> bool {
     matches!(
-        glyph.general_category,
+        glyph.unicode_props.general_category(),
         GeneralCategory::Ll
             | GeneralCategory::Lm
             | GeneralCategory::Lo
@@ -208,7 +209,7 @@ fn turn_graphemes_in(glyphs: &mut [GlyphInfo]) {
     }
     let mut start = 0;
     for i in 1..glyphs.len() {
-        if !glyphs[i].marks.is_continuation() {
+        if !glyphs[i].unicode_props.is_continuation() {
             turn_stretch(glyphs, start, i);
             start = i;
         }

@@ -3,8 +3,7 @@
 //! The properties of each character, as its glyph keeps them.
 
 use super::unicode::UnicodeProperties;
-use crate::generated::shapers_base::buffer::{Buffer, GlyphInfo, GlyphMarks, GlyphWalk};
-use crate::generated::shapers_normal::ot_shape_normalize::HIDDEN;
+use crate::generated::shapers_base::buffer::{Buffer, GlyphInfo, GlyphWalk, UnicodeProps};
 use core::mem;
 
 // ZWJ, which joins pictographs.
@@ -92,9 +91,11 @@ pub(super) fn set_properties<U: UnicodeProperties>(
     let is_mark = c >= 0x80 && general.is_mark();
     let is_ignorable = c >= 0x80 && unicode.is_default_ignorable(c);
     let continues = is_mark || goes_on_behind(unicode, before, c);
-    glyph.general_category = general;
-    glyph.modified_combining_class = kept_class(unicode, c, is_mark, is_ignorable);
-    glyph.marks = kept_marks(glyph.marks, c, is_ignorable, continues);
+    let mut props = UnicodeProps::new(general, kept_class(unicode, c, is_mark, is_ignorable));
+    props.set_ignorable(is_ignorable);
+    props.set_continuation(continues);
+    props.set_hidden(is_ignorable && is_seen_by_lookups(c));
+    glyph.unicode_props = props;
 }
 
 // Whether a character that is no mark carries on the grapheme before it.
@@ -139,19 +140,6 @@ fn joiner_class(c: u32) -> u8 {
         ZERO_WIDTH_JOINER => 1,
         0x200C => 2,
         _ => 0,
-    }
-}
-
-// These marks with those of a character.
-#[inline]
-fn kept_marks(marks: GlyphMarks, c: u32, is_ignorable: bool, continues: bool) -> GlyphMarks {
-    let mut kept = marks;
-    kept.set_ignorable(is_ignorable);
-    kept.set_continuation(continues);
-    if is_ignorable && is_seen_by_lookups(c) {
-        GlyphMarks(kept.0 | HIDDEN)
-    } else {
-        GlyphMarks(kept.0 & (255 - HIDDEN))
     }
 }
 

@@ -10,7 +10,7 @@ use super::vowel_pairs::{
     is_oriya_pair, is_sinhala_pair, is_takri_pair, is_tamil_pair, is_telugu_pair, is_tirhuta_pair,
 };
 use crate::generated::shapers_base::buffer::{
-    Buffer, BufferFlags, GlyphInfo, GlyphMarks, GlyphRewriting, Script, ShaperError,
+    Buffer, BufferFlags, GlyphInfo, GlyphRewriting, Script, ShaperError,
 };
 
 // The character of the dotted circle.
@@ -205,9 +205,11 @@ fn put(glyph: GlyphInfo, to: &mut Vec<GlyphInfo>) {
 // The circle before a vowel: a copy of it, which begins a grapheme.
 #[inline]
 fn vowel_circle(glyph: GlyphInfo) -> GlyphInfo {
+    let mut unicode_props = glyph.unicode_props;
+    unicode_props.set_continuation(false);
     GlyphInfo {
         glyph_id: DOTTED_CIRCLE,
-        marks: GlyphMarks(glyph.marks.0 & (255 - 16)),
+        unicode_props,
         ..glyph
     }
 }

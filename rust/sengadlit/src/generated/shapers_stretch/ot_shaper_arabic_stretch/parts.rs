@@ -69,8 +69,8 @@ pub(super) fn repeats(glyph: &GlyphInfo) -> bool {
 // Whether a glyph can belong to the word before a run.
 #[inline]
 fn in_word(glyph: &GlyphInfo) -> bool {
-    let ignorable = glyph.marks.is_ignorable() && !glyph.marks.is_substituted();
-    !is_tile(glyph) && (ignorable || is_word_category(glyph.general_category))
+    let ignorable = glyph.unicode_props.is_ignorable() && !glyph.glyph_props.is_substituted();
+    !is_tile(glyph) && (ignorable || is_word_category(glyph.unicode_props.general_category()))
 }
 
 // Whether a character of this category can belong to the word before a run.

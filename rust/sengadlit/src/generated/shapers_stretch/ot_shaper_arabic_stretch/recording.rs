@@ -68,10 +68,10 @@ impl GlyphWalk for TileRecorder {
 ///
 /// ```text
 /// ensures glyphs { glyphs.new ≡ map recorded glyphs.old }
-/// ensures answer { result ≡ list_any (λ g. is_multiplied g.marks) glyphs.old }
+/// ensures answer { result ≡ list_any (λ g. is_multiplied g.glyph_props) glyphs.old }
 /// ```
 ///
-/// - `is_multiplied`: `crates/shapers_buffer/specs/Marks.antt`
+/// - `is_multiplied`: `crates/shapers_buffer/specs/Properties.antt`
 /// - `recorded`: `crates/shapers_stretch/specs/Recorded.antt`
 ///
 /// </details>
@@ -79,8 +79,8 @@ impl GlyphWalk for TileRecorder {
 pub fn record_stch_in(glyphs: &mut [GlyphInfo]) -> bool {
     let mut has_stch = false;
     for glyph in glyphs.iter_mut() {
-        if glyph.marks.is_multiplied() {
-            glyph.auxiliary = tile_action(glyph.lig_comp);
+        if glyph.glyph_props.is_multiplied() {
+            glyph.auxiliary = tile_action(glyph.lig_props.component());
             has_stch = true;
         }
     }

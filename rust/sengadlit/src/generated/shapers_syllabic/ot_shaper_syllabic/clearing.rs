@@ -96,6 +96,6 @@ struct Unsubstituted;
 impl GlyphChange for Unsubstituted {
     #[inline]
     fn change(&self, glyph: &mut GlyphInfo) {
-        glyph.marks.set_substituted(false);
+        glyph.glyph_props.set_substituted(false);
     }
 }

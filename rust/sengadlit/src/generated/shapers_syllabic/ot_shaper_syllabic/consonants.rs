@@ -23,7 +23,7 @@ use crate::generated::shapers_base::plan::ot_category_t::{
 /// </details>
 #[inline]
 pub fn is_consonant(glyph: &GlyphInfo) -> bool {
-    !glyph.marks.is_ligated()
+    !glyph.glyph_props.is_ligated()
         && matches!(
             glyph.category,
             OT_C | OT_CS | OT_Ra | OT_CM | OT_V | OT_PLACEHOLDER | OT_DOTTEDCIRCLE

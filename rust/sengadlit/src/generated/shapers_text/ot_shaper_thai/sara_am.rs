@@ -19,12 +19,12 @@ fn is_above_base_mark(u: u32) -> bool {
 
 // The NIKHAHIT of a SARA AM: a mark that its cluster's first glyph carries on.
 fn nikhahit_from_sara_am(am: GlyphInfo) -> GlyphInfo {
-    let mut marks = am.marks;
-    marks.set_continuation(true);
+    let mut unicode_props = am.unicode_props;
+    unicode_props.set_general_category(GeneralCategory::Mn);
+    unicode_props.set_continuation(true);
     GlyphInfo {
         glyph_id: am.glyph_id + (0x0E4D - 0x0E33),
-        general_category: GeneralCategory::Mn,
-        marks,
+        unicode_props,
         ..am
     }
 }

@@ -272,7 +272,7 @@ fn is_post_base(category: u8) -> bool {
 fn is_halant(glyph: &GlyphInfo) -> bool {
     let category = glyph.category;
     (category == category::H || category == category::HVM || category == category::IS)
-        && !glyph.marks.is_ligated()
+        && !glyph.glyph_props.is_ligated()
 }
 
 // How long the first piece is: up to the first halant, or all.
@@ -290,5 +290,6 @@ fn piece_len(glyphs: &[GlyphInfo]) -> usize {
 // first does: the other parts of a split vowel stand above, below or behind.
 #[inline]
 fn goes_front(glyph: &GlyphInfo) -> bool {
-    (glyph.category == category::VPre || glyph.category == category::VMPre) && glyph.lig_comp == 0
+    (glyph.category == category::VPre || glyph.category == category::VMPre)
+        && glyph.lig_props.component() == 0
 }

@@ -127,7 +127,7 @@ impl FrontChange for RecordPref {
 // Gives the glyph another category if a lookup put it in, and returns whether none did.
 #[inline]
 fn record_glyph(glyph: &mut GlyphInfo, category: u8) -> bool {
-    if !glyph.marks.is_substituted() {
+    if !glyph.glyph_props.is_substituted() {
         return true;
     }
     glyph.category = category;
