@@ -11,13 +11,12 @@ use Rattle.shapers_base.specs.Font.{CharacterTables}
 use Rattle.shapers_unicode.specs.Answers.{unicode_tables}
 use Rattle.shapers_buffer.specs.declared.buffer.category.hb_unicode_general_category_t.TheVariants.{Lo}
 use Rattle.shapers_base.specs.declared.plan.joining.hb_arabic_joining_type_t.TheVariants.{U}
-use Rattle.shapers_buffer.specs.Properties.{general_category}
 
 -- what holds of a character without a line
 abbrev pub default_entry : CharacterEntry
 default_entry = record {
   joining_type = U;
-  unicode_props = record { 0 = 0x0007 };
+  general_category = Lo;
   indic_category = 0;
   indic_position = 14;
   universal_category = 0;
@@ -40,7 +39,7 @@ abbrev pub other_tables : OtherCharacters → CharacterTables
 other_tables Unicode = unicode_tables
 other_tables Unknown = record {
   joining = λ _. default_entry.joining_type;
-  general = λ _. (general_category default_entry.unicode_props);
+  general = λ _. default_entry.general_category;
   indic = λ _. (default_entry.indic_category, default_entry.indic_position);
   universal = λ _. default_entry.universal_category;
   composed = λ _ _. None;

@@ -8,6 +8,7 @@ use Rattle.shapers_buffer.specs.Buffer.{Buffer, new_buffer}
 use Rattle.shapers_buffer.specs.Glyph.{default_glyph}
 use Rattle.shapers_plan.specs.declared.ot_shape_plan.DriverMasks.{DriverMasks}
 use Rattle.shapers_pipeline.specs.Fractions.{fractions_set}
+use Rattle.shapers_buffer.specs.Properties.{properties}
 
 abbrev fraction_features : ℕ → ℕ → ℕ → DriverMasks
 fraction_features frac numr dnom = record { frac = frac; numr = numr; dnom = dnom; rtlm = 0x80; vert = 0 }
@@ -18,7 +19,7 @@ text_from k [] = []
 text_from k (c ∷ cs) = (record default_glyph {
   glyph_id = c;
   cluster = k;
-  general_category = if c == 0x31 || c == 0x32 || c == 0x33 then Nd else Lo;
+  unicode_props = properties (if c == 0x31 || c == 0x32 || c == 0x33 then Nd else Lo) 0;
 }) ∷ text_from (suc k) cs
 
 abbrev buffer : Direction → ℕ → List ℕ → Buffer

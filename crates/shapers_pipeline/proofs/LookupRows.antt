@@ -8,22 +8,20 @@ use Rattle.shapers_pipeline.specs.Singles.{single_applied}
 use Rattle.shapers_pipeline.specs.declared.singles.Single.{Single}
 
 abbrev glyph : ℕ → ℕ → ℕ → ℕ → hb_glyph_info_t
-glyph number mask var marks = record {
+glyph number mask props ligature = record {
   glyph_id = number;
-  cluster = 5;
   mask = mask;
-  var = var;
+  cluster = 5;
+  glyph_props = record { 0 = props };
+  lig_props = record { 0 = ligature };
   syllable = 13;
+  unicode_props = record { 0 = 0x17E7 };
   category = 17;
   auxiliary = 19;
-  general_category = Lo;
-  modified_combining_class = 23;
-  lig_comp = 14;
-  marks = record { 0 = marks };
 }
 
--- a note by the glyph, and nothing else changes
-noted : with_note (λ g. g.glyph_id + 3) (glyph 60 0x77 0 24) ≡ glyph 60 0x77 63 24
+-- a note by the glyph, of no ligature, and nothing else changes
+noted : with_note (λ g. record { 0 = g.glyph_id + 3 }) (glyph 60 0x77 0 0x6E) ≡ glyph 60 0x77 63 0
 noted = refl
 
 -- lookup 4 for glyphs that have bit 16 or 32
@@ -35,8 +33,8 @@ singles =
     record { lookup = 3; glyph = 60; substitute = 70 } ∷ record { lookup = 4; glyph = 61; substitute = 71 }
     ∷ record { lookup = 4; glyph = 60; substitute = 72 } ∷ record { lookup = 4; glyph = 60; substitute = 73 } ∷ []
 
--- the first entry of the lookup for the glyph, which is marked as substituted, bit 1
-first_entry : single_applied singles lookup (glyph 60 0x20 9 24) ≡ glyph 72 0x20 9 25
+-- the first entry of the lookup for the glyph, which is marked as substituted, bit 0x10
+first_entry : single_applied singles lookup (glyph 60 0x20 0xFF8F 0x6E) ≡ glyph 72 0x20 0xFF9F 0x6E
 first_entry = refl
 
 other_entry : single_applied singles lookup (glyph 61 0x10 9 0) ≡ glyph 71 0x10 9 1

@@ -6,17 +6,16 @@ use Rattle.shapers_plan.specs.declared.ot_shape_plan.user.UserRange.{UserRange}
 use Rattle.shapers_pipeline.specs.Masks.{as_glyph, with_features, with_mask_alone}
 
 abbrev glyph : ℕ → ℕ → ℕ → ℕ → hb_glyph_info_t
-glyph c mask var cluster = record {
+glyph c mask props cluster = record {
   glyph_id = c;
-  cluster = cluster;
   mask = mask;
-  var = var;
+  cluster = cluster;
+  glyph_props = record { 0 = props };
+  lig_props = record { 0 = 14 };
   syllable = 13;
+  unicode_props = record { 0 = 0x17E7 };
   category = 17;
   auxiliary = 19;
-  glyph_props = record { 0 = 0x70 };
-  lig_props = record { 0 = 14 };
-  unicode_props = record { 0 = 0x17E7 };
 }
 
 -- a mask with flags goes whole; nothing else changes

@@ -9,6 +9,7 @@ use Rattle.shapers_buffer.specs.Clusters.{merges}
 use Rattle.shapers_buffer.specs.Glyph.{clusters}
 use Rattle.shapers_buffer.specs.Syllables.{syllables}
 use Rattle.shapers_buffer.specs.declared.buffer.glyph.hb_glyph_info_t.{hb_glyph_info_t}
+use Rattle.shapers_buffer.specs.declared.buffer.glyph_props.GlyphProps.{GlyphProps}
 use Rattle.shapers_clusters.specs.Cuts.{IsMonotone}
 use Rattle.shapers_syllabic.specs.CircleLaws.{NoNewCluster}
 use Rattle.shapers_syllabic.specs.Circles.{rephas_len}
@@ -34,7 +35,7 @@ StayMonotone old new =
 -- so of every text before the lookups, whatever it is prepared by, and whatever they keep beside
 -- its glyphs
 abbrev pub PreparationKeepsClusters : Type 0
-PreparationKeepsClusters = (p : Preparation) (noted : hb_glyph_info_t → ℕ) (b : Buffer) →
+PreparationKeepsClusters = (p : Preparation) (noted : hb_glyph_info_t → GlyphProps) (b : Buffer) →
     NoneMade b (text_noted noted (text_prepared p b))
     × StayMonotone b (text_noted noted (text_prepared p b))
 

@@ -3,6 +3,7 @@ use Rattle.std.specs.Prelude.{ℕ, ◌+◌, ◌*◌, ◌≡◌, ◌≤◌, ◌�
 use Rattle.std.specs.Option.{option_map_or}
 use Rattle.shapers_buffer.specs.Buffer.{Buffer}
 use Rattle.shapers_buffer.specs.declared.buffer.glyph.hb_glyph_info_t.{hb_glyph_info_t}
+use Rattle.shapers_buffer.specs.declared.buffer.glyph_props.GlyphProps.{GlyphProps}
 use Rattle.shapers_buffer.specs.declared.buffer.level.Direction.{Direction}
 use Rattle.shapers_buffer.specs.declared.buffer.refusal.ShaperError.TheVariants.{TooLong}
 use Rattle.rustybuzz_shapers.specs.Lengths.{pause_growth}
@@ -60,7 +61,7 @@ LookupsGrow growth substituted = (lookup : StageLookup) (b : Buffer) → b.posit
 
 -- no text before the lookups is longer
 abbrev pub PreparationGrows : Type 0
-PreparationGrows = (p : Preparation) (noted : hb_glyph_info_t → ℕ) (b : Buffer) →
+PreparationGrows = (p : Preparation) (noted : hb_glyph_info_t → GlyphProps) (b : Buffer) →
     length (text_noted noted (text_prepared p b)).glyphs
     ≤ prepared_bound p.shaper (length b.glyphs)
 
@@ -90,7 +91,7 @@ FinishGrows = (p : Positioning) (direction : Direction) (b : Buffer) → Positio
 
 -- So of a text all the way: old its characters, mid its glyphs behind the lookups.
 abbrev pub ShapingGrows : Type 0
-ShapingGrows = (p : Preparation) (noted : hb_glyph_info_t → ℕ) (r : Substitution)
+ShapingGrows = (p : Preparation) (noted : hb_glyph_info_t → GlyphProps) (r : Substitution)
     (growth : StageLookup → ℕ) (ss : List Stage) (q : Positioning) (direction : Direction)
     (old mid : Buffer) →
     LookupsKeep r.substituted → LookupsGrow growth r.substituted → PositionsKeep q →
