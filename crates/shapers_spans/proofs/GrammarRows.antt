@@ -3,6 +3,7 @@ use Rattle.std.proofs.Common.{◌≡◌, ℕ, true, false, List, [], ◌∷◌, 
 use Rattle.shapers_buffer.specs.declared.buffer.category.hb_unicode_general_category_t.TheVariants.{Lo, Mn}
 use Rattle.shapers_buffer.specs.declared.buffer.glyph.hb_glyph_info_t.{hb_glyph_info_t}
 use Rattle.shapers_buffer.specs.Glyph.{default_glyph}
+use Rattle.shapers_buffer.specs.Properties.{general_category, properties}
 use Rattle.shapers_spans.specs.Cuts.{joiner_waits}
 use Rattle.shapers_spans.specs.Grammar.{Grammar, lead_spans, reach_of, read_of}
 use Rattle.shapers_spans.specs.Passing.{none_passed, opens_passed}
@@ -13,20 +14,20 @@ unfoldable pub kind_by : Grammar → List ℕ → ℕ
 kind_by g w = first_kind g.kinds (after w g.rules)
 
 letter : ℕ → hb_glyph_info_t
-letter c = record default_glyph { category = c; unicode_props = record { 0 = 0x0007 } }
+letter c = record default_glyph { category = c; unicode_props = properties Lo 0 }
 
 mark : ℕ → hb_glyph_info_t
-mark c = record default_glyph { category = c; unicode_props = record { 0 = 0x000C } }
+mark c = record default_glyph { category = c; unicode_props = properties Mn 0 }
 
 -- CGJ is passed over, whatever is around it; ZWNJ before a mark, CGJs between them apart
 read : read_of opens_passed (letter 6 ∷ letter 1 ∷ letter 6 ∷ letter 14 ∷ letter 6 ∷ mark 33 ∷ letter 14 ∷ letter 1
     ∷ mark 6 ∷ letter 14 ∷ letter 6 ∷ []) ≡ 1 ∷ 33 ∷ 14 ∷ 1 ∷ 14 ∷ []
-unfolding letter mark
+unfolding letter mark general_category
 read = refl
 
 -- a ZWNJ before a ZWNJ is read, and so is ZWJ, or a ZWNJ before no mark
 zwnjs : read_of opens_passed (letter 14 ∷ letter 14 ∷ mark 33 ∷ letter 14 ∷ letter 33 ∷ []) ≡ 14 ∷ 33 ∷ 14 ∷ 33 ∷ []
-unfolding letter mark
+unfolding letter mark general_category
 zwnjs = refl
 
 -- the other grammars read all
@@ -43,7 +44,7 @@ reaches =
     ∷ reach_of opens_passed text 3 ∷ []
 
 reaches_are : reaches ≡ 2 ∷ 5 ∷ 7 ∷ 7 ∷ []
-unfolding reaches letter mark
+unfolding reaches letter mark general_category
 reaches_are = refl
 
 nothing_led : lead_spans 0 8 ≡ []
@@ -54,11 +55,11 @@ led = refl
 
 -- where a ZWNJ at the end waits for a mark
 waits : joiner_waits (letter 1 ∷ letter 14 ∷ letter 6 ∷ []) (letter 6 ∷ mark 33 ∷ []) ≡ true
-unfolding letter mark
+unfolding letter mark general_category
 waits = refl
 
 no_mark : joiner_waits (letter 1 ∷ letter 14 ∷ []) (letter 1 ∷ mark 33 ∷ []) ≡ false
-unfolding letter mark
+unfolding letter mark general_category
 no_mark = refl
 
 no_joiner : joiner_waits (letter 14 ∷ letter 1 ∷ letter 6 ∷ []) (mark 33 ∷ []) ≡ false
