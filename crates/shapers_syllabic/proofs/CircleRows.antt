@@ -1,6 +1,5 @@
 -- Dotted circles, computed on small texts.
 use Rattle.std.specs.Prelude.{◌≡◌, ℕ, true, false, List, [], ◌∷◌, map, length, Option, Some, None, refl}
-use Rattle.shapers_buffer.specs.declared.buffer.category.hb_unicode_general_category_t.TheVariants.{Mn}
 use Rattle.shapers_buffer.specs.declared.buffer.glyph.hb_glyph_info_t.{hb_glyph_info_t}
 use Rattle.shapers_syllabic.specs.declared.ot_shaper_syllabic.circles.DottedCircles.{DottedCircles}
 use Rattle.shapers_buffer.specs.Buffer.{Buffer, new_buffer}
@@ -103,14 +102,14 @@ rephas_alone = refl
 abbrev full : hb_glyph_info_t
 full = record {
   glyph_id = 0x916;
-  cluster = 5;
   mask = 0x1F;
-  syllable = 0x24;
-  category = 1;
-  auxiliary = 3;
+  cluster = 5;
   glyph_props = record { 0 = 0x70 };
   lig_props = record { 0 = 2 };
+  syllable = 0x24;
   unicode_props = record { 0 = 0x09AC };
+  category = 1;
+  auxiliary = 3;
 }
 
 all_fields : circled_text 4 (Some 14) (Some 6) (broken_text (full ∷ []))

@@ -2,7 +2,6 @@
 use Rattle.std.specs.Prelude.{◌+◌, ◌*◌, ◌≤◌, ◌⊎◌, Err, ◌≡◌, ℕ, List, [], ◌∷◌, length, map, reverse, Option, Some, None, pos, true, false, ◌==◌, if◌then◌else◌, refl}
 use Rattle.std.proofs.Common.{inl, inr, arith, ap, slice_index}
 use Rattle.std.specs.List.{flat_map, range_with_len}
-use Rattle.shapers_buffer.specs.declared.buffer.category.hb_unicode_general_category_t.TheVariants.{Mn}
 use Rattle.shapers_buffer.specs.declared.buffer.glyph.hb_glyph_info_t.{hb_glyph_info_t}
 use Rattle.shapers_buffer.specs.declared.buffer.level.BufferClusterLevel.TheVariants.{Characters, MonotoneGraphemes}
 use Rattle.shapers_buffer.specs.declared.buffer.syllables.Span.{Span}
@@ -22,27 +21,27 @@ use Rattle.shapers_syllabic.specs.ReorderingLaws.{paused_carried, paused_order}
 abbrev full : hb_glyph_info_t
 full = record {
   glyph_id = 0x916;
-  cluster = 5;
   mask = 0x1F;
-  syllable = 0x24;
-  category = 1;
-  auxiliary = 3;
+  cluster = 5;
   glyph_props = record { 0 = 0x70 };
   lig_props = record { 0 = 2 };
+  syllable = 0x24;
   unicode_props = record { 0 = 0x09AC };
+  category = 1;
+  auxiliary = 3;
 }
 
 carried_full : carried full
     ≡ record {
       glyph_id = 0x916;
-      cluster = 5;
       mask = 7;
-      syllable = 0x24;
-      category = 0;
-      auxiliary = 0;
+      cluster = 5;
       glyph_props = record { 0 = 0 };
       lig_props = record { 0 = 2 };
-      unicode_props = record { 0 = 0x090C };
+      syllable = 0x24;
+      unicode_props = record { 0 = 0x09AC };
+      category = 0;
+      auxiliary = 0;
     }
 carried_full = refl
 

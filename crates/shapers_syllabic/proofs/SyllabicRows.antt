@@ -1,6 +1,5 @@
 -- The kinds of syllables by their numbers, span set-up and clearing, computed on small texts.
 use Rattle.std.specs.Prelude.{◌≡◌, ℕ, true, false, List, [], ◌∷◌, map, refl}
-use Rattle.shapers_buffer.specs.declared.buffer.category.hb_unicode_general_category_t.TheVariants.{Mn}
 use Rattle.shapers_buffer.specs.declared.buffer.glyph.hb_glyph_info_t.{hb_glyph_info_t}
 use Rattle.shapers_syllabic.specs.declared.ot_shaper_syllabic.kinds.indic_syllable.TheConstants as indic
 use Rattle.shapers_syllabic.specs.declared.ot_shaper_syllabic.kinds.khmer_syllable.TheConstants as khmer
@@ -39,24 +38,24 @@ kinds_of_bytes = refl
 abbrev full : hb_glyph_info_t
 full = record {
   glyph_id = 0x916;
-  cluster = 5;
   mask = 0x1F;
-  syllable = 0x24;
-  category = 1;
-  auxiliary = 3;
+  cluster = 5;
   glyph_props = record { 0 = 0x70 };
   lig_props = record { 0 = 2 };
+  syllable = 0x24;
   unicode_props = record { 0 = 0x09AC };
+  category = 1;
+  auxiliary = 3;
 }
 
 cleared_syllable : in_syllable 0 full ≡ record full { syllable = 0 }
 cleared_syllable = refl
 
-cleared_substitution : unsubstituted full ≡ record full { glyph_props = record { 0 = 0x60 }; unicode_props = record { 0 = 0x00A0 } }
+cleared_substitution : unsubstituted full ≡ record full { glyph_props = record { 0 = 0x60 } }
 cleared_substitution = refl
 
-cleared_of_others : unsubstituted (record full { glyph_props = record { 0 = 0x20 }; unicode_props = record { 0 = 0x0020 } })
-    ≡ record full { glyph_props = record { 0 = 0x20 }; unicode_props = record { 0 = 0x0020 } }
+cleared_of_others : unsubstituted (record full { glyph_props = record { 0 = 0xFFE0 } })
+    ≡ record full { glyph_props = record { 0 = 0xFFE0 } }
 cleared_of_others = refl
 
 -- the span pause: bytes, flags inside each syllable, and the mark of a broken one

@@ -16,9 +16,10 @@ use Rattle.shapers_syllabic.specs.declared.ot_shaper_syllabic.circles.DottedCirc
 use Rattle.shapers_syllabic.specs.Circles.{circled, circles_for}
 use Rattle.shapers_clusters.specs.Steps.{Step, run_steps, steps_along, widened}
 
--- What a reordering carries along: all but feature masks, category, auxiliary byte and marks.
+-- What a reordering carries along: all but feature masks, category, auxiliary byte and what lookups
+-- did to the glyph.
 abbrev pub carried : hb_glyph_info_t → hb_glyph_info_t
-carried g = record g { mask = g.mask % 8; category = 0; auxiliary = 0; glyph_props = record { 0 = 0 } }
+carried g = record g { mask = g.mask % 8; glyph_props = no_marks; category = 0; auxiliary = 0 }
 
 -- what a text becomes whose syllables each become what the meaning says: the text order
 abbrev pub text_order : (List hb_glyph_info_t → List hb_glyph_info_t) → List hb_glyph_info_t →
