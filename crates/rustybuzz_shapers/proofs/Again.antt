@@ -4,7 +4,7 @@ use Rattle.std.specs.List.{AllByRecursion, flat_map, list_any, prefix_len}
 use Rattle.std.specs.Prelude.{slice_index}
 use Rattle.std.proofs.lemmas.List.{length-append, length-map, map-append, take-append-drop}
 use Rattle.std.proofs.lemmas.List.Elements.{All-from_recursion, recursion_from_All}
-use Rattle.std.proofs.lemmas.Nat.{and_assoc}
+use Rattle.std.proofs.lemmas.Nat.Bits.{and_pow, bit_at-lt}
 use Rattle.shapers_base.specs.declared.plan.pause.Pause.TheVariants.{SetupSyllablesIndic, SetupSyllablesKhmer, SetupSyllablesMyanmar, SetupSyllablesUse, InitialReordering, ReorderKhmer, ReorderMyanmar, ReorderUse, FinalReordering, RecordStch, RecordRphf, RecordPref, SyllabicClearVar, ClearSubstitutionFlags, ArabicFallbackShape}
 use Rattle.shapers_buffer.proofs.MaskBits.{or_twice}
 use Rattle.shapers_buffer.specs.Buffer.{Buffer}
@@ -13,7 +13,7 @@ use Rattle.shapers_buffer.specs.Glyph.{clusters}
 use Rattle.shapers_buffer.specs.GlyphFlags.{flagged, with_bits, with_bits_off}
 use Rattle.shapers_buffer.specs.declared.buffer.syllables.Span.{Span}
 use Rattle.shapers_buffer.specs.declared.buffer.glyph.hb_glyph_info_t.{hb_glyph_info_t}
-use Rattle.shapers_buffer.specs.Properties.{is_multiplied, is_substituted, component}
+use Rattle.shapers_buffer.specs.Properties.{component, is_multiplied, is_substituted, without_bit}
 use Rattle.shapers_buffer.specs.Syllables.{in_syllable, span_bytes, syllables, with_bytes}
 use Rattle.shapers_base.specs.Masks.{has_bits, masks_kept, with_numbered_mask}
 use Rattle.shapers_stretch.specs.Recorded.{has_stch, recorded, tile_action, with_tiles}
@@ -61,7 +61,8 @@ any_tile (g ∷ gs) =
     ∙ ap (λ b. is_multiplied g.glyph_props || b) (any_tile gs)
   where
     same : (b : Bool) (h : hb_glyph_info_t)
-        → is_multiplied (cond b (record h { auxiliary = tile_action (component h.lig_props) }) h).glyph_props ≡ is_multiplied h.glyph_props
+        → is_multiplied (cond b (record h { auxiliary = tile_action (component h.lig_props) }) h).glyph_props
+        ≡ is_multiplied h.glyph_props
     same true h = refl
     same false h = refl
 
@@ -154,7 +155,8 @@ one_more k = omega arith
 
 leading_step : (mask : ℕ) (g : hb_glyph_info_t) (gs : List hb_glyph_info_t)
     → rphf_recorded mask (g ∷ gs)
-    ≡ cond (has_bits mask g) (cond (is_substituted g.glyph_props) (in_category R g ∷ gs) (g ∷ rphf_recorded mask gs)) (g ∷ gs)
+    ≡ cond (has_bits mask g)
+    (cond (is_substituted g.glyph_props) (in_category R g ∷ gs) (g ∷ rphf_recorded mask gs)) (g ∷ gs)
 leading_step mask g gs =
     let k = prefix_len (has_bits mask) gs in
     ap (λ n. first_recorded R (take (cond (has_bits mask g) n 0) (g ∷ gs))
@@ -163,8 +165,9 @@ leading_step mask g gs =
     ++ drop (cond a (suc k) 0) (g ∷ gs)
     ≡ cond a (cond (is_substituted g.glyph_props) (in_category R g ∷ gs) (g ∷ rphf_recorded mask gs)) (g ∷ gs)) [
       | true ↦
-          elim (is_substituted g.glyph_props) as (λ b. cond b (in_category R g ∷ take k gs) (g ∷ first_recorded R (take k gs))
-          ++ drop k gs ≡ cond b (in_category R g ∷ gs) (g ∷ rphf_recorded mask gs)) [
+          elim (is_substituted g.glyph_props) as (λ b.
+          cond b (in_category R g ∷ take k gs) (g ∷ first_recorded R (take k gs)) ++ drop k gs
+          ≡ cond b (in_category R g ∷ gs) (g ∷ rphf_recorded mask gs)) [
             | true ↦ ap (λ xs. in_category R g ∷ xs) (take-append-drop k gs)
             | false ↦ refl
           ]
@@ -207,7 +210,8 @@ leading_twice : (mask : ℕ) (g : hb_glyph_info_t) (gs : List hb_glyph_info_t)
     ≡ cond a (cond b (in_category R g ∷ gs) (g ∷ rphf_recorded mask gs)) (g ∷ gs)
 leading_twice mask g gs again true true has put =
     leading_step mask (in_category R g) gs
-    ∙ ap (λ a. cond a (cond (is_substituted g.glyph_props) (in_category R g ∷ gs) (in_category R g ∷ rphf_recorded mask gs))
+    ∙ ap (λ a. cond a
+    (cond (is_substituted g.glyph_props) (in_category R g ∷ gs) (in_category R g ∷ rphf_recorded mask gs))
     (in_category R g ∷ gs)) has
     ∙ ap (λ b. cond b (in_category R g ∷ gs) (in_category R g ∷ rphf_recorded mask gs)) put
 leading_twice mask g gs again true false has put =
@@ -219,7 +223,8 @@ leading_twice mask g gs again true false has put =
     ∙ ap (λ xs. g ∷ xs) again
 leading_twice mask g gs again false b has put =
     leading_step mask g gs
-    ∙ ap (λ a. cond a (cond (is_substituted g.glyph_props) (in_category R g ∷ gs) (g ∷ rphf_recorded mask gs)) (g ∷ gs)) has
+    ∙ ap (λ a. cond a
+    (cond (is_substituted g.glyph_props) (in_category R g ∷ gs) (g ∷ rphf_recorded mask gs)) (g ∷ gs)) has
 
 leading_once : (mask : ℕ) (gs : List hb_glyph_info_t) → rphf_recorded mask (rphf_recorded mask gs)
     ≡ rphf_recorded mask gs
@@ -328,6 +333,12 @@ set_up_once spans kind old mid new first second =
     (marked_once any old.broken)
     ∙ sym first
 
+-- a bit that is taken away isn't there
+taken_once : (n : ℕ) → without_bit 0x10 (without_bit 0x10 n) ≡ without_bit 0x10 n
+taken_once n =
+    let rest = without_bit 0x10 n in
+    omega (arith, and_pow n 4, bit_at-lt n 4, and_pow rest 4, bit_at-lt rest 4)
+
 pub pauses_once : PausesOnce
 pauses_once RecordStch plan font spans old mid new only first second =
     stretches_once (has_stch plan.plan_data) old mid new first second
@@ -342,8 +353,9 @@ pauses_once SyllabicClearVar plan font spans old mid new only first second =
     glyphs_once (map (in_syllable 0)) (each_once (in_syllable 0) (λ g. refl)) old mid new first second
 pauses_once ClearSubstitutionFlags plan font spans old mid new only first second =
     glyphs_once (map unsubstituted)
-    (each_once unsubstituted (λ g. ap (λ (n : ℕ). let h : hb_glyph_info_t = record g { marks = record { 0 = n } } in h)
-    (and_assoc 254 g.marks.0 254))) old mid new first second
+    (each_once unsubstituted (λ g. ap (λ (n : ℕ).
+    let h : hb_glyph_info_t = record g { glyph_props = record { 0 = n } } in h)
+    (taken_once g.glyph_props.0))) old mid new first second
 pauses_once ArabicFallbackShape plan font spans old mid new only first second = second
 pauses_once SetupSyllablesIndic plan font spans old mid new only first second =
     set_up_once spans 4 old mid new first second

@@ -3,15 +3,16 @@ use Rattle.std.specs.Prelude.{◌≡◌, ℕ, ◌==◌, false, true, pos, Some, 
 use Rattle.std.specs.List.{list_any}
 use Rattle.shapers_arabic.specs.Marks.{marks_reordered}
 use Rattle.shapers_base.specs.Font.{Font}
+use Rattle.shapers_buffer.specs.declared.buffer.category.hb_unicode_general_category_t.TheVariants.{Mn}
 use Rattle.shapers_buffer.specs.declared.buffer.glyph.hb_glyph_info_t.{hb_glyph_info_t}
 use Rattle.shapers_buffer.specs.declared.buffer.level.BufferClusterLevel.TheVariants.{MonotoneGraphemes}
 use Rattle.shapers_buffer.specs.Glyph.{characters, default_glyph}
+use Rattle.shapers_buffer.specs.Properties.{general_category, modified_combining_class, properties}
 use Rattle.shapers_clusters.specs.Steps.{run_step}
 use Rattle.shapers_hangul.specs.Hangul.{preprocessed}
 use Rattle.shapers_universal.specs.Universal.{universal_order}
 use Rattle.shapers_text.specs.Hebrew.{hebrew_mark_step}
 use Rattle.shapers_text.specs.ThaiForms.{preprocessed_text}
-use Rattle.shapers_buffer.specs.Properties.{modified_combining_class, properties}
 
 abbrev text : List ℕ → List hb_glyph_info_t
 text us = map (λ u. let g : hb_glyph_info_t = record default_glyph { glyph_id = u } in g) us
@@ -47,31 +48,35 @@ hangul_tone_again = refl
 
 -- Hebrew: of two triples of marks each time the first one changes
 abbrev of_classes : List ℕ → List hb_glyph_info_t
-of_classes cs = map (λ c. let g : hb_glyph_info_t = record default_glyph { unicode_props = properties Cc c } in g) cs
+of_classes cs = map (λ c. let g : hb_glyph_info_t = record default_glyph { unicode_props = properties Mn c } in g) cs
 
 abbrev classes : List hb_glyph_info_t → List ℕ
-classes gs = map (λ g. (modified_combining_class g.unicode_props)) gs
+classes gs = map (λ g. modified_combining_class g.unicode_props) gs
 
 abbrev swapped : List hb_glyph_info_t → List hb_glyph_info_t
 swapped gs = run_step MonotoneGraphemes (hebrew_mark_step 0 6 gs) gs
 
 hebrew_marks : classes (swapped (of_classes (20 ∷ 22 ∷ 25 ∷ 20 ∷ 22 ∷ 25 ∷ []))) ≡ 20 ∷ 25 ∷ 22 ∷ 20 ∷ 22 ∷ 25 ∷ []
+unfolding modified_combining_class general_category
 hebrew_marks = refl
 
 hebrew_marks_again : classes (swapped (swapped (of_classes (20 ∷ 22 ∷ 25 ∷ 20 ∷ 22 ∷ 25 ∷ [])))) ≡ 20 ∷ 25 ∷ 22 ∷ 20
     ∷ 25 ∷ 22 ∷ []
+unfolding modified_combining_class general_category
 hebrew_marks_again = refl
 
 -- Arabic: a modifier of class 230 before one of class 220 comes first, in a class below 220, and so
 -- the other passes it then; marks in the order of their classes have no such neighbours
 abbrev modifiers_turned : List hb_glyph_info_t
-modifiers_turned = record default_glyph { glyph_id = 0x0654; unicode_props = record { 0 = 0xE600 } }
-    ∷ record default_glyph { glyph_id = 0x0655; unicode_props = record { 0 = 0xDC00 } } ∷ []
+modifiers_turned = record default_glyph { glyph_id = 0x0654; unicode_props = properties Mn 230 }
+    ∷ record default_glyph { glyph_id = 0x0655; unicode_props = properties Mn 220 } ∷ []
 
 arabic_marks : characters (marks_reordered 0 2 modifiers_turned) ≡ 0x0654 ∷ 0x0655 ∷ []
+unfolding modified_combining_class general_category
 arabic_marks = refl
 
 arabic_marks_again : characters (marks_reordered 0 2 (marks_reordered 0 2 modifiers_turned)) ≡ 0x0655 ∷ 0x0654 ∷ []
+unfolding modified_combining_class general_category
 arabic_marks_again = refl
 
 -- The universal shaper: of two vowels before the base, the last comes first each time. Categories:

@@ -2,7 +2,7 @@
 use Rattle.std.proofs.Common.{◌≡◌, ℕ, true, false, cond, List, [], ◌∷◌, ◌++◌, Option, None, Some, map, take, drop, refl, sym, subst}
 use Rattle.std.specs.List.{prefix_len}
 use Rattle.std.proofs.lemmas.List.{take-append-drop}
-use Rattle.shapers_buffer.specs.Properties.{is_multiplied, is_substituted, component}
+use Rattle.shapers_buffer.specs.Properties.{component, is_multiplied, is_substituted}
 use Rattle.shapers_buffer.specs.Syllables.{in_syllable}
 use Rattle.shapers_base.specs.declared.plan.PlanData.{PlanData}
 use Rattle.shapers_clusters.proofs.Falls.{all_append}
@@ -100,8 +100,9 @@ pref_record_added old new is =
 
 tile_added : (g : hb_glyph_info_t) → FlagsAdded g (recorded g)
 tile_added g =
-    elim (is_multiplied g.glyph_props) as (λ b. FlagsAdded g (cond b (record g { auxiliary = tile_action (component g.lig_props) }) g)) [
-      | true ↦ added_same g (record g { auxiliary = tile_action (component g.lig_props) }) refl refl
+    let tile : hb_glyph_info_t = record g { auxiliary = tile_action (component g.lig_props) } in
+    elim (is_multiplied g.glyph_props) as (λ b. FlagsAdded g (cond b tile g)) [
+      | true ↦ added_same g tile refl refl
       | false ↦ added_same g g refl refl
     ]
 

@@ -21,8 +21,8 @@ use Rattle.shapers_hangul.proofs.Walks.{length-characters}
 use Rattle.rustybuzz_shapers.specs.Monotone.{HangulStaysMonotone}
 use Rattle.rustybuzz_shapers.proofs.HangulHalves.{clusters_made, ends_within}
 use Rattle.rustybuzz_shapers.proofs.HangulItems.{of_three}
-use Rattle.rustybuzz_shapers.proofs.Monotone.{Ordered, all_from, from_pairs, to_pairs}
-use Rattle.rustybuzz_shapers.proofs.ThaiMonotone.{all_append, all_weaker, ordered_append}
+use Rattle.rustybuzz_shapers.proofs.Monotone.{Ordered, all_from, all_weaker, from_pairs, to_pairs}
+use Rattle.rustybuzz_shapers.proofs.ThaiMonotone.{all_append, ordered_append}
 
 -- What is made of some numbers keeps what holds of all of them, and stays in an order that they are in.
 pub record Keeps (P : ℕ → Type 0) (R : ℕ → ℕ → Type 0) (xs ys : List ℕ) : Type 0 where

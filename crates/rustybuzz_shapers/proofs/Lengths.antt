@@ -166,13 +166,15 @@ few_broken kind (piece ∷ pieces) =
     let joined = length-append piece (flat_map (λ p. p) pieces) in
     omega (arith, more, joined, broken_has_some kind piece, few_broken kind pieces)
 
-circles_fit : (circles : Option DottedCircles) (gs : List hb_glyph_info_t) → length (circled circles gs) ≤ length gs * 2
-circles_fit None gs = omega arith
-circles_fit (Some rule) gs =
-    let few = few_broken rule.broken_kind (syllables gs) in
-    let whole = ap length (joined-syllables gs) in
-    let long = length-with_circles rule gs in
-    omega (arith, few, whole, long)
+-- no more circles open than the text has glyphs, and so it gets twice as long at most
+pub few_circles : (circles : Option DottedCircles) (gs : List hb_glyph_info_t) → broken_in circles gs ≤ length gs
+few_circles None gs = omega arith
+few_circles (Some rule) gs =
+    omega (arith, few_broken rule.broken_kind (syllables gs), ap length (joined-syllables gs))
+
+pub circles_fit : (circles : Option DottedCircles) (gs : List hb_glyph_info_t)
+    → length (circled circles gs) ≤ length gs * 2
+circles_fit circles gs = omega (arith, circled_long circles gs, few_circles circles gs)
 
 not_err : {T : Type 0} (r : Result T ShaperError) → IsOk r → r ≢ Err TooLong
 not_err (Ok x) h is = absurd cc

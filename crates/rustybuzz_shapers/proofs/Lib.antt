@@ -14,7 +14,7 @@ mod Headline
 mod HookRows
 mod IndicHalves
 mod LengthRows
-mod Lengths
+pub mod Lengths
 mod LineAdvances
 mod PauseLaws
 mod PauseRows

@@ -153,9 +153,14 @@ abbrev pub Ordered : (ℕ → ℕ → Type 0) → List ℕ → Type 0
 Ordered R [] = Unit {0}
 Ordered R (x ∷ xs) = AllByRecursion (R x) xs × Ordered R xs
 
+-- what holds at each place holds of all, what follows from it does, and what holds of all holds at each place
 pub all_from : (P : ℕ → Type 0) (xs : List ℕ) → ((j : ℕ) → j < length xs → P (get_or xs j 0)) → AllByRecursion P xs
 all_from P [] h = tt
 all_from P (x ∷ xs) h = (h 0 (omega arith), all_from P xs (λ j l. h (suc j) (omega (arith, l))))
+
+pub all_weaker : (P Q : ℕ → Type 0) → ((x : ℕ) → P x → Q x) → (xs : List ℕ) → AllByRecursion P xs → AllByRecursion Q xs
+all_weaker P Q weaker [] own = tt
+all_weaker P Q weaker (x ∷ xs) own = (weaker x own.0, all_weaker P Q weaker xs own.1)
 
 all_at : (P : ℕ → Type 0) (xs : List ℕ) (j d : ℕ) → AllByRecursion P xs → j < length xs → P (get_or xs j d)
 all_at P [] j d h l = absurd (omega arith)

@@ -1,6 +1,5 @@
 -- The pauses, computed: what they do to a small buffer.
 use Rattle.std.specs.Prelude.{◌≡◌, ◌==◌, ℕ, ◌+◌, true, false, not, List, [], ◌∷◌, map, None, is_some, Result, Err, IsOk, refl}
-use Rattle.shapers_buffer.specs.declared.buffer.category.hb_unicode_general_category_t.TheVariants.{Mn}
 use Rattle.shapers_buffer.specs.declared.buffer.glyph.hb_glyph_info_t.{hb_glyph_info_t}
 use Rattle.shapers_buffer.specs.declared.buffer.refusal.ShaperError.{ShaperError}
 use Rattle.shapers_buffer.specs.declared.buffer.refusal.ShaperError.TheVariants.{SpansDontCover, UnknownSyllable}
@@ -75,14 +74,14 @@ myanmar_broken = (λ plan font. refl, λ plan font. refl, λ plan font. refl, λ
 abbrev full : hb_glyph_info_t
 full = record {
   glyph_id = 0x916;
-  cluster = 5;
   mask = 0x1F;
+  cluster = 5;
+  glyph_props = record { 0 = 0xFF };
+  lig_props = record { 0 = 0xB2 };
   syllable = 0x24;
+  unicode_props = record { 0 = 0x09EC };
   category = 1;
   auxiliary = 3;
-  glyph_props = record { 0 = 0x70 };
-  lig_props = record { 0 = 2 };
-  unicode_props = record { 0 = 0x09AC };
 }
 
 abbrev full_text : List hb_glyph_info_t → Buffer
@@ -93,7 +92,8 @@ Makes pause g = (plan : hb_ot_shape_plan_t) (font : Font) → Paused pause plan 
     [] (full_text (full ∷ full ∷ [])) (full_text (g ∷ g ∷ []))
 
 cleared : Makes SyllabicClearVar (record full { syllable = 0 })
-    × Makes ClearSubstitutionFlags (record full { glyph_props = record { 0 = 0x60 }; unicode_props = record { 0 = 0x00A0 } }) × Makes ArabicFallbackShape full
+    × Makes ClearSubstitutionFlags (record full { glyph_props = record { 0 = 0xEF } })
+    × Makes ArabicFallbackShape full
 cleared = (λ plan font. refl, λ plan font. refl, λ plan font. refl)
 
 -- set-up refuses spans that don't cover, and nothing else; the others refuse nothing

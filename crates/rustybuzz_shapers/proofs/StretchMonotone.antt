@@ -24,8 +24,8 @@ use Rattle.shapers_stretch.proofs.LaidText.{stretch_is_as_wide}
 use Rattle.rustybuzz_shapers.specs.Monotone.{StaysMonotone, StretchStaysMonotone}
 use Rattle.rustybuzz_shapers.specs.declared.shaper.hb_ot_shaper_t.TheVariants.{Arabic, Hangul, Hebrew, Indic, Khmer, Myanmar, MyanmarZawgyi, Thai, Universal}
 use Rattle.rustybuzz_shapers.proofs.HangulMonotone.{Keeps, KeepsEach, OfItself, keeps_both, keeps_by, keeps_itself}
-use Rattle.rustybuzz_shapers.proofs.Monotone.{Ordered, from_pairs, to_pairs, unchanged_monotone}
-use Rattle.rustybuzz_shapers.proofs.ThaiMonotone.{all_append, all_weaker, ordered_append}
+use Rattle.rustybuzz_shapers.proofs.Monotone.{Ordered, all_weaker, from_pairs, to_pairs, unchanged_monotone}
+use Rattle.rustybuzz_shapers.proofs.ThaiMonotone.{all_append, ordered_append}
 
 -- the clusters of cells
 abbrev of_cells : List Cell → List ℕ

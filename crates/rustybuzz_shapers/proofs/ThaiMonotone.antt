@@ -22,17 +22,13 @@ use Rattle.shapers_text.specs.Thai.{is_above_base, is_sara_am, place_rule, in_tw
 use Rattle.shapers_text.proofs.ThaiInTwo.{in_two_at, in_two_push}
 use Rattle.shapers_text.proofs.ThaiStretches.{stretches_within}
 use Rattle.rustybuzz_shapers.specs.Monotone.{StaysMonotone, ThaiStaysMonotone}
-use Rattle.rustybuzz_shapers.proofs.Monotone.{Ordered, to_pairs}
+use Rattle.rustybuzz_shapers.proofs.Monotone.{Ordered, all_weaker, to_pairs}
 
 -- lists of places in an order R, one after the other
 pub all_append : (P : ℕ → Type 0) (xs ys : List ℕ) → AllByRecursion P xs → AllByRecursion P ys
     → AllByRecursion P (xs ++ ys)
 all_append P [] ys own more = more
 all_append P (x ∷ xs) ys own more = (own.0, all_append P xs ys own.1 more)
-
-pub all_weaker : (P Q : ℕ → Type 0) → ((x : ℕ) → P x → Q x) → (xs : List ℕ) → AllByRecursion P xs → AllByRecursion Q xs
-all_weaker P Q weaker [] own = tt
-all_weaker P Q weaker (x ∷ xs) own = (weaker x own.0, all_weaker P Q weaker xs own.1)
 
 pub ordered_append : (R : ℕ → ℕ → Type 0) (xs ys : List ℕ) → Ordered R xs → Ordered R ys
     → AllByRecursion (λ x. AllByRecursion (R x) ys) xs → Ordered R (xs ++ ys)

@@ -4,6 +4,7 @@ use Rattle.std.specs.Option.{is_some}
 use Rattle.std.proofs.lemmas.List.{drop-map, length-map, map-append, take-map}
 use Rattle.std.proofs.lemmas.Simd.{map-map}
 use Rattle.shapers_buffer.specs.Buffer.{Buffer, has_flag}
+use Rattle.shapers_buffer.specs.Properties.{general_category}
 use Rattle.shapers_buffer.specs.declared.buffer.glyph.hb_glyph_info_t.{hb_glyph_info_t}
 use Rattle.shapers_buffer.specs.declared.buffer.tag.Script.{Script}
 use Rattle.shapers_base.specs.Font.{CharacterTables}
@@ -21,7 +22,6 @@ use Rattle.shapers_universal.specs.PlanData.{arabic_of}
 use Rattle.shapers_universal.specs.UniversalMasks.{MasksAreSet, categorized, with_categories}
 use Rattle.rustybuzz_shapers.specs.Together.{TextsConcatenate}
 use Rattle.rustybuzz_shapers.specs.declared.shaper.hb_ot_shaper_t.TheVariants.{Arabic, Universal}
-use Rattle.shapers_buffer.specs.Properties.{general_category}
 
 -- joined buffers put together
 together_by : (breaks : BreakFlags) (masks : List ℕ) (script : Option Script) (tables : CharacterTables) (n m : ℕ)
@@ -46,8 +46,8 @@ together_by breaks masks script tables n m one two one_new two_new new first sec
 pub types-categorized : (joining : ℕ → hb_arabic_joining_type_t) (tables : CharacterTables) (gs : List hb_glyph_info_t)
     → stored_types joining (map (categorized tables.universal) gs) ≡ stored_types joining gs
 types-categorized joining tables gs =
-    map-map (λ (g : hb_glyph_info_t). resolved (joining g.glyph_id) (general_category g.unicode_props)) (categorized tables.universal)
-    gs
+    map-map (λ (g : hb_glyph_info_t). resolved (joining g.glyph_id) (general_category g.unicode_props))
+    (categorized tables.universal) gs
 
 categories-together : (tables : CharacterTables) (n m : ℕ) (one two : Buffer)
     → with_categories tables (together_at n m one two)

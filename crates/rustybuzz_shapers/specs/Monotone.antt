@@ -1,5 +1,5 @@
 -- Clusters that rise, or fall, along the text: what keeps them so.
-use Rattle.std.specs.Prelude.{ℕ, ◌≤◌, ◌≡◌, ◌++◌, Bool, true, false, List, length}
+use Rattle.std.specs.Prelude.{ℕ, ◌≤◌, ◌≡◌, ◌++◌, Bool, true, false, List, length, Option, None, Some}
 use Rattle.std.specs.List.{All, AllByRecursion, Contains}
 use Rattle.shapers_buffer.specs.declared.buffer.glyph.hb_glyph_info_t.{hb_glyph_info_t}
 use Rattle.shapers_buffer.specs.declared.buffer.syllables.Span.{Span}
@@ -30,10 +30,17 @@ abbrev pub ExactCutsStayMonotone : Type 0
 ExactCutsStayMonotone = (cs : List ℕ) (sts : List (ℕ × ℕ)) (after : List ℕ) →
     ExactCuts cs sts after → StaysMonotone cs after
 
--- circles, where no syllable opens with two rephas
+-- no syllable opens with two rephas, where circles open behind these: the second could be in a
+-- greater cluster than the circle behind it
+abbrev pub AtMostOneRepha : Option DottedCircles → List hb_glyph_info_t → Type 0
+AtMostOneRepha None gs = Unit {0}
+AtMostOneRepha (Some rule) gs =
+    AllByRecursion (λ syllable. rephas_len rule.repha syllable ≤ 1) (syllables gs)
+
+-- circles, where it is so
 abbrev pub CirclesStayMonotone : Type 0
 CirclesStayMonotone = (rule : DottedCircles) (gs : List hb_glyph_info_t) →
-    AllByRecursion (λ syllable. rephas_len rule.repha syllable ≤ 1) (syllables gs) →
+    AtMostOneRepha (Some rule) gs →
     StaysMonotone (clusters gs) (clusters (with_circles rule gs))
 
 -- whether the pause is a reordering of Indic

@@ -5,7 +5,7 @@ use Rattle.shapers_base.specs.declared.plan.pause.Pause.TheVariants.{SetupSyllab
 use Rattle.shapers_arabic.specs.Requests.{arabic_list, is_arabic}
 use Rattle.shapers_buffer.specs.Buffer.{Buffer}
 use Rattle.shapers_buffer.specs.Glyph.{plain}
-use Rattle.shapers_buffer.specs.Properties.{is_multiplied, component}
+use Rattle.shapers_buffer.specs.Properties.{component, is_multiplied}
 use Rattle.shapers_buffer.specs.declared.buffer.glyph.hb_glyph_info_t.{hb_glyph_info_t}
 use Rattle.shapers_clusters.specs.FlagLaw.{FlagsAdded}
 use Rattle.shapers_clusters.proofs.FlagLaw.{added_same}

@@ -24,9 +24,10 @@ use Rattle.shapers_myanmar.specs.MyanmarLaws.{MyanmarMovesMerged, MyanmarReadsNo
 use Rattle.shapers_universal.specs.Universal.{universal_order, universal_steps}
 use Rattle.shapers_universal.specs.UniversalLaws.{UniversalCutsBetweenSpans, UniversalMovesMerged, UniversalReorderLaws, set_up_by_spans}
 use Rattle.shapers_universal.specs.UniversalSyllables.{syllables_set_up, with_forms_flagged}
+use Rattle.rustybuzz_shapers.specs.Monotone.{AtMostOneRepha}
 use Rattle.rustybuzz_shapers.specs.Pauses.{Reordered, by_khmer, by_myanmar, by_universal}
 use Rattle.rustybuzz_shapers.proofs.Monotone.{circles_stay_monotone}
-use Rattle.shapers_breaks.specs.PauseBreaks.{AtMostOneRepha, PausesBreakLaw, SpanCut}
+use Rattle.shapers_breaks.specs.PauseBreaks.{PausesBreakLaw, SpanCut}
 use Rattle.shapers_breaks.specs.ScriptBreaks.{MyanmarHasNoRepha, PausesBreakBy, UniversalPausesBreak}
 use Rattle.shapers_breaks.proofs.CircledBorders.{circled_is, length-paused, opened_piece}
 use Rattle.shapers_breaks.proofs.PauseBreaks.{as_many, front_is, length-moved, pause_cut, pauses_break_by, text_cut}

@@ -15,6 +15,7 @@ use Rattle.shapers_buffer.specs.declared.buffer.glyph.hb_glyph_info_t.{hb_glyph_
 use Rattle.shapers_buffer.specs.declared.buffer.level.BufferClusterLevel.TheVariants.{Characters, MonotoneCharacters, MonotoneGraphemes}
 use Rattle.shapers_buffer.specs.Buffer.{Buffer, new_buffer}
 use Rattle.shapers_buffer.specs.Glyph.{characters, clusters, default_glyph, default_position}
+use Rattle.shapers_buffer.specs.Properties.{general_category, properties}
 use Rattle.shapers_clusters.specs.Breaks.{IsClear}
 use Rattle.shapers_hangul.specs.Hangul.{preprocessed, text_rewritten}
 use Rattle.shapers_stretch.specs.Stretch.{marks_stretched}
@@ -22,7 +23,6 @@ use Rattle.shapers_text.specs.ThaiForms.{preprocessed_flagged, preprocessed_text
 use Rattle.shapers_breaks.specs.HangulBreaks.{NarrowTonesJoin}
 use Rattle.shapers_breaks.specs.TextBreaks.{IsClusterBorder, back_half, front_half}
 use Rattle.shapers_breaks.specs.ThaiBreaks.{ThaiMarksJoin, sara_ams_taken}
-use Rattle.shapers_buffer.specs.Properties.{properties}
 
 abbrev glyph : ℕ → ℕ → hb_glyph_info_t
 glyph u c = record default_glyph { glyph_id = u; cluster = c }
@@ -248,20 +248,25 @@ abbrev laid_at_80 : GlyphPosition
 laid_at_80 = record default_position { x_offset = negsuc 79 }
 
 row_line : (stretched_line (line 1 1)).positions ≡ wide (pos 55) ∷ wide (pos 140) ∷ laid_at_80 ∷ []
+unfolding general_category
 row_line = refl
 
 row_line_halves : (stretched_line (front_half 1 (line 1 1))).positions
     ++ (stretched_line (back_half 1 (line 1 1))).positions ≡ wide (pos 55) ∷ wide (pos 140) ∷ laid_at_80 ∷ []
+unfolding general_category
 row_line_halves = refl
 
 -- between letter and tile the greater cluster is flagged, and a break there would move the tile
 row_rising : map (λ (g : hb_glyph_info_t). g.mask) (stretched_line (line 1 2)).glyphs ≡ 0 ∷ 0 ∷ 3 ∷ []
+unfolding general_category
 row_rising = refl
 
 row_falling : map (λ (g : hb_glyph_info_t). g.mask) (stretched_line (line 2 1)).glyphs ≡ 0 ∷ 3 ∷ 0 ∷ []
+unfolding general_category
 row_falling = refl
 
 row_moved : map (λ (p : GlyphPosition). p.x_offset) (stretched_line (back_half 2 (line 1 2))).positions ≡ negsuc 149 ∷ []
+unfolding general_category
 row_moved = refl
 
 -- halves keep all else

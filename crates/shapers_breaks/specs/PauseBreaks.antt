@@ -16,6 +16,7 @@ use Rattle.shapers_syllabic.specs.Circles.{rephas_len}
 use Rattle.shapers_syllabic.specs.Reordering.{PauseReordered}
 use Rattle.shapers_syllabic.specs.ReorderingLaws.{MoveMerged, ReadsNoSerials, ReorderLaws, paused_clusters, paused_order}
 use Rattle.shapers_syllabic.specs.Syllabic.{unsafe_spans}
+use Rattle.rustybuzz_shapers.specs.Monotone.{AtMostOneRepha}
 
 -- A text cut between two of its spans, into halves that share no cluster, of which the first one,
 -- set up by its own spans, becomes the p glyphs before place p.
@@ -55,13 +56,6 @@ abbrev pub BreaksBetweenSpans : (hb_glyph_info_t → hb_glyph_info_t) →
 BreaksBetweenSpans view set_up made clusters_made spans old new =
     (p : ℕ) → 0 < p → p < length new → IsClear new p →
     BrokenBetweenSpans view set_up made clusters_made spans old new p
-
--- no syllable opens with two rephas, where circles open behind these: the second could be in a
--- greater cluster than the circle behind it
-abbrev pub AtMostOneRepha : Option DottedCircles → List hb_glyph_info_t → Type 0
-AtMostOneRepha None gs = Unit {0}
-AtMostOneRepha (Some rule) gs =
-    AllByRecursion (λ syllable. rephas_len rule.repha syllable ≤ 1) (syllables gs)
 
 -- A set-up and a reordering directly after it that moves only inside what it merges, whatever
 -- circles open between: where clusters rise or fall along the text, at the levels that merge, the

@@ -19,8 +19,9 @@ use Rattle.shapers_syllabic.specs.Syllabic.{unsafe_spans}
 use Rattle.shapers_universal.specs.PlanData.{arabic_of}
 use Rattle.shapers_universal.specs.UniversalLaws.{set_up_by_spans, without_serial_or_forms}
 use Rattle.shapers_universal.specs.UniversalSyllables.{all_forms, form_masks}
+use Rattle.rustybuzz_shapers.specs.Monotone.{AtMostOneRepha}
 use Rattle.rustybuzz_shapers.specs.Pauses.{Paused, Reordering, by_myanmar, by_universal}
-use Rattle.shapers_breaks.specs.PauseBreaks.{AtMostOneRepha, BreaksBetweenSpans}
+use Rattle.shapers_breaks.specs.PauseBreaks.{BreaksBetweenSpans}
 
 -- what the laws require of a text and its spans: spans of kinds up to 15 that cover it, clusters
 -- that rise or fall along it, and a level that merges

@@ -20,10 +20,11 @@ use Rattle.shapers_universal.specs.PlanData.{arabic_of}
 use Rattle.shapers_universal.specs.UniversalCuts.{formless_for}
 use Rattle.shapers_universal.specs.UniversalLaws.{set_up_by_spans, without_serial_or_forms}
 use Rattle.shapers_universal.specs.UniversalSyllables.{forms_flagged}
+use Rattle.rustybuzz_shapers.specs.Monotone.{AtMostOneRepha}
 use Rattle.rustybuzz_shapers.specs.Pauses.{PauseKeeps, Paused, by_universal}
 use Rattle.shapers_breaks.specs.ChainBreaks.{IsSpanned, LookedUp, MadeOfHalves}
 use Rattle.shapers_breaks.specs.KeptTextBreaks.{FlagsKept}
-use Rattle.shapers_breaks.specs.PauseBreaks.{AtMostOneRepha, BreaksBetweenSpans}
+use Rattle.shapers_breaks.specs.PauseBreaks.{BreaksBetweenSpans}
 use Rattle.shapers_breaks.specs.ScriptBreaks.{CanBreak, FormsOffFlags}
 
 -- what spans set up of glyphs under a plan: masks of forms, and what the plan's choice flags

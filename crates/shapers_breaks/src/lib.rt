@@ -207,11 +207,11 @@ pub fn indic_breaks_law()
     final_text_laws();
 }
 
-/// Each shaper's text may be broken at every clear place, over the chain of its hooks and pauses, with
-/// anything in between and behind them that leaves the pieces' results side by side: what becomes of
-/// each piece by itself is what became of it in the text. The pauses are those of the shaper's own
-/// lists; those that change glyph by glyph leave results so, too, and so does one such thing behind
-/// another.
+/// Each shaper's text may be broken at every clear place: what becomes of each piece by itself is what
+/// became of it in the text. Pauses that change glyph by glyph leave the pieces' results side by side,
+/// and so does one such thing behind another. The law is of the whole chain of a shaper's hooks and
+/// pauses, those of its own lists, with anything in between that leaves results so, and such things
+/// behind them, but behind Indic's final reordering and the universal one.
 pub fn shapers_break_law()
     ensures laws { ShapersBreakLaw }
     ensures pauses { PausesAreListed }

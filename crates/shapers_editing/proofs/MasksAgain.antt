@@ -3,6 +3,7 @@ use Rattle.std.proofs.Common.{◌≡◌, ℕ, ◌∙◌, Bool, List, [], ◌∷�
 use Rattle.std.specs.Prelude.{slice_index}
 use Rattle.shapers_buffer.specs.Buffer.{Buffer, flags_concat, flags_tatweel, has_flag}
 use Rattle.shapers_buffer.specs.Glyph.{clusters}
+use Rattle.shapers_buffer.specs.Properties.{general_category}
 use Rattle.shapers_buffer.specs.GlyphFlags.{flags_called, with_bits}
 use Rattle.shapers_buffer.specs.declared.buffer.category.hb_unicode_general_category_t.{hb_unicode_general_category_t}
 use Rattle.shapers_buffer.specs.declared.buffer.flags.BufferFlags.{BufferFlags}
@@ -27,7 +28,6 @@ use Rattle.rustybuzz_shapers.specs.Again.{MasksOnce}
 use Rattle.rustybuzz_shapers.specs.declared.shaper.hb_ot_shaper_t.TheVariants.{Arabic, Hangul, Hebrew, Indic, Khmer, Myanmar, MyanmarZawgyi, Thai, Universal}
 use Rattle.shapers_editing.specs.MasksAgain.{MasksSetOnce}
 use Rattle.shapers_editing.proofs.AddedBits.{ors, flags-pass, flags-twice}
-use Rattle.shapers_buffer.specs.Properties.{general_category}
 
 abbrev flags_called_by : Bool → Bool → BreakFlags → Option Script → Text → List hb_glyph_info_t → List hb_glyph_info_t
 flags_called_by concat tatweel breaks script text = flags_called concat tatweel (flag_calls breaks script text)

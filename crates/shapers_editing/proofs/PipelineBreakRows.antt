@@ -1,5 +1,5 @@
 -- Lookups, notes, pauses and pieces of small texts, written out from what the law of the whole pipeline needs.
-use Rattle.std.proofs.Common.{ℕ, ◌≡◌, [], ◌∷◌, refl, sym, subst, arith, inl}
+use Rattle.std.proofs.Common.{ℕ, ◌≡◌, [], ◌∷◌, refl, sym, ap, subst, arith, inl}
 use Rattle.shapers_arabic.specs.Breaks.{back_at, front_at}
 use Rattle.shapers_base.specs.Font.{Font}
 use Rattle.shapers_base.specs.declared.plan.hb_ot_shape_plan_t.{hb_ot_shape_plan_t}
@@ -7,13 +7,14 @@ use Rattle.shapers_base.specs.declared.plan.pause.Pause.TheVariants.{ArabicFallb
 use Rattle.shapers_buffer.specs.Buffer.{Buffer, new_buffer}
 use Rattle.shapers_buffer.specs.Glyph.{default_glyph}
 use Rattle.shapers_buffer.specs.declared.buffer.glyph.hb_glyph_info_t.{hb_glyph_info_t}
+use Rattle.shapers_buffer.specs.declared.buffer.glyph_props.GlyphProps.{GlyphProps}
 use Rattle.shapers_breaks.specs.Pieces.{SameButFlags}
 use Rattle.shapers_pipeline.specs.Lookups.{text_noted}
 use Rattle.shapers_pipeline.specs.Prepared.{Preparation, text_in_fractions, text_prepared}
 use Rattle.shapers_editing.specs.PipelineBreaks.{CutBufferWhereClear, LookupsLeavePieces, NotesReadOrder, PauseLeaves, glyphs_made}
 
 -- what is made from the fractions on is what preparation makes, with its notes
-row_whole : (p : Preparation) (noted : hb_glyph_info_t → ℕ) (b : Buffer)
+row_whole : (p : Preparation) (noted : hb_glyph_info_t → GlyphProps) (b : Buffer)
     → text_noted noted (text_prepared p b) ≡ glyphs_made p noted (text_in_fractions p b)
 row_whole p noted b = refl
 
@@ -28,23 +29,27 @@ row_idle lookup b none front back cut = record {
 }
 
 -- notes of glyph numbers, as classes are, and notes of clusters, of glyph flags and of serials
-row_numbers : NotesReadOrder (λ g. g.glyph_id)
+noting : (hb_glyph_info_t → ℕ) → hb_glyph_info_t → GlyphProps
+noting f g = record { 0 = f g }
+
+row_numbers : NotesReadOrder (noting (λ g. g.glyph_id))
+unfolding noting
 row_numbers = record { viewed = λ g. refl; counted = λ g. refl }
 
 glyph : ℕ → ℕ → ℕ → hb_glyph_info_t
 glyph c m byte = record default_glyph { cluster = c; mask = m; syllable = byte }
 
-row_clusters : NotesReadOrder (λ g. g.cluster) → ⊥
-unfolding glyph
-row_clusters notes = absurd (omega (arith, notes.viewed (glyph 1 0 0)))
+row_clusters : NotesReadOrder (noting (λ g. g.cluster)) → ⊥
+unfolding glyph noting
+row_clusters notes = absurd (omega (arith, ap (λ (p : GlyphProps). p.0) (notes.viewed (glyph 1 0 0))))
 
-row_flags : NotesReadOrder (λ g. g.mask) → ⊥
-unfolding glyph
-row_flags notes = absurd (omega (arith, notes.viewed (glyph 0 1 0)))
+row_flags : NotesReadOrder (noting (λ g. g.mask)) → ⊥
+unfolding glyph noting
+row_flags notes = absurd (omega (arith, ap (λ (p : GlyphProps). p.0) (notes.viewed (glyph 0 1 0))))
 
-row_serials : NotesReadOrder (λ g. g.syllable) → ⊥
-unfolding glyph
-row_serials notes = absurd (omega (arith, notes.counted (glyph 0 0 0x12)))
+row_serials : NotesReadOrder (noting (λ g. g.syllable)) → ⊥
+unfolding glyph noting
+row_serials notes = absurd (omega (arith, ap (λ (p : GlyphProps). p.0) (notes.counted (glyph 0 0 0x12))))
 
 -- the pauses that need no premise
 row_pauses : (plan : hb_ot_shape_plan_t) (font : Font) (old new : Buffer) → PauseLeaves plan font RecordStch old new

@@ -11,7 +11,9 @@ use Rattle.shapers_base.specs.declared.plan.pause.Pause.{Pause}
 use Rattle.shapers_base.specs.declared.plan.pause.Pause.TheVariants.{SetupSyllablesIndic, SetupSyllablesKhmer, SetupSyllablesMyanmar, InitialReordering, ReorderKhmer, ReorderMyanmar}
 use Rattle.shapers_buffer.specs.Buffer.{Buffer}
 use Rattle.shapers_buffer.specs.Glyph.{plain}
+use Rattle.shapers_buffer.specs.Properties.{no_ligature}
 use Rattle.shapers_buffer.specs.declared.buffer.glyph.hb_glyph_info_t.{hb_glyph_info_t}
+use Rattle.shapers_buffer.specs.declared.buffer.glyph_props.GlyphProps.{GlyphProps}
 use Rattle.shapers_buffer.specs.declared.buffer.syllables.Span.{Span}
 use Rattle.shapers_clusters.specs.Breaks.{IsClear}
 use Rattle.shapers_clusters.proofs.FlagLaw.{added_same}
@@ -281,27 +283,28 @@ masked_positions (Some Universal) plan tables b =
     ]
 
 -- GLYPHS of characters, with their notes
-noted_glyph : (hb_glyph_info_t → ℕ) → hb_glyph_info_t → hb_glyph_info_t
+noted_glyph : (hb_glyph_info_t → GlyphProps) → hb_glyph_info_t → hb_glyph_info_t
 noted_glyph noted g = with_note noted (as_glyph g)
 
-reads_notes : (noted : hb_glyph_info_t → ℕ) → NotesReadOrder noted → ReadsOrder (noted_glyph noted)
-unfolding noted_glyph
+noted_as : hb_glyph_info_t → GlyphProps → hb_glyph_info_t
+noted_as g props = record g { glyph_props = props; lig_props = no_ligature }
+
+reads_notes : (noted : hb_glyph_info_t → GlyphProps) → NotesReadOrder noted → ReadsOrder (noted_glyph noted)
+unfolding noted_glyph noted_as
 reads_notes noted notes = record {
   added = λ g. added_same g (noted_glyph noted g) refl refl;
   byte = λ g. refl;
   viewed = λ g.
       ap (λ (k : ℕ). let r : hb_glyph_info_t = record (noted_glyph noted g) { cluster = 0; mask = k } in r)
       (sym (flags-twice g.mask))
-      ∙ ap (λ (v : ℕ). let r : hb_glyph_info_t = record (plain (as_glyph (plain g))) { var = v } in r)
-      (notes.viewed (as_glyph g));
+      ∙ ap (noted_as (plain (as_glyph (plain g)))) (notes.viewed (as_glyph g));
   counted = λ g.
       ap (λ (k : ℕ). let r : hb_glyph_info_t = record (plain (noted_glyph noted g)) { syllable = k } in r)
       (sym (kind-twice g.syllable))
-      ∙ ap (λ (v : ℕ). let r : hb_glyph_info_t = record (unnumbered (plain (as_glyph (unnumbered g)))) { var = v } in r)
-      (notes.counted (as_glyph g));
+      ∙ ap (noted_as (unnumbered (plain (as_glyph (unnumbered g))))) (notes.counted (as_glyph g));
 }
 
-made_is : (p : Preparation) (noted : hb_glyph_info_t → ℕ) → p.ranges ≡ [] → (b : Buffer)
+made_is : (p : Preparation) (noted : hb_glyph_info_t → GlyphProps) → p.ranges ≡ [] → (b : Buffer)
     → (glyphs_made p noted b).glyphs ≡ map (noted_glyph noted) (masks_set_for p.shaper p.plan p.tables b).glyphs
 unfolding noted_glyph
 made_is p noted none b =

@@ -7,6 +7,7 @@ use Rattle.std.specs.List.{AllByRecursion, AllPairs, Contains, count_by, list_al
 use Rattle.std.proofs.lemmas.List.Elements.{All-from_recursion}
 use Rattle.std.proofs.lemmas.List.Sums.{sum_by-cons}
 use Rattle.std.proofs.lemmas.List.Kept.{AllPairs-cons}
+use Rattle.rustybuzz_shapers.proofs.Monotone.{all_weaker}
 use Rattle.shapers_editing.specs.Carets.{lesser, intervals, has_place}
 
 -- membership, by recursion
@@ -89,10 +90,6 @@ lesser-reaches (x ∷ cs) c i =
 pub reached : (cs : List ℕ) (c p : ℕ) → Contains cs c → c ≤ p → IsReached (lesser cs) p
 reached cs c p i l = reaches-up (lesser cs) c p l (lesser-reaches cs c (contains-in cs c i))
 
-weaker : (P Q : ℕ → Type 0) → ((x : ℕ) → P x → Q x) → (xs : List ℕ) → AllByRecursion P xs → AllByRecursion Q xs
-weaker P Q f [] a = tt
-weaker P Q f (x ∷ xs) a = (f x a.0, weaker P Q f xs a.1)
-
 least-first : (c : ℕ) (cs : List ℕ) (d : ℕ) → AllPairs (λ a b. a ≤ b) (c ∷ cs) → In cs d → c ≤ d
 least-first c cs d r i =
     let (k, l, e) = in-contains cs d i in
@@ -107,7 +104,7 @@ each-lesser (c ∷ cs) r =
     let rest = each-lesser cs later in
     elim (list_all (λ d. nat_lt c d) cs) as (λ b. list_all (λ d. nat_lt c d) cs ≡ b → AllByRecursion
     (In (cond b (c ∷ lesser cs) (lesser cs))) (c ∷ cs)) [
-      | true ↦ λ h. (inl refl, weaker (In (lesser cs)) (In (c ∷ lesser cs)) (λ x i. inr i) cs rest)
+      | true ↦ λ h. (inl refl, all_weaker (In (lesser cs)) (In (c ∷ lesser cs)) (λ x i. inr i) cs rest)
       | false ↦ λ h.
           let (d, i, l) = some-below c cs h in
           let above : c ≤ d = least-first c cs d r i in

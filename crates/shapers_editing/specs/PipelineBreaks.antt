@@ -8,6 +8,7 @@ use Rattle.shapers_base.specs.declared.plan.pause.Pause.TheVariants.{InitialReor
 use Rattle.shapers_buffer.specs.Buffer.{Buffer}
 use Rattle.shapers_buffer.specs.Glyph.{plain}
 use Rattle.shapers_buffer.specs.declared.buffer.glyph.hb_glyph_info_t.{hb_glyph_info_t}
+use Rattle.shapers_buffer.specs.declared.buffer.glyph_props.GlyphProps.{GlyphProps}
 use Rattle.shapers_buffer.specs.declared.buffer.syllables.Span.{Span}
 use Rattle.shapers_clusters.specs.Breaks.{IsClear}
 use Rattle.shapers_syllabic.specs.Borders.{unnumbered}
@@ -88,19 +89,19 @@ MasksSetInPieces = (shaper : Option hb_ot_shaper_t) (plan : hb_ot_shape_plan_t)
     MasksInPieces shaper plan tables b
 
 -- what the lookups keep beside a glyph doesn't depend on its cluster, glyph flags or serial
-pub record NotesReadOrder (noted : hb_glyph_info_t → ℕ) : Type 0 where
+pub record NotesReadOrder (noted : hb_glyph_info_t → GlyphProps) : Type 0 where
   pub viewed : (g : hb_glyph_info_t) → noted g ≡ noted (plain g)
   pub counted : (g : hb_glyph_info_t) → noted g ≡ noted (unnumbered g)
 
 -- A text from its fractions on: its masks, glyphs and notes.
-abbrev pub glyphs_made : Preparation → (hb_glyph_info_t → ℕ) → Buffer → Buffer
+abbrev pub glyphs_made : Preparation → (hb_glyph_info_t → GlyphProps) → Buffer → Buffer
 glyphs_made p noted b =
     let masked = masks_set_for p.shaper p.plan p.tables b in
     let featured = map (with_features p.ranges) masked.glyphs in
     text_noted noted (record masked { glyphs = map as_glyph featured })
 
 -- what the law of the whole pipeline needs of it, besides its pauses: no features in ranges
-pub record LeavesAllPieces (p : Preparation) (noted : hb_glyph_info_t → ℕ) (r : Substitution)
+pub record LeavesAllPieces (p : Preparation) (noted : hb_glyph_info_t → GlyphProps) (r : Substitution)
     (old : Buffer) : Type 0 where
   pub no_ranges : p.ranges ≡ []
   pub masks : MasksInPieces p.shaper p.plan p.tables old
@@ -112,7 +113,7 @@ pub record LeavesAllPieces (p : Preparation) (noted : hb_glyph_info_t → ℕ) (
 -- A text from its fractions on, up to the last stage, may be broken at every clear place: what
 -- becomes of each piece by itself is what became of it in the text.
 abbrev pub PipelineBreaks : Type 0
-PipelineBreaks = (p : Preparation) (noted : hb_glyph_info_t → ℕ) (r : Substitution)
+PipelineBreaks = (p : Preparation) (noted : hb_glyph_info_t → GlyphProps) (r : Substitution)
     (ss : List Stage) (old new : Buffer) → LeavesAllPieces p noted r old →
     (run : StagesRun r ss (glyphs_made p noted old) new) →
     AtPauses (PauseLeaves r.plan r.font) r ss (glyphs_made p noted old) new run →
@@ -134,7 +135,7 @@ PreparedInPieces p old = (front back : Buffer) →
 
 -- the same from a text's characters on
 abbrev pub ShapingBreaks : Type 0
-ShapingBreaks = (p : Preparation) (noted : hb_glyph_info_t → ℕ) (r : Substitution)
+ShapingBreaks = (p : Preparation) (noted : hb_glyph_info_t → GlyphProps) (r : Substitution)
     (ss : List Stage) (old new : Buffer) → PreparedInPieces p old →
     LeavesAllPieces p noted r (text_in_fractions p old) →
     (run : StagesRun r ss (text_noted noted (text_prepared p old)) new) →

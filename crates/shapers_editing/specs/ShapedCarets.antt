@@ -2,6 +2,7 @@
 use Rattle.std.specs.Prelude.{ℕ, ◌≡◌, ◌<◌, ◌⊎◌, true, List, []}
 use Rattle.std.specs.List.{All, Contains}
 use Rattle.shapers_buffer.specs.declared.buffer.glyph.hb_glyph_info_t.{hb_glyph_info_t}
+use Rattle.shapers_buffer.specs.declared.buffer.glyph_props.GlyphProps.{GlyphProps}
 use Rattle.shapers_buffer.specs.declared.buffer.level.Direction.{Direction}
 use Rattle.shapers_buffer.specs.declared.buffer.level.Direction.TheVariants.{LeftToRight, RightToLeft}
 use Rattle.shapers_buffer.specs.Buffer.{Buffer}
@@ -38,7 +39,7 @@ EachStopsOneWay gs =
 -- behind the lookups, mid, and to those with positions. Where each pause keeps clusters rising or
 -- falling, at the levels that merge, each cluster is a stop.
 abbrev pub ShapedTextHasCarets : Type 0
-ShapedTextHasCarets = (p : Preparation) (noted : hb_glyph_info_t → ℕ) (r : Substitution)
+ShapedTextHasCarets = (p : Preparation) (noted : hb_glyph_info_t → GlyphProps) (r : Substitution)
     (ss : List Stage) (q : Positioning) (wanted : Direction) (old mid : Buffer) (end : ℕ) →
     LookupsKeep r.substituted → PositionsKeep q → (text_prepared p old).positions ≡ [] →
     (run : StagesRun r ss (text_noted noted (text_prepared p old)) mid) →
