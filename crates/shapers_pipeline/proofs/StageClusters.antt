@@ -12,11 +12,11 @@ use Rattle.shapers_clusters.specs.Cuts.{IsMonotone}
 use Rattle.shapers_syllabic.specs.Circles.{circled}
 use Rattle.shapers_syllabic.specs.declared.ot_shaper_syllabic.circles.DottedCircles.{DottedCircles}
 use Rattle.rustybuzz_shapers.specs.Apart.{PausesMakeNoCluster}
-use Rattle.rustybuzz_shapers.specs.Monotone.{CirclesStayMonotone, PausesStayMonotone, StaysMonotone}
+use Rattle.rustybuzz_shapers.specs.Monotone.{AtMostOneRepha, CirclesStayMonotone, PausesStayMonotone, StaysMonotone}
 use Rattle.rustybuzz_shapers.specs.Pauses.{pause_circles}
 use Rattle.shapers_plan.specs.declared.ot_map.lookups.Stage.{Stage}
 use Rattle.shapers_plan.specs.declared.ot_map.lookups.StageLookup.{StageLookup}
-use Rattle.shapers_pipeline.specs.ClusterLaws.{AtPauses, IfPaused, LookupsKeep, NoneMade, OpensWithOne, PauseSorts, StagesKeepClusters, StayMonotone}
+use Rattle.shapers_pipeline.specs.ClusterLaws.{AtPauses, IfPaused, LookupsKeep, NoneMade, PauseSorts, StagesKeepClusters, StayMonotone}
 use Rattle.shapers_pipeline.specs.Lookups.{looked_up, lookups_of_stage}
 use Rattle.shapers_pipeline.specs.Stages.{PauseRun, PauseRunIf, StageRun, StagesRun, Substitution, stage_looked_up}
 use Rattle.shapers_pipeline.proofs.ClustersKept.{itself, none_then}
@@ -82,7 +82,7 @@ mono_of : (cs js : List ℕ) → StaysMonotone cs js → IsMonotone cs → IsMon
 mono_of cs js stays (inl up) = inl (stays.0 up)
 mono_of cs js stays (inr down) = inr (stays.1 down)
 
-circles_sort : CirclesStayMonotone → (o : Option DottedCircles) (gs : List hb_glyph_info_t) → OpensWithOne o gs
+circles_sort : CirclesStayMonotone → (o : Option DottedCircles) (gs : List hb_glyph_info_t) → AtMostOneRepha o gs
     → IsMonotone (clusters gs) → IsMonotone (clusters (circled o gs))
 circles_sort law None gs one rises = rises
 circles_sort law (Some rule) gs one rises = mono_of (clusters gs) (clusters (circled (Some rule) gs))

@@ -24,7 +24,8 @@ use Rattle.shapers_buffer.specs.declared.buffer.refusal.ShaperError.{ShaperError
 use Rattle.shapers_buffer.specs.declared.buffer.refusal.ShaperError.TheVariants.{Memory, TooLong, UnknownSyllable, SpansDontCover, StretchOverflow}
 use Rattle.shapers_buffer.specs.declared.buffer.syllables.Span.{Span}
 use Rattle.shapers_clusters.specs.FlagLaw.{FlagsAdded, OnlyFlagsAdded}
-use Rattle.shapers_syllabic.specs.Circles.{circled, is_of_kind}
+use Rattle.rustybuzz_shapers.proofs.Lengths.{few_circles}
+use Rattle.shapers_syllabic.specs.Circles.{circled}
 use Rattle.shapers_syllabic.specs.declared.ot_shaper_syllabic.circles.DottedCircles.{DottedCircles}
 use Rattle.shapers_syllabic.proofs.CircleLaws.{joined-syllables, length-with_circles}
 use Rattle.shapers_plan.specs.declared.ot_map.lookups.Stage.{Stage}
@@ -117,27 +118,6 @@ looked_long f growth keeps grows (x ∷ xs) b none =
     )
 
 -- ---- pauses
-
-at_most_one : (b : Bool) → cond b 1 0 ≤ 1
-at_most_one true = omega arith
-at_most_one false = omega arith
-
-broken_has_some : (kind : ℕ) (piece : List hb_glyph_info_t) → cond (is_of_kind kind piece) 1 0 ≤ length piece
-broken_has_some kind [] = omega arith
-broken_has_some kind (g ∷ gs) = let one = at_most_one (is_of_kind kind (g ∷ gs)) in omega (arith, one)
-
-few_broken : (kind : ℕ) (pieces : List (List hb_glyph_info_t)) → count_by (is_of_kind kind) pieces
-    ≤ length (flat_map (λ piece. piece) pieces)
-few_broken kind [] = omega arith
-few_broken kind (piece ∷ pieces) =
-    let more = sum_by-cons (λ (p : List hb_glyph_info_t). cond (is_of_kind kind p) 1 0) piece pieces in
-    let joined = length-append piece (flat_map (λ p. p) pieces) in
-    omega (arith, more, joined, broken_has_some kind piece, few_broken kind pieces)
-
-few_circles : (circles : Option DottedCircles) (gs : List hb_glyph_info_t) → broken_in circles gs ≤ length gs
-few_circles None gs = omega arith
-few_circles (Some rule) gs =
-    omega (arith, few_broken rule.broken_kind (syllables gs), ap length (joined-syllables gs))
 
 -- with its circles
 circled_twice : (circles : Option DottedCircles) (gs ms : List hb_glyph_info_t) →

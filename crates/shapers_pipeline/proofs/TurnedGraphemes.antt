@@ -25,6 +25,7 @@ use Rattle.shapers_prepare.specs.GraphemeLaws.{GraphemesCover, NoGraphemeSplits}
 use Rattle.shapers_prepare.specs.Graphemes.{clusters_formed, continuations, graphemes, graphemes_from}
 use Rattle.shapers_prepare.specs.NativeDirection.{graphemes_turned, graphemes_whole}
 use Rattle.shapers_pipeline.proofs.ClustersKept.{Kept, kept_then, same, turned}
+use Rattle.rustybuzz_shapers.proofs.Monotone.{all_from}
 
 -- ---- graphemes as stretches: each ends within the text, and begins before it ends
 
@@ -146,10 +147,6 @@ reversed_one m (k ∷ ks) own =
     reverse-append (k ∷ []) ks ∙ ap (λ l. l ++ k ∷ []) (reversed_one m ks own.1) ∙ ap (λ j. ks ++ j ∷ []) own.0
     ∙ pushed m ks own.1 ∙ ap (λ j. j ∷ ks) (sym own.0)
 
-all_at : (P : ℕ → Type 0) (ks : List ℕ) → ((j : ℕ) → j < length ks → P (get_or ks j 0)) → AllByRecursion P ks
-all_at P [] own = tt
-all_at P (k ∷ ks) own = (own 0 (omega arith), all_at P ks (λ j lt. own (suc j) (omega (arith, lt))))
-
 part_reversed : (gs : List hb_glyph_info_t) (st : ℕ × ℕ) → OneFrom (clusters gs) st.0 st.1 → reverse
     (clusters (stretch_of st.0 st.1 gs)) ≡ clusters (stretch_of st.0 st.1 gs)
 part_reversed gs st one =
@@ -160,7 +157,7 @@ part_reversed gs st one =
     let is : clusters (stretch_of s e gs) ≡ part = map-stretch (λ g. g.cluster) s e gs in
     let short : length part ≤ e - s = omega (arith, length-take (e - s) (drop s cs)) in
     let all : AllByRecursion (λ k. k ≡ get_or cs s 0) part =
-    all_at (λ k. k ≡ get_or cs s 0) part (λ j lt. get_or-stretch s e j 0 cs (omega (arith, lt, short)) ∙ one (s + j)
+    all_from (λ k. k ≡ get_or cs s 0) part (λ j lt. get_or-stretch s e j 0 cs (omega (arith, lt, short)) ∙ one (s + j)
     (omega arith) (omega (arith, lt, short))) in
     subst (λ ks. reverse ks ≡ ks) (sym is) (reversed_one (get_or cs s 0) part all)
 

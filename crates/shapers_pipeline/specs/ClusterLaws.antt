@@ -1,20 +1,17 @@
 -- What becomes of a text's clusters on the way from its characters to its glyphs.
 use Rattle.std.specs.Prelude.{ℕ, ◌≡◌, ◌≤◌, ◌⊎◌, true, false, List, [], ◌∷◌, Option, None, Some}
-use Rattle.std.specs.List.{AllByRecursion}
 use Rattle.shapers_base.specs.Font.{Font}
 use Rattle.shapers_base.specs.declared.plan.hb_ot_shape_plan_t.{hb_ot_shape_plan_t}
 use Rattle.shapers_base.specs.declared.plan.pause.Pause.{Pause}
 use Rattle.shapers_buffer.specs.Buffer.{Buffer}
 use Rattle.shapers_buffer.specs.Clusters.{merges}
 use Rattle.shapers_buffer.specs.Glyph.{clusters}
-use Rattle.shapers_buffer.specs.Syllables.{syllables}
 use Rattle.shapers_buffer.specs.declared.buffer.glyph.hb_glyph_info_t.{hb_glyph_info_t}
 use Rattle.shapers_buffer.specs.declared.buffer.glyph_props.GlyphProps.{GlyphProps}
 use Rattle.shapers_clusters.specs.Cuts.{IsMonotone}
 use Rattle.shapers_syllabic.specs.CircleLaws.{NoNewCluster}
-use Rattle.shapers_syllabic.specs.Circles.{rephas_len}
 use Rattle.shapers_syllabic.specs.declared.ot_shaper_syllabic.circles.DottedCircles.{DottedCircles}
-use Rattle.rustybuzz_shapers.specs.Monotone.{reorders_indic}
+use Rattle.rustybuzz_shapers.specs.Monotone.{AtMostOneRepha, reorders_indic}
 use Rattle.rustybuzz_shapers.specs.Pauses.{pause_circles}
 use Rattle.shapers_plan.specs.declared.ot_map.lookups.Stage.{Stage}
 use Rattle.shapers_plan.specs.declared.ot_map.lookups.StageLookup.{StageLookup}
@@ -39,17 +36,11 @@ PreparationKeepsClusters = (p : Preparation) (noted : hb_glyph_info_t → GlyphP
     NoneMade b (text_noted noted (text_prepared p b))
     × StayMonotone b (text_noted noted (text_prepared p b))
 
--- no syllable opens with two rephas, where circles come behind these
-abbrev pub OpensWithOne : Option DottedCircles → List hb_glyph_info_t → Type 0
-OpensWithOne None gs = Unit {0}
-OpensWithOne (Some rule) gs =
-    AllByRecursion (λ syllable. rephas_len rule.repha syllable ≤ 1) (syllables gs)
-
 -- A pause that keeps clusters rising or falling in this text: it is no reordering of Indic, and
 -- its circles come behind one repha at most; or it keeps them so this time.
 abbrev pub PauseSorts : hb_ot_shape_plan_t → Font → Pause → Buffer → Buffer → Type 0
 PauseSorts plan font pause old new =
-    ((reorders_indic pause ≡ false) × OpensWithOne (pause_circles pause plan font old) old.glyphs)
+    ((reorders_indic pause ≡ false) × AtMostOneRepha (pause_circles pause plan font old) old.glyphs)
     ⊎ StayMonotone old new
 
 -- of the pause of a stage, if it has one, and of those of all stages, each from its text to the
