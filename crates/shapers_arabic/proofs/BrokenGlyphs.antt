@@ -11,6 +11,7 @@ use Rattle.std.proofs.lemmas.Simd.{map-map}
 use Rattle.std.proofs.lemmas.Slice.Zip.{length-zip}
 use Rattle.shapers_buffer.specs.Buffer.{Buffer, flags_concat, flags_tatweel, has_flag}
 use Rattle.shapers_buffer.specs.Glyph.{clusters, plain, order_view}
+use Rattle.shapers_buffer.specs.Properties.{general_category}
 use Rattle.shapers_buffer.specs.declared.buffer.category.hb_unicode_general_category_t.{hb_unicode_general_category_t}
 use Rattle.shapers_buffer.specs.declared.buffer.flags.BufferFlags.{BufferFlags}
 use Rattle.shapers_buffer.specs.declared.buffer.glyph.hb_glyph_info_t.{hb_glyph_info_t}
@@ -36,7 +37,6 @@ use Rattle.shapers_arabic.proofs.JoiningLaws.{length-forms_of}
 use Rattle.shapers_arabic.proofs.JoiningLists.{length-forms}
 use Rattle.shapers_arabic.proofs.Selectors.{selected-halves}
 use Rattle.shapers_arabic.proofs.SoundOrder.{calls-in_order}
-use Rattle.shapers_buffer.specs.Properties.{general_category}
 
 -- flags don't show in the order view
 pub view-joined : (breaks : BreakFlags) (masks : List ℕ) (flags : BufferFlags) (script : Option Script) (text : Text)

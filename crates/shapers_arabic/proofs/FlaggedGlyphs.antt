@@ -8,6 +8,7 @@ use Rattle.std.proofs.lemmas.Bool.{eq-eqb, ne_eqb}
 use Rattle.std.proofs.lemmas.List.{get_or-map, length-map}
 use Rattle.shapers_buffer.specs.Buffer.{has_flag}
 use Rattle.shapers_buffer.specs.GlyphFlags.{FlagCall, UnsafeToConcat, SafeToInsertTatweel, flags_called, unsafe_to_concat_in, tatweel_inside}
+use Rattle.shapers_buffer.specs.Properties.{general_category}
 use Rattle.shapers_buffer.specs.declared.buffer.flags.BufferFlags.{BufferFlags}
 use Rattle.shapers_buffer.specs.declared.buffer.glyph.hb_glyph_info_t.{hb_glyph_info_t}
 use Rattle.shapers_buffer.proofs.MappedLists.{map-hidden}
@@ -20,7 +21,6 @@ use Rattle.shapers_arabic.specs.declared.ot_shaper_arabic.arabic_action_t.TheCon
 use Rattle.shapers_arabic.specs.Joining.{resolved}
 use Rattle.shapers_arabic.specs.JoinedText.{stored_types, AreCharacters}
 use Rattle.shapers_arabic.specs.JoiningWalk.{FlaggedBy, SameText, IsWithin, given_flags, given_last, unformed, unjoined}
-use Rattle.shapers_buffer.specs.Properties.{general_category}
 
 -- flags are those of the glyphs without their forms
 pub unformed-passes : PassesFlags unformed

@@ -3,6 +3,7 @@ use Rattle.std.proofs.Common.{◌≡◌, ℕ, zero, suc, List, [], ◌∷◌, �
 use Rattle.std.proofs.lemmas.List.{map-append, take-map, drop-map}
 use Rattle.shapers_buffer.specs.Buffer.{Buffer, flags_concat, flags_tatweel, has_flag}
 use Rattle.shapers_buffer.specs.Glyph.{plain, order_view}
+use Rattle.shapers_buffer.specs.Properties.{general_category}
 use Rattle.shapers_buffer.specs.declared.buffer.category.hb_unicode_general_category_t.{hb_unicode_general_category_t}
 use Rattle.shapers_buffer.specs.declared.buffer.flags.BufferFlags.{BufferFlags}
 use Rattle.shapers_buffer.specs.declared.buffer.glyph.hb_glyph_info_t.{hb_glyph_info_t}
@@ -15,7 +16,6 @@ use Rattle.shapers_arabic.specs.JoinedText.{Text, context_types, flag_calls, for
 use Rattle.shapers_arabic.proofs.BrokenGlyphs.{types_long, view-joined}
 use Rattle.shapers_arabic.proofs.JoiningLaws.{length-forms_of, text_long}
 use Rattle.shapers_arabic.proofs.SoundOrder.{calls-in_order}
-use Rattle.shapers_buffer.specs.Properties.{general_category}
 
 -- glyphs in their forms, cut at a place
 take-formed : (masks : List ℕ) (n : ℕ) (fs : List ℕ) (gs : List hb_glyph_info_t)

@@ -4,6 +4,7 @@ use Rattle.std.specs.Prelude.{slice_index}
 use Rattle.std.proofs.lemmas.List.{length-map}
 use Rattle.shapers_buffer.specs.Buffer.{Buffer, flags_concat, flags_tatweel, has_flag}
 use Rattle.shapers_buffer.specs.GlyphFlags.{flags_called}
+use Rattle.shapers_buffer.specs.Properties.{general_category}
 use Rattle.shapers_buffer.specs.declared.buffer.category.hb_unicode_general_category_t.{hb_unicode_general_category_t}
 use Rattle.shapers_buffer.specs.declared.buffer.glyph.hb_glyph_info_t.{hb_glyph_info_t}
 use Rattle.shapers_buffer.specs.declared.buffer.tag.Script.{Script}
@@ -16,7 +17,6 @@ use Rattle.shapers_arabic.specs.JoinedText.{flag_calls, forms_of, buffer_joined,
 use Rattle.shapers_base.specs.declared.plan.breaks.BreakFlags.{BreakFlags}
 use Rattle.shapers_arabic.proofs.SoundOrder.{calls-in_order}
 use Rattle.shapers_arabic.proofs.JoiningLaws.{length-forms_of, text_long}
-use Rattle.shapers_buffer.specs.Properties.{general_category}
 
 formed_added : (masks fs : List ℕ) (gs : List hb_glyph_info_t) → length fs ≡ length gs
     → OnlyFlagsAdded gs (with_joining_forms masks fs gs)

@@ -6,6 +6,7 @@ use Rattle.std.proofs.lemmas.Slice.Zip.{length-zip}
 use Rattle.std.specs.Option.{is_some}
 use Rattle.shapers_buffer.proofs.MappedLists.{map-reverse}
 use Rattle.shapers_buffer.specs.Buffer.{Buffer}
+use Rattle.shapers_buffer.specs.Properties.{general_category}
 use Rattle.shapers_buffer.specs.declared.buffer.category.hb_unicode_general_category_t.{hb_unicode_general_category_t}
 use Rattle.shapers_buffer.specs.declared.buffer.glyph.hb_glyph_info_t.{hb_glyph_info_t}
 use Rattle.shapers_buffer.specs.declared.buffer.tag.Script.{Script}
@@ -17,7 +18,6 @@ use Rattle.shapers_arabic.proofs.SoundOrder.{calls-in_order}
 use Rattle.shapers_arabic.proofs.JoinedGlyphs.{forms-joined}
 use Rattle.shapers_arabic.proofs.SelectedLists.{length-selected, selected-append, selected-same, zip-append}
 use Rattle.shapers_arabic.proofs.JoiningLists.{forms-contexts, length-forms, forms-append}
-use Rattle.shapers_buffer.specs.Properties.{general_category}
 
 -- so two texts before differ in the selectors that open the text alone
 pub selected-opening : (before others : List (ℕ × ℕ)) (cs fs : List ℕ)

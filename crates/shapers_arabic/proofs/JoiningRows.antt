@@ -2,6 +2,7 @@
 use Rattle.std.specs.Prelude.{◌≡◌, ℕ, List, [], ◌∷◌, length, map, replicate, Option, None, Some, true, false, codes, slice_index_or, ◌==◌, if◌then◌else◌, refl}
 use Rattle.shapers_buffer.specs.Buffer.{Buffer, new_buffer}
 use Rattle.shapers_buffer.specs.Glyph.{default_glyph}
+use Rattle.shapers_buffer.specs.Properties.{general_category, properties}
 use Rattle.shapers_buffer.specs.declared.buffer.category.hb_unicode_general_category_t.{hb_unicode_general_category_t}
 use Rattle.shapers_buffer.specs.declared.buffer.category.hb_unicode_general_category_t.TheVariants as gc
 use Rattle.shapers_buffer.specs.declared.buffer.glyph.hb_glyph_info_t.{hb_glyph_info_t}
@@ -13,7 +14,6 @@ use Rattle.shapers_arabic.specs.declared.ot_shaper_arabic.joining.TheConstants.{
 use Rattle.shapers_arabic.specs.JoiningWalk.{row_of}
 use Rattle.shapers_arabic.specs.Joining.{resolved, act, forms, is_selector}
 use Rattle.shapers_arabic.specs.JoinedText.{Text, is_mongolian, forms_of, context_look_ups, look_ups, opening, text_of, first_of, second_of}
-use Rattle.shapers_buffer.specs.Properties.{properties}
 
 -- the numbers of the forms
 numbers : ISOL ∷ FINA ∷ FIN2 ∷ FIN3 ∷ MEDI ∷ MED2 ∷ INIT ∷ NONE ∷ STRETCHING_FIXED ∷ STRETCHING_REPEATING ∷ []
@@ -177,11 +177,13 @@ buffer_of before gs after = let b : Buffer = record (new_buffer 9) { glyphs = gs
 x_stored_mark : forms_of None
     (text_of joining_of marks (buffer_of [] (glyph 1 gc.Lo ∷ glyph 3 gc.Mn ∷ glyph 1 gc.Lo ∷ []) []))
     ≡ INIT ∷ NONE ∷ FINA ∷ []
+unfolding general_category
 x_stored_mark = refl
 
 x_stored_letter : forms_of None
     (text_of joining_of marks (buffer_of [] (glyph 1 gc.Lo ∷ glyph 3 gc.Lo ∷ glyph 1 gc.Lo ∷ []) []))
     ≡ ISOL ∷ NONE ∷ ISOL ∷ []
+unfolding general_category
 x_stored_letter = refl
 
 x_in_context : forms_of None (text_of joining_of marks (buffer_of (3 ∷ 1 ∷ []) (glyph 1 gc.Lo ∷ []) (3 ∷ 3 ∷ 1 ∷ [])))

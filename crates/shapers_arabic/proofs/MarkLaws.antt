@@ -1,13 +1,16 @@
 -- The order of marks in a text: what merging leaves of the parts, and what the laws of steps say.
-use Rattle.std.proofs.Common.{◌≡◌, ℕ, zero, suc, ◌+◌, ◌-◌, ◌≤◌, Bool, List, [], ◌∷◌, ◌++◌, map, length, take, drop, refl, ap, sym, ◌∙◌, subst, arith, length-append, length-take, length-drop}
+use Rattle.std.proofs.Common.{◌≡◌, ℕ, zero, suc, ◌+◌, ◌-◌, ◌≤◌, Bool, true, false, if◌then◌else◌, List, [], ◌∷◌, ◌++◌, map, length, take, drop, refl, ap, sym, ◌∙◌, subst, arith, length-append, length-take, length-drop}
 use Rattle.std.specs.List.{prefix_len}
 use Rattle.std.proofs.lemmas.List.{length-map, take-map, drop-map, map-append}
 use Rattle.shapers_buffer.specs.declared.buffer.glyph.hb_glyph_info_t.{hb_glyph_info_t}
 use Rattle.shapers_buffer.specs.declared.buffer.level.BufferClusterLevel.{BufferClusterLevel}
 use Rattle.shapers_buffer.specs.declared.buffer.modified_combining_class.TheConstants.{CCC22, CCC26}
+use Rattle.shapers_buffer.specs.declared.buffer.unicode_props.UnicodeProps.{UnicodeProps}
+use Rattle.shapers_buffer.specs.Category.{is_mark}
 use Rattle.shapers_buffer.specs.Clusters.{stretch_of, merge_all}
 use Rattle.shapers_buffer.specs.Glyph.{plain, order_view}
 use Rattle.shapers_buffer.specs.Places.{pick}
+use Rattle.shapers_buffer.specs.Properties.{general_category, with_high_byte, with_modified_combining_class}
 use Rattle.shapers_buffer.proofs.MappedLists.{prefix_len-seen}
 use Rattle.shapers_buffer.proofs.ClusterLemmas.{map-stretch}
 use Rattle.shapers_clusters.specs.Flags.{HidesFields}
@@ -211,14 +214,29 @@ marks_view level s e gs = reordered-plain s e (marks_merged level s e gs)
 class_hidden : HidesFields without_class
 class_hidden = record {
   shows = record { cluster = λ g. refl; flags = λ g. refl };
-  apart = λ g. ap (λ (m : ℕ). record g { cluster = 0; mask = m; unicode_props = record { 0 = 0 } })
+  apart = λ g. ap (λ (m : ℕ). record g { cluster = 0; mask = m; unicode_props = with_high_byte 0 g.unicode_props })
       (without_flags-twice g.mask);
 }
+
+-- a class that is set is hidden with the one before it
+byte-hidden : (class : ℕ) (p : UnicodeProps) → with_high_byte 0 (with_high_byte class p) ≡ with_high_byte 0 p
+byte-hidden class p = ap (λ n. record { 0 = n }) (omega arith)
+
+class-hidden : (class : ℕ) (p : UnicodeProps)
+    → with_high_byte 0 (with_modified_combining_class class p) ≡ with_high_byte 0 p
+class-hidden class p = elim (is_mark (general_category p)) as
+    (λ b. with_high_byte 0 (if b then with_high_byte class p else p) ≡ with_high_byte 0 p) [
+      | true ↦ byte-hidden class p
+      | false ↦ refl
+    ]
 
 classed-hidden : (class : ℕ) (gs : List hb_glyph_info_t) → map without_class (map (in_class class) gs)
     ≡ map without_class gs
 classed-hidden class [] = refl
-classed-hidden class (g ∷ gs) = ap (λ xs. without_class g ∷ xs) (classed-hidden class gs)
+classed-hidden class (g ∷ gs) =
+    ap (λ p. record g { unicode_props = p } ∷ map without_class (map (in_class class) gs))
+    (class-hidden class g.unicode_props)
+    ∙ ap (λ xs. without_class g ∷ xs) (classed-hidden class gs)
 
 first-hidden : (s : Marks) → map without_class (with_modifiers_first s) ≡ map without_class (parts_moved s)
 first-hidden s =

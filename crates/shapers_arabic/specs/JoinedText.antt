@@ -6,6 +6,7 @@ use Rattle.std.specs.List.{AllByRecursion}
 use Rattle.std.specs.Cmp.Lexicographic.{pointwise}
 use Rattle.shapers_buffer.specs.Buffer.{Buffer, flags_concat, flags_tatweel, has_flag}
 use Rattle.shapers_buffer.specs.GlyphFlags.{FlagCall, flags_called}
+use Rattle.shapers_buffer.specs.Properties.{general_category}
 use Rattle.shapers_buffer.specs.declared.buffer.flags.BufferFlags.{BufferFlags}
 use Rattle.shapers_buffer.specs.declared.buffer.category.hb_unicode_general_category_t.{hb_unicode_general_category_t}
 use Rattle.shapers_buffer.specs.declared.buffer.glyph.hb_glyph_info_t.{hb_glyph_info_t}
@@ -16,7 +17,6 @@ use Rattle.shapers_base.specs.declared.plan.joining.hb_arabic_joining_type_t.{hb
 use Rattle.shapers_arabic.specs.Joining.{resolved, nearest, is_transparent, forms, is_selector, selected}
 use Rattle.shapers_arabic.specs.JoiningFlags.{joining_flags}
 use Rattle.shapers_arabic.specs.SoundFlags.{form_flags_along, selector_flags}
-use Rattle.shapers_buffer.specs.Properties.{general_category}
 
 -- whether the script is Mongolian
 abbrev pub is_mongolian : Option Script → Bool
@@ -161,7 +161,7 @@ CopiedContextsShow = (n : ℕ) (text : Text) → Shows (drop n text.types ++ tex
 
 -- the stored categories are those of the table
 abbrev pub AgreesWithTable : (ℕ → hb_unicode_general_category_t) → List hb_glyph_info_t → Type 0
-AgreesWithTable general gs = AllByRecursion (λ g. (general_category g.unicode_props) ≡ general g.glyph_id) gs
+AgreesWithTable general gs = AllByRecursion (λ g. general_category g.unicode_props ≡ general g.glyph_id) gs
 
 -- the halves of a buffer that is cut at place n, each with a context copied from the other
 abbrev pub first_of : ℕ → Buffer → Buffer

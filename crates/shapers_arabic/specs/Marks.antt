@@ -7,9 +7,9 @@ use Rattle.shapers_buffer.specs.declared.buffer.modified_combining_class.TheCons
 use Rattle.shapers_buffer.specs.declared.buffer.level.BufferClusterLevel.{BufferClusterLevel}
 use Rattle.shapers_buffer.specs.Buffer.{Buffer}
 use Rattle.shapers_buffer.specs.Clusters.{stretch_of, with_stretch, merge_all}
+use Rattle.shapers_buffer.specs.Properties.{modified_combining_class, with_high_byte, with_modified_combining_class}
 use Rattle.shapers_clusters.specs.Laws.{ReorderedHold}
 use Rattle.shapers_clusters.specs.Steps.{Step, widened}
-use Rattle.shapers_buffer.specs.Properties.{modified_combining_class, with_high_byte, with_modified_combining_class}
 
 -- the marks that modify a letter
 abbrev pub modifiers : List ℕ
@@ -23,7 +23,7 @@ has_lower_class class g = nat_lt (modified_combining_class g.unicode_props) clas
 -- whether a mark is of this class and modifies a letter
 abbrev pub is_modifier_of : ℕ → hb_glyph_info_t → Bool
 is_modifier_of class g =
-    (modified_combining_class g.unicode_props) == class && list_any (λ c. c == g.glyph_id) modifiers
+    modified_combining_class g.unicode_props == class && list_any (λ c. c == g.glyph_id) modifiers
 
 -- the longest front all of which passes a test, and what stands behind it
 abbrev pub front_of : (hb_glyph_info_t → Bool) → List hb_glyph_info_t → List hb_glyph_info_t

@@ -4,6 +4,7 @@ ghost use Rattle.std.specs.Prelude.{◌≡◌, ◌+◌, ◌<◌, ◌≤◌, leng
 ghost use Rattle.std.specs.Char.{IsScalar};
 ghost use Rattle.shapers_buffer.specs.Buffer.{flags_concat, flags_tatweel, has_flag};
 ghost use Rattle.shapers_buffer.specs.GlyphFlags.{flagged, tatweel_inside, unsafe_to_concat_in};
+ghost use Rattle.shapers_buffer.specs.Properties.{general_category};
 ghost use Rattle.shapers_arabic.specs.Joining.{is_passed_over, joins_back, nearest, resolved};
 ghost use Rattle.shapers_arabic.specs.JoinedText.{AreCharacters, context_types, context_look_ups};
 ghost use Rattle.shapers_arabic.specs.JoiningWalk.{FlaggedBy, IsWithin, JoinsTo, SameText, WalksAll, WalksOn, cell, column_of, given_flags, given_last, joined_at, row_of, state_at_start, step_flags, unformed, waits, written};
@@ -233,7 +234,10 @@ fn stored_type<T: Tables, L: Ledger>(
     ensures counted { count.new ≡ count.old + 1 }
 {
     let c = char::from_u32(glyph.glyph_id).unwrap();
-    resolve(look_up(tables, c, count), glyph.unicode_props.general_category())
+    resolve(
+        look_up(tables, c, count),
+        glyph.unicode_props.general_category(),
+    )
 }
 
 // The nearest type of a context that isn't transparent, by the table's own categories.

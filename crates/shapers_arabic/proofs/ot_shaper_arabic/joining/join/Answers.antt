@@ -1,6 +1,7 @@
 -- The form that the nearest letter after the text gives to the last one, and the flags of both.
 use Rattle.std.proofs.Common.{◌≡◌, false, ap, sym, ◌∙◌, map, length, subst}
 use Rattle.std.proofs.lemmas.List.{length-map}
+use Rattle.shapers_buffer.specs.Properties.{general_category}
 use Rattle.shapers_arabic.specs.Joining.{resolved, nearest}
 use Rattle.shapers_arabic.specs.JoinedText.{stored_types}
 use Rattle.shapers_arabic.specs.declared.ot_shaper_arabic.joining.Transition.{Transition}
@@ -8,7 +9,6 @@ use Rattle.shapers_arabic.specs.JoiningWalk.{FlaggedBy, given_last, given_by, st
 use Rattle.shapers_arabic.proofs.FlagWalk.{flagged-end, flagged-no_end}
 use Rattle.shapers_arabic.proofs.JoiningWalk.{walk-end, given-nothing}
 use Rattle.shapers_arabic.proofs.ot_shaper_arabic.joining.join.Goals as goal
-use Rattle.shapers_buffer.specs.Properties.{general_category}
 
 pub returns-in-Some : goal.returns-in-Some
 returns-in-Some g c =

@@ -2,12 +2,12 @@
 use Rattle.std.proofs.Common.{refl, sym, ◌∙◌, map, arith}
 use Rattle.std.proofs.lemmas.List.{length-map}
 use Rattle.shapers_buffer.specs.Glyph.{default_glyph}
+use Rattle.shapers_buffer.specs.Properties.{general_category}
 use Rattle.shapers_arabic.specs.Joining.{resolved}
 use Rattle.shapers_arabic.specs.JoinedText.{stored_types}
 use Rattle.shapers_arabic.proofs.FlaggedGlyphs.{length-same_text, still-character, type-at}
 use Rattle.shapers_arabic.proofs.JoiningWalk.{walk-start}
 use Rattle.shapers_arabic.proofs.ot_shaper_arabic.joining.join_letters.Goals as goal
-use Rattle.shapers_buffer.specs.Properties.{general_category}
 
 pub loop-i-init : goal.loop-i-init
 loop-i-init g c =
