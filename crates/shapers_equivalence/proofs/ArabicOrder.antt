@@ -60,14 +60,6 @@ front_passes : (test : hb_glyph_info_t → Bool) (gs : Glyphs) → Passing test 
 front_passes test [] = tt
 front_passes test (g ∷ gs) = front_by test g gs (test g) refl (front_passes test gs)
 
-byte_by : (mark : Bool) (c : ℕ) → cond mark c 0 ≢ 0 → cond mark c 0 ≡ c
-byte_by true c some = refl
-byte_by false c some = absurd (some refl)
-
--- a mark's class is its byte
-pub byte_of : (g : hb_glyph_info_t) → class_of g ≢ 0 → class_of g ≡ (modified_combining_class g.unicode_props)
-byte_of g some = byte_by (is_mark_glyph g) (modified_combining_class g.unicode_props) some
-
 abbrev InClass : Context → ℕ → Glyphs → Type 0
 InClass context a gs = AllByRecursion (λ g. IsMark context g × (class_of g ≡ a)) gs
 
@@ -75,17 +67,16 @@ modifiers_in : (context : Context) (a : ℕ) (gs : Glyphs) → AreMarks context 
     → InClass context a gs
 modifiers_in context a [] marks all = tt
 modifiers_in context a (g ∷ gs) marks all =
-    let parts = and_parts (eqb (modified_combining_class g.unicode_props) a) (list_any (λ c. eqb c g.glyph_id) modifiers) all.0 in
-    let is : class_of g ≡ a = byte_of g marks.0.1 ∙ eqb-true (modified_combining_class g.unicode_props) a parts.0 in
+    let parts = and_parts (eqb (class_of g) a) (list_any (λ c. eqb c g.glyph_id) modifiers) all.0 in
+    let is : class_of g ≡ a = eqb-true (class_of g) a parts.0 in
     ((marks.0, is), modifiers_in context a gs marks.1 all.1)
 
 lower_out : (context : Context) (high a : ℕ) (gs : Glyphs) → high ≤ a → AreMarks context gs
     → Passing (has_lower_class high) gs → OtherMarks context a gs
 lower_out context high a [] least marks all = tt
 lower_out context high a (g ∷ gs) least marks all =
-    let byte : class_of g ≡ (modified_combining_class g.unicode_props) = byte_of g marks.0.1 in
-    let test : nat_lt (modified_combining_class g.unicode_props) high ≡ true = all.0 in
-    let less : (modified_combining_class g.unicode_props) < high = grind (arith, nat_tests) in
+    let test : nat_lt (class_of g) high ≡ true = all.0 in
+    let less : class_of g < high = grind (arith, nat_tests) in
     ((marks.0, λ e. absurd (omega arith)), lower_out context high a gs least marks.1 all.1)
 
 all_in : (context : Context) (full : ℕ → List ℕ) → TakesApart context full → (a : ℕ) (gs : Glyphs)

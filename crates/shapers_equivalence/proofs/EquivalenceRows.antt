@@ -18,6 +18,7 @@ use Rattle.shapers_normal.specs.declared.ot_shape_normalize.normalizing.Rounds.T
 use Rattle.shapers_normalize.specs.ByShaper.{ordered_for}
 use Rattle.shapers_equivalence.specs.Equivalence.{apart_in_steps, full_decomposition, fully_decomposed, ordered_by_classes, with_marks_of}
 use Rattle.shapers_equivalence.specs.Laws.{has_short_runs, in_canonical_order, mark_class}
+use Rattle.shapers_buffer.specs.Properties.{with_high_byte}
 
 -- Unicode's pairs of some characters: the Angstrom sign comes apart into one, 0344 is a mark, 0958
 -- and notes are excluded from composition; and a chain in private use
@@ -181,7 +182,7 @@ blocked_below = refl
 
 -- a mark whose glyph has another class than its character
 abbrev in_class_220 : hb_glyph_info_t → hb_glyph_info_t
-in_class_220 g = record g { unicode_props = record { 0 = 0xDC00 } }
+in_class_220 g = record g { unicode_props = with_high_byte 220 g.unicode_props }
 
 other_class : characters (normalized whole Always MonotoneGraphemes
     (text (0x41 ∷ []) ++ (map in_class_220 (text (0x305 ∷ [])) ++ text (0x301 ∷ [])))) ≡ 0xC1 ∷ 0x305 ∷ []

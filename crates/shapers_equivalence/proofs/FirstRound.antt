@@ -27,7 +27,9 @@ use Rattle.shapers_normal.proofs.Pairs.{together}
 use Rattle.shapers_normal.proofs.Viewed.{variants-view}
 use Rattle.shapers_equivalence.specs.Laws.{HaveOwnClasses, mark_class}
 use Rattle.shapers_equivalence.proofs.Apart.{TakesApart, apart_text, apart-append, apart-view, own_of_view, view_own}
-use Rattle.shapers_buffer.specs.Properties.{general_category, modified_combining_class, properties}
+use Rattle.shapers_buffer.specs.Properties.{general_category, modified_combining_class, properties, with_high_byte}
+use Rattle.shapers_normal.proofs.CharacterProperties.{class_of_character, class_of_other}
+use Rattle.shapers_buffer.proofs.PropertyLemmas.{properties_set}
 
 -- ---- one character
 
@@ -125,15 +127,15 @@ pub record SameCharacter (old new : hb_glyph_info_t) : Type 0 where
   pub class : class_of new ≡ class_of old
 
 abbrev as_space : hb_glyph_info_t → ℕ × GlyphId → hb_glyph_info_t
-as_space g space = record g { glyph_props = record { 0 = space.1.0 }; unicode_props = properties Cc space.0 }
+as_space g space = record g { glyph_props = record { 0 = space.1.0 }; unicode_props = with_high_byte space.0 g.unicode_props }
 
-space_same : (g new : hb_glyph_info_t) (o : Option (ℕ × GlyphId)) → is_mark (general_category g.unicode_props) ≡ false
+space_same : (g new : hb_glyph_info_t) (o : Option (ℕ × GlyphId)) → is_mark_glyph g ≡ false
     → SameCharacter g new → SameCharacter g (option_map_or (as_space g) o new)
 space_same g new None e same = same
 space_same g new (Some space) e same = record {
   character = refl;
-  class = ap (λ b. cond b space.0 0) e ∙ sym
-      (ap (λ b. cond b (modified_combining_class g.unicode_props) 0) e);
+  class = class_of_other (as_space g space)
+      (ap is_mark ((properties_set g.unicode_props).category_stays space.0) ∙ e) ∙ sym (class_of_other g e);
 }
 
 without_same : (g new : hb_glyph_info_t) (o : Option (ℕ × GlyphId)) (space : Bool)
@@ -151,22 +153,14 @@ own_by g new (Some glyph) same = record { character = refl; class = refl }
 pub own_same : (context : Context) (g : hb_glyph_info_t) → SameCharacter g (with_own_glyph context g)
 own_same context g =
     own_by g (without_glyph context g) (context.nominal g.glyph_id)
-    (without_same g (record g { var = cond (g.glyph_id == 0x2011) (glyph_number context 0x2010) 0 }) _
+    (without_same g (record g { glyph_props = record { 0 = cond (g.glyph_id == 0x2011) (glyph_number context 0x2010) 0 } }) _
     (is_space_separator (general_category g.unicode_props)) refl
     (record { character = refl; class = refl }))
 
 -- a character that is written anew has its own class
-class_by : (big mark ignorable : Bool) (class other : ℕ)
-    → cond mark (cond (big && mark) class (cond (big && ignorable) other 0)) 0 ≡ cond (big && mark) class 0
-class_by true true ignorable class other = refl
-class_by true false ignorable class other = refl
-class_by false true ignorable class other = refl
-class_by false false ignorable class other = refl
-
 pub character_class : (context : Context) (c glyph : ℕ) (g : hb_glyph_info_t)
     → class_of (as_character context c glyph g) ≡ mark_class context c
-character_class context c glyph g = class_by (nat_le 0x80 c) (is_mark (context.general c)) (context.ignorable c)
-    (context.class c) (joiner_class c)
+character_class context c glyph g = class_of_character context c
 
 parts_characters : (context : Context) (g : hb_glyph_info_t) (cs : List ℕ)
     → characters (map (as_part context g) cs) ≡ cs

@@ -191,12 +191,12 @@ triple_same context full t front a b c rest marks opens =
     let own = (marks_parts context front (a ∷ (b ∷ (c ∷ rest))) marks).1 in
     let mb = own.1.0 in
     let mc = own.1.1.0 in
-    let parts = and_parts (is_patah_or_qamats (modified_combining_class a.unicode_props) && is_sheva_or_hiriq
-    (modified_combining_class b.unicode_props)) (is_meteg_or_below (modified_combining_class c.unicode_props)) opens in
-    let second = (and_parts (is_patah_or_qamats (modified_combining_class a.unicode_props))
-    (is_sheva_or_hiriq (modified_combining_class b.unicode_props)) parts.0).1 in
-    let bytes = differ (modified_combining_class b.unicode_props) (modified_combining_class c.unicode_props) second parts.1 in
-    let other : class_of b ≢ class_of c = λ e. bytes (sym (byte_of b mb.1) ∙ e ∙ byte_of c mc.1) in
+    let parts = and_parts (is_patah_or_qamats (class_of a) && is_sheva_or_hiriq
+    (class_of b)) (is_meteg_or_below (class_of c)) opens in
+    let second = (and_parts (is_patah_or_qamats (class_of a))
+    (is_sheva_or_hiriq (class_of b)) parts.0).1 in
+    let bytes = differ (class_of b) (class_of c) second parts.1 in
+    let other : class_of b ≢ class_of c = bytes in
     let fb = full b.glyph_id in
     let fc = full c.glyph_id in
     let r = apart_text full rest in

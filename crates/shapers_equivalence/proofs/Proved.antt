@@ -22,6 +22,7 @@ use Rattle.shapers_equivalence.proofs.Insertion.{in_order_of}
 use Rattle.shapers_equivalence.proofs.SecondRound.{Arranges, second_same}
 use Rattle.shapers_equivalence.proofs.ShortRuns.{leaves, short_in_order}
 use Rattle.shapers_equivalence.proofs.ThirdRound.{third_same}
+use Rattle.shapers_normal.proofs.CharacterProperties.{class_shown}
 
 -- ---- the premises
 
@@ -73,7 +74,7 @@ passed_alike : (before behind : ℕ) (g : hb_glyph_info_t) → Alike g (passes_o
 passed_alike before behind g =
     elim (eqb g.glyph_id 0x034F && (eqb behind 0 || nat_le before behind)) as
     (λ b. Alike g (cond b (let r : hb_glyph_info_t = record g { unicode_props = set_property HIDDEN false g.unicode_props } in r) g)) [
-      | true ↦ record { character = refl; class = refl }
+      | true ↦ record { character = refl; class = class_shown g.unicode_props }
       | false ↦ record { character = refl; class = refl }
     ]
 
