@@ -21,7 +21,7 @@ use Rattle.shapers_equivalence.specs.Equivalence.{SameButForOrder}
 use Rattle.shapers_equivalence.specs.Laws.{mark_class}
 use Rattle.shapers_equivalence.proofs.Projections as order
 use Rattle.shapers_equivalence.proofs.Apart.{AreMarks, IsMark, Same, TakesApart, apart_text, mark_parts, other_parts, same_beside}
-use Rattle.shapers_equivalence.proofs.ArabicOrder.{byte_of, marks_parts}
+use Rattle.shapers_equivalence.proofs.ArabicOrder.{marks_parts}
 use Rattle.shapers_equivalence.proofs.ShortRuns.{stretch_whole}
 use Rattle.shapers_buffer.specs.Properties.{modified_combining_class}
 
@@ -195,8 +195,7 @@ triple_same context full t front a b c rest marks opens =
     (class_of b)) (is_meteg_or_below (class_of c)) opens in
     let second = (and_parts (is_patah_or_qamats (class_of a))
     (is_sheva_or_hiriq (class_of b)) parts.0).1 in
-    let bytes = differ (class_of b) (class_of c) second parts.1 in
-    let other : class_of b ≢ class_of c = bytes in
+    let other = differ (class_of b) (class_of c) second parts.1 in
     let fb = full b.glyph_id in
     let fc = full c.glyph_id in
     let r = apart_text full rest in
