@@ -4,13 +4,13 @@ use Rattle.std.specs.List.{AllByRecursion, flat_map}
 use Rattle.std.specs.Option.{option_map_or}
 use Rattle.shapers_base.specs.declared.font.GlyphId.{GlyphId}
 use Rattle.shapers_buffer.specs.declared.buffer.glyph.hb_glyph_info_t.{hb_glyph_info_t}
+use Rattle.shapers_buffer.specs.Properties.{with_high_byte}
 use Rattle.shapers_buffer.proofs.MappedLists.{all-flat_map}
 use Rattle.shapers_clusters.proofs.Halves.{Each}
 use Rattle.shapers_normal.specs.Context.{Context}
 use Rattle.shapers_normal.specs.Decomposition.{apart_way, as_part, becomes, cluster_becomes, drawn_space, image, mark_clusters, text_decomposed, without_glyph, written_as}
 use Rattle.shapers_normal.specs.Sorting.{is_mark_glyph}
 use Rattle.shapers_normal.specs.Variants.{cut_before_others, form_written, forms_written, is_kept_cluster, is_selector_glyph, selecting_nothing, with_first, with_number}
-use Rattle.shapers_buffer.specs.Properties.{properties}
 
 -- whichever of two glyphs it is
 either : {X : Type 0} (P : ℕ → Type 0) (f : X → hb_glyph_info_t) (o : Option X) (g : hb_glyph_info_t)
@@ -20,7 +20,7 @@ either P f (Some x) g some none = some x
 
 without : (P : ℕ → Type 0) (context : Context) (g : hb_glyph_info_t) → P g.cluster → P (without_glyph context g).cluster
 without P context g p =
-    either P (λ space. let r : hb_glyph_info_t = record g { glyph_props = record { 0 = space.1.0 }; unicode_props = properties Cc space.0 } in r)
+    either P (λ space. let r : hb_glyph_info_t = record g { glyph_props = record { 0 = space.1.0 }; unicode_props = with_high_byte space.0 g.unicode_props } in r)
     (drawn_space context g) _ (λ space. p) p
 
 each-parts : (P : ℕ → Type 0) (context : Context) (g : hb_glyph_info_t) (cs : List ℕ) → P g.cluster

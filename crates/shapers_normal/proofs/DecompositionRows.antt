@@ -3,17 +3,15 @@ use Rattle.std.specs.Prelude.{◌≡◌, ◌-◌, ℕ, Bool, true, false, None, 
 use Rattle.std.specs.List.{range_with_len}
 use Rattle.shapers_base.specs.declared.plan.record.NormalizationMode.{NormalizationMode}
 use Rattle.shapers_base.specs.declared.plan.record.NormalizationMode.TheVariants.{NONE, AUTO, CD}
-use Rattle.shapers_buffer.specs.declared.buffer.category.hb_unicode_general_category_t.{hb_unicode_general_category_t}
-use Rattle.shapers_buffer.specs.declared.buffer.category.hb_unicode_general_category_t.TheVariants.{Cf, Ll, Mn}
 use Rattle.shapers_buffer.specs.declared.buffer.glyph.hb_glyph_info_t.{hb_glyph_info_t}
 use Rattle.shapers_buffer.specs.declared.buffer.level.BufferClusterLevel.{BufferClusterLevel}
 use Rattle.shapers_buffer.specs.declared.buffer.level.BufferClusterLevel.TheVariants.{MonotoneGraphemes, MonotoneCharacters, Characters}
 use Rattle.shapers_buffer.specs.Glyph.{characters, clusters}
+use Rattle.shapers_buffer.specs.Properties.{general_category, high_byte}
 use Rattle.shapers_normal.specs.Decomposition.{first_round, space_kind, text_decomposed}
 use Rattle.shapers_normal.specs.Variants.{selects_form}
 use Rattle.shapers_normal.specs.Properties.{is_seen_by_lookups}
 use Rattle.shapers_normal.proofs.RowContext.{with_font, text}
-use Rattle.shapers_buffer.specs.Properties.{general_category, modified_combining_class}
 
 abbrev latin : List ℕ
 latin = 0x65 ∷ 0xEA ∷ 0x1EBF ∷ 0xE9 ∷ 0x301 ∷ 0x302 ∷ 0x308 ∷ 0x323 ∷ 0x41 ∷ 0xC5 ∷ 0x30A ∷ 0x344 ∷ 0xFE00 ∷ 0x20
@@ -61,29 +59,36 @@ into_one_further = refl
 
 -- with a mark it comes apart, unless the shaper wants no normalization; the one before it doesn't
 with_mark : become AUTO latin (0xE9 ∷ 0x1EBF ∷ 0x323 ∷ []) ≡ 0xE9 ∷ 0x65 ∷ 0x302 ∷ 0x301 ∷ 0x323 ∷ []
+unfolding general_category
 with_mark = refl
 
 with_mark_none : become NONE latin (0x1EBF ∷ 0x323 ∷ []) ≡ 0x1EBF ∷ 0x323 ∷ []
+unfolding general_category
 with_mark_none = refl
 
 -- a mark comes apart behind a letter or before a mark; alone in front of the text it stays
 mark_in_front : become AUTO latin (0x344 ∷ 0x65 ∷ []) ≡ 0x344 ∷ 0x65 ∷ []
+unfolding general_category
 mark_in_front = refl
 
 two_marks_in_front : become AUTO latin (0x344 ∷ 0x344 ∷ []) ≡ 0x308 ∷ 0x301 ∷ 0x308 ∷ 0x301 ∷ []
+unfolding general_category
 two_marks_in_front = refl
 
 mark_behind : become AUTO latin (0x65 ∷ 0x344 ∷ []) ≡ 0x65 ∷ 0x308 ∷ 0x301 ∷ []
+unfolding general_category
 mark_behind = refl
 
 -- a cluster with a selector is kept, and its neighbours aren't
 with_selector : become AUTO latin (0x1EBF ∷ 0xFE00 ∷ 0x344 ∷ 0x1EBF ∷ 0x323 ∷ []) ≡ 0x1EBF ∷ 0xFE00 ∷ 0x344 ∷ 0x65
     ∷ 0x302 ∷ 0x301 ∷ 0x323 ∷ []
+unfolding general_category
 with_selector = refl
 
 -- parts keep the cluster of what they came from
 parts_clusters : clusters (text_decomposed (with_font CD latin) (text (with_font CD latin) (0xE9 ∷ 0x1EBF ∷ 0x65 ∷ [])))
     ≡ 0 ∷ 0 ∷ 1 ∷ 1 ∷ 1 ∷ 2 ∷ []
+unfolding general_category
 parts_clusters = refl
 
 -- eight steps and no more
@@ -101,35 +106,43 @@ nine_steps = refl
 -- the numbers of glyphs, and the byte that a space's width is kept in
 abbrev numbers : List ℕ → List ℕ → List (ℕ × ℕ)
 numbers font cs =
-    map (λ g. (g.var, (modified_combining_class g.unicode_props)))
+    map (λ g. (g.glyph_props.0, high_byte g.unicode_props))
     (text_decomposed (with_font AUTO font) (text (with_font AUTO font) cs))
 
 own : numbers latin (0x65 ∷ 0x1EBF ∷ []) ≡ (0x65, 0) ∷ (0x1EBF, 0) ∷ []
+unfolding general_category
 own = refl
 
 parts_own : numbers (0x65 ∷ 0x301 ∷ []) (0xE9 ∷ []) ≡ (0x65, 0) ∷ (0x301, 230) ∷ []
 parts_own = refl
 
 missing : numbers latin (0x66 ∷ []) ≡ (0, 0) ∷ []
+unfolding general_category
 missing = refl
 
 space : numbers latin (0x2003 ∷ []) ≡ (0x20, 1) ∷ []
+unfolding general_category
 space = refl
 
 space_not_drawn : numbers (0x65 ∷ []) (0x20 ∷ 0x2003 ∷ []) ≡ (1, 18) ∷ (1, 1) ∷ []
+unfolding general_category
 space_not_drawn = refl
 
 own_space : numbers (0x20 ∷ 0x2003 ∷ []) (0x20 ∷ 0x2003 ∷ []) ≡ (0x20, 0) ∷ (0x2003, 0) ∷ []
+unfolding general_category
 own_space = refl
 
 hyphen : numbers latin (0x2011 ∷ []) ≡ (0x2010, 0) ∷ []
+unfolding general_category
 hyphen = refl
 
 no_hyphen : numbers (0x2012 ∷ 0x65 ∷ []) (0x2011 ∷ 0x2010 ∷ []) ≡ (0, 0) ∷ (0, 0) ∷ []
+unfolding general_category
 no_hyphen = refl
 
 -- kept, a character that the font lacks keeps what its caller had there
 kept_number : numbers (0xFE00 ∷ []) (0x2011 ∷ 0xFE00 ∷ []) ≡ (0, 0) ∷ (0xFE00, 4) ∷ []
+unfolding general_category
 kept_number = refl
 
 -- the widths of spaces: of each space and its neighbours
@@ -145,26 +158,31 @@ other_spaces = refl
 -- a variant stands for a character and its selector, in one cluster; further selectors stay
 abbrev forms : BufferClusterLevel → List ℕ → List (ℕ × ℕ × ℕ)
 forms level cs =
-    map (λ g. (g.glyph_id, g.var, g.cluster))
+    map (λ g. (g.glyph_id, g.glyph_props.0, g.cluster))
     (first_round (with_font AUTO latin) level (text (with_font AUTO latin) cs))
 
 variant_stands : forms MonotoneGraphemes (0x65 ∷ 0xFE01 ∷ []) ≡ (0x65, 7, 0) ∷ []
+unfolding general_category
 variant_stands = refl
 
 further_stay : forms MonotoneCharacters (0x65 ∷ 0xFE01 ∷ 0xFE00 ∷ 0x65 ∷ []) ≡ (0x65, 7, 0) ∷ (0xFE00, 0xFE00, 2)
     ∷ (0x65, 0x65, 3) ∷ []
+unfolding general_category
 further_stay = refl
 
 behind_others : forms MonotoneGraphemes (0x41 ∷ 0x301 ∷ 0x65 ∷ 0xFE01 ∷ 0x301 ∷ []) ≡ (0x41, 0x41, 0)
     ∷ (0x301, 0x301, 1) ∷ (0x65, 7, 2) ∷ (0x301, 0x301, 4) ∷ []
+unfolding general_category
 behind_others = refl
 
 -- a selector that opens the text has a variant; one behind another selects nothing
 opens_text : forms MonotoneGraphemes (0xFE00 ∷ 0xFE01 ∷ []) ≡ (0xFE00, 7, 0) ∷ []
+unfolding general_category
 opens_text = refl
 
 behind_selector : forms MonotoneGraphemes (0x41 ∷ 0xFE00 ∷ 0xFE01 ∷ []) ≡ (0x41, 0x41, 0) ∷ (0xFE00, 0xFE00, 1)
     ∷ (0xFE01, 0, 2) ∷ []
+unfolding general_category
 behind_selector = refl
 
 -- clusters that fall, at a level that merges and at the one that doesn't
@@ -176,22 +194,26 @@ fallen level =
     (text (with_font AUTO latin) (0x65 ∷ 0xFE01 ∷ []))))
 
 fallen_merged : fallen MonotoneCharacters ≡ (0, 0) ∷ []
+unfolding general_category
 fallen_merged = refl
 
 fallen_flagged : fallen Characters ≡ (1, 3) ∷ []
+unfolding general_category
 fallen_flagged = refl
 
 -- a selector that selects nothing becomes a format character, and isn't ignorable where it is drawn
-abbrev unselected : Bool → List (ℕ × ℕ × hb_unicode_general_category_t)
+abbrev unselected : Bool → List ℕ
 unselected draws =
-    map (λ g. (g.marks.0, (modified_combining_class g.unicode_props), (general_category g.unicode_props)))
+    map (λ g. g.unicode_props.0)
     (text_decomposed (record (with_font AUTO latin) { draws_selectors = draws })
     (text (with_font AUTO latin) (0x41 ∷ 0xFE00 ∷ 0xFE01 ∷ [])))
 
-stays_ignorable : unselected false ≡ (0, 0, Ll) ∷ (24, 4, Cf) ∷ (16, 0, Mn) ∷ []
+stays_ignorable : unselected false ≡ 0x0005 ∷ 0x04A1 ∷ 0x008C ∷ []
+unfolding general_category
 stays_ignorable = refl
 
-is_drawn : unselected true ≡ (0, 0, Ll) ∷ (16, 4, Cf) ∷ (16, 0, Mn) ∷ []
+is_drawn : unselected true ≡ 0x0005 ∷ 0x0481 ∷ 0x008C ∷ []
+unfolding general_category
 is_drawn = refl
 
 -- both ends of each range

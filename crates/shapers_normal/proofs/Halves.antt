@@ -7,7 +7,7 @@ use Rattle.std.proofs.lemmas.Bool.{false≢true}
 use Rattle.shapers_buffer.specs.declared.buffer.glyph.hb_glyph_info_t.{hb_glyph_info_t}
 use Rattle.shapers_buffer.specs.declared.buffer.level.BufferClusterLevel.{BufferClusterLevel}
 use Rattle.shapers_buffer.specs.Glyph.{clusters, order_view, plain}
-use Rattle.shapers_buffer.specs.Properties.{set_mark, modified_combining_class, HIDDEN, set_property}
+use Rattle.shapers_buffer.specs.Properties.{HIDDEN, set_property}
 use Rattle.shapers_clusters.specs.Cuts.{ShareNone}
 use Rattle.shapers_clusters.proofs.Halves.{Each}
 use Rattle.shapers_normal.specs.Context.{Context}
@@ -17,6 +17,7 @@ use Rattle.shapers_normal.specs.Normalization.{composes, joiners_shown, later_ro
 use Rattle.shapers_normal.specs.Recomposition.{recomposed}
 use Rattle.shapers_normal.specs.Sorting.{class_of, is_mark_glyph, marks_ordered}
 use Rattle.shapers_normal.proofs.Beside.{Not, each_of}
+use Rattle.shapers_normal.proofs.CharacterProperties.{class_of_other}
 use Rattle.shapers_normal.proofs.FirstKept.{ordered-first}
 use Rattle.shapers_normal.proofs.RecompositionHalves.{recomposed_halves}
 use Rattle.shapers_normal.proofs.SortingHalves.{each-ordered, ordered_halves}
@@ -125,7 +126,7 @@ later_halves P context o level front [] opened last p n =
     ∙ ap (λ xs. later_rounds context true level front ++ xs) (sym none)
 later_halves P context o level front (g ∷ behind) opened last p n =
     let start = opens g (is_mark_glyph g) (eqb g.glyph_id 0x034F) refl refl opened in
-    let letter : class_of g ≡ 0 = ap (λ b. cond b (modified_combining_class g.unicode_props) 0) start.letter in
+    let letter : class_of g ≡ 0 = class_of_other g start.letter in
     let round = λ (gs : List hb_glyph_info_t). cond (composes context.mode)
     (recomposed context level (joiners_shown gs)) (joiners_shown gs) in
     ap round (ordered_halves P context o level front g behind p n letter)

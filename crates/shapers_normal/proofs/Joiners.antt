@@ -3,9 +3,10 @@ use Rattle.std.proofs.Common.{◌≡◌, ◌+◌, ◌-◌, ◌<◌, ◌≤◌, �
 use Rattle.std.proofs.lemmas.List.{drop-set-lt, get_or-set_same, length-drop, length-set, take-append-drop, take_more_set}
 use Rattle.shapers_buffer.specs.declared.buffer.glyph.hb_glyph_info_t.{hb_glyph_info_t}
 use Rattle.shapers_buffer.specs.Glyph.{default_glyph}
-use Rattle.shapers_buffer.specs.Properties.{set_mark, HIDDEN, set_property}
+use Rattle.shapers_buffer.specs.Properties.{HIDDEN, set_property}
 use Rattle.shapers_normal.specs.Normalization.{joiners_shown, passes_over, shown_behind}
 use Rattle.shapers_normal.specs.Sorting.{class_of}
+use Rattle.shapers_normal.proofs.CharacterProperties.{class_shown}
 
 abbrev glyph_at : List hb_glyph_info_t → ℕ → hb_glyph_info_t
 glyph_at gs i = get_or gs i default_glyph
@@ -24,7 +25,7 @@ class_passed : (before behind : ℕ) (g : hb_glyph_info_t) → class_of (passes_
 class_passed before behind g =
     let seen : Bool = eqb g.glyph_id 0x034F && (eqb behind 0 || leb before behind) in
     let shown : hb_glyph_info_t = record g { unicode_props = set_property HIDDEN false g.unicode_props } in
-    elim seen as (λ b. class_of (cond b shown g) ≡ class_of g) [ true ↦ refl | false ↦ refl ]
+    elim seen as (λ b. class_of (cond b shown g) ≡ class_of g) [ true ↦ class_shown g.unicode_props | false ↦ refl ]
 
 -- one more place, with a glyph on either side
 pub showing_next : (old now new : List hb_glyph_info_t) (i : ℕ) → Showing old now i → i + 1 < length now

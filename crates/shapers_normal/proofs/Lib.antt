@@ -1,4 +1,5 @@
 pub mod Apart
+pub mod CharacterProperties
 pub mod Clusters
 pub mod DecompositionLaws
 mod DecompositionRows

@@ -11,7 +11,7 @@ use Rattle.shapers_buffer.specs.declared.buffer.level.BufferClusterLevel.{Buffer
 use Rattle.shapers_buffer.specs.Clusters.{least, merge, merges, stretch_of, with_stretch}
 use Rattle.shapers_buffer.specs.Glyph.{clusters, default_glyph}
 use Rattle.shapers_buffer.specs.GlyphFlags.{unsafe_inside}
-use Rattle.shapers_buffer.specs.Properties.{set_mark, HIDDEN, set_property}
+use Rattle.shapers_buffer.specs.Properties.{HIDDEN, set_property}
 use Rattle.shapers_buffer.proofs.ClusterLemmas.{get_or-stretch, length-stretch, map-stretch, three_parts}
 use Rattle.shapers_buffer.proofs.MappedLists.{all-flat_map, all-range}
 use Rattle.shapers_clusters.specs.Cuts.{IsMonotone}

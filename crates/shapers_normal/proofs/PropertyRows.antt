@@ -1,35 +1,34 @@
 -- The properties of characters.
 use Rattle.std.specs.Prelude.{◌≡◌, ℕ, [], ◌∷◌, List, map, refl}
 use Rattle.shapers_base.specs.declared.plan.record.NormalizationMode.TheVariants.{AUTO}
-use Rattle.shapers_buffer.specs.declared.buffer.category.hb_unicode_general_category_t.TheVariants.{Mn, Sm}
 use Rattle.shapers_buffer.specs.declared.buffer.glyph.hb_glyph_info_t.{hb_glyph_info_t}
-use Rattle.shapers_normal.specs.Properties.{as_character, character_marks, class_byte}
+use Rattle.shapers_normal.specs.Properties.{as_character, character_properties, class_byte}
 use Rattle.shapers_normal.proofs.RowContext.{with_font}
 
--- a glyph with all fields set keeps the fields that aren't its character's, and the marks of lookups
+-- a glyph with all fields set keeps the fields that aren't its character's
 abbrev busy : hb_glyph_info_t
 busy = record {
   glyph_id = 3;
-  cluster = 5;
   mask = 7;
+  cluster = 5;
+  glyph_props = record { 0 = 0x70 };
+  lig_props = record { 0 = 0x2E };
   syllable = 13;
+  unicode_props = record { 0 = 0x17F9 };
   category = 17;
   auxiliary = 19;
-  glyph_props = record { 0 = 0x70 };
-  lig_props = record { 0 = 14 };
-  unicode_props = record { 0 = 0x17F9 };
 }
 
 as_mark : as_character (with_font AUTO []) 0x301 99 busy ≡ record {
   glyph_id = 0x301;
-  cluster = 5;
   mask = 7;
+  cluster = 5;
+  glyph_props = record { 0 = 99 };
+  lig_props = record { 0 = 0x2E };
   syllable = 13;
+  unicode_props = record { 0 = 0xE68C };
   category = 17;
   auxiliary = 19;
-  glyph_props = record { 0 = 0x70 };
-  lig_props = record { 0 = 14 };
-  unicode_props = record { 0 = 0xE68C };
 }
 as_mark = refl
 
@@ -38,9 +37,9 @@ as_mark = refl
 abbrev samples : List ℕ
 samples = 0x65 ∷ 0x301 ∷ 0xAD ∷ 0x200C ∷ 0x200D ∷ 0x34F ∷ 0x180B ∷ 0x41 ∷ []
 
-marks_of : map (λ c. (character_marks (with_font AUTO []) c (record { 0 = 0 })).0) samples ≡ 0 ∷ 16 ∷ 8 ∷ 8 ∷ 8 ∷ 56
-    ∷ 40 ∷ 0 ∷ []
-marks_of = refl
+properties_of : map (λ c. (character_properties (with_font AUTO []) c).0) samples ≡ 0x0005 ∷ 0xE68C ∷ 0x0025 ∷ 0x0221
+    ∷ 0x0121 ∷ 0x00EC ∷ 0x0065 ∷ 0x0005 ∷ []
+properties_of = refl
 
 bytes_of : map (class_byte (with_font AUTO [])) samples ≡ 0 ∷ 230 ∷ 0 ∷ 2 ∷ 1 ∷ 0 ∷ 0 ∷ 0 ∷ []
 bytes_of = refl

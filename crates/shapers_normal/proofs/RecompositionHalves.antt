@@ -16,8 +16,8 @@ use Rattle.shapers_normal.specs.Properties.{as_character}
 use Rattle.shapers_normal.specs.Recomposition.{StarterWalk, composition, glyph_at, if_drawn, left_as_is, next_glyph, recomposed, taken_in, walk_over, without_place}
 use Rattle.shapers_normal.specs.Sorting.{class_of, is_mark_glyph}
 use Rattle.shapers_normal.proofs.Beside.{Not, each-append, each-drop, each-merge, each-take, merge_alone}
+use Rattle.shapers_normal.proofs.CharacterProperties.{class_of_other}
 use Rattle.shapers_normal.proofs.SortingHalves.{glyph_in_part, twice_not}
-use Rattle.shapers_buffer.specs.Properties.{modified_combining_class}
 
 -- the walk over a part of a text
 abbrev in_text : List hb_glyph_info_t → List hb_glyph_info_t → StarterWalk → StarterWalk
@@ -276,7 +276,7 @@ letter_next context level s done g behind letter =
     ∙ ap (λ b. cond (b && (next || nat_lt (class_of last) (class_of g)))
     (if_drawn context (context.composed first.glyph_id g.glyph_id)) None) letter)
     ∙ ap (λ h. put (cond (eqb (class_of h) 0) (length done) s) (g ∷ behind)) here
-    ∙ ap (λ b. put (cond (eqb (cond b (modified_combining_class g.unicode_props) 0) 0) (length done) s) (g ∷ behind)) letter
+    ∙ ap (λ n. put (cond (eqb n 0) (length done) s) (g ∷ behind)) (class_of_other g letter)
     ∙ ap (λ a. put a (g ∷ behind)) (sym none)
     ∙ ap (put (length done + 0)) (sym (append-nil (g ∷ behind)))
 

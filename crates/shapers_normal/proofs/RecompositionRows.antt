@@ -5,12 +5,12 @@ use Rattle.shapers_base.specs.declared.plan.record.NormalizationMode.TheVariants
 use Rattle.shapers_buffer.specs.declared.buffer.level.BufferClusterLevel.{BufferClusterLevel}
 use Rattle.shapers_buffer.specs.declared.buffer.level.BufferClusterLevel.TheVariants.{MonotoneGraphemes, MonotoneCharacters, Characters}
 use Rattle.shapers_buffer.specs.Glyph.{characters, clusters}
+use Rattle.shapers_buffer.specs.Properties.{general_category, modified_combining_class}
 use Rattle.shapers_normal.specs.Normalization.{joiners_shown, normalized}
 use Rattle.shapers_normal.specs.Recomposition.{recomposed}
 use Rattle.shapers_normal.specs.declared.ot_shape_normalize.normalizing.Rounds.{Rounds}
 use Rattle.shapers_normal.specs.declared.ot_shape_normalize.normalizing.Rounds.TheVariants.{AsCode, Always}
 use Rattle.shapers_normal.proofs.RowContext.{with_font, text}
-use Rattle.shapers_buffer.specs.Properties.{modified_combining_class}
 
 abbrev font : List ℕ
 font = 0x65 ∷ 0xEA ∷ 0x1EBF ∷ 0xE9 ∷ 0x301 ∷ 0x302 ∷ 0x308 ∷ 0x323 ∷ 0x9C7 ∷ 0x9BE ∷ 0x9CB ∷ 0x34F ∷ []
@@ -19,34 +19,43 @@ abbrev compose : List ℕ → List ℕ → List ℕ
 compose font cs = characters (recomposed (with_font AUTO font) MonotoneGraphemes (text (with_font AUTO font) cs))
 
 pair : compose font (0x65 ∷ 0x301 ∷ []) ≡ 0xE9 ∷ []
+unfolding general_category
 pair = refl
 
 chain : compose font (0x65 ∷ 0x302 ∷ 0x301 ∷ []) ≡ 0x1EBF ∷ []
+unfolding general_category
 chain = refl
 
 -- over a mark of a lesser class; not over one of its own class
 over_lesser : compose font (0x65 ∷ 0x323 ∷ 0x301 ∷ []) ≡ 0xE9 ∷ 0x323 ∷ []
+unfolding general_category modified_combining_class
 over_lesser = refl
 
 blocked : compose font (0x65 ∷ 0x308 ∷ 0x301 ∷ []) ≡ 0x65 ∷ 0x308 ∷ 0x301 ∷ []
+unfolding general_category modified_combining_class
 blocked = refl
 
 -- a joiner, which has class 0, keeps apart
 kept_apart : compose font (0x65 ∷ 0x34F ∷ 0x301 ∷ []) ≡ 0x65 ∷ 0x34F ∷ 0x301 ∷ []
+unfolding general_category modified_combining_class
 kept_apart = refl
 
 -- a mark of class 0 right behind the starter composes, and else is a starter
 class_0 : compose font (0x9C7 ∷ 0x9BE ∷ []) ≡ 0x9CB ∷ []
+unfolding general_category
 class_0 = refl
 
 class_0_apart : compose font (0x9C7 ∷ 0x323 ∷ 0x9BE ∷ []) ≡ 0x9C7 ∷ 0x323 ∷ 0x9BE ∷ []
+unfolding general_category modified_combining_class
 class_0_apart = refl
 
 -- what the font lacks isn't made; a letter doesn't compose; the next letter is the next starter
 lacking : compose (0x65 ∷ 0x301 ∷ []) (0x65 ∷ 0x301 ∷ []) ≡ 0x65 ∷ 0x301 ∷ []
+unfolding general_category
 lacking = refl
 
 next_starter : compose font (0x65 ∷ 0x65 ∷ 0x301 ∷ 0x65 ∷ 0x302 ∷ []) ≡ 0x65 ∷ 0xE9 ∷ 0xEA ∷ []
+unfolding general_category modified_combining_class
 next_starter = refl
 
 -- the first glyph is a starter, whatever it is
@@ -61,32 +70,38 @@ abbrev compose_clusters : BufferClusterLevel → List ℕ → List ℕ
 compose_clusters level cs = clusters (recomposed (with_font AUTO font) level (text (with_font AUTO font) cs))
 
 together : compose_clusters MonotoneCharacters (0x65 ∷ 0x65 ∷ 0x323 ∷ 0x301 ∷ 0x65 ∷ []) ≡ 0 ∷ 1 ∷ 1 ∷ 4 ∷ []
+unfolding general_category modified_combining_class
 together = refl
 
 never_merged : compose_clusters Characters (0x65 ∷ 0x65 ∷ 0x323 ∷ 0x301 ∷ 0x65 ∷ []) ≡ 0 ∷ 1 ∷ 2 ∷ 4 ∷ []
+unfolding general_category modified_combining_class
 never_merged = refl
 
 -- what it becomes has the properties of its character, and its glyph
-made : map {B = ℕ × ℕ} (λ g. (g.var, (modified_combining_class g.unicode_props)))
+made : map {B = ℕ × ℕ} (λ g. (g.glyph_props.0, g.unicode_props.0))
     (recomposed (with_font AUTO font) MonotoneGraphemes (text (with_font AUTO font) (0x65 ∷ 0x301 ∷ [])))
-    ≡ (0xE9, 0) ∷ []
+    ≡ (0xE9, 0x0005) ∷ []
+unfolding general_category
 made = refl
 
 -- a joiner is passed over where it kept nothing apart, but never at an end of the text
-abbrev marks_of : List ℕ → List ℕ
-marks_of cs = map (λ g. g.marks.0) (joiners_shown (text (with_font AUTO font) cs))
+abbrev shown : List ℕ → List ℕ
+shown cs = map (λ g. g.unicode_props.0) (joiners_shown (text (with_font AUTO font) cs))
 
-kept_something : marks_of (0x65 ∷ 0x301 ∷ 0x34F ∷ 0x323 ∷ []) ≡ 0 ∷ 16 ∷ 56 ∷ 16 ∷ []
+kept_something : shown (0x65 ∷ 0x301 ∷ 0x34F ∷ 0x323 ∷ []) ≡ 0x0005 ∷ 0xE68C ∷ 0x00EC ∷ 0xDC8C ∷ []
+unfolding general_category modified_combining_class
 kept_something = refl
 
-kept_nothing : marks_of (0x65 ∷ 0x323 ∷ 0x34F ∷ 0x301 ∷ 0x301 ∷ 0x34F ∷ 0x301 ∷ []) ≡ 0 ∷ 16 ∷ 24 ∷ 16 ∷ 16 ∷ 24 ∷ 16
-    ∷ []
+kept_nothing : shown (0x65 ∷ 0x323 ∷ 0x34F ∷ 0x301 ∷ 0x301 ∷ 0x34F ∷ 0x301 ∷ []) ≡ 0x0005 ∷ 0xDC8C ∷ 0x00AC ∷ 0xE68C
+    ∷ 0xE68C ∷ 0x00AC ∷ 0xE68C ∷ []
+unfolding general_category modified_combining_class
 kept_nothing = refl
 
-before_letter : marks_of (0x65 ∷ 0x301 ∷ 0x34F ∷ 0x65 ∷ []) ≡ 0 ∷ 16 ∷ 24 ∷ 0 ∷ []
+before_letter : shown (0x65 ∷ 0x301 ∷ 0x34F ∷ 0x65 ∷ []) ≡ 0x0005 ∷ 0xE68C ∷ 0x00AC ∷ 0x0005 ∷ []
+unfolding general_category modified_combining_class
 before_letter = refl
 
-at_ends : marks_of (0x34F ∷ 0x65 ∷ 0x34F ∷ []) ≡ 56 ∷ 0 ∷ 56 ∷ []
+at_ends : shown (0x34F ∷ 0x65 ∷ 0x34F ∷ []) ≡ 0x00EC ∷ 0x0005 ∷ 0x00EC ∷ []
 at_ends = refl
 
 -- all three rounds: what comes apart is sorted and composed
@@ -95,22 +110,28 @@ normal mode rounds cs =
     characters (normalized (with_font mode font) rounds MonotoneGraphemes (text (with_font mode font) cs))
 
 three_rounds : normal AUTO AsCode (0xE9 ∷ 0x323 ∷ []) ≡ 0xE9 ∷ 0x323 ∷ []
+unfolding general_category modified_combining_class
 three_rounds = refl
 
 no_composition : normal NONE AsCode (0x65 ∷ 0x301 ∷ 0x323 ∷ []) ≡ 0x65 ∷ 0x323 ∷ 0x301 ∷ []
+unfolding general_category modified_combining_class
 no_composition = refl
 
 -- a text without marks behind its first place: as the code has it nothing is composed again
 as_code : normal CD AsCode (0x1EBF ∷ 0xE9 ∷ []) ≡ 0x65 ∷ 0x302 ∷ 0x301 ∷ 0x65 ∷ 0x301 ∷ []
+unfolding general_category
 as_code = refl
 
 as_code_in_longer : normal CD AsCode (0x1EBF ∷ 0xE9 ∷ 0x323 ∷ []) ≡ 0x1EBF ∷ 0xE9 ∷ 0x323 ∷ []
+unfolding general_category modified_combining_class
 as_code_in_longer = refl
 
 always : normal CD Always (0x1EBF ∷ 0xE9 ∷ []) ≡ 0x1EBF ∷ 0xE9 ∷ []
+unfolding general_category modified_combining_class
 always = refl
 
 mark_in_front : normal CD AsCode (0x323 ∷ 0xE9 ∷ []) ≡ 0x323 ∷ 0x65 ∷ 0x301 ∷ []
+unfolding general_category
 mark_in_front = refl
 
 -- normalized again: where rounds don't run in each text, other characters
@@ -118,4 +139,5 @@ again : normal CD AsCode (0xE9 ∷ []) ≡ 0x65 ∷ 0x301 ∷ []
 again = refl
 
 and_again : normal CD AsCode (0x65 ∷ 0x301 ∷ []) ≡ 0xE9 ∷ []
+unfolding general_category modified_combining_class
 and_again = refl

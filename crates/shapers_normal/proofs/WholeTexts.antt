@@ -10,6 +10,7 @@ use Rattle.shapers_base.specs.declared.font.GlyphId.{GlyphId}
 use Rattle.shapers_buffer.specs.declared.buffer.glyph.hb_glyph_info_t.{hb_glyph_info_t}
 use Rattle.shapers_buffer.specs.declared.buffer.level.BufferClusterLevel.{BufferClusterLevel}
 use Rattle.shapers_buffer.specs.Glyph.{default_glyph}
+use Rattle.shapers_buffer.specs.Properties.{general_category}
 use Rattle.shapers_normal.specs.Context.{Context, has_glyph}
 use Rattle.shapers_normal.specs.Decomposition.{apart_in, becomes, cluster_becomes, first_round, is_short_alone, is_whole, mark_clusters, stays_alone, text_decomposed, without_glyph, written_as}
 use Rattle.shapers_normal.specs.Laws.{WholeTextsStay}
@@ -19,8 +20,8 @@ use Rattle.shapers_normal.specs.Sorting.{class_of, classes, is_mark_glyph, mark_
 use Rattle.shapers_normal.specs.Variants.{is_selector_glyph, is_selector_behind, variant_joined, with_first, with_number}
 use Rattle.shapers_normal.specs.declared.ot_shape_normalize.decomposing.Way.{Way}
 use Rattle.shapers_normal.specs.declared.ot_shape_normalize.decomposing.Way.TheVariants.{Short, Whole}
+use Rattle.shapers_normal.proofs.CharacterProperties.{class_of_other}
 use Rattle.shapers_normal.proofs.Halves.{not_joiner}
-use Rattle.shapers_buffer.specs.Properties.{modified_combining_class}
 
 -- a glyph that stays by itself
 record Stays (context : Context) (g : hb_glyph_info_t) : Type 0 where
@@ -40,9 +41,13 @@ all_stay context (g ∷ gs) e =
     let parts = and_parts (stays_alone context g) (list_all (stays_alone context) gs) e in
     (stays context g (is_mark_glyph g) (has_glyph context g.glyph_id) refl refl parts.0, all_stay context gs parts.1)
 
+default_is_no_mark : is_mark_glyph default_glyph ≡ false
+unfolding general_category
+default_is_no_mark = refl
+
 no_mark_at : (context : Context) (gs : List hb_glyph_info_t) (k : ℕ) → AllByRecursion (Stays context) gs
     → is_mark_glyph (get_or gs k default_glyph) ≡ false
-no_mark_at context [] k all = refl
+no_mark_at context [] k all = default_is_no_mark
 no_mark_at context (g ∷ gs) zero all = all.0.no_mark
 no_mark_at context (g ∷ gs) (suc k) all = no_mark_at context gs k all.1
 
@@ -120,7 +125,7 @@ whole_length context level gs whole =
 -- ---- the later rounds
 
 seen_through : (context : Context) (g : hb_glyph_info_t) (o : Option GlyphId) (Same : hb_glyph_info_t → Type 0)
-    → ((n : ℕ) → Same (record g { var = n })) → Same g
+    → ((n : ℕ) → Same (record g { glyph_props = record { 0 = n } })) → Same g
     → Same (option_map_or (λ (glyph : GlyphId). let r : hb_glyph_info_t = record g { glyph_props = record { 0 = glyph.0 } } in r) o g)
 seen_through context g None Same some none = none
 seen_through context g (Some glyph) Same some none = some glyph.0
@@ -142,7 +147,7 @@ runs_empty : (context : Context) (i : ℕ) (gs : List hb_glyph_info_t) → AllBy
     → AllByRecursion Empty (mark_runs i i (classes gs))
 runs_empty context i [] all = (refl, tt)
 runs_empty context i (g ∷ gs) all =
-    let letter : class_of g ≡ 0 = ap (λ b. cond b (modified_combining_class g.unicode_props) 0) all.0.no_mark in
+    let letter : class_of g ≡ 0 = class_of_other g all.0.no_mark in
     subst (λ c. AllByRecursion Empty
     (cond (eqb c 0) ((i, i) ∷ mark_runs (i + 1) (i + 1) (classes gs)) (mark_runs i (i + 1) (classes gs))))
     (sym letter) (refl, runs_empty context (i + 1) gs all.1)

@@ -95,8 +95,8 @@ abbrev pub without_glyph : Context → hb_glyph_info_t → hb_glyph_info_t
 without_glyph context g = option_map_or
     (λ space. let r : hb_glyph_info_t =
     record g {
-    glyph_props = record { 0 = space.1.0 };
-    unicode_props = with_high_byte space.0 g.unicode_props;
+      glyph_props = record { 0 = space.1.0 };
+      unicode_props = with_high_byte space.0 g.unicode_props;
     } in r)
     (drawn_space context g)
     (record g { glyph_props = record { 0 = if g.glyph_id == 0x2011 then glyph_number context 0x2010 else 0 } })
