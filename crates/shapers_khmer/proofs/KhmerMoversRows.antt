@@ -99,15 +99,16 @@ coengs = refl
 
 -- a glyph with all fields set: nothing but its mask changes, and only where that is wanted
 abbrev full : hb_glyph_info_t
-full = record default_glyph {
+full = record {
   glyph_id = 0x179A;
-  cluster = 7;
   mask = 0x1003;
+  cluster = 7;
+  glyph_props = record { 0 = 0x70 };
+  lig_props = record { 0 = 2 };
   syllable = 0x21;
+  unicode_props = record { 0 = 0x09E7 };
   category = 4;
   auxiliary = 5;
-  lig_props = record { 0 = 2 };
-  unicode_props = record { 0 = 0x0900 };
 }
 
 wanted : with_mask_if true 0x25 full ≡ record full { mask = 0x1023 }

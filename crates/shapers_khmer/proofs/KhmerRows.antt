@@ -37,15 +37,16 @@ decompositions = refl
 
 -- a glyph with all fields set: nothing but the named ones change
 abbrev full : hb_glyph_info_t
-full = record default_glyph {
+full = record {
   glyph_id = 0x179A;
-  cluster = 7;
   mask = 0x1003;
+  cluster = 7;
+  glyph_props = record { 0 = 0x70 };
+  lig_props = record { 0 = 2 };
   syllable = 0x21;
+  unicode_props = record { 0 = 0x09E7 };
   category = 4;
   auxiliary = 5;
-  lig_props = record { 0 = 2 };
-  unicode_props = record { 0 = 0x0907 };
 }
 
 categories : with_category table full ≡ record full { category = 15 }
@@ -172,9 +173,9 @@ looked_at_again_clusters = refl
 broken : shown 1 ((0x25CC, 11) ∷ c 2 ∷ []) ≡ (0x25CC, 0) ∷ (2, 0xE0) ∷ []
 broken = refl
 
--- nothing but masks and places changes, and no mark counts
+-- nothing but masks and places changes, and no properties count
 abbrev full_of : ℕ → hb_glyph_info_t
-full_of category = record full { category = category; glyph_props = record { 0 = 0x70 }; unicode_props = record { 0 = 0x00A0 } }
+full_of category = record full { category = category }
 
 fields_stay : khmer_order by_masks (full_of 1 ∷ full_of 4 ∷ full_of 15 ∷ []) ≡ record (full_of 4) { mask = 0x10F3 }
     ∷ record (full_of 15) { mask = 0x10F3 } ∷ full_of 1 ∷ []

@@ -321,33 +321,6 @@ numbers_by_view s e gs hs same =
     map-stretch number s e gs ∙ ap (stretch_of s e) (sym (numbers-view gs) ∙ ap glyph_numbers same ∙ numbers-view hs)
     ∙ sym (map-stretch number s e hs)
 
--- where clusters don't fall, nothing is carried
-pub guarded_idle : (first : ℕ) (it : Carrying) (b : Buffer) → CarryingFits first it b.glyphs → it.falls ≡ false →
-    Guarded first it b it b
-guarded_idle first it b fits falls =
-    let none = fits.idle falls in
-    record {
-      between = b;
-      same = refl;
-      fits = fits;
-      at = λ some. absurd (omega arith);
-      none = λ same. refl;
-      guard = λ some. absurd (omega arith);
-      kept = λ some. absurd (omega arith);
-    }
-
-pub settled_idle : (first : ℕ) (it : Carrying) (b : Buffer) → first ≤ length b.glyphs →
-    it.run.start ≡ it.run.end → it.run.end ≤ first → Settled first it b it b
-settled_idle first it b inside none within = record {
-  taken_back = λ some. absurd (omega arith);
-  kept = λ some. refl;
-  begun = λ same. refl;
-  same = λ same. carried_none it.run b.glyphs none;
-  fits = λ same. none_fits it.run b.glyphs none (omega arith);
-  ends = λ same. within;
-  idle = λ falls. none;
-}
-
 pub behind_carried_run : (meaning : Meaning) (steps : Option Script → List hb_glyph_info_t → List Step) (link : Link) →
     Leads meaning steps link → Suffices meaning steps link →
     ((script : Option Script) → ReorderLaws (meaning script) (steps script)) → (first end : ℕ)
@@ -373,7 +346,6 @@ behind_carried_run meaning steps link leads suffices laws first end it mid after
             fits = record {
               fits = subst (λ b. IsCarried after.run b.glyphs) (sym is) (settled.fits none);
               ends = settled.ends none;
-              idle = settled.idle;
             };
           }
       | inr some ↦
@@ -399,7 +371,6 @@ behind_carried_run meaning steps link leads suffices laws first end it mid after
               fits = subst (λ run. IsCarried run new.glyphs) (sym run_is)
                   (subst (λ b. IsCarried mid.run b.glyphs) (sym is) on.fits);
               ends = (let ends = g.fits.ends in omega (arith, ap (λ (run : CarriedRun). run.end) run_is));
-              idle = settled.idle;
             };
           }
     ]
@@ -418,7 +389,6 @@ to_carry_all takes link old it start_is end_is all =
       fits = record {
         fits = none_fits it.run old.glyphs none (omega arith);
         ends = omega arith;
-        idle = λ falls. none;
       };
       to = subst (λ b. ToLink takes link old b 0) (sym (written_none it.run old none)) (to_link_all takes link old all);
     }
@@ -439,7 +409,6 @@ carried_stands takes link old it now start state =
       fits = λ first further. record {
         fits = state.fits.fits;
         ends = (let ends = state.fits.ends in omega arith);
-        idle = state.fits.idle;
       };
     }
 
@@ -505,7 +474,7 @@ carry_next meaning takes changes link old it now read start first end after new 
       same_length = sym (length_carried after.run new.glyphs done.fits.fits.in_order) ∙ next.same_length
           ∙ length_carried run now.glyphs fits.in_order;
       state = record {
-        fits = record { fits = done.fits.fits; ends = omega arith; idle = done.fits.idle };
+        fits = record { fits = done.fits.fits; ends = omega arith };
         to = next.to;
       };
     }

@@ -1,5 +1,5 @@
 -- Words of the code's walk over syllables: a run of glyphs that isn't written yet.
-use Rattle.std.specs.Prelude.{ℕ, ◌-◌, ◌<◌, ◌≡◌, ◌≤◌, false, List, get_or, slice_set}
+use Rattle.std.specs.Prelude.{ℕ, ◌-◌, ◌<◌, ◌≡◌, ◌≤◌, List, get_or, slice_set}
 use Rattle.shapers_buffer.specs.declared.buffer.glyph.hb_glyph_info_t.{hb_glyph_info_t}
 use Rattle.shapers_buffer.specs.Buffer.{Buffer}
 use Rattle.shapers_buffer.specs.Glyph.{default_glyph}
@@ -11,11 +11,10 @@ use Rattle.shapers_syllabic.specs.declared.ot_shaper_syllabic.reordering.Carryin
 abbrev pub run_written : CarriedRun → Buffer → Buffer
 run_written run b = record b { glyphs = with_carried run b.glyphs }
 
--- What is carried fits these glyphs, up to a place; where clusters don't fall, there is no run.
+-- What is carried fits these glyphs, up to a place.
 pub record CarryingFits (place : ℕ) (it : Carrying) (gs : List hb_glyph_info_t) : Type 0 where
   pub fits : IsCarried it.run gs
   pub ends : it.run.end ≤ place
-  pub idle : it.falls ≡ false → it.run.start ≡ it.run.end
 
 -- The syllable from first to end is reordered, behind what is carried; and what is carried then.
 pub record ReorderedBehind (link : ℕ → ℕ → Buffer → Buffer → Type 0) (first end : ℕ) (it :
@@ -53,4 +52,3 @@ pub record Settled (first : ℕ) (it : Carrying) (old : Buffer) (after : Carryin
   pub same : it.run.start ≡ it.run.end → with_carried after.run old.glyphs ≡ old.glyphs
   pub fits : it.run.start ≡ it.run.end → IsCarried after.run old.glyphs
   pub ends : it.run.start ≡ it.run.end → after.run.end ≤ first
-  pub idle : after.falls ≡ false → after.run.start ≡ after.run.end

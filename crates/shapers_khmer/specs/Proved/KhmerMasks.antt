@@ -37,7 +37,7 @@ plain-with_mask m g = ap (λ (x : ℕ). record g { cluster = 0; mask = x }) (pla
 
 pub carried-with_mask : (m : ℕ) (g : hb_glyph_info_t) → carried (with_mask m g) ≡ carried g
 carried-with_mask m g =
-    ap (λ (x : ℕ). record g { mask = x; category = 0; auxiliary = 0; glyph_props = record { 0 = 0 } }) (flags-or g.mask m)
+    ap (λ (x : ℕ). record g { mask = x; glyph_props = no_marks; category = 0; auxiliary = 0 }) (flags-or g.mask m)
 
 -- what a view hides of one glyph with a mask it hides of all
 hidden_all : {X : Type 0} (f : hb_glyph_info_t → X) (m : ℕ) → ((g : hb_glyph_info_t) → f (with_mask m g) ≡ f g)

@@ -174,7 +174,6 @@ fn reorder_carrying<R: ReorderBySteps>(
     ensures refusal { RefusesIf (R.may_refuse order.now) result }
 {
     let mut carrying = Carrying {
-        falls: true,
         run: CarriedRun::NONE,
         glyph: hb_glyph_info_t::DEFAULT,
     };
@@ -189,11 +188,10 @@ fn reorder_carrying<R: ReorderBySteps>(
     Ok(())
 }
 
-// What the walk carries along, in a text whose clusters may fall: the run that merges flooded, if
-// there is one, and the glyph whose cluster they may change or that stands for a guard.
+// What the walk carries along: the run that merges flooded, if there is one, and the glyph whose
+// cluster they may change or that stands for a guard.
 #[derive(Clone, Copy)]
 struct Carrying {
-    falls: bool,
     run: CarriedRun,
     glyph: hb_glyph_info_t,
 }
@@ -226,19 +224,6 @@ fn reorder_behind<R: ReorderBySteps>(
 #[inline]
 fn guard(carrying: &mut Carrying, buffer: &mut hb_buffer_t, first: usize)
     requires in_range { first ≤ length buffer.old.glyphs }
-    requires fits { CarryingFits first carrying.old buffer.old.glyphs }
-    ensures { Guarded first carrying.old buffer.old carrying.new buffer.new }
-{
-    if carrying.falls {
-        guard_run(carrying, buffer, first);
-    }
-}
-
-#[cold]
-#[inline(never)]
-fn guard_run(carrying: &mut Carrying, buffer: &mut hb_buffer_t, first: usize)
-    requires in_range { first ≤ length buffer.old.glyphs }
-    requires falls { carrying.old.falls ≡ true }
     requires fits { CarryingFits first carrying.old buffer.old.glyphs }
     ensures { Guarded first carrying.old buffer.old carrying.new buffer.new }
 {
@@ -278,22 +263,6 @@ fn settle(carrying: &mut Carrying, buffer: &mut hb_buffer_t, first: usize)
     requires in_range { first ≤ length buffer.old.glyphs }
     requires in_order { carrying.old.run.start ≤ carrying.old.run.end }
     requires two { carrying.old.run.start < carrying.old.run.end → 1 < first }
-    requires idle { carrying.old.falls ≡ false → carrying.old.run.start ≡ carrying.old.run.end }
-    requires within { carrying.old.run.end ≤ first }
-    ensures { Settled first carrying.old buffer.old carrying.new buffer.new }
-{
-    if carrying.falls {
-        settle_run(carrying, buffer, first);
-    }
-}
-
-#[cold]
-#[inline(never)]
-fn settle_run(carrying: &mut Carrying, buffer: &mut hb_buffer_t, first: usize)
-    requires in_range { first ≤ length buffer.old.glyphs }
-    requires in_order { carrying.old.run.start ≤ carrying.old.run.end }
-    requires two { carrying.old.run.start < carrying.old.run.end → 1 < first }
-    requires falls { carrying.old.falls ≡ true }
     ensures { Settled first carrying.old buffer.old carrying.new buffer.new }
 {
     if carrying.run.is_none() {
@@ -328,13 +297,9 @@ fn write(run: CarriedRun, buffer: &mut hb_buffer_t)
     buffer.change_each(run.start, run.end, &cluster);
 }
 
-/// Where the next syllable starts that may change, of those from `start` on.
+// Where the next syllable starts that may change, of those from `start` on.
 #[inline]
-pub fn next_changing<M: MayChange>(
-    order: &M,
-    glyphs: &[hb_glyph_info_t],
-    start: usize,
-) -> Option<usize>
+fn next_changing<M: MayChange>(order: &M, glyphs: &[hb_glyph_info_t], start: usize) -> Option<usize>
     requires { start ≤ length glyphs.now }
     ensures { NextChanging (M.changes order.now) start glyphs.now result }
 {

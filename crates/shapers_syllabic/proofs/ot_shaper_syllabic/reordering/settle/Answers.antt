@@ -1,7 +1,7 @@
 -- A run that isn't empty ends two places or more behind the start.
 use Rattle.std.proofs.Common.{◌<◌, arith}
 use Rattle.std.proofs.lemmas.Bool.Decides.{nat_tests}
-use Rattle.shapers_syllabic.proofs.ot_shaper_syllabic.reordering.settle_run.Goals as goal
+use Rattle.shapers_syllabic.proofs.ot_shaper_syllabic.reordering.settle.Goals as goal
 
 pub overflow_sub-first : goal.overflow_sub-first
 overflow_sub-first c =
