@@ -40,7 +40,7 @@ fn line(glyph: &GlyphInfo) -> String {
         glyph.syllable,
         glyph.category,
         glyph.auxiliary,
-        glyph.modified_combining_class,
+        glyph.unicode_props.modified_combining_class(),
     )
 }
 

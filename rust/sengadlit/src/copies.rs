@@ -101,7 +101,7 @@ impl ShapePlan {
 #[cfg(test)]
 mod tests {
     use crate::alloc::Global;
-    use crate::buffer::{Buffer, GlyphInfo};
+    use crate::buffer::{Buffer, GlyphInfo, LigProps};
     use crate::map::FeatureMap;
     use crate::plan::{Pause, Plan, Planner};
     use crate::shaper::Shaper;
@@ -117,7 +117,7 @@ mod tests {
         buffer.set_max_len(2);
         assert_ne!(copy, buffer);
         let glyph = GlyphInfo {
-            lig_comp: 1,
+            lig_props: LigProps(1),
             ..copy.get(1)
         };
         let mut other = copy.try_clone().unwrap();

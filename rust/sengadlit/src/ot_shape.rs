@@ -7,6 +7,7 @@
 //! A Khmer word, in a font of the caller's, whose lookup makes one glyph of COENG and MO:
 //!
 //! ```
+//! # use sengadlit::buffer::GlyphProps;
 //! # use sengadlit::{Font, GlyphId, ShaperError, Tag};
 //! # use sengadlit::map::TableIndex;
 //! # use sengadlit::ot_shape::Lookups;
@@ -48,7 +49,7 @@
 //! #     fn growth(&self, _: &StageLookup) -> usize { 1 }
 //! #     fn position(&self, _: &StageLookup, _: &mut Buffer) -> Result<(), ShaperError> { Ok(()) }
 //! #     fn finish_positions(&self, _: &mut Buffer) {}
-//! #     fn note(&self, _: &sengadlit::GlyphInfo) -> u32 { 0 }
+//! #     fn glyph_props(&self, _: &sengadlit::GlyphInfo) -> GlyphProps { GlyphProps::NONE }
 //! #     fn substitute(&self, lookup: &StageLookup, buffer: &mut Buffer) -> Result<(), ShaperError> {
 //! #         let mut at = 0;
 //! #         while at + 1 < buffer.len() {
@@ -139,7 +140,9 @@ mod tests {
         Lookups, ShapeSettings, Single, SingleLookups, length_bound, shape, substitute_text,
     };
     use crate::alloc::Global;
-    use crate::buffer::{Buffer, Direction, GlyphInfo, GlyphPosition, Script, ShaperError, Tag};
+    use crate::buffer::{
+        Buffer, Direction, GlyphInfo, GlyphPosition, GlyphProps, Script, ShaperError, Tag,
+    };
     use crate::font::{Font, GlyphId};
     use crate::map::TableIndex;
     use crate::ot_shape_normalize::{NormalizeFont, NormalizeSettings, Rounds};
@@ -223,13 +226,16 @@ mod tests {
 
     impl GlyphClasses for Khmer {
         fn is_mark(&self, glyph: &GlyphInfo) -> bool {
-            glyph.var == 3
+            glyph.glyph_props.contains(GlyphProps::MARK)
         }
     }
 
     impl Lookups for Khmer {
-        fn note(&self, glyph: &GlyphInfo) -> u32 {
-            if glyph.glyph_id == 0x17C6 { 3 } else { 1 }
+        fn glyph_props(&self, glyph: &GlyphInfo) -> GlyphProps {
+            match glyph.glyph_id {
+                0x17C6 => GlyphProps::MARK,
+                _ => GlyphProps::BASE_GLYPH,
+            }
         }
 
         fn growth(&self, lookup: &StageLookup) -> usize {
@@ -378,13 +384,14 @@ mod tests {
             y_advance,
             x_offset: -250,
             y_offset: -880,
+            var: 0,
         };
         assert_eq!(text.positions(), [at(-900), at(-1000)]);
     }
 
-    /// `pres` gives NIKAHIT the next number; the note of it stays, and the shaper keeps its advance.
+    /// `pres` gives NIKAHIT the next number; its class stays, and the shaper keeps its advance.
     #[test]
-    fn notes_stay_beside_glyphs() {
+    fn classes_stay_with_glyphs() {
         let mut text = khmer_text("\u{1780}\u{17C6}");
         shape(
             &khmer_plan(),
@@ -395,12 +402,15 @@ mod tests {
             &mut text,
         )
         .unwrap();
-        let notes: Vec<(u32, u32)> = text
+        let classes: Vec<(u32, GlyphProps)> = text
             .glyphs()
             .iter()
-            .map(|glyph| (glyph.glyph_id, glyph.var))
+            .map(|glyph| (glyph.glyph_id, glyph.glyph_props))
             .collect();
-        assert_eq!(notes, [(0x1781, 1), (0x17C7, 3)]);
+        assert_eq!(
+            classes,
+            [(0x1781, GlyphProps::BASE_GLYPH), (0x17C7, GlyphProps::MARK)]
+        );
         let advances: Vec<i32> = text.positions().iter().map(|at| at.x_advance).collect();
         assert_eq!(advances, [500, 500]);
     }

@@ -85,6 +85,7 @@ impl Shaper {
 mod tests {
     use super::{Indic, Universal, find_syllables_in, setup_syllables_found};
     use crate::alloc::{Global, Vec};
+    use crate::buffer::UnicodeProps;
     use crate::font::NominalOnly;
     use crate::{Buffer, GeneralCategory, GlyphInfo, Pause, Plan, Shaper, Span, run_pause, script};
 
@@ -94,7 +95,7 @@ mod tests {
         for &(category, general_category) in glyphs {
             let glyph = GlyphInfo {
                 category,
-                general_category,
+                unicode_props: UnicodeProps::new(general_category, 0),
                 ..GlyphInfo::DEFAULT
             };
             buffer.push(glyph).unwrap();

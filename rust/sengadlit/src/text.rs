@@ -3,7 +3,6 @@
 use crate::alloc::{Global, Vec};
 use crate::buffer::{
     Buffer, BufferSettings, Direction, GeneralCategory, GlyphInfo, GlyphPosition, ShaperError,
-    UnicodeProps,
 };
 use crate::font::Tables;
 use core::fmt;
@@ -65,7 +64,9 @@ impl Buffer {
     }
 
     /// Sets the general category of each character, as the tables have it. Stretched marks depend on
-    /// it, and in Indic where a word begins. Glyphs that are no characters stay as they are.
+    /// it, and in Indic where a word begins. What stands in the high byte of a character's
+    /// [`UnicodeProps`](crate::buffer::UnicodeProps), as a mark's class, goes. Glyphs that are no
+    /// characters stay as they are.
     pub fn set_general_categories<T: Tables>(&mut self, tables: &T) {
         self.with_glyphs_mut(|glyphs| set_categories(tables, glyphs));
     }
@@ -176,7 +177,8 @@ fn nearest(characters: impl Iterator<Item = char>, room: &mut [char; 5]) -> &[ch
 fn set_categories<T: Tables>(tables: &T, glyphs: &mut [GlyphInfo]) {
     for glyph in glyphs {
         if let Some(character) = char::from_u32(glyph.glyph_id) {
-            glyph.unicode_props = UnicodeProps::new(tables.general_category(character), 0);
+            let category = tables.general_category(character);
+            glyph.unicode_props.set_general_category(category);
         }
     }
 }

@@ -3,7 +3,7 @@
 
 mod common;
 
-use common::buffers::{Contents, Glyphs, buffer_of, letter};
+use common::buffers::{Contents, Glyphs, buffer_of, letter, number_of};
 use common::calls::{Call, Returned, Setting};
 use common::fonts::{LotFont, LotTables, Steady};
 use common::numbers::Numbers;
@@ -28,7 +28,7 @@ fn check(scene: &Scene, returned: Result<Returned, ShaperError>, after: &Content
     let before = Contents::of(&scene.buffer);
     assert_ne!(returned, Err(ShaperError::Memory));
     assert!(is_among(&after.clusters(), &before.clusters()));
-    assert!(scene.may_compose() || is_among(&before.vars(), &after.vars()));
+    assert!(scene.may_compose() || is_among(&before.numbers(), &after.numbers()));
     assert!(after.glyphs.len() <= scene.buffer.max_len());
     let positions = after.positions.len();
     assert!(positions == 0 || positions == after.glyphs.len());
@@ -46,12 +46,12 @@ fn check_syllables(before: &Contents, after: &Contents) {
         .chunk_by(|first, second| first.syllable == second.syllable)
     {
         let end = start + syllable.len();
-        let mut vars: Vec<_> = after.glyphs[start..end]
+        let mut numbers: Vec<_> = after.glyphs[start..end]
             .iter()
-            .map(|glyph| glyph.var as usize)
+            .map(|glyph| number_of(glyph) as usize)
             .collect();
-        vars.sort_unstable();
-        assert_eq!(vars, (start..end).collect::<Vec<_>>());
+        numbers.sort_unstable();
+        assert_eq!(numbers, (start..end).collect::<Vec<_>>());
         start = end;
     }
 }
@@ -125,7 +125,7 @@ fn reorder_long_syllable(shaper: Shaper, pause: Pause, seed: u64) {
     };
     let call = Call::Pause(pause);
     if call.fits(&setting, &buffer) && call.make(&setting, &mut buffer).is_ok() {
-        assert!(Contents::of(&buffer).vars().into_iter().eq(0..3000));
+        assert!(Contents::of(&buffer).numbers().into_iter().eq(0..3000));
     }
 }
 

@@ -4,7 +4,7 @@
 #![cfg(feature = "text")]
 
 use sengadlit::buffer::{
-    Buffer, BufferClusterLevel, Direction, GeneralCategory, GlyphInfo, Script, Tag,
+    Buffer, BufferClusterLevel, Direction, GeneralCategory, GlyphInfo, Script, Tag, UnicodeProps,
 };
 use sengadlit::font::GlyphId;
 use sengadlit::ot_shape_normalize::{NormalizeContext, Rounds, normalize};
@@ -241,15 +241,19 @@ fn sum_of_normalized(
     let glyph = |c| GlyphInfo {
         glyph_id: c,
         cluster: c,
-        general_category: category,
+        unicode_props: UnicodeProps::new(category, 0),
         ..GlyphInfo::DEFAULT
     };
     let mut buffer: Buffer = numbers.map(glyph).collect();
     normalize(context, Rounds::AsCode, &mut buffer).unwrap();
     let words = |glyph: &GlyphInfo| {
-        let bytes = [glyph.modified_combining_class, glyph.marks.0];
+        let props = glyph.unicode_props;
+        let bits = u8::from(props.is_ignorable()) << 3
+            | u8::from(props.is_continuation()) << 4
+            | u8::from(props.is_hidden()) << 5;
+        let bytes = [props.high_byte(), bits];
         u64::from(glyph.glyph_id) << 32
-            | u64::from(glyph.var) << 16
+            | u64::from(glyph.glyph_props.0) << 16
             | u64::from(u16::from_be_bytes(bytes))
     };
     sum(buffer.glyphs().iter().map(words))

@@ -2,6 +2,7 @@
 #![cfg(feature = "text")]
 
 use sengadlit::alloc::Global;
+use sengadlit::buffer::UnicodeProps;
 use sengadlit::map::Map;
 use sengadlit::ot_shape_normalize::{
     NormalizeContext, NormalizeFont, NormalizeSettings, Rounds, length_bound, normalize,
@@ -82,8 +83,9 @@ fn buffer(latin: &Latin, text: &str) -> Buffer {
     buffer.push_str(text).unwrap();
     buffer.with_glyphs_mut(|glyphs| {
         for glyph in glyphs {
-            glyph.general_category = latin.general_category(glyph.glyph_id);
-            glyph.modified_combining_class = latin.modified_combining_class(glyph.glyph_id);
+            let category = latin.general_category(glyph.glyph_id);
+            let class = latin.modified_combining_class(glyph.glyph_id);
+            glyph.unicode_props = UnicodeProps::new(category, class);
         }
     });
     buffer
@@ -100,7 +102,7 @@ fn marks_are_ordered_and_composed() {
     let mut text = buffer(&WHOLE, "e\u{301}\u{323}");
     normalize(&WHOLE, Rounds::AsCode, &mut text).unwrap();
     assert_eq!(characters(&text), [0xE9, 0x323]);
-    let numbers: Vec<u32> = text.glyphs().iter().map(|glyph| glyph.var).collect();
+    let numbers: Vec<u16> = text.iter().map(|glyph| glyph.glyph_props.0).collect();
     assert_eq!(numbers, [5, 4]);
 }
 
@@ -139,14 +141,14 @@ fn a_form_that_the_font_lacks_leaves_both() {
     normalize(&WHOLE, Rounds::AsCode, &mut text).unwrap();
     let glyphs: Vec<_> = text.glyphs().iter().map(shown).collect();
     assert_eq!(glyphs, [(0x65, 1, 0), (0xFE00, 0, 1)]);
-    let selector = text.get(1);
-    assert_eq!(selector.general_category, GeneralCategory::Cf);
-    assert_eq!(selector.modified_combining_class, 4);
+    let selector = text.get(1).unicode_props;
+    assert_eq!(selector.general_category(), GeneralCategory::Cf);
+    assert_eq!(selector.high_byte(), 4);
 }
 
 /// The character, its glyph and its cluster.
-fn shown(glyph: &GlyphInfo) -> (u32, u32, u32) {
-    (glyph.glyph_id, glyph.var, glyph.cluster)
+fn shown(glyph: &GlyphInfo) -> (u32, u16, u32) {
+    (glyph.glyph_id, glyph.glyph_props.0, glyph.cluster)
 }
 
 /// A font that has every character below 65535, and no form that a selector selects.

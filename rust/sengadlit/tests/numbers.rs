@@ -1,6 +1,6 @@
 //! The numbers of enums, both ways, and the layouts that other languages read.
 
-use sengadlit::buffer::{GlyphMarks, glyph_flag};
+use sengadlit::buffer::{GlyphProps, LigProps, UnicodeProps, glyph_flag};
 use sengadlit::{
     BufferClusterLevel, BufferFlags, Direction, GeneralCategory, GlyphId, GlyphInfo, GlyphPosition,
     JoiningType, Pause, Script, Span, Tag,
@@ -76,32 +76,89 @@ fn joining_types_and_pauses_have_numbers() {
     );
 }
 
+/// HarfBuzz's `hb_glyph_info_t`: three words; `var1` with `glyph_props`, `lig_props` and `syllable`;
+/// `var2` with `unicode_props` and the shaper's two bytes.
 #[test]
-fn a_glyph_is_laid_out_as_its_documentation_states() {
+fn a_glyph_is_laid_out_as_harfbuzzs() {
     let places = [
         offset_of!(GlyphInfo, glyph_id),
-        offset_of!(GlyphInfo, cluster),
         offset_of!(GlyphInfo, mask),
-        offset_of!(GlyphInfo, var),
+        offset_of!(GlyphInfo, cluster),
+        offset_of!(GlyphInfo, glyph_props),
+        offset_of!(GlyphInfo, lig_props),
         offset_of!(GlyphInfo, syllable),
+        offset_of!(GlyphInfo, unicode_props),
         offset_of!(GlyphInfo, category),
         offset_of!(GlyphInfo, auxiliary),
-        offset_of!(GlyphInfo, general_category),
-        offset_of!(GlyphInfo, modified_combining_class),
-        offset_of!(GlyphInfo, lig_comp),
-        offset_of!(GlyphInfo, marks),
     ];
-    assert_eq!(places, [0, 4, 8, 12, 16, 17, 18, 19, 20, 21, 22]);
-    assert_eq!((size_of::<GlyphInfo>(), align_of::<GlyphInfo>()), (24, 4));
+    assert_eq!(places, [0, 4, 8, 12, 14, 15, 16, 18, 19]);
+    assert_eq!((size_of::<GlyphInfo>(), align_of::<GlyphInfo>()), (20, 4));
+    let sizes = [
+        size_of::<GlyphProps>(),
+        size_of::<LigProps>(),
+        size_of::<UnicodeProps>(),
+    ];
+    assert_eq!(sizes, [2, 1, 2]);
+}
+
+/// HarfBuzz's `hb_glyph_position_t`: five words.
+#[test]
+fn a_position_is_laid_out_as_harfbuzzs() {
+    let places = [
+        offset_of!(GlyphPosition, x_advance),
+        offset_of!(GlyphPosition, y_advance),
+        offset_of!(GlyphPosition, x_offset),
+        offset_of!(GlyphPosition, y_offset),
+        offset_of!(GlyphPosition, var),
+    ];
+    assert_eq!(places, [0, 4, 8, 12, 16]);
+    let layout = (size_of::<GlyphPosition>(), align_of::<GlyphPosition>());
+    assert_eq!(layout, (20, 4));
+}
+
+/// hb-ot-layout.hh: `hb_ot_layout_glyph_props_flags_t`, `IS_LIG_BASE`, `hb_unicode_props_flags_t`.
+#[test]
+fn properties_have_harfbuzzs_bits() {
+    let by_lookups = [
+        GlyphProps::BASE_GLYPH,
+        GlyphProps::LIGATURE,
+        GlyphProps::MARK,
+        GlyphProps::SUBSTITUTED,
+        GlyphProps::LIGATED,
+        GlyphProps::MULTIPLIED,
+    ];
+    assert_eq!(by_lookups.map(|bit| bit.0), [2, 4, 8, 0x10, 0x20, 0x40]);
+    let of_characters = [
+        UnicodeProps::IGNORABLE,
+        UnicodeProps::HIDDEN,
+        UnicodeProps::CONTINUATION,
+    ];
+    assert_eq!(of_characters.map(|bit| bit.0), [0x20, 0x40, 0x80]);
+}
+
+/// Each number of 16 bits, read as HarfBuzz's `_hb_glyph_info_get_general_category` and
+/// `_hb_glyph_info_get_modified_combining_class` do: low five bits, and of a mark the high byte.
+#[test]
+fn properties_are_read_as_harfbuzz_does() {
+    for bits in 0..=u16::MAX {
+        let props = UnicodeProps(bits);
+        let number = (bits & 0x1F) as u8;
+        let category = GeneralCategory::from_number(number).unwrap_or(GeneralCategory::Cn);
+        let high = (bits >> 8) as u8;
+        let class = if (10..=12).contains(&number) { high } else { 0 };
+        assert_eq!(props.general_category(), category);
+        assert_eq!(props.high_byte(), high);
+        assert_eq!(props.modified_combining_class(), class);
+        assert_eq!(props.is_ignorable(), bits & 0x20 != 0);
+        assert_eq!(props.is_hidden(), bits & 0x40 != 0);
+        assert_eq!(props.is_continuation(), bits & 0x80 != 0);
+    }
 }
 
 #[test]
 fn small_types_have_the_size_of_their_numbers() {
-    assert_eq!(size_of::<GlyphPosition>(), 16);
-    assert_eq!(offset_of!(GlyphPosition, y_offset), 12);
     assert_eq!(offset_of!(Span, len), 0);
     assert_eq!(offset_of!(Span, kind), size_of::<usize>());
-    assert_eq!(size_of::<GlyphMarks>(), 1);
     assert_eq!(size_of::<GeneralCategory>(), 1);
     assert_eq!(size_of::<BufferFlags>(), 4);
     assert_eq!(size_of::<GlyphId>(), 2);

@@ -248,7 +248,7 @@ fn a_planner_has_no_part_of_the_requests() {
 #[cfg(feature = "text")]
 mod text {
     use super::*;
-    use sengadlit::buffer::{BufferClusterLevel, GlyphInfo};
+    use sengadlit::buffer::{BufferClusterLevel, GlyphInfo, UnicodeProps};
     use sengadlit::ot_shape_normalize::{NormalizeContext, Rounds, normalize};
     use sengadlit::plan::NormalizationMode;
 
@@ -326,8 +326,8 @@ mod text {
                 .iter_mut()
                 .filter(|glyph| (0x300..0x370).contains(&glyph.glyph_id))
             {
-                glyph.general_category = GeneralCategory::Mn;
-                glyph.modified_combining_class = if glyph.glyph_id == 0x323 { 220 } else { 230 };
+                let class = if glyph.glyph_id == 0x323 { 220 } else { 230 };
+                glyph.unicode_props = UnicodeProps::new(GeneralCategory::Mn, class);
             }
         });
         text

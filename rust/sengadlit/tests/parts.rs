@@ -79,8 +79,8 @@ fn a_pause_that_may_not_change_changes_nothing() {
     let mut text = glyphs_of(&[0x12; 3], &[0; 3]);
     for glyph in &mut text {
         glyph.mask = 0x100;
-        glyph.marks.set_substituted(true);
-        glyph.marks.set_multiplied(true);
+        glyph.glyph_props.set_substituted(true);
+        glyph.glyph_props.set_multiplied(true);
     }
     let mut idle = Vec::new();
     for shaper in Shaper::ALL {

@@ -5,8 +5,8 @@ mod common;
 
 use common::numbers::Numbers;
 use sengadlit::buffer::{
-    Buffer, BufferClusterLevel, BufferFlags, Direction, GeneralCategory, GlyphInfo, GlyphMarks,
-    GlyphPosition, Tag,
+    Buffer, BufferClusterLevel, BufferFlags, Direction, GeneralCategory, GlyphInfo, GlyphPosition,
+    GlyphProps, Tag, UnicodeProps,
 };
 use sengadlit::font::{Font, GlyphId, NominalOnly};
 use sengadlit::ot_shape_position::{
@@ -38,16 +38,20 @@ impl Font for Wide {
 
 /// A glyph by its cluster and mask: 1 is ignorable, 2 was put in for an ignorable one.
 fn glyph(kind: u32, cluster: u32, mask: u32) -> GlyphInfo {
-    let mut marks = GlyphMarks::NONE;
-    marks.set_ignorable(kind > 0);
-    marks.set_substituted(kind > 1);
-    GlyphInfo {
+    let mut glyph = GlyphInfo {
         glyph_id: 40 + kind,
         cluster,
         mask,
-        marks,
         ..GlyphInfo::DEFAULT
-    }
+    };
+    glyph.unicode_props.set_ignorable(kind > 0);
+    glyph.glyph_props.set_substituted(kind > 1);
+    glyph
+}
+
+/// The properties of a space by its kind, as HarfBuzz numbers them.
+fn space(kind: u8) -> UnicodeProps {
+    UnicodeProps::new(GeneralCategory::Zs, kind)
 }
 
 fn text(glyphs: &[(u32, u32, u32)]) -> Buffer {
@@ -87,7 +91,7 @@ fn removed_in_steps(buffer: &Buffer) -> Vec<(u32, u32)> {
     let mut kept: Vec<GlyphInfo> = Vec::new();
     for at in 0..all.len() {
         let gone = all.get(at);
-        if !gone.marks.is_ignorable() || gone.marks.is_substituted() {
+        if !gone.unicode_props.is_ignorable() || gone.glyph_props.is_substituted() {
             kept.push(gone);
             continue;
         }
@@ -190,6 +194,7 @@ fn widths() {
         y_advance,
         x_offset,
         y_offset,
+        var: 0,
     };
     let mut buffer = text(&[(0, 0, 0), (1, 1, 0)]);
     // a buffer without positions keeps none
@@ -237,10 +242,7 @@ impl MetricsFont for Wide {
 #[test]
 fn vertical_text() {
     let mut buffer = text(&[(0, 0, 0), (1, 1, 0)]);
-    buffer.with_glyphs_mut(|glyphs| {
-        glyphs[1].general_category = GeneralCategory::Zs;
-        glyphs[1].modified_combining_class = 3;
-    });
+    buffer.with_glyphs_mut(|glyphs| glyphs[1].unicode_props = space(3));
     for direction in [Direction::TopToBottom, Direction::BottomToTop] {
         buffer.set_direction(direction);
         set_advances(&Wide, &mut buffer).unwrap();
@@ -250,6 +252,7 @@ fn vertical_text() {
             y_advance,
             x_offset: -20,
             y_offset: -880,
+            var: 0,
         };
         assert_eq!(buffer.positions(), [at(-41), at(-333)]);
     }
@@ -257,15 +260,14 @@ fn vertical_text() {
 
 #[test]
 fn widths_of_spaces() {
-    let space = |kind, marks| GlyphInfo {
+    let glyph = |kind, glyph_props| GlyphInfo {
         glyph_id: 251,
-        general_category: GeneralCategory::Zs,
-        modified_combining_class: kind,
-        marks,
+        unicode_props: space(kind),
+        glyph_props,
         ..GlyphInfo::DEFAULT
     };
-    let kinds = [0, 1, 3, 16, 17, 18, 19, 20, 21].map(|kind| space(kind, GlyphMarks::NONE));
-    let ligature = space(1, GlyphMarks::LIGATED);
+    let kinds = [0, 1, 3, 16, 17, 18, 19, 20, 21].map(|kind| glyph(kind, GlyphProps::NONE));
+    let ligature = glyph(1, GlyphProps::LIGATED);
     let mut buffer: Buffer = kinds.into_iter().chain([ligature]).collect();
     set_advances(&Wide, &mut buffer).unwrap();
     set_space_widths(&Wide, &mut buffer);
@@ -320,8 +322,7 @@ fn panics_leave_no_half() {
     let placed = || {
         let mut buffer = text(&[(1, 0, 0), (0, 1, 0)]);
         buffer.with_glyphs_mut(|glyphs| {
-            glyphs[0].general_category = GeneralCategory::Zs;
-            glyphs[0].modified_combining_class = 1;
+            glyphs[0].unicode_props = space(1);
         });
         set_advances(&Wide, &mut buffer).unwrap();
         buffer

@@ -3,8 +3,8 @@
 #![cfg(feature = "text")]
 
 use sengadlit::alloc::Global;
+use sengadlit::buffer::UnicodeProps;
 use sengadlit::font::NominalOnly;
-use sengadlit::ot_shape_normalize::HIDDEN;
 use sengadlit::ot_shape_prepare::{
     BEGINNING_OF_TEXT, CharRotation, UnicodeProperties, ensure_native_direction, form_clusters,
     insert_dotted_circle, preprocess_text_vowel_constraints, rotate_chars, set_unicode_properties,
@@ -44,7 +44,9 @@ fn clusters(buffer: &Buffer) -> Vec<u32> {
 fn begins(characters: &[u32]) -> Vec<bool> {
     let buffer = text(characters);
     let glyphs = buffer.glyphs().iter();
-    glyphs.map(|glyph| !glyph.marks.is_continuation()).collect()
+    glyphs
+        .map(|glyph| !glyph.unicode_props.is_continuation())
+        .collect()
 }
 
 #[test]
@@ -73,17 +75,20 @@ fn graphemes_of_unicode() {
 #[test]
 fn properties_of_unicode() {
     let buffer = text(&[0x41, 0x301, 0xAD, 0x34F, 0x200D]);
-    let [letter, acute, hyphen, grapheme_joiner, joiner] = buffer.glyphs() else {
+    let props: Vec<_> = buffer.iter().map(|glyph| glyph.unicode_props).collect();
+    let [letter, acute, hyphen, grapheme_joiner, joiner] = props[..] else {
         panic!("five glyphs");
     };
-    assert_eq!(letter.general_category, GeneralCategory::Lu);
-    assert_eq!((letter.marks.0, letter.modified_combining_class), (0, 0));
-    assert_eq!(acute.general_category, GeneralCategory::Mn);
-    assert_eq!(acute.modified_combining_class, 230);
-    assert!(hyphen.marks.is_ignorable() && hyphen.marks.0 & HIDDEN == 0);
-    assert!(grapheme_joiner.marks.is_ignorable() && grapheme_joiner.marks.0 & HIDDEN != 0);
+    assert_eq!(letter, UnicodeProps::new(GeneralCategory::Lu, 0));
+    assert_eq!(acute.general_category(), GeneralCategory::Mn);
+    assert_eq!(acute.modified_combining_class(), 230);
+    assert!(hyphen.is_ignorable() && !hyphen.is_hidden());
+    assert!(grapheme_joiner.is_ignorable() && grapheme_joiner.is_hidden());
     // ZWJ is 1 in the byte of a mark's class
-    assert_eq!(joiner.modified_combining_class, 1);
+    assert_eq!(
+        (joiner.high_byte(), joiner.modified_combining_class()),
+        (1, 0)
+    );
 }
 
 /// A number that is no character has the properties of U+FFFD.
@@ -126,7 +131,10 @@ fn circle_in_front() {
     buffer.set_flags(BEGINNING_OF_TEXT);
     insert_dotted_circle(&UnicodeTables, &font, &mut buffer).unwrap();
     assert_eq!(characters(&buffer), [0x25CC, 0x301, 0x65]);
-    assert_eq!(buffer.get(0).general_category, GeneralCategory::So);
+    assert_eq!(
+        buffer.get(0).unicode_props.general_category(),
+        GeneralCategory::So
+    );
 }
 
 #[test]
@@ -212,7 +220,7 @@ fn vowels_parted() {
     let buffer = parted(&[0x905, 0x946], none);
     assert_eq!(characters(&buffer), [0x905, 0x25CC, 0x946]);
     assert_eq!(clusters(&buffer), [0, 1, 1]);
-    assert!(!buffer.get(1).marks.is_continuation());
+    assert!(!buffer.get(1).unicode_props.is_continuation());
     // RA, virama and I, which look like II
     let buffer = parted(&[0x930, 0x94D, 0x907], none);
     assert_eq!(characters(&buffer), [0x930, 0x94D, 0x25CC, 0x907]);

@@ -8,7 +8,9 @@ use common::calls::{Call, Returned, Setting};
 use common::fonts::{PlainFont, PlainTables};
 use common::plans::{bare_plan, plan_of, plan_with};
 use sengadlit::alloc::{Global, Vec as List};
-use sengadlit::buffer::{Buffer, Direction, GlyphInfo, GlyphMarks, ShaperError, Span, Tag};
+use sengadlit::buffer::{
+    Buffer, Direction, GlyphInfo, GlyphProps, LigProps, ShaperError, Span, Tag,
+};
 use sengadlit::map::{FeatureMap, Map};
 use sengadlit::ot_shaper_syllabic::{
     indic_syllable, khmer_syllable, myanmar_syllable, use_syllable,
@@ -193,8 +195,8 @@ fn stretched(word_advance: i32, direction: Direction) -> (Plan, Buffer) {
     let mut text = text_of(&[0x710, 0x70F, 0x70F], 1000);
     for (place, component) in [(1, 2), (2, 3)] {
         let tile = GlyphInfo {
-            marks: GlyphMarks(4),
-            lig_comp: component,
+            glyph_props: GlyphProps::MULTIPLIED,
+            lig_props: LigProps(component),
             ..text.get(place)
         };
         text.set(place, tile);

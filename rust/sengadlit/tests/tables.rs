@@ -4,10 +4,12 @@
 
 mod common;
 
-use common::buffers::{buffer_of, letter, set_advances};
+use common::buffers::{buffer_of, letter, mark, set_advances};
 use common::fonts::JOINING_TYPES;
 use common::plans::{FEATURES, plan_of, plan_with};
-use sengadlit::buffer::{Buffer, Direction, GeneralCategory, GlyphInfo, GlyphMarks, Span, Tag};
+use sengadlit::buffer::{
+    Buffer, Direction, GeneralCategory, GlyphInfo, GlyphProps, LigProps, Span, Tag, UnicodeProps,
+};
 use sengadlit::font::{Font, GlyphId, NominalOnly, Tables};
 use sengadlit::plan::{Category, JoiningType, Pause, Plan, Position};
 use sengadlit::shaper::{HookOutcome, Shaper, run_pause};
@@ -34,10 +36,10 @@ impl Sum {
                 glyph.syllable,
                 glyph.category,
                 glyph.auxiliary,
-                glyph.lig_comp,
+                glyph.lig_props.component(),
             ];
             self.add(u32::from_be_bytes(bytes));
-            self.add(glyph.modified_combining_class);
+            self.add(glyph.unicode_props.modified_combining_class());
         }
     }
 }
@@ -197,7 +199,7 @@ fn table_of_categories_passed_over() {
             vec![
                 dual,
                 GlyphInfo {
-                    general_category,
+                    unicode_props: UnicodeProps::new(general_category, 0),
                     ..middle
                 },
                 dual,
@@ -220,19 +222,16 @@ fn table_of_selectors() {
 #[test]
 fn table_of_modifiers() {
     let plan = plan_of(Shaper::Arabic, b"Arab");
-    let mark = |c, modified_combining_class| GlyphInfo {
-        modified_combining_class,
-        ..letter(c, 0)
-    };
     let mut sum = Sum::new();
-    let mut buffer = buffer_of(&[mark(0x64E, 27); 2], 2);
+    let mut buffer = buffer_of(&[mark(0x64E, 0, 27); 2], 2);
     for c in EVERY.map(u32::from) {
         for class in [220, 230] {
-            buffer.set(0, mark(0x64E, 27));
-            buffer.set(1, mark(c, class));
+            buffer.set(0, mark(0x64E, 0, 27));
+            buffer.set(1, mark(c, 0, class));
             Shaper::Arabic.reorder_marks(&plan, &mut buffer, 0, 2);
             sum.add(buffer.glyphs()[0].glyph_id);
-            sum.add(buffer.glyphs()[0].modified_combining_class);
+            let props = buffer.glyphs()[0].unicode_props;
+            sum.add(props.modified_combining_class());
         }
     }
     assert_eq!(sum.0, 0xD68E_C3D7_93AD_5B15);
@@ -255,12 +254,7 @@ fn table_of_combining_classes() {
                 .flat_map(|b| classes.iter().map(move |c| (b, c)))
             {
                 let marks = [(0x654, *a), (0x655, *b), (0x64E, *c)];
-                let marks = (0..)
-                    .zip(marks)
-                    .map(|(i, (id, modified_combining_class))| GlyphInfo {
-                        modified_combining_class,
-                        ..letter(id, i)
-                    });
+                let marks = (0..).zip(marks).map(|(i, (id, class))| mark(id, i, class));
                 let mut buffer: Buffer = marks.collect();
                 shaper.reorder_marks(&plan, &mut buffer, 0, 3);
                 sum.add_glyphs(buffer.glyphs());
@@ -275,12 +269,13 @@ fn table_of_categories_in_words() {
     let plan = plan_of(Shaper::Arabic, b"Arab");
     let mut sum = Sum::new();
     for general_category in GeneralCategory::ALL {
-        for marks in 0..32 {
-            let word = letter(1, 0);
+        // what lookups did in the low three bits, and the bits IGNORABLE and CONTINUATION
+        for marks in 0..32_u16 {
+            let bits = UnicodeProps((marks >> 3 & 1) << 5 | (marks >> 4) << 7);
             let word = GlyphInfo {
-                general_category,
-                marks: GlyphMarks(marks),
-                ..word
+                unicode_props: UnicodeProps::new(general_category, 0) | bits,
+                glyph_props: GlyphProps((marks & 7) << 4),
+                ..letter(1, 0)
             };
             let tile = |auxiliary| GlyphInfo {
                 auxiliary,
@@ -298,24 +293,32 @@ fn table_of_categories_in_words() {
     assert_eq!(sum.0, 0x0516_1B2E_DBD0_FD65);
 }
 
+/// A glyph that is one of several for one is a tile, fixed where its component is even, and repeated
+/// where it's odd; a ligature itself has component 0.
 #[test]
 fn table_of_tiles() {
     let plan = plan_with(Shaper::Arabic, b"Arab", &[(b"stch", 8)]);
-    let mut sum = Sum::new();
-    for lig_comp in 0..=u8::MAX {
-        for marks in 0..32 {
+    for lig_props in 0..=u8::MAX {
+        for glyph_props in 0..=0x1FF_u16 {
             let glyph = GlyphInfo {
-                lig_comp,
-                marks: GlyphMarks(marks),
+                lig_props: LigProps(lig_props),
+                glyph_props: GlyphProps(glyph_props),
+                auxiliary: 5,
                 ..letter(1, 0)
+            };
+            let is_tile = glyph_props & 0x40 != 0;
+            let is_repeated = lig_props & 0x10 == 0 && lig_props & 1 == 1;
+            let auxiliary = match (is_tile, is_repeated) {
+                (true, true) => 9,
+                (true, false) => 8,
+                (false, _) => 5,
             };
             let mut buffer = buffer_of(&[glyph], 1);
             run_pause(Pause::RecordStch, &plan, &Whole, &[], &mut buffer).unwrap();
-            sum.add_glyphs(buffer.glyphs());
-            sum.add(buffer.has_stch());
+            assert_eq!(buffer.get(0), GlyphInfo { auxiliary, ..glyph });
+            assert_eq!(buffer.has_stch(), is_tile);
         }
     }
-    assert_eq!(sum.0, 0x2970_FC39_7A5F_DB25);
 }
 
 #[test]

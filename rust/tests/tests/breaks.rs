@@ -3,7 +3,7 @@
 //! where no flag forbids it keep their forms, and edits stay near.
 
 use sengadlit::alloc::Global;
-use sengadlit::buffer::{BufferFlags, GeneralCategory};
+use sengadlit::buffer::{BufferFlags, GeneralCategory, UnicodeProps};
 use sengadlit::font::NominalOnly;
 use sengadlit::map::FeatureMap;
 use sengadlit::plan::{BreakFlags, Category, JoiningType, Position};
@@ -217,7 +217,7 @@ fn random_buffer(numbers: &mut Numbers, mix: &str) -> Buffer {
     let flagged = numbers.below(64);
     for (place, (&character, cluster)) in text.iter().zip(clusters).enumerate() {
         let mut glyph = GlyphInfo::of_character(character, cluster);
-        glyph.general_category = Letters.general_category(character);
+        glyph.unicode_props = UnicodeProps::new(Letters.general_category(character), 0);
         if place == flagged {
             glyph.mask = numbers.below(8) as u32;
         }

@@ -2,7 +2,7 @@
 //! pieces, each by itself, is what they make of the whole. docs/BREAKS.md has the laws.
 
 use sengadlit::alloc::Global;
-use sengadlit::buffer::{BufferFlags, Direction, GeneralCategory};
+use sengadlit::buffer::{BufferFlags, Direction, GeneralCategory, UnicodeProps};
 use sengadlit::categories::{indic, khmer, myanmar, universal};
 use sengadlit::font::NominalOnly;
 use sengadlit::map::FeatureMap;
@@ -575,7 +575,7 @@ fn thai_text(numbers: &mut Numbers, marks_join: bool) -> Vec<GlyphInfo> {
         glyphs.push(GlyphInfo {
             glyph_id,
             cluster,
-            general_category,
+            unicode_props: UnicodeProps::new(general_category, 0),
             ..GlyphInfo::DEFAULT
         });
     }
@@ -741,11 +741,17 @@ fn marked_text(numbers: &mut Numbers, classes: &[u8]) -> (Buffer, Range<usize>) 
     let mut glyphs: Vec<_> = clusters
         .into_iter()
         .zip(classes)
-        .map(|(cluster, class)| GlyphInfo {
-            glyph_id: numbers.one_of(&[0x0654, 0x0655, 0x0658, 0x06DC, 0x05B7, 0x41]),
-            cluster,
-            modified_combining_class: class,
-            ..GlyphInfo::DEFAULT
+        .map(|(cluster, class)| {
+            let category = match class {
+                0 => GeneralCategory::Lo,
+                _ => GeneralCategory::Mn,
+            };
+            GlyphInfo {
+                glyph_id: numbers.one_of(&[0x0654, 0x0655, 0x0658, 0x06DC, 0x05B7, 0x41]),
+                cluster,
+                unicode_props: UnicodeProps::new(category, class),
+                ..GlyphInfo::DEFAULT
+            }
         })
         .collect();
     let is_one = numbers.once_in(2);
@@ -829,7 +835,7 @@ fn stretched_text(numbers: &mut Numbers) -> Buffer {
         glyph_id: numbers.below(6) as u32,
         cluster,
         auxiliary: numbers.one_of(&ACTIONS),
-        general_category: numbers.one_of(&CATEGORIES),
+        unicode_props: UnicodeProps::new(numbers.one_of(&CATEGORIES), 0),
         ..GlyphInfo::DEFAULT
     };
     let glyphs: Vec<_> = clusters.into_iter().map(glyph).collect();

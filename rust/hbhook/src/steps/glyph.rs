@@ -36,6 +36,7 @@ pub(super) fn fields_of(glyph: &GlyphInfo, names: &Names) -> Vec<(&'static str, 
         glyph.syllable >> 4,
         glyph.syllable & 15
     );
+    let props = glyph.unicode_props;
     vec![
         ("glyph", number_and_character(glyph.glyph_id)),
         ("cluster", glyph.cluster.to_string()),
@@ -44,11 +45,8 @@ pub(super) fn fields_of(glyph: &GlyphInfo, names: &Names) -> Vec<(&'static str, 
         ("syllable", syllable),
         ("category", named(glyph.category, names.category)),
         ("auxiliary", named(glyph.auxiliary, names.auxiliary)),
-        (
-            "combining class",
-            glyph.modified_combining_class.to_string(),
-        ),
-        ("general category", glyph.general_category.to_string()),
+        ("combining class", props.high_byte().to_string()),
+        ("general category", props.general_category().to_string()),
         ("marks", marks_of(glyph)),
     ]
 }
@@ -89,13 +87,13 @@ fn glyph_flags_of(mask: u32) -> String {
 
 // The marks of a glyph, by their names.
 fn marks_of(glyph: &GlyphInfo) -> String {
-    let marks = glyph.marks;
+    let (by_lookups, props) = (glyph.glyph_props, glyph.unicode_props);
     let named = [
-        (marks.is_substituted(), "substituted"),
-        (marks.is_ligated(), "ligated"),
-        (marks.is_multiplied(), "multiplied"),
-        (marks.is_ignorable(), "ignorable"),
-        (marks.is_continuation(), "continuation"),
+        (by_lookups.is_substituted(), "substituted"),
+        (by_lookups.is_ligated(), "ligated"),
+        (by_lookups.is_multiplied(), "multiplied"),
+        (props.is_ignorable(), "ignorable"),
+        (props.is_continuation(), "continuation"),
     ];
     joined(named.into_iter().filter(|(is_set, _)| *is_set))
 }

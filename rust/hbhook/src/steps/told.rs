@@ -134,10 +134,7 @@ fn fields(pairs: &[Pair]) -> Vec<String> {
             "another category",
         ),
         (
-            count(&|(a, b)| {
-                let class = |glyph: &GlyphInfo| glyph.modified_combining_class;
-                (class(a), a.general_category, a.marks) != (class(b), b.general_category, b.marks)
-            }),
+            count(&|(a, b)| (a.glyph_props, a.unicode_props) != (b.glyph_props, b.unicode_props)),
             "other properties",
         ),
     ];

@@ -1,5 +1,5 @@
 use super::*;
-use crate::buffer::{BufferClusterLevel, BufferFlags, Direction, Script};
+use crate::buffer::{BufferClusterLevel, BufferFlags, Direction, Script, UnicodeProps};
 use crate::plan::{Category, JoiningType, Position};
 use std::string::ToString;
 use std::vec::Vec as List;
@@ -111,8 +111,13 @@ fn categories_are_those_of_the_tables() {
         ..GlyphInfo::DEFAULT
     };
     buffer.push(surrogate).unwrap();
+    buffer.with_glyphs_mut(|glyphs| glyphs[1].unicode_props = UnicodeProps(0xDCA0));
     buffer.set_general_categories(&Letters);
-    let categories = buffer.into_iter().map(|glyph| glyph.general_category);
+    // (the bits IGNORABLE and CONTINUATION stay)
+    assert_eq!(buffer.get(1).unicode_props, UnicodeProps(0x00A7));
+    let categories = buffer
+        .into_iter()
+        .map(|glyph| glyph.unicode_props.general_category());
     let (cn, lo) = (GeneralCategory::Cn, GeneralCategory::Lo);
     assert!(categories.eq([cn, lo, GeneralCategory::Cc]));
 }

@@ -4,33 +4,31 @@ use crate::buffer::GeneralCategory;
 use crate::plan::JoiningType;
 use std::vec::Vec as List;
 
-fn tell(text: &str) -> List<(GeneralCategory, u8, GlyphMarks)> {
+fn tell(text: &str) -> List<(GeneralCategory, u8, UnicodeProps)> {
     let buffer = Buffer::from_text(text, &UnicodeTables).expect("it fits");
     let properties = |glyph: &GlyphInfo| {
-        (
-            glyph.general_category,
-            glyph.modified_combining_class,
-            glyph.marks,
-        )
+        let props = glyph.unicode_props;
+        let class = props.modified_combining_class();
+        (props.general_category(), class, props & UnicodeProps::all())
     };
     buffer.into_iter().map(properties).collect()
 }
 
 #[test]
-fn a_text_has_categories_classes_and_marks() {
+fn a_text_has_categories_classes_and_bits() {
     // alef, shadda before other marks, a zero width joiner, a combining grapheme joiner, a sign of 0
     assert_eq!(
         tell("\u{0627}\u{0651}\u{200D}\u{034F}\u{093E}"),
         [
-            (GeneralCategory::Lo, 0, GlyphMarks::NONE),
-            (GeneralCategory::Mn, 27, GlyphMarks::CONTINUATION),
-            (GeneralCategory::Cf, 0, GlyphMarks::IGNORABLE),
+            (GeneralCategory::Lo, 0, UnicodeProps::NONE),
+            (GeneralCategory::Mn, 27, UnicodeProps::CONTINUATION),
+            (GeneralCategory::Cf, 0, UnicodeProps::IGNORABLE),
             (
                 GeneralCategory::Mn,
                 0,
-                GlyphMarks::IGNORABLE | GlyphMarks::CONTINUATION
+                UnicodeProps::IGNORABLE | UnicodeProps::CONTINUATION
             ),
-            (GeneralCategory::Mc, 0, GlyphMarks::CONTINUATION),
+            (GeneralCategory::Mc, 0, UnicodeProps::CONTINUATION),
         ]
     );
 }

@@ -3,8 +3,8 @@
 use super::numbers::Numbers;
 use sengadlit::alloc::{Global, Vec as List};
 use sengadlit::buffer::{
-    Buffer, BufferClusterLevel, BufferFlags, Direction, GeneralCategory, GlyphInfo, GlyphMarks,
-    GlyphPosition, Script, Span,
+    Buffer, BufferClusterLevel, BufferFlags, Direction, GeneralCategory, GlyphInfo, GlyphPosition,
+    GlyphProps, LigProps, Script, Span, UnicodeProps,
 };
 
 /// All that a caller can read of a buffer, to compare what was with what is.
@@ -54,10 +54,26 @@ impl Contents {
         sorted(self.glyphs.iter().map(|glyph| glyph.cluster), true)
     }
 
-    /// The caller's numbers of the glyphs in rising order.
-    pub fn vars(&self) -> Vec<u32> {
-        sorted(self.glyphs.iter().map(|glyph| glyph.var), false)
+    /// The numbers of the glyphs in rising order.
+    pub fn numbers(&self) -> Vec<u32> {
+        sorted(self.glyphs.iter().map(number_of), false)
     }
+}
+
+/// The bits of `glyph_props` that hooks read or write.
+const OF_HOOKS: u16 = 0x70;
+
+/// A number of 13 bits in the bits of `glyph_props` that no hook reads or writes: by it a glyph is
+/// known again.
+pub fn numbered(number: u32) -> GlyphProps {
+    let number = number as u16;
+    GlyphProps(number & 0xF | number >> 4 << 7)
+}
+
+/// The number of a glyph.
+pub fn number_of(glyph: &GlyphInfo) -> u32 {
+    let bits = glyph.glyph_props.0 & !OF_HOOKS;
+    (bits & 0xF | bits >> 7 << 4).into()
 }
 
 /// Numbers in rising order, each once if that is wanted.
@@ -85,14 +101,22 @@ pub fn text_of(characters: &[u32], max_len: usize) -> Buffer {
     buffer_of(&glyphs, max_len)
 }
 
-/// A letter of a cluster.
+/// A letter of a cluster, by whose number it is known.
 pub fn letter(glyph_id: u32, cluster: u32) -> GlyphInfo {
     GlyphInfo {
         glyph_id,
         cluster,
-        var: cluster,
-        general_category: GeneralCategory::Lo,
+        glyph_props: numbered(cluster),
+        unicode_props: UnicodeProps::new(GeneralCategory::Lo, 0),
         ..GlyphInfo::DEFAULT
+    }
+}
+
+/// A nonspacing mark of a class, in a cluster.
+pub fn mark(glyph_id: u32, cluster: u32, class: u8) -> GlyphInfo {
+    GlyphInfo {
+        unicode_props: UnicodeProps::new(GeneralCategory::Mn, class),
+        ..letter(glyph_id, cluster)
     }
 }
 
@@ -129,7 +153,7 @@ const BLOCKS: [u32; 12] = [
     0x590, 0x620, 0x710, 0x915, 0xE30, 0xEB0, 0x1000, 0x1100, 0x1160, 0x1780, 0x1800, 0xAC00,
 ];
 
-/// A buffer drawn by lot, without positions. Each glyph's number of the caller is its place.
+/// A buffer drawn by lot, without positions. Each glyph's number is its place.
 pub fn random_buffer(numbers: &mut Numbers, kind: Glyphs) -> Buffer {
     let most = numbers.one_of(&[3, 10, 24, 24, 60]);
     let length = numbers.below(most);
@@ -137,11 +161,14 @@ pub fn random_buffer(numbers: &mut Numbers, kind: Glyphs) -> Buffer {
     let clusters = random_clusters(numbers, length);
     let syllables = random_syllables(numbers, kind, length);
     let glyphs: Vec<_> = (0..length)
-        .map(|i| GlyphInfo {
-            cluster: clusters[i],
-            syllable: syllables[i],
-            var: i as u32,
-            ..random_glyph(numbers, kind, block)
+        .map(|i| {
+            let glyph = random_glyph(numbers, kind, block);
+            GlyphInfo {
+                cluster: clusters[i],
+                syllable: syllables[i],
+                glyph_props: glyph.glyph_props | numbered(i as u32),
+                ..glyph
+            }
         })
         .collect();
     let mut buffer = buffer_of(&glyphs, length);
@@ -191,11 +218,23 @@ fn random_glyph(numbers: &mut Numbers, kind: Glyphs, block: u32) -> GlyphInfo {
         mask: numbers.number(),
         category: random_byte(numbers, kind, 56),
         auxiliary: random_byte(numbers, kind, 15),
-        general_category: numbers.one_of(&GeneralCategory::ALL),
-        modified_combining_class: random_class(numbers),
-        lig_comp: numbers.below(16) as u8,
-        marks: GlyphMarks(numbers.below(32) as u8),
+        unicode_props: random_properties(numbers, kind),
+        lig_props: LigProps(numbers.byte()),
+        glyph_props: GlyphProps(numbers.below(8) as u16 * 0x10),
         ..GlyphInfo::DEFAULT
+    }
+}
+
+/// Every second glyph is a mark, so that classes matter; a number of no category counts as Cn.
+fn random_properties(numbers: &mut Numbers, kind: Glyphs) -> UnicodeProps {
+    let category = match numbers.below(2) {
+        0 => GeneralCategory::Mn,
+        _ => numbers.one_of(&GeneralCategory::ALL),
+    };
+    let bits = UnicodeProps(numbers.below(8) as u16 * 0x20);
+    match kind {
+        Glyphs::Any | Glyphs::Spoiled if numbers.once_in(4) => UnicodeProps(numbers.draw() as u16),
+        _ => UnicodeProps::new(category, random_class(numbers)) | bits,
     }
 }
 

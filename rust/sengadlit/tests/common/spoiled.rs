@@ -4,17 +4,17 @@ use super::buffers::{letter, set_random_positions};
 use super::numbers::Numbers;
 use sengadlit::alloc::Vec as List;
 use sengadlit::buffer::{
-    Buffer, BufferClusterLevel, BufferFlags, BufferSettings, Direction, GlyphInfo, GlyphMarks,
-    GlyphPosition, GlyphRewriting, Script,
+    Buffer, BufferClusterLevel, BufferFlags, BufferSettings, Direction, GlyphInfo, GlyphPosition,
+    GlyphProps, GlyphRewriting, LigProps, Script, UnicodeProps,
 };
 
 /// Gives the glyphs any fields, and makes up to three calls, whether their conditions hold or not.
 pub fn spoil(numbers: &mut Numbers, buffer: &mut Buffer) {
     buffer.with_glyphs_mut(|glyphs| {
         for glyph in glyphs {
-            glyph.lig_comp = numbers.byte();
-            glyph.marks = GlyphMarks(numbers.byte());
-            glyph.modified_combining_class = numbers.byte();
+            glyph.lig_props = LigProps(numbers.byte());
+            glyph.glyph_props = GlyphProps(numbers.draw() as u16);
+            glyph.unicode_props = UnicodeProps(numbers.draw() as u16);
         }
     });
     for _ in 0..numbers.below(4) {

@@ -1,7 +1,7 @@
 //! What a field of a line may be: a number, a character, a tag, a word.
 
 use super::fault::{Fault, check};
-use sengadlit::buffer::{GeneralCategory, GlyphMarks};
+use sengadlit::buffer::{GeneralCategory, GlyphProps};
 use sengadlit::{GlyphId, Tag};
 use std::str::FromStr;
 
@@ -86,17 +86,29 @@ pub fn yes_or_no(field: &str) -> Result<bool, Fault> {
     }
 }
 
+/// What lookups did to a glyph, and two properties of its character.
+#[derive(Clone, Copy, Debug)]
+pub struct Marks {
+    pub by_lookups: GlyphProps,
+    pub is_ignorable: bool,
+    pub is_continuation: bool,
+}
+
 /// The marks of these letters; `-` alone is none.
-pub fn marks(letters: &str) -> Result<GlyphMarks, Fault> {
+pub fn marks(letters: &str) -> Result<Marks, Fault> {
     check(!letters.is_empty())?;
-    let mut marks = GlyphMarks::NONE;
+    let mut marks = Marks {
+        by_lookups: GlyphProps::NONE,
+        is_ignorable: false,
+        is_continuation: false,
+    };
     for letter in letters.chars().filter(|_| letters != "-") {
         match letter {
-            's' => marks.set_substituted(true),
-            'l' => marks.set_ligated(true),
-            'm' => marks.set_multiplied(true),
-            'i' => marks.set_ignorable(true),
-            'c' => marks.set_continuation(true),
+            's' => marks.by_lookups |= GlyphProps::SUBSTITUTED,
+            'l' => marks.by_lookups |= GlyphProps::LIGATED,
+            'm' => marks.by_lookups |= GlyphProps::MULTIPLIED,
+            'i' => marks.is_ignorable = true,
+            'c' => marks.is_continuation = true,
             _ => return Err(Fault::Unreadable),
         }
     }

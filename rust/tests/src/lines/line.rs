@@ -181,10 +181,21 @@ fn set_field(glyph: &mut GlyphInfo, field: &str, value: &str) -> Result<(), Faul
         "syllable" => glyph.syllable = decimal(value)?,
         "cat" => glyph.category = decimal(value)?,
         "aux" => glyph.auxiliary = decimal(value)?,
-        "gc" => glyph.general_category = general_category(value)?,
-        "class" => glyph.modified_combining_class = decimal(value)?,
-        "comp" => glyph.lig_comp = decimal_to(value, 15)?,
-        "marks" => glyph.marks = marks(value)?,
+        "gc" => {
+            // (the class stays)
+            let class = glyph.unicode_props.high_byte();
+            let category = general_category(value)?;
+            glyph.unicode_props.set_general_category(category);
+            glyph.unicode_props.set_high_byte(class);
+        }
+        "class" => glyph.unicode_props.set_high_byte(decimal(value)?),
+        "comp" => glyph.lig_props.set_component(decimal_to(value, 15)?),
+        "marks" => {
+            let marks = marks(value)?;
+            glyph.glyph_props = marks.by_lookups;
+            glyph.unicode_props.set_ignorable(marks.is_ignorable);
+            glyph.unicode_props.set_continuation(marks.is_continuation);
+        }
         _ => return Err(Fault::Unreadable),
     }
     Ok(())

@@ -22,7 +22,7 @@ fn line_of(glyph: &GlyphInfo, position: Option<&GlyphPosition>) -> String {
         glyph.syllable,
         glyph.category,
         glyph.auxiliary,
-        glyph.modified_combining_class,
+        glyph.unicode_props.high_byte(),
         position.unwrap_or_default()
     )
 }

@@ -7,6 +7,7 @@ use super::printing::lines_of;
 use super::settings::Settings;
 use super::tables::LineTables;
 use sengadlit::alloc::Global;
+use sengadlit::buffer::UnicodeProps;
 use sengadlit::{Buffer, Font, GlyphId, GlyphInfo, GlyphPosition, Span, Tables};
 
 /// The greatest length of a buffer before a line sets it.
@@ -82,7 +83,7 @@ impl Session {
             self.buffer.push(GlyphInfo {
                 glyph_id: u32::from(character),
                 cluster,
-                general_category: self.tables.general_category(character),
+                unicode_props: UnicodeProps::new(self.tables.general_category(character), 0),
                 ..GlyphInfo::DEFAULT
             })?;
         }

@@ -82,12 +82,15 @@ pub fn substitute_some(draft: &mut Draft, length: usize) {
     }
 }
 
-/// Classes of combining marks.
+/// Classes of combining marks, most of them marks indeed.
 pub fn set_classes(draft: &mut Draft, length: usize) {
     for place in 0..length {
         let class = draft
             .numbers
             .one_of(&[0, 0, 20, 21, 22, 23, 25, 26, 220, 230]);
+        if draft.percent(90) {
+            draft.add(format_args!("at {place} gc 12"));
+        }
         draft.add(format_args!("at {place} class {class}"));
     }
 }
