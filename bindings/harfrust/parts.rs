@@ -73,18 +73,6 @@ pub use sengadlit::buffer::context_characters as context;
 
 // ---- Glyphs ----
 
-pub fn info(glyph_id: u32, mask: u32, cluster: u32, var1: u32) -> Info {
-    Info { glyph_id, mask, cluster, vars: [var1, 0] }
-}
-
-pub fn var1(info: &Info) -> u32 {
-    info.vars[0]
-}
-
-pub fn lig_comp(info: &Info) -> u8 {
-    info.lig_comp()
-}
-
 pub fn combining_class(info: &Info) -> u8 {
     info.modified_combining_class()
 }

@@ -146,15 +146,10 @@ impl Snapshot {
     fn show(&self) -> String {
         let infos = self.infos[..self.len].iter();
         let shown = infos.map(|info| {
-            let (class, bytes) =
-                (info.unicode_props(), [info.ot_shaper_var_u8_category(), info.ot_shaper_var_u8_auxiliary()]);
-            format!(
-                "{:04x}={},{:x},{:08x},{class:04x},{bytes:x?}",
-                info.glyph_id,
-                info.cluster,
-                info.mask,
-                parts::var1(info)
-            )
+            let Glyph { glyph_id, mask, cluster, glyph_props, lig_props, syllable, unicode_props, category, auxiliary } =
+                glyph_of(info);
+            let (lookups, bytes) = ([glyph_props.0, lig_props.0.into(), syllable.into()], [category, auxiliary]);
+            format!("{glyph_id:04x}={cluster},{mask:x},{lookups:x?},{:04x},{bytes:x?}", unicode_props.0)
         });
         shown.collect::<Vec<_>>().join(" ")
     }

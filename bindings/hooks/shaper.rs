@@ -1,8 +1,7 @@
 //! The script shapers: each hook and pause is that of the crate `sengadlit`, on a text that glyphs are copied into and
 //! back. What one host has otherwise than another is in `parts`.
 //!
-//! A glyph of the host fits whole: `var` carries its glyph and ligature properties, the combining class the high byte of
-//! its Unicode properties, and bits 3 to 5 of the marks IGNORABLE, HIDDEN and CONTINUATION. After a pause the text is the newer of the two until
+//! A glyph of the host and one of `sengadlit` have the same fields. After a pause the text is the newer of the two until
 //! lookups are about to read the buffer (`settle`), so that a run of pauses copies once.
 
 // `hooks` is this module or its shadow.
@@ -14,15 +13,15 @@ use core::any::Any;
 use core::ops::Range;
 
 use sengadlit::alloc::Global;
-use sengadlit::buffer::GlyphMarks;
+use sengadlit::buffer::{GlyphProps, LigProps, UnicodeProps};
 use sengadlit::font::FeaturesOnly;
 use sengadlit::ot_shaper_syllabic::{clear_syllables_in, set_categories_and_positions_in, set_categories_in};
 use sengadlit::plan::{BaseSearch, BreakFlags, NormalizationMode, ZeroWidthMarks};
 use sengadlit::shaper::{pause_may_change, Hook};
 use sengadlit::{
     ot_shaper_hangul, ot_shaper_indic, ot_shaper_khmer, ot_shaper_use, run_pause, Buffer, BufferFlags, Direction,
-    FeatureMap, GeneralCategory, GlyphInfo as Glyph, GlyphPosition as Position, Pause, Plan, Planner, Request, Script,
-    Shaper, ShaperError, Tag,
+    FeatureMap, GlyphInfo as Glyph, GlyphPosition as Position, Pause, Plan, Planner, Request, Script, Shaper, ShaperError,
+    Tag,
 };
 
 use super::buffer::*;
@@ -125,52 +124,36 @@ fn plan_of(plan: &hb_ot_shape_plan_t) -> &Plan {
 
 // ---- Glyphs ----
 
-/// The general categories by HarfBuzz's numbers, which are those of `GeneralCategory`.
-const CATEGORIES: [GeneralCategory; 32] = {
-    let mut categories = [GeneralCategory::Cn; 32];
-    let mut number = 0;
-    while number < GeneralCategory::ALL.len() {
-        categories[number] = GeneralCategory::ALL[number];
-        number += 1;
-    }
-    categories
-};
-
 #[inline(always)]
 fn glyph_of(info: &Info) -> Glyph {
-    let props = info.unicode_props();
-    let marks = (info.glyph_props() >> 4) as u8 & 7 | (props >> 2) as u8 & 0x38;
     Glyph {
         glyph_id: info.glyph_id,
-        cluster: info.cluster,
         mask: info.mask,
-        var: parts::var1(info),
+        cluster: info.cluster,
+        glyph_props: GlyphProps(info.glyph_props()),
+        lig_props: LigProps(info.lig_props()),
         syllable: info.syllable(),
+        unicode_props: UnicodeProps(info.unicode_props()),
         category: info.ot_shaper_var_u8_category(),
         auxiliary: info.ot_shaper_var_u8_auxiliary(),
-        general_category: CATEGORIES[usize::from(props & 31)],
-        modified_combining_class: (props >> 8) as u8,
-        lig_comp: parts::lig_comp(info),
-        marks: GlyphMarks(marks),
     }
 }
 
 #[inline(always)]
 fn info_of(glyph: &Glyph) -> Info {
-    let marks = u16::from(glyph.marks.0);
-    let class = u16::from(glyph.modified_combining_class) << 8;
-    let mut info = parts::info(glyph.glyph_id, glyph.mask, glyph.cluster, glyph.var);
-    info.set_glyph_props(info.glyph_props() & !0x70 | (marks & 7) << 4);
+    let mut info = Info { glyph_id: glyph.glyph_id, mask: glyph.mask, cluster: glyph.cluster, ..Info::default() };
+    info.set_glyph_props(glyph.glyph_props.0);
+    info.set_lig_props(glyph.lig_props.0);
     info.set_syllable(glyph.syllable);
-    info.set_unicode_props(glyph.general_category as u16 | (marks & 0x38) << 2 | class);
+    info.set_unicode_props(glyph.unicode_props.0);
     info.set_ot_shaper_var_u8_category(glyph.category);
     info.set_ot_shaper_var_u8_auxiliary(glyph.auxiliary);
     info
 }
 
 fn position_of(position: &GlyphPosition) -> Position {
-    let &GlyphPosition { x_advance, y_advance, x_offset, y_offset, .. } = position;
-    Position { x_advance, y_advance, x_offset, y_offset }
+    let &GlyphPosition { x_advance, y_advance, x_offset, y_offset, var } = position;
+    Position { x_advance, y_advance, x_offset, y_offset, var }
 }
 
 // ---- The text that hooks work on ----
@@ -295,7 +278,7 @@ fn bare_glyph_of(info: &Info) -> Glyph {
         syllable: info.syllable(),
         category: info.ot_shaper_var_u8_category(),
         auxiliary: info.ot_shaper_var_u8_auxiliary(),
-        general_category: CATEGORIES[usize::from(info.unicode_props() & 31)],
+        unicode_props: UnicodeProps(info.unicode_props()),
         ..Glyph::DEFAULT
     }
 }
@@ -321,21 +304,9 @@ fn preprocess_text<const S: usize>(plan: &hb_ot_shape_plan_t, font: FontRef, buf
     let characters = buffer.info[..buffer.len].iter().map(|info| info.glyph_id);
     if may_rewrite(shaper, plan_of(plan), characters, |c| font.has_glyph(c)) {
         on_text(buffer, 0..buffer.len, |text| {
-            exchange_flags(text);
-            shaper.preprocess_text(plan_of(plan), &parts::font(font), text)?;
-            exchange_flags(text);
-            Ok(())
+            shaper.preprocess_text(plan_of(plan), &parts::font(font), text)
         });
     }
-}
-
-/// Lets HIDDEN and CONTINUATION change places: Thai marks continuations, and no other hook reads or sets these two.
-fn exchange_flags(text: &mut Buffer) {
-    text.with_glyphs_mut(|glyphs| {
-        for GlyphMarks(bits) in glyphs.iter_mut().map(|glyph| &mut glyph.marks) {
-            *bits = *bits & !0x30 | (*bits & 0x10) << 1 | (*bits & 0x20) >> 1;
-        }
-    });
 }
 
 /// Whether preprocessing may change a text. It leaves Thai without SARA AM where GSUB has the script, and Hangul of
@@ -464,8 +435,8 @@ fn postprocess_glyphs<const S: usize>(plan: &hb_ot_shape_plan_t, font: FontRef, 
     });
     let text = buffer.work.text();
     for (to, from) in buffer.pos.iter_mut().zip(text.positions()) {
-        let &Position { x_advance, y_advance, x_offset, y_offset } = from;
-        *to = GlyphPosition { x_advance, y_advance, x_offset, y_offset, ..*to };
+        let &Position { x_advance, y_advance, x_offset, y_offset, var } = from;
+        *to = GlyphPosition { x_advance, y_advance, x_offset, y_offset, var };
     }
     text.take_positions();
 }
@@ -536,7 +507,7 @@ fn may_change(pause: Pause, plan: &Plan, buffer: &mut hb_buffer_t) -> bool {
 
 fn any_is_substituted(buffer: &mut hb_buffer_t) -> bool {
     if buffer.work.is_newer {
-        buffer.work.text().glyphs().iter().any(|glyph| glyph.marks.is_substituted())
+        buffer.work.text().glyphs().iter().any(|glyph| glyph.glyph_props.is_substituted())
     } else {
         buffer.info[..buffer.len].iter().any(parts::is_substituted)
     }

@@ -105,7 +105,7 @@ impl Tables for Ucd {
     }
 
     fn general_category(&self, c: char) -> GeneralCategory {
-        super::CATEGORIES[c.general_category().to_rb() as usize & 31]
+        GeneralCategory::from_number(c.general_category().to_rb() as u8).unwrap_or(GeneralCategory::Cn)
     }
 
     fn indic_categories(&self, c: u32) -> (u8, u8) {
@@ -138,18 +138,6 @@ pub fn context(characters: &[char]) -> impl Deref<Target = [char]> + '_ {
 }
 
 // ---- Glyphs ----
-
-pub fn info(glyph_id: u32, mask: u32, cluster: u32, var1: u32) -> Info {
-    Info { glyph_id, mask, cluster, var1, var2: 0 }
-}
-
-pub fn var1(info: &Info) -> u32 {
-    info.var1
-}
-
-pub fn lig_comp(info: &Info) -> u8 {
-    _hb_glyph_info_get_lig_comp(info)
-}
 
 pub fn combining_class(info: &Info) -> u8 {
     _hb_glyph_info_get_modified_combining_class(info)

@@ -4,11 +4,11 @@
 //! What these steps read of a character alone is remembered, so that a text without marks gets its properties and glyphs
 //! in place. Others are copied once, and back once. A step that has nothing to do isn't called.
 
-use core::cell::RefCell;
+use core::cell::{Cell, RefCell};
 use core::sync::atomic::{AtomicU32, Ordering};
 
 use sengadlit::ot_shape_normalize::{
-    decompose, normalize, order_marks_in, recompose_in, NormalizeContext, Rounds, HIDDEN,
+    decompose, normalize, order_marks_in, recompose_in, NormalizeContext, Rounds,
 };
 use sengadlit::ot_shape_prepare::{
     ensure_native_direction, form_clusters, insert_dotted_circle, preprocess_text_vowel_constraints, rotate_chars,
@@ -16,7 +16,7 @@ use sengadlit::ot_shape_prepare::{
 };
 use sengadlit::shaper::{Composition, Decomposition, Hook};
 use sengadlit::unicode::{self, UnicodeTables};
-use sengadlit::{ot_shaper_arabic, ot_shaper_hebrew, BufferClusterLevel, GlyphId, Tables};
+use sengadlit::{ot_shaper_arabic, ot_shaper_hebrew, BufferClusterLevel, GeneralCategory, GlyphId, Tables};
 
 use super::super::*;
 use crate::hb::ot_shape::OtShapeContext;
@@ -38,7 +38,7 @@ pub fn may_turn(plan: &hb_ot_shape_plan_t) -> bool {
         return true;
     };
     let direction = direction_of(plan.direction);
-    let letter = Glyph { general_category: GeneralCategory::Lo, ..Glyph::DEFAULT };
+    let letter = Glyph { unicode_props: UnicodeProps::new(GeneralCategory::Lo, 0), ..Glyph::DEFAULT };
     let mut text: Buffer = core::iter::once(letter).collect();
     text.set_direction(direction);
     text.set_script(script_of(Some(script)));
@@ -94,7 +94,7 @@ fn facts_of(c: u32, text: &mut Buffer) -> Result<u32, ShaperError> {
 fn find_facts(c: u32, text: &mut Buffer) -> Result<u32, ShaperError> {
     refill(text, &[Glyph { glyph_id: c, ..Glyph::DEFAULT }])?;
     set_unicode_properties(&UnicodeTables, text);
-    let mut facts = c >> PLACE << NUMBER | u32::from(props_of(&text.get(0)));
+    let mut facts = c >> PLACE << NUMBER | u32::from(text.get(0).unicode_props.0);
     let Some(character) = char::from_u32(c) else {
         return Ok(facts | OPENS);
     };
@@ -166,6 +166,9 @@ fn run_steps(plan: &hb_ot_shape_plan_t, font: FontRef, wanted: HostDirection, bu
         load(buffer, &mut text)?;
         let done = steps.run(&mut text, &mut part);
         store(buffer, &text);
+        if steps.is_beyond.get() {
+            steps.renumber(buffer);
+        }
         if steps.is_rewritten {
             note_normalized(buffer);
         }
@@ -176,15 +179,11 @@ fn run_steps(plan: &hb_ot_shape_plan_t, font: FontRef, wanted: HostDirection, bu
     buffer.work.part = part;
 }
 
-/// Marks of `sengadlit`'s, by their bits.
-const IGNORABLE: u8 = GlyphMarks::IGNORABLE.0;
-const CONTINUATION: u8 = GlyphMarks::CONTINUATION.0;
-
 /// Makes the text one of the buffer's characters with their properties.
 fn load(buffer: &hb_buffer_t, text: &mut Buffer) -> Result<(), ShaperError> {
     let mut glyphs: Vec<Glyph> = text.take_glyphs().into();
     glyphs.clear();
-    glyphs.extend(buffer.info[..buffer.len].iter().map(character_of));
+    glyphs.extend(buffer.info[..buffer.len].iter().map(glyph_of));
     let mut flags = BufferFlags::from_harfbuzz(parts::flag_bits(buffer.flags));
     if buffer.flags.contains(HostFlags::BEGINNING_OF_TEXT) {
         flags.0 |= BEGINNING_OF_TEXT.0;
@@ -197,21 +196,6 @@ fn load(buffer: &hb_buffer_t, text: &mut Buffer) -> Result<(), ShaperError> {
     text.replace_glyphs(glyphs.into())
 }
 
-#[inline(always)]
-fn character_of(info: &Info) -> Glyph {
-    let props = info.unicode_props();
-    let marks = (props >> 2) as u8 & IGNORABLE | (props >> 1) as u8 & HIDDEN | (props >> 3) as u8 & CONTINUATION;
-    Glyph {
-        glyph_id: info.glyph_id,
-        cluster: info.cluster,
-        mask: info.mask,
-        general_category: CATEGORIES[usize::from(props & 31)],
-        modified_combining_class: (props >> 8) as u8,
-        marks: GlyphMarks(marks),
-        ..Glyph::DEFAULT
-    }
-}
-
 /// Puts the text's glyphs into the buffer.
 fn store(buffer: &mut hb_buffer_t, text: &Buffer) {
     if !buffer.ensure(text.len()) {
@@ -220,25 +204,14 @@ fn store(buffer: &mut hb_buffer_t, text: &Buffer) {
     buffer.len = text.len();
     buffer.direction = host_direction_of(text.direction());
     for (info, glyph) in buffer.info.iter_mut().zip(text.glyphs()) {
-        *info = parts::info(glyph.glyph_id, glyph.mask, glyph.cluster, glyph.var);
-        info.set_unicode_props(props_of(glyph));
-        info.set_ot_shaper_var_u8_category(glyph.category);
-        info.set_ot_shaper_var_u8_auxiliary(glyph.auxiliary);
+        *info = info_of(glyph);
+        info.set_normalizer_glyph_index(glyph.glyph_props.0.into());
     }
-}
-
-/// The host's properties of a character, by HarfBuzz's bits.
-#[inline(always)]
-fn props_of(glyph: &Glyph) -> u16 {
-    let GlyphMarks(marks) = glyph.marks;
-    let [ignorable, hidden, continues, class] =
-        [marks & IGNORABLE, marks & HIDDEN, marks & CONTINUATION, glyph.modified_combining_class].map(u16::from);
-    glyph.general_category as u16 | ignorable << 2 | hidden << 1 | continues << 3 | class << 8
 }
 
 /// Notes what the buffer's later steps want to know of its characters.
 fn note_facts(facts: u32, buffer: &mut hb_buffer_t) {
-    if facts & u32::from(UnicodeProps::IGNORABLE.bits()) != 0 {
+    if facts & u32::from(UnicodeProps::IGNORABLE.0) != 0 {
         buffer.scratch_flags |= HB_BUFFER_SCRATCH_FLAG_HAS_DEFAULT_IGNORABLES;
     }
     if facts & IS_FRACTION != 0 {
@@ -292,6 +265,8 @@ struct Steps<'p, 'f, 'a, 'u> {
     level: BufferClusterLevel,
     /// Whether a character may have come apart, or another have been drawn for it.
     is_rewritten: bool,
+    /// Whether a glyph's number doesn't fit 16 bits.
+    is_beyond: Cell<bool>,
 }
 
 impl<'p, 'f, 'a, 'u> Steps<'p, 'f, 'a, 'u> {
@@ -321,6 +296,7 @@ impl<'p, 'f, 'a, 'u> Steps<'p, 'f, 'a, 'u> {
             grapheme_level: if merges_graphemes { BufferClusterLevel::MonotoneGraphemes } else { level },
             level,
             is_rewritten: false,
+            is_beyond: Cell::new(false),
         }
     }
 
@@ -331,7 +307,7 @@ impl<'p, 'f, 'a, 'u> Steps<'p, 'f, 'a, 'u> {
 
     /// Whether one of the text's characters continues a grapheme, as each mark does.
     fn continues(&self) -> bool {
-        self.has(UnicodeProps::CONTINUATION.bits().into())
+        self.has(UnicodeProps::CONTINUATION.0.into())
     }
 
     /// Gives a text its glyphs where it is, if nothing else is to be done to it. Returns whether it did.
@@ -424,21 +400,15 @@ impl<'p, 'f, 'a, 'u> Steps<'p, 'f, 'a, 'u> {
         if self.has(SELECTS) {
             self.is_rewritten = true;
             let rounds = self.rounds;
-            normalize(&self.context(), rounds, text)?;
-            self.renumber(text);
-            return Ok(());
+            return normalize(&self.context(), rounds, text);
         }
-        let has_mark = text.glyphs().iter().skip(1).any(|glyph| glyph.general_category.is_mark());
+        let has_mark = text.glyphs().iter().skip(1).any(|glyph| glyph.unicode_props.general_category().is_mark());
         if !self.number(text) {
             self.is_rewritten = true;
             self.take_apart(text, part.get_or_insert_default())?;
         }
-        let len = text.len();
         if has_mark || self.rounds == Rounds::Always {
             self.order_and_compose(text);
-        }
-        if self.is_rewritten || text.len() < len {
-            self.renumber(text);
         }
         Ok(())
     }
@@ -448,14 +418,8 @@ impl<'p, 'f, 'a, 'u> Steps<'p, 'f, 'a, 'u> {
         if self.has(COMES_APART) && self.preference != NormalizationMode::NONE {
             return false;
         }
-        let font = &mut *self.font;
-        text.with_glyphs_mut(|glyphs| {
-            glyphs.iter_mut().all(|glyph| {
-                let number = font.nominal_glyph(glyph.glyph_id);
-                glyph.var = number.map_or(0, crate::GlyphId::to_u32);
-                number.is_some()
-            })
-        })
+        let context = self.context();
+        text.with_glyphs_mut(|glyphs| glyphs.iter_mut().all(|glyph| context.number(glyph)))
     }
 
     /// Takes the clusters apart that may come apart, each in this other text, and gives the others their glyphs.
@@ -466,11 +430,11 @@ impl<'p, 'f, 'a, 'u> Steps<'p, 'f, 'a, 'u> {
         let mut all: Vec<Glyph> = Vec::with_capacity(2 * text.len());
         let mut rest = text.glyphs();
         while !rest.is_empty() {
-            let marks = rest[1..].iter().take_while(|glyph| glyph.general_category.is_mark()).count();
+            let marks = rest[1..].iter().take_while(|glyph| glyph.unicode_props.general_category().is_mark()).count();
             let (cluster, behind) = rest.split_at(1 + marks);
             let start = all.len();
             all.extend_from_slice(cluster);
-            if !context.number(&mut all[start..]) {
+            if !context.number_whole(&mut all[start..]) {
                 all.truncate(start);
                 refill(part, cluster)?;
                 decompose(&context, part)?;
@@ -504,20 +468,21 @@ impl<'p, 'f, 'a, 'u> Steps<'p, 'f, 'a, 'u> {
             preference: self.preference,
             invisible_glyph: self.invisible_glyph,
             draws_selectors: self.draws_selectors,
+            is_beyond: &self.is_beyond,
         }
     }
 
     /// Gives the glyphs whose numbers don't fit 16 bits their numbers; a space or a hyphen that the font lacks is drawn as
     /// the common one.
-    fn renumber(&mut self, text: &mut Buffer) {
-        let font = &mut *self.font;
-        text.with_glyphs_mut(|glyphs| {
-            for glyph in glyphs.iter_mut().filter(|glyph| glyph.var == BEYOND) {
-                let drawn = if glyph.glyph_id == 0x2011 { 0x2010 } else { 0x20 };
-                let number = font.nominal_glyph(glyph.glyph_id).or_else(|| font.nominal_glyph(drawn));
-                glyph.var = number.map_or(0, crate::GlyphId::to_u32);
+    #[cold]
+    fn renumber(&mut self, buffer: &mut hb_buffer_t) {
+        for info in &mut buffer.info[..buffer.len] {
+            if info.normalizer_glyph_index() == u32::from(BEYOND) {
+                let drawn = if info.glyph_id == 0x2011 { 0x2010 } else { 0x20 };
+                let number = self.font.nominal_glyph(info.glyph_id).or_else(|| self.font.nominal_glyph(drawn));
+                info.set_normalizer_glyph_index(number.map_or(0, crate::GlyphId::to_u32));
             }
-        });
+        }
     }
 }
 
@@ -541,12 +506,12 @@ fn level_of(level: hb_buffer_cluster_level_t) -> BufferClusterLevel {
 // ---- What normalization reads ----
 
 /// The number that stands for each that doesn't fit 16 bits, until the text is normalized.
-const BEYOND: u32 = 0xFFFF;
+const BEYOND: u16 = 0xFFFF;
 
 /// A glyph whose number is below that.
 fn narrow(number: u32) -> Option<GlyphId> {
     let number = u16::try_from(number).ok()?;
-    (u32::from(number) != BEYOND).then_some(GlyphId(number))
+    (number != BEYOND).then_some(GlyphId(number))
 }
 
 /// The shaper, the host's font and Unicode's tables. A variant with a number that doesn't fit 16 bits is none.
@@ -557,23 +522,27 @@ struct Context<'p, 'f, 'a, 'u> {
     preference: NormalizationMode,
     invisible_glyph: Option<GlyphId>,
     draws_selectors: bool,
+    is_beyond: &'f Cell<bool>,
 }
 
 impl Context<'_, '_, '_, '_> {
+    /// Gives a character its glyph. Returns whether the font has it.
+    #[inline]
+    fn number(&self, glyph: &mut Glyph) -> bool {
+        let number = self.nominal_glyph(glyph.glyph_id);
+        glyph.glyph_props = GlyphProps(number.map_or(0, |number| number.0));
+        number.is_some()
+    }
+
     /// Gives each character of a cluster its glyph, if the font has all and it is known that none comes apart. Returns
     /// whether it did.
-    fn number(&self, cluster: &mut [Glyph]) -> bool {
+    fn number_whole(&self, cluster: &mut [Glyph]) -> bool {
         let is_short = match self.preference {
             NormalizationMode::NONE => true,
             NormalizationMode::AUTO => cluster.len() == 1,
             NormalizationMode::CD => false,
         };
-        let mut font = self.font.borrow_mut();
-        cluster.iter_mut().all(|glyph| {
-            let number = font.nominal_glyph(glyph.glyph_id);
-            glyph.var = number.map_or(0, crate::GlyphId::to_u32);
-            number.is_some() && (is_short || stays_whole(glyph.glyph_id))
-        })
+        cluster.iter_mut().all(|glyph| self.number(glyph) && (is_short || stays_whole(glyph.glyph_id)))
     }
 }
 
@@ -603,7 +572,10 @@ impl NormalizeContext for Context<'_, '_, '_, '_> {
     #[inline]
     fn nominal_glyph(&self, c: u32) -> Option<GlyphId> {
         let number = self.font.borrow_mut().nominal_glyph(c)?.to_u32();
-        Some(narrow(number).unwrap_or(GlyphId(u16::MAX)))
+        Some(narrow(number).unwrap_or_else(|| {
+            self.is_beyond.set(true);
+            GlyphId(BEYOND)
+        }))
     }
 
     fn variation_glyph(&self, c: u32, selector: u32) -> Option<GlyphId> {
