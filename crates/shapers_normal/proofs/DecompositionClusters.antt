@@ -4,11 +4,11 @@ use Rattle.std.specs.List.{AllByRecursion, flat_map}
 use Rattle.std.specs.Option.{option_map_or}
 use Rattle.shapers_base.specs.declared.font.GlyphId.{GlyphId}
 use Rattle.shapers_buffer.specs.declared.buffer.glyph.hb_glyph_info_t.{hb_glyph_info_t}
-use Rattle.shapers_buffer.specs.Properties.{with_high_byte}
 use Rattle.shapers_buffer.proofs.MappedLists.{all-flat_map}
 use Rattle.shapers_clusters.proofs.Halves.{Each}
 use Rattle.shapers_normal.specs.Context.{Context}
-use Rattle.shapers_normal.specs.Decomposition.{apart_way, as_part, becomes, cluster_becomes, drawn_space, image, mark_clusters, text_decomposed, without_glyph, written_as}
+use Rattle.shapers_normal.specs.Decomposition.{apart_way, as_part, as_space, becomes, cluster_becomes, drawn_space, image, mark_clusters, text_decomposed, without_glyph, written_as}
+use Rattle.shapers_normal.specs.Properties.{numbered_as}
 use Rattle.shapers_normal.specs.Sorting.{is_mark_glyph}
 use Rattle.shapers_normal.specs.Variants.{cut_before_others, form_written, forms_written, is_kept_cluster, is_selector_glyph, selecting_nothing, with_first, with_number}
 
@@ -20,7 +20,7 @@ either P f (Some x) g some none = some x
 
 without : (P : ℕ → Type 0) (context : Context) (g : hb_glyph_info_t) → P g.cluster → P (without_glyph context g).cluster
 without P context g p =
-    either P (λ space. let r : hb_glyph_info_t = record g { glyph_props = record { 0 = space.1.0 }; unicode_props = with_high_byte space.0 g.unicode_props } in r)
+    either P (λ space. as_space space.0 (numbered_as space.1.0 g))
     (drawn_space context g) _ (λ space. p) p
 
 each-parts : (P : ℕ → Type 0) (context : Context) (g : hb_glyph_info_t) (cs : List ℕ) → P g.cluster
@@ -31,14 +31,14 @@ each-parts P context g (c ∷ cs) p = (p, each-parts P context g cs p)
 pub each-written : (P : ℕ → Type 0) (context : Context) (g : hb_glyph_info_t) (cs : List ℕ) → P g.cluster
     → Each P (written_as context g cs)
 each-written P context g [] p = (
-  either P (λ (glyph : GlyphId). let r : hb_glyph_info_t = record g { glyph_props = record { 0 = glyph.0 } } in r)
+  either P (λ (glyph : GlyphId). numbered_as glyph.0 g)
       (context.nominal g.glyph_id) (without_glyph context g) (λ glyph. p) (without P context g p),
   tt,
 )
 each-written P context g (c ∷ cs) p = (p, each-parts P context g cs p)
 
 numbered : (P : ℕ → Type 0) (context : Context) (g : hb_glyph_info_t) → P g.cluster → P (with_number context g).cluster
-numbered P context g p = either P (λ (glyph : GlyphId). let r : hb_glyph_info_t = record g { glyph_props = record { 0 = glyph.0 } } in r)
+numbered P context g p = either P (λ (glyph : GlyphId). numbered_as glyph.0 g)
     (context.nominal g.glyph_id) g (λ glyph. p) p
 
 each-numbered : (P : ℕ → Type 0) (context : Context) (gs : List hb_glyph_info_t) → Each P gs
@@ -48,8 +48,7 @@ each-numbered P context (g ∷ gs) p = (numbered P context g p.0, each-numbered 
 
 each-by : (P : ℕ → Type 0) (context : Context) (g selector : hb_glyph_info_t) (more : List hb_glyph_info_t)
     (o : Option GlyphId) → Each P (g ∷ (selector ∷ more))
-    → Each P (option_map_or (λ (variant : GlyphId). (let r : hb_glyph_info_t = record g { glyph_props = record { 0 = variant.0 } } in r)
-    ∷ map (with_number context) more) o
+    → Each P (option_map_or (λ (variant : GlyphId). numbered_as variant.0 g ∷ map (with_number context) more) o
     (with_number context g ∷ with_number context (selecting_nothing context selector) ∷ map (with_number context) more))
 each-by P context g selector more None p = (
   numbered P context g p.0,

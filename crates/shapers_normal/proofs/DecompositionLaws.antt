@@ -7,6 +7,7 @@ use Rattle.std.proofs.lemmas.Grind.{flat_map-append}
 use Rattle.std.proofs.lemmas.List.{length-append, length-map}
 use Rattle.shapers_buffer.specs.declared.buffer.glyph.hb_glyph_info_t.{hb_glyph_info_t}
 use Rattle.shapers_buffer.proofs.MappedLists.{all-append}
+use Rattle.shapers_normal.specs.Properties.{numbered_as}
 use Rattle.shapers_normal.specs.declared.ot_shape_normalize.decomposing.Way.{Way}
 use Rattle.shapers_normal.specs.declared.ot_shape_normalize.decomposing.Way.TheVariants.{Short, Whole}
 use Rattle.shapers_normal.specs.Context.{Context, has_glyph}
@@ -135,8 +136,7 @@ size_all follows (g ∷ gs) = size_first follows g (cut_before_others follows gs
 
 -- a cluster that is kept doesn't grow
 form_by : (context : Context) (g selector : hb_glyph_info_t) (more : List hb_glyph_info_t) (o : Option GlyphId)
-    → length (option_map_or (λ (variant : GlyphId). (let r : hb_glyph_info_t = record g { glyph_props = record { 0 = variant.0 } } in r)
-    ∷ map (with_number context) more) o
+    → length (option_map_or (λ (variant : GlyphId). numbered_as variant.0 g ∷ map (with_number context) more) o
     (with_number context g ∷ with_number context (selecting_nothing context selector) ∷ map (with_number context) more))
     ≤ length (g ∷ (selector ∷ more))
 form_by context g selector more None = omega (arith, length-map more (with_number context))

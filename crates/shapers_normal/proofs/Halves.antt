@@ -7,13 +7,12 @@ use Rattle.std.proofs.lemmas.Bool.{false≢true}
 use Rattle.shapers_buffer.specs.declared.buffer.glyph.hb_glyph_info_t.{hb_glyph_info_t}
 use Rattle.shapers_buffer.specs.declared.buffer.level.BufferClusterLevel.{BufferClusterLevel}
 use Rattle.shapers_buffer.specs.Glyph.{clusters, order_view, plain}
-use Rattle.shapers_buffer.specs.Properties.{HIDDEN, set_property}
 use Rattle.shapers_clusters.specs.Cuts.{ShareNone}
 use Rattle.shapers_clusters.proofs.Halves.{Each}
 use Rattle.shapers_normal.specs.Context.{Context}
 use Rattle.shapers_normal.specs.Decomposition.{first_round}
 use Rattle.shapers_normal.specs.Laws.{ComesApartInHalves, NormalizesInHalves, OrdersAlone, ends_in_joiner, opens_anew}
-use Rattle.shapers_normal.specs.Normalization.{composes, joiners_shown, later_rounds, passes_over, shown_behind}
+use Rattle.shapers_normal.specs.Normalization.{composes, joiners_shown, later_rounds, passes_over, shown_behind, unseen}
 use Rattle.shapers_normal.specs.Recomposition.{recomposed}
 use Rattle.shapers_normal.specs.Sorting.{class_of, is_mark_glyph, marks_ordered}
 use Rattle.shapers_normal.proofs.Beside.{Not, each_of}
@@ -28,7 +27,7 @@ pub not_joiner : (before behind : ℕ) (g : hb_glyph_info_t) → eqb g.glyph_id 
     → passes_over before behind g ≡ g
 not_joiner before behind g other =
     ap (λ b. cond (b && (eqb behind 0 || nat_le before behind))
-    (let r : hb_glyph_info_t = record g { unicode_props = set_property HIDDEN false g.unicode_props } in r) g) other
+    (unseen g) g) other
 
 shown_halves : (c : ℕ) (front : List hb_glyph_info_t) (g : hb_glyph_info_t) (behind : List hb_glyph_info_t)
     → ends_in_joiner front ≡ false → eqb g.glyph_id 0x034F ≡ false → shown_behind c (front ++ g ∷ behind)
@@ -55,9 +54,8 @@ joiners_halves (f ∷ (h ∷ front)) g behind last other =
 each-passed : (P : ℕ → Type 0) (before behind : ℕ) (g : hb_glyph_info_t) → P g.cluster
     → P (passes_over before behind g).cluster
 each-passed P before behind g p =
-    elim (eqb g.glyph_id 0x034F && (eqb behind 0 || nat_le before behind)) as (λ b. P
-    (cond b (let r : hb_glyph_info_t = record g { unicode_props = set_property HIDDEN false g.unicode_props } in r) g).cluster)
-    [ true ↦ p | false ↦ p ]
+    elim (eqb g.glyph_id 0x034F && (eqb behind 0 || nat_le before behind)) as (λ b.
+    P (cond b (unseen g) g).cluster) [ true ↦ p | false ↦ p ]
 
 each-shown_behind : (P : ℕ → Type 0) (c : ℕ) (gs : List hb_glyph_info_t) → Each P gs → Each P (shown_behind c gs)
 each-shown_behind P c [] p = tt

@@ -3,8 +3,7 @@ use Rattle.std.proofs.Common.{◌≡◌, ◌+◌, ◌-◌, ◌<◌, ◌≤◌, �
 use Rattle.std.proofs.lemmas.List.{drop-set-lt, get_or-set_same, length-drop, length-set, take-append-drop, take_more_set}
 use Rattle.shapers_buffer.specs.declared.buffer.glyph.hb_glyph_info_t.{hb_glyph_info_t}
 use Rattle.shapers_buffer.specs.Glyph.{default_glyph}
-use Rattle.shapers_buffer.specs.Properties.{HIDDEN, set_property}
-use Rattle.shapers_normal.specs.Normalization.{joiners_shown, passes_over, shown_behind}
+use Rattle.shapers_normal.specs.Normalization.{joiners_shown, passes_over, shown_behind, unseen}
 use Rattle.shapers_normal.specs.Sorting.{class_of}
 use Rattle.shapers_normal.proofs.CharacterProperties.{class_shown}
 
@@ -24,8 +23,8 @@ showing_start (g ∷ gs) = record { text = refl; some = omega arith; same_length
 class_passed : (before behind : ℕ) (g : hb_glyph_info_t) → class_of (passes_over before behind g) ≡ class_of g
 class_passed before behind g =
     let seen : Bool = eqb g.glyph_id 0x034F && (eqb behind 0 || leb before behind) in
-    let shown : hb_glyph_info_t = record g { unicode_props = set_property HIDDEN false g.unicode_props } in
-    elim seen as (λ b. class_of (cond b shown g) ≡ class_of g) [ true ↦ class_shown g.unicode_props | false ↦ refl ]
+    elim seen as (λ b. class_of (cond b (unseen g) g) ≡ class_of g)
+    [ true ↦ class_shown g.unicode_props | false ↦ refl ]
 
 -- one more place, with a glyph on either side
 pub showing_next : (old now new : List hb_glyph_info_t) (i : ℕ) → Showing old now i → i + 1 < length now

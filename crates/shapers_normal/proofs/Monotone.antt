@@ -11,7 +11,6 @@ use Rattle.shapers_buffer.specs.declared.buffer.level.BufferClusterLevel.{Buffer
 use Rattle.shapers_buffer.specs.Clusters.{least, merge, merges, stretch_of, with_stretch}
 use Rattle.shapers_buffer.specs.Glyph.{clusters, default_glyph}
 use Rattle.shapers_buffer.specs.GlyphFlags.{unsafe_inside}
-use Rattle.shapers_buffer.specs.Properties.{HIDDEN, set_property}
 use Rattle.shapers_buffer.proofs.ClusterLemmas.{get_or-stretch, length-stretch, map-stretch, three_parts}
 use Rattle.shapers_buffer.proofs.MappedLists.{all-flat_map, all-range}
 use Rattle.shapers_clusters.specs.Cuts.{IsMonotone}
@@ -21,8 +20,8 @@ use Rattle.shapers_clusters.proofs.Proved.{exact_cuts_hold, merge_holds}
 use Rattle.shapers_normal.specs.Context.{Context}
 use Rattle.shapers_normal.specs.Decomposition.{apart_way, becomes, cluster_becomes, first_round, image, mark_clusters, text_decomposed}
 use Rattle.shapers_normal.specs.Laws.{OrdersAlone, OrdersMonotone, NormalizesMonotone}
-use Rattle.shapers_normal.specs.Normalization.{composes, has_rounds, joiners_shown, later_rounds, passes_over, shown_behind}
-use Rattle.shapers_normal.specs.Properties.{as_character}
+use Rattle.shapers_normal.specs.Normalization.{composes, has_rounds, joiners_shown, later_rounds, passes_over, shown_behind, unseen}
+use Rattle.shapers_normal.specs.Properties.{as_character, numbered_as}
 use Rattle.shapers_normal.specs.Recomposition.{StarterWalk, composition, left_as_is, next_glyph, recomposed, taken_in, walk_over}
 use Rattle.shapers_normal.specs.Sorting.{brought_before, class_of, classes, is_mark_glyph, mark_runs, marks_ordered, passed_marks, run_ordered, run_sorted, sorted_in, stay_together}
 use Rattle.shapers_normal.specs.Variants.{cut_before_others, form_written, forms_written, has_variant_at, is_kept_cluster, is_selector_glyph, selecting_nothing, variant_joined, variants_joined, with_first, with_number}
@@ -98,8 +97,7 @@ together_cut follows (g ∷ gs) = together_first follows g (cut_before_others fo
     ∙ ap (λ xs. g ∷ xs) (together_cut follows gs)
 
 number_cluster : (g : hb_glyph_info_t) (o : Option GlyphId)
-    → (option_map_or (λ (glyph : GlyphId). let r : hb_glyph_info_t = record g { glyph_props = record { 0 = glyph.0 } } in r) o g).cluster
-    ≡ g.cluster
+    → (option_map_or (λ (glyph : GlyphId). numbered_as glyph.0 g) o g).cluster ≡ g.cluster
 number_cluster g None = refl
 number_cluster g (Some glyph) = refl
 
@@ -112,8 +110,7 @@ clusters-numbered context (g ∷ gs) =
 
 form_pairs_by : (R : ℕ → ℕ → Type 0) (context : Context) (g selector : hb_glyph_info_t) (more : List hb_glyph_info_t)
     (o : Option GlyphId) → Pairs R (g ∷ (selector ∷ more))
-    → Pairs R (option_map_or (λ (variant : GlyphId). (let r : hb_glyph_info_t = record g { glyph_props = record { 0 = variant.0 } } in r)
-    ∷ map (with_number context) more) o
+    → Pairs R (option_map_or (λ (variant : GlyphId). numbered_as variant.0 g ∷ map (with_number context) more) o
     (with_number context g ∷ with_number context (selecting_nothing context selector) ∷ map (with_number context) more))
 form_pairs_by R context g selector more None p =
     pairs_same R (g ∷ (selector ∷ more))
@@ -126,8 +123,8 @@ form_pairs_by R context g selector more None p =
     ∙ ap (λ ks. g.cluster ∷ selector.cluster ∷ ks) (clusters-numbered context more)) p
 form_pairs_by R context g selector more (Some variant) p =
     let one : Pairs R (g ∷ more) = (p.0.1, p.1.1) in
-    pairs_same R (g ∷ more) ((let r : hb_glyph_info_t = record g { glyph_props = record { 0 = variant.0 } } in r)
-    ∷ map (with_number context) more) (ap (λ ks. g.cluster ∷ ks) (clusters-numbered context more)) one
+    pairs_same R (g ∷ more) (numbered_as variant.0 g ∷ map (with_number context) more)
+    (ap (λ ks. g.cluster ∷ ks) (clusters-numbered context more)) one
 
 form_pairs : (R : ℕ → ℕ → Type 0) (context : Context) (form : List hb_glyph_info_t) → Pairs R form
     → Pairs R (form_written context form)
@@ -294,8 +291,7 @@ marks_keep context o om level gs m =
 passed_cluster : (before behind : ℕ) (g : hb_glyph_info_t) → (passes_over before behind g).cluster ≡ g.cluster
 passed_cluster before behind g =
     elim (eqb g.glyph_id 0x034F && (eqb behind 0 || nat_le before behind)) as (λ b.
-    (cond b (let r : hb_glyph_info_t = record g { unicode_props = set_property HIDDEN false g.unicode_props } in r) g).cluster
-    ≡ g.cluster) [ true ↦ refl | false ↦ refl ]
+    (cond b (unseen g) g).cluster ≡ g.cluster) [ true ↦ refl | false ↦ refl ]
 
 clusters-shown_behind : (before : ℕ) (gs : List hb_glyph_info_t) → clusters (shown_behind before gs) ≡ clusters gs
 clusters-shown_behind before [] = refl

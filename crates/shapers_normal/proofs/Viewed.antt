@@ -10,6 +10,7 @@ use Rattle.shapers_buffer.specs.Glyph.{order_view, plain}
 use Rattle.shapers_buffer.proofs.MappedLists.{list_any-map}
 use Rattle.shapers_normal.specs.Context.{Context}
 use Rattle.shapers_normal.specs.Decomposition.{apart_way, as_part, becomes, cluster_becomes, first_round, image, text_decomposed, written_as}
+use Rattle.shapers_normal.specs.Properties.{numbered_as}
 use Rattle.shapers_normal.specs.Sorting.{is_mark_glyph, stay_together}
 use Rattle.shapers_normal.specs.Variants.{cut_before_others, form_written, forms_written, has_variant_at, is_kept_cluster, is_selector_glyph, selecting_nothing, variant_joined, variants_joined, with_first, with_number}
 use Rattle.shapers_normal.proofs.FirstKept.{view-together}
@@ -52,12 +53,11 @@ all-viewed f view same (x ∷ xs) =
 -- ---- what they become
 
 form-by : (context : Context) (g selector : hb_glyph_info_t) (more : List hb_glyph_info_t) (o : Option GlyphId) →
-    length (option_map_or (λ (variant : GlyphId). (let r : hb_glyph_info_t = record (plain g) { glyph_props = record { 0 = variant.0 } } in r)
+    length (option_map_or (λ (variant : GlyphId). numbered_as variant.0 (plain g)
     ∷ map (with_number context) (map plain more)) o (with_number context (plain g)
     ∷ with_number context (selecting_nothing context (plain selector))
     ∷ map (with_number context) (map plain more)))
-    ≡ length (option_map_or (λ (variant : GlyphId). (let r : hb_glyph_info_t = record g { glyph_props = record { 0 = variant.0 } } in r)
-    ∷ map (with_number context) more) o
+    ≡ length (option_map_or (λ (variant : GlyphId). numbered_as variant.0 g ∷ map (with_number context) more) o
     (with_number context g ∷ with_number context (selecting_nothing context selector)
     ∷ map (with_number context) more))
 form-by context g selector more None =

@@ -15,6 +15,7 @@ use Rattle.shapers_normal.specs.Context.{Context, has_glyph}
 use Rattle.shapers_normal.specs.Decomposition.{apart_in, becomes, cluster_becomes, first_round, is_short_alone, is_whole, mark_clusters, stays_alone, text_decomposed, without_glyph, written_as}
 use Rattle.shapers_normal.specs.Laws.{WholeTextsStay}
 use Rattle.shapers_normal.specs.Normalization.{composes, has_rounds, joiners_shown, later_rounds, shown_behind}
+use Rattle.shapers_normal.specs.Properties.{numbered_as}
 use Rattle.shapers_normal.specs.Recomposition.{StarterWalk, is_free, if_drawn, left_as_is, recomposed, taken_in, walk_over}
 use Rattle.shapers_normal.specs.Sorting.{class_of, classes, is_mark_glyph, mark_runs, run_ordered, run_sorted, stay_together}
 use Rattle.shapers_normal.specs.Variants.{is_selector_glyph, is_selector_behind, variant_joined, with_first, with_number}
@@ -74,7 +75,7 @@ one_becomes : (context : Context) (g : hb_glyph_info_t) → is_short_alone conte
     → cluster_becomes context (g ∷ []) ≡ with_number context g ∷ []
 one_becomes context g short s =
     let c = g.glyph_id in
-    let f = λ (glyph : GlyphId). let r : hb_glyph_info_t = record g { glyph_props = record { 0 = glyph.0 } } in r in
+    let f = λ (glyph : GlyphId). numbered_as glyph.0 g in
     ap (λ b. by_way context g (cond b Short Whole)) short
     ∙ ap (λ b. written_as context g (cond b [] (apart_in context true 8 c)) ++ []) s.has
     ∙ ap (λ (h : hb_glyph_info_t). h ∷ []) (whichever f (context.nominal c) (without_glyph context g) g s.has)
@@ -125,8 +126,8 @@ whole_length context level gs whole =
 -- ---- the later rounds
 
 seen_through : (context : Context) (g : hb_glyph_info_t) (o : Option GlyphId) (Same : hb_glyph_info_t → Type 0)
-    → ((n : ℕ) → Same (record g { glyph_props = record { 0 = n } })) → Same g
-    → Same (option_map_or (λ (glyph : GlyphId). let r : hb_glyph_info_t = record g { glyph_props = record { 0 = glyph.0 } } in r) o g)
+    → ((n : ℕ) → Same (numbered_as n g)) → Same g
+    → Same (option_map_or (λ (glyph : GlyphId). numbered_as glyph.0 g) o g)
 seen_through context g None Same some none = none
 seen_through context g (Some glyph) Same some none = some glyph.0
 

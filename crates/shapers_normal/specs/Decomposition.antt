@@ -11,7 +11,7 @@ use Rattle.shapers_buffer.specs.declared.buffer.glyph.hb_glyph_info_t.{hb_glyph_
 use Rattle.shapers_buffer.specs.declared.buffer.level.BufferClusterLevel.{BufferClusterLevel}
 use Rattle.shapers_buffer.specs.Properties.{general_category, with_high_byte}
 use Rattle.shapers_normal.specs.Context.{Context, has_glyph}
-use Rattle.shapers_normal.specs.Properties.{as_character}
+use Rattle.shapers_normal.specs.Properties.{as_character, numbered_as}
 use Rattle.shapers_normal.specs.Sorting.{is_mark_glyph}
 use Rattle.shapers_normal.specs.declared.ot_shape_normalize.decomposing.Way.{Way}
 use Rattle.shapers_normal.specs.declared.ot_shape_normalize.decomposing.Way.TheVariants.{Short, Whole}
@@ -89,22 +89,22 @@ drawn_space context g =
     (option_or (context.nominal 0x20) context.invisible)
     else None
 
+-- a space that stands for a width
+abbrev pub as_space : ℕ → hb_glyph_info_t → hb_glyph_info_t
+as_space kind g = record g { unicode_props = with_high_byte kind g.unicode_props }
+
 -- a character that the font lacks and that doesn't come apart: a space as another one, a hyphen
 -- that doesn't break as one that does, and else the missing glyph
 abbrev pub without_glyph : Context → hb_glyph_info_t → hb_glyph_info_t
 without_glyph context g = option_map_or
-    (λ space. let r : hb_glyph_info_t =
-    record g {
-      glyph_props = record { 0 = space.1.0 };
-      unicode_props = with_high_byte space.0 g.unicode_props;
-    } in r)
+    (λ space. as_space space.0 (numbered_as space.1.0 g))
     (drawn_space context g)
-    (record g { glyph_props = record { 0 = if g.glyph_id == 0x2011 then glyph_number context 0x2010 else 0 } })
+    (numbered_as (if g.glyph_id == 0x2011 then glyph_number context 0x2010 else 0) g)
 
 -- a character that stays, with its glyph
 abbrev pub with_own_glyph : Context → hb_glyph_info_t → hb_glyph_info_t
 with_own_glyph context g = option_map_or
-    (λ (glyph : GlyphId). let r : hb_glyph_info_t = record g { glyph_props = record { 0 = glyph.0 } } in r)
+    (λ (glyph : GlyphId). numbered_as glyph.0 g)
     (context.nominal g.glyph_id) (without_glyph context g)
 
 -- a glyph as a part of its character; what it becomes, one way or the other: its own character, or

@@ -14,12 +14,16 @@ use Rattle.shapers_normal.specs.Sorting.{class_of, is_mark_glyph, marks_ordered}
 use Rattle.shapers_normal.specs.declared.ot_shape_normalize.normalizing.Rounds.{Rounds}
 use Rattle.shapers_normal.specs.declared.ot_shape_normalize.normalizing.Rounds.TheVariants.{AsCode, Always}
 
+-- a glyph that lookups don't see, where it is ignorable
+abbrev pub unseen : hb_glyph_info_t → hb_glyph_info_t
+unseen g = record g { unicode_props = set_property HIDDEN false g.unicode_props }
+
 -- a grapheme joiner that lookups may pass over: it kept no marks apart, since the glyph behind it
 -- has class 0, or no lesser one than the glyph before it
 abbrev pub passes_over : ℕ → ℕ → hb_glyph_info_t → hb_glyph_info_t
 passes_over before behind g =
     if g.glyph_id == grapheme_joiner && (behind == 0 || nat_le before behind)
-    then (let r : hb_glyph_info_t = record g { unicode_props = set_property HIDDEN false g.unicode_props } in r) else g
+    then unseen g else g
 
 -- the glyphs behind one of this class, but for the last, with such joiners
 abbrev pub shown_behind : ℕ → List hb_glyph_info_t → List hb_glyph_info_t

@@ -45,6 +45,10 @@ character_properties context c =
     (set_property IGNORABLE (is_ignorable_in context c)
     (properties (context.general c) (class_byte context c))))
 
+-- the glyph with the number of a glyph in the font, which stands there until lookups run
+abbrev pub numbered_as : ℕ → hb_glyph_info_t → hb_glyph_info_t
+numbered_as number g = record g { glyph_props = record { 0 = number } }
+
 -- the glyph as a character, whose glyph in the font is kept beside it
 abbrev pub as_character : Context → ℕ → ℕ → hb_glyph_info_t → hb_glyph_info_t
 as_character context c glyph g = record g {

@@ -8,7 +8,7 @@ use Rattle.shapers_buffer.specs.declared.buffer.glyph.hb_glyph_info_t.{hb_glyph_
 use Rattle.shapers_buffer.specs.declared.buffer.level.BufferClusterLevel.{BufferClusterLevel}
 use Rattle.shapers_buffer.specs.Properties.{IGNORABLE, set_property, with_general_category, with_high_byte}
 use Rattle.shapers_normal.specs.Context.{Context}
-use Rattle.shapers_normal.specs.Properties.{is_from_to}
+use Rattle.shapers_normal.specs.Properties.{is_from_to, numbered_as}
 use Rattle.shapers_normal.specs.Recomposition.{glyph_at}
 use Rattle.shapers_normal.specs.Sorting.{is_mark_glyph, stay_together}
 
@@ -40,7 +40,7 @@ is_kept_cluster cluster = list_any is_selector_glyph cluster
 -- a glyph with the number of its character's glyph, if the font has one
 abbrev pub with_number : Context → hb_glyph_info_t → hb_glyph_info_t
 with_number context g = option_map_or
-    (λ (glyph : GlyphId). let r : hb_glyph_info_t = record g { glyph_props = record { 0 = glyph.0 } } in r)
+    (λ (glyph : GlyphId). numbered_as glyph.0 g)
     (context.nominal g.glyph_id) g
 
 -- A selector that selects nothing: a format character from here on, by whose high byte HarfBuzz
@@ -56,8 +56,7 @@ selecting_nothing context g =
 -- selects, its glyph stands for both, and else both stay; further selectors stay.
 abbrev pub form_written : Context → List hb_glyph_info_t → List hb_glyph_info_t
 form_written context (g ∷ (selector ∷ more)) = option_map_or
-    (λ (variant : GlyphId). (let r : hb_glyph_info_t = record g { glyph_props = record { 0 = variant.0 } } in r)
-    ∷ map (with_number context) more)
+    (λ (variant : GlyphId). numbered_as variant.0 g ∷ map (with_number context) more)
     (context.variant g.glyph_id selector.glyph_id)
     (with_number context g ∷ with_number context (selecting_nothing context selector)
     ∷ map (with_number context) more)
