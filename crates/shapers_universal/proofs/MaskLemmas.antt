@@ -6,12 +6,12 @@ use Rattle.shapers_buffer.specs.declared.buffer.category.hb_unicode_general_cate
 use Rattle.shapers_base.specs.declared.plan.joining.hb_arabic_joining_type_t.{hb_arabic_joining_type_t}
 use Rattle.shapers_base.specs.Font.{CharacterTables}
 use Rattle.shapers_buffer.specs.Buffer.{Buffer}
+use Rattle.shapers_buffer.specs.Properties.{general_category}
 use Rattle.shapers_buffer.proofs.MappedLists.{all-mapped}
 use Rattle.shapers_arabic.specs.Joining.{resolved}
 use Rattle.shapers_arabic.specs.JoinedText.{AreCharacters, text_of}
 use Rattle.shapers_universal.specs.Proved.UniversalLists.{mapped_twice}
 use Rattle.shapers_universal.specs.UniversalMasks.{categorized, with_categories}
-use Rattle.shapers_buffer.specs.Properties.{general_category}
 
 -- the glyphs are still characters
 pub characters_stay : (universal : ℕ → ℕ) (gs : List hb_glyph_info_t) → AreCharacters gs
@@ -27,7 +27,7 @@ text_stays tables joining general b =
     rw (
       mapped_twice (λ (g : hb_glyph_info_t). g.glyph_id) (categorized tables.universal) b.glyphs,
       mapped_twice
-          (λ (g : hb_glyph_info_t). resolved (joining g.glyph_id) (general_category g.unicode_props)) (categorized tables.universal)
-          b.glyphs,
+          (λ (g : hb_glyph_info_t). resolved (joining g.glyph_id) (general_category g.unicode_props))
+          (categorized tables.universal) b.glyphs,
     )
     refl

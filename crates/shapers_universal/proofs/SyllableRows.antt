@@ -1,12 +1,13 @@
 -- The masks of syllables, the records, the plan and the categories, computed on values written out from the rules.
 use Prim.Native.String.{String}
 use Rattle.std.specs.Prelude.{◌≡◌, ℕ, Bool, true, false, List, [], ◌∷◌, map, Option, None, Some, codes, ◌==◌, ◌%◌, if◌then◌else◌, refl}
-use Rattle.shapers_buffer.specs.declared.buffer.category.hb_unicode_general_category_t.TheVariants.{Lo, Mn}
+use Rattle.shapers_buffer.specs.declared.buffer.category.hb_unicode_general_category_t.TheVariants.{Lo}
 use Rattle.shapers_buffer.specs.declared.buffer.glyph.hb_glyph_info_t.{hb_glyph_info_t}
 use Rattle.shapers_buffer.specs.declared.buffer.syllables.Span.{Span}
 use Rattle.shapers_buffer.specs.declared.buffer.tag.Script.{Script}
 use Rattle.shapers_buffer.specs.Buffer.{Buffer, new_buffer}
 use Rattle.shapers_buffer.specs.Glyph.{default_glyph}
+use Rattle.shapers_buffer.specs.Properties.{general_category, properties}
 use Rattle.shapers_base.specs.Map.{Map}
 use Rattle.shapers_base.specs.declared.plan.arabic.StretchStart.TheVariants as starts
 use Rattle.shapers_base.specs.declared.plan.breaks.BreakFlags.{BreakFlags}
@@ -28,14 +29,14 @@ use Rattle.shapers_universal.specs.UniversalSyllables.{all_forms, form_masks, fo
 abbrev full : hb_glyph_info_t
 full = record {
   glyph_id = 0x916;
-  cluster = 5;
   mask = 0x3F;
-  syllable = 0x24;
-  category = 1;
-  auxiliary = 3;
+  cluster = 5;
   glyph_props = record { 0 = 0x70 };
   lig_props = record { 0 = 2 };
+  syllable = 0x24;
   unicode_props = record { 0 = 0x09AC };
+  category = 1;
+  auxiliary = 3;
 }
 
 -- the masks of the four forms
@@ -215,7 +216,8 @@ broken_by_bytes = refl
 
 -- the records: four bases with the mask, the second put in by a lookup
 abbrev of_row : ℕ × ℕ → hb_glyph_info_t
-of_row row = record default_glyph { category = 1; syllable = 0x12; mask = row.0; marks = record { 0 = row.1 } }
+of_row row =
+    record default_glyph { mask = row.0; glyph_props = record { 0 = row.1 }; syllable = 0x12; category = 1 }
 
 abbrev recorded : Bool → List (ℕ × ℕ) → Buffer
 recorded pref rows =
@@ -225,13 +227,13 @@ recorded pref rows =
 abbrev categories : Buffer → List ℕ
 categories b = map (λ g. g.category) b.glyphs
 
-record_rphf : map (λ rows. categories (recorded false rows)) (((0x100, 0) ∷ (0x100, 1) ∷ (0x100, 1) ∷ (0, 0) ∷ [])
-    ∷ ((0, 0) ∷ (0x100, 1) ∷ []) ∷ ((0x101, 31) ∷ []) ∷ ((0x100, 30) ∷ (0, 1) ∷ []) ∷ []) ≡ (1 ∷ 18 ∷ 1 ∷ 1 ∷ [])
-    ∷ (1 ∷ 1 ∷ []) ∷ (18 ∷ []) ∷ (1 ∷ 1 ∷ []) ∷ []
+record_rphf : map (λ rows. categories (recorded false rows)) (((0x100, 0) ∷ (0x100, 0x10) ∷ (0x100, 0x10) ∷ (0, 0) ∷ [])
+    ∷ ((0, 0) ∷ (0x100, 0x10) ∷ []) ∷ ((0x101, 0xFFFF) ∷ []) ∷ ((0x100, 0xFFEF) ∷ (0, 0x10) ∷ []) ∷ [])
+    ≡ (1 ∷ 18 ∷ 1 ∷ 1 ∷ []) ∷ (1 ∷ 1 ∷ []) ∷ (18 ∷ []) ∷ (1 ∷ 1 ∷ []) ∷ []
 record_rphf = refl
 
-record_pref : map (λ rows. categories (recorded true rows)) (((0x100, 0) ∷ (0x100, 1) ∷ (0, 1) ∷ [])
-    ∷ ((0, 0) ∷ (0, 30) ∷ []) ∷ ((0, 31) ∷ []) ∷ []) ≡ (1 ∷ 22 ∷ 1 ∷ []) ∷ (1 ∷ 1 ∷ []) ∷ (22 ∷ []) ∷ []
+record_pref : map (λ rows. categories (recorded true rows)) (((0x100, 0) ∷ (0x100, 0x10) ∷ (0, 0x10) ∷ [])
+    ∷ ((0, 0) ∷ (0, 0xFFEF) ∷ []) ∷ ((0, 0xFFFF) ∷ []) ∷ []) ≡ (1 ∷ 22 ∷ 1 ∷ []) ∷ (1 ∷ 1 ∷ []) ∷ (22 ∷ []) ∷ []
 record_pref = refl
 
 without_mask : with_rphf_recorded 0 (record (new_buffer 9) { glyphs = full ∷ full ∷ [] })
@@ -280,13 +282,14 @@ mongolian before cs =
     forms_of (script "Mong")
     (text_of joins (λ c. Lo)
     (record (new_buffer 9) {
-      glyphs = map (λ c. categorized (λ d. 1) (record default_glyph { glyph_id = c; unicode_props = record { 0 = 0x0007 } })) cs;
-      before
-          = before;
+      glyphs = map (λ c. categorized (λ d. 1) (record default_glyph { glyph_id = c; unicode_props = properties Lo 0 }))
+          cs;
+      before = before;
     }))
 
 selectors : mongolian [] (0x1820 ∷ 0x180B ∷ 0x1820 ∷ []) ∷ mongolian (0x1820 ∷ []) (0x180B ∷ 0x1820 ∷ []) ∷ []
     ≡ (6 ∷ 6 ∷ 1 ∷ []) ∷ (7 ∷ 1 ∷ []) ∷ []
+unfolding general_category
 selectors = refl
 
 -- a mask without what Sound flags by forms

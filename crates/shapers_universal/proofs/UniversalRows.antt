@@ -1,7 +1,6 @@
 -- The order of the universal shaper, computed on small syllables.
 use Rattle.std.specs.Prelude.{ℕ, suc, ◌≡◌, None, Some, Bool, true, false, not, filter, List, [], ◌∷◌, map, refl}
 use Rattle.std.specs.List.{range_with_len}
-use Rattle.shapers_buffer.specs.declared.buffer.category.hb_unicode_general_category_t.TheVariants.{Mn}
 use Rattle.shapers_buffer.specs.declared.buffer.glyph.hb_glyph_info_t.{hb_glyph_info_t}
 use Rattle.shapers_buffer.specs.declared.buffer.level.BufferClusterLevel.TheVariants.{MonotoneGraphemes}
 use Rattle.shapers_buffer.specs.Glyph.{clusters, default_glyph}
@@ -79,14 +78,14 @@ abbrev full : ℕ → ℕ → hb_glyph_info_t
 full category comp =
     record {
       glyph_id = 7;
-      cluster = 5;
       mask = 0x1003;
-      syllable = 0x22;
-      category = category;
-      auxiliary = 3;
+      cluster = 5;
       glyph_props = record { 0 = 0x70 };
       lig_props = record { 0 = comp };
+      syllable = 0x22;
       unicode_props = record { 0 = 0x09AC };
+      category = category;
+      auxiliary = 3;
     }
 
 fields_stay : universal_order (full 18 2 ∷ full 1 3 ∷ full 22 0 ∷ []) ≡ full 22 0 ∷ full 1 3 ∷ full 18 2 ∷ []
@@ -118,8 +117,9 @@ ligatures : map (λ category. is_universal_halant (record (of_category category)
     (12 ∷ 44 ∷ 53 ∷ []) ≡ false ∷ false ∷ false ∷ []
 ligatures = refl
 
-other_marks : map (λ marks. is_universal_halant (record (of_category 12) { marks = record { 0 = marks } }))
-    (0 ∷ 1 ∷ 2 ∷ 4 ∷ 8 ∷ 16 ∷ 29 ∷ 31 ∷ []) ≡ true ∷ true ∷ false ∷ true ∷ true ∷ true ∷ true ∷ false ∷ []
+other_marks : map (λ marks. is_universal_halant (record (of_category 12) { glyph_props = record { 0 = marks } }))
+    (0 ∷ 0x10 ∷ 0x20 ∷ 0x40 ∷ 0x08 ∷ 0x0E ∷ 0xFFDF ∷ 0xFFFF ∷ []) ≡ true ∷ true ∷ false ∷ true ∷ true ∷ true ∷ true
+    ∷ false ∷ []
 other_marks = refl
 
 -- a ligature of what stands after the base ends what a reph passes, one of a halant doesn't
@@ -127,12 +127,12 @@ ligatures_passed : map (λ category. reph_passes (record (of_category category) 
     (22 ∷ 33 ∷ 12 ∷ 1 ∷ []) ≡ false ∷ false ∷ true ∷ true ∷ []
 ligatures_passed = refl
 
-components : map (λ comp. goes_front (record (of_category 22) { lig_props = record { 0 = comp } })) (0 ∷ 1 ∷ 15 ∷ [])
-    ≡ true ∷ false ∷ false ∷ []
+components : map (λ comp. goes_front (record (of_category 22) { lig_props = record { 0 = comp } }))
+    (0 ∷ 1 ∷ 15 ∷ 0xE0 ∷ 0xE1 ∷ 0xF1 ∷ []) ≡ true ∷ false ∷ false ∷ true ∷ false ∷ true ∷ []
 components = refl
 
-changing_components : map (λ comp. may_reorder (record (of_category 22) { lig_props = record { 0 = comp } })) (0 ∷ 1 ∷ 15 ∷ [])
-    ≡ true ∷ false ∷ false ∷ []
+changing_components : map (λ comp. may_reorder (record (of_category 22) { lig_props = record { 0 = comp } }))
+    (0 ∷ 1 ∷ 15 ∷ 0xE0 ∷ 0xE1 ∷ 0xF1 ∷ []) ≡ true ∷ false ∷ false ∷ true ∷ false ∷ true ∷ []
 changing_components = refl
 
 changing_reph : may_reorder (record (of_category 18) { lig_props = record { 0 = 1 } }) ≡ true

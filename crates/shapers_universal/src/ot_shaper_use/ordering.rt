@@ -440,5 +440,6 @@ fn piece_len(glyphs: &[hb_glyph_info_t]) -> usize
 fn goes_front(glyph: &hb_glyph_info_t) -> bool
     ensures { result ≡ goes_front glyph.now }
 {
-    (glyph.category == category::VPre || glyph.category == category::VMPre) && glyph.lig_props.component() == 0
+    (glyph.category == category::VPre || glyph.category == category::VMPre)
+        && glyph.lig_props.component() == 0
 }
