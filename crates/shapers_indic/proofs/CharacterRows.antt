@@ -1,10 +1,10 @@
 -- The characters that compose and decompose otherwise than by the tables, computed.
-use Rattle.std.specs.Prelude.{◌≡◌, ◌==◌, ◌+◌, [], ◌∷◌, map, None, Some, refl, if◌then◌else◌}
+use Rattle.std.specs.Prelude.{ℕ, ◌≡◌, ◌==◌, ◌+◌, [], ◌∷◌, map, None, Some, refl, if◌then◌else◌}
 use Rattle.shapers_base.specs.Font.{CharacterTables}
 use Rattle.shapers_base.specs.declared.plan.joining.hb_arabic_joining_type_t.TheVariants as joining
 use Rattle.shapers_buffer.specs.declared.buffer.category.hb_unicode_general_category_t.TheVariants.{Lo, Mc}
 use Rattle.shapers_indic.specs.Characters.{composed_in_indic, decomposed_in_indic}
-use Rattle.shapers_buffer.specs.Glyph.{default_glyph}
+use Rattle.shapers_buffer.specs.declared.buffer.glyph.hb_glyph_info_t.{hb_glyph_info_t}
 use Rattle.shapers_syllabic.specs.Characters.{with_category_and_position}
 
 -- tables that compose any pair to 7 and take any character apart into itself and 1; 09C7 is a mark
@@ -53,7 +53,19 @@ by_the_table : decomposed_in_indic without_pairs 0x0930 ≡ None
 by_the_table = refl
 
 -- category and position by the table, each in its byte, and nothing else changes
-set_by_the_table : with_category_and_position tables
-    (record default_glyph { glyph_id = 40; cluster = 3; mask = 5; syllable = 0x21; category = 9; auxiliary = 9 })
-    ≡ record default_glyph { glyph_id = 40; cluster = 3; mask = 5; syllable = 0x21; category = 41; auxiliary = 42 }
+abbrev full : ℕ → ℕ → hb_glyph_info_t
+full category position =
+    record {
+      glyph_id = 40;
+      mask = 5;
+      cluster = 3;
+      glyph_props = record { 0 = 0x7E };
+      lig_props = record { 0 = 0xE3 };
+      syllable = 0x21;
+      unicode_props = record { 0 = 0x09AC };
+      category = category;
+      auxiliary = position;
+    }
+
+set_by_the_table : with_category_and_position tables (full 9 9) ≡ full 41 42
 set_by_the_table = refl

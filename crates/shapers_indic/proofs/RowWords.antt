@@ -56,9 +56,9 @@ of ts = glyphs_from 0 0 ts
 abbrev pub plainly : List ℕ → List hb_glyph_info_t
 plainly cs = of (map (λ c. (c, 4)) cs)
 
--- the glyph with a bit of marks: 2 makes it a ligature
+-- the glyph with these marks of lookups, by their bits: 0x20 makes it a ligature
 abbrev pub with_row_marks : ℕ → hb_glyph_info_t → hb_glyph_info_t
-with_row_marks bits g = record g { marks = record { 0 = bits } }
+with_row_marks bits g = record g { glyph_props = record { 0 = bits } }
 
 abbrev pub script : String → Option Script
 script tag = Some (record { 0 = codes tag })

@@ -137,8 +137,8 @@ by_all_categories = refl
 
 -- these are the consonants
 are_consonants : map (λ gs. map (is_base_candidate AllConsonants) gs)
-    (plainly categories ∷ map (with_row_marks 2) (plainly categories) ∷ [])
-    ≡ map (λ gs. map is_consonant gs) (plainly categories ∷ map (with_row_marks 2) (plainly categories) ∷ [])
+    (plainly categories ∷ map (with_row_marks 0x20) (plainly categories) ∷ [])
+    ≡ map (λ gs. map is_consonant gs) (plainly categories ∷ map (with_row_marks 0x20) (plainly categories) ∷ [])
 are_consonants = refl
 
 -- a medial one by its position, as any other; alone; behind a reph; of two the last; the first where none is the last

@@ -93,9 +93,9 @@ cleared : map (λ cs. halves (plainly cs)) ((C ∷ H ∷ ZWNJ ∷ C ∷ []) ∷ 
     ∷ (129 ∷ 129 ∷ 129 ∷ 129 ∷ []) ∷ (129 ∷ 129 ∷ 1 ∷ 1 ∷ 129 ∷ []) ∷ []
 cleared = refl
 
-ligatures : halves (of ((C, 4) ∷ []) ++ with_row_marks 2 (record default_glyph { category = ZWNJ }) ∷ [])
-    ∷ halves (of ((C, 4) ∷ []) ++ with_row_marks 2 (record default_glyph { category = C }) ∷ of ((ZWNJ, 4) ∷ [])) ∷ []
-    ≡ (129 ∷ 129 ∷ []) ∷ (1 ∷ 1 ∷ 129 ∷ []) ∷ []
+ligatures : halves (of ((C, 4) ∷ []) ++ with_row_marks 0x20 (record default_glyph { category = ZWNJ }) ∷ [])
+    ∷ halves (of ((C, 4) ∷ []) ++ with_row_marks 0x20 (record default_glyph { category = C }) ∷ of ((ZWNJ, 4) ∷ []))
+    ∷ [] ≡ (129 ∷ 129 ∷ []) ∷ (1 ∷ 1 ∷ 129 ∷ []) ∷ []
 ligatures = refl
 
 -- all at once: reph, before the base, base, after it, with a pair for pref and a ZWNJ after the base

@@ -136,7 +136,7 @@ ligated_matra = refl
 
 -- a ligature is no consonant: it owns nothing, and is owned
 abbrev with_ligature : List hb_glyph_info_t
-with_ligature = of ((H, 4) ∷ []) ++ with_row_marks 2 (record (default_glyph) { category = C; auxiliary = 8 })
+with_ligature = of ((H, 4) ∷ []) ++ with_row_marks 0x20 (record (default_glyph) { category = C; auxiliary = 8 })
     ∷ of ((C, 11) ∷ [])
 
 ligature : row_positions (with_owners with_ligature) ≡ 11 ∷ 11 ∷ 11 ∷ []

@@ -1,7 +1,6 @@
 -- The whole initial reordering of syllables, computed: order, clusters, masks.
 use Rattle.std.specs.Prelude.{◌≡◌, ℕ, zero, suc, true, false, List, [], ◌∷◌, ◌++◌, map, replicate, refl}
 use Rattle.std.specs.List.{range_with_len}
-use Rattle.shapers_buffer.specs.declared.buffer.category.hb_unicode_general_category_t.TheVariants.{Mn}
 use Rattle.shapers_buffer.specs.declared.buffer.glyph.hb_glyph_info_t.{hb_glyph_info_t}
 use Rattle.shapers_buffer.specs.declared.buffer.level.BufferClusterLevel.TheVariants.{MonotoneGraphemes}
 use Rattle.shapers_indic.proofs.RowWords.{C, H, ZWNJ, ZWJ, M, Ra, glyphs_from, of, plainly, script, numbers_of, row_positions, row_masks}
@@ -98,14 +97,14 @@ one_matra = refl
 abbrev full : hb_glyph_info_t
 full = record {
   glyph_id = 7;
-  cluster = 5;
   mask = 0x1000;
+  cluster = 5;
+  glyph_props = record { 0 = 0x5E };
+  lig_props = record { 0 = 0xE3 };
   syllable = 0x20;
+  unicode_props = record { 0 = 0x09EC };
   category = M;
   auxiliary = 2;
-  glyph_props = record { 0 = 0x50 };
-  lig_props = record { 0 = 3 };
-  unicode_props = record { 0 = 0x092C };
 }
 
 fields_stay : initial_order (rules "Deva" false each_mask) (script "Deva")

@@ -53,7 +53,7 @@ clusters_after r s gs = clusters (run_steps MonotoneGraphemes (initial_steps r s
 -- the glyph at a place put in by a lookup for several
 abbrev pub ligated_at : ℕ → List hb_glyph_info_t → List hb_glyph_info_t
 ligated_at i [] = []
-ligated_at zero (g ∷ gs) = with_row_marks 2 g ∷ gs
+ligated_at zero (g ∷ gs) = with_row_marks 0x20 g ∷ gs
 ligated_at (suc i) (g ∷ gs) = g ∷ ligated_at i gs
 
 -- order, clusters and masks of a syllable after

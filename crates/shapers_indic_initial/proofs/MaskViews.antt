@@ -11,7 +11,6 @@ use Rattle.shapers_buffer.specs.Buffer.{Buffer, but_places}
 use Rattle.shapers_buffer.specs.Clusters.{stretch_of, with_stretch}
 use Rattle.shapers_buffer.specs.Glyph.{order_view, without_flags}
 use Rattle.shapers_buffer.specs.GlyphFlags.{with_bits}
-use Rattle.shapers_buffer.specs.Properties.{no_marks}
 use Rattle.shapers_buffer.proofs.MappedLists.{list_any-map, map-seen}
 use Rattle.shapers_buffer.proofs.ClusterLemmas.{map-stretch}
 use Rattle.shapers_base.specs.declared.plan.ot_category_t.TheConstants.{OT_H, OT_Ra, OT_ZWJ, OT_ZWNJ}

@@ -53,7 +53,8 @@ no_reph r g =
     let off = no_repha r.config.reph_mode g in
     elim (cases_Bool (mask_at r RPHF == 0)) [ inl none ↦ rw (none, off) refl | inr some ↦ rw (some, off) refl ]
 
-is_the_base : (r : Rules) (g : hb_glyph_info_t) → is_ligated g.glyph_props ≡ false → base_place r (plain_consonant g ∷ []) ≡ 0
+is_the_base : (r : Rules) (g : hb_glyph_info_t) → is_ligated g.glyph_props ≡ false
+    → base_place r (plain_consonant g ∷ []) ≡ 0
 is_the_base r g m = let none = no_reph r g in rw (none, m) refl
 
 reph_is_none : (r : Rules) (g : hb_glyph_info_t) → has_indic_reph r (plain_consonant g ∷ []) ≡ false
@@ -178,7 +179,8 @@ still_run level s gs l =
     ∙ merge_one level (s + 0) (s + 1) gs (omega arith)
 
 pub plain_syllable : (r : Rules) (script : Option Script) (s e : ℕ) (g : hb_glyph_info_t) (b : Buffer) → s ≤ e
-    → e ≤ length b.glyphs → stretch_of s e (order_view b.glyphs) ≡ plain_consonant g ∷ [] → is_ligated g.glyph_props ≡ false
+    → e ≤ length b.glyphs → stretch_of s e (order_view b.glyphs) ≡ plain_consonant g ∷ []
+    → is_ligated g.glyph_props ≡ false
     → SyllableReordered (initial_order r script) (initial_steps r script) s e b b
 plain_syllable r script s e g b h l is m =
     let v = order_view b.glyphs in

@@ -95,26 +95,25 @@ nothing = refl
 abbrev full : hb_glyph_info_t
 full = record {
   glyph_id = 0x916;
-  cluster = 5;
   mask = 0x8000001F;
+  cluster = 5;
+  glyph_props = record { 0 = 0x7E };
+  lig_props = record { 0 = 0xE2 };
   syllable = 0x24;
+  unicode_props = record { 0 = 0x09AC };
   category = 1;
   auxiliary = 3;
-  glyph_props = record { 0 = 0x70 };
-  lig_props = record { 0 = 2 };
-  unicode_props = record { 0 = 0x09AC };
 }
 
 fields : with_flags 1 full ≡ record {
   glyph_id = 0x916;
-  cluster = 5;
   mask = 0x80000019;
+  cluster = 5;
+  glyph_props = record { 0 = 0x7E };
+  lig_props = record { 0 = 0xE2 };
   syllable = 0x24;
+  unicode_props = record { 0 = 0x09AC };
   category = 1;
   auxiliary = 3;
-  lig_props = record { 0 = 2 };
-  unicode_props = record { 0 = 0x090C };
-  marks =
-      record { 0 = 31 };
 }
 fields = refl

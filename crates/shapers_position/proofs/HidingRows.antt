@@ -1,5 +1,5 @@
 -- Ignorable glyphs that are drawn by another one, or go, computed: who takes in the text of what goes.
-use Rattle.std.specs.Prelude.{◌≡◌, ℕ, pos, true, false, List, [], ◌∷◌, map, None, Some, refl}
+use Rattle.std.specs.Prelude.{◌≡◌, ℕ, ◌+◌, pos, true, false, List, [], ◌∷◌, map, None, Some, refl}
 use Rattle.shapers_buffer.specs.declared.buffer.category.hb_unicode_general_category_t.TheVariants.{Mn}
 use Rattle.shapers_buffer.specs.declared.buffer.glyph.GlyphPosition.{GlyphPosition}
 use Rattle.shapers_buffer.specs.declared.buffer.glyph.hb_glyph_info_t.{hb_glyph_info_t}
@@ -14,10 +14,14 @@ abbrev letter : ℕ → ℕ → hb_glyph_info_t
 letter c m = record default_glyph { glyph_id = 7; cluster = c; mask = m }
 
 abbrev joiner : ℕ → ℕ → hb_glyph_info_t
-joiner c m = record default_glyph { glyph_id = 8; cluster = c; mask = m; glyph_props = record { 0 = 0 }; unicode_props = record { 0 = 0x0020 } }
+joiner c m = record default_glyph { glyph_id = 8; cluster = c; mask = m; unicode_props = record { 0 = 0x20 } }
 
 abbrev seen : ℕ → ℕ → hb_glyph_info_t
-seen c m = record default_glyph { glyph_id = 9; cluster = c; mask = m; glyph_props = record { 0 = 0x10 }; unicode_props = record { 0 = 0x0020 } }
+seen c m =
+    record (joiner c m) {
+      glyph_id = 9;
+      glyph_props = record { 0 = 0x10 };
+    }
 
 -- clusters and masks of what stays
 abbrev masks : List hb_glyph_info_t → List ℕ
@@ -105,48 +109,48 @@ next = refl
 abbrev full : hb_glyph_info_t
 full = record {
   glyph_id = 0x916;
-  cluster = 5;
   mask = 0x8000001F;
+  cluster = 5;
+  glyph_props = record { 0 = 0x6E };
+  lig_props = record { 0 = 0xE2 };
   syllable = 0x24;
+  unicode_props = record { 0 = 0x09AC };
   category = 1;
   auxiliary = 3;
-  glyph_props = record { 0 = 0x60 };
-  lig_props = record { 0 = 2 };
-  unicode_props = record { 0 = 0x09AC };
 }
 
 in_place : in_place_of (letter 2 0x44) full ≡ record {
   glyph_id = 0x916;
-  cluster = 2;
   mask = 0x8000001C;
+  cluster = 2;
+  glyph_props = record { 0 = 0x6E };
+  lig_props = record { 0 = 0xE2 };
   syllable = 0x24;
+  unicode_props = record { 0 = 0x09AC };
   category = 1;
   auxiliary = 3;
-  glyph_props = record { 0 = 0x60 };
-  lig_props = record { 0 = 2 };
-  unicode_props = record { 0 = 0x09AC };
 }
 in_place = refl
 
 drawn : drawn_by (record { 0 = 3 }) full ≡ record {
   glyph_id = 3;
-  cluster = 5;
   mask = 0x8000001F;
+  cluster = 5;
+  glyph_props = record { 0 = 0x6E };
+  lig_props = record { 0 = 0xE2 };
   syllable = 0x24;
+  unicode_props = record { 0 = 0x09AC };
   category = 1;
   auxiliary = 3;
-  glyph_props = record { 0 = 0x60 };
-  lig_props = record { 0 = 2 };
-  unicode_props = record { 0 = 0x09AC };
 }
 drawn = refl
 
 not_drawn : map (drawn_by (record { 0 = 3 })) (letter 1 2 ∷ seen 1 2 ∷ []) ≡ letter 1 2 ∷ seen 1 2 ∷ []
 not_drawn = refl
 
--- positions go with their glyphs
+-- positions go with their glyphs, and with what lookups keep there
 abbrev moved : ℕ → GlyphPosition
-moved x = record default_position { x_advance = pos x }
+moved x = record default_position { x_advance = pos x; var = x + 40 }
 
 abbrev text : List hb_glyph_info_t
 text = joiner 0 0 ∷ letter 1 0 ∷ joiner 1 0 ∷ seen 2 0 ∷ []

@@ -6,6 +6,7 @@ use Rattle.shapers_buffer.specs.declared.buffer.category.hb_unicode_general_cate
 use Rattle.shapers_buffer.specs.declared.buffer.glyph.GlyphPosition.{GlyphPosition}
 use Rattle.shapers_buffer.specs.declared.buffer.glyph.hb_glyph_info_t.{hb_glyph_info_t}
 use Rattle.shapers_buffer.specs.Glyph.{default_glyph}
+use Rattle.shapers_buffer.specs.Properties.{general_category, properties}
 use Rattle.shapers_position.specs.Metrics.{Metrics, along_line, line_advance}
 use Rattle.shapers_position.specs.Spaces.{digits, is_space_glyph, part_of_em, space_placed, space_width, full_stops}
 
@@ -90,25 +91,39 @@ stop_rows = refl
 
 -- a space by its category, unless a lookup put it in for several
 abbrev space : ℕ → hb_glyph_info_t
-space byte = record default_glyph { general_category = Zs; modified_combining_class = 1; marks = record { 0 = byte } }
+space bits = record default_glyph { glyph_props = record { 0 = bits }; unicode_props = properties Zs 1 }
 
 abbrev no_space : hb_glyph_info_t
-no_space = record default_glyph { unicode_props = record { 0 = 0x0107 } }
+no_space = record default_glyph { unicode_props = properties Lo 1 }
 
-spaces : map is_space_glyph (space 0 ∷ space 1 ∷ space 2 ∷ space 0xFD ∷ space 0xFF ∷ no_space ∷ []) ≡ true ∷ true ∷
-    false ∷ true ∷ false ∷ false ∷ []
+-- a space of the same kind with the bits between
+abbrev noted_space : hb_glyph_info_t
+noted_space = record default_glyph { unicode_props = record { 0 = 0x01FD } }
+
+spaces : map is_space_glyph (space 0 ∷ space 0x10 ∷ space 0x20 ∷ space 0xFFDF ∷ space 0xFFFF ∷ noted_space ∷ no_space ∷
+    []) ≡ true ∷ true ∷ false ∷ true ∷ false ∷ true ∷ false ∷ []
+unfolding general_category
 spaces = refl
 
 abbrev place : ℕ → GlyphPosition
-place x = record { x_advance = pos x; y_advance = pos 2; x_offset = pos 3; y_offset = pos 4 }
+place x = record { x_advance = pos x; y_advance = pos 2; x_offset = pos 3; y_offset = pos 4; var = 5 }
 
-placed : map (λ g. space_placed whole (metrics 1000) true g (place 9)) (space 0 ∷ space 2 ∷ no_space ∷ [])
-    ≡ place 1000 ∷ place 9 ∷ place 9 ∷ []
+placed : map (λ g. space_placed whole (metrics 1000) true g (place 9)) (space 0 ∷ noted_space ∷ space 0x20 ∷ no_space
+    ∷ []) ≡ place 1000 ∷ place 1000 ∷ place 9 ∷ place 9 ∷ []
+unfolding general_category
 placed = refl
 
 abbrev upright_place : GlyphPosition
-upright_place = record { x_advance = pos 9; y_advance = neg_ℤ (pos 1000); x_offset = pos 3; y_offset = pos 4 }
+upright_place =
+    record {
+      x_advance = pos 9;
+      y_advance = neg_ℤ (pos 1000);
+      x_offset = pos 3;
+      y_offset = pos 4;
+      var = 5;
+    }
 
-placed_upright : map (λ g. space_placed whole (metrics 1000) false g (place 9)) (space 0 ∷ space 2 ∷ no_space ∷ [])
-    ≡ upright_place ∷ place 9 ∷ place 9 ∷ []
+placed_upright : map (λ g. space_placed whole (metrics 1000) false g (place 9)) (space 0 ∷ noted_space ∷ space 0x20
+    ∷ no_space ∷ []) ≡ upright_place ∷ upright_place ∷ place 9 ∷ place 9 ∷ []
+unfolding general_category
 placed_upright = refl

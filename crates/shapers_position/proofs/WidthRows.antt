@@ -27,21 +27,33 @@ metrics = record {
   v_origin = λ glyph. (pos (glyph.0 / 2), pos 880);
 }
 
-abbrev glyph : ℕ → ℕ → hb_glyph_info_t
-glyph n byte = record default_glyph { glyph_id = n; marks = record { 0 = byte } }
+abbrev glyph : ℕ → hb_glyph_info_t
+glyph n = record default_glyph { glyph_id = n }
+
+-- with properties as a glyph, and as a character
+abbrev noted : ℕ → ℕ → ℕ → hb_glyph_info_t
+noted n props character =
+    record (glyph n) {
+      glyph_props = record { 0 = props };
+      unicode_props = record { 0 = character };
+    }
 
 abbrev spot : ℤ → ℤ → ℤ → ℤ → GlyphPosition
-spot x y dx dy = record { x_advance = x; y_advance = y; x_offset = dx; y_offset = dy }
+spot x y dx dy = record { x_advance = x; y_advance = y; x_offset = dx; y_offset = dy; var = 0 }
+
+-- with what lookups keep there
+abbrev kept : ℕ → ℤ → ℤ → ℤ → ℤ → GlyphPosition
+kept n x y dx dy = record (spot x y dx dy) { var = n }
 
 -- a glyph that no lookup moved; numbers above 65535 are asked for as that one
-placed : map (advanced font metrics true) (glyph 0 0 ∷ glyph 600 0 ∷ glyph 65534 0 ∷ glyph 65535 0 ∷ glyph 65536 0 ∷
-    glyph 4294967295 0 ∷ []) ≡ spot (pos 0) (pos 0) (pos 0) (pos 0) ∷ spot (pos 600) (pos 0) (pos 0) (pos 0) ∷
+placed : map (advanced font metrics true) (glyph 0 ∷ glyph 600 ∷ glyph 65534 ∷ glyph 65535 ∷ glyph 65536 ∷
+    glyph 4294967295 ∷ []) ≡ spot (pos 0) (pos 0) (pos 0) (pos 0) ∷ spot (pos 600) (pos 0) (pos 0) (pos 0) ∷
     spot (pos 65534) (pos 0) (pos 0) (pos 0) ∷ spot (pos 65535) (pos 0) (pos 0) (pos 0) ∷
     spot (pos 65535) (pos 0) (pos 0) (pos 0) ∷ spot (pos 65535) (pos 0) (pos 0) (pos 0) ∷ []
 placed = refl
 
 -- in vertical text it is drawn to the left of the pen, and below it
-upright : map (advanced font metrics false) (glyph 0 0 ∷ glyph 600 0 ∷ glyph 65535 0 ∷ glyph 65536 0 ∷ [])
+upright : map (advanced font metrics false) (glyph 0 ∷ glyph 600 ∷ glyph 65535 ∷ glyph 65536 ∷ [])
     ≡ spot (pos 0) (neg_ℤ (pos 1)) (pos 0) (neg_ℤ (pos 880)) ∷
     spot (pos 0) (neg_ℤ (pos 601)) (neg_ℤ (pos 300)) (neg_ℤ (pos 880)) ∷
     spot (pos 0) (neg_ℤ (pos 65536)) (neg_ℤ (pos 32767)) (neg_ℤ (pos 880)) ∷
@@ -56,16 +68,17 @@ far_origin : upright_position far (record { 0 = 5 })
     ≡ spot (pos 0) (neg_ℤ (pos 6)) (pos 2147483647) (neg_ℤ (pos 2147483647))
 far_origin = refl
 
-numbers : map glyph_of (glyph 7 0 ∷ glyph 65536 0 ∷ []) ≡ record { 0 = 7 } ∷ record { 0 = 65535 } ∷ []
+numbers : map glyph_of (glyph 7 ∷ glyph 65536 ∷ []) ≡ record { 0 = 7 } ∷ record { 0 = 65535 } ∷ []
 numbers = refl
 
 -- an advance goes, an offset stays
-still : without_advance (spot (pos 500) (pos 20) (pos 3) (negsuc 3)) ≡ spot (pos 0) (pos 0) (pos 3) (negsuc 3)
+still : without_advance (kept 4294967295 (pos 500) (pos 20) (pos 3) (negsuc 3))
+    ≡ kept 4294967295 (pos 0) (pos 0) (pos 3) (negsuc 3)
 still = refl
 
 -- back by the advance, along both axes; it stays until it is taken
-back : hung_back (spot (pos 500) (neg_ℤ (pos 20)) (pos 3) (pos 4))
-    ≡ spot (pos 500) (neg_ℤ (pos 20)) (neg_ℤ (pos 497)) (pos 24)
+back : hung_back (kept 4294967295 (pos 500) (neg_ℤ (pos 20)) (pos 3) (pos 4))
+    ≡ kept 4294967295 (pos 500) (neg_ℤ (pos 20)) (neg_ℤ (pos 497)) (pos 24)
 back = refl
 
 -- offsets stop at the bounds of 32 bits
@@ -76,48 +89,50 @@ bounds = refl
 
 -- the second of three is a mark
 abbrev text : List hb_glyph_info_t
-text = glyph 1 0 ∷ glyph 2 0 ∷ glyph 3 0 ∷ []
+text = glyph 1 ∷ glyph 2 ∷ glyph 3 ∷ []
 
 abbrev places : List GlyphPosition
-places = spot (pos 10) (pos 1) (pos 5) (pos 6) ∷ spot (pos 20) (pos 2) (pos 7) (pos 8) ∷
-    spot (pos 30) (pos 3) (pos 9) (pos 4) ∷ []
+places = kept 11 (pos 10) (pos 1) (pos 5) (pos 6) ∷ kept 22 (pos 20) (pos 2) (pos 7) (pos 8) ∷
+    kept 33 (pos 30) (pos 3) (pos 9) (pos 4) ∷ []
 
 abbrev is_mark : hb_glyph_info_t → Bool
 is_mark g = g.glyph_id == 2
 
-marks : marks_zeroed is_mark false text places ≡ spot (pos 10) (pos 1) (pos 5) (pos 6) ∷
-    spot (pos 0) (pos 0) (pos 7) (pos 8) ∷ spot (pos 30) (pos 3) (pos 9) (pos 4) ∷ []
+marks : marks_zeroed is_mark false text places ≡ kept 11 (pos 10) (pos 1) (pos 5) (pos 6) ∷
+    kept 22 (pos 0) (pos 0) (pos 7) (pos 8) ∷ kept 33 (pos 30) (pos 3) (pos 9) (pos 4) ∷ []
 marks = refl
 
-marks_hung : marks_zeroed is_mark true text places ≡ spot (pos 10) (pos 1) (pos 5) (pos 6) ∷
-    spot (pos 0) (pos 0) (neg_ℤ (pos 13)) (pos 6) ∷ spot (pos 30) (pos 3) (pos 9) (pos 4) ∷ []
+marks_hung : marks_zeroed is_mark true text places ≡ kept 11 (pos 10) (pos 1) (pos 5) (pos 6) ∷
+    kept 22 (pos 0) (pos 0) (neg_ℤ (pos 13)) (pos 6) ∷ kept 33 (pos 30) (pos 3) (pos 9) (pos 4) ∷ []
 marks_hung = refl
 
 no_positions : marks_zeroed is_mark true text [] ≡ []
 no_positions = refl
 
--- ignorable: bit 8 without bit 1, whatever the other marks are
-ignorables : map (λ byte. is_default_ignorable (glyph 0 byte)) (0 ∷ 1 ∷ 8 ∷ 9 ∷ 0x1C ∷ 0xFE ∷ 0xFF ∷ 0xF7 ∷ [])
+-- ignorable: that bit of the character, without that of a glyph that a lookup put in, whatever the
+-- others are
+ignorables : map is_default_ignorable (noted 0 0 0 ∷ noted 0 0x10 0 ∷ noted 0 0 0x20 ∷ noted 0 0x10 0x20 ∷
+    noted 0 0x60 0x20 ∷ noted 0 0xFFEF 0xFFFF ∷ noted 0 0xFFFF 0xFFFF ∷ noted 0 0xFFEF 0xFFDF ∷ [])
     ≡ false ∷ false ∷ true ∷ false ∷ true ∷ true ∷ false ∷ false ∷ []
 ignorables = refl
 
 -- an advance goes, and the offset along the line
-along : without_extent true (spot (pos 1) (pos 2) (pos 3) (pos 4)) ∷
-    without_extent false (spot (pos 1) (pos 2) (pos 3) (pos 4)) ∷ [] ≡ spot (pos 0) (pos 0) (pos 0) (pos 4) ∷
-    spot (pos 0) (pos 0) (pos 3) (pos 0) ∷ []
+along : without_extent true (kept 7 (pos 1) (pos 2) (pos 3) (pos 4)) ∷
+    without_extent false (kept 7 (pos 1) (pos 2) (pos 3) (pos 4)) ∷ [] ≡ kept 7 (pos 0) (pos 0) (pos 0) (pos 4) ∷
+    kept 7 (pos 0) (pos 0) (pos 3) (pos 0) ∷ []
 along = refl
 
 abbrev hidden : List hb_glyph_info_t
-hidden = glyph 1 0 ∷ glyph 2 8 ∷ glyph 3 9 ∷ []
+hidden = glyph 1 ∷ noted 2 0 0x20 ∷ noted 3 0x10 0x20 ∷ []
 
 -- in each direction: only the second is hidden
 abbrev level_place : List GlyphPosition
-level_place = spot (pos 10) (pos 1) (pos 5) (pos 6) ∷ spot (pos 0) (pos 0) (pos 0) (pos 8) ∷
-    spot (pos 30) (pos 3) (pos 9) (pos 4) ∷ []
+level_place = kept 11 (pos 10) (pos 1) (pos 5) (pos 6) ∷ kept 22 (pos 0) (pos 0) (pos 0) (pos 8) ∷
+    kept 33 (pos 30) (pos 3) (pos 9) (pos 4) ∷ []
 
 abbrev upright_place : List GlyphPosition
-upright_place = spot (pos 10) (pos 1) (pos 5) (pos 6) ∷ spot (pos 0) (pos 0) (pos 7) (pos 0) ∷
-    spot (pos 30) (pos 3) (pos 9) (pos 4) ∷ []
+upright_place = kept 11 (pos 10) (pos 1) (pos 5) (pos 6) ∷ kept 22 (pos 0) (pos 0) (pos 7) (pos 0) ∷
+    kept 33 (pos 30) (pos 3) (pos 9) (pos 4) ∷ []
 
 directions : map (λ d. ignorables_zeroed Hide d hidden places) (Invalid ∷ LeftToRight ∷ RightToLeft ∷ TopToBottom ∷
     BottomToTop ∷ []) ≡ upright_place ∷ level_place ∷ level_place ∷ upright_place ∷ upright_place ∷ []

@@ -1,5 +1,6 @@
 -- The widths of spaces that the font lacks, for which another glyph is drawn (HarfBuzz's
--- _hb_ot_shape_fallback_spaces). Normalization leaves the kind of each in its combining class.
+-- _hb_ot_shape_fallback_spaces). Normalization leaves the kind of each in the high byte of its
+-- properties.
 use Rattle.std.specs.Prelude.{ℕ, ◌+◌, ◌*◌, ◌/◌, ◌==◌, nat_le, ℤ, pos, int_div, Bool, not, ◌&&◌, ◌||◌, List, [], ◌∷◌, if◌then◌else◌}
 use Rattle.std.specs.Option.{option_map_or}
 use Rattle.shapers_base.specs.Font.{Font}

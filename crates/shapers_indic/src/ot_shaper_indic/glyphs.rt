@@ -39,7 +39,9 @@ pub fn is_plain_consonant(syllable: &[hb_glyph_info_t]) -> bool
 {
     match syllable {
         [glyph] => {
-            glyph.category == OT_C && glyph.auxiliary == POS_BASE_C && !glyph.glyph_props.is_ligated()
+            glyph.category == OT_C
+                && glyph.auxiliary == POS_BASE_C
+                && !glyph.glyph_props.is_ligated()
         }
         _ => false,
     }
