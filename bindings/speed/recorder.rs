@@ -270,9 +270,9 @@ impl Call {
                 }),
             },
             Hook::ReorderMarks if self.shaper == 0 => {
-                in_marks(|glyph| matches!(glyph.modified_combining_class, 220 | 230))
+                in_marks(|glyph| matches!(glyph.unicode_props.high_byte(), 220 | 230))
             }
-            Hook::ReorderMarks => in_marks(|glyph| matches!(glyph.modified_combining_class, 22 | 23)),
+            Hook::ReorderMarks => in_marks(|glyph| matches!(glyph.unicode_props.high_byte(), 22 | 23)),
             Hook::Pause(pause) => match pause {
                 Pause::InitialReordering => any(|glyph| glyph.syllable & 15 != indic_syllable::NON_INDIC_CLUSTER),
                 Pause::ReorderKhmer => any(|glyph| {
@@ -293,9 +293,9 @@ impl Call {
                     matches!(glyph.auxiliary, ot_position_t::POS_RA_TO_BECOME_REPH | ot_position_t::POS_PRE_M)
                         || glyph.category == ot_category_t::OT_H
                 }),
-                Pause::RecordStch => any(|glyph| glyph.marks.is_multiplied()),
+                Pause::RecordStch => any(|glyph| glyph.glyph_props.is_multiplied()),
                 Pause::RecordRphf | Pause::RecordPref | Pause::ClearSubstitutionFlags => {
-                    any(|glyph| glyph.marks.is_substituted())
+                    any(|glyph| glyph.glyph_props.is_substituted())
                 }
                 Pause::SyllabicClearVar => any(|glyph| glyph.syllable != 0),
                 _ => return None,

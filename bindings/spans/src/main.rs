@@ -10,7 +10,7 @@ mod machines;
 use machines::{harfrust, rustybuzz};
 use sengadlit::alloc::{Global, Vec as List};
 use sengadlit::spans::{Indic, Khmer, Myanmar, Universal, find_syllables, spans_into};
-use sengadlit::{GeneralCategory, GlyphInfo, Span};
+use sengadlit::{GeneralCategory, GlyphInfo, Span, UnicodeProps};
 use std::hint::black_box;
 use std::time::Instant;
 
@@ -32,7 +32,7 @@ type Text = Vec<(u8, bool)>;
 fn glyphs(text: &[(u8, bool)]) -> Vec<GlyphInfo> {
     let glyph = |&(category, mark)| GlyphInfo {
         category,
-        general_category: if mark { GeneralCategory::Mn } else { GeneralCategory::Lo },
+        unicode_props: UnicodeProps::new(if mark { GeneralCategory::Mn } else { GeneralCategory::Lo }, 0),
         ..GlyphInfo::DEFAULT
     };
     text.iter().map(glyph).collect()

@@ -20,8 +20,19 @@ pub fn erase_file(file: &mut File) -> Result<(), String> {
             _ => {}
         }
     }
+    all("byhand").for_each(|(name, derive)| erase_derive(file, name, derive));
     let items: Vec<usize> = all("item").flat_map(|(name, _)| file.places(name)).collect();
     items.into_iter().try_for_each(|i| erase_item(file, i))
+}
+
+// Cuts out of a struct's derives a trait that is written by hand.
+fn erase_derive(file: &mut File, name: &str, derive: &str) {
+    for i in file.places(name) {
+        let start = if file.before(i) == "struct" { file.start(i - 1) } else { i };
+        if let Some(place) = (start..i).find(|j| file.text(*j) == derive) {
+            file.cut_element(place);
+        }
+    }
 }
 
 // Cuts `ghost use ..;`, `ghost NAME: {..};` or `ghost NAME = {..};`.

@@ -5,36 +5,31 @@
 //! Left out are reverse chains, random alternates, feature variations, devices and variations of
 //! positions, vertical text, and the flag `unsafe to concat`.
 
+mod attachment;
 mod gpos;
 mod gsub;
 mod layout;
-mod notes;
 mod pass;
 mod rules;
 
 pub use layout::Layout;
 
 use layout::number;
-use notes::Notes;
 use pass::Pass;
-use read_fonts::tables::gdef::GlyphClassDef as GlyphClass;
 use sengadlit::map::TableIndex;
 use sengadlit::ot_shape::Lookups;
 use sengadlit::ot_shape_plan::StageLookup;
 use sengadlit::ot_shape_position::GlyphClasses;
-use sengadlit::{Buffer, GeneralCategory, GlyphInfo, ShaperError};
+use sengadlit::{Buffer, GeneralCategory, GlyphInfo, GlyphProps, ShaperError};
 
 impl Lookups for Layout<'_> {
     // Of a font without classes nonspacing marks are marks, and all else is a base.
-    fn note(&self, glyph: &GlyphInfo) -> u32 {
-        let guess = || match glyph.general_category {
-            GeneralCategory::Mn if !glyph.marks.is_ignorable() => GlyphClass::Mark,
-            _ => GlyphClass::Base,
+    fn glyph_props(&self, glyph: &GlyphInfo) -> GlyphProps {
+        let guess = || match glyph.unicode_props.general_category() {
+            GeneralCategory::Mn if !glyph.is_default_ignorable() => GlyphProps::MARK,
+            _ => GlyphProps::BASE_GLYPH,
         };
-        let class = self.class(number(glyph)).unwrap_or_else(guess);
-        let mut noted = *glyph;
-        Notes { class, ..Notes::default() }.keep(&mut noted);
-        noted.var
+        self.class(number(glyph)).unwrap_or_else(guess)
     }
 
     // No bound is known: contexts apply lookups within lookups.
@@ -60,6 +55,6 @@ impl Lookups for Layout<'_> {
 
 impl GlyphClasses for Layout<'_> {
     fn is_mark(&self, glyph: &GlyphInfo) -> bool {
-        Notes::of(glyph).is_mark()
+        glyph.glyph_props.is_mark()
     }
 }

@@ -116,6 +116,6 @@ pub fn graphemes(text: &str) -> Result<Vec<usize>, Box<dyn Error>> {
     let mut buffer = Buffer::default();
     buffer.push_str(text)?;
     set_unicode_properties(&UnicodeTables, &mut buffer);
-    let begins = buffer.iter().filter(|glyph| !glyph.marks.is_continuation());
+    let begins = buffer.iter().filter(|glyph| !glyph.unicode_props.is_continuation());
     Ok(begins.map(|glyph| glyph.cluster as usize).collect())
 }

@@ -156,6 +156,7 @@ mod copies;
 mod features;
 mod fonts;
 mod numbers;
+mod properties;
 mod references;
 mod substituting;
 mod support;
@@ -257,7 +258,7 @@ pub mod unicode;
 
 pub use buffer::{
     Buffer, BufferClusterLevel, BufferFlags, Direction, GeneralCategory, GlyphInfo, GlyphPosition,
-    Script, ShaperError, Span, Tag,
+    GlyphProps, LigProps, Script, ShaperError, Span, Tag, UnicodeProps,
 };
 pub use font::{Font, GlyphId, Tables};
 pub use map::{FeatureMap, Map};

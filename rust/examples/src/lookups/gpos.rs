@@ -1,6 +1,6 @@
 //! Positions: single, pair, cursive, marks to bases, ligatures and marks, contexts.
 
-use super::notes::Notes;
+use super::attachment::Attachment;
 use super::pass::{Pass, Side, first_of};
 use super::rules::{chained_rules, rules};
 use read_fonts::tables::gpos::{
@@ -9,7 +9,7 @@ use read_fonts::tables::gpos::{
 };
 use read_fonts::tables::layout::LookupFlag;
 use read_fonts::types::GlyphId16;
-use sengadlit::{Buffer, Direction, GlyphPosition};
+use sengadlit::{Buffer, Direction, GlyphPosition, LigProps};
 
 /// How many attachments in a row are followed.
 const MAX_CHAIN: u8 = 64;
@@ -127,20 +127,22 @@ impl<'a> Pass<'_, 'a> {
 
     // Attaches a glyph to another, or to itself: to none.
     fn attach(&mut self, child: usize, parent: usize, is_mark: bool) {
-        self.change(child, |_, notes| {
-            notes.attached = (parent as isize - child as isize) as i16;
-            notes.is_attached_mark = is_mark;
-        });
+        let places = (parent as isize - child as isize) as i16;
+        self.move_by(child, |position| Attachment { places, is_mark }.keep(position));
+    }
+
+    fn attachment(&self, at: usize) -> Attachment {
+        Attachment::of(&self.buffer.positions()[at])
     }
 
     fn attached_to(&self, at: usize) -> Option<usize> {
-        let attached = isize::from(self.notes(at).attached);
-        (attached != 0).then_some((at as isize + attached) as usize)
+        let places = isize::from(self.attachment(at).places);
+        (places != 0).then_some((at as isize + places) as usize)
     }
 
     // Turns the chain of a cursive line from a glyph on around, up to its new parent.
     fn turn_chain(&mut self, at: usize, parent: usize) {
-        let Some(next) = self.attached_to(at).filter(|_| !self.notes(at).is_attached_mark) else {
+        let Some(next) = self.attached_to(at).filter(|_| !self.attachment(at).is_mark) else {
             return;
         };
         self.attach(at, at, false);
@@ -158,19 +160,20 @@ impl<'a> Pass<'_, 'a> {
         (0..mark).rev().find(|at| {
             let glyph = &self.buffer.glyphs()[*at];
             let is_seen = self.sight(Side::Input, glyph, 0, None) == Some(true);
-            !Notes::of(glyph).is_mark() && is_seen && is_base(*at)
+            !glyph.glyph_props.is_mark() && is_seen && is_base(*at)
         })
     }
 
     fn is_first_of_many(&self, at: usize) -> bool {
         let glyph = self.buffer.get(at);
         let goes_on = |at: usize| {
-            let (before, notes) = (self.buffer.get(at), self.notes(at));
-            let is_of_same = notes.ligature == Notes::of(&glyph).ligature;
-            let is_part = !notes.is_mark() && before.marks.is_multiplied() && is_of_same;
-            is_part && before.lig_comp + 1 == glyph.lig_comp
+            let before = self.buffer.get(at);
+            let is_of_same = before.lig_props.number() == glyph.lig_props.number();
+            let (props, component) = (before.glyph_props, before.lig_props.component());
+            let is_part = !props.is_mark() && props.is_multiplied() && is_of_same;
+            is_part && component + 1 == glyph.lig_props.component()
         };
-        let is_part = glyph.marks.is_multiplied() && glyph.lig_comp != 0;
+        let is_part = glyph.glyph_props.is_multiplied() && glyph.lig_props.component() != 0;
         !is_part || !at.checked_sub(1).is_some_and(goes_on)
     }
 
@@ -194,9 +197,9 @@ impl<'a> Pass<'_, 'a> {
         let ligatures = table.ligature_array().ok()?;
         let ligature = ligatures.ligature_attaches().get(usize::from(index)).ok()?;
         let count = usize::from(ligature.component_count());
-        let number = self.notes(base).ligature;
-        let component = match usize::from(self.buffer.get(at).lig_comp) {
-            at_most @ 1.. if number != 0 && number == self.notes(at).ligature => at_most.min(count),
+        let (number, of_mark) = (self.ligature(base).number(), self.ligature(at));
+        let component = match usize::from(of_mark.component()) {
+            at_most @ 1.. if number != 0 && number == of_mark.number() => at_most.min(count),
             _ => count,
         };
         let (class, mark) = mark_anchor(&table.mark_array().ok()?, mark)?;
@@ -208,7 +211,7 @@ impl<'a> Pass<'_, 'a> {
     fn mark_to_mark(&mut self, table: &MarkMarkPosFormat1<'a>, at: usize) -> Option<usize> {
         let mark = table.mark1_coverage().ok()?.get(self.glyph(at))?;
         let base = self.mark_before(at)?;
-        if !self.notes(base).is_mark() || !self.are_beside(at, base) {
+        if !self.is_mark(base) || !self.are_beside(at, base) {
             return None;
         }
         let index = table.mark2_coverage().ok()?.get(self.glyph(base))?;
@@ -231,12 +234,12 @@ impl<'a> Pass<'_, 'a> {
     // Whether two marks are of the same base, or of the same component; a ligature of marks is of
     // any.
     fn are_beside(&self, mark: usize, other: usize) -> bool {
-        let (a, b) = (self.notes(mark).ligature, self.notes(other).ligature);
-        let component = |at| self.buffer.get(at).lig_comp;
-        if a == b {
-            return a == 0 || component(mark) == component(other);
+        let (a, b) = (self.ligature(mark), self.ligature(other));
+        if a.number() == b.number() {
+            return a.number() == 0 || a.component() == b.component();
         }
-        a > 0 && component(mark) == 0 || b > 0 && component(other) == 0
+        let is_ligature = |props: LigProps| props.number() > 0 && props.component() == 0;
+        is_ligature(a) || is_ligature(b)
     }
 
     // Places a mark so that its anchor is on the other.
@@ -288,18 +291,18 @@ pub fn finish_offsets(buffer: &mut Buffer) {
 
 // The glyph that another one is attached to moves first.
 fn follow(buffer: &mut Buffer, at: usize, left: u8) {
-    let mut glyph = buffer.get(at);
-    let notes = Notes::of(&glyph);
-    Notes { attached: 0, ..notes }.keep(&mut glyph);
-    buffer.set(at, glyph);
-    let to = (at as isize + isize::from(notes.attached)) as usize;
-    if notes.attached == 0 || to >= buffer.len() || left == 0 {
+    let mut position = buffer.position(at);
+    let Attachment { places, is_mark } = Attachment::of(&position);
+    Attachment { places: 0, is_mark }.keep(&mut position);
+    buffer.set_position(at, position);
+    let to = (at as isize + isize::from(places)) as usize;
+    if places == 0 || to >= buffer.len() || left == 0 {
         return;
     }
     follow(buffer, to, left - 1);
-    let (moved, mut position) = (buffer.position(to), buffer.position(at));
+    let moved = buffer.position(to);
     position.y_offset += moved.y_offset;
-    if notes.is_attached_mark {
+    if is_mark {
         // the pen has moved on between the two
         let moves = |between: &[GlyphPosition]| {
             let step = |(x, y), to: &GlyphPosition| (x + to.x_advance, y + to.y_advance);

@@ -1,16 +1,13 @@
 //! Substitutions: single, multiple, alternate, ligatures, contexts.
 
 use super::layout::Layout;
-use super::notes::Notes;
 use super::pass::{Pass, first_of};
 use super::rules::{chained_rules, glyphs, rules};
-use read_fonts::tables::gdef::GlyphClassDef as GlyphClass;
 use read_fonts::tables::gsub::{LigatureSubstFormat1, SingleSubst, SubstitutionSubtables};
 use read_fonts::types::GlyphId16;
-use sengadlit::buffer::GlyphMarks;
 use sengadlit::map::TableIndex;
 use sengadlit::ot_shape_plan::StageLookup;
-use sengadlit::{Buffer, GeneralCategory, GlyphId, GlyphInfo};
+use sengadlit::{Buffer, GeneralCategory, GlyphId, GlyphInfo, GlyphProps, LigProps};
 
 impl Layout<'_> {
     /// Whether a lookup of GSUB would apply to exactly these glyphs; with `zero_context`, by a rule
@@ -77,12 +74,12 @@ impl<'a> Pass<'_, 'a> {
     }
 
     // Puts another glyph in, of its class or, where the font has no classes, of this one.
-    fn replace(&mut self, at: usize, to: GlyphId16, class: Option<GlyphClass>) {
+    fn replace(&mut self, at: usize, to: GlyphId16, class: Option<GlyphProps>) {
         let class = self.layout.class(to).or(class);
-        self.change(at, |glyph, notes| {
+        self.change(at, |glyph| {
             glyph.glyph_id = to.into();
-            glyph.marks.insert(GlyphMarks::SUBSTITUTED);
-            notes.class = class.unwrap_or(notes.class);
+            glyph.glyph_props.insert(GlyphProps::SUBSTITUTED);
+            glyph.glyph_props.set_class(class.unwrap_or(glyph.glyph_props));
         });
     }
 
@@ -102,14 +99,15 @@ impl<'a> Pass<'_, 'a> {
             let one = glyphs[at];
             glyphs[at + 1..at + 1 + added].fill(one);
         });
-        let was_ligature = self.notes(at).class == GlyphClass::Ligature;
-        let class = (added > 0 && was_ligature).then_some(GlyphClass::Base);
+        let was_ligature = self.buffer.get(at).glyph_props.is_ligature();
+        let class = (added > 0 && was_ligature).then_some(GlyphProps::BASE_GLYPH);
         for (number, to) in to.iter().enumerate() {
             self.replace(at + number, *to, class);
-            self.change(at + number, |glyph, notes| {
-                glyph.marks.set_multiplied(added > 0 || glyph.marks.is_multiplied());
-                if added > 0 && notes.ligature == 0 {
-                    (notes.components, glyph.lig_comp) = (0, number as u8 & 15);
+            self.change(at + number, |glyph| {
+                let is_part = added > 0;
+                glyph.glyph_props.set_multiplied(is_part || glyph.glyph_props.is_multiplied());
+                if is_part && glyph.lig_props.number() == 0 {
+                    glyph.lig_props = LigProps::mark(0, number as u8);
                 }
             });
         }
@@ -157,21 +155,21 @@ impl<'a> Pass<'_, 'a> {
     fn ligate(&mut self, places: &[usize], to: GlyphId16) {
         let at = places[0];
         self.buffer.merge_clusters(at, places[places.len() - 1] + 1);
-        let rest_are_marks = places[1..].iter().all(|place| self.notes(*place).is_mark());
-        let first = self.notes(at).class;
-        let is_of_marks = rest_are_marks && first == GlyphClass::Mark;
-        let is_base = rest_are_marks && first == GlyphClass::Base;
+        let rest_are_marks = places[1..].iter().all(|place| self.is_mark(*place));
+        let first = self.buffer.get(at).glyph_props;
+        let is_of_marks = rest_are_marks && first.is_mark();
+        let is_base = rest_are_marks && first.is_base_glyph();
         let takes_marks = !is_of_marks && !is_base;
         let number = if takes_marks { self.free_number(at) } else { 0 };
         let components = self.attach_marks(places, number, is_of_marks);
-        self.replace(at, to, takes_marks.then_some(GlyphClass::Ligature));
-        self.change(at, |glyph, notes| {
-            glyph.marks.insert(GlyphMarks::LIGATED);
-            glyph.marks.remove(GlyphMarks::MULTIPLIED);
+        self.replace(at, to, takes_marks.then_some(GlyphProps::LIGATURE));
+        self.change(at, |glyph| {
+            glyph.glyph_props.insert(GlyphProps::LIGATED);
+            glyph.glyph_props.remove(GlyphProps::MULTIPLIED);
             if takes_marks {
-                (notes.ligature, notes.components, glyph.lig_comp) = (number, components, 0);
-                if glyph.general_category == GeneralCategory::Mn {
-                    glyph.general_category = GeneralCategory::Lo;
+                glyph.lig_props = LigProps::ligature(number, components);
+                if glyph.unicode_props.general_category() == GeneralCategory::Mn {
+                    glyph.unicode_props.set_general_category(GeneralCategory::Lo);
                 }
             }
         });
@@ -183,7 +181,7 @@ impl<'a> Pass<'_, 'a> {
     // A number for a ligature: one that no glyph has, or else that the ligatures beside it don't
     // have.
     fn free_number(&self, at: usize) -> u8 {
-        let of = |glyph: &GlyphInfo| Some(Notes::of(glyph).ligature).filter(|number| *number != 0);
+        let of = |glyph: &GlyphInfo| Some(glyph.lig_props.number()).filter(|number| *number != 0);
         let (before, behind) = self.buffer.glyphs().split_at(at);
         let beside = [before.iter().rev().find_map(of), behind.iter().find_map(of)];
         let is_free = |number: &u8| !self.buffer.iter().any(|glyph| of(glyph) == Some(*number));
@@ -195,27 +193,24 @@ impl<'a> Pass<'_, 'a> {
     // the components before them; so do those behind it that belonged to its last glyph. Returns
     // how many components it has.
     fn attach_marks(&mut self, places: &[usize], number: u8, is_of_marks: bool) -> u8 {
-        let (mut all, mut last) = (0_u8, Notes::default());
+        let (mut all, mut of_last, mut last) = (0_u8, 0, 0);
         for at in places[0]..self.buffer.len() {
-            let notes = self.notes(at);
+            let glyph = self.buffer.get(at);
             if places.binary_search(&at).is_ok() {
-                (all, last) = (all.saturating_add(notes.component_count()), notes);
+                of_last = glyph.component_count();
+                (all, last) = (all.saturating_add(of_last), glyph.lig_props.number());
                 continue;
             }
-            let component = self.buffer.get(at).lig_comp;
-            let was_of_last =
-                last.ligature != 0 && notes.ligature == last.ligature && component != 0;
+            let component = glyph.lig_props.component();
+            let was_of_last = last != 0 && glyph.lig_props.number() == last && component != 0;
             let is_behind = at > places[places.len() - 1];
             if is_behind && (is_of_marks || !was_of_last) {
                 break;
             }
             if is_behind || number != 0 {
-                let of_last = last.component_count();
                 let inside = if component == 0 { of_last } else { component.min(of_last) };
-                self.change(at, |glyph, notes| {
-                    glyph.lig_comp = (all - of_last + inside) & 15;
-                    (notes.ligature, notes.components) = (number, 0);
-                });
+                let mark = LigProps::mark(number, all - of_last + inside);
+                self.change(at, |glyph| glyph.lig_props = mark);
             }
         }
         all

@@ -1,15 +1,14 @@
 //! The tables of a font as lookups read them: a lookup, the class of a glyph, and which glyphs a lookup
 //! ignores.
 
-use super::notes::Notes;
 use read_fonts::tables::gdef::{Gdef, GlyphClassDef as GlyphClass};
 use read_fonts::tables::gpos::{Gpos, PositionSubtables};
 use read_fonts::tables::gsub::{Gsub, SubstitutionSubtables};
 use read_fonts::tables::layout::{CoverageTable, LookupFlag};
 use read_fonts::types::GlyphId16;
 use read_fonts::{FontRef, TableProvider};
-use sengadlit::GlyphInfo;
 use sengadlit::map::TableIndex;
+use sengadlit::{GlyphInfo, GlyphProps};
 
 pub enum Subtables<'a> {
     Substitution(SubstitutionSubtables<'a>),
@@ -23,6 +22,9 @@ pub struct Flag<'a> {
     marks: Option<CoverageTable<'a>>,
 }
 
+// The bits of bases, ligatures and marks in a lookup's flag, and of their classes in `glyph_props`.
+const IGNORED_CLASSES: u16 = 0x0E;
+
 /// The tables of a font.
 pub struct Layout<'a> {
     gsub: Option<Gsub<'a>>,
@@ -35,10 +37,19 @@ impl<'a> Layout<'a> {
         Layout { gsub: font.gsub().ok(), gpos: font.gpos().ok(), gdef: font.gdef().ok() }
     }
 
-    /// The class of a glyph, if the font has classes.
-    pub fn class(&self, glyph: GlyphId16) -> Option<GlyphClass> {
-        let classes = self.gdef.as_ref()?.glyph_class_def()?.ok()?;
-        Some(GlyphClass::new(classes.get(glyph)))
+    /// The class of a glyph, if the font has classes, and of a mark the one by which lookups ignore it.
+    pub fn class(&self, glyph: GlyphId16) -> Option<GlyphProps> {
+        let gdef = self.gdef.as_ref()?;
+        let classes = gdef.glyph_class_def()?.ok()?;
+        Some(match GlyphClass::new(classes.get(glyph)) {
+            GlyphClass::Base => GlyphProps::BASE_GLYPH,
+            GlyphClass::Ligature => GlyphProps::LIGATURE,
+            GlyphClass::Mark => {
+                let classes = gdef.mark_attach_class_def().and_then(Result::ok);
+                GlyphProps::mark(classes.map_or(0, |classes| classes.get(glyph) as u8))
+            }
+            GlyphClass::Unknown | GlyphClass::Component => GlyphProps::NONE,
+        })
     }
 
     /// A lookup: its subtables, and which glyphs it ignores.
@@ -63,23 +74,19 @@ impl<'a> Layout<'a> {
 
     /// Whether a lookup ignores a glyph. Of marks a set that it sees goes before a class.
     pub fn is_ignored(&self, flag: &Flag<'_>, glyph: &GlyphInfo) -> bool {
-        let has = |bit| flag.bits.contains(bit);
-        let mark = number(glyph);
-        match Notes::of(glyph).class {
-            GlyphClass::Base => has(LookupFlag::IGNORE_BASE_GLYPHS),
-            GlyphClass::Ligature => has(LookupFlag::IGNORE_LIGATURES),
-            GlyphClass::Mark if has(LookupFlag::IGNORE_MARKS) => true,
-            GlyphClass::Mark if has(LookupFlag::USE_MARK_FILTERING_SET) => {
-                flag.marks.as_ref().is_none_or(|marks| marks.get(mark).is_none())
-            }
-            GlyphClass::Mark => {
-                let classes =
-                    self.gdef.as_ref().and_then(|gdef| gdef.mark_attach_class_def()?.ok());
-                let class = classes.map_or(0, |classes| classes.get(mark));
-                flag.bits.mark_attachment_class().is_some_and(|wanted| wanted != class)
-            }
-            GlyphClass::Unknown | GlyphClass::Component => false,
+        let (props, bits) = (glyph.glyph_props, flag.bits);
+        // (a class and the flag that ignores it have the same bit)
+        if props.bits() & bits.to_bits() & IGNORED_CLASSES != 0 {
+            return true;
         }
+        if !props.is_mark() {
+            return false;
+        }
+        if bits.contains(LookupFlag::USE_MARK_FILTERING_SET) {
+            return flag.marks.as_ref().is_none_or(|marks| marks.get(number(glyph)).is_none());
+        }
+        let class = u16::from(props.mark_attachment_class());
+        bits.mark_attachment_class().is_some_and(|wanted| wanted != class)
     }
 }
 

@@ -2,24 +2,18 @@
 //! lookups apply at these places.
 
 use super::layout::{Flag, Layout, Subtables, number};
-use super::notes::Notes;
 use super::rules::{Pattern, Rule, Rules};
 use read_fonts::ReadError;
 use read_fonts::types::GlyphId16;
 use sengadlit::map::TableIndex;
-use sengadlit::ot_shape_normalize::HIDDEN;
 use sengadlit::ot_shape_plan::StageLookup;
-use sengadlit::{Buffer, GeneralCategory, GlyphInfo, ShaperError};
+use sengadlit::{Buffer, GlyphInfo, LigProps, ShaperError};
 
 /// How deep lookups may call lookups, how many of these calls one lookup over a text may make, and
 /// how long a rule's input is at most.
 const MAX_DEPTH: u8 = 64;
 const MAX_CALLS: u32 = 1 << 16;
 const MAX_INPUT: usize = 64;
-
-/// The classes by which joiners are known.
-const ZERO_WIDTH_JOINER: u8 = 1;
-const ZERO_WIDTH_NON_JOINER: u8 = 2;
 
 pub struct Pass<'p, 'a> {
     pub layout: &'p Layout<'a>,
@@ -110,16 +104,18 @@ impl<'p, 'a> Pass<'p, 'a> {
         number(&self.buffer.glyphs()[at])
     }
 
-    pub fn notes(&self, at: usize) -> Notes {
-        Notes::of(&self.buffer.glyphs()[at])
+    pub fn is_mark(&self, at: usize) -> bool {
+        self.buffer.glyphs()[at].glyph_props.is_mark()
     }
 
-    /// Changes a glyph and what is kept with it.
-    pub fn change(&mut self, at: usize, change: impl FnOnce(&mut GlyphInfo, &mut Notes)) {
+    /// The ligature that a glyph is or belongs to.
+    pub fn ligature(&self, at: usize) -> LigProps {
+        self.buffer.glyphs()[at].lig_props
+    }
+
+    pub fn change(&mut self, at: usize, change: impl FnOnce(&mut GlyphInfo)) {
         let mut glyph = self.buffer.get(at);
-        let mut notes = Notes::of(&glyph);
-        change(&mut glyph, &mut notes);
-        notes.keep(&mut glyph);
+        change(&mut glyph);
         self.buffer.set(at, glyph);
     }
 
@@ -146,15 +142,13 @@ impl<'p, 'a> Pass<'p, 'a> {
     // Whether a search may go on over a glyph, since it isn't drawn.
     fn may_skip(&self, side: Side, glyph: &GlyphInfo) -> bool {
         let positions = self.table == TableIndex::GPOS;
-        let is_format = glyph.general_category == GeneralCategory::Cf;
-        let joiner = if is_format { glyph.modified_combining_class } else { 0 };
+        let props = glyph.unicode_props;
         let over_zwnj = positions || side == Side::Context && self.lookup.auto_zwnj;
         let over_zwj = side == Side::Context || self.lookup.auto_zwj;
-        glyph.marks.is_ignorable()
-            && !glyph.marks.is_substituted()
-            && (over_zwnj || joiner & ZERO_WIDTH_NON_JOINER == 0)
-            && (over_zwj || joiner & ZERO_WIDTH_JOINER == 0)
-            && (positions || glyph.marks.0 & HIDDEN == 0)
+        glyph.is_default_ignorable()
+            && (over_zwnj || !props.is_zero_width_non_joiner())
+            && (over_zwj || !props.is_zero_width_joiner())
+            && (positions || !props.is_hidden())
     }
 
     // The syllable that a search from a place stays in, or 0.
@@ -202,8 +196,8 @@ impl<'p, 'a> Pass<'p, 'a> {
     // or the second is no mark of a ligature, but for one that the first is. Marks of a ligature
     // that the lookup ignores are free.
     fn are_of_one_ligature(&self, first: usize, second: usize) -> bool {
-        let component = |at: usize| self.buffer.glyphs()[at].lig_comp;
-        let (ligature, other) = (self.notes(first).ligature, self.notes(second).ligature);
+        let component = |at: usize| self.ligature(at).component();
+        let (ligature, other) = (self.ligature(first).number(), self.ligature(second).number());
         if ligature == 0 || component(first) == 0 {
             return other == 0 || component(second) == 0 || other == ligature;
         }
@@ -211,7 +205,7 @@ impl<'p, 'a> Pass<'p, 'a> {
             return true;
         }
         let mut of_ligature =
-            (0..first).rev().take_while(|at| self.notes(*at).ligature == ligature);
+            (0..first).rev().take_while(|at| self.ligature(*at).number() == ligature);
         let base = of_ligature.find(|at| component(*at) == 0);
         base.is_some_and(|base| self.is_ignored(&self.buffer.get(base)))
     }

@@ -9,7 +9,7 @@ use crate::support::bitflags::{Flag, Flags, bitflag_items};
 /// neither read nor write the class and the bits without a name. Between normalization and the glyphs
 /// it holds the number of the character's glyph instead.
 #[repr(transparent)]
-#[derive(Clone, Copy, Debug, PartialEq, Eq, Hash)]
+#[derive(Clone, Copy, PartialEq, Eq, Hash)]
 pub struct GlyphProps(pub u16);
 
 bitflag_items! {

@@ -4,7 +4,7 @@
 /// three bits, below it whether the glyph is the ligature itself, and in the low four bits a
 /// component.
 #[repr(transparent)]
-#[derive(Clone, Copy, Debug, PartialEq, Eq, Hash)]
+#[derive(Clone, Copy, PartialEq, Eq, Hash)]
 pub struct LigProps(pub u8);
 
 impl LigProps {

@@ -9,7 +9,7 @@ use crate::support::bitflags::{Flag, Flags, bitflag_items};
 /// What the glyph's character is (HarfBuzz's `unicode_props`): its general category in the low five
 /// bits, three bits of their own, and in the high byte the canonical combining class of a mark.
 #[repr(transparent)]
-#[derive(Clone, Copy, Debug, PartialEq, Eq, Hash)]
+#[derive(Clone, Copy, PartialEq, Eq, Hash)]
 pub struct UnicodeProps(pub u16);
 
 bitflag_items! {
