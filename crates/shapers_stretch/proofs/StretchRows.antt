@@ -10,12 +10,12 @@ use Rattle.shapers_buffer.specs.declared.buffer.refusal.ShaperError.{ShaperError
 use Rattle.shapers_buffer.specs.declared.buffer.refusal.ShaperError.TheVariants.{StretchOverflow}
 use Rattle.shapers_buffer.specs.Buffer.{Buffer, new_buffer}
 use Rattle.shapers_buffer.specs.Glyph.{default_glyph, default_position}
+use Rattle.shapers_buffer.specs.Properties.{general_category, properties}
 use Rattle.shapers_base.specs.declared.plan.arabic.StretchStart.{StretchStart}
 use Rattle.shapers_base.specs.declared.plan.arabic.StretchStart.TheVariants.{AsCode, Centred}
 use Rattle.shapers_base.specs.Font.{Font}
 use Rattle.shapers_stretch.specs.Cells.{Cell, parts_of_text, tiles_of, word_of, before_word, is_word_category}
 use Rattle.shapers_stretch.specs.Stretch.{cells, marks_stretched, stretch_refusal}
-use Rattle.shapers_buffer.specs.Properties.{properties}
 
 -- a font by the advances of its glyphs
 abbrev pub font : (ℕ → ℤ) → Font
@@ -36,15 +36,13 @@ cell n cluster category action advance =
       mask = 16;
       syllable = 8;
       category = 9;
-      auxiliary =
-          action;
+      auxiliary = action;
+      glyph_props = record { 0 = 0x70 };
       lig_props = record { 0 = 5 };
       unicode_props = properties category 11;
-      marks =
-          record { 0 = 7 };
     } in
     let p : GlyphPosition =
-    record { x_advance = advance; y_advance = pos 12; x_offset = pos 13; y_offset = negsuc 13 } in
+    record { x_advance = advance; y_advance = pos 12; x_offset = pos 13; y_offset = negsuc 13; var = 0xFFFFFFFF } in
     (g, p)
 
 abbrev pub letter : ℕ → ℤ → Cell
@@ -83,6 +81,7 @@ after choice b = cells (marks_stretched (font widths) choice b)
 seven : after AsCode (text RightToLeft (letter 0 (pos 1000) ∷ fixed_tile ∷ repeating_tile ∷ [])) ≡ letter 0 (pos 1000)
     ∷ at (negsuc 999) fixed_tile ∷ at (negsuc 899) repeating_tile ∷ at (negsuc 724) repeating_tile
     ∷ at (negsuc 549) repeating_tile ∷ at (negsuc 374) repeating_tile ∷ at (negsuc 199) repeating_tile ∷ []
+unfolding general_category
 seven = refl
 
 abbrev seven_backwards : List Cell
@@ -91,37 +90,45 @@ seven_backwards = at (pos 0) repeating_tile ∷ at (pos 200) repeating_tile ∷ 
 
 seven_leftward : after AsCode (text LeftToRight (repeating_tile ∷ fixed_tile ∷ letter 0 (pos 1000) ∷ []))
     ≡ seven_backwards
+unfolding general_category
 seven_leftward = refl
 
 seven_centred : after Centred (text RightToLeft (letter 0 (pos 1000) ∷ fixed_tile ∷ repeating_tile ∷ []))
     ≡ after AsCode (text RightToLeft (letter 0 (pos 1000) ∷ fixed_tile ∷ repeating_tile ∷ []))
+unfolding general_category
 seven_centred = refl
 
 -- any direction but right to left is in order backwards, also upward and none
 upward : map (λ d. after AsCode (text d (repeating_tile ∷ fixed_tile ∷ letter 0 (pos 1000) ∷ [])))
     (BottomToTop ∷ Invalid ∷ TopToBottom ∷ []) ≡ seven_backwards ∷ seven_backwards ∷ seven_backwards ∷ []
+unfolding general_category
 upward = refl
 
 upward_centred : map (λ d. after Centred (text d (fixed_tile ∷ letter 0 (pos 160) ∷ [])))
     (BottomToTop ∷ Invalid ∷ RightToLeft ∷ []) ≡ (at (pos 30) fixed_tile ∷ letter 0 (pos 160) ∷ [])
     ∷ (at (pos 30) fixed_tile ∷ letter 0 (pos 160) ∷ []) ∷ (at (negsuc 49) fixed_tile ∷ letter 0 (pos 160) ∷ []) ∷ []
+unfolding general_category
 upward_centred = refl
 
 downward : after AsCode (text TopToBottom (repeating_tile ∷ letter 0 (pos 200) ∷ [])) ≡ at (pos 100) repeating_tile
     ∷ letter 0 (pos 200) ∷ []
+unfolding general_category
 downward = refl
 
 -- a fixed tile alone, both starts, both directions
 alone : after AsCode (text RightToLeft (letter 0 (pos 140) ∷ fixed_tile ∷ [])) ≡ letter 0 (pos 140)
     ∷ at (negsuc 79) fixed_tile ∷ []
+unfolding general_category
 alone = refl
 
 alone_centred : after Centred (text RightToLeft (letter 0 (pos 160) ∷ fixed_tile ∷ [])) ≡ letter 0 (pos 160)
     ∷ at (negsuc 129) fixed_tile ∷ []
+unfolding general_category
 alone_centred = refl
 
 alone_leftward : after Centred (text LeftToRight (fixed_tile ∷ letter 0 (pos 160) ∷ [])) ≡ at (pos 30) fixed_tile
     ∷ letter 0 (pos 160) ∷ []
+unfolding general_category
 alone_leftward = refl
 
 -- two tiles that repeat: each is laid as often as it repeats before the next one is
@@ -131,6 +138,7 @@ second_tile = cell 2 0 Lo 9 (pos 100)
 two_repeat : after AsCode (text LeftToRight (second_tile ∷ repeating_tile ∷ letter 0 (pos 600) ∷ []))
     ≡ at (pos 300) second_tile ∷ at (pos 400) second_tile ∷ at (pos 500) repeating_tile ∷ at (pos 700) repeating_tile
     ∷ letter 0 (pos 600) ∷ []
+unfolding general_category
 two_repeat = refl
 
 -- word and run have no break, their clusters 0, 1 and 2; what stands before the word and behind the run is left alone
@@ -139,6 +147,7 @@ flagged_word : after AsCode
     ∷ cell 5 3 Zs 7 (pos 55) ∷ [])) ≡ cell 5 0 Zs 7 (pos 55) ∷ letter 0 (pos 200) ∷ flags 19 (letter 1 (pos 200))
     ∷ flags 19 (at (negsuc 199) (cell 3 2 Lo 9 (pos 200))) ∷ flags 19 (at (pos 0) (cell 3 2 Lo 9 (pos 200)))
     ∷ cell 5 3 Zs 7 (pos 55) ∷ []
+unfolding general_category
 flagged_word = refl
 
 -- two tiles of different clusters: each copy has that of its own tile, and in both directions the
@@ -148,6 +157,7 @@ two_clusters : after AsCode
     ≡ letter 0 (pos 400) ∷ flags 19 (at (negsuc 399) (cell 2 1 Lo 9 (pos 100)))
     ∷ flags 19 (at (negsuc 399) (cell 2 1 Lo 9 (pos 100))) ∷ flags 19 (at (negsuc 299) (cell 3 2 Lo 9 (pos 200)))
     ∷ flags 19 (at (negsuc 199) (cell 3 2 Lo 9 (pos 200))) ∷ []
+unfolding general_category
 two_clusters = refl
 
 two_clusters_backwards : after AsCode
@@ -155,6 +165,7 @@ two_clusters_backwards : after AsCode
     ≡ at (pos 0) (cell 3 0 Lo 9 (pos 200)) ∷ at (pos 200) (cell 3 0 Lo 9 (pos 200))
     ∷ flags 19 (at (pos 300) (cell 2 1 Lo 9 (pos 100))) ∷ flags 19 (at (pos 400) (cell 2 1 Lo 9 (pos 100)))
     ∷ flags 19 (letter 2 (pos 400)) ∷ []
+unfolding general_category
 two_clusters_backwards = refl
 
 -- two runs, each with its own word; a run directly behind another has no word
@@ -162,11 +173,13 @@ two_runs : after AsCode
     (text RightToLeft (letter 0 (pos 300) ∷ repeating_tile ∷ letter 0 (pos 200) ∷ repeating_tile ∷ []))
     ≡ letter 0 (pos 300) ∷ at (negsuc 299) repeating_tile ∷ at (negsuc 199) repeating_tile ∷ letter 0 (pos 200)
     ∷ at (negsuc 99) repeating_tile ∷ []
+unfolding general_category
 two_runs = refl
 
 -- a run without a word
 no_word : after AsCode (text RightToLeft (letter 0 (pos 300) ∷ space ∷ repeating_tile ∷ [])) ≡ letter 0 (pos 300)
     ∷ space ∷ at (negsuc 199) repeating_tile ∷ []
+unfolding general_category
 no_word = refl
 
 -- no run, and no mark "has stch"
@@ -197,18 +210,29 @@ its_tiles : tiles_of part ≡ fixed_tile ∷ repeating_tile ∷ []
 its_tiles = refl
 
 its_word : word_of part ≡ letter 0 (pos 2) ∷ letter 0 (pos 3) ∷ []
+unfolding general_category
 its_word = refl
 
 its_rest : before_word part ≡ letter 0 (pos 1) ∷ space ∷ []
+unfolding general_category
 its_rest = refl
 
--- an undrawn space is of the word unless a lookup put it in; the marks are bits 0 (substituted) and 3 (ignorable)
-abbrev undrawn : ℕ → Cell
-undrawn marks = let g : hb_glyph_info_t =
-    record default_glyph { general_category = Cf; marks = record { 0 = marks } } in (g, default_position)
+-- an undrawn space is of the word unless a lookup put it in; 0x0021 is ignorable, and 0x10 substituted
+abbrev undrawn : ℕ → ℕ → Cell
+undrawn unicode_props glyph_props =
+    let g : hb_glyph_info_t =
+    record default_glyph {
+      unicode_props = record { 0 = unicode_props };
+      glyph_props = record { 0 = glyph_props };
+    } in (g, default_position)
 
-undrawn_word : map (λ marks. word_of (undrawn marks ∷ fixed_tile ∷ [])) (8 ∷ 9 ∷ 0 ∷ 30 ∷ []) ≡ (undrawn 8 ∷ []) ∷ []
-    ∷ [] ∷ (undrawn 30 ∷ []) ∷ []
+abbrev undrawn_words : List Cell → List (List Cell)
+undrawn_words gs = map (λ g. word_of (g ∷ fixed_tile ∷ [])) gs
+
+undrawn_word : undrawn_words (undrawn 0x0021 0 ∷ undrawn 0x0021 0x10 ∷ undrawn 0x0001 0 ∷ undrawn 0xFFE1 0xFFEF
+    ∷ undrawn 0xFFC1 0 ∷ undrawn 0x0021 0x20 ∷ []) ≡ (undrawn 0x0021 0 ∷ []) ∷ [] ∷ [] ∷ (undrawn 0xFFE1 0xFFEF ∷ [])
+    ∷ [] ∷ (undrawn 0x0021 0x20 ∷ []) ∷ []
+unfolding general_category
 undrawn_word = refl
 
 -- each category
@@ -224,13 +248,16 @@ refusal choice direction cs = stretch_refusal (font widths) choice (text directi
 
 too_wide : refusal AsCode RightToLeft (letter 0 (pos 2147483647) ∷ letter 1 (pos 2147483647) ∷ cell 4 2 Lo 9 (pos 1)
     ∷ []) ≡ Some StretchOverflow
+unfolding general_category
 too_wide = refl
 
 wide : refusal AsCode RightToLeft (letter 0 (pos 2147483647) ∷ fixed_tile ∷ []) ≡ None
+unfolding general_category
 wide = refl
 
 -- the rest of a word of -2147483648 beside a fixed tile of 100
 too_low : refusal AsCode RightToLeft (letter 0 (negsuc 2147483647) ∷ fixed_tile ∷ []) ≡ Some StretchOverflow
+unfolding general_category
 too_low = refl
 
 -- an offset: right to left the first copy of a tile of 100 goes below a start that is nearly the least
@@ -238,6 +265,7 @@ offset_too_low : map (λ b. stretch_refusal (font (λ n. if n == 2 then pos 1500
     (text RightToLeft (letter 0 (pos 0) ∷ cell 3 0 Lo 8 (pos 0) ∷ fixed_tile ∷ fixed_tile ∷ cell 3 0 Lo 8 (pos 0) ∷ [])
     ∷ text RightToLeft (letter 0 (pos 0) ∷ cell 3 0 Lo 8 (pos 0) ∷ fixed_tile ∷ cell 3 0 Lo 8 (pos 0) ∷ fixed_tile ∷ [])
     ∷ []) ≡ None ∷ None ∷ []
+unfolding general_category
 offset_too_low = refl
 
 two_before_two : map (λ d. stretch_refusal (font (λ n. if n == 2 then pos 1500000000 else negsuc 1499999999)) AsCode
@@ -255,6 +283,7 @@ narrow_run = letter 0 (pos 140) ∷ fixed_tile ∷ []
 one_of_several : map (refusal AsCode RightToLeft) ((narrow_run ++ wide_run) ∷ (wide_run ++ narrow_run)
     ∷ (wide_run ++ space ∷ []) ∷ (narrow_run ++ narrow_run) ∷ []) ≡ Some StretchOverflow ∷ Some StretchOverflow
     ∷ Some StretchOverflow ∷ None ∷ []
+unfolding general_category
 one_of_several = refl
 
 -- a word that isn't before a run is never summed

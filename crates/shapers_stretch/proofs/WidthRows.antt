@@ -3,6 +3,7 @@ use Rattle.std.proofs.Common.{◌≡◌, ◌==◌, ℕ, ℤ, pos, negsuc, Bool, 
 use Rattle.std.proofs.lemmas.Int.{ints}
 use Rattle.shapers_buffer.specs.declared.buffer.level.Direction.TheVariants.{LeftToRight, RightToLeft}
 use Rattle.shapers_buffer.specs.Buffer.{Buffer}
+use Rattle.shapers_buffer.specs.Properties.{general_category}
 use Rattle.shapers_base.specs.declared.plan.arabic.StretchStart.{StretchStart}
 use Rattle.shapers_base.specs.declared.plan.arabic.StretchStart.TheVariants.{AsCode, Centred}
 use Rattle.shapers_stretch.specs.Cells.{Cell}
@@ -48,6 +49,7 @@ seven_leftward : row widths AsCode true seven ≡ record {
   width = pos 1000;
   more = 4;
 }
+unfolding general_category
 seven_leftward = refl
 
 seven_rightward : row widths Centred false seven ≡ record {
@@ -59,9 +61,11 @@ seven_rightward : row widths Centred false seven ≡ record {
   width = pos 1000;
   more = 4;
 }
+unfolding general_category
 seven_rightward = refl
 
 seven_fit : TilesFit (run_of_part (font widths) seven)
+unfolding general_category
 seven_fit = (omega (arith, ints), omega (arith, ints))
 
 -- a tile of 300 over 1000: wider by two units, with three copies more
@@ -80,6 +84,7 @@ wider_leftward : row of_300 Centred true wider ≡ record {
   width = pos 1002;
   more = 3;
 }
+unfolding general_category
 wider_leftward = refl
 
 wider_rightward : row of_300 AsCode false wider ≡ record {
@@ -91,6 +96,7 @@ wider_rightward : row of_300 AsCode false wider ≡ record {
   width = pos 1002;
   more = 3;
 }
+unfolding general_category
 wider_rightward = refl
 
 -- two tiles that repeat: the last one is laid first
@@ -103,6 +109,7 @@ two_tiles : row widths AsCode true (letter 0 (pos 400) ∷ second_tile ∷ repea
   width = pos 400;
   more = 2;
 }
+unfolding general_category
 two_tiles = refl
 
 -- a run without a word: its tiles don't fit, and are laid once
@@ -118,6 +125,7 @@ no_word_leftward : row widths AsCode true without_word ≡ record {
   width = pos 200;
   more = 0;
 }
+unfolding general_category
 no_word_leftward = refl
 
 no_word_rightward : row widths Centred false without_word ≡ record {
@@ -129,6 +137,7 @@ no_word_rightward : row widths Centred false without_word ≡ record {
   width = pos 200;
   more = 0;
 }
+unfolding general_category
 no_word_rightward = refl
 
 -- tiles that don't fit the word: one of 200 over 100, and one without a width over 50, which doesn't reach
@@ -141,6 +150,7 @@ too_wide_leftward : row widths AsCode true (letter 0 (pos 100) ∷ repeating_til
   width = pos 200;
   more = 0;
 }
+unfolding general_category
 too_wide_leftward = refl
 
 too_wide_rightward : row widths Centred false (letter 0 (pos 100) ∷ repeating_tile ∷ []) ≡ record {
@@ -152,6 +162,7 @@ too_wide_rightward : row widths Centred false (letter 0 (pos 100) ∷ repeating_
   width = pos 200;
   more = 0;
 }
+unfolding general_category
 too_wide_rightward = refl
 
 no_width : row (λ n. pos 0) AsCode false (letter 0 (pos 50) ∷ repeating_tile ∷ []) ≡ record {
@@ -163,6 +174,7 @@ no_width : row (λ n. pos 0) AsCode false (letter 0 (pos 50) ∷ repeating_tile 
   width = pos 0;
   more = 1;
 }
+unfolding general_category
 no_width = refl
 
 -- how many copies a text adds: none without the mark, the sum of its runs, found in working order
@@ -171,4 +183,5 @@ many : map (copies_in (font widths))
     ∷ text LeftToRight seven ∷ text LeftToRight (repeating_tile ∷ fixed_tile ∷ letter 0 (pos 1000) ∷ [])
     ∷ text RightToLeft (letter 0 (pos 300) ∷ repeating_tile ∷ letter 0 (pos 1000) ∷ repeating_tile ∷ letter 0 (pos 900)
     ∷ []) ∷ text RightToLeft (letter 0 (pos 1000) ∷ fixed_tile ∷ []) ∷ []) ≡ 4 ∷ 0 ∷ 0 ∷ 4 ∷ 5 ∷ 0 ∷ []
+unfolding general_category
 many = refl

@@ -7,7 +7,7 @@ use Rattle.shapers_buffer.specs.declared.buffer.category.hb_unicode_general_cate
 use Rattle.shapers_buffer.specs.declared.buffer.glyph.GlyphPosition.{GlyphPosition}
 use Rattle.shapers_buffer.specs.declared.buffer.glyph.hb_glyph_info_t.{hb_glyph_info_t}
 use Rattle.shapers_buffer.specs.Lists.{last_run, before_last_run}
-use Rattle.shapers_buffer.specs.Properties.{is_ignorable, is_substituted, general_category}
+use Rattle.shapers_buffer.specs.Properties.{general_category, is_ignorable, is_substituted}
 use Rattle.shapers_arabic.specs.declared.ot_shaper_arabic.arabic_action_t.TheConstants.{STRETCHING_FIXED, STRETCHING_REPEATING}
 use Rattle.std.specs.Prelude.{true}
 
@@ -50,7 +50,8 @@ is_word_category _ = false
 -- whether a glyph can be of the word before a run: no tile, undrawn by nature or of such a category
 abbrev pub in_word : hb_glyph_info_t → Bool
 in_word g = not (is_tile g)
-    && (is_ignorable g.unicode_props && not (is_substituted g.glyph_props) || is_word_category (general_category g.unicode_props))
+    && (is_ignorable g.unicode_props && not (is_substituted g.glyph_props)
+    || is_word_category (general_category g.unicode_props))
 
 -- the list cut wherever two neighbours stand so
 abbrev pub cut_here : {X : Type 0} → (X → X → Bool) → X → List X → Bool

@@ -3,7 +3,7 @@ use Rattle.std.specs.Prelude.{ℕ, ◌%◌, ◌==◌, Bool, ◌||◌, map, if◌
 use Rattle.std.specs.List.{list_any}
 use Rattle.shapers_buffer.specs.declared.buffer.glyph.hb_glyph_info_t.{hb_glyph_info_t}
 use Rattle.shapers_buffer.specs.Buffer.{Buffer}
-use Rattle.shapers_buffer.specs.Properties.{is_multiplied, component}
+use Rattle.shapers_buffer.specs.Properties.{component, is_multiplied}
 use Rattle.shapers_base.specs.declared.plan.PlanData.{PlanData}
 use Rattle.shapers_base.specs.declared.plan.PlanData.TheVariants.{Arabic}
 use Rattle.shapers_base.specs.declared.plan.arabic.StretchStart.{StretchStart}
@@ -17,7 +17,9 @@ tile_action component = if component % 2 == 1 then STRETCHING_REPEATING else STR
 
 -- a multiplied glyph with the action of its tile; any other as it is
 abbrev pub recorded : hb_glyph_info_t → hb_glyph_info_t
-recorded g = if is_multiplied g.glyph_props then record g { auxiliary = tile_action (component g.lig_props) } else g
+recorded g =
+    if is_multiplied g.glyph_props then record g { auxiliary = tile_action (component g.lig_props) }
+    else g
 
 -- the buffer with its tiles recorded, and with the mark "has stch" if there is one
 abbrev pub with_tiles : Buffer → Buffer

@@ -1,44 +1,51 @@
 -- Hebrew computed on small texts.
 use Rattle.std.specs.Prelude.{◌≡◌, ℕ, true, false, Option, Some, None, List, [], ◌∷◌, map, flat_map, replicate, refl}
 use Rattle.std.specs.List.{range_with_len}
-use Rattle.shapers_buffer.specs.declared.buffer.category.hb_unicode_general_category_t.TheVariants.{Mn}
+use Rattle.shapers_buffer.specs.declared.buffer.category.hb_unicode_general_category_t.{hb_unicode_general_category_t}
+use Rattle.shapers_buffer.specs.declared.buffer.category.hb_unicode_general_category_t.TheVariants.{Cc, Cf, Lo, Mc, Me, Mn, Zs}
 use Rattle.shapers_buffer.specs.declared.buffer.glyph.hb_glyph_info_t.{hb_glyph_info_t}
 use Rattle.shapers_buffer.specs.declared.buffer.level.BufferClusterLevel.TheVariants.{MonotoneGraphemes, Characters}
 use Rattle.shapers_buffer.specs.Glyph.{default_glyph, clusters}
+use Rattle.shapers_buffer.specs.Properties.{CONTINUATION, IGNORABLE, general_category, modified_combining_class, properties, with_property}
 use Rattle.shapers_clusters.specs.Steps.{run_step}
 use Rattle.shapers_text.specs.Hebrew.{composed_in_hebrew, hebrew_form, is_meteg_or_below, is_patah_or_qamats, is_sheva_or_hiriq, hebrew_mark_step, marks_swapped, second_of_triple, triple_place}
-use Rattle.shapers_buffer.specs.Properties.{CONTINUATION, IGNORABLE, modified_combining_class, properties, with_property}
 
 -- marks of these classes and clusters
 abbrev marks : List (ℕ × ℕ) → List hb_glyph_info_t
 marks ms = map
-    (λ m. let g : hb_glyph_info_t = record default_glyph { unicode_props = properties Cc m.0; cluster = m.1 } in g) ms
+    (λ m. let g : hb_glyph_info_t = record default_glyph { unicode_props = properties Mn m.0; cluster = m.1 } in g) ms
 
 abbrev classes : List hb_glyph_info_t → List ℕ
-classes gs = map (λ g. (modified_combining_class g.unicode_props)) gs
+classes gs = map (λ g. modified_combining_class g.unicode_props) gs
 
 abbrev twice : List hb_glyph_info_t
 twice = marks ((20, 0) ∷ (22, 1) ∷ (25, 2) ∷ (20, 3) ∷ (22, 4) ∷ (25, 5) ∷ [])
 
 -- of two triples the first
 first_alone : classes (run_step MonotoneGraphemes (hebrew_mark_step 0 6 twice) twice) ≡ 20 ∷ 25 ∷ 22 ∷ 20 ∷ 22 ∷ 25 ∷ []
+unfolding modified_combining_class general_category
 first_alone = refl
 
 first_merges : clusters (run_step MonotoneGraphemes (hebrew_mark_step 0 6 twice) twice) ≡ 0 ∷ 1 ∷ 1 ∷ 3 ∷ 4 ∷ 5 ∷ []
+unfolding modified_combining_class general_category
 first_merges = refl
 
 -- at level Characters the marks take their clusters along
 characters : clusters (run_step Characters (hebrew_mark_step 0 6 twice) twice) ≡ 0 ∷ 2 ∷ 1 ∷ 3 ∷ 4 ∷ 5 ∷ []
+unfolding modified_combining_class general_category
 characters = refl
 
 -- what a letter and a point compose to
 abbrev formed : ℕ × ℕ → Option ℕ
 formed p = hebrew_form p.0 p.1
 
--- marks of these classes
+-- glyphs of a category with these high bytes, and marks of these classes
+abbrev of_category : hb_unicode_general_category_t → List ℕ → List hb_glyph_info_t
+of_category category bytes = map
+    (λ byte. let g : hb_glyph_info_t = record default_glyph { unicode_props = properties category byte } in g) bytes
+
 abbrev of_classes : List ℕ → List hb_glyph_info_t
-of_classes cs = map (λ class. let g : hb_glyph_info_t = record default_glyph { unicode_props = properties Cc class } in g)
-    cs
+of_classes cs = of_category Mn cs
 
 -- the fourteen pairs, from the names of the presentation forms
 fourteen : map formed ((0x05D9, 0x05B4) ∷ (0x05F2, 0x05B7) ∷ (0x05D0, 0x05B7) ∷ (0x05D0, 0x05B8) ∷ (0x05D5, 0x05B9)
@@ -141,17 +148,26 @@ third_classes = refl
 triples : map (λ cs. triple_place (of_classes cs)) ((20 ∷ 22 ∷ 25 ∷ []) ∷ (20 ∷ 22 ∷ 220 ∷ []) ∷ (20 ∷ 23 ∷ 25 ∷ [])
     ∷ (20 ∷ 23 ∷ 220 ∷ []) ∷ (21 ∷ 22 ∷ 25 ∷ []) ∷ (21 ∷ 22 ∷ 220 ∷ []) ∷ (21 ∷ 23 ∷ 25 ∷ []) ∷ (21 ∷ 23 ∷ 220 ∷ [])
     ∷ []) ≡ replicate 8 (Some 0)
+unfolding modified_combining_class general_category
 triples = refl
 
 no_triples : map (λ cs. triple_place (of_classes cs)) ([] ∷ (20 ∷ []) ∷ (20 ∷ 22 ∷ []) ∷ (22 ∷ 20 ∷ 25 ∷ [])
     ∷ (20 ∷ 25 ∷ 22 ∷ []) ∷ (20 ∷ 22 ∷ 22 ∷ []) ∷ (20 ∷ 20 ∷ 25 ∷ []) ∷ (22 ∷ 22 ∷ 25 ∷ []) ∷ (20 ∷ 22 ∷ 26 ∷ [])
     ∷ (20 ∷ 22 ∷ 0 ∷ 25 ∷ []) ∷ []) ≡ replicate 10 None
+unfolding modified_combining_class general_category
 no_triples = refl
+
+-- nor are glyphs that are no marks, whatever their high bytes are
+no_marks : map (λ category. triple_place (of_category category (20 ∷ 22 ∷ 25 ∷ [])))
+    (Lo ∷ Cc ∷ Cf ∷ Zs ∷ Me ∷ Mc ∷ Mn ∷ []) ≡ None ∷ None ∷ None ∷ None ∷ Some 0 ∷ Some 0 ∷ Some 0 ∷ []
+unfolding modified_combining_class general_category
+no_marks = refl
 
 -- behind others, at the end of the text, and the first of two, which may overlap what is nearly one
 later : map (λ cs. triple_place (of_classes cs)) ((0 ∷ 20 ∷ 22 ∷ 25 ∷ []) ∷ (20 ∷ 20 ∷ 22 ∷ 25 ∷ [])
     ∷ (20 ∷ 22 ∷ 20 ∷ 22 ∷ 220 ∷ []) ∷ (20 ∷ 22 ∷ 25 ∷ 21 ∷ 23 ∷ 220 ∷ []) ∷ []) ≡ Some 1 ∷ Some 1 ∷ Some 2 ∷ Some 0
     ∷ []
+unfolding modified_combining_class general_category
 later = refl
 
 -- within a stretch alone: from its start on, up to its end, and no triple that reaches over either
@@ -160,19 +176,23 @@ six = of_classes (20 ∷ 22 ∷ 25 ∷ 21 ∷ 23 ∷ 220 ∷ [])
 
 within : map (λ (s : ℕ × ℕ). second_of_triple s.0 s.1 six) ((0, 6) ∷ (0, 3) ∷ (0, 2) ∷ (1, 6) ∷ (1, 5) ∷ (3, 6) ∷ (4, 6)
     ∷ (3, 3) ∷ []) ≡ Some 1 ∷ Some 1 ∷ None ∷ Some 4 ∷ None ∷ Some 4 ∷ None ∷ None ∷ []
+unfolding modified_combining_class general_category
 within = refl
 
 swapped : map (λ (s : ℕ × ℕ). classes (marks_swapped s.0 s.1 six)) ((0, 6) ∷ (1, 6) ∷ (1, 5) ∷ [])
     ≡ (20 ∷ 25 ∷ 22 ∷ 21 ∷ 23 ∷ 220 ∷ []) ∷ (20 ∷ 22 ∷ 25 ∷ 21 ∷ 220 ∷ 23 ∷ []) ∷ (20 ∷ 22 ∷ 25 ∷ 21 ∷ 23 ∷ 220 ∷ [])
     ∷ []
+unfolding modified_combining_class general_category
 swapped = refl
 
 -- the step: the last two merge and change places, in a text of six marks
 second_step : hebrew_mark_step 1 6 six
     ≡ record { merged_first = (4, 6) ∷ []; places = 0 ∷ 1 ∷ 2 ∷ 3 ∷ 5 ∷ 4 ∷ []; merged_then = [] }
+unfolding modified_combining_class general_category
 second_step = refl
 
 no_step : hebrew_mark_step 1 5 six ≡ record { merged_first = []; places = 0 ∷ 1 ∷ 2 ∷ 3 ∷ 4 ∷ 5 ∷ []; merged_then = [] }
+unfolding modified_combining_class general_category
 no_step = refl
 
 -- with a start above 0, where clusters are merged and flags fall, all other fields stay
@@ -194,4 +214,5 @@ full_swapped : run_step MonotoneGraphemes
     (hebrew_mark_step 1 4 (full 20 0 15 ∷ full 21 1 15 ∷ full 23 2 15 ∷ full 220 3 15 ∷ []))
     (full 20 0 15 ∷ full 21 1 15 ∷ full 23 2 15 ∷ full 220 3 15 ∷ []) ≡ full 20 0 15 ∷ full 21 1 15 ∷ full 220 2 8
     ∷ full 23 2 15 ∷ []
+unfolding modified_combining_class general_category
 full_swapped = refl

@@ -6,6 +6,7 @@ pub mod ThaiFlags
 mod ThaiFormLaws
 mod ThaiFormRows
 pub mod ThaiFormWalks
+pub mod ThaiGuarded
 pub mod ThaiInTwo
 pub mod ThaiKept
 pub mod ThaiRows

@@ -2,9 +2,10 @@
 -- becomes of each field.
 use Rattle.std.specs.Prelude.{◌≡◌, ℕ, true, false, List, [], ◌∷◌, map, codes, None, Some, refl}
 use Rattle.std.specs.List.{range_with_len}
-use Rattle.shapers_buffer.specs.declared.buffer.category.hb_unicode_general_category_t.TheVariants.{Cc, Mn}
+use Rattle.shapers_buffer.specs.declared.buffer.category.hb_unicode_general_category_t.TheVariants.{Mn}
 use Rattle.shapers_buffer.specs.declared.buffer.glyph.hb_glyph_info_t.{hb_glyph_info_t}
 use Rattle.shapers_buffer.specs.declared.buffer.level.BufferClusterLevel.TheVariants.{MonotoneGraphemes, MonotoneCharacters, Characters}
+use Rattle.shapers_buffer.specs.Properties.{general_category}
 use Rattle.shapers_text.specs.Thai.{is_above_base, is_sara_am, is_thai, joins_before, nikhahit, sara_aa, sara_am_stretches, sara_am_sources, wants_forms}
 
 -- 0E33 and 0EB3 alone
@@ -33,7 +34,7 @@ above_base_elsewhere : map is_above_base (0x0000 ∷ 0x007F ∷ 0x0080 ∷ 0x003
 above_base_elsewhere = refl
 
 -- NIKHAHIT and SARA AA copy SARA AM: of Thai 0E4D and 0E32, of Lao 0ECD and 0EB2; NIKHAHIT is a
--- continuation of category Mn
+-- continuation of category Mn, without the high byte
 abbrev full : hb_glyph_info_t
 full = record {
   glyph_id = 0x0E33;
@@ -44,21 +45,41 @@ full = record {
   auxiliary = 3;
   glyph_props = record { 0 = 0x70 };
   lig_props = record { 0 = 2 };
-  unicode_props = record { 0 = 0x0920 };
+  unicode_props = record { 0 = 0x0967 };
 }
 
-thai_nikhahit : nikhahit full ≡ record full { glyph_id = 0x0E4D; glyph_props = record { 0 = 0x70 }; unicode_props = record { 0 = 0x00AC } }
+thai_nikhahit : nikhahit full ≡ record full { glyph_id = 0x0E4D; unicode_props = record { 0 = 0x00EC } }
 thai_nikhahit = refl
 
 thai_sara_aa : sara_aa full ≡ record full { glyph_id = 0x0E32 }
 thai_sara_aa = refl
 
 lao_nikhahit : nikhahit (record full { glyph_id = 0x0EB3 })
-    ≡ record full { glyph_id = 0x0ECD; glyph_props = record { 0 = 0x70 }; unicode_props = record { 0 = 0x00AC } }
+    ≡ record full { glyph_id = 0x0ECD; unicode_props = record { 0 = 0x00EC } }
 lao_nikhahit = refl
 
 lao_sara_aa : sara_aa (record full { glyph_id = 0x0EB3 }) ≡ record full { glyph_id = 0x0EB2 }
 lao_sara_aa = refl
+
+-- of properties that are all ones, of none, and of a letter's
+abbrev with_props : ℕ → hb_glyph_info_t
+with_props n = record full { unicode_props = record { 0 = n } }
+
+nikhahit_properties : map (λ n. (nikhahit (with_props n)).unicode_props.0) (0xFFFF ∷ 0 ∷ 0x0007 ∷ 0xFF07 ∷ 0x00E7 ∷ [])
+    ≡ 0x00EC ∷ 0x008C ∷ 0x008C ∷ 0x008C ∷ 0x00EC ∷ []
+nikhahit_properties = refl
+
+nikhahit_category : map (λ n. general_category (nikhahit (with_props n)).unicode_props) (0xFFFF ∷ 0 ∷ []) ≡ Mn ∷ Mn ∷ []
+unfolding general_category
+nikhahit_category = refl
+
+nikhahit_of_ones : nikhahit (with_props 0xFFFF)
+    ≡ record full { glyph_id = 0x0E4D; unicode_props = record { 0 = 0x00EC } }
+nikhahit_of_ones = refl
+
+sara_aa_of_ones : sara_aa (with_props 0xFFFF)
+    ≡ record full { glyph_id = 0x0E32; unicode_props = record { 0 = 0xFFFF } }
+sara_aa_of_ones = refl
 
 -- which level joins a SARA AM without marks to the glyph before it
 joining : map joins_before (MonotoneGraphemes ∷ MonotoneCharacters ∷ Characters ∷ []) ≡ true ∷ false ∷ false ∷ []

@@ -6,39 +6,32 @@ use Rattle.std.proofs.lemmas.List.Elements.{All-cons, All-from_recursion}
 use Rattle.std.proofs.lemmas.List.FromFn.{length-range_with_len}
 use Rattle.std.proofs.lemmas.List.Sums.{suffix_len-le-length}
 use Rattle.std.proofs.lemmas.Simd.{map-map}
-use Rattle.shapers_buffer.specs.declared.buffer.category.hb_unicode_general_category_t.TheVariants.{Cc}
 use Rattle.shapers_buffer.specs.declared.buffer.glyph.hb_glyph_info_t.{hb_glyph_info_t}
 use Rattle.shapers_buffer.specs.declared.buffer.level.BufferClusterLevel.{BufferClusterLevel}
 use Rattle.shapers_buffer.specs.Glyph.{clusters, characters}
 use Rattle.shapers_buffer.specs.Clusters.{merge_all, merges}
-use Rattle.shapers_buffer.specs.Properties.{CONTINUATION}
 use Rattle.shapers_buffer.specs.Lists.{before_last_run, each_after}
-use Rattle.shapers_buffer.proofs.BitLemmas.{cleared_after_set}
 use Rattle.shapers_buffer.proofs.MappedLists.{all-range, Contains-flat_map, Contains-each_after}
 use Rattle.shapers_base.specs.declared.plan.breaks.BreakFlags.{BreakFlags}
 use Rattle.shapers_clusters.specs.Cuts.{ShareCluster}
 use Rattle.shapers_clusters.proofs.MadeGlyphs.{Made, all_standing, glyphs-standing, numbered-standing}
 use Rattle.shapers_clusters.specs.Laws.{ClustersMade}
 use Rattle.shapers_clusters.proofs.Proved.{made_hold_by, part_shares}
-use Rattle.shapers_text.specs.Thai.{is_sara_am, is_above_base, SaraAmRule, in_two, glyph_rule, place_rule, nikhahit, sara_aa, glyphs_in_two, sara_am_sources, sara_am_stretches, stretches_at}
+use Rattle.shapers_text.specs.Thai.{is_sara_am, is_above_base, SaraAmRule, in_two, glyph_rule, place_rule, glyphs_in_two, sara_am_sources, sara_am_stretches, stretches_at}
 use Rattle.shapers_text.specs.ThaiLaws.{without_form, without_name, new_place, ClustersInTwo, InTwoLaw}
 use Rattle.shapers_text.specs.ThaiForms.{marks_flagged, preprocessed_text, pua_shaped}
+use Rattle.shapers_text.proofs.ThaiGuarded.{guarded, guarded_alike, guarded_nikhahit, guarded_sara_aa, name_shows, placed_nikhahit, placed_sara_aa}
 use Rattle.shapers_text.proofs.ThaiInTwo.{kept, none_lost, read_by, in_two-map, sources_at}
 use Rattle.shapers_text.proofs.ThaiStretches.{characters-merge_all, stretches_within}
 use Rattle.shapers_text.proofs.ThaiFormWalks.{without_form-pua}
 use Rattle.shapers_text.proofs.ThaiWholeMarks.{map-marks_flagged}
 
--- but for what the rewriting changes, a NIKHAHIT is the SARA AM that it comes of
-unnamed_nikhahit : (am : hb_glyph_info_t) → without_name (nikhahit am) ≡ without_name am
-unnamed_nikhahit am =
-    ap (λ marks. let g : hb_glyph_info_t = record am { glyph_id = 0; general_category = Cc; marks = marks } in g)
-    (cleared_after_set CONTINUATION am.marks refl)
-
 -- the rule on made glyphs: what comes of a SARA AM comes of its place
 abbrev made_in_two : (gs : List hb_glyph_info_t) → SaraAmRule (Made without_name gs)
 made_in_two gs =
-    read_by (λ m. m.glyph) (λ m. record m { glyph = nikhahit m.glyph; same = unnamed_nikhahit m.glyph ∙ m.same })
-    (λ m. record m { glyph = sara_aa m.glyph; same = m.same }) glyph_rule
+    let rule = guarded glyph_rule in
+    read_by (λ m. m.glyph) (λ m. record m { glyph = rule.nikhahit m.glyph; same = guarded_nikhahit m.glyph ∙ m.same })
+    (λ m. record m { glyph = rule.sara_aa m.glyph; same = guarded_sara_aa m.glyph ∙ m.same }) rule
 
 -- a SARA AM with marks merges with them, and that stretch holds together what comes of them
 shares : (level : BufferClusterLevel) (us cs js : List ℕ)
@@ -74,17 +67,18 @@ in_two_holds level gs =
     let standing = all_standing without_name ms in
     let made = in_two (made_in_two ms) standing in
     let glyphs : map (λ m. m.glyph) made ≡ glyphs_in_two ms =
-    in_two-map (λ m. m.glyph) _ _ glyph_rule (λ m. refl) (λ m. refl) standing
-    ∙ ap glyphs_in_two (glyphs-standing without_name ms) in
+    in_two-map (λ m. m.glyph) _ _ (guarded glyph_rule) (λ m. refl) (λ m. refl) standing
+    ∙ ap (in_two (guarded glyph_rule)) (glyphs-standing without_name ms) ∙ guarded_alike glyph_rule ms in
     let numbered = numbered-standing (λ g. g.glyph_id) without_name ms
     ∙ ap (enumerate_from 0) (characters-merge_all level sts gs) in
     let pairs : map (λ m. (m.place, m.glyph.glyph_id)) made ≡ in_two place_rule (enumerate_from 0 us) =
-    in_two-map (λ m. (m.place, m.glyph.glyph_id)) _ _ place_rule (λ m. refl) (λ m. refl) standing
-    ∙ ap (in_two place_rule) numbered in
+    in_two-map (λ m. (m.place, m.glyph.glyph_id)) _ _ (guarded place_rule) (λ m. placed_nikhahit m.place m.glyph)
+    (λ m. placed_sara_aa m.place m.glyph) standing
+    ∙ ap (in_two (guarded place_rule)) numbered ∙ guarded_alike place_rule (enumerate_from 0 us) in
     let places = sym (map-map (λ p. p.0) (λ m. (m.place, m.glyph.glyph_id)) made) ∙ ap (map (λ p. p.0)) pairs in
     let (same, h) =
-    made_hold_by without_name (record { cluster = λ g. refl; flags = λ g. refl }) level sts (sara_am_sources us)
-    gs (glyphs_in_two ms) (stretches_within level gs) made places glyphs in
+    made_hold_by without_name name_shows level sts (sara_am_sources us) gs (glyphs_in_two ms)
+    (stretches_within level gs) made places glyphs in
     record {
       made = same;
       kept = (kept glyph_rule ms).whole;

@@ -1,7 +1,6 @@
 -- The private use forms of Thai, cell by cell, computed on characters.
 use Rattle.std.specs.Prelude.{◌≡◌, ◌==◌, ℕ, Bool, true, false, List, [], ◌∷◌, map, flat_map, refl}
 use Rattle.std.specs.List.{list_any, range_with_len}
-use Rattle.shapers_buffer.specs.declared.buffer.category.hb_unicode_general_category_t.TheVariants.{Mn}
 use Rattle.shapers_buffer.specs.declared.buffer.glyph.hb_glyph_info_t.{hb_glyph_info_t}
 use Rattle.shapers_buffer.specs.declared.buffer.level.BufferClusterLevel.TheVariants.{MonotoneCharacters}
 use Rattle.shapers_buffer.specs.Glyph.{default_glyph}

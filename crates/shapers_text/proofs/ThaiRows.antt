@@ -1,6 +1,6 @@
 -- The definitions, computed on small texts.
 use Prim.Native.String.{String}
-use Rattle.std.specs.Prelude.{◌≡◌, ◌==◌, ℕ, pos, true, false, None, Some, List, [], ◌∷◌, map, codes, refl}
+use Rattle.std.specs.Prelude.{◌≡◌, ◌==◌, ℕ, pos, true, false, None, Some, List, [], ◌∷◌, map, replicate, codes, refl}
 use Rattle.std.proofs.Common.{ap, arith}
 use Rattle.std.specs.List.{list_any, enumerate_from}
 use Rattle.shapers_buffer.specs.declared.buffer.category.hb_unicode_general_category_t.TheVariants.{Cc, Mn}
@@ -8,9 +8,9 @@ use Rattle.shapers_buffer.specs.declared.buffer.glyph.hb_glyph_info_t.{hb_glyph_
 use Rattle.shapers_buffer.specs.declared.buffer.level.BufferClusterLevel.{BufferClusterLevel}
 use Rattle.shapers_buffer.specs.declared.buffer.level.BufferClusterLevel.TheVariants.{MonotoneGraphemes, MonotoneCharacters}
 use Rattle.shapers_buffer.specs.Glyph.{default_glyph, clusters, characters}
-use Rattle.shapers_buffer.specs.Properties.{is_continuation, general_category, modified_combining_class}
 use Rattle.shapers_text.specs.Thai.{sara_am_sources, sara_am_stretches}
 use Rattle.shapers_buffer.specs.Buffer.{new_buffer}
+use Rattle.shapers_buffer.specs.Properties.{general_category, high_byte, is_continuation}
 use Rattle.shapers_base.specs.Font.{Font}
 use Rattle.shapers_base.specs.declared.plan.hb_ot_shape_plan_t.{hb_ot_shape_plan_t}
 use Rattle.shapers_base.specs.declared.plan.PlanData.TheVariants as data_of
@@ -54,8 +54,9 @@ made-marks : map (λ g. is_continuation g.unicode_props) (found MonotoneGrapheme
     ≡ false ∷ true ∷ false ∷ false ∷ []
 made-marks = refl
 
-made-categories : map (λ g. (general_category g.unicode_props)) (found MonotoneGraphemes (0x0E14 ∷ 0x0E4B ∷ 0x0E33 ∷ []))
-    ≡ Cc ∷ Mn ∷ Cc ∷ Cc ∷ []
+made-categories : map (λ g. general_category g.unicode_props)
+    (found MonotoneGraphemes (0x0E14 ∷ 0x0E4B ∷ 0x0E33 ∷ [])) ≡ Cc ∷ Mn ∷ Cc ∷ Cc ∷ []
+unfolding general_category
 made-categories = refl
 
 -- before two marks
@@ -150,8 +151,17 @@ full = record {
   unicode_props = record { 0 = 0x09AC };
 }
 
-unnamed : without_name full ≡ record full { glyph_id = 0; glyph_props = record { 0 = 0x70 }; unicode_props = record { 0 = 0x0020 } }
-unnamed = refl
+abbrev named : ℕ → hb_glyph_info_t
+named c = record full { glyph_id = c }
+
+hidden_names : map (λ c. without_name (named c)) (0x0E32 ∷ 0x0E33 ∷ 0x0E4D ∷ 0x0EB2 ∷ 0x0EB3 ∷ 0x0ECD ∷ [])
+    ≡ replicate 6 (record full { glyph_id = 0; unicode_props = record { 0 = 0x0020 } })
+hidden_names = refl
+
+shown_names : map (λ c. without_name (named c)) (0x0E31 ∷ 0x0E34 ∷ 0x0E4C ∷ 0x0E4E ∷ 0x0EB1 ∷ 0x0EB4 ∷ 0x0ECC ∷ 0x0ECE
+    ∷ 0x0E48 ∷ 0x0916 ∷ 0 ∷ []) ≡ map named (0x0E31 ∷ 0x0E34 ∷ 0x0E4C ∷ 0x0E4E ∷ 0x0EB1 ∷ 0x0EB4 ∷ 0x0ECC ∷ 0x0ECE
+    ∷ 0x0E48 ∷ 0x0916 ∷ 0 ∷ [])
+shown_names = refl
 
 kept : kept_view false full ≡ record full { cluster = 0; mask = 0x18 }
 kept = refl
@@ -169,8 +179,8 @@ not_told_by_number = refl
 told_by_mask : kept_view true full ≡ kept_view true (record full { mask = 0x27 }) → ⊥
 told_by_mask same = let e : 0x18 ≡ 0x20 = ap (λ g. g.mask) same in absurd (omega (arith, e))
 
-told_by_class : without_name full ≡ without_name (record full { unicode_props = record { 0 = 0x0800 } }) → ⊥
-told_by_class same = let e : 9 ≡ 8 = ap (λ g. (modified_combining_class g.unicode_props)) same in absurd (omega (arith, e))
+told_by_class : without_name full ≡ without_name (record full { unicode_props = record { 0 = 0x08AC } }) → ⊥
+told_by_class same = let e : 9 ≡ 8 = ap (λ g. high_byte g.unicode_props) same in absurd (omega (arith, e))
 
 -- the forms hang on the script of the plan, not on that of the buffer
 abbrev plan_for : String → hb_ot_shape_plan_t

@@ -4,10 +4,10 @@ use Rattle.std.specs.Option.{option_map_or}
 use Rattle.shapers_buffer.specs.declared.buffer.glyph.hb_glyph_info_t.{hb_glyph_info_t}
 use Rattle.shapers_buffer.specs.Buffer.{Buffer}
 use Rattle.shapers_buffer.specs.Clusters.{stretch_of}
+use Rattle.shapers_buffer.specs.Properties.{modified_combining_class}
 use Rattle.shapers_clusters.specs.Flags.{whole}
 use Rattle.shapers_clusters.specs.Laws.{ReorderedHold}
 use Rattle.shapers_clusters.specs.Steps.{Step, still_step, swap_step}
-use Rattle.shapers_buffer.specs.Properties.{modified_combining_class}
 
 -- the classes of patah and qamats, of sheva and hiriq, of meteg and marks below (Unicode's
 -- canonical combining classes, as HarfBuzz orders those of Hebrew)
@@ -23,7 +23,8 @@ is_meteg_or_below class = class == 25 || class == 220
 -- whether the first three glyphs are marks of those classes, one of each, in that order
 abbrev pub opens_triple : List hb_glyph_info_t → Bool
 opens_triple (a ∷ (b ∷ (c ∷ gs))) =
-    is_patah_or_qamats (modified_combining_class a.unicode_props) && is_sheva_or_hiriq (modified_combining_class b.unicode_props)
+    is_patah_or_qamats (modified_combining_class a.unicode_props)
+    && is_sheva_or_hiriq (modified_combining_class b.unicode_props)
     && is_meteg_or_below (modified_combining_class c.unicode_props)
 opens_triple _ = false
 

@@ -7,8 +7,8 @@ use Rattle.shapers_buffer.specs.declared.buffer.level.BufferClusterLevel.{Buffer
 use Rattle.shapers_buffer.specs.declared.buffer.level.BufferClusterLevel.TheVariants.{MonotoneGraphemes}
 use Rattle.std.specs.Cmp.Lexicographic.{pointwise}
 use Rattle.shapers_buffer.specs.declared.buffer.tag.Script.{Script}
-use Rattle.shapers_buffer.specs.Properties.{CONTINUATION, with_general_category, with_property}
 use Rattle.shapers_buffer.specs.Lists.{last_run, before_last_run, each_after, opened_pieces}
+use Rattle.shapers_buffer.specs.Properties.{CONTINUATION, with_general_category, with_property}
 
 -- SARA AM, of Thai and of Lao (Unicode: 0E33 and 0EB3)
 abbrev pub is_sara_am : ℕ → Bool
@@ -25,7 +25,8 @@ is_thai_above_base u =
 abbrev pub is_above_base : ℕ → Bool
 is_above_base u = is_thai_above_base (bit_and u 0xFFFFFF7F)
 
--- NIKHAHIT, a continuation of category Mn, and SARA AA out of SARA AM (Unicode's decomposition)
+-- NIKHAHIT, a continuation of category Mn and class 0, and SARA AA out of SARA AM (Unicode's
+-- decomposition)
 abbrev pub nikhahit : hb_glyph_info_t → hb_glyph_info_t
 nikhahit am = record am {
   glyph_id = am.glyph_id + 0x1A;

@@ -1,16 +1,16 @@
 -- What the rewriting makes of clusters and glyph flags.
-use Rattle.std.specs.Prelude.{ℕ, Bool, ◌+◌, ◌≡◌, true, false, List, ◌∷◌, ◌++◌, map, flat_map, length, ◌<◌}
+use Rattle.std.specs.Prelude.{ℕ, Bool, ◌+◌, ◌-◌, ◌||◌, ◌≡◌, if◌then◌else◌, true, false, List, ◌∷◌, ◌++◌, map, flat_map, length, ◌<◌}
 use Rattle.std.specs.List.{AllZip, Contains, suffix_len}
 use Rattle.std.specs.List.Sorted.{IsPermutation}
 use Rattle.shapers_buffer.specs.declared.buffer.glyph.hb_glyph_info_t.{hb_glyph_info_t}
 use Rattle.shapers_buffer.specs.declared.buffer.level.BufferClusterLevel.{BufferClusterLevel}
 use Rattle.shapers_buffer.specs.declared.buffer.category.hb_unicode_general_category_t.TheVariants.{Cc}
-use Rattle.shapers_buffer.specs.Properties.{CONTINUATION, with_general_category, without_property}
 use Rattle.shapers_buffer.specs.Lists.{before_last_run}
 use Rattle.shapers_buffer.specs.Glyph.{clusters, plain, without_flags, characters}
 use Rattle.shapers_buffer.specs.Clusters.{merge_all, merges}
 use Rattle.shapers_clusters.specs.Cuts.{ShareCluster}
 use Rattle.shapers_buffer.specs.Places.{pick}
+use Rattle.shapers_buffer.specs.Properties.{CONTINUATION, with_general_category, without_property}
 use Rattle.shapers_clusters.specs.Flags.{FlagsFall}
 use Rattle.shapers_clusters.specs.FlagLaw.{AllFlagsStay}
 use Rattle.shapers_clusters.specs.Laws.{ClustersMade}
@@ -32,15 +32,23 @@ pub record ClustersInTwo (level : BufferClusterLevel) (us cs js : List ℕ) : Ty
       is_sara_am u ≡ true →
       ShareCluster js (new_place xs) (new_place xs + suffix_len is_above_base xs)
 
--- a glyph without what the rewriting changes
+-- whether it is a SARA AM, or the SARA AA or the NIKHAHIT that comes of one
+abbrev pub is_of_sara_am : ℕ → Bool
+is_of_sara_am u = is_sara_am u || is_sara_am (u + 1) || is_sara_am (u - 0x1A)
+
+-- a glyph without what the rewriting changes of these: the character, its category, the high byte
+-- and the continuation
+abbrev pub unnamed : hb_glyph_info_t → hb_glyph_info_t
+unnamed g =
+    let other = with_general_category Cc g.unicode_props in
+    record g { glyph_id = 0; unicode_props = without_property CONTINUATION other }
+
 abbrev pub without_name : hb_glyph_info_t → hb_glyph_info_t
-without_name g =
-    let character = with_general_category Cc g.unicode_props in
-    record g { glyph_id = 0; unicode_props = without_property CONTINUATION character }
+without_name g = if is_of_sara_am g.glyph_id then unnamed g else g
 
 -- What it gives: rs. But for its order it is the merged text with each SARA AM taken in rule. Each
--- glyph is its source after the merges in all but character, category, class and continuation; so no
--- cluster rises, and glyph flags stay unless it fell.
+-- glyph is its source after the merges; one of a SARA AM is so in all but character, category, high
+-- byte and continuation. So no cluster rises, and glyph flags stay unless it fell.
 pub record InTwoHolds (level : BufferClusterLevel) (gs rs : List hb_glyph_info_t) : Type 0 where
   pub made : map without_name rs
       ≡ map without_name (pick (sara_am_sources (characters gs))

@@ -2,7 +2,7 @@
 use Rattle.std.proofs.Common.{◌≡◌, ℕ, Some, refl, slice_get}
 use Rattle.ucd_table.proofs.Stepped.{Stepped, of_rows, map_stepped}
 use Rattle.ucd_table.proofs.StepsLemmas.{rises_from}
-use Rattle.shapers_buffer.specs.Numbers.{categories}
+use Rattle.shapers_buffer.specs.Category.{categories}
 use Rattle.shapers_buffer.specs.declared.buffer.category.hb_unicode_general_category_t.{hb_unicode_general_category_t}
 use Rattle.shapers_buffer.specs.declared.buffer.category.hb_unicode_general_category_t.TheVariants as values
 use Rattle.shapers_unicode.specs.General.{general_category}

@@ -1,5 +1,5 @@
 use Rattle.std.proofs.Common.{◌≡◌, Some, ap, ◌∙◌, arith, lit<, slice_get}
-use Rattle.shapers_buffer.specs.Numbers.{categories}
+use Rattle.shapers_buffer.specs.Category.{categories}
 use Rattle.std.specs.Option.{unwrap_or}
 use Rattle.shapers_buffer.specs.declared.buffer.category.hb_unicode_general_category_t.TheVariants.{Cn}
 use Rattle.shapers_unicode.specs.General.{general_category}

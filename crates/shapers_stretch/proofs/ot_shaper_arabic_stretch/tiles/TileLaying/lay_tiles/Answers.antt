@@ -21,7 +21,7 @@ lay_tile-pen-requires-clause-number g c =
     let l = c.loop-i in
     tile_number a.self.now.right_to_left (g.F.hb_font_t.font a.self.now.face.now) a.lay a.tiles.start a.tiles.end l.i
     a.pen l.pen a.glyphs.now l.glyphs a.positions.now l.positions _
-    (record { x_advance = pos 0; y_advance = pos 0; x_offset = pos 0; y_offset = pos 0 }) c.loop-i-test.true
+    (record { x_advance = pos 0; y_advance = pos 0; x_offset = pos 0; y_offset = pos 0; var = 0 }) c.loop-i-test.true
     l.invariant.walk c.requires.can.both c.requires.numbers
 
 pub lay_tile-pen-requires-clause-can : goal.lay_tile-pen-requires-clause-can
