@@ -96,7 +96,7 @@ bound-word a b (g ∷ gs) same = ap (λ w. is_left g && w) same
 
 -- which general categories tell
 abbrev pub general : hb_glyph_info_t → hb_unicode_general_category_t
-general g = (general_category g.unicode_props)
+general g = general_category g.unicode_props
 
 word-by : (a b : Option hb_glyph_info_t) (gs hs : List hb_glyph_info_t) → word_goes_on a ≡ word_goes_on b
     → map general gs ≡ map general hs → word_goes_on (last_or a gs) ≡ word_goes_on (last_or b hs)
