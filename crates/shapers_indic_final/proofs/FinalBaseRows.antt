@@ -14,28 +14,29 @@ use Rattle.shapers_indic_final.specs.declared.ot_shaper_indic_final.rules.Rules.
 -- a virama: by number, ligated and multiplied; by its marks it keeps the others
 abbrev of_marks : ℕ → ℕ → hb_glyph_info_t
 of_marks n bits =
-    record default_glyph {
+    record {
       glyph_id = n;
-      cluster = 5;
       mask = 9;
+      cluster = 5;
+      glyph_props = record { 0 = bits };
+      lig_props = record { 0 = 0xE3 };
       syllable = 17;
+      unicode_props = record { 0 = 0x09AC };
       category = C;
       auxiliary = 4;
-      marks =
-          record { 0 = bits };
     }
 
-viramas : map (recovered (Some (record { 0 = 90 }))) (of_marks 90 6 ∷ of_marks 90 31 ∷ of_marks 90 2 ∷ of_marks 90 4
-    ∷ of_marks 90 0 ∷ of_marks 91 6 ∷ of_marks 65626 6 ∷ [])
-    ≡ record (of_marks 90 0) { category = H } ∷ record (of_marks 90 25) { category = H } ∷ of_marks 90 2 ∷ of_marks 90 4
-    ∷ of_marks 90 0 ∷ of_marks 91 6 ∷ of_marks 65626 6 ∷ []
+viramas : map (recovered (Some (record { 0 = 90 }))) (of_marks 90 0x60 ∷ of_marks 90 0xFFFF ∷ of_marks 90 0x20
+    ∷ of_marks 90 0x40 ∷ of_marks 90 0 ∷ of_marks 91 0x60 ∷ of_marks 65626 0x60 ∷ [])
+    ≡ record (of_marks 90 0) { category = H } ∷ record (of_marks 90 0xFF9F) { category = H } ∷ of_marks 90 0x20
+    ∷ of_marks 90 0x40 ∷ of_marks 90 0 ∷ of_marks 91 0x60 ∷ of_marks 65626 0x60 ∷ []
 viramas = refl
 
-no_virama : recovered None (of_marks 90 6) ≡ of_marks 90 6
+no_virama : recovered None (of_marks 90 0x60) ≡ of_marks 90 0x60
 no_virama = refl
 
-formed : map is_formed (of_marks 0 0 ∷ of_marks 0 1 ∷ of_marks 0 2 ∷ of_marks 0 3 ∷ of_marks 0 4 ∷ of_marks 0 6
-    ∷ of_marks 0 7 ∷ of_marks 0 27 ∷ []) ≡ false ∷ false ∷ true ∷ true ∷ false ∷ false ∷ false ∷ true ∷ []
+formed : map (λ bits. is_formed (of_marks 0 bits)) (0 ∷ 0x10 ∷ 0x20 ∷ 0x30 ∷ 0x40 ∷ 0x60 ∷ 0x70 ∷ 0xFFBF ∷ [])
+    ≡ false ∷ false ∷ true ∷ true ∷ false ∷ false ∷ false ∷ true ∷ []
 formed = refl
 
 -- the first position of 4 or more
@@ -54,8 +55,8 @@ deva = found (rules "Deva")
 abbrev b_and_p : List hb_glyph_info_t
 b_and_p = of ((C, 4) ∷ (C, 9) ∷ (Ra, 11) ∷ (Ra, 12) ∷ [])
 
-by_pref : map deva (b_and_p ∷ unformed_at 2 b_and_p ∷ formed_at 2 b_and_p ∷ marks_at 2 2 (unformed_at 2 b_and_p)
-    ∷ marks_at 2 1 (unformed_at 2 b_and_p) ∷ marks_at 2 7 (unformed_at 2 b_and_p) ∷ [])
+by_pref : map deva (b_and_p ∷ unformed_at 2 b_and_p ∷ formed_at 2 b_and_p ∷ marks_at 2 0x20 (unformed_at 2 b_and_p)
+    ∷ marks_at 2 0x10 (unformed_at 2 b_and_p) ∷ marks_at 2 0x70 (unformed_at 2 b_and_p) ∷ [])
     ≡ (0, 4 ∷ 9 ∷ 11 ∷ 12 ∷ [], true) ∷ (2, 4 ∷ 9 ∷ 4 ∷ 12 ∷ [], false) ∷ (0, 4 ∷ 9 ∷ 11 ∷ 12 ∷ [], true)
     ∷ (2, 4 ∷ 9 ∷ 4 ∷ 12 ∷ [], false) ∷ (2, 4 ∷ 9 ∷ 4 ∷ 12 ∷ [], false) ∷ (2, 4 ∷ 9 ∷ 4 ∷ 12 ∷ [], false) ∷ []
 by_pref = refl
@@ -75,7 +76,7 @@ no_pref_mask = refl
 abbrev halants : List hb_glyph_info_t
 halants = of ((C, 4) ∷ (H, 4) ∷ (H, 4) ∷ (C, 9) ∷ [])
 
-over_halants : map deva (unformed_at 1 halants ∷ unformed_at 2 halants ∷ marks_at 2 2 (unformed_at 1 halants)
+over_halants : map deva (unformed_at 1 halants ∷ unformed_at 2 halants ∷ marks_at 2 0x20 (unformed_at 1 halants)
     ∷ unformed_at 1 (plainly (C ∷ H ∷ [])) ∷ unformed_at 1 (plainly (C ∷ H ∷ H ∷ [])) ∷ [])
     ≡ (3, 4 ∷ 4 ∷ 4 ∷ 4 ∷ [], false) ∷ (3, 4 ∷ 4 ∷ 4 ∷ 4 ∷ [], false) ∷ (2, 4 ∷ 4 ∷ 4 ∷ 9 ∷ [], false)
     ∷ (2, 4 ∷ 4 ∷ [], false) ∷ (3, 4 ∷ 4 ∷ 4 ∷ [], false) ∷ []
@@ -89,7 +90,7 @@ links = refl
 
 chains : map (links_from false 1) (plainly (H ∷ C ∷ H ∷ C ∷ []) ∷ plainly (H ∷ H ∷ H ∷ C ∷ [])
     ∷ plainly (H ∷ C ∷ C ∷ H ∷ C ∷ []) ∷ plainly (H ∷ M ∷ ZWJ ∷ H ∷ C ∷ H ∷ [])
-    ∷ marks_at 2 2 (plainly (H ∷ C ∷ H ∷ C ∷ [])) ∷ marks_at 1 2 (plainly (H ∷ ZWJ ∷ H ∷ C ∷ [])) ∷ [])
+    ∷ marks_at 2 0x20 (plainly (H ∷ C ∷ H ∷ C ∷ [])) ∷ marks_at 1 0x20 (plainly (H ∷ ZWJ ∷ H ∷ C ∷ [])) ∷ [])
     ≡ (2 ∷ 4 ∷ []) ∷ (2 ∷ 4 ∷ []) ∷ (2 ∷ []) ∷ (2 ∷ 5 ∷ []) ∷ (2 ∷ []) ∷ (2 ∷ 4 ∷ []) ∷ []
 chains = refl
 
@@ -104,7 +105,7 @@ linked ts = of ((C, 4) ∷ (H, 4) ∷ ts)
 in_malayalam : map mlym (linked ((C, 8) ∷ []) ∷ linked ((C, 8) ∷ (H, 8) ∷ (C, 8) ∷ [])
     ∷ linked ((C, 11) ∷ (H, 8) ∷ (C, 8) ∷ []) ∷ linked ((C, 8) ∷ (H, 8) ∷ (C, 11) ∷ []) ∷ linked ((M, 8) ∷ [])
     ∷ linked ((CM, 8) ∷ []) ∷ linked ((C, 7) ∷ []) ∷ linked ((C, 9) ∷ []) ∷ linked ((C, 8) ∷ (C, 8) ∷ [])
-    ∷ marks_at 2 2 (linked ((C, 8) ∷ [])) ∷ [])
+    ∷ marks_at 2 0x20 (linked ((C, 8) ∷ [])) ∷ [])
     ≡ (2, 4 ∷ 4 ∷ 4 ∷ [], true) ∷ (4, 4 ∷ 4 ∷ 4 ∷ 8 ∷ 4 ∷ [], true) ∷ (4, 4 ∷ 4 ∷ 11 ∷ 8 ∷ 4 ∷ [], true)
     ∷ (2, 4 ∷ 4 ∷ 4 ∷ 8 ∷ 11 ∷ [], true) ∷ (0, 4 ∷ 4 ∷ 8 ∷ [], true) ∷ (2, 4 ∷ 4 ∷ 4 ∷ [], true)
     ∷ (0, 4 ∷ 4 ∷ 7 ∷ [], true) ∷ (0, 4 ∷ 4 ∷ 9 ∷ [], true) ∷ (2, 4 ∷ 4 ∷ 4 ∷ 8 ∷ [], true)
@@ -129,13 +130,13 @@ back = refl
 
 -- from the end over a ZWJ; over nuktas and halants, not past the start; a ligature stays
 from_end : map (settled_base 2) (plainly (C ∷ ZWJ ∷ []) ∷ plainly (C ∷ ZWNJ ∷ []) ∷ plainly (C ∷ H ∷ [])
-    ∷ marks_at 1 2 (plainly (C ∷ ZWJ ∷ [])) ∷ plainly (H ∷ ZWJ ∷ []) ∷ []) ≡ 1 ∷ 2 ∷ 2 ∷ 2 ∷ 1 ∷ []
+    ∷ marks_at 1 0x20 (plainly (C ∷ ZWJ ∷ [])) ∷ plainly (H ∷ ZWJ ∷ []) ∷ []) ≡ 1 ∷ 2 ∷ 2 ∷ 2 ∷ 1 ∷ []
 from_end = refl
 
 over_nuktas : map (settled_base 2) (plainly (C ∷ C ∷ H ∷ C ∷ []) ∷ plainly (C ∷ C ∷ N ∷ C ∷ [])
     ∷ plainly (C ∷ H ∷ N ∷ C ∷ []) ∷ plainly (H ∷ N ∷ H ∷ C ∷ []) ∷ plainly (C ∷ C ∷ C ∷ H ∷ [])
-    ∷ marks_at 2 2 (plainly (C ∷ C ∷ H ∷ C ∷ [])) ∷ marks_at 1 2 (plainly (C ∷ H ∷ N ∷ C ∷ [])) ∷ []) ≡ 1 ∷ 1 ∷ 0 ∷ 0
-    ∷ 2 ∷ 2 ∷ 1 ∷ []
+    ∷ marks_at 2 0x20 (plainly (C ∷ C ∷ H ∷ C ∷ [])) ∷ marks_at 1 0x20 (plainly (C ∷ H ∷ N ∷ C ∷ [])) ∷ [])
+    ≡ 1 ∷ 1 ∷ 0 ∷ 0 ∷ 2 ∷ 2 ∷ 1 ∷ []
 over_nuktas = refl
 
 of_few : settled_base 0 [] ∷ settled_base 0 (plainly (H ∷ [])) ∷ settled_base 1 (plainly (ZWJ ∷ []))
@@ -165,11 +166,11 @@ changing_by_mask : map
     ≡ false ∷ false ∷ false ∷ true ∷ false ∷ true ∷ false ∷ []
 changing_by_mask = refl
 
-changing_viramas : changing_in "Deva" (of_marks 90 6 ∷ of_marks 90 31 ∷ of_marks 90 2 ∷ of_marks 90 4 ∷ of_marks 90 0
-    ∷ of_marks 91 6 ∷ [])
+changing_viramas : changing_in "Deva" (of_marks 90 0x60 ∷ of_marks 90 0xFFFF ∷ of_marks 90 0x20 ∷ of_marks 90 0x40
+    ∷ of_marks 90 0 ∷ of_marks 91 0x60 ∷ [])
     ≡ true ∷ true ∷ false ∷ false ∷ false ∷ false ∷ []
 changing_viramas = refl
 
-changing_without_virama : changes_syllable (record (rules "Deva") { virama = None }) (script "Deva") (of_marks 90 6)
+changing_without_virama : changes_syllable (record (rules "Deva") { virama = None }) (script "Deva") (of_marks 90 0x60)
     ≡ false
 changing_without_virama = refl

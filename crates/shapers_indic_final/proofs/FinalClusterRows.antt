@@ -26,7 +26,7 @@ next gs = map (λ (g : hb_glyph_info_t). record g { syllable = 32 }) gs
 -- merges with all that it passes
 abbrev two : List ℕ → List hb_glyph_info_t
 two cs = clustered cs (of ((M, 2) ∷ (C, 3) ∷ (H, 3) ∷ (C, 4) ∷ [])
-    ++ next (marks_at 0 2 (of ((Ra, 1) ∷ (C, 4) ∷ (M, 9) ∷ []))))
+    ++ next (marks_at 0 0x20 (of ((Ra, 1) ∷ (C, 4) ∷ (M, 9) ∷ []))))
 
 two_starts : map glyphs_before ([] ∷ syllables (order_view (two (3 ∷ 0 ∷ 1 ∷ 2 ∷ 9 ∷ 7 ∷ 8 ∷ []))) ∷ []) ≡ 0 ∷ 7 ∷ []
 two_starts = refl

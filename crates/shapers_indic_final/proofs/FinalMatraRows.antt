@@ -49,12 +49,12 @@ ends = refl
 -- ligatures are neither halants nor vowel signs; but a ligature of the category of ZWJ holds a halant
 ligatures : map
     (λ i. matra_target (script "Deva") 5
-    (marks_at i 2 (of ((M, 2) ∷ (C, 3) ∷ (H, 3) ∷ (H, 3) ∷ (ZWNJ, 3) ∷ (C, 4) ∷ [])))) (1 ∷ 2 ∷ 3 ∷ 4 ∷ [])
+    (marks_at i 0x20 (of ((M, 2) ∷ (C, 3) ∷ (H, 3) ∷ (H, 3) ∷ (ZWNJ, 3) ∷ (C, 4) ∷ [])))) (1 ∷ 2 ∷ 3 ∷ 4 ∷ [])
     ≡ 3 ∷ 3 ∷ 2 ∷ 3 ∷ []
 ligatures = refl
 
-ligated_signs : matra_target (script "Deva") 4 (marks_at 3 2 (of ((M, 2) ∷ (C, 3) ∷ (H, 3) ∷ (M, 3) ∷ (C, 4) ∷ [])))
-    ∷ matra_target (script "Deva") 4 (marks_at 3 2 (of ((M, 2) ∷ (C, 3) ∷ (H, 3) ∷ (ZWJ, 3) ∷ (C, 4) ∷ []))) ∷ []
+ligated_signs : matra_target (script "Deva") 4 (marks_at 3 0x20 (of ((M, 2) ∷ (C, 3) ∷ (H, 3) ∷ (M, 3) ∷ (C, 4) ∷ [])))
+    ∷ matra_target (script "Deva") 4 (marks_at 3 0x20 (of ((M, 2) ∷ (C, 3) ∷ (H, 3) ∷ (ZWJ, 3) ∷ (C, 4) ∷ []))) ∷ []
     ≡ 2 ∷ 0 ∷ []
 ligated_signs = refl
 

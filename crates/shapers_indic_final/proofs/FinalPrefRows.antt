@@ -14,8 +14,8 @@ abbrev three : List hb_glyph_info_t
 three = of ((C, 4) ∷ (Ra, 11) ∷ (Ra, 11) ∷ [])
 
 which : map (formed_pref 16 0) (three ∷ formed_at 1 three ∷ formed_at 2 three ∷ unformed_at 1 (formed_at 2 three)
-    ∷ formed_at 1 (unformed_at 2 three) ∷ formed_at 0 three ∷ marks_at 1 2 (unformed_at 1 three)
-    ∷ marks_at 1 6 (unformed_at 1 three) ∷ marks_at 1 2 (mask_given 1 8 three) ∷ [])
+    ∷ formed_at 1 (unformed_at 2 three) ∷ formed_at 0 three ∷ marks_at 1 0x20 (unformed_at 1 three)
+    ∷ marks_at 1 0x60 (unformed_at 1 three) ∷ marks_at 1 0x20 (mask_given 1 8 three) ∷ [])
     ≡ None ∷ Some 1 ∷ Some 2 ∷ None ∷ Some 1 ∷ None ∷ Some 1 ∷ None ∷ None ∷ []
 which = refl
 
@@ -43,9 +43,9 @@ at_start : targets 0 ((ZWJ, 4) ∷ (Ra, 11) ∷ []) ∷ targets 1 ((ZWJ, 3) ∷ 
     ∷ (0 ∷ 0 ∷ 1 ∷ 1 ∷ []) ∷ []
 at_start = refl
 
-ligatures : pref_target (script "Deva") 3 (marks_at 1 2 (of ((M, 3) ∷ (H, 3) ∷ (C, 3) ∷ (C, 4) ∷ [])))
-    ∷ pref_target (script "Deva") 3 (marks_at 1 2 (of ((C, 3) ∷ (H, 3) ∷ (ZWJ, 3) ∷ (C, 4) ∷ [])))
-    ∷ pref_target (script "Deva") 3 (marks_at 2 2 (of ((C, 3) ∷ (H, 3) ∷ (ZWJ, 3) ∷ (C, 4) ∷ []))) ∷ []
+ligatures : pref_target (script "Deva") 3 (marks_at 1 0x20 (of ((M, 3) ∷ (H, 3) ∷ (C, 3) ∷ (C, 4) ∷ [])))
+    ∷ pref_target (script "Deva") 3 (marks_at 1 0x20 (of ((C, 3) ∷ (H, 3) ∷ (ZWJ, 3) ∷ (C, 4) ∷ [])))
+    ∷ pref_target (script "Deva") 3 (marks_at 2 0x20 (of ((C, 3) ∷ (H, 3) ∷ (ZWJ, 3) ∷ (C, 4) ∷ []))) ∷ []
     ≡ 1 ∷ 0 ∷ 2 ∷ []
 ligatures = refl
 

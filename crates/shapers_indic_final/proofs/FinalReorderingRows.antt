@@ -24,7 +24,7 @@ clusters_as_left = refl
 
 -- a formed reph in front, by scripts
 abbrev behind_reph : List (ℕ × ℕ) → List hb_glyph_info_t
-behind_reph ts = marks_at 0 2 (of ((Ra, 1) ∷ ts))
+behind_reph ts = marks_at 0 0x20 (of ((Ra, 1) ∷ ts))
 
 rephs : reordered "Deva" (behind_reph ((C, 4) ∷ (M, 9) ∷ []))
     ∷ reordered "Beng" (behind_reph ((C, 4) ∷ (M, 9) ∷ (SM, 13) ∷ []))
@@ -73,7 +73,7 @@ prefs = refl
 -- once an unformed one has ended the try, no further one moves; nor does one formed but not
 -- substituted, which is the base
 tries_end : map (reordered "Deva") (unformed_at 1 (formed_at 2 (of ((C, 4) ∷ (Ra, 11) ∷ (Ra, 11) ∷ [])))
-    ∷ marks_at 1 2 (unformed_at 1 (of ((C, 4) ∷ (Ra, 11) ∷ []))) ∷ [])
+    ∷ marks_at 1 0x20 (unformed_at 1 (of ((C, 4) ∷ (Ra, 11) ∷ []))) ∷ [])
     ≡ ((0 ∷ 1 ∷ 2 ∷ []) ∷ (0 ∷ 1 ∷ 2 ∷ []) ∷ (4 ∷ 4 ∷ 11 ∷ []) ∷ []) ∷ ((0 ∷ 1 ∷ []) ∷ (0 ∷ 1 ∷ []) ∷ (4 ∷ 4 ∷ []) ∷ [])
     ∷ []
 tries_end = refl
@@ -81,15 +81,15 @@ tries_end = refl
 -- a reph and a formed pref glyph: both go directly behind the halant before the base, the pref
 -- glyph last; a base that the reph crosses is carried along, so that the pref glyph goes before it
 reph_and_pref : reordered "Deva"
-    (marks_at 0 2 (formed_at 4 (of ((Ra, 1) ∷ (C, 3) ∷ (H, 3) ∷ (C, 4) ∷ (Ra, 11) ∷ (M, 12) ∷ []))))
-    ∷ reordered "Deva" (marks_at 0 2 (formed_at 2 (of ((Ra, 1) ∷ (C, 4) ∷ (Ra, 11) ∷ (M, 12) ∷ [])))) ∷ []
+    (marks_at 0 0x20 (formed_at 4 (of ((Ra, 1) ∷ (C, 3) ∷ (H, 3) ∷ (C, 4) ∷ (Ra, 11) ∷ (M, 12) ∷ []))))
+    ∷ reordered "Deva" (marks_at 0 0x20 (formed_at 2 (of ((Ra, 1) ∷ (C, 4) ∷ (Ra, 11) ∷ (M, 12) ∷ [])))) ∷ []
     ≡ ((1 ∷ 2 ∷ 4 ∷ 0 ∷ 3 ∷ 5 ∷ []) ∷ (0 ∷ 0 ∷ 0 ∷ 0 ∷ 0 ∷ 5 ∷ []) ∷ (3 ∷ 3 ∷ 11 ∷ 1 ∷ 4 ∷ 12 ∷ []) ∷ [])
     ∷ ((2 ∷ 1 ∷ 3 ∷ 0 ∷ []) ∷ (0 ∷ 0 ∷ 0 ∷ 0 ∷ []) ∷ (11 ∷ 4 ∷ 12 ∷ 1 ∷ []) ∷ []) ∷ []
 reph_and_pref = refl
 
 -- a virama that lookups took apart is a halant again, and left matras go behind it
 recovered_virama : reordered "Deva"
-    (marks_at 2 6 (changed_at 2 (λ g. record g { glyph_id = 90 }) (of ((M, 2) ∷ (C, 3) ∷ (C, 3) ∷ (C, 4) ∷ []))))
+    (marks_at 2 0x60 (changed_at 2 (λ g. record g { glyph_id = 90 }) (of ((M, 2) ∷ (C, 3) ∷ (C, 3) ∷ (C, 4) ∷ []))))
     ≡ (1 ∷ 90 ∷ 0 ∷ 3 ∷ []) ∷ (1 ∷ 2 ∷ 0 ∷ 0 ∷ []) ∷ (3 ∷ 3 ∷ 2 ∷ 4 ∷ []) ∷ []
 recovered_virama = refl
 

@@ -12,13 +12,13 @@ use Rattle.shapers_indic_final.specs.FinalReph.{base_after_reph, opens_with_reph
 
 -- a formed reph and then these glyphs
 abbrev behind_reph : List (ℕ × ℕ) → List hb_glyph_info_t
-behind_reph ts = marks_at 0 2 (of ((Ra, 1) ∷ ts))
+behind_reph ts = marks_at 0 0x20 (of ((Ra, 1) ∷ ts))
 
 -- which rephs move: one formed, or a character of its own that is not; in a syllable of two or more, of its position
 moving : map opens_with_reph (behind_reph ((C, 4) ∷ []) ∷ of ((Ra, 1) ∷ (C, 4) ∷ []) ∷ of ((Repha, 1) ∷ (C, 4) ∷ [])
-    ∷ marks_at 0 2 (of ((Repha, 1) ∷ (C, 4) ∷ [])) ∷ marks_at 0 6 (of ((Ra, 1) ∷ (C, 4) ∷ []))
-    ∷ marks_at 0 6 (of ((Repha, 1) ∷ (C, 4) ∷ [])) ∷ behind_reph [] ∷ of ((Repha, 1) ∷ []) ∷ []
-    ∷ marks_at 0 2 (of ((Ra, 2) ∷ (C, 4) ∷ [])) ∷ marks_at 0 2 (of ((Ra, 0) ∷ (C, 4) ∷ [])) ∷ [])
+    ∷ marks_at 0 0x20 (of ((Repha, 1) ∷ (C, 4) ∷ [])) ∷ marks_at 0 0x60 (of ((Ra, 1) ∷ (C, 4) ∷ []))
+    ∷ marks_at 0 0x60 (of ((Repha, 1) ∷ (C, 4) ∷ [])) ∷ behind_reph [] ∷ of ((Repha, 1) ∷ []) ∷ []
+    ∷ marks_at 0 0x20 (of ((Ra, 2) ∷ (C, 4) ∷ [])) ∷ marks_at 0 0x20 (of ((Ra, 0) ∷ (C, 4) ∷ [])) ∷ [])
     ≡ true ∷ false ∷ true ∷ false ∷ false ∷ true ∷ false ∷ false ∷ false ∷ false ∷ false ∷ []
 moving = refl
 
@@ -69,9 +69,9 @@ before_matras : target BeforePost 1 ((C, 4) ∷ (M, 9) ∷ (H, 9) ∷ [])
     ∷ target BeforePost 1 ((C, 4) ∷ (M, 9) ∷ (C, 9) ∷ (MPst, 9) ∷ (H, 9) ∷ (SM, 13) ∷ [])
     ∷ target BeforePost 1 ((C, 4) ∷ (H, 9) ∷ []) ∷ target BeforePost 1 ((M, 4) ∷ (H, 9) ∷ [])
     ∷ target BeforePost 1 ((C, 4) ∷ (M, 9) ∷ (C, 9) ∷ [])
-    ∷ reph_target BeforePost 1 (marks_at 3 2 (behind_reph ((C, 4) ∷ (M, 9) ∷ (H, 9) ∷ [])))
-    ∷ reph_target BeforePost 1 (marks_at 2 2 (behind_reph ((C, 4) ∷ (M, 9) ∷ (H, 9) ∷ []))) ∷ [] ≡ 2 ∷ 3 ∷ 2 ∷ 2 ∷ 3 ∷ 3
-    ∷ 2 ∷ []
+    ∷ reph_target BeforePost 1 (marks_at 3 0x20 (behind_reph ((C, 4) ∷ (M, 9) ∷ (H, 9) ∷ [])))
+    ∷ reph_target BeforePost 1 (marks_at 2 0x20 (behind_reph ((C, 4) ∷ (M, 9) ∷ (H, 9) ∷ []))) ∷ []
+    ≡ 2 ∷ 3 ∷ 2 ∷ 2 ∷ 3 ∷ 3 ∷ 2 ∷ []
 before_matras = refl
 
 -- order, clusters, and the base: one that is crossed is carried along, one in front stays

@@ -109,7 +109,11 @@ viewed_in r script off gs =
 
 -- the viramas
 abbrev recovered_one : hb_glyph_info_t → hb_glyph_info_t
-recovered_one g = record g { category = OT_H; glyph_props = without_mark MULTIPLIED (without_mark LIGATED g.glyph_props) }
+recovered_one g =
+    record g {
+      category = OT_H;
+      glyph_props = without_mark MULTIPLIED (without_mark LIGATED g.glyph_props);
+    }
 
 recovered-carried : (virama : Option GlyphId) (g : hb_glyph_info_t) → carried (recovered virama g) ≡ carried g
 recovered-carried virama g =

@@ -13,7 +13,6 @@ use Rattle.shapers_buffer.specs.declared.buffer.tag.Script.{Script}
 use Rattle.shapers_buffer.specs.Buffer.{Buffer}
 use Rattle.shapers_buffer.specs.Glyph.{clusters, order_view, plain, without_flags}
 use Rattle.shapers_buffer.specs.GlyphFlags.{with_bits}
-use Rattle.shapers_buffer.specs.Properties.{no_marks}
 use Rattle.shapers_buffer.specs.Syllables.{syllables}
 use Rattle.shapers_buffer.proofs.MaskBits.{or_twice}
 use Rattle.shapers_clusters.specs.Flags.{FlagsFall, seen}

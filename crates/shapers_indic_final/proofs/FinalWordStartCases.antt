@@ -3,6 +3,7 @@ use Rattle.std.proofs.Common.{◌≡◌, ℕ, suc, ◌+◌, ◌-◌, ◌<◌, Bo
 use Rattle.shapers_buffer.specs.declared.buffer.glyph.hb_glyph_info_t.{hb_glyph_info_t}
 use Rattle.shapers_buffer.specs.Clusters.{with_stretch}
 use Rattle.shapers_buffer.specs.GlyphFlags.{unsafe_inside, with_bits}
+use Rattle.shapers_buffer.specs.Properties.{general_category}
 use Rattle.shapers_indic_final.specs.FinalMatras.{is_left}
 use Rattle.shapers_indic_final.specs.FinalWordStart.{before_place, bound_at, continues_word, word_goes_on, is_bound, last_or, opened, with_init}
 

@@ -5,6 +5,7 @@ use Rattle.shapers_buffer.specs.declared.buffer.category.hb_unicode_general_cate
 use Rattle.shapers_buffer.specs.declared.buffer.glyph.hb_glyph_info_t.{hb_glyph_info_t}
 use Rattle.shapers_buffer.specs.declared.buffer.level.BufferClusterLevel.TheVariants.{MonotoneGraphemes}
 use Rattle.shapers_buffer.specs.Glyph.{clusters, default_glyph}
+use Rattle.shapers_buffer.specs.Properties.{general_category, properties}
 use Rattle.shapers_clusters.specs.Steps.{run_steps}
 use Rattle.shapers_indic.proofs.RowWords.{C, M, row_masks, numbers_of, script}
 use Rattle.shapers_indic_final.proofs.FinalWords.{rules}
@@ -12,7 +13,6 @@ use Rattle.shapers_indic_final.specs.FinalLaws.{at_opening, SameButFirstBits, wi
 use Rattle.shapers_indic_final.specs.FinalWordStart.{bound_from, continues_word, final_syllables, final_text, is_bound, last_or, starts_syllable, with_init}
 use Rattle.shapers_indic_final.specs.FinalReordering.{final_steps}
 use Rattle.shapers_syllabic.specs.Reordering.{text_steps}
-use Rattle.shapers_buffer.specs.Properties.{properties}
 
 -- every category: Cc no, Cf to Mn yes, the rest no
 categories : map continues_word (Cc ∷ Cf ∷ Cn ∷ Co ∷ Cs ∷ Ll ∷ Lm ∷ Lo ∷ Lt ∷ Lu ∷ Mc ∷ Me ∷ Mn ∷ Nd ∷ Nl ∷ No ∷ Pc ∷ Pd
@@ -31,8 +31,7 @@ one i byte general c p =
       mask = 64;
       syllable = byte;
       unicode_props = properties general 0;
-      category =
-          c;
+      category = c;
       auxiliary = p;
     }
 
@@ -47,11 +46,13 @@ inits : row_masks (with_init 32 None (syllable 2)) ∷ row_masks (with_init 32 (
     ∷ row_masks (with_init 32 None []) ∷ []
     ≡ (96 ∷ 64 ∷ 64 ∷ []) ∷ (96 ∷ 64 ∷ 64 ∷ []) ∷ (64 ∷ 64 ∷ 64 ∷ []) ∷ (64 ∷ 64 ∷ 64 ∷ []) ∷ (64 ∷ 64 ∷ 64 ∷ [])
     ∷ (64 ∷ 64 ∷ 64 ∷ []) ∷ [] ∷ []
+unfolding general_category
 inits = refl
 
 bound : is_bound None (syllable 2) ∷ is_bound (Some (one 0 33 Zs 0 0)) (syllable 2)
     ∷ is_bound (Some (one 0 33 Lo 0 0)) (syllable 2) ∷ is_bound (Some (one 0 33 Lo 0 0)) (syllable 3)
     ∷ is_bound (Some (one 0 33 Lo 0 0)) [] ∷ [] ≡ false ∷ false ∷ true ∷ false ∷ false ∷ []
+unfolding general_category
 bound = refl
 
 -- two lists that differ in these bits of their first glyph alone: with init there or without; but
@@ -96,6 +97,7 @@ texts : map after ((pair 0 16 ++ pair 2 32) ∷ (pair 0 16 ++ one 2 32 Zs 0 0 �
     ∷ (0 ∷ 0 ∷ 0 ∷ 0 ∷ 0 ∷ []) ∷ [])
     ∷ ((0 ∷ 1 ∷ 2 ∷ []) ∷ (64 ∷ 64 ∷ 64 ∷ []) ∷ (0 ∷ 1 ∷ 1 ∷ []) ∷ (0 ∷ 1 ∷ 2 ∷ []) ∷ (0 ∷ 3 ∷ 0 ∷ []) ∷ [])
     ∷ ([] ∷ [] ∷ [] ∷ [] ∷ [] ∷ []) ∷ []
+unfolding general_category
 texts = refl
 
 -- the glyph before a syllable is the last of the one before in its new order: a reph that went to
@@ -103,6 +105,7 @@ texts = refl
 reph_before : after (record (one 0 16 Zs C 1) { glyph_props = record { 0 = 0x20 } } ∷ one 1 16 Lo C 4 ∷ pair 2 32)
     ≡ (1 ∷ 0 ∷ 2 ∷ 3 ∷ []) ∷ (64 ∷ 64 ∷ 96 ∷ 64 ∷ []) ∷ (0 ∷ 0 ∷ 2 ∷ 2 ∷ []) ∷ (1 ∷ 0 ∷ 2 ∷ 3 ∷ [])
     ∷ (0 ∷ 0 ∷ 0 ∷ 0 ∷ []) ∷ []
+unfolding general_category
 reph_before = refl
 
 -- clusters that neither rise nor fall, 0 2 2 1: the merge of the last syllable takes the matra before it along, whose
@@ -111,17 +114,20 @@ flag_stays : after (one 0 16 Lo C 4 ∷ one 2 32 Mc M 2 ∷ record (one 3 48 Mc 
     ∷ record (one 4 48 Lo C 4) { cluster = 1 } ∷ [])
     ≡ (0 ∷ 2 ∷ 3 ∷ 4 ∷ []) ∷ (64 ∷ 64 ∷ 64 ∷ 64 ∷ []) ∷ (0 ∷ 1 ∷ 1 ∷ 1 ∷ []) ∷ (0 ∷ 2 ∷ 3 ∷ 4 ∷ [])
     ∷ (0 ∷ 3 ∷ 0 ∷ 0 ∷ []) ∷ []
+unfolding general_category
 flag_stays = refl
 
 -- breaks alone, from a place on and behind a letter: the first syllable's place is not 0
 breaks : map (λ g. g.mask % 8) (bound_from 1 (Some (one 0 0 Lo 0 0)) ((one 1 16 Mc M 2 ∷ []) ∷ (one 2 32 Zs C 4 ∷ []) ∷
     (one 3 48 Mc M 2 ∷ []) ∷ []) (one 0 0 Lo 0 0 ∷ one 1 16 Mc M 2 ∷ one 2 32 Zs C 4 ∷ one 3 48 Mc M 2 ∷ []))
     ≡ 0 ∷ 3 ∷ 0 ∷ 0 ∷ []
+unfolding general_category
 breaks = refl
 
 openings : map (at_opening 1 (Some (one 0 0 Lo 0 0)) ((one 1 16 Mc M 2 ∷ []) ∷ (one 2 32 Zs C 4 ∷ [])
     ∷ (one 3 48 Mc M 2 ∷ []) ∷ [])) (0 ∷ 1 ∷ 2 ∷ 3 ∷ 4 ∷ [])
     ≡ true ∷ true ∷ false ∷ false ∷ false ∷ []
+unfolding general_category
 openings = refl
 
 -- where a syllable starts: the text, and each byte unlike the one before

@@ -7,7 +7,7 @@ use Rattle.shapers_buffer.specs.declared.buffer.glyph.hb_glyph_info_t.{hb_glyph_
 use Rattle.shapers_buffer.specs.Clusters.{least, stretch_of}
 use Rattle.shapers_buffer.specs.Glyph.{clusters, order_view, plain}
 use Rattle.shapers_buffer.specs.GlyphFlags.{flagged, unsafe_inside, with_bits, with_bits_off}
-use Rattle.shapers_buffer.specs.Properties.{no_marks, general_category}
+use Rattle.shapers_buffer.specs.Properties.{general_category}
 use Rattle.shapers_clusters.proofs.FlagCalls.{flags-or, map-unsafe_inside, plain-or, plain-with_bits}
 use Rattle.shapers_indic_final.specs.FinalMatras.{is_left}
 use Rattle.shapers_indic_final.specs.FinalWordStart.{before_place, bound_at, bound_from, continues_word, is_bound, last_or, opened, with_init, word_goes_on}
@@ -29,7 +29,8 @@ map-init f bits hides before (g ∷ gs) =
 pub carried-init : (bits : ℕ) → bits % 8 ≡ 0 → (before : Option hb_glyph_info_t) (gs : List hb_glyph_info_t)
     → map carried (with_init bits before gs) ≡ map carried gs
 carried-init bits off = map-init carried bits
-    (λ g. ap (λ m. record g { mask = m; category = 0; auxiliary = 0; glyph_props = record { 0 = 0 } }) (flags-or g.mask bits off))
+    (λ g. ap (λ m. record g { mask = m; category = 0; auxiliary = 0; glyph_props = record { 0 = 0 } })
+    (flags-or g.mask bits off))
 
 pub init-plain : (bits : ℕ) → bits % 8 ≡ 0 → (before : Option hb_glyph_info_t) (gs : List hb_glyph_info_t)
     → order_view (with_init bits before gs) ≡ with_init bits before (order_view gs)
@@ -95,7 +96,7 @@ bound-word a b (g ∷ gs) same = ap (λ w. is_left g && w) same
 
 -- which general categories tell
 abbrev pub general : hb_glyph_info_t → hb_unicode_general_category_t
-general g = (general_category g.unicode_props)
+general g = general_category g.unicode_props
 
 word-by : (a b : Option hb_glyph_info_t) (gs hs : List hb_glyph_info_t) → word_goes_on a ≡ word_goes_on b
     → map general gs ≡ map general hs → word_goes_on (last_or a gs) ≡ word_goes_on (last_or b hs)
@@ -133,7 +134,8 @@ carried-off m g =
     elim (g.cluster == m) as (λ b. carried (if b then g else with_bits 3 g)
     ≡ (if b then carried g else with_bits 3 (carried g))) [
       | true ↦ refl
-      | false ↦ ap (λ k. record g { mask = k; category = 0; auxiliary = 0; glyph_props = record { 0 = 0 } }) (or_mod g.mask 3 3)
+      | false ↦ ap (λ k. record g { mask = k; category = 0; auxiliary = 0; glyph_props = record { 0 = 0 } })
+          (or_mod g.mask 3 3)
     ]
 
 carried-flagged_by : (m : ℕ) (gs : List hb_glyph_info_t) → map carried (map (with_bits_off 3 m) gs)

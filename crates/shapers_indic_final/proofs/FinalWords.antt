@@ -10,14 +10,15 @@ use Rattle.shapers_indic.proofs.RowWords.{numbers_of, row_positions, script}
 use Rattle.shapers_indic_final.specs.FinalReordering.{final_order, final_steps}
 use Rattle.shapers_indic_final.specs.declared.ot_shaper_indic_final.rules.Rules.{Rules}
 
--- the glyph at a place changed; given marks by their bits (1 substituted, 2 ligated, 4 multiplied); given a mask
+-- the glyph at a place changed; given marks by their bits (0x10 substituted, 0x20 ligated, 0x40
+-- multiplied); given a mask
 abbrev pub changed_at : ℕ → (hb_glyph_info_t → hb_glyph_info_t) → List hb_glyph_info_t → List hb_glyph_info_t
 changed_at i f [] = []
 changed_at zero f (g ∷ gs) = f g ∷ gs
 changed_at (suc i) f (g ∷ gs) = g ∷ changed_at i f gs
 
 abbrev pub marks_at : ℕ → ℕ → List hb_glyph_info_t → List hb_glyph_info_t
-marks_at i bits gs = changed_at i (λ g. record g { marks = record { 0 = bits } }) gs
+marks_at i bits gs = changed_at i (λ g. record g { glyph_props = record { 0 = bits } }) gs
 
 abbrev pub mask_given : ℕ → ℕ → List hb_glyph_info_t → List hb_glyph_info_t
 mask_given i bits gs = changed_at i (λ g. record g { mask = bits }) gs
@@ -27,7 +28,7 @@ abbrev pub unformed_at : ℕ → List hb_glyph_info_t → List hb_glyph_info_t
 unformed_at i gs = mask_given i 16 gs
 
 abbrev pub formed_at : ℕ → List hb_glyph_info_t → List hb_glyph_info_t
-formed_at i gs = marks_at i 3 (mask_given i 16 gs)
+formed_at i gs = marks_at i 0x30 (mask_given i 16 gs)
 
 -- the rules of a script with virama's glyph 90, mask 16 for pref and 32 for init
 abbrev pub rules : String → Rules
@@ -35,8 +36,7 @@ rules tag = record {
   reph_pos = (config_of (script tag)).reph_pos;
   virama = Some (record { 0 = 90 });
   pref = 16;
-  init =
-      32;
+  init = 32;
 }
 
 -- order, clusters and positions of a syllable of a script after

@@ -1,6 +1,5 @@
 -- The flags of whole clusters, computed: what is kept of each set of flags, and who shares them.
 use Rattle.std.specs.Prelude.{◌≡◌, ℕ, List, [], ◌∷◌, map, refl}
-use Rattle.shapers_buffer.specs.declared.buffer.category.hb_unicode_general_category_t.TheVariants.{Mn}
 use Rattle.shapers_buffer.specs.declared.buffer.flags.BufferFlags.{BufferFlags}
 use Rattle.shapers_buffer.specs.declared.buffer.glyph.hb_glyph_info_t.{hb_glyph_info_t}
 use Rattle.shapers_buffer.specs.Glyph.{clusters, default_glyph}

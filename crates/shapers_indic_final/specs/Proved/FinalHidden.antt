@@ -25,8 +25,8 @@ use Rattle.shapers_indic.proofs.PlaceSearch.{PlaceWithin, greatest_within, least
 -- viramas
 hidden-recovered : (v : Option GlyphId) (g : hb_glyph_info_t) → carried (recovered v g) ≡ carried g
 hidden-recovered v g =
-    elim (is_lost_virama v g) as (λ b. carried
-    (if b then record g { category = OT_H; glyph_props = without_mark MULTIPLIED (without_mark LIGATED g.glyph_props) } else g)
+    let props = without_mark MULTIPLIED (without_mark LIGATED g.glyph_props) in
+    elim (is_lost_virama v g) as (λ b. carried (if b then record g { category = OT_H; glyph_props = props } else g)
     ≡ carried g) [ true ↦ refl | false ↦ refl ]
 
 pub hidden-viramas : (r : Rules) (gs : List hb_glyph_info_t) → map carried (with_viramas r gs) ≡ map carried gs

@@ -227,7 +227,8 @@ fn before_joiner(base: usize, glyphs: &[hb_glyph_info_t]) -> usize
     ensures within { result ≤ length glyphs.now }
 {
     match glyphs {
-        [.., last] if base == glyphs.len() && !last.glyph_props.is_ligated() && last.category == OT_ZWJ =>
+        [.., last]
+            if base == glyphs.len() && !last.glyph_props.is_ligated() && last.category == OT_ZWJ =>
             { base - 1 }
         _ => base,
     }

@@ -37,6 +37,7 @@ pub fn final_reordering<F: hb_font_t>(plan: &hb_ot_shape_plan_t, face: &F, buffe
         rules: &rules,
         script: buffer.script(),
     };
+    // (this order never refuses)
     if reorder_syllables(&order, buffer).is_ok() {
         open_words(rules.init, buffer);
     }
