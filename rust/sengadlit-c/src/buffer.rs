@@ -1,7 +1,7 @@
 //! The buffer of C: a text and its positions.
 use crate::border::glyphs::{MAX_LENGTH, Takes, Text};
 use crate::encodings::{Unit, characters, first, last};
-use crate::layout::{Glyph, Properties};
+use crate::layout::Properties;
 use crate::numbers;
 use crate::status::{Argument, Error};
 use core::mem::replace;
@@ -119,15 +119,15 @@ impl Buffer {
             return Err(ShaperError::TooLong.into());
         }
         self.set_length(length)?;
-        let glyphs = self.text.glyphs_mut()[start..].iter_mut();
-        for (glyph, (place, character)) in glyphs.zip(characters(&text[item.clone()])) {
-            let cluster = (item.start + place) as u32;
-            *glyph = Glyph::from(GlyphInfo::from_character(
-                character,
-                cluster,
-                &UnicodeTables,
-            ));
-        }
+        self.text.with_glyphs_mut(|glyphs| {
+            for (glyph, (place, character)) in glyphs[start..]
+                .iter_mut()
+                .zip(characters(&text[item.clone()]))
+            {
+                let cluster = (item.start + place) as u32;
+                *glyph = GlyphInfo::from_character(character, cluster, &UnicodeTables);
+            }
+        });
         let mut room = ['\0'; CONTEXT_LENGTH];
         if start == 0 && !before.is_empty() {
             self.text.set_pre_context(last(before, &mut room));
@@ -200,16 +200,16 @@ impl Buffer {
         self.text.set_state(state & 1 != 0, state & 2 != 0);
     }
 
-    /// That each codepoint is one of Unicode's scalar values.
+    /// That each glyph is a character, one of Unicode's scalar values.
     pub fn are_characters(&self) -> Result<(), Error> {
         let mut glyphs = self.text.glyphs().iter();
-        match glyphs.position(|glyph| char::from_u32(glyph.codepoint).is_none()) {
-            Some(index) => Err(Error::argument_at(Argument::Codepoint, index)),
+        match glyphs.position(|glyph| char::from_u32(glyph.glyph_id).is_none()) {
+            Some(index) => Err(Error::argument_at(Argument::GlyphId, index)),
             None => Ok(()),
         }
     }
 
-    /// Runs a hook that takes such codepoints on glyphs without positions.
+    /// Runs a hook that takes such numbers on glyphs without positions.
     #[inline]
     pub fn run<A>(
         &mut self,

@@ -80,7 +80,7 @@ pub fn decompose(
 }
 
 fn character(number: u32) -> Result<char, Error> {
-    char::from_u32(number).ok_or_else(|| Error::argument(Argument::Codepoint))
+    char::from_u32(number).ok_or_else(|| Error::argument(Argument::GlyphId))
 }
 
 /// `sengadlit_reorder_marks`.

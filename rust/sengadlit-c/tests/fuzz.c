@@ -197,17 +197,15 @@ static void write_glyph(sengadlit_glyph_info_t *glyph, uint32_t cluster)
 {
     uint8_t kind = next();
 
-    glyph->codepoint = kind < 240 ? firsts[place] + next() % 128 : kind < 250 ? next() * 257u : next_word();
+    glyph->glyph_id = kind < 240 ? firsts[place] + next() % 128 : kind < 250 ? next() * 257u : next_word();
     glyph->cluster = kind & 1 ? cluster : next();
     glyph->mask = kind & 2 ? 0 : next_word();
-    glyph->var = next();
     glyph->syllable = next();
     glyph->category = kind & 4 ? next() % 64 : next();
     glyph->auxiliary = next() % 24;
-    glyph->general_category = next() % 31 == 30 ? next() : next() % 30;
-    glyph->modified_combining_class = next();
-    glyph->lig_comp = next() % 16;
-    glyph->marks = next();
+    glyph->unicode_props = (uint16_t)(next() << 8 | next());
+    glyph->lig_props = next();
+    glyph->glyph_props = (uint16_t)(next() << 8 | next());
 }
 
 /* Part of a text whose units are anything. */
@@ -235,8 +233,8 @@ static void add_text(sengadlit_buffer_t *buffer)
     const sengadlit_glyph_info_t *glyphs = sengadlit_buffer_get_glyph_infos(buffer, &length);
     if (status != SENGADLIT_DONE || length < before || length - before > (unsigned int)item) abort();
     for (unsigned int i = before; i < length; i++)
-        if (glyphs[i].cluster < start || glyphs[i].cluster >= start + (unsigned int)item || glyphs[i].codepoint > 0x10FFFF ||
-            glyphs[i].general_category > 29)
+        if (glyphs[i].cluster < start || glyphs[i].cluster >= start + (unsigned int)item || glyphs[i].glyph_id > 0x10FFFF ||
+            SENGADLIT_UNICODE_PROPS_GET_GENERAL_CATEGORY(glyphs[i].unicode_props) > 29)
             abort();
 }
 
@@ -362,10 +360,7 @@ static void keep(sengadlit_buffer_t *buffer, struct text *text)
 
     text->state = sengadlit_buffer_get_state(buffer);
     if (text->length > ROOM) abort();
-    for (unsigned int i = 0; i < text->length; i++) {
-        memset(&text->glyphs[i], 0, sizeof text->glyphs[i]);
-        memcpy(&text->glyphs[i], &glyphs[i], offsetof(sengadlit_glyph_info_t, marks) + 1);
-    }
+    memcpy(text->glyphs, glyphs, text->length * sizeof *glyphs);
 }
 
 static unsigned long internal, done;
@@ -416,14 +411,13 @@ static sengadlit_bool_t substitute(void *user_data, const sengadlit_lookup_t *lo
 
     if (sengadlit_buffer_get_glyph_infos(user_data, NULL) || lookup->mask == 0) abort();
     for (unsigned int i = start; i < end && i < length; i++) {
-        glyphs[i].codepoint = answer(glyphs[i].codepoint, lookup->index) & 0xFFFF;
-        glyphs[i].marks ^= what & 7;
+        glyphs[i].glyph_id = answer(glyphs[i].glyph_id, lookup->index) & 0xFFFF;
+        glyphs[i].glyph_props ^= (uint16_t)((what & 7) << 4);
         if (what & 32) glyphs[i].syllable = what;
     }
     if (what % 64 == 7 && length > start) {
         faulty = 1;
-        if (what & 64) glyphs[start].codepoint |= 0x10000;
-        else glyphs[start].general_category |= 0x80;
+        glyphs[start].glyph_id |= 0x10000;
     }
     switch (what % 8) {
     case 0: (void)sengadlit_buffer_set_length(lent, length + end); break;
@@ -438,16 +432,16 @@ static sengadlit_bool_t substitute(void *user_data, const sengadlit_lookup_t *lo
     return what != 8;
 }
 
-static uint32_t note(void *user_data, const sengadlit_glyph_info_t *glyph)
+static uint16_t glyph_props(void *user_data, const sengadlit_glyph_info_t *glyph)
 {
     if (sengadlit_buffer_get_glyph_infos(user_data, NULL)) abort();
-    return answer(glyph->codepoint, 11);
+    return (uint16_t)answer(glyph->glyph_id, 11);
 }
 
 static sengadlit_bool_t is_mark(void *user_data, const sengadlit_glyph_info_t *glyph)
 {
     if (sengadlit_buffer_get_glyph_infos(user_data, NULL)) abort();
-    return (sengadlit_bool_t)(glyph->var & 4);
+    return (sengadlit_bool_t)(glyph->glyph_props & 4);
 }
 
 static void finish_positions(void *user_data, sengadlit_buffer_t *lent)
@@ -461,7 +455,7 @@ static void finish_positions(void *user_data, sengadlit_buffer_t *lent)
     if (count != length) abort();
     for (unsigned int i = 0; i < count; i++) {
         positions[i].x_offset = (int32_t)next_word();
-        glyphs[i].var = what;
+        glyphs[i].glyph_props = what;
     }
     if (what % 64 == 7 && length > 0) {
         faulty = 1;
@@ -529,7 +523,7 @@ static sengadlit_shape_plan_t *make_shape_plan(void)
 
 static void shape_whole(sengadlit_buffer_t *buffer)
 {
-    static const sengadlit_lookups_funcs_t funcs = {variation_glyph, note,           substitute,     is_mark, position,
+    static const sengadlit_lookups_funcs_t funcs = {variation_glyph, glyph_props, substitute, is_mark, position,
                                                     finish_positions, glyph_v_advance, glyph_v_origin};
     const sengadlit_lookups_t lookups = {&funcs, buffer};
     sengadlit_shape_plan_t *plan = make_shape_plan();

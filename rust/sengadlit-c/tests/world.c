@@ -159,9 +159,9 @@ void begin_world(sengadlit_shaper_t shaper, sengadlit_tag_t script, uint32_t cod
     world.properties.direction = SENGADLIT_DIRECTION_LTR;
     limit_length(ROOM);
     for (unsigned int i = 0; i < length; i++) {
-        glyphs()[i].codepoint = codepoint;
+        glyphs()[i].glyph_id = codepoint;
         glyphs()[i].cluster = i;
-        glyphs()[i].general_category = SENGADLIT_UNICODE_GENERAL_CATEGORY_OTHER_LETTER;
+        glyphs()[i].unicode_props = SENGADLIT_UNICODE_GENERAL_CATEGORY_OTHER_LETTER;
     }
 }
 
@@ -171,9 +171,9 @@ void begin_word_and_tiles(void)
     world.properties.direction = SENGADLIT_DIRECTION_RTL;
     limit_length(ROOM);
     for (unsigned int i = 1; i < 3; i++) {
-        glyphs()[i].codepoint = i + 1;
-        glyphs()[i].marks = SENGADLIT_GLYPH_MARK_MULTIPLIED;
-        glyphs()[i].lig_comp = (uint8_t)(i + 1);
+        glyphs()[i].glyph_id = i + 1;
+        glyphs()[i].glyph_props = SENGADLIT_GLYPH_PROPS_MULTIPLIED;
+        glyphs()[i].lig_props = (uint8_t)(i + 1);
     }
 }
 
@@ -218,15 +218,6 @@ void keep_text(void)
         memcpy(kept.positions, positions(), kept.length * sizeof *kept.positions);
 }
 
-/* Field by field: the byte behind them is nobody's. */
-static int is_same_glyph(const sengadlit_glyph_info_t *a, const sengadlit_glyph_info_t *b)
-{
-    return a->codepoint == b->codepoint && a->cluster == b->cluster && a->mask == b->mask && a->var == b->var &&
-           a->syllable == b->syllable && a->category == b->category && a->auxiliary == b->auxiliary &&
-           a->general_category == b->general_category && a->modified_combining_class == b->modified_combining_class &&
-           a->lig_comp == b->lig_comp && a->marks == b->marks;
-}
-
 int text_is_changed(void)
 {
     unsigned int length;
@@ -234,8 +225,7 @@ int text_is_changed(void)
 
     if (length != kept.length || sengadlit_buffer_get_state(world.buffer) != kept.state)
         return 1;
-    for (unsigned int i = 0; i < length; i++)
-        if (!is_same_glyph(&now[i], &kept.glyphs[i]))
-            return 1;
+    if (memcmp(now, kept.glyphs, length * sizeof *now) != 0)
+        return 1;
     return world.has_positions && memcmp(kept.positions, positions(), length * sizeof *kept.positions) != 0;
 }

@@ -3,11 +3,11 @@ use super::handle::Pointer;
 use super::{Out, array, put, text};
 use crate::buffer::Buffer;
 use crate::encodings::Unit;
-use crate::layout::{Glyph, Properties};
+use crate::layout::Properties;
 use crate::status::{Argument, Error, Status};
 use core::ffi::{c_char, c_int, c_uint};
 use core::ops::Range;
-use sengadlit::buffer::GlyphPosition;
+use sengadlit::buffer::{GlyphInfo, GlyphPosition};
 
 #[unsafe(no_mangle)]
 pub extern "C" fn sengadlit_buffer_create() -> Pointer {
@@ -47,7 +47,7 @@ pub extern "C" fn sengadlit_buffer_reset(buffer: Pointer) {
 }
 
 #[unsafe(no_mangle)]
-pub extern "C" fn sengadlit_buffer_set_length(buffer: Pointer, length: c_uint) -> *mut Glyph {
+pub extern "C" fn sengadlit_buffer_set_length(buffer: Pointer, length: c_uint) -> *mut GlyphInfo {
     buffer.call_for_place(|buffer| {
         buffer.set_length(length as usize)?;
         Ok(buffer.text.place())
@@ -58,7 +58,7 @@ pub extern "C" fn sengadlit_buffer_set_length(buffer: Pointer, length: c_uint) -
 pub extern "C" fn sengadlit_buffer_get_glyph_infos(
     buffer: Pointer,
     length: Out<'_, c_uint>,
-) -> *mut Glyph {
+) -> *mut GlyphInfo {
     buffer.call_for_place(|buffer| {
         put(length, buffer.text.len() as c_uint);
         Ok(buffer.text.place())

@@ -1,22 +1,13 @@
-//! The glyphs of a buffer: C reads and writes them between calls, and the crate during one. They are the same bytes, but that a
-//! general category of C's may be any number, and one of the crate's is one of thirty: so the crate looks at the glyphs only
-//! after a pass over them has found no other.
-use crate::layout::Glyph;
+//! The glyphs of a buffer: C reads and writes them between calls, and the crate during one. They are the crate's own structs,
+//! of which any bytes are valid.
 use crate::status::{Argument, Error};
-use core::slice;
 use sengadlit::alloc::Global;
-use sengadlit::buffer::{
-    Buffer as Inner, BufferSettings, Direction, GeneralCategory, GlyphInfo, ShaperError,
-};
-use std::vec::Vec;
-
-/// The number of general categories.
-const CATEGORIES: u32 = GeneralCategory::ALL.len() as u32;
+use sengadlit::buffer::{Buffer as Inner, BufferSettings, Direction, GlyphInfo, ShaperError};
 
 /// The greatest length of a text for which none is set.
 pub const MAX_LENGTH: usize = u32::MAX as usize;
 
-/// The codepoints that a hook takes.
+/// The numbers of characters or glyphs that a hook takes.
 #[derive(Clone, Copy)]
 pub enum Takes {
     /// All numbers.
@@ -26,37 +17,28 @@ pub enum Takes {
 }
 
 impl Takes {
-    // The bits that none of them has.
+    // Whether a glyph has such a number.
     #[inline]
-    fn outside(self) -> u32 {
+    fn takes(self, glyph: &GlyphInfo) -> bool {
         match self {
-            Takes::Numbers => 0,
-            Takes::GlyphNumbers => 0xFFFF_0000,
+            Takes::Numbers => true,
+            Takes::GlyphNumbers => glyph.glyph_id <= 0xFFFF,
         }
     }
 }
 
 /// The glyphs and their settings.
 pub struct Text {
-    // Its glyphs may have categories that are none: whatever looks at them is behind `is_known`.
     inner: Inner,
-    // Where they stand. It is taken anew after whatever may move them.
-    first: *mut Glyph,
     max_length: usize,
 }
 
 impl Text {
     /// An empty text, which takes no memory.
     pub fn new() -> Self {
-        Text::of(Inner::new(Global, MAX_LENGTH), MAX_LENGTH)
-    }
-
-    fn of(mut inner: Inner, max_length: usize) -> Self {
-        let first = place_of(&mut inner);
         Text {
-            inner,
-            first,
-            max_length,
+            inner: Inner::new(Global, MAX_LENGTH),
+            max_length: MAX_LENGTH,
         }
     }
 
@@ -69,20 +51,20 @@ impl Text {
             has_stch: false,
             ..self.inner.settings()
         });
-        *self = Text::of(inner, self.max_length);
+        self.inner = inner;
     }
 
     /// Takes the glyphs and settings of a text of the crate's, which is empty then.
     pub fn lend(&mut self, text: &mut Inner) {
-        let max_length = text.max_len();
+        self.max_length = text.max_len();
         let empty = Inner::new(Global, MAX_LENGTH);
-        *self = Text::of(core::mem::replace(text, empty), max_length);
+        self.inner = core::mem::replace(text, empty);
     }
 
-    /// Gives the glyphs back, into a text of the crate's whose settings stay but for the greatest length, if each general
-    /// category is one and each codepoint is a glyph's number; returns whether it did.
+    /// Gives the glyphs back, into a text of the crate's whose settings stay but for the greatest length, if each has a number
+    /// of a font's glyphs; returns whether it did.
     pub fn take_back(&mut self, text: &mut Inner) -> bool {
-        if !self.is_known(Takes::GlyphNumbers) {
+        if self.wrong_glyph(Takes::GlyphNumbers).is_some() {
             return false;
         }
         let mut inner = core::mem::replace(self, Text::new()).inner;
@@ -109,23 +91,20 @@ impl Text {
 
     /// The glyphs.
     #[inline]
-    pub fn glyphs(&self) -> &[Glyph] {
-        // SAFETY: so many glyphs of the same layout stand there (crate::layout), and every number is a field of `Glyph`.
-        // `first` was taken after the last change by the crate, and nobody writes while `self` is borrowed.
-        unsafe { slice::from_raw_parts(self.first, self.inner.len()) }
+    pub fn glyphs(&self) -> &[GlyphInfo] {
+        self.inner.glyphs()
     }
 
-    /// The glyphs, to be written.
+    /// Writes glyphs.
     #[inline]
-    pub fn glyphs_mut(&mut self) -> &mut [Glyph] {
-        // SAFETY: as for `glyphs`, and `self` is borrowed by nobody else.
-        unsafe { slice::from_raw_parts_mut(self.first, self.inner.len()) }
+    pub fn with_glyphs_mut<A>(&mut self, write: impl FnOnce(&mut [GlyphInfo]) -> A) -> A {
+        self.inner.with_glyphs_mut(write)
     }
 
     /// Where the glyphs stand, for C to read and write until the next call that is given the text.
     #[inline]
-    pub fn place(&mut self) -> *mut Glyph {
-        self.first
+    pub fn place(&mut self) -> *mut GlyphInfo {
+        self.with_glyphs_mut(<[GlyphInfo]>::as_mut_ptr)
     }
 
     /// Keeps so many glyphs, or adds default ones.
@@ -138,35 +117,7 @@ impl Text {
         if length > self.inner.max_len() {
             self.inner.set_max_len(length);
         }
-        if !self.is_known(Takes::Numbers) {
-            return self.grow_unknown(length);
-        }
-        self.inner.grow(length - self.len())?;
-        self.first = place_of(&mut self.inner);
-        Ok(())
-    }
-
-    // The same where some category is none: the crate sees default glyphs in the place of those that were there.
-    #[cold]
-    fn grow_unknown(&mut self, length: usize) -> Result<(), ShaperError> {
-        let mut kept: Vec<Glyph> = Vec::new();
-        kept.try_reserve_exact(self.len())
-            .map_err(|_| ShaperError::Memory)?;
-        kept.extend_from_slice(self.glyphs());
-        let mut longer = Inner::new(Global, MAX_LENGTH);
-        longer.grow(length)?;
-        longer.set_settings(&BufferSettings {
-            max_len: MAX_LENGTH,
-            ..self.inner.settings()
-        });
-        self.inner = longer;
-        self.first = place_of(&mut self.inner);
-        // SAFETY: there are `length` glyphs, which are more than those that were kept and not the same; none is borrowed.
-        unsafe {
-            self.first
-                .copy_from_nonoverlapping(kept.as_ptr(), kept.len())
-        };
-        Ok(())
+        self.inner.grow(length - self.len())
     }
 
     /// Takes the direction, script, level, flags and greatest length of these settings.
@@ -208,48 +159,26 @@ impl Text {
         self.inner.set_has_stch(has_stch);
     }
 
-    // Whether each general category is one, and each codepoint is taken. It doesn't branch at a glyph: what is too great
-    // leaves a bit in a sum.
+    // The place of the first glyph that isn't taken.
     #[inline]
-    fn is_known(&self, takes: Takes) -> bool {
-        let (mut categories, mut codepoints) = (0, 0);
-        let mut left = self.glyphs();
-        while let [glyph, others @ ..] = left {
-            categories |= u32::from(glyph.general_category) + (0x100 - CATEGORIES);
-            codepoints |= glyph.codepoint;
-            left = others;
-        }
-        categories < 0x100 && codepoints & takes.outside() == 0
+    fn wrong_glyph(&self, takes: Takes) -> Option<usize> {
+        self.glyphs().iter().position(|glyph| !takes.takes(glyph))
     }
 
-    #[cold]
-    fn wrong_glyph(&self, takes: Takes) -> Error {
-        let mut glyphs = self.glyphs().iter();
-        let is_none = |glyph: &Glyph| u32::from(glyph.general_category) >= CATEGORIES;
-        if let Some(index) = glyphs.position(is_none) {
-            return Error::argument_at(Argument::GeneralCategory, index);
-        }
-        let mut glyphs = self.glyphs().iter();
-        let index = glyphs.position(|glyph| glyph.codepoint & takes.outside() != 0);
-        Error::argument_at(Argument::Codepoint, index.unwrap_or(0))
-    }
-
-    /// Runs a hook of the crate's, if each general category is one and each codepoint is taken.
+    /// Runs a hook of the crate's, if each glyph is taken.
     #[inline]
     pub fn run<A>(
         &mut self,
         takes: Takes,
         hook: impl FnOnce(&mut Inner) -> Result<A, Error>,
     ) -> Result<A, Error> {
-        if !self.is_known(takes) {
-            return Err(self.wrong_glyph(takes));
+        if let Some(index) = self.wrong_glyph(takes) {
+            return Err(Error::argument_at(Argument::GlyphId, index));
         }
         if self.inner.max_len() != self.max_length {
             self.limit()?;
         }
-        let ended = hook(&mut self.inner);
-        self.first = place_of(&mut self.inner);
-        ended
+        hook(&mut self.inner)
     }
 
     // Holds the crate to the greatest length, if the text isn't longer already.
@@ -263,63 +192,23 @@ impl Text {
     }
 }
 
-// Where a buffer keeps its glyphs, which have categories.
-#[inline]
-fn place_of(inner: &mut Inner) -> *mut Glyph {
-    inner.with_glyphs_mut(|glyphs: &mut [GlyphInfo]| glyphs.as_mut_ptr().cast())
-}
-
 #[cfg(test)]
 mod tests {
     use super::{Takes, Text};
-    use crate::status::Error;
-    use sengadlit::buffer::{BufferSettings, GeneralCategory};
+    use crate::status::{Argument, Error};
+    use sengadlit::buffer::{BufferSettings, GlyphInfo};
 
-    // Writes as C does.
-    fn write(text: &mut Text, index: usize, general_category: u8) {
-        assert!(index < text.len());
+    #[test]
+    fn numbers_above_those_of_glyphs_are_seen() {
+        let mut text = Text::new();
+        text.set_len(3).unwrap();
         // SAFETY: a glyph of the text, which nobody borrows.
-        unsafe { (*text.place().add(index)).general_category = general_category }
-    }
-
-    fn categories(text: &mut Text) -> Result<Vec<GeneralCategory>, Error> {
-        text.run(Takes::Numbers, |inner| {
-            Ok(inner
-                .glyphs()
-                .iter()
-                .map(|glyph| glyph.general_category)
-                .collect())
-        })
-    }
-
-    #[test]
-    fn every_category_is_seen_and_no_other_number() {
-        let mut text = Text::new();
-        text.set_len(1).unwrap();
-        for number in 0..=255 {
-            write(&mut text, 0, number);
-            match GeneralCategory::from_number(number) {
-                Some(category) => assert_eq!(categories(&mut text), Ok(vec![category])),
-                None => assert!(categories(&mut text).is_err()),
-            }
-        }
-    }
-
-    #[test]
-    fn what_is_no_category_stays_where_the_text_grows() {
-        let mut text = Text::new();
+        unsafe { (*text.place().add(2)).glyph_id = 0x1_0000 };
+        let refused = text.run(Takes::GlyphNumbers, |_| Ok(()));
+        assert_eq!(refused, Err(Error::argument_at(Argument::GlyphId, 2)));
+        assert_eq!(text.run(Takes::Numbers, |_| Ok(())), Ok(()));
         text.set_len(2).unwrap();
-        write(&mut text, 0, 7);
-        write(&mut text, 1, 200);
-        text.set_len(100).unwrap();
-        let found: Vec<u8> = text
-            .glyphs()
-            .iter()
-            .map(|glyph| glyph.general_category)
-            .collect();
-        assert_eq!((found.len(), &found[..3]), (100, &[7, 200, 0][..]));
-        text.set_len(1).unwrap();
-        assert_eq!(categories(&mut text), Ok(vec![GeneralCategory::Lo]));
+        assert_eq!(text.run(Takes::GlyphNumbers, |_| Ok(())), Ok(()));
     }
 
     #[test]
@@ -327,14 +216,14 @@ mod tests {
         let mut text = Text::new();
         text.set_len(3).unwrap();
         text.set_properties(&BufferSettings::new(2));
-        assert!(categories(&mut text).is_err());
+        assert!(text.run(Takes::Numbers, |_| Ok(())).is_err());
         text.set_len(2).unwrap();
         assert!(
             text.run(Takes::Numbers, |inner| Ok(inner.grow(1)?))
                 .is_err()
         );
         text.set_len(5).unwrap();
-        assert!(categories(&mut text).is_err());
-        assert_eq!(text.glyphs().len(), 5);
+        assert!(text.run(Takes::Numbers, |_| Ok(())).is_err());
+        assert_eq!(text.glyphs(), [GlyphInfo::DEFAULT; 5]);
     }
 }
