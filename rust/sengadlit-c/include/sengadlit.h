@@ -109,6 +109,8 @@ typedef enum sengadlit_argument_t {
     SENGADLIT_ARGUMENT_RANGE = 8,    /* Places that aren't in order, beyond the text, or too many. */
     SENGADLIT_ARGUMENT_SPANS = 9,    /* Null, or the kind of span `index` is above 15. */
     SENGADLIT_ARGUMENT_GLYPH_ID = 10, /* The hook doesn't accept that of glyph `index`, or a character among the arguments. */
+    SENGADLIT_ARGUMENT_GLYPHS = 11,  /* An array that can't be lent: null, shorter than the text, or the buffer has one already or
+                                        is a lookup's; or none was lent. */
     SENGADLIT_ARGUMENT_POSITIONS = 12, /* There are positions where the hook takes none, or none where it needs them. */
     SENGADLIT_ARGUMENT_DIRECTION = 13,
     SENGADLIT_ARGUMENT_CLUSTER_LEVEL = 14,
@@ -671,6 +673,39 @@ sengadlit_glyph_info_t *sengadlit_buffer_get_glyph_infos(sengadlit_buffer_t *buf
    they are there, sengadlit_postprocess_glyphs is the only hook that takes the buffer. */
 sengadlit_glyph_position_t *sengadlit_buffer_get_glyph_positions(sengadlit_buffer_t *buffer, unsigned int *length);
 
+/* ---- Glyphs in an array of the caller's ---- */
+
+/* Makes room in the array that a buffer is lent for at least `wanted` glyphs, as realloc does: the first ones stay, and where
+   the array moves its old place is gone. Returns its place and sets `allocated`, which is the room that it had, to the room that
+   it has; or returns null, and all is as it was. Texts grow by a few glyphs at a time, so that more room than is wanted is well
+   spent. */
+typedef sengadlit_glyph_info_t *(*sengadlit_grow_func_t)(void *user_data, sengadlit_glyph_info_t *glyphs, unsigned int wanted,
+                                                         unsigned int *allocated);
+/* Sets what makes room in the arrays that the buffer is lent from now on; it stays until it is set again. It runs within calls,
+   as every callback. Null, as in a new buffer: arrays don't grow. MEMORY. ARGUMENT: GLYPHS, and for a null buffer. */
+sengadlit_status_t sengadlit_buffer_set_grow_func(sengadlit_buffer_t *buffer, sengadlit_grow_func_t grow, void *user_data);
+
+/* Lends an array to the buffer, in the place of glyphs of its own: the first `length` of its `allocated` glyphs are the text, and
+   nothing is copied. All calls work in the array until it is given back: they read and write it there, and
+   sengadlit_buffer_get_glyph_infos returns its place. Between calls it may be written, and mustn't move. A text, its positions
+   and memory for its glyphs that the buffer had are gone; properties, contexts and the state stay. There is room then for all that
+   reorderings take, so that only what makes the text longer, and spans, may be refused MEMORY.
+   - A text that outgrows the array moves into a longer one by the function of sengadlit_buffer_set_grow_func. Where that refuses,
+     the call returns MEMORY, and text, length and array are as they were. Without a function the text goes on in a list of the
+     buffer's, and after a call in which it fits the array again it is in that.
+   - What stands behind the text in the array is anything; nothing behind `allocated` glyphs is touched.
+   - After SENGADLIT_INTERNAL the array is lent still, with a text of length 0, and what stands in it is anything.
+   - After a jump out of a callback the array is the caller's, and what stands in it is anything.
+   - sengadlit_buffer_destroy gives nothing back: the array is the caller's, with what the last call left.
+   `glyphs` may be null if `allocated` is 0. ARGUMENT: GLYPHS, and for a null buffer; MEMORY, and nothing was lent then. */
+sengadlit_status_t sengadlit_buffer_lend(sengadlit_buffer_t *buffer, sengadlit_glyph_info_t *glyphs, unsigned int length,
+                                         unsigned int allocated);
+/* Ends that: returns the array, in the place to which it may have moved, and writes the length of the text and the room of the
+   array, which the buffer knows no more; it has no text then, and no positions. Where the text was too long for an array that
+   doesn't grow, the glyphs of the buffer are returned instead, until the next call that is given it, and `allocated` is 0. Both
+   pointers may be null. Null is returned for ARGUMENT: GLYPHS, and for a null buffer; IN_CALL. */
+sengadlit_glyph_info_t *sengadlit_buffer_give_back(sengadlit_buffer_t *buffer, unsigned int *length, unsigned int *allocated);
+
 /* Adds characters to the text: those of the item of `item_length` units (bytes, 16 or 32 bits) that begins at `item_offset`
    in `text`, which has `text_length` units. With -1 as `text_length` the text ends before its first zero, and with -1 as
    `item_length` the item ends where the text does. As hb_buffer_add_utf8, _utf16 and _utf32:
@@ -841,9 +876,9 @@ typedef struct sengadlit_span_t {
 
 /* The syllables of the text by the grammar of Indic, Khmer, Myanmar or universal, for the pause that sets them up: in order,
    they cover the text; there are none for other shapers. `length` gets their number, unless it is null. They are found by
-   category, as sengadlit_setup_masks writes it. The pointer isn't null where there are none, and holds until this function is
-   called again with the buffer, or the buffer is destroyed. Null is returned for ARGUMENT: SHAPER, and for a null buffer;
-   TOO_LONG; IN_CALL; and MEMORY, where the buffer never had so many syllables. */
+   category, as sengadlit_setup_masks writes it. The pointer isn't null where there are none, and holds until this function or
+   sengadlit_setup_syllables_written is called with the buffer, or the buffer is destroyed. Null is returned for ARGUMENT:
+   SHAPER, and for a null buffer; TOO_LONG; IN_CALL; and MEMORY, where the buffer never had so many syllables. */
 const sengadlit_span_t *sengadlit_spans(sengadlit_shaper_t shaper, sengadlit_buffer_t *buffer, unsigned int *length);
 
 /* Does what a shaper does between two stages of GSUB.
@@ -866,6 +901,12 @@ sengadlit_status_t sengadlit_run_pause(const sengadlit_plan_t *plan, sengadlit_p
    ABSENT (and nothing changes): another pause, which sengadlit_run_pause runs. ARGUMENT: PAUSE. */
 sengadlit_status_t sengadlit_setup_syllables_found(const sengadlit_plan_t *plan, sengadlit_pause_t pause,
                                                    sengadlit_buffer_t *buffer);
+
+/* The same on the syllables that stand in the text already: glyphs beside each other with the same `syllable` are one, of the
+   kind in its low four bits, as HarfBuzz's machines write them (but for Myanmar's kinds). They are numbered anew. MEMORY, where
+   the buffer never had so many. */
+sengadlit_status_t sengadlit_setup_syllables_written(const sengadlit_plan_t *plan, sengadlit_pause_t pause,
+                                                     sengadlit_buffer_t *buffer);
 
 /* After positioning: where the state has HAS_STCH, stretches marks over the words beside them (Arabic). Wants the glyphs in
    visual order, from left to right, as HarfBuzz calls it, which has reversed a text of direction RTL by then: in the order of

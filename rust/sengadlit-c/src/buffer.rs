@@ -105,7 +105,7 @@ impl Buffer {
     #[inline]
     pub fn set_length(&mut self, length: usize) -> Result<(), Error> {
         self.text.set_len(length)?;
-        self.positions.clear();
+        self.clear_positions();
         Ok(())
     }
 
@@ -144,6 +144,28 @@ impl Buffer {
         Ok(spans.as_slice())
     }
 
+    /// Runs a hook on the syllables that the glyphs' bytes tell of.
+    #[inline]
+    pub fn run_on_written<A>(
+        &mut self,
+        hook: impl FnOnce(&[Span], &mut Inner) -> Result<A, Error>,
+    ) -> Result<A, Error> {
+        self.spans.clear();
+        let mut glyphs = self.text.glyphs();
+        while let [GlyphInfo { syllable, .. }, ..] = *glyphs {
+            let others = glyphs.iter().position(|glyph| glyph.syllable != syllable);
+            let len = others.unwrap_or(glyphs.len());
+            let kind = syllable & 0x0F;
+            let pushed = self.spans.push(Span { len, kind });
+            pushed.map_err(|_| Error::MEMORY)?;
+            glyphs = &glyphs[len..];
+        }
+        let spans = replace(&mut self.spans, List::new(Global));
+        let ended = self.run(Takes::Numbers, |inner| hook(spans.as_slice(), inner));
+        self.spans = spans;
+        ended
+    }
+
     /// Where a caret may stand in the text, whose glyphs are in the order in which they are drawn.
     pub fn find_stops(&mut self, direction: Direction) -> Result<&[u32], Error> {
         let stops = &mut self.stops;
@@ -160,6 +182,20 @@ impl Buffer {
                 .resize(self.text.len(), GlyphPosition::ZERO)?;
         }
         Ok(self.positions.as_mut_slice())
+    }
+
+    /// Removes the positions.
+    #[inline]
+    pub fn clear_positions(&mut self) {
+        self.positions.clear();
+    }
+
+    /// Ends the loan of an array of C's, as [`Text::take_array`] does; no position stays.
+    #[inline]
+    pub fn take_array(&mut self) -> Result<(*mut GlyphInfo, usize, usize), Error> {
+        let found = self.text.take_array()?;
+        self.clear_positions();
+        Ok(found)
     }
 
     /// Takes all properties, or none.

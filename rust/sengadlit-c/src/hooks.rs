@@ -166,6 +166,32 @@ pub fn setup_syllables_found(
     Ok(done_if(done))
 }
 
+/// `sengadlit_setup_syllables_written`.
+#[inline]
+pub fn setup_syllables_written(
+    plan: &Plan,
+    pause: u32,
+    buffer: &mut Buffer,
+) -> Result<Status, Error> {
+    let pause = pause_of(plan, pause)?;
+    if !sets_up_syllables(pause) {
+        return Ok(Status::Absent);
+    }
+    let font = Asked::font(None, 0)?;
+    buffer.run_on_written(|spans, inner| Ok(run(pause, &plan.inner, &font, spans, inner)?))?;
+    Ok(Status::Done)
+}
+
+fn sets_up_syllables(pause: Pause) -> bool {
+    matches!(
+        pause,
+        Pause::SetupSyllablesIndic
+            | Pause::SetupSyllablesKhmer
+            | Pause::SetupSyllablesMyanmar
+            | Pause::SetupSyllablesUse
+    )
+}
+
 // The pause of this number, if the plan's shaper has it.
 #[inline]
 fn pause_of(plan: &Plan, number: u32) -> Result<Pause, Error> {

@@ -193,6 +193,10 @@ static sengadlit_plan_t *make_plan(unsigned int *destroyed)
 
 /* ---- Texts ---- */
 
+/* The array that is lent, if any, to a buffer that makes it grow, or keeps what it has no room for. */
+static sengadlit_glyph_info_t *array;
+static int is_lent, grows;
+
 static void write_glyph(sengadlit_glyph_info_t *glyph, uint32_t cluster)
 {
     uint8_t kind = next();
@@ -231,6 +235,7 @@ static void add_text(sengadlit_buffer_t *buffer)
     default: status = sengadlit_buffer_add_utf32(buffer, wide, MOST, start, item);
     }
     const sengadlit_glyph_info_t *glyphs = sengadlit_buffer_get_glyph_infos(buffer, &length);
+    if (status == SENGADLIT_MEMORY && is_lent) return;
     if (status != SENGADLIT_DONE || length < before || length - before > (unsigned int)item) abort();
     for (unsigned int i = before; i < length; i++)
         if (glyphs[i].cluster < start || glyphs[i].cluster >= start + (unsigned int)item || glyphs[i].glyph_id > 0x10FFFF ||
@@ -243,7 +248,8 @@ static void write_text(sengadlit_buffer_t *buffer)
     unsigned int length = next() % (MOST + 1);
     sengadlit_glyph_info_t *glyphs = sengadlit_buffer_set_length(buffer, length);
 
-    if (!glyphs) abort();
+    if (!glyphs && !is_lent) abort();
+    if (!glyphs) return;
     for (unsigned int i = 0; i < length; i++) write_glyph(&glyphs[i], i);
     if (next() % 4 == 1) add_text(buffer);
 }
@@ -295,7 +301,11 @@ static sengadlit_status_t run_found(const sengadlit_plan_t *plan, sengadlit_buff
     sengadlit_pause_t pause = (sengadlit_pause_t)(next() % 5);
     unsigned int length;
 
-    if (next() & 1) return sengadlit_setup_syllables_found(plan, pause, buffer);
+    switch (next() % 3) {
+    case 0: return sengadlit_setup_syllables_found(plan, pause, buffer);
+    case 1: return sengadlit_setup_syllables_written(plan, pause, buffer);
+    default: break;
+    }
     const sengadlit_span_t *spans = sengadlit_spans((sengadlit_shaper_t)shaper_number, buffer, &length);
     if (!spans) return sengadlit_setup_syllables_found(plan, pause, buffer);
     return sengadlit_run_pause(plan, pause, &font, spans, length, buffer, NULL);
@@ -569,6 +579,57 @@ static void call_others(sengadlit_plan_t *plan)
     sengadlit_plan_destroy(sengadlit_plan_reference(plan));
 }
 
+static sengadlit_glyph_info_t *grow(void *user_data, sengadlit_glyph_info_t *glyphs, unsigned int wanted,
+                                    unsigned int *allocated)
+{
+    sengadlit_glyph_info_t *moved;
+
+    if (sengadlit_buffer_get_glyph_infos(user_data, NULL) || wanted <= *allocated) abort();
+    if (wanted > ROOM || next() == 7) return NULL;
+    moved = malloc(wanted * sizeof *moved);
+    if (!moved) abort();
+    if (*allocated != 0) memcpy(moved, glyphs, *allocated * sizeof *moved);
+    free(array);
+    *allocated = wanted;
+    return array = moved;
+}
+
+static void lend(sengadlit_buffer_t *buffer)
+{
+    unsigned int length, room;
+    const sengadlit_glyph_info_t *glyphs = sengadlit_buffer_get_glyph_infos(buffer, &length);
+
+    if (is_lent || length > ROOM) return;
+    room = length + next() % 4;
+    array = room == 0 ? NULL : malloc(room * sizeof *array);
+    if (room != 0) memcpy(array, glyphs, length * sizeof *array);
+    grows = next() & 1;
+    if (sengadlit_buffer_set_grow_func(buffer, grows ? grow : NULL, buffer) != SENGADLIT_DONE ||
+        sengadlit_buffer_lend(buffer, array, length, room) != SENGADLIT_DONE ||
+        sengadlit_buffer_lend(buffer, array, length, room) != SENGADLIT_ARGUMENT)
+        abort();
+    is_lent = 1;
+}
+
+/* Takes the array back, and copies the text into the buffer again. */
+static void take_back(sengadlit_buffer_t *buffer)
+{
+    static sengadlit_glyph_info_t copy[ROOM];
+    unsigned int length, allocated;
+    const sengadlit_glyph_info_t *given = sengadlit_buffer_give_back(buffer, &length, &allocated);
+
+    if ((given != NULL) != is_lent) abort();
+    if (!is_lent) return;
+    if (grows && (given != array && array != NULL)) abort();
+    if (length > allocated && (grows || allocated != 0)) abort();
+    if (length > ROOM) length = ROOM;
+    memcpy(copy, given, length * sizeof *given);
+    free(array);
+    array = NULL;
+    is_lent = 0;
+    memcpy(sengadlit_buffer_set_length(buffer, length), copy, length * sizeof *copy);
+}
+
 /* Another text, in a buffer that may have been cleared. */
 static void begin_another(sengadlit_buffer_t *buffer)
 {
@@ -603,11 +664,18 @@ int LLVMFuzzerTestOneInput(const uint8_t *data, size_t size)
     write_text(buffer);
     for (unsigned int i = 0; i < CALLS && left != 0; i++) {
         if (next() % 16 == 1) begin_another(buffer);
+        if (next() % 4 == 1) lend(buffer);
         make_call(plan, buffer);
+        if (next() % 8 == 1) take_back(buffer);
     }
     begin_another(buffer);
+    lend(buffer);
     shape_whole(buffer);
+    if (next() & 1) take_back(buffer);
     sengadlit_buffer_destroy(buffer);
+    free(array);
+    array = NULL;
+    is_lent = 0;
     sengadlit_plan_destroy(plan);
     if (destroyed != 1) abort();
     return 0;

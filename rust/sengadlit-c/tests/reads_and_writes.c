@@ -1,7 +1,7 @@
 /* The header's list of what each hook reads and writes of a glyph, tried on random texts. Two texts that differ in what isn't
    read have equal results; what isn't written stays. And the list says no more than is true: texts that differ in one field
    that is read have, now and then, other results, and each field that is written changes now and then. listed.h is made of the
-   header by listed.awk. The first argument is the number of rounds of each row; few ones don't test the latter. The last line
+   header by listed.awk. The second text of a pair is lent, the first one copied. The first argument is the number of rounds of each row; few ones don't test the latter. The last line
    is 'N passed, M failed'. */
 #include <sengadlit.h>
 
@@ -383,23 +383,62 @@ static sengadlit_status_t run(const struct call *call, const sengadlit_plan_t *p
     }
 }
 
+static sengadlit_glyph_info_t *grow(void *user_data, sengadlit_glyph_info_t *glyphs, unsigned int wanted,
+                                    unsigned int *allocated)
+{
+    (void)user_data;
+    *allocated = wanted;
+    return realloc(glyphs, wanted * sizeof *glyphs);
+}
+
+/* Gives a buffer the text, as a copy or lent. */
+static void give(sengadlit_buffer_t *buffer, const struct text *text, int is_lent)
+{
+    const size_t size = text->length * sizeof *text->glyphs;
+    sengadlit_glyph_info_t *array;
+
+    if (!is_lent) {
+        memcpy(sengadlit_buffer_set_length(buffer, text->length), text->glyphs, size);
+        return;
+    }
+    array = malloc(size);
+    memcpy(array, text->glyphs, size);
+    if (sengadlit_buffer_set_grow_func(buffer, grow, NULL) != SENGADLIT_DONE ||
+        sengadlit_buffer_lend(buffer, array, text->length, text->length) != SENGADLIT_DONE)
+        exit(EXIT_FAILURE);
+}
+
+/* Takes the glyphs, and the array if it is lent. */
+static void take(sengadlit_buffer_t *buffer, struct text *text, int is_lent)
+{
+    unsigned int allocated = ROOM;
+    sengadlit_glyph_info_t *made = is_lent ? sengadlit_buffer_give_back(buffer, &text->length, &allocated)
+                                           : sengadlit_buffer_get_glyph_infos(buffer, &text->length);
+
+    if (text->length > ROOM || text->length > allocated) exit(EXIT_FAILURE);
+    memcpy(text->glyphs, made, text->length * sizeof *made);
+    if (is_lent && allocated != 0) free(made);
+}
+
 /* Makes a call on a text, which is then what the call made of it. */
 static void shape(const struct call *call, const sengadlit_plan_t *plan, const sengadlit_buffer_properties_t *properties,
-                  uint32_t range, struct text *text)
+                  uint32_t range, struct text *text, int is_lent)
 {
     sengadlit_buffer_t *buffer = sengadlit_buffer_create();
-    const sengadlit_glyph_info_t *made;
+    const sengadlit_glyph_position_t *positions;
+    unsigned int length;
 
     if (sengadlit_buffer_set_properties(buffer, properties) != SENGADLIT_DONE) exit(EXIT_FAILURE);
-    memcpy(sengadlit_buffer_set_length(buffer, text->length), text->glyphs, text->length * sizeof *text->glyphs);
+    give(buffer, text, is_lent);
     sengadlit_buffer_set_state(buffer, text->state);
     text->status = run(call, plan, buffer, text, range);
-    made = sengadlit_buffer_get_glyph_infos(buffer, &text->length);
-    if (text->length > ROOM) exit(EXIT_FAILURE);
-    memcpy(text->glyphs, made, text->length * sizeof *made);
-    if (call->kind == POSTPROCESS)
-        memcpy(text->positions, sengadlit_buffer_get_glyph_positions(buffer, NULL), text->length * sizeof *text->positions);
+    if (call->kind == POSTPROCESS) {
+        positions = sengadlit_buffer_get_glyph_positions(buffer, &length);
+        if (length > ROOM) exit(EXIT_FAILURE);
+        memcpy(text->positions, positions, length * sizeof *positions);
+    }
     text->state = sengadlit_buffer_get_state(buffer);
+    take(buffer, text, is_lent);
     sengadlit_buffer_destroy(buffer);
 }
 
@@ -514,8 +553,8 @@ static void shape_both(const struct call *call, const sengadlit_plan_t *plan)
 
     first_made = first;
     second_made = second;
-    shape(call, plan, &properties, range, &first_made);
-    shape(call, plan, &properties, range, &second_made);
+    shape(call, plan, &properties, range, &first_made, 0);
+    shape(call, plan, &properties, range, &second_made, 1);
 }
 
 /* One round of a row: whether all is as it is listed. */

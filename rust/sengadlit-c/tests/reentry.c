@@ -25,7 +25,11 @@ static void check(const char *what, int holds)
 enum callback {
     NOMINAL_GLYPH, GLYPH_H_ADVANCE, WOULD_SUBSTITUTE, HAS_FEATURE, JOINING_TYPE, GENERAL_CATEGORY, INDIC_CATEGORIES, USE_CATEGORY,
     COMPOSE, DECOMPOSE, ADD_FEATURE, ADD_GSUB_PAUSE, DESTROY, VARIATION_GLYPH, GLYPH_PROPS, SUBSTITUTE, IS_MARK, POSITION,
-    FINISH_POSITIONS, GLYPH_V_ADVANCE, GLYPH_V_ORIGIN, CALLBACKS
+    FINISH_POSITIONS, GLYPH_V_ADVANCE, GLYPH_V_ORIGIN,
+#ifdef LENT
+    GROWTH,
+#endif
+    CALLBACKS
 };
 
 static sengadlit_font_funcs_t font_funcs;
@@ -222,6 +226,10 @@ struct scene {
     int is_on_buffer;
 };
 
+#ifdef LENT
+static void meet_growth(void) { meet(GROWTH); }
+#endif
+
 static void begin(sengadlit_shaper_t shaper, sengadlit_tag_t script, uint32_t codepoint)
 {
     static const sengadlit_font_funcs_t font = {nominal_glyph, glyph_h_advance, would_substitute, has_feature};
@@ -233,6 +241,9 @@ static void begin(sengadlit_shaper_t shaper, sengadlit_tag_t script, uint32_t co
     tables_funcs = world.tables_funcs;
     world.font_funcs = font;
     world.tables_funcs = tables;
+#ifdef LENT
+    world.at_growth = meet_growth;
+#endif
 }
 
 static sengadlit_status_t preprocess(void) { return sengadlit_preprocess_text(world.plan, &world.font, world.buffer, NULL); }
@@ -465,6 +476,24 @@ static void set_up_found(void)
     expect_status(sengadlit_setup_syllables_found(world.plan, SENGADLIT_PAUSE_SETUP_SYLLABLES_KHMER, world.buffer));
 }
 
+static void set_up_written(void)
+{
+    expect_status(sengadlit_setup_syllables_written(world.plan, SENGADLIT_PAUSE_SETUP_SYLLABLES_KHMER, world.buffer));
+}
+
+static void lend(void) { expect_status(sengadlit_buffer_lend(world.buffer, NULL, 0, 0)); }
+static void set_grow_func(void) { expect_status(sengadlit_buffer_set_grow_func(world.buffer, NULL, NULL)); }
+
+static void give_back(void)
+{
+    unsigned int length = 77, allocated = 77;
+    const sengadlit_glyph_info_t *given = sengadlit_buffer_give_back(world.buffer, &length, &allocated);
+    sengadlit_error_t error;
+
+    sengadlit_buffer_get_error(world.buffer, &error);
+    expect(given == NULL && error.status == SENGADLIT_IN_CALL && length == 77 && allocated == 77);
+}
+
 static void stop_carets(void) { expect(sengadlit_caret_stops(world.buffer, SENGADLIT_DIRECTION_LTR, NULL) == NULL); }
 static void merge_clusters(void) { expect_status(sengadlit_buffer_merge_clusters(world.buffer, 0, 1)); }
 static void flag_unsafe_to_break(void) { expect_status(sengadlit_buffer_unsafe_to_break(world.buffer, 0, 1)); }
@@ -511,6 +540,10 @@ static const struct intruder {
     {"postprocess_glyphs", call_postprocess, 0},
     {"spans", find_spans, 0},
     {"setup_syllables_found", set_up_found, 0},
+    {"setup_syllables_written", set_up_written, 0},
+    {"lend", lend, 0},
+    {"set_grow_func", set_grow_func, 0},
+    {"give_back", give_back, 0},
     {"caret_stops", stop_carets, 0},
     {"merge_clusters", merge_clusters, 0},
     {"unsafe_to_break", flag_unsafe_to_break, 0},

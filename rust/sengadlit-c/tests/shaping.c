@@ -535,6 +535,9 @@ static sengadlit_bool_t use_all(const sengadlit_lookup_t *lookup, sengadlit_buff
     check("properties", sengadlit_buffer_set_properties(buffer, &properties) == SENGADLIT_DONE);
     check("state", (sengadlit_buffer_set_state(buffer, 3), sengadlit_buffer_get_state(buffer) == 3));
     check("positions", sengadlit_buffer_get_glyph_positions(buffer, &length) != NULL && length == 3);
+    check("no array", sengadlit_buffer_lend(buffer, NULL, 0, 0) == SENGADLIT_ARGUMENT);
+    check("no array", sengadlit_buffer_set_grow_func(buffer, NULL, NULL) == SENGADLIT_ARGUMENT);
+    check("no array", sengadlit_buffer_give_back(buffer, NULL, NULL) == NULL);
     check("glyphs", sengadlit_buffer_get_glyph_infos(buffer, &length) != NULL && length == 3);
     return count_up(lookup, buffer);
 }

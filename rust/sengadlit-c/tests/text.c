@@ -290,6 +290,15 @@ static void syllables(void)
     check("the same bytes", found[0].syllable == 0x12 && found[1].syllable == 0x21 && found[4].syllable == 0x30);
     check("the same state", sengadlit_buffer_get_state(buffer) == SENGADLIT_BUFFER_STATE_HAS_BROKEN_SYLLABLE);
     check("no set-up", sengadlit_setup_syllables_found(plan, SENGADLIT_PAUSE_REORDER_KHMER, buffer) == SENGADLIT_ABSENT);
+    found[0].syllable = 0x52;
+    found[1].syllable = 0xA1;
+    found[2].syllable = found[3].syllable = found[4].syllable = 0xF0;
+    sengadlit_buffer_set_state(buffer, 0);
+    check("as written", sengadlit_setup_syllables_written(plan, pause, buffer) == SENGADLIT_DONE);
+    found = glyphs(&length);
+    check("the same bytes", found[0].syllable == 0x12 && found[1].syllable == 0x21 && found[4].syllable == 0x30);
+    check("the same state", sengadlit_buffer_get_state(buffer) == SENGADLIT_BUFFER_STATE_HAS_BROKEN_SYLLABLE);
+    check("no set-up", sengadlit_setup_syllables_written(plan, SENGADLIT_PAUSE_REORDER_KHMER, buffer) == SENGADLIT_ABSENT);
     length = 77;
     check("no grammar", sengadlit_spans(SENGADLIT_SHAPER_THAI, buffer, &length) != NULL && length == 0);
     begin();
@@ -311,8 +320,12 @@ static void syllables_that_are_none(void)
     expect_refused("a pause of others", sengadlit_setup_syllables_found(plan, other, buffer), SENGADLIT_ARGUMENT_PAUSE);
     expect_refused("no pause", sengadlit_setup_syllables_found(plan, SENGADLIT_PAUSE_NONE, buffer), SENGADLIT_ARGUMENT_PAUSE);
     check("no buffer", sengadlit_setup_syllables_found(plan, khmer, NULL) == SENGADLIT_ARGUMENT);
+    expect_refused("no plan", sengadlit_setup_syllables_written(NULL, khmer, buffer), SENGADLIT_ARGUMENT_PLAN);
+    expect_refused("a pause of others", sengadlit_setup_syllables_written(plan, other, buffer), SENGADLIT_ARGUMENT_PAUSE);
+    check("no buffer", sengadlit_setup_syllables_written(plan, khmer, NULL) == SENGADLIT_ARGUMENT);
     (void)sengadlit_buffer_get_glyph_positions(buffer, NULL);
     expect_refused("positions", sengadlit_setup_syllables_found(plan, khmer, buffer), SENGADLIT_ARGUMENT_POSITIONS);
+    expect_refused("positions", sengadlit_setup_syllables_written(plan, khmer, buffer), SENGADLIT_ARGUMENT_POSITIONS);
     sengadlit_plan_destroy(plan);
 }
 

@@ -146,6 +146,36 @@ static int create_objects(sengadlit_shaper_t shaper, sengadlit_tag_t script, uns
            is_there(sengadlit_buffer_set_length(world.buffer, length), "sengadlit_buffer_set_length");
 }
 
+/* The array that the buffer is lent. */
+static sengadlit_glyph_info_t *array;
+
+#ifdef LENT
+static sengadlit_glyph_info_t *grow(void *user_data, sengadlit_glyph_info_t *old, unsigned int wanted, unsigned int *allocated)
+{
+    sengadlit_glyph_info_t *moved = malloc(wanted * sizeof *moved);
+
+    if (user_data != &world || moved == NULL)
+        exit(EXIT_FAILURE);
+    if (old != array && *allocated != 0)
+        exit(EXIT_FAILURE);
+    if (world.at_growth)
+        world.at_growth();
+    if (*allocated != 0)
+        memcpy(moved, old, *allocated * sizeof *moved);
+    free(array);
+    *allocated = wanted;
+    return array = moved;
+}
+
+static void lend_text(unsigned int length)
+{
+    array = length == 0 ? NULL : calloc(length, sizeof *array);
+    if (sengadlit_buffer_set_grow_func(world.buffer, grow, &world) != SENGADLIT_DONE ||
+        sengadlit_buffer_lend(world.buffer, array, length, length) != SENGADLIT_DONE)
+        exit(EXIT_FAILURE);
+}
+#endif
+
 void begin_world(sengadlit_shaper_t shaper, sengadlit_tag_t script, uint32_t codepoint, unsigned int length)
 {
     end_world();
@@ -154,6 +184,9 @@ void begin_world(sengadlit_shaper_t shaper, sengadlit_tag_t script, uint32_t cod
         if (!create_objects(shaper, script, length))
             exit(EXIT_FAILURE);
     }
+#ifdef LENT
+    lend_text(length);
+#endif
     set_answers();
     world.properties.script = script;
     world.properties.direction = SENGADLIT_DIRECTION_LTR;
@@ -181,6 +214,8 @@ void end_world(void)
 {
     sengadlit_buffer_destroy(world.buffer);
     sengadlit_plan_destroy(world.plan);
+    free(array);
+    array = NULL;
     memset(&world, 0, sizeof world);
 }
 

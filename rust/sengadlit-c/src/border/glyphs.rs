@@ -1,8 +1,12 @@
 //! The glyphs of a buffer: C reads and writes them between calls, and the crate during one. They are the crate's own structs,
-//! of which any bytes are valid.
+//! of which any bytes are valid. They stand in a list of the buffer's, or in an array that C lends.
+use super::arrays::{Array, Grow};
+use super::plans::UserData;
 use crate::status::{Argument, Error};
-use sengadlit::alloc::Global;
-use sengadlit::buffer::{Buffer as Inner, BufferSettings, Direction, GlyphInfo, ShaperError};
+use sengadlit::alloc::{Global, Vec as List};
+use sengadlit::buffer::{
+    Buffer as Inner, BufferSettings, Direction, GlyphInfo, GlyphRewriting, ShaperError,
+};
 
 /// The greatest length of a text for which none is set.
 pub const MAX_LENGTH: usize = u32::MAX as usize;
@@ -29,8 +33,11 @@ impl Takes {
 
 /// The glyphs and their settings.
 pub struct Text {
+    // (before the array, so that its lists are dropped first)
     inner: Inner,
     max_length: usize,
+    // What C lends; none before it first does.
+    array: Option<Array>,
 }
 
 impl Text {
@@ -39,18 +46,22 @@ impl Text {
         Text {
             inner: Inner::new(Global, MAX_LENGTH),
             max_length: MAX_LENGTH,
+            array: None,
         }
     }
 
     /// An empty text with the settings of this one, whose glyphs a panic left in any state.
     #[cold]
     pub fn recover(&mut self) {
+        self.renew();
+        self.set_state(false, false);
+        self.settle();
+    }
+
+    // Drops the lists.
+    fn renew(&mut self) {
         let mut inner = Inner::new(Global, MAX_LENGTH);
-        inner.set_settings(&BufferSettings {
-            has_broken_syllable: false,
-            has_stch: false,
-            ..self.inner.settings()
-        });
+        inner.set_settings(&self.inner.settings());
         self.inner = inner;
     }
 
@@ -76,6 +87,119 @@ impl Text {
         });
         *text = inner;
         true
+    }
+
+    // The array that C may lend, which is made where there is none.
+    fn array(&mut self) -> Result<&Array, Error> {
+        if self.array.is_none() {
+            self.array = Some(Array::new().ok_or(Error::MEMORY)?);
+        }
+        self.array.as_ref().ok_or(Error::MEMORY)
+    }
+
+    /// Takes the function by which arrays grow that C lends.
+    pub fn set_grow(&mut self, grow: Option<Grow>, user_data: UserData) -> Result<(), Error> {
+        self.array()?.set_grow(grow, user_data);
+        Ok(())
+    }
+
+    /// Works in an array of C's from now on, of which the first glyphs are the text; what it had is gone.
+    ///
+    /// # Safety
+    ///
+    /// If `first` isn't null, there is room for so many glyphs, which are all written, until C takes the array back.
+    #[inline]
+    pub unsafe fn lend_array(
+        &mut self,
+        first: *mut GlyphInfo,
+        length: usize,
+        room: usize,
+    ) -> Result<(), Error> {
+        let is_none = first.is_null() && room != 0;
+        if is_none || length > room || self.is_lent() {
+            return Err(Error::argument(Argument::Glyphs));
+        }
+        if length > self.inner.max_len() {
+            self.inner.set_max_len(length);
+        }
+        let array = self.array()?;
+        array.lend(first, room);
+        // SAFETY: the caller's promise; no list works in an array that wasn't lent. The list is the text's, and is dropped by
+        // `take_array`, or with the text before the array is.
+        let mut list = unsafe { array.list(length) };
+        let ended = self.inner.exchange_glyphs(&mut list);
+        if ended.is_err() {
+            self.array()?.give_back();
+        }
+        Ok(ended?)
+    }
+
+    /// Whether C lends an array.
+    #[inline]
+    pub fn is_lent(&self) -> bool {
+        self.array.as_ref().is_some_and(Array::is_lent)
+    }
+
+    /// Ends the loan: returns where the glyphs are, how many, and the room that they have in C's array. If it hadn't any for
+    /// them, they are the buffer's still.
+    #[inline]
+    pub fn take_array(&mut self) -> Result<(*mut GlyphInfo, usize, usize), Error> {
+        let Some(array) = self.array.as_ref().filter(|array| array.is_lent()) else {
+            return Err(Error::argument(Argument::Glyphs));
+        };
+        array.give_back();
+        let (place, length) = (self.inner.glyphs().as_ptr(), self.inner.len());
+        if place == array.first() {
+            let found = (array.first(), length, array.room());
+            drop(self.inner.take_glyphs());
+            return Ok(found);
+        }
+        if array.is_used() {
+            self.renew_around();
+        }
+        Ok((self.place(), length, 0))
+    }
+
+    // Drops the lists, one of which works in the array still, but for that of the glyphs.
+    #[cold]
+    fn renew_around(&mut self) {
+        let mut glyphs = self.inner.take_glyphs();
+        self.renew();
+        let exchanged = self.inner.exchange_glyphs(&mut glyphs);
+        debug_assert!(exchanged.is_ok());
+    }
+
+    // Brings glyphs into the array that C lends, from where a hook left them, if it has room for them.
+    #[inline]
+    fn settle(&mut self) {
+        if let Some(array) = self.array.as_ref() {
+            if array.is_lent() && self.inner.glyphs().as_ptr() != array.first() {
+                self.move_in();
+            }
+        }
+    }
+
+    #[cold]
+    fn move_in(&mut self) {
+        let Some(array) = self.array.as_ref() else {
+            return;
+        };
+        let length = self.inner.len();
+        self.inner.set_max_len(length.max(self.max_length));
+        if array.is_used() {
+            // (the list in the array is that of spare glyphs, which a rewriting exchanges for that of the text)
+            let moved = self.inner.rewrite(length, &Same);
+            debug_assert!(moved.is_ok());
+        } else if length <= array.room() {
+            // SAFETY: C lends the array, which has the room, and no list works in it. The new one is the text's, as in
+            // `lend_array`.
+            let mut list = unsafe {
+                array.write(self.inner.glyphs());
+                array.list(length)
+            };
+            let moved = self.inner.exchange_glyphs(&mut list);
+            debug_assert!(moved.is_ok());
+        }
     }
 
     /// Removes the glyphs, and what was said of the text.
@@ -117,7 +241,9 @@ impl Text {
         if length > self.inner.max_len() {
             self.inner.set_max_len(length);
         }
-        self.inner.grow(length - self.len())
+        let grown = self.inner.grow(length - self.len());
+        self.settle();
+        grown
     }
 
     /// Takes the direction, script, level, flags and greatest length of these settings.
@@ -178,7 +304,9 @@ impl Text {
         if self.inner.max_len() != self.max_length {
             self.limit()?;
         }
-        hook(&mut self.inner)
+        let ended = hook(&mut self.inner);
+        self.settle();
+        ended
     }
 
     // Holds the crate to the greatest length, if the text isn't longer already.
@@ -189,6 +317,17 @@ impl Text {
         }
         self.inner.set_max_len(self.max_length);
         Ok(())
+    }
+}
+
+// The same glyphs.
+struct Same;
+
+impl GlyphRewriting for Same {
+    fn rewrite(&self, glyphs: &mut [GlyphInfo], to: &mut List<GlyphInfo>) {
+        // (there is room for as many, by contract)
+        let written = to.extend_from_slice(glyphs);
+        debug_assert!(written.is_ok());
     }
 }
 
