@@ -21,13 +21,13 @@ static sengadlit_bool_t substitute(void *user_data, const sengadlit_lookup_t *lo
     sengadlit_glyph_info_t *glyphs = ((void)user_data, sengadlit_buffer_get_glyph_infos(buffer, &length));
 
     for (unsigned int i = 0; i + 1 < length; i++) {
-        if (!(glyphs[i].mask & glyphs[i + 1].mask & lookup->mask) || glyphs[i].codepoint != ligatures[lookup->index].first ||
-            glyphs[i + 1].codepoint != ligatures[lookup->index].second)
+        if (!(glyphs[i].mask & glyphs[i + 1].mask & lookup->mask) || glyphs[i].glyph_id != ligatures[lookup->index].first ||
+            glyphs[i + 1].glyph_id != ligatures[lookup->index].second)
             continue;
         (void)sengadlit_buffer_merge_clusters(buffer, i, i + 2);
         glyphs = sengadlit_buffer_get_glyph_infos(buffer, NULL);
-        glyphs[i].codepoint = ligatures[lookup->index].glyph;
-        glyphs[i].marks |= SENGADLIT_GLYPH_MARK_SUBSTITUTED | SENGADLIT_GLYPH_MARK_LIGATED;
+        glyphs[i].glyph_id = ligatures[lookup->index].glyph;
+        glyphs[i].glyph_props |= SENGADLIT_GLYPH_PROPS_SUBSTITUTED | SENGADLIT_GLYPH_PROPS_LIGATED;
         memmove(&glyphs[i + 1], &glyphs[i + 2], (length - i - 2) * sizeof *glyphs);
         glyphs = sengadlit_buffer_set_length(buffer, --length);
     }
@@ -51,7 +51,7 @@ int main(void)
     const sengadlit_glyph_position_t *positions = sengadlit_buffer_get_glyph_positions(buffer, NULL);
     const sengadlit_glyph_info_t *glyphs = sengadlit_buffer_get_glyph_infos(buffer, &length);
     for (; length > 0; length--, glyphs++, positions++)
-        printf("glyph %04X cluster %u advance %d\n", glyphs->codepoint, glyphs->cluster, positions->x_advance);
+        printf("glyph %04X cluster %u advance %d\n", glyphs->glyph_id, glyphs->cluster, positions->x_advance);
     const uint32_t *stops = sengadlit_caret_stops(buffer, input.direction, &length);
     for (; stops && length > 0; length--) printf("caret at %u\n", *stops++);
     sengadlit_buffer_destroy(buffer);

@@ -35,8 +35,8 @@ int main(void)
     const sengadlit_glyph_info_t *glyphs = sengadlit_buffer_get_glyph_infos(buffer, &length);
     for (unsigned int i = 0; i < length; i++) {
         uint32_t glyph = 0;
-        (void)nominal_glyph(NULL, glyphs[i].codepoint, &glyph);
-        printf("character %04" PRIX32 " glyph %" PRIu32 " cluster %" PRIu32 "\n", glyphs[i].codepoint, glyph,
+        (void)nominal_glyph(NULL, glyphs[i].glyph_id, &glyph);
+        printf("character %04" PRIX32 " glyph %" PRIu32 " cluster %" PRIu32 "\n", glyphs[i].glyph_id, glyph,
                glyphs[i].cluster);
     }
     sengadlit_buffer_destroy(buffer);

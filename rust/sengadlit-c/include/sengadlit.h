@@ -108,8 +108,9 @@ typedef enum sengadlit_argument_t {
     SENGADLIT_ARGUMENT_PAUSE = 7,    /* No pause by this number, or one that the plan's shaper doesn't have. */
     SENGADLIT_ARGUMENT_RANGE = 8,    /* Places that aren't in order, beyond the text, or too many. */
     SENGADLIT_ARGUMENT_SPANS = 9,    /* Null, or the kind of span `index` is above 15. */
-    SENGADLIT_ARGUMENT_CODEPOINT = 10, /* The hook doesn't accept that of glyph `index`, or an argument. */
-    SENGADLIT_ARGUMENT_GENERAL_CATEGORY = 11, /* That of glyph `index` is above 29. */
+    SENGADLIT_ARGUMENT_GLYPH_ID = 10, /* The hook doesn't accept that of glyph `index`, or a character among the arguments. */
+    SENGADLIT_ARGUMENT_GLYPHS = 11,  /* An array that can't be lent: null, shorter than the text, or the buffer has one already or
+                                        is a lookup's; or none was lent. */
     SENGADLIT_ARGUMENT_POSITIONS = 12, /* There are positions where the hook takes none, or none where it needs them. */
     SENGADLIT_ARGUMENT_DIRECTION = 13,
     SENGADLIT_ARGUMENT_CLUSTER_LEVEL = 14,
@@ -523,17 +524,35 @@ enum {
     SENGADLIT_GLYPH_FLAG_DEFINED = 0x07
 };
 
-/* Bits of `marks`: what happened to the glyph in lookups, which the caller notes, and what its character is. */
+/* Bits of `glyph_props`, as HarfBuzz has them. No hook reads or writes those without a name here, nor the class. */
 enum {
-    SENGADLIT_GLYPH_MARK_SUBSTITUTED = 0x01,
-    SENGADLIT_GLYPH_MARK_LIGATED = 0x02,
-    SENGADLIT_GLYPH_MARK_MULTIPLIED = 0x04,
-    SENGADLIT_GLYPH_MARK_IGNORABLE = 0x08,    /* Default_Ignorable_Code_Point. */
-    SENGADLIT_GLYPH_MARK_CONTINUATION = 0x10  /* It continues the grapheme of the one before. */
+    SENGADLIT_GLYPH_PROPS_BASE_GLYPH = 0x02,  /* The class in GDEF. */
+    SENGADLIT_GLYPH_PROPS_LIGATURE = 0x04,
+    SENGADLIT_GLYPH_PROPS_MARK = 0x08,
+    SENGADLIT_GLYPH_PROPS_SUBSTITUTED = 0x10, /* A lookup put the glyph in; */
+    SENGADLIT_GLYPH_PROPS_LIGATED = 0x20,     /* in for several; */
+    SENGADLIT_GLYPH_PROPS_MULTIPLIED = 0x40   /* as one of several for one. */
 };
 
-/* `marks` of what HarfBuzz keeps as glyph_props: SUBSTITUTED, LIGATED, MULTIPLIED. */
-#define SENGADLIT_GLYPH_MARKS_FROM_PROPS(glyph_props) ((uint8_t)((unsigned int)(glyph_props) >> 4 & 0x07))
+/* The component of `lig_props`, as _hb_glyph_info_get_lig_comp: 0 to 15. */
+#define SENGADLIT_LIG_PROPS_COMPONENT(lig_props) (((lig_props) & 0x10) != 0 ? 0u : (lig_props) & 0x0Fu)
+
+/* Bits of `unicode_props`, as HarfBuzz has them. */
+enum {
+    SENGADLIT_UNICODE_PROPS_GENERAL_CATEGORY = 0x1F, /* SENGADLIT_UNICODE_GENERAL_CATEGORY_..; 30 and 31 count as UNASSIGNED. */
+    SENGADLIT_UNICODE_PROPS_IGNORABLE = 0x20,    /* Default_Ignorable_Code_Point. */
+    SENGADLIT_UNICODE_PROPS_HIDDEN = 0x40,       /* Lookups see it, though it is ignorable. No hook reads or writes it. */
+    SENGADLIT_UNICODE_PROPS_CONTINUATION = 0x80, /* It continues the grapheme of the one before. */
+    SENGADLIT_UNICODE_PROPS_HIGH_BYTE = 0xFF00   /* Of a mark (Mc, Me, Mn) its modified combining class. */
+};
+
+/* `unicode_props` of this general category with this high byte, and none of the three bits between. */
+#define SENGADLIT_UNICODE_PROPS(general_category, high_byte) \
+    ((uint16_t)((unsigned int)(general_category) | (unsigned int)(high_byte) << 8))
+/* The general category in `unicode_props`, and the modified combining class, which is 0 unless the character is a mark. */
+#define SENGADLIT_UNICODE_PROPS_GET_GENERAL_CATEGORY(unicode_props) ((uint8_t)((unicode_props) & 0x1F))
+#define SENGADLIT_UNICODE_PROPS_GET_COMBINING_CLASS(unicode_props) \
+    ((uint8_t)((0x1C00u >> ((unicode_props) & 0x1F) & 1u) != 0 ? (unsigned int)(unicode_props) >> 8 : 0u))
 
 /* As hb_unicode_general_category_t. */
 enum {
@@ -569,34 +588,33 @@ enum {
     SENGADLIT_UNICODE_GENERAL_CATEGORY_SPACE_SEPARATOR = 29      /* Zs */
 };
 
-/* A glyph, or before the font's mapping a character: 24 bytes. Each hook below says which fields it reads; the others it
-   carries along with the glyph, so that they may hold anything of the caller's. In a dotted circle that a pause adds, `var`
-   is 0; where a hook makes two glyphs of one, both have what it had. */
+/* A glyph, or before the font's mapping a character: 20 bytes, each where hb_glyph_info_t has it and HarfBuzz's shapers keep
+   it. Each hook below says which fields it reads; the others it carries along with the glyph, so that they may hold anything of
+   the caller's. In a dotted circle that a pause adds they are 0; where a hook makes two glyphs of one, both have what it had. */
 typedef struct sengadlit_glyph_info_t {
-    uint32_t codepoint;              /* A character before the font's mapping, a glyph number after it. */
-    uint32_t cluster;                /* The place in the text that it leads back to. */
+    uint32_t glyph_id;               /* A character before the font's mapping, a glyph number after it. */
     uint32_t mask;                   /* The features that are on, and glyph flags. Before sengadlit_setup_masks: the plan's
                                         global_mask, to which the hooks add bits of features. */
-    uint32_t var;                    /* The caller's own: no hook reads it. */
+    uint32_t cluster;                /* The place in the text that it leads back to. */
+    uint16_t glyph_props;            /* SENGADLIT_GLYPH_PROPS_..: what lookups did to it. */
+    uint8_t lig_props;               /* The ligature that it is or belongs to: SENGADLIT_LIG_PROPS_COMPONENT. */
     uint8_t syllable;                /* A serial in the high four bits, the kind in the low four; 0 in no syllable. */
+    uint16_t unicode_props;          /* SENGADLIT_UNICODE_PROPS_..: what its character is. */
     uint8_t category;                /* ot_shaper_var_u8_category of HarfBuzz. */
     uint8_t auxiliary;               /* ot_shaper_var_u8_auxiliary: a joining form, a jamo's kind or a position. */
-    uint8_t general_category;        /* 0 to 29, at every hook. */
-    uint8_t modified_combining_class; /* As HarfBuzz modifies it. */
-    uint8_t lig_comp;                /* As _hb_glyph_info_get_lig_comp: 0 to 15. */
-    uint8_t marks;                   /* SENGADLIT_GLYPH_MARK_.. */
 } sengadlit_glyph_info_t;
 
 /* The modified combining class of a character in Unicode 17.0, which HarfBuzz sorts marks by: general ones are Unicode's, and
    those of Hebrew, Arabic, Telugu, Thai, Lao and Tibetan are others. 0 for what is no character. */
 uint8_t sengadlit_modified_combining_class(uint32_t unicode);
 
-/* Where a glyph is drawn and how far it moves the pen, in font units: as hb_glyph_position_t, without its `var`. */
+/* Where a glyph is drawn and how far it moves the pen, in font units: 20 bytes, as hb_glyph_position_t. */
 typedef struct sengadlit_glyph_position_t {
     int32_t x_advance;
     int32_t y_advance;
     int32_t x_offset;
     int32_t y_offset;
+    uint32_t var;                    /* What the caller's lookups keep with it: the hooks carry it along. */
 } sengadlit_glyph_position_t;
 
 /* As hb_buffer_cluster_level_t. */
@@ -655,6 +673,39 @@ sengadlit_glyph_info_t *sengadlit_buffer_get_glyph_infos(sengadlit_buffer_t *buf
    they are there, sengadlit_postprocess_glyphs is the only hook that takes the buffer. */
 sengadlit_glyph_position_t *sengadlit_buffer_get_glyph_positions(sengadlit_buffer_t *buffer, unsigned int *length);
 
+/* ---- Glyphs in an array of the caller's ---- */
+
+/* Makes room in the array that a buffer is lent for at least `wanted` glyphs, as realloc does: the first ones stay, and where
+   the array moves its old place is gone. Returns its place and sets `allocated`, which is the room that it had, to the room that
+   it has; or returns null, and all is as it was. Texts grow by a few glyphs at a time, so that more room than is wanted is well
+   spent. */
+typedef sengadlit_glyph_info_t *(*sengadlit_grow_func_t)(void *user_data, sengadlit_glyph_info_t *glyphs, unsigned int wanted,
+                                                         unsigned int *allocated);
+/* Sets what makes room in the arrays that the buffer is lent from now on; it stays until it is set again. It runs within calls,
+   as every callback. Null, as in a new buffer: arrays don't grow. MEMORY. ARGUMENT: GLYPHS, and for a null buffer. */
+sengadlit_status_t sengadlit_buffer_set_grow_func(sengadlit_buffer_t *buffer, sengadlit_grow_func_t grow, void *user_data);
+
+/* Lends an array to the buffer, in the place of glyphs of its own: the first `length` of its `allocated` glyphs are the text, and
+   nothing is copied. All calls work in the array until it is given back: they read and write it there, and
+   sengadlit_buffer_get_glyph_infos returns its place. Between calls it may be written, and mustn't move. A text, its positions
+   and memory for its glyphs that the buffer had are gone; properties, contexts and the state stay. There is room then for all that
+   reorderings take, so that only what makes the text longer, and spans, may be refused MEMORY.
+   - A text that outgrows the array moves into a longer one by the function of sengadlit_buffer_set_grow_func. Where that refuses,
+     the call returns MEMORY, and text, length and array are as they were. Without a function the text goes on in a list of the
+     buffer's, and after a call in which it fits the array again it is in that.
+   - What stands behind the text in the array is anything; nothing behind `allocated` glyphs is touched.
+   - After SENGADLIT_INTERNAL the array is lent still, with a text of length 0, and what stands in it is anything.
+   - After a jump out of a callback the array is the caller's, and what stands in it is anything.
+   - sengadlit_buffer_destroy gives nothing back: the array is the caller's, with what the last call left.
+   `glyphs` may be null if `allocated` is 0. ARGUMENT: GLYPHS, and for a null buffer; MEMORY, and nothing was lent then. */
+sengadlit_status_t sengadlit_buffer_lend(sengadlit_buffer_t *buffer, sengadlit_glyph_info_t *glyphs, unsigned int length,
+                                         unsigned int allocated);
+/* Ends that: returns the array, in the place to which it may have moved, and writes the length of the text and the room of the
+   array, which the buffer knows no more; it has no text then, and no positions. Where the text was too long for an array that
+   doesn't grow, the glyphs of the buffer are returned instead, until the next call that is given it, and `allocated` is 0. Both
+   pointers may be null. Null is returned for ARGUMENT: GLYPHS, and for a null buffer; IN_CALL. */
+sengadlit_glyph_info_t *sengadlit_buffer_give_back(sengadlit_buffer_t *buffer, unsigned int *length, unsigned int *allocated);
+
 /* Adds characters to the text: those of the item of `item_length` units (bytes, 16 or 32 bits) that begins at `item_offset`
    in `text`, which has `text_length` units. With -1 as `text_length` the text ends before its first zero, and with -1 as
    `item_length` the item ends where the text does. As hb_buffer_add_utf8, _utf16 and _utf32:
@@ -663,10 +714,10 @@ sengadlit_glyph_position_t *sengadlit_buffer_get_glyph_positions(sengadlit_buffe
      alone, a number beyond Unicode, each byte of a sequence that is cut short, too long or a surrogate's.
    - The characters after the item, at most five, become the context after the text. Those before it become the context
      before the text if the buffer was empty, and if there are any.
-   general_category, modified_combining_class, SENGADLIT_GLYPH_MARK_IGNORABLE and, for marks (Mn, Mc, Me),
-   SENGADLIT_GLYPH_MARK_CONTINUATION are as in Unicode 17.0; what else continues a grapheme, as in emoji and flags, is the
-   caller's. All else is zero, and there are no positions. `text` may be null if its length is 0. max_length doesn't limit
-   this call, as it doesn't limit sengadlit_buffer_set_length.
+   `unicode_props` has the general category, the modified combining class, IGNORABLE and, for marks (Mn, Mc, Me),
+   CONTINUATION of Unicode 17.0; what else continues a grapheme, as in emoji and flags, is the caller's, and so is
+   the high byte of what is no mark. All else is zero, and there are no positions. `text` may be null if its length is 0.
+   max_length doesn't limit this call, as it doesn't limit sengadlit_buffer_set_length.
    ARGUMENT: TEXT; RANGE: a length below -1, or an item that doesn't lie in the text; and for a null buffer. MEMORY. TOO_LONG:
    the buffer would have, or the text has, more than UINT32_MAX units. */
 sengadlit_status_t sengadlit_buffer_add_utf8(sengadlit_buffer_t *buffer, const char *text, int text_length,
@@ -700,29 +751,30 @@ void sengadlit_buffer_get_error(const sengadlit_buffer_t *buffer, sengadlit_erro
 
 /* ---- Hooks, in the order of a pipeline ---- */
 
-/* All of them: ARGUMENT for PLAN, POSITIONS and GENERAL_CATEGORY besides what each lists, and for a null buffer. An
-   argument is rejected before ABSENT is returned. TOO_LONG: the text is longer than max_length already. MEMORY only where
+/* All of them: ARGUMENT for PLAN and POSITIONS besides what each lists, and for a null buffer. An argument is rejected before
+   ABSENT is returned. TOO_LONG: the text is longer than max_length already. MEMORY only where
    listed. IN_CALL.
 
    The list says for each shaper, or pause, which fields of a glyph are read -> written; (joins) stands for scripts whose
-   letters join (sengadlit_plan_data_t). Besides, `cluster` and the glyph flags of `mask` are read and written where glyphs
+   letters join (sengadlit_plan_data_t), `general_category` and `combining_class` for these parts of `unicode_props`, which
+   itself stands for the bits between them. Besides, `cluster` and the glyph flags of `mask` are read and written where glyphs
    merge or move, or text may not be broken any more. Bits of features are or-ed to those of `mask`, but that
    INITIAL_REORDERING takes `half` from consonants before a ZWNJ, and SETUP_SYLLABLES_USE replaces isol, init, medi and fina
    where letters don't join.
 
-   preprocess_text THAI: codepoint -> codepoint general_category marks
-   preprocess_text HANGUL: codepoint -> codepoint auxiliary
+   preprocess_text THAI: glyph_id -> glyph_id general_category combining_class unicode_props
+   preprocess_text HANGUL: glyph_id -> glyph_id auxiliary
    preprocess_text INDIC: - -> -
    preprocess_text UNIVERSAL: - -> -
-   reorder_marks ARABIC: codepoint modified_combining_class -> modified_combining_class
-   reorder_marks HEBREW: modified_combining_class -> -
-   setup_masks ARABIC: codepoint general_category -> auxiliary mask
+   reorder_marks ARABIC: glyph_id general_category combining_class -> combining_class
+   reorder_marks HEBREW: general_category combining_class -> -
+   setup_masks ARABIC: glyph_id general_category -> auxiliary mask
    setup_masks HANGUL: auxiliary -> mask
-   setup_masks INDIC: codepoint -> category auxiliary
-   setup_masks KHMER: codepoint -> category
-   setup_masks MYANMAR: codepoint -> category
-   setup_masks UNIVERSAL: codepoint -> category
-   setup_masks UNIVERSAL(joins): codepoint general_category -> category auxiliary mask
+   setup_masks INDIC: glyph_id -> category auxiliary
+   setup_masks KHMER: glyph_id -> category
+   setup_masks MYANMAR: glyph_id -> category
+   setup_masks UNIVERSAL: glyph_id -> category
+   setup_masks UNIVERSAL(joins): glyph_id general_category -> category auxiliary mask
    spans INDIC: category -> -
    spans KHMER: category -> -
    spans MYANMAR: category -> -
@@ -732,25 +784,26 @@ void sengadlit_buffer_get_error(const sengadlit_buffer_t *buffer, sengadlit_erro
    run_pause SETUP_SYLLABLES_MYANMAR: - -> syllable
    run_pause SETUP_SYLLABLES_USE: category -> syllable mask
    run_pause SETUP_SYLLABLES_USE(joins): category -> syllable mask
-   run_pause INITIAL_REORDERING: codepoint syllable category auxiliary marks -> mask auxiliary
+   run_pause INITIAL_REORDERING: glyph_id syllable category auxiliary glyph_props -> mask auxiliary
    run_pause REORDER_KHMER: syllable category -> mask
-   run_pause REORDER_MYANMAR: syllable category marks -> auxiliary
-   run_pause REORDER_USE: syllable category marks lig_comp -> -
-   run_pause FINAL_REORDERING: codepoint mask syllable category auxiliary general_category marks -> mask category auxiliary marks
-   run_pause RECORD_STCH: marks lig_comp -> auxiliary
-   run_pause RECORD_RPHF: mask syllable marks -> category
-   run_pause RECORD_PREF: syllable marks -> category
+   run_pause REORDER_MYANMAR: syllable category glyph_props -> auxiliary
+   run_pause REORDER_USE: syllable category glyph_props lig_props -> -
+   run_pause FINAL_REORDERING: glyph_id mask syllable category auxiliary general_category glyph_props
+       -> mask category auxiliary glyph_props
+   run_pause RECORD_STCH: glyph_props lig_props -> auxiliary
+   run_pause RECORD_RPHF: mask syllable glyph_props -> category
+   run_pause RECORD_PREF: syllable glyph_props -> category
    run_pause SYLLABIC_CLEAR_VAR: - -> syllable
-   run_pause CLEAR_SUBSTITUTION_FLAGS: marks -> marks
+   run_pause CLEAR_SUBSTITUTION_FLAGS: glyph_props -> glyph_props
    run_pause ARABIC_FALLBACK_SHAPE: - -> -
-   postprocess_glyphs ARABIC: codepoint auxiliary general_category marks -> -
+   postprocess_glyphs ARABIC: glyph_id auxiliary glyph_props general_category unicode_props -> -
 */
 
-/* Thai: SARA AM is taken apart, of `marks` SENGADLIT_GLYPH_MARK_CONTINUATION is written; and for a plan of the script Thai
-   without found_script marks take the forms of the Private Use Area, which calls nominal_glyph. Hangul: jamo are composed and
-   syllables decomposed as the font has them, and tones reordered, which calls nominal_glyph and glyph_h_advance. Both add,
-   remove and move glyphs. Indic and universal: nothing changes, and `vowel_constraints`, which may be null, is set to 1: the
-   caller has to part vowels from signs with which they would look like another vowel, by dotted circles unless
+/* Thai: SARA AM is taken apart, and of `unicode_props` SENGADLIT_UNICODE_PROPS_CONTINUATION is written; and for a plan of the
+   script Thai without found_script marks take the forms of the Private Use Area, which calls nominal_glyph. Hangul: jamo are
+   composed and syllables decomposed as the font has them, and tones reordered, which calls nominal_glyph and glyph_h_advance.
+   Both add, remove and move glyphs. Indic and universal: nothing changes, and `vowel_constraints`, which may be null, is set to
+   1: the caller has to part vowels from signs with which they would look like another vowel, by dotted circles unless
    DO_NOT_INSERT_DOTTED_CIRCLE is set, as hb_preprocess_text_vowel_constraints. It is set to 0 otherwise, unless the call
    fails. `font` may be null where it isn't called. ARGUMENT: FONT. TOO_LONG, MEMORY. */
 sengadlit_status_t sengadlit_preprocess_text(const sengadlit_plan_t *plan, const sengadlit_font_t *font,
@@ -760,7 +813,7 @@ sengadlit_status_t sengadlit_preprocess_text(const sengadlit_plan_t *plan, const
    the two to `a` and `b`, of which `b` is 0 where the character is another one alone. NOT_FOUND, or ABSENT, where Unicode's own
    composition holds: nothing was written. Calls compose (and for Indic, Khmer and universal general_category), or decompose.
    `tables` may be null.
-   `error` may be null; it is written where anything else is returned. ARGUMENT: PLAN, TABLES, RESULT, or CODEPOINT, which
+   `error` may be null; it is written where anything else is returned. ARGUMENT: PLAN, TABLES, RESULT, or GLYPH_ID: a character
    isn't a scalar value. */
 sengadlit_status_t sengadlit_decompose(const sengadlit_plan_t *plan, const sengadlit_tables_t *tables, uint32_t ab,
                                        uint32_t *a, uint32_t *b, sengadlit_error_t *error);
@@ -768,7 +821,7 @@ sengadlit_status_t sengadlit_compose(const sengadlit_plan_t *plan, const sengadl
                                      uint32_t *ab, sengadlit_error_t *error);
 
 /* Reorders the marks from place `start` to before `end` (Arabic, Hebrew). To be called in normalization, when characters are
-   decomposed and before they are composed again, for each run of characters whose modified_combining_class isn't 0, after they
+   decomposed and before they are composed again, for each run of characters whose combining class isn't 0, after they
    were sorted by it; HarfBuzz leaves runs of more than 32 as they are. ARGUMENT: RANGE, which for Arabic is of at most 32
    places. */
 sengadlit_status_t sengadlit_reorder_marks(const sengadlit_plan_t *plan, sengadlit_buffer_t *buffer, unsigned int start,
@@ -777,7 +830,7 @@ sengadlit_status_t sengadlit_reorder_marks(const sengadlit_plan_t *plan, sengadl
 /* Sets categories, Indic's positions (auxiliary), joining forms (auxiliary) and the masks of features that some glyphs alone
    take. Indic, Khmer and Myanmar call indic_categories, universal use_category. Arabic, and universal where letters join: reads
    the properties and the context, too; calls joining_type, and general_category for the context. `tables` may be null.
-   ARGUMENT: TABLES; CODEPOINT: where letters join, not a scalar value. */
+   ARGUMENT: TABLES; GLYPH_ID: where letters join, not a scalar value. */
 sengadlit_status_t sengadlit_setup_masks(const sengadlit_plan_t *plan, const sengadlit_tables_t *tables,
                                          sengadlit_buffer_t *buffer);
 
@@ -823,23 +876,23 @@ typedef struct sengadlit_span_t {
 
 /* The syllables of the text by the grammar of Indic, Khmer, Myanmar or universal, for the pause that sets them up: in order,
    they cover the text; there are none for other shapers. `length` gets their number, unless it is null. They are found by
-   category, as sengadlit_setup_masks writes it. The pointer isn't null where there are none, and holds until this function is
-   called again with the buffer, or the buffer is destroyed. Null is returned for ARGUMENT: SHAPER, GENERAL_CATEGORY, and for a
-   null buffer; TOO_LONG; IN_CALL; and MEMORY, where the buffer never had so many syllables. */
+   category, as sengadlit_setup_masks writes it. The pointer isn't null where there are none, and holds until this function or
+   sengadlit_setup_syllables_written is called with the buffer, or the buffer is destroyed. Null is returned for ARGUMENT:
+   SHAPER, and for a null buffer; TOO_LONG; IN_CALL; and MEMORY, where the buffer never had so many syllables. */
 const sengadlit_span_t *sengadlit_spans(sengadlit_shaper_t shaper, sengadlit_buffer_t *buffer, unsigned int *length);
 
 /* Does what a shaper does between two stages of GSUB.
    SETUP_SYLLABLES_..: reads the spans, which cover the text in its order; sets the state HAS_BROKEN_SYLLABLE if one is of the
    kind of broken ones, and doesn't clear it. SPANS_DONT_COVER.
    INITIAL_REORDERING, REORDER_..: moves glyphs, and adds dotted circles where the state has HAS_BROKEN_SYLLABLE and the
-   properties allow it. Calls nominal_glyph, and INITIAL_REORDERING would_substitute too. Of `marks` REORDER_MYANMAR reads
-   SENGADLIT_GLYPH_MARK_LIGATED alone. MEMORY and TOO_LONG, of circles; UNKNOWN_SYLLABLE, but for REORDER_USE.
+   properties allow it. Calls nominal_glyph, and INITIAL_REORDERING would_substitute too. Of `glyph_props` REORDER_MYANMAR reads
+   SENGADLIT_GLYPH_PROPS_LIGATED alone. MEMORY and TOO_LONG, of circles; UNKNOWN_SYLLABLE, but for REORDER_USE.
    FINAL_REORDERING: moves glyphs. Calls nominal_glyph.
-   RECORD_STCH: sets the state HAS_STCH. SYLLABIC_CLEAR_VAR: writes 0. CLEAR_SUBSTITUTION_FLAGS: of `marks`
-   SENGADLIT_GLYPH_MARK_SUBSTITUTED is cleared.
+   RECORD_STCH: sets the state HAS_STCH. SYLLABIC_CLEAR_VAR: writes 0. CLEAR_SUBSTITUTION_FLAGS: of `glyph_props`
+   SENGADLIT_GLYPH_PROPS_SUBSTITUTED is cleared.
    `font` may be null where it isn't called, `spans` for all but the set-ups of a text that isn't empty. `circles`, which may
    be null, is set to whether dotted circles were wanted and the font has one, unless the call fails.
-   ARGUMENT: PAUSE, FONT, SPANS; CODEPOINT (INITIAL_REORDERING): above 65535. */
+   ARGUMENT: PAUSE, FONT, SPANS; GLYPH_ID (INITIAL_REORDERING): above 65535. */
 sengadlit_status_t sengadlit_run_pause(const sengadlit_plan_t *plan, sengadlit_pause_t pause, const sengadlit_font_t *font,
                                        const sengadlit_span_t *spans, unsigned int spans_length, sengadlit_buffer_t *buffer,
                                        sengadlit_bool_t *circles);
@@ -849,10 +902,16 @@ sengadlit_status_t sengadlit_run_pause(const sengadlit_plan_t *plan, sengadlit_p
 sengadlit_status_t sengadlit_setup_syllables_found(const sengadlit_plan_t *plan, sengadlit_pause_t pause,
                                                    sengadlit_buffer_t *buffer);
 
+/* The same on the syllables that stand in the text already: glyphs beside each other with the same `syllable` are one, of the
+   kind in its low four bits, as HarfBuzz's machines write them (but for Myanmar's kinds). They are numbered anew. MEMORY, where
+   the buffer never had so many. */
+sengadlit_status_t sengadlit_setup_syllables_written(const sengadlit_plan_t *plan, sengadlit_pause_t pause,
+                                                     sengadlit_buffer_t *buffer);
+
 /* After positioning: where the state has HAS_STCH, stretches marks over the words beside them (Arabic). Wants the glyphs in
    visual order, from left to right, as HarfBuzz calls it, which has reversed a text of direction RTL by then: in the order of
    the text a mark stands before its word, and nothing is stretched. Reads all of the positions; adds glyphs with their
-   positions, writes x_advance and x_offset. Calls glyph_h_advance. ARGUMENT: FONT; CODEPOINT: above 65535; POSITIONS: there
+   positions, writes x_advance and x_offset. Calls glyph_h_advance. ARGUMENT: FONT; GLYPH_ID: above 65535; POSITIONS: there
    are none for a text that isn't empty. STRETCH_OVERFLOW, TOO_LONG, MEMORY. */
 sengadlit_status_t sengadlit_postprocess_glyphs(const sengadlit_plan_t *plan, const sengadlit_font_t *font,
                                                 sengadlit_buffer_t *buffer);
@@ -926,17 +985,18 @@ typedef struct sengadlit_lookup_t {
 } sengadlit_lookup_t;
 
 /* A font's lookups. The buffer that a function is given is the library's, lent for this call of the function, which may pass it
-   to every function of this header; sengadlit_buffer_destroy alone does nothing to it. Its glyphs, with codepoints of at most
+   to every function of this header; sengadlit_buffer_destroy alone does nothing to it. Its glyphs, with numbers of at most
    65535, and its positions are then the text's; what else is changed of it is lost. A function that returns 0 tells that memory
    was refused, and leaves the glyphs as they were. */
 typedef struct sengadlit_lookups_funcs_t {
     /* Writes the glyph of a character with a variation selector, as the font's cmap has it, and returns whether there is one;
        may be null if there is none. */
     sengadlit_bool_t (*variation_glyph)(void *user_data, uint32_t unicode, uint32_t selector, uint32_t *glyph);
-    /* What stands in `var` of a glyph before the first lookup, where the lookups may keep its class; may be null: 0. */
-    uint32_t (*note)(void *user_data, const sengadlit_glyph_info_t *glyph);
+    /* What stands in `glyph_props` before the first lookup, the glyph's class (SENGADLIT_GLYPH_PROPS_MARK and others), where
+       `lig_props` is 0; may be null: 0. */
+    uint16_t (*glyph_props)(void *user_data, const sengadlit_glyph_info_t *glyph);
     /* Applies a lookup of GSUB. A match is flagged by sengadlit_buffer_unsafe_to_break, clusters are merged by
-       sengadlit_buffer_merge_clusters, and what happened to a glyph is noted by SENGADLIT_GLYPH_MARK_... */
+       sengadlit_buffer_merge_clusters, and what happened to a glyph is noted in `glyph_props` and `lig_props`. */
     sengadlit_bool_t (*substitute)(void *user_data, const sengadlit_lookup_t *lookup, sengadlit_buffer_t *buffer);
     /* Whether a glyph is a mark, by its class; may be null: none is. */
     sengadlit_bool_t (*is_mark)(void *user_data, const sengadlit_glyph_info_t *glyph);
@@ -956,7 +1016,7 @@ typedef struct sengadlit_lookups_t {
 } sengadlit_lookups_t;
 
 /* Gives the glyphs from place `start` to before `end` one cluster, as hb_buffer_t::merge_clusters, or flags them unsafe to break,
-   as hb_buffer_t::unsafe_to_break. ARGUMENT: RANGE, GENERAL_CATEGORY. */
+   as hb_buffer_t::unsafe_to_break. ARGUMENT: RANGE. */
 sengadlit_status_t sengadlit_buffer_merge_clusters(sengadlit_buffer_t *buffer, unsigned int start, unsigned int end);
 sengadlit_status_t sengadlit_buffer_unsafe_to_break(sengadlit_buffer_t *buffer, unsigned int start, unsigned int end);
 
@@ -964,10 +1024,9 @@ sengadlit_status_t sengadlit_buffer_unsafe_to_break(sengadlit_buffer_t *buffer, 
    order all that comes before lookups, normalization among it, and then stage by stage the lookups and the pause behind them.
    Script and direction are the plan's, and those of the buffer's properties. Calls nominal_glyph; for Hangul glyph_h_advance;
    for Indic would_substitute; and the functions of `lookups`, of which substitute may be null if the plan has no lookup.
-   ARGUMENT: PLAN, FONT, LOOKUPS, POSITIONS, GENERAL_CATEGORY; CODEPOINT: not a scalar value; and for a null buffer. Nothing has
-   changed then. TOO_LONG, MEMORY, UNKNOWN_SYLLABLE: the text is as the step before left it, or as a lookup left it that made it
-   too long. INTERNAL: also where a lookup left a codepoint above 65535, a general category above 29, or a jump in a call on its
-   buffer. */
+   ARGUMENT: PLAN, FONT, LOOKUPS, POSITIONS; GLYPH_ID: not a scalar value; and for a null buffer. Nothing has changed then.
+   TOO_LONG, MEMORY, UNKNOWN_SYLLABLE: the text is as the step before left it, or as a lookup left it that made it too long.
+   INTERNAL: also where a lookup left a glyph number above 65535, or a jump in a call on its buffer. */
 sengadlit_status_t sengadlit_substitute_text(const sengadlit_shape_plan_t *plan, const sengadlit_font_t *font,
                                              const sengadlit_lookups_t *lookups, sengadlit_buffer_t *buffer);
 
@@ -988,8 +1047,8 @@ sengadlit_status_t sengadlit_shape(const sengadlit_shape_plan_t *plan, const sen
    the last stop that isn't above its cluster up to the next one, or to the text's end. Where clusters don't keep to the order of
    the text, as the reorderings of Indic may leave them, one is a stop only if all behind it are greater. `length` gets the number
    of stops, unless it is null. The pointer isn't null where there are none, and holds until this function is called again with the
-   buffer, or the buffer is destroyed. Null is returned for ARGUMENT: DIRECTION, GENERAL_CATEGORY, and for a null buffer; TOO_LONG;
-   IN_CALL; and MEMORY, where the buffer never had so many stops. */
+   buffer, or the buffer is destroyed. Null is returned for ARGUMENT: DIRECTION, and for a null buffer; TOO_LONG; IN_CALL; and
+   MEMORY, where the buffer never had so many stops. */
 const uint32_t *sengadlit_caret_stops(sengadlit_buffer_t *buffer, sengadlit_direction_t direction, unsigned int *length);
 
 /* How many glyphs in front and behind an edit leaves of a text of syllables. */

@@ -5,6 +5,7 @@
 //! no other thread uses the buffer; callbacks are functions of the declared types.
 #![allow(unsafe_code)]
 
+mod arrays;
 mod buffers;
 pub mod callbacks;
 mod editing;

@@ -1,7 +1,7 @@
 //! The buffer of C: a text and its positions.
 use crate::border::glyphs::{MAX_LENGTH, Takes, Text};
 use crate::encodings::{Unit, characters, first, last};
-use crate::layout::{Glyph, Properties};
+use crate::layout::Properties;
 use crate::numbers;
 use crate::status::{Argument, Error};
 use core::mem::replace;
@@ -105,7 +105,7 @@ impl Buffer {
     #[inline]
     pub fn set_length(&mut self, length: usize) -> Result<(), Error> {
         self.text.set_len(length)?;
-        self.positions.clear();
+        self.clear_positions();
         Ok(())
     }
 
@@ -119,15 +119,15 @@ impl Buffer {
             return Err(ShaperError::TooLong.into());
         }
         self.set_length(length)?;
-        let glyphs = self.text.glyphs_mut()[start..].iter_mut();
-        for (glyph, (place, character)) in glyphs.zip(characters(&text[item.clone()])) {
-            let cluster = (item.start + place) as u32;
-            *glyph = Glyph::from(GlyphInfo::from_character(
-                character,
-                cluster,
-                &UnicodeTables,
-            ));
-        }
+        self.text.with_glyphs_mut(|glyphs| {
+            for (glyph, (place, character)) in glyphs[start..]
+                .iter_mut()
+                .zip(characters(&text[item.clone()]))
+            {
+                let cluster = (item.start + place) as u32;
+                *glyph = GlyphInfo::from_character(character, cluster, &UnicodeTables);
+            }
+        });
         let mut room = ['\0'; CONTEXT_LENGTH];
         if start == 0 && !before.is_empty() {
             self.text.set_pre_context(last(before, &mut room));
@@ -142,6 +142,28 @@ impl Buffer {
         self.text
             .run(Takes::Numbers, |inner| Ok(shaper.spans_into(inner, spans)?))?;
         Ok(spans.as_slice())
+    }
+
+    /// Runs a hook on the syllables that the glyphs' bytes tell of.
+    #[inline]
+    pub fn run_on_written<A>(
+        &mut self,
+        hook: impl FnOnce(&[Span], &mut Inner) -> Result<A, Error>,
+    ) -> Result<A, Error> {
+        self.spans.clear();
+        let mut glyphs = self.text.glyphs();
+        while let [GlyphInfo { syllable, .. }, ..] = *glyphs {
+            let others = glyphs.iter().position(|glyph| glyph.syllable != syllable);
+            let len = others.unwrap_or(glyphs.len());
+            let kind = syllable & 0x0F;
+            let pushed = self.spans.push(Span { len, kind });
+            pushed.map_err(|_| Error::MEMORY)?;
+            glyphs = &glyphs[len..];
+        }
+        let spans = replace(&mut self.spans, List::new(Global));
+        let ended = self.run(Takes::Numbers, |inner| hook(spans.as_slice(), inner));
+        self.spans = spans;
+        ended
     }
 
     /// Where a caret may stand in the text, whose glyphs are in the order in which they are drawn.
@@ -160,6 +182,20 @@ impl Buffer {
                 .resize(self.text.len(), GlyphPosition::ZERO)?;
         }
         Ok(self.positions.as_mut_slice())
+    }
+
+    /// Removes the positions.
+    #[inline]
+    pub fn clear_positions(&mut self) {
+        self.positions.clear();
+    }
+
+    /// Ends the loan of an array of C's, as [`Text::take_array`] does; no position stays.
+    #[inline]
+    pub fn take_array(&mut self) -> Result<(*mut GlyphInfo, usize, usize), Error> {
+        let found = self.text.take_array()?;
+        self.clear_positions();
+        Ok(found)
     }
 
     /// Takes all properties, or none.
@@ -200,16 +236,16 @@ impl Buffer {
         self.text.set_state(state & 1 != 0, state & 2 != 0);
     }
 
-    /// That each codepoint is one of Unicode's scalar values.
+    /// That each glyph is a character, one of Unicode's scalar values.
     pub fn are_characters(&self) -> Result<(), Error> {
         let mut glyphs = self.text.glyphs().iter();
-        match glyphs.position(|glyph| char::from_u32(glyph.codepoint).is_none()) {
-            Some(index) => Err(Error::argument_at(Argument::Codepoint, index)),
+        match glyphs.position(|glyph| char::from_u32(glyph.glyph_id).is_none()) {
+            Some(index) => Err(Error::argument_at(Argument::GlyphId, index)),
             None => Ok(()),
         }
     }
 
-    /// Runs a hook that takes such codepoints on glyphs without positions.
+    /// Runs a hook that takes such numbers on glyphs without positions.
     #[inline]
     pub fn run<A>(
         &mut self,

@@ -80,7 +80,7 @@ pub fn decompose(
 }
 
 fn character(number: u32) -> Result<char, Error> {
-    char::from_u32(number).ok_or_else(|| Error::argument(Argument::Codepoint))
+    char::from_u32(number).ok_or_else(|| Error::argument(Argument::GlyphId))
 }
 
 /// `sengadlit_reorder_marks`.
@@ -164,6 +164,32 @@ pub fn setup_syllables_found(
         Ok(set_up_found(pause, &plan.inner, inner))
     })?;
     Ok(done_if(done))
+}
+
+/// `sengadlit_setup_syllables_written`.
+#[inline]
+pub fn setup_syllables_written(
+    plan: &Plan,
+    pause: u32,
+    buffer: &mut Buffer,
+) -> Result<Status, Error> {
+    let pause = pause_of(plan, pause)?;
+    if !sets_up_syllables(pause) {
+        return Ok(Status::Absent);
+    }
+    let font = Asked::font(None, 0)?;
+    buffer.run_on_written(|spans, inner| Ok(run(pause, &plan.inner, &font, spans, inner)?))?;
+    Ok(Status::Done)
+}
+
+fn sets_up_syllables(pause: Pause) -> bool {
+    matches!(
+        pause,
+        Pause::SetupSyllablesIndic
+            | Pause::SetupSyllablesKhmer
+            | Pause::SetupSyllablesMyanmar
+            | Pause::SetupSyllablesUse
+    )
 }
 
 // The pause of this number, if the plan's shaper has it.

@@ -1,59 +1,11 @@
-//! The structs of the header that hold numbers alone, and the layout of all of them.
+//! The structs of the header that hold numbers alone, and the layout of all of them. Glyphs, positions and spans are the
+//! crate's own structs, whose layout is C's and whose fields may hold any number.
 use core::ffi::{c_int, c_uint};
-use core::mem::{align_of, offset_of, size_of};
-use sengadlit::buffer::GlyphInfo;
+use core::mem::size_of;
 use sengadlit::ot_shape_plan::StageLookup;
 
 /// `sengadlit_bool_t`: 0 is false.
 pub type Bool = c_int;
-
-/// `sengadlit_glyph_info_t`: a glyph as C writes it, whose general category may be any number.
-#[repr(C)]
-#[derive(Clone, Copy, Debug, Default)]
-pub struct Glyph {
-    pub codepoint: u32,
-    pub cluster: u32,
-    pub mask: u32,
-    pub var: u32,
-    pub syllable: u8,
-    pub category: u8,
-    pub auxiliary: u8,
-    pub general_category: u8,
-    pub modified_combining_class: u8,
-    pub lig_comp: u8,
-    pub marks: u8,
-}
-
-impl From<GlyphInfo> for Glyph {
-    #[inline]
-    fn from(glyph: GlyphInfo) -> Self {
-        Glyph {
-            codepoint: glyph.glyph_id,
-            cluster: glyph.cluster,
-            mask: glyph.mask,
-            var: glyph.var,
-            syllable: glyph.syllable,
-            category: glyph.category,
-            auxiliary: glyph.auxiliary,
-            general_category: glyph.general_category.number(),
-            modified_combining_class: glyph.modified_combining_class,
-            lig_comp: glyph.lig_comp,
-            marks: glyph.marks.bits(),
-        }
-    }
-}
-
-macro_rules! same_layout {
-    ($c:ty, $rust:ty: $($field:ident = $other:ident),*) => {
-        const _: () = {
-            assert!(size_of::<$c>() == size_of::<$rust>() && align_of::<$c>() == align_of::<$rust>());
-            $(assert!(offset_of!($c, $field) == offset_of!($rust, $other));)*
-        };
-    };
-}
-same_layout!(Glyph, GlyphInfo: codepoint = glyph_id, cluster = cluster, mask = mask, var = var, syllable = syllable,
-    category = category, auxiliary = auxiliary, general_category = general_category,
-    modified_combining_class = modified_combining_class, lig_comp = lig_comp, marks = marks);
 
 /// `sengadlit_buffer_properties_t`.
 #[repr(C)]
@@ -156,7 +108,8 @@ mod tests {
     };
     use crate::status::Error;
     use core::fmt::Write;
-    use sengadlit::buffer::{GlyphPosition, Span};
+    use core::mem::offset_of;
+    use sengadlit::buffer::{GlyphInfo, GlyphPosition, Span};
 
     /// The size of each struct and the offset of each field, one line each, as `tests/layout.c` prints them.
     fn layouts() -> String {
@@ -183,9 +136,9 @@ mod tests {
         layout!("plan_input", PlanInput: script, chosen_script, found_script, has_gpos_mark, centres_stretch, sound_breaks,
         global_mask, searches_medials, features, features_length, stages, stages_length, lookups, lookups_length, kept.user_data = "user_data", kept.destroy = "destroy");
         layout!("plan_data", Data: shaper, joins, has_stch, rphf_mask, masks);
-        layout!("glyph_info", Glyph: codepoint, cluster, mask, var, syllable, category, auxiliary, general_category,
-        modified_combining_class, lig_comp, marks);
-        layout!("glyph_position", GlyphPosition: x_advance, y_advance, x_offset, y_offset);
+        layout!("glyph_info", GlyphInfo: glyph_id, mask, cluster, glyph_props, lig_props, syllable, unicode_props, category,
+        auxiliary);
+        layout!("glyph_position", GlyphPosition: x_advance, y_advance, x_offset, y_offset, var);
         layout!("buffer_properties", Properties: script, direction, cluster_level, flags, max_length);
         layout!("span", Span: len = "length", kind);
         layout!("table_feature", TableFeatureInput: tag, lookups_length, lookups);
@@ -195,7 +148,7 @@ mod tests {
         layout!("shape_plan_input", ShapePlanInput: script, direction, gsub, gpos, user_features, user_features_length,
         units_per_em, centres_stretch, sound_breaks, searches_medials);
         layout!("lookup", Lookup: index, mask, auto_zwnj, auto_zwj, random, per_syllable);
-        layout!("lookups_funcs", LookupsFuncs: variation_glyph, note, substitute, is_mark, position, finish_positions,
+        layout!("lookups_funcs", LookupsFuncs: variation_glyph, glyph_props, substitute, is_mark, position, finish_positions,
         glyph_v_advance, glyph_v_origin);
         layout!("lookups", Lookups<'static>: funcs, user_data);
         layout!("unaffected", Unaffected: front, back);

@@ -90,9 +90,9 @@ static void questions_about_lookups(void)
     static const sengadlit_span_t syllable[] = {{3, 0}};
 
     begin_world(SENGADLIT_SHAPER_INDIC, SENGADLIT_TAG('D', 'e', 'v', 'a'), 0x0915, 3);
-    glyphs()[0].codepoint = 0x0930;
+    glyphs()[0].glyph_id = 0x0930;
     glyphs()[0].category = 15;
-    glyphs()[1].codepoint = 0x094D;
+    glyphs()[1].glyph_id = 0x094D;
     glyphs()[1].category = 4;
     glyphs()[2].category = 1;
     world.font_funcs.would_substitute = check_question;
@@ -229,7 +229,7 @@ static sengadlit_status_t stretch_by_changing_advances(uint32_t seed)
         return status;
     check("an internal error is told", error.status == SENGADLIT_INTERNAL && error.argument == SENGADLIT_ARGUMENT_NONE);
     check("it leaves an empty buffer", length_of(world.buffer) == 0 && sengadlit_buffer_get_state(world.buffer) == 0);
-    check("which serves again", sengadlit_buffer_set_length(world.buffer, 3) != NULL && glyphs()[2].codepoint == 0);
+    check("which serves again", sengadlit_buffer_set_length(world.buffer, 3) != NULL && glyphs()[2].glyph_id == 0);
     check("with its properties",
           sengadlit_buffer_set_length(world.buffer, ROOM + 1) != NULL &&
               sengadlit_setup_masks(world.plan, &world.tables, world.buffer) == SENGADLIT_TOO_LONG);
@@ -258,8 +258,8 @@ static sengadlit_bool_t call_on_other(void *user_data, uint32_t unicode, uint32_
     sengadlit_glyph_info_t *text = sengadlit_buffer_set_length(other, 2);
 
     (void)user_data;
-    text[0].general_category = text[1].general_category = 7;
-    text[1].codepoint = 0x0E33;
+    text[0].unicode_props = text[1].unicode_props = SENGADLIT_UNICODE_GENERAL_CATEGORY_OTHER_LETTER;
+    text[1].glyph_id = 0x0E33;
     if (sengadlit_run_pause(world.plan, SENGADLIT_PAUSE_CLEAR_SUBSTITUTION_FLAGS, NULL, NULL, 0, other, NULL) == SENGADLIT_DONE)
         questions++;
     *glyph = unicode;
@@ -269,12 +269,12 @@ static sengadlit_bool_t call_on_other(void *user_data, uint32_t unicode, uint32_
 static void calls_on_other_buffers(void)
 {
     begin_world(SENGADLIT_SHAPER_HANGUL, SENGADLIT_TAG('H', 'a', 'n', 'g'), 0x1100, 4);
-    glyphs()[1].codepoint = glyphs()[3].codepoint = 0x1161;
+    glyphs()[1].glyph_id = glyphs()[3].glyph_id = 0x1161;
     world.font_funcs.nominal_glyph = call_on_other;
     other = sengadlit_buffer_create();
     questions = 0;
     check("a callback may use another buffer", sengadlit_preprocess_text(world.plan, &world.font, world.buffer, NULL) == SENGADLIT_DONE);
-    check("jamo compose", length_of(world.buffer) == 2 && glyphs()[0].codepoint == 0xAC00 && questions > 0);
+    check("jamo compose", length_of(world.buffer) == 2 && glyphs()[0].glyph_id == 0xAC00 && questions > 0);
     sengadlit_buffer_destroy(other);
 }
 

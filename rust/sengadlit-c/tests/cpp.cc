@@ -15,7 +15,7 @@ int main()
         std::puts(sengadlit_status_name(error.status));
         return 1;
     }
-    for (unsigned i = 0; i < 2; i++) glyphs[i].codepoint = 0x05D0 + i;
+    for (unsigned i = 0; i < 2; i++) glyphs[i].glyph_id = 0x05D0 + i;
     const sengadlit_status_t status = sengadlit_reorder_marks(plan, buffer, 0, 2);
     std::puts(sengadlit_status_name(status));
     sengadlit_buffer_destroy(buffer);

@@ -193,21 +193,23 @@ static sengadlit_plan_t *make_plan(unsigned int *destroyed)
 
 /* ---- Texts ---- */
 
+/* The array that is lent, if any, to a buffer that makes it grow, or keeps what it has no room for. */
+static sengadlit_glyph_info_t *array;
+static int is_lent, grows;
+
 static void write_glyph(sengadlit_glyph_info_t *glyph, uint32_t cluster)
 {
     uint8_t kind = next();
 
-    glyph->codepoint = kind < 240 ? firsts[place] + next() % 128 : kind < 250 ? next() * 257u : next_word();
+    glyph->glyph_id = kind < 240 ? firsts[place] + next() % 128 : kind < 250 ? next() * 257u : next_word();
     glyph->cluster = kind & 1 ? cluster : next();
     glyph->mask = kind & 2 ? 0 : next_word();
-    glyph->var = next();
     glyph->syllable = next();
     glyph->category = kind & 4 ? next() % 64 : next();
     glyph->auxiliary = next() % 24;
-    glyph->general_category = next() % 31 == 30 ? next() : next() % 30;
-    glyph->modified_combining_class = next();
-    glyph->lig_comp = next() % 16;
-    glyph->marks = next();
+    glyph->unicode_props = (uint16_t)(next() << 8 | next());
+    glyph->lig_props = next();
+    glyph->glyph_props = (uint16_t)(next() << 8 | next());
 }
 
 /* Part of a text whose units are anything. */
@@ -233,10 +235,11 @@ static void add_text(sengadlit_buffer_t *buffer)
     default: status = sengadlit_buffer_add_utf32(buffer, wide, MOST, start, item);
     }
     const sengadlit_glyph_info_t *glyphs = sengadlit_buffer_get_glyph_infos(buffer, &length);
+    if (status == SENGADLIT_MEMORY && is_lent) return;
     if (status != SENGADLIT_DONE || length < before || length - before > (unsigned int)item) abort();
     for (unsigned int i = before; i < length; i++)
-        if (glyphs[i].cluster < start || glyphs[i].cluster >= start + (unsigned int)item || glyphs[i].codepoint > 0x10FFFF ||
-            glyphs[i].general_category > 29)
+        if (glyphs[i].cluster < start || glyphs[i].cluster >= start + (unsigned int)item || glyphs[i].glyph_id > 0x10FFFF ||
+            SENGADLIT_UNICODE_PROPS_GET_GENERAL_CATEGORY(glyphs[i].unicode_props) > 29)
             abort();
 }
 
@@ -245,7 +248,8 @@ static void write_text(sengadlit_buffer_t *buffer)
     unsigned int length = next() % (MOST + 1);
     sengadlit_glyph_info_t *glyphs = sengadlit_buffer_set_length(buffer, length);
 
-    if (!glyphs) abort();
+    if (!glyphs && !is_lent) abort();
+    if (!glyphs) return;
     for (unsigned int i = 0; i < length; i++) write_glyph(&glyphs[i], i);
     if (next() % 4 == 1) add_text(buffer);
 }
@@ -297,7 +301,11 @@ static sengadlit_status_t run_found(const sengadlit_plan_t *plan, sengadlit_buff
     sengadlit_pause_t pause = (sengadlit_pause_t)(next() % 5);
     unsigned int length;
 
-    if (next() & 1) return sengadlit_setup_syllables_found(plan, pause, buffer);
+    switch (next() % 3) {
+    case 0: return sengadlit_setup_syllables_found(plan, pause, buffer);
+    case 1: return sengadlit_setup_syllables_written(plan, pause, buffer);
+    default: break;
+    }
     const sengadlit_span_t *spans = sengadlit_spans((sengadlit_shaper_t)shaper_number, buffer, &length);
     if (!spans) return sengadlit_setup_syllables_found(plan, pause, buffer);
     return sengadlit_run_pause(plan, pause, &font, spans, length, buffer, NULL);
@@ -362,10 +370,7 @@ static void keep(sengadlit_buffer_t *buffer, struct text *text)
 
     text->state = sengadlit_buffer_get_state(buffer);
     if (text->length > ROOM) abort();
-    for (unsigned int i = 0; i < text->length; i++) {
-        memset(&text->glyphs[i], 0, sizeof text->glyphs[i]);
-        memcpy(&text->glyphs[i], &glyphs[i], offsetof(sengadlit_glyph_info_t, marks) + 1);
-    }
+    memcpy(text->glyphs, glyphs, text->length * sizeof *glyphs);
 }
 
 static unsigned long internal, done;
@@ -416,14 +421,13 @@ static sengadlit_bool_t substitute(void *user_data, const sengadlit_lookup_t *lo
 
     if (sengadlit_buffer_get_glyph_infos(user_data, NULL) || lookup->mask == 0) abort();
     for (unsigned int i = start; i < end && i < length; i++) {
-        glyphs[i].codepoint = answer(glyphs[i].codepoint, lookup->index) & 0xFFFF;
-        glyphs[i].marks ^= what & 7;
+        glyphs[i].glyph_id = answer(glyphs[i].glyph_id, lookup->index) & 0xFFFF;
+        glyphs[i].glyph_props ^= (uint16_t)((what & 7) << 4);
         if (what & 32) glyphs[i].syllable = what;
     }
     if (what % 64 == 7 && length > start) {
         faulty = 1;
-        if (what & 64) glyphs[start].codepoint |= 0x10000;
-        else glyphs[start].general_category |= 0x80;
+        glyphs[start].glyph_id |= 0x10000;
     }
     switch (what % 8) {
     case 0: (void)sengadlit_buffer_set_length(lent, length + end); break;
@@ -438,16 +442,16 @@ static sengadlit_bool_t substitute(void *user_data, const sengadlit_lookup_t *lo
     return what != 8;
 }
 
-static uint32_t note(void *user_data, const sengadlit_glyph_info_t *glyph)
+static uint16_t glyph_props(void *user_data, const sengadlit_glyph_info_t *glyph)
 {
     if (sengadlit_buffer_get_glyph_infos(user_data, NULL)) abort();
-    return answer(glyph->codepoint, 11);
+    return (uint16_t)answer(glyph->glyph_id, 11);
 }
 
 static sengadlit_bool_t is_mark(void *user_data, const sengadlit_glyph_info_t *glyph)
 {
     if (sengadlit_buffer_get_glyph_infos(user_data, NULL)) abort();
-    return (sengadlit_bool_t)(glyph->var & 4);
+    return (sengadlit_bool_t)(glyph->glyph_props & 4);
 }
 
 static void finish_positions(void *user_data, sengadlit_buffer_t *lent)
@@ -461,7 +465,7 @@ static void finish_positions(void *user_data, sengadlit_buffer_t *lent)
     if (count != length) abort();
     for (unsigned int i = 0; i < count; i++) {
         positions[i].x_offset = (int32_t)next_word();
-        glyphs[i].var = what;
+        glyphs[i].glyph_props = what;
     }
     if (what % 64 == 7 && length > 0) {
         faulty = 1;
@@ -529,7 +533,7 @@ static sengadlit_shape_plan_t *make_shape_plan(void)
 
 static void shape_whole(sengadlit_buffer_t *buffer)
 {
-    static const sengadlit_lookups_funcs_t funcs = {variation_glyph, note,           substitute,     is_mark, position,
+    static const sengadlit_lookups_funcs_t funcs = {variation_glyph, glyph_props, substitute, is_mark, position,
                                                     finish_positions, glyph_v_advance, glyph_v_origin};
     const sengadlit_lookups_t lookups = {&funcs, buffer};
     sengadlit_shape_plan_t *plan = make_shape_plan();
@@ -575,6 +579,57 @@ static void call_others(sengadlit_plan_t *plan)
     sengadlit_plan_destroy(sengadlit_plan_reference(plan));
 }
 
+static sengadlit_glyph_info_t *grow(void *user_data, sengadlit_glyph_info_t *glyphs, unsigned int wanted,
+                                    unsigned int *allocated)
+{
+    sengadlit_glyph_info_t *moved;
+
+    if (sengadlit_buffer_get_glyph_infos(user_data, NULL) || wanted <= *allocated) abort();
+    if (wanted > ROOM || next() == 7) return NULL;
+    moved = malloc(wanted * sizeof *moved);
+    if (!moved) abort();
+    if (*allocated != 0) memcpy(moved, glyphs, *allocated * sizeof *moved);
+    free(array);
+    *allocated = wanted;
+    return array = moved;
+}
+
+static void lend(sengadlit_buffer_t *buffer)
+{
+    unsigned int length, room;
+    const sengadlit_glyph_info_t *glyphs = sengadlit_buffer_get_glyph_infos(buffer, &length);
+
+    if (is_lent || length > ROOM) return;
+    room = length + next() % 4;
+    array = room == 0 ? NULL : malloc(room * sizeof *array);
+    if (room != 0) memcpy(array, glyphs, length * sizeof *array);
+    grows = next() & 1;
+    if (sengadlit_buffer_set_grow_func(buffer, grows ? grow : NULL, buffer) != SENGADLIT_DONE ||
+        sengadlit_buffer_lend(buffer, array, length, room) != SENGADLIT_DONE ||
+        sengadlit_buffer_lend(buffer, array, length, room) != SENGADLIT_ARGUMENT)
+        abort();
+    is_lent = 1;
+}
+
+/* Takes the array back, and copies the text into the buffer again. */
+static void take_back(sengadlit_buffer_t *buffer)
+{
+    static sengadlit_glyph_info_t copy[ROOM];
+    unsigned int length, allocated;
+    const sengadlit_glyph_info_t *given = sengadlit_buffer_give_back(buffer, &length, &allocated);
+
+    if ((given != NULL) != is_lent) abort();
+    if (!is_lent) return;
+    if (grows && (given != array && array != NULL)) abort();
+    if (length > allocated && (grows || allocated != 0)) abort();
+    if (length > ROOM) length = ROOM;
+    memcpy(copy, given, length * sizeof *given);
+    free(array);
+    array = NULL;
+    is_lent = 0;
+    memcpy(sengadlit_buffer_set_length(buffer, length), copy, length * sizeof *copy);
+}
+
 /* Another text, in a buffer that may have been cleared. */
 static void begin_another(sengadlit_buffer_t *buffer)
 {
@@ -609,11 +664,18 @@ int LLVMFuzzerTestOneInput(const uint8_t *data, size_t size)
     write_text(buffer);
     for (unsigned int i = 0; i < CALLS && left != 0; i++) {
         if (next() % 16 == 1) begin_another(buffer);
+        if (next() % 4 == 1) lend(buffer);
         make_call(plan, buffer);
+        if (next() % 8 == 1) take_back(buffer);
     }
     begin_another(buffer);
+    lend(buffer);
     shape_whole(buffer);
+    if (next() & 1) take_back(buffer);
     sengadlit_buffer_destroy(buffer);
+    free(array);
+    array = NULL;
+    is_lent = 0;
     sengadlit_plan_destroy(plan);
     if (destroyed != 1) abort();
     return 0;

@@ -86,22 +86,21 @@ static void print_plans(void)
 static void print_buffers(void)
 {
     STRUCT(glyph_info);
-    FIELD(glyph_info, codepoint);
-    FIELD(glyph_info, cluster);
+    FIELD(glyph_info, glyph_id);
     FIELD(glyph_info, mask);
-    FIELD(glyph_info, var);
+    FIELD(glyph_info, cluster);
+    FIELD(glyph_info, glyph_props);
+    FIELD(glyph_info, lig_props);
     FIELD(glyph_info, syllable);
+    FIELD(glyph_info, unicode_props);
     FIELD(glyph_info, category);
     FIELD(glyph_info, auxiliary);
-    FIELD(glyph_info, general_category);
-    FIELD(glyph_info, modified_combining_class);
-    FIELD(glyph_info, lig_comp);
-    FIELD(glyph_info, marks);
     STRUCT(glyph_position);
     FIELD(glyph_position, x_advance);
     FIELD(glyph_position, y_advance);
     FIELD(glyph_position, x_offset);
     FIELD(glyph_position, y_offset);
+    FIELD(glyph_position, var);
     STRUCT(buffer_properties);
     FIELD(buffer_properties, script);
     FIELD(buffer_properties, direction);
@@ -153,7 +152,7 @@ static void print_shaping(void)
     FIELD(lookup, per_syllable);
     STRUCT(lookups_funcs);
     FIELD(lookups_funcs, variation_glyph);
-    FIELD(lookups_funcs, note);
+    FIELD(lookups_funcs, glyph_props);
     FIELD(lookups_funcs, substitute);
     FIELD(lookups_funcs, is_mark);
     FIELD(lookups_funcs, position);

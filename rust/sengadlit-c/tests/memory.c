@@ -187,7 +187,7 @@ static void print_text(const char *name)
     (void)sengadlit_buffer_get_glyph_infos(world.buffer, &length);
     printf("%s: %u glyphs, %u told\n", name, length, told);
     for (unsigned int i = 0; i < length; i++)
-        printf("  %04" PRIX32 " %" PRIu32 " %08" PRIX32 " %02X %d\n", glyphs()[i].codepoint, glyphs()[i].cluster,
+        printf("  %04" PRIX32 " %" PRIu32 " %08" PRIX32 " %02X %d\n", glyphs()[i].glyph_id, glyphs()[i].cluster,
                glyphs()[i].mask, glyphs()[i].syllable, world.has_positions ? (int)positions()[i].x_offset : 0);
 }
 
@@ -232,10 +232,10 @@ static void try_buffers(void)
 static void try_characters(void)
 {
     begin_world(SENGADLIT_SHAPER_THAI, SENGADLIT_TAG('T', 'h', 'a', 'i'), 0x0E01, 4);
-    glyphs()[2].codepoint = 0x0E33;
+    glyphs()[2].glyph_id = 0x0E33;
     try_call("preprocess Thai", preprocess);
     begin_world(SENGADLIT_SHAPER_HANGUL, SENGADLIT_TAG('H', 'a', 'n', 'g'), 0x1100, 8);
-    glyphs()[1].codepoint = 0x1161;
+    glyphs()[1].glyph_id = 0x1161;
     try_call("preprocess Hangul", preprocess);
     begin_world(SENGADLIT_SHAPER_ARABIC, SENGADLIT_TAG('A', 'r', 'a', 'b'), 0x064B, 3);
     try_call("collect", collect);

@@ -1,7 +1,7 @@
 /* The header's list of what each hook reads and writes of a glyph, tried on random texts. Two texts that differ in what isn't
    read have equal results; what isn't written stays. And the list says no more than is true: texts that differ in one field
    that is read have, now and then, other results, and each field that is written changes now and then. listed.h is made of the
-   header by listed.awk. The first argument is the number of rounds of each row; few ones don't test the latter. The last line
+   header by listed.awk. The second text of a pair is lent, the first one copied. The first argument is the number of rounds of each row; few ones don't test the latter. The last line
    is 'N passed, M failed'. */
 #include <sengadlit.h>
 
@@ -15,10 +15,15 @@ static unsigned int passed, failed;
 
 /* ---- The list ---- */
 
-enum field { CODEPOINT, MASK, SYLLABLE, CATEGORY, AUXILIARY, GENERAL_CATEGORY, CLASS, LIG_COMP, MARKS, FIELDS };
+enum field {
+    NUMBER, MASK, SYLLABLE, CATEGORY, AUXILIARY, GENERAL_CATEGORY, CLASS, UNICODE_PROPS, LIG_PROPS, GLYPH_PROPS, FIELDS
+};
 
-static const char *const names[FIELDS] = {"codepoint", "mask", "syllable", "category", "auxiliary", "general_category",
-                                          "modified_combining_class", "lig_comp", "marks"};
+static const char *const names[FIELDS] = {"glyph_id", "mask", "syllable", "category", "auxiliary", "general_category",
+                                          "combining_class", "unicode_props", "lig_props", "glyph_props"};
+
+/* The bits of `glyph_props` that have no name, in which a text has its places. */
+enum { PLACES = 7, NAMED = (1 << PLACES) - 1 };
 
 struct row {
     const char *hook, *of, *reads, *writes;
@@ -251,15 +256,16 @@ struct text {
 static uint32_t get(const sengadlit_glyph_info_t *glyph, enum field field)
 {
     switch (field) {
-    case CODEPOINT: return glyph->codepoint;
+    case NUMBER: return glyph->glyph_id;
     case MASK: return glyph->mask & ~(uint32_t)FLAGS;
     case SYLLABLE: return glyph->syllable;
     case CATEGORY: return glyph->category;
     case AUXILIARY: return glyph->auxiliary;
-    case GENERAL_CATEGORY: return glyph->general_category;
-    case CLASS: return glyph->modified_combining_class;
-    case LIG_COMP: return glyph->lig_comp;
-    default: return glyph->marks;
+    case GENERAL_CATEGORY: return glyph->unicode_props & SENGADLIT_UNICODE_PROPS_GENERAL_CATEGORY;
+    case CLASS: return (uint32_t)glyph->unicode_props >> 8;
+    case UNICODE_PROPS: return glyph->unicode_props & 0xE0;
+    case LIG_PROPS: return glyph->lig_props;
+    default: return glyph->glyph_props & NAMED;
     }
 }
 
@@ -275,21 +281,36 @@ static uint32_t a_codepoint(const struct call *call)
     return firsts[call->shaper] + below(0x60);
 }
 
+static uint8_t a_general_category(const struct call *call)
+{
+    const int is_mark = call->kind == MARKS_OF_RUN && below(4);
+
+    return (uint8_t)(is_mark ? SENGADLIT_UNICODE_GENERAL_CATEGORY_SPACING_MARK + below(3) : below(32));
+}
+
+/* Gives some bits of a number, which begin at this place, another value. */
+static void set_bits(uint16_t *number, unsigned int bits, unsigned int place, uint32_t value)
+{
+    *number = (uint16_t)((*number & ~bits) | (value << place & bits));
+}
+
 /* Gives a field another value, any that hooks take. */
 static void change(const struct call *call, sengadlit_glyph_info_t *glyph, enum field field, int is_read)
 {
-    static const uint8_t classes[] = {20, 21, 22, 23, 25, 220, 230, 27, 28};
+    static const uint8_t classes[] = {20, 21, 22, 23, 25, 220, 230, 27, 28}, hebrew[] = {20, 21, 23, 25, 220};
+    const uint8_t class = call->shaper == SENGADLIT_SHAPER_HEBREW ? hebrew[below(sizeof hebrew)] : classes[below(sizeof classes)];
 
     switch (field) {
-    case CODEPOINT: glyph->codepoint = is_read ? a_codepoint(call) : any(); break;
+    case NUMBER: glyph->glyph_id = is_read ? a_codepoint(call) : any(); break;
     case MASK: glyph->mask = (glyph->mask & FLAGS) | (any() & ~(uint32_t)FLAGS); break;
     case SYLLABLE: glyph->syllable = (uint8_t)(is_read ? (glyph->syllable & 0x0F) | below(16) << 4 : any()); break;
     case CATEGORY: glyph->category = is_read && below(8) ? some_category(call->shaper) : (uint8_t)below(57); break;
     case AUXILIARY: glyph->auxiliary = (uint8_t)below(call->shaper == SENGADLIT_SHAPER_HANGUL ? 4 : 15); break;
-    case GENERAL_CATEGORY: glyph->general_category = (uint8_t)below(30); break;
-    case CLASS: glyph->modified_combining_class = classes[below(sizeof classes)]; break;
-    case LIG_COMP: glyph->lig_comp = (uint8_t)below(16); break;
-    default: glyph->marks = (uint8_t)(below(3) ? below(32) : SENGADLIT_GLYPH_MARK_SUBSTITUTED);
+    case GENERAL_CATEGORY: set_bits(&glyph->unicode_props, 0x1F, 0, a_general_category(call)); break;
+    case CLASS: set_bits(&glyph->unicode_props, 0xFF00, 8, class); break;
+    case UNICODE_PROPS: set_bits(&glyph->unicode_props, 0xE0, 5, below(8)); break;
+    case LIG_PROPS: glyph->lig_props = (uint8_t)any(); break;
+    default: set_bits(&glyph->glyph_props, NAMED, 0, below(3) ? below(NAMED + 1) : SENGADLIT_GLYPH_PROPS_SUBSTITUTED);
     }
 }
 
@@ -308,7 +329,13 @@ static void divide(const struct call *call, struct text *text)
     }
 }
 
-/* A text, whose glyphs have their places, from 1, in `var`. */
+/* The place of the glyph that one was made of, from 1; 0 for a dotted circle. */
+static unsigned int place_of(const sengadlit_glyph_info_t *glyph)
+{
+    return glyph->glyph_props >> PLACES;
+}
+
+/* A text, whose glyphs have their places. */
 static void write_text(const struct call *call, struct text *text)
 {
     uint32_t cluster = 0;
@@ -321,7 +348,7 @@ static void write_text(const struct call *call, struct text *text)
         for (unsigned int field = 0; field < FIELDS; field++) change(call, glyph, (enum field)field, 1);
         glyph->mask |= below(8) ? 0 : below(8);
         glyph->cluster = cluster += below(2);
-        glyph->var = i + 1;
+        set_bits(&glyph->glyph_props, 0xFFFF & ~NAMED, PLACES, i + 1);
         text->positions[i].x_advance = (int32_t)below(2000);
         text->positions[i].x_offset = (int32_t)below(50);
     }
@@ -356,23 +383,62 @@ static sengadlit_status_t run(const struct call *call, const sengadlit_plan_t *p
     }
 }
 
+static sengadlit_glyph_info_t *grow(void *user_data, sengadlit_glyph_info_t *glyphs, unsigned int wanted,
+                                    unsigned int *allocated)
+{
+    (void)user_data;
+    *allocated = wanted;
+    return realloc(glyphs, wanted * sizeof *glyphs);
+}
+
+/* Gives a buffer the text, as a copy or lent. */
+static void give(sengadlit_buffer_t *buffer, const struct text *text, int is_lent)
+{
+    const size_t size = text->length * sizeof *text->glyphs;
+    sengadlit_glyph_info_t *array;
+
+    if (!is_lent) {
+        memcpy(sengadlit_buffer_set_length(buffer, text->length), text->glyphs, size);
+        return;
+    }
+    array = malloc(size);
+    memcpy(array, text->glyphs, size);
+    if (sengadlit_buffer_set_grow_func(buffer, grow, NULL) != SENGADLIT_DONE ||
+        sengadlit_buffer_lend(buffer, array, text->length, text->length) != SENGADLIT_DONE)
+        exit(EXIT_FAILURE);
+}
+
+/* Takes the glyphs, and the array if it is lent. */
+static void take(sengadlit_buffer_t *buffer, struct text *text, int is_lent)
+{
+    unsigned int allocated = ROOM;
+    sengadlit_glyph_info_t *made = is_lent ? sengadlit_buffer_give_back(buffer, &text->length, &allocated)
+                                           : sengadlit_buffer_get_glyph_infos(buffer, &text->length);
+
+    if (text->length > ROOM || text->length > allocated) exit(EXIT_FAILURE);
+    memcpy(text->glyphs, made, text->length * sizeof *made);
+    if (is_lent && allocated != 0) free(made);
+}
+
 /* Makes a call on a text, which is then what the call made of it. */
 static void shape(const struct call *call, const sengadlit_plan_t *plan, const sengadlit_buffer_properties_t *properties,
-                  uint32_t range, struct text *text)
+                  uint32_t range, struct text *text, int is_lent)
 {
     sengadlit_buffer_t *buffer = sengadlit_buffer_create();
-    const sengadlit_glyph_info_t *made;
+    const sengadlit_glyph_position_t *positions;
+    unsigned int length;
 
     if (sengadlit_buffer_set_properties(buffer, properties) != SENGADLIT_DONE) exit(EXIT_FAILURE);
-    memcpy(sengadlit_buffer_set_length(buffer, text->length), text->glyphs, text->length * sizeof *text->glyphs);
+    give(buffer, text, is_lent);
     sengadlit_buffer_set_state(buffer, text->state);
     text->status = run(call, plan, buffer, text, range);
-    made = sengadlit_buffer_get_glyph_infos(buffer, &text->length);
-    if (text->length > ROOM) exit(EXIT_FAILURE);
-    memcpy(text->glyphs, made, text->length * sizeof *made);
-    if (call->kind == POSTPROCESS)
-        memcpy(text->positions, sengadlit_buffer_get_glyph_positions(buffer, NULL), text->length * sizeof *text->positions);
+    if (call->kind == POSTPROCESS) {
+        positions = sengadlit_buffer_get_glyph_positions(buffer, &length);
+        if (length > ROOM) exit(EXIT_FAILURE);
+        memcpy(text->positions, positions, length * sizeof *positions);
+    }
     text->state = sengadlit_buffer_get_state(buffer);
+    take(buffer, text, is_lent);
     sengadlit_buffer_destroy(buffer);
 }
 
@@ -397,7 +463,7 @@ static const char *differ(const struct text *a, const struct text *b)
     if (a->length != b->length) return "the length";
     if (differ_in_spans(a, b)) return "the spans";
     for (unsigned int i = 0; i < a->length; i++) {
-        if (a->glyphs[i].var != b->glyphs[i].var) return "the order";
+        if (place_of(&a->glyphs[i]) != place_of(&b->glyphs[i])) return "the order";
         if (a->glyphs[i].cluster != b->glyphs[i].cluster) return "a cluster";
         if ((a->glyphs[i].mask & FLAGS) != (b->glyphs[i].mask & FLAGS)) return "a flag";
         if (memcmp(&a->positions[i], &b->positions[i], sizeof *a->positions) != 0) return "a position";
@@ -413,7 +479,7 @@ static const char *wrong_field(enum field field, unsigned int reads, unsigned in
 
     if (!(writes & bit)) return a == old_a && b == old_b ? NULL : "is written";
     if (reads & bit) return a == b ? NULL : "depends on more than what is read";
-    if (field == MASK || field == MARKS) /* Each bit is set, cleared or as it was. */
+    if (field == MASK || field == UNICODE_PROPS || field == GLYPH_PROPS) /* Each bit is set, cleared or as it was. */
         return ((a ^ b) & ((a ^ old_a) | (b ^ old_b))) == 0 ? NULL : "depends on what isn't read";
     return a == b || (a == old_a && b == old_b) ? NULL : "depends on what isn't read";
 }
@@ -424,7 +490,7 @@ static unsigned int written[FIELDS], mattered[FIELDS], cleared;
 /* What a glyph of a text was before the call. */
 static uint32_t old(const struct text *text, const sengadlit_glyph_info_t *glyph, unsigned int field)
 {
-    return get(&text->glyphs[glyph->var - 1], (enum field)field);
+    return get(&text->glyphs[place_of(glyph) - 1], (enum field)field);
 }
 
 /* A glyph that was made of one of the text, in both texts: the first field that is wrong, and how. */
@@ -447,7 +513,7 @@ static int are_fields_right(const struct row *row, unsigned int reads, unsigned 
 {
     for (unsigned int i = 0; i < first_made.length; i++) {
         const char *name = NULL, *wrong = NULL;
-        if (first_made.glyphs[i].var != 0)
+        if (place_of(&first_made.glyphs[i]) != 0)
             wrong = wrong_glyph(&first_made.glyphs[i], &second_made.glyphs[i], reads, writes, &name);
         if (!wrong) continue;
         printf("FAILED: %s %s: %s %s\n", row->hook, row->of, name, wrong);
@@ -462,7 +528,7 @@ static int differ_at_all(unsigned int writes)
     if (differ(&first_made, &second_made)) return 1;
     for (unsigned int i = 0; i < first_made.length; i++) {
         const sengadlit_glyph_info_t *a = &first_made.glyphs[i], *b = &second_made.glyphs[i];
-        for (unsigned int field = 0; a->var != 0 && field < FIELDS; field++)
+        for (unsigned int field = 0; place_of(a) != 0 && field < FIELDS; field++)
             if (writes & 1u << field &&
                 (get(a, (enum field)field) ^ old(&first, a, field)) != (get(b, (enum field)field) ^ old(&second, b, field)))
                 return 1;
@@ -487,8 +553,8 @@ static void shape_both(const struct call *call, const sengadlit_plan_t *plan)
 
     first_made = first;
     second_made = second;
-    shape(call, plan, &properties, range, &first_made);
-    shape(call, plan, &properties, range, &second_made);
+    shape(call, plan, &properties, range, &first_made, 0);
+    shape(call, plan, &properties, range, &second_made, 1);
 }
 
 /* One round of a row: whether all is as it is listed. */

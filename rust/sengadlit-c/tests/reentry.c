@@ -24,8 +24,12 @@ static void check(const char *what, int holds)
 
 enum callback {
     NOMINAL_GLYPH, GLYPH_H_ADVANCE, WOULD_SUBSTITUTE, HAS_FEATURE, JOINING_TYPE, GENERAL_CATEGORY, INDIC_CATEGORIES, USE_CATEGORY,
-    COMPOSE, DECOMPOSE, ADD_FEATURE, ADD_GSUB_PAUSE, DESTROY, VARIATION_GLYPH, NOTE, SUBSTITUTE, IS_MARK, POSITION,
-    FINISH_POSITIONS, GLYPH_V_ADVANCE, GLYPH_V_ORIGIN, CALLBACKS
+    COMPOSE, DECOMPOSE, ADD_FEATURE, ADD_GSUB_PAUSE, DESTROY, VARIATION_GLYPH, GLYPH_PROPS, SUBSTITUTE, IS_MARK, POSITION,
+    FINISH_POSITIONS, GLYPH_V_ADVANCE, GLYPH_V_ORIGIN,
+#ifdef LENT
+    GROWTH,
+#endif
+    CALLBACKS
 };
 
 static sengadlit_font_funcs_t font_funcs;
@@ -140,22 +144,22 @@ static sengadlit_bool_t substitute(void *user_data, const sengadlit_lookup_t *lo
 
     (void)user_data, (void)lookup;
     meet(SUBSTITUTE);
-    found[0].codepoint++;
+    found[0].glyph_id++;
     return 1;
 }
 
-static uint32_t note(void *user_data, const sengadlit_glyph_info_t *glyph)
+static uint16_t glyph_props(void *user_data, const sengadlit_glyph_info_t *glyph)
 {
     (void)user_data;
-    meet(NOTE);
-    return glyph->codepoint;
+    meet(GLYPH_PROPS);
+    return (uint16_t)glyph->glyph_id;
 }
 
 static sengadlit_bool_t is_mark(void *user_data, const sengadlit_glyph_info_t *glyph)
 {
     (void)user_data;
     meet(IS_MARK);
-    return (sengadlit_bool_t)(glyph->var & 1);
+    return (sengadlit_bool_t)(glyph->glyph_props & 1);
 }
 
 /* The first glyph is placed elsewhere then. */
@@ -195,7 +199,7 @@ static void glyph_v_origin(void *user_data, uint32_t glyph, int32_t *x, int32_t 
 
 static const sengadlit_map_funcs_t map_funcs = {add_feature, add_gsub_pause};
 static const sengadlit_map_t map = {&map_funcs, NULL};
-static const sengadlit_lookups_funcs_t lookups_funcs = {variation_glyph, note,           substitute,     is_mark, position,
+static const sengadlit_lookups_funcs_t lookups_funcs = {variation_glyph, glyph_props, substitute, is_mark, position,
                                                         finish_positions, glyph_v_advance, glyph_v_origin};
 static const sengadlit_lookups_t lookups = {&lookups_funcs, NULL};
 static sengadlit_shape_plan_t *whole;
@@ -222,6 +226,10 @@ struct scene {
     int is_on_buffer;
 };
 
+#ifdef LENT
+static void meet_growth(void) { meet(GROWTH); }
+#endif
+
 static void begin(sengadlit_shaper_t shaper, sengadlit_tag_t script, uint32_t codepoint)
 {
     static const sengadlit_font_funcs_t font = {nominal_glyph, glyph_h_advance, would_substitute, has_feature};
@@ -233,6 +241,9 @@ static void begin(sengadlit_shaper_t shaper, sengadlit_tag_t script, uint32_t co
     tables_funcs = world.tables_funcs;
     world.font_funcs = font;
     world.tables_funcs = tables;
+#ifdef LENT
+    world.at_growth = meet_growth;
+#endif
 }
 
 static sengadlit_status_t preprocess(void) { return sengadlit_preprocess_text(world.plan, &world.font, world.buffer, NULL); }
@@ -251,16 +262,16 @@ static sengadlit_status_t reorder(void) { return run(SENGADLIT_PAUSE_REORDER_KHM
 static void begin_thai(void)
 {
     begin(SENGADLIT_SHAPER_THAI, SENGADLIT_TAG('T', 'h', 'a', 'i'), 0x0E1B);
-    glyphs()[1].codepoint = 0x0E48;
-    glyphs()[2].codepoint = 0x0E33;
+    glyphs()[1].glyph_id = 0x0E48;
+    glyphs()[2].glyph_id = 0x0E33;
 }
 
 /* A tone behind a syllable of two jamo. */
 static void begin_hangul(void)
 {
     begin(SENGADLIT_SHAPER_HANGUL, SENGADLIT_TAG('H', 'a', 'n', 'g'), 0x1100);
-    glyphs()[1].codepoint = 0x1161;
-    glyphs()[2].codepoint = 0x302E;
+    glyphs()[1].glyph_id = 0x1161;
+    glyphs()[2].glyph_id = 0x302E;
 }
 
 static void begin_arabic(void)
@@ -291,9 +302,9 @@ static void begin_indic(void)
     static const sengadlit_span_t spans[] = {{3, SENGADLIT_INDIC_SYLLABLE_CONSONANT}};
 
     begin(SENGADLIT_SHAPER_INDIC, SENGADLIT_TAG('D', 'e', 'v', 'a'), 0x0915);
-    glyphs()[0].codepoint = 0x0930;
+    glyphs()[0].glyph_id = 0x0930;
     glyphs()[0].category = SENGADLIT_INDIC_CATEGORY_RA;
-    glyphs()[1].codepoint = 0x094D;
+    glyphs()[1].glyph_id = 0x094D;
     glyphs()[1].category = SENGADLIT_INDIC_CATEGORY_H;
     glyphs()[2].category = SENGADLIT_INDIC_CATEGORY_C;
     (void)sengadlit_run_pause(world.plan, SENGADLIT_PAUSE_SETUP_SYLLABLES_INDIC, NULL, spans, 1, world.buffer, NULL);
@@ -313,7 +324,7 @@ static void begin_stretched(void)
 static void begin_whole(void)
 {
     begin(SENGADLIT_SHAPER_KHMER, SENGADLIT_TAG('K', 'h', 'm', 'r'), 0x1780);
-    glyphs()[1].codepoint = 0xFE00;
+    glyphs()[1].glyph_id = 0xFE00;
     world.properties.direction = SENGADLIT_DIRECTION_TTB;
     (void)sengadlit_buffer_set_properties(world.buffer, &world.properties);
 }
@@ -465,6 +476,24 @@ static void set_up_found(void)
     expect_status(sengadlit_setup_syllables_found(world.plan, SENGADLIT_PAUSE_SETUP_SYLLABLES_KHMER, world.buffer));
 }
 
+static void set_up_written(void)
+{
+    expect_status(sengadlit_setup_syllables_written(world.plan, SENGADLIT_PAUSE_SETUP_SYLLABLES_KHMER, world.buffer));
+}
+
+static void lend(void) { expect_status(sengadlit_buffer_lend(world.buffer, NULL, 0, 0)); }
+static void set_grow_func(void) { expect_status(sengadlit_buffer_set_grow_func(world.buffer, NULL, NULL)); }
+
+static void give_back(void)
+{
+    unsigned int length = 77, allocated = 77;
+    const sengadlit_glyph_info_t *given = sengadlit_buffer_give_back(world.buffer, &length, &allocated);
+    sengadlit_error_t error;
+
+    sengadlit_buffer_get_error(world.buffer, &error);
+    expect(given == NULL && error.status == SENGADLIT_IN_CALL && length == 77 && allocated == 77);
+}
+
 static void stop_carets(void) { expect(sengadlit_caret_stops(world.buffer, SENGADLIT_DIRECTION_LTR, NULL) == NULL); }
 static void merge_clusters(void) { expect_status(sengadlit_buffer_merge_clusters(world.buffer, 0, 1)); }
 static void flag_unsafe_to_break(void) { expect_status(sengadlit_buffer_unsafe_to_break(world.buffer, 0, 1)); }
@@ -511,6 +540,10 @@ static const struct intruder {
     {"postprocess_glyphs", call_postprocess, 0},
     {"spans", find_spans, 0},
     {"setup_syllables_found", set_up_found, 0},
+    {"setup_syllables_written", set_up_written, 0},
+    {"lend", lend, 0},
+    {"set_grow_func", set_grow_func, 0},
+    {"give_back", give_back, 0},
     {"caret_stops", stop_carets, 0},
     {"merge_clusters", merge_clusters, 0},
     {"unsafe_to_break", flag_unsafe_to_break, 0},

@@ -129,12 +129,16 @@ static void names_and_versions(void)
     check("no argument", strcmp(sengadlit_argument_name((sengadlit_argument_t)22), "unknown") == 0);
 }
 
-/* Numbers of HarfBuzz's that are others here. */
+/* Numbers of HarfBuzz's that are others here, and parts of numbers. */
 static void numbers_of_harfbuzz(void)
 {
-    check("marks of no props", SENGADLIT_GLYPH_MARKS_FROM_PROPS(0x0F) == 0);
-    check("marks of all props", SENGADLIT_GLYPH_MARKS_FROM_PROPS(0xFFFF) == 0x07);
-    check("a mark of a ligature", SENGADLIT_GLYPH_MARKS_FROM_PROPS(0x20) == SENGADLIT_GLYPH_MARK_LIGATED);
+    check("a component", SENGADLIT_LIG_PROPS_COMPONENT(0xEF) == 15 && SENGADLIT_LIG_PROPS_COMPONENT(0x23) == 3);
+    check("of a ligature", SENGADLIT_LIG_PROPS_COMPONENT(0x33) == 0);
+    check("properties", SENGADLIT_UNICODE_PROPS(SENGADLIT_UNICODE_GENERAL_CATEGORY_NON_SPACING_MARK, 230) == 0xE60C);
+    check("a category", SENGADLIT_UNICODE_PROPS_GET_GENERAL_CATEGORY(0xE6EC) == 12);
+    for (unsigned int number = 0; number < 32; number++)
+        check("a class of marks alone", SENGADLIT_UNICODE_PROPS_GET_COMBINING_CLASS(0xE6E0 | number) ==
+                                            (number >= 10 && number <= 12 ? 230 : 0));
     check("a consonant syllable of Myanmar",
           SENGADLIT_MYANMAR_SYLLABLE_FROM_HARFBUZZ(0) == SENGADLIT_MYANMAR_SYLLABLE_CONSONANT);
     check("a broken one", SENGADLIT_MYANMAR_SYLLABLE_FROM_HARFBUZZ(1) == SENGADLIT_MYANMAR_SYLLABLE_BROKEN);
@@ -394,8 +398,8 @@ static void lengths_and_positions(void)
     check("an empty buffer has positions", sengadlit_buffer_get_glyph_positions(world.buffer, &length) != NULL && length == 0);
     begin_thai();
     check("longer", sengadlit_buffer_set_length(world.buffer, 5) == sengadlit_buffer_get_glyph_infos(world.buffer, &length));
-    check("five", length == 5 && glyphs()[2].codepoint == 0x0E01 && glyphs()[2].cluster == 2);
-    check("new ones are zero", glyphs()[3].codepoint == 0 && glyphs()[4].general_category == 0 && glyphs()[4].var == 0);
+    check("five", length == 5 && glyphs()[2].glyph_id == 0x0E01 && glyphs()[2].cluster == 2);
+    check("new ones are zero", glyphs()[3].glyph_id == 0 && glyphs()[4].unicode_props == 0 && glyphs()[4].glyph_props == 0);
     check("positions", sengadlit_buffer_get_glyph_positions(world.buffer, &length) != NULL && length == 5);
     positions()[4].x_offset = UNTOUCHED;
     check("positions stay", positions()[4].x_offset == UNTOUCHED && positions()[3].x_offset == 0);
@@ -449,8 +453,8 @@ static void expect_empty(const char *what)
     check(what, sengadlit_buffer_get_state(world.buffer) == 0);
     check(what, sengadlit_buffer_get_glyph_infos(world.buffer, &length) != NULL && length == 0);
     check(what, sengadlit_buffer_get_glyph_positions(world.buffer, &length) != NULL && length == 0);
-    check(what, sengadlit_buffer_set_length(world.buffer, 1) != NULL && glyphs()->codepoint == 0);
-    glyphs()->codepoint = 0x0628;
+    check(what, sengadlit_buffer_set_length(world.buffer, 1) != NULL && glyphs()->glyph_id == 0);
+    glyphs()->glyph_id = 0x0628;
     expect(what, masks(), SENGADLIT_DONE);
     check("alone, since the context is gone", glyphs()->mask == 0x10);
 }
@@ -465,7 +469,7 @@ static void begin_full(void)
     limit_length(1);
     (void)sengadlit_buffer_set_context(world.buffer, letter, 1, letter, 1);
     sengadlit_buffer_set_state(world.buffer, ~0u);
-    glyphs()[0].general_category = 255;
+    glyphs()[0].unicode_props = 0xFFFF;
     (void)sengadlit_buffer_get_glyph_positions(world.buffer, NULL);
 }
 
@@ -518,12 +522,8 @@ static void texts_that_are_none(void)
 {
     for (unsigned int shaper = 0; shaper < NO_SHAPER; shaper++) {
         begin_world((sengadlit_shaper_t)shaper, ARAB, 0x0628, 3);
-        glyphs()[1].general_category = 30;
-        glyphs()[2].general_category = 255;
-        every_hook_refuses("no general category", SENGADLIT_ARGUMENT_GENERAL_CATEGORY, 1);
         (void)positions();
         every_hook_refuses("positions", SENGADLIT_ARGUMENT_POSITIONS, 0);
-        REFUSES("no general category at last", postprocess(), GENERAL_CATEGORY, 1);
     }
 }
 
@@ -549,7 +549,7 @@ static void texts_that_are_long(void)
     FAILS("the same for masks of none", run(SENGADLIT_PAUSE_RECORD_PREF), SENGADLIT_TOO_LONG, SENGADLIT_ARGUMENT_NONE, 0);
     begin_thai();
     limit_length(3);
-    glyphs()[1].codepoint = 0x0E33;
+    glyphs()[1].glyph_id = 0x0E33;
     FAILS("a longer result", preprocess(), SENGADLIT_TOO_LONG, SENGADLIT_ARGUMENT_NONE, 0);
     limit_length(4);
     expect("a result that fits", preprocess(), SENGADLIT_DONE);
@@ -569,9 +569,9 @@ static void fonts_that_are_not_called(void)
     input.script = THAI;
     input.found_script = 1;
     world.plan = sengadlit_plan_create(SENGADLIT_SHAPER_THAI, &input, NULL);
-    glyphs()[1].codepoint = 0x0E33;
+    glyphs()[1].glyph_id = 0x0E33;
     expect("Thai of GSUB without a font", sengadlit_preprocess_text(world.plan, NULL, world.buffer, NULL), SENGADLIT_DONE);
-    check("SARA AM is taken apart", glyphs()[1].codepoint == 0x0E4D && glyphs()[2].codepoint == 0x0E32);
+    check("SARA AM is taken apart", glyphs()[1].glyph_id == 0x0E4D && glyphs()[2].glyph_id == 0x0E32);
 }
 
 static void fonts_that_are_none(void)
@@ -624,7 +624,7 @@ static void pairs_of_wrong_arguments(void)
     expect_no_pair("tables without functions", world.plan, &world.tables, 0x41, &to, SENGADLIT_ARGUMENT_TABLES);
     begin_khmer();
     expect_no_pair("nowhere", world.plan, &world.tables, 0x41, NULL, SENGADLIT_ARGUMENT_RESULT);
-    expect_no_pair("a surrogate", world.plan, &world.tables, 0xD800, &to, SENGADLIT_ARGUMENT_CODEPOINT);
+    expect_no_pair("a surrogate", world.plan, &world.tables, 0xD800, &to, SENGADLIT_ARGUMENT_GLYPH_ID);
     check("nothing is written", to == UNTOUCHED);
 }
 
@@ -726,12 +726,12 @@ static void tables_that_are_none(void)
 static void letters_that_are_none(void)
 {
     begin_arabic();
-    glyphs()[1].codepoint = 0xD800;
-    glyphs()[2].codepoint = 0x110000;
-    REFUSES("a letter that is a surrogate", masks(), CODEPOINT, 1);
+    glyphs()[1].glyph_id = 0xD800;
+    glyphs()[2].glyph_id = 0x110000;
+    REFUSES("a letter that is a surrogate", masks(), GLYPH_ID, 1);
     begin_mongolian();
-    glyphs()[2].codepoint = 0x110000;
-    REFUSES("a letter beyond Unicode", masks(), CODEPOINT, 2);
+    glyphs()[2].glyph_id = 0x110000;
+    REFUSES("a letter beyond Unicode", masks(), GLYPH_ID, 2);
     begin_world(SENGADLIT_SHAPER_UNIVERSAL, SENGADLIT_TAG('T', 'i', 'b', 't'), 0xD800, 3);
     expect("letters that don't join may be any", masks(), SENGADLIT_DONE);
 }
@@ -777,8 +777,8 @@ static void pauses_without_fonts(void)
     pause_refuses_font("Indic without lookups", SENGADLIT_PAUSE_INITIAL_REORDERING);
     expect("final Indic asks for no lookup", run(SENGADLIT_PAUSE_FINAL_REORDERING), SENGADLIT_DONE);
     begin_indic();
-    glyphs()[2].codepoint = 0x10000;
-    REFUSES("a glyph that is no font's", run(SENGADLIT_PAUSE_INITIAL_REORDERING), CODEPOINT, 2);
+    glyphs()[2].glyph_id = 0x10000;
+    REFUSES("a glyph that is no font's", run(SENGADLIT_PAUSE_INITIAL_REORDERING), GLYPH_ID, 2);
 }
 
 static void spans_that_are_none(void)
@@ -824,7 +824,7 @@ static void syllables_that_are_none(void)
     expect("a circle with room",
            sengadlit_run_pause(world.plan, SENGADLIT_PAUSE_REORDER_KHMER, &world.font, NULL, 0, world.buffer, &circles),
            SENGADLIT_DONE);
-    check("the circle", circles == 1 && glyphs()[1].codepoint == 7 && glyphs()[1].var == 0);
+    check("the circle", circles == 1 && glyphs()[1].glyph_id == 7 && glyphs()[1].glyph_props == 0);
 }
 
 /* ---- Stretched marks ---- */
@@ -843,8 +843,8 @@ static void stretches_that_are_none(void)
     REFUSES("no positions", postprocess(), POSITIONS, 0);
     begin_stretched();
     REFUSES("no font", sengadlit_postprocess_glyphs(world.plan, NULL, world.buffer), FONT, 0);
-    glyphs()[2].codepoint = 0x10000;
-    REFUSES("a glyph that is no font's", postprocess(), CODEPOINT, 2);
+    glyphs()[2].glyph_id = 0x10000;
+    REFUSES("a glyph that is no font's", postprocess(), GLYPH_ID, 2);
     begin_stretched();
     limit_length(4);
     FAILS("copies beyond the greatest length", postprocess(), SENGADLIT_TOO_LONG, SENGADLIT_ARGUMENT_NONE, 0);

@@ -72,17 +72,17 @@ static sengadlit_bool_t variation_glyph(void *user_data, uint32_t unicode, uint3
     return unicode == 0x1780 && selector == 0xFE00;
 }
 
-/* The class of a glyph, which `var` keeps: the dot below is a mark. */
-static uint32_t note(void *user_data, const sengadlit_glyph_info_t *glyph)
+/* The class of a glyph: the dot below is a mark. */
+static uint16_t glyph_props(void *user_data, const sengadlit_glyph_info_t *glyph)
 {
-    check("the note's glyph", user_data == &lookup_7 && glyph->var == 0);
-    return glyph->codepoint == 0x0323;
+    check("the glyph of its class", user_data == &lookup_7 && glyph->glyph_props == 0 && glyph->lig_props == 0);
+    return glyph->glyph_id == 0x0323 ? SENGADLIT_GLYPH_PROPS_MARK : 0;
 }
 
 static sengadlit_bool_t is_mark(void *user_data, const sengadlit_glyph_info_t *glyph)
 {
     (void)user_data;
-    return glyph->var == 1;
+    return glyph->glyph_props == SENGADLIT_GLYPH_PROPS_MARK;
 }
 
 /* What lookup 8, of GPOS, does. */
@@ -113,7 +113,7 @@ static void glyph_v_origin(void *user_data, uint32_t glyph, int32_t *x, int32_t 
     *y = 880;
 }
 
-static sengadlit_lookups_funcs_t funcs = {variation_glyph, note, substitute, is_mark, position, finish_positions, NULL, NULL};
+static sengadlit_lookups_funcs_t funcs = {variation_glyph, glyph_props, substitute, is_mark, position, finish_positions, NULL, NULL};
 static sengadlit_lookups_t lookups = {&funcs, &lookup_7};
 
 static sengadlit_shape_plan_t *plan;
@@ -145,7 +145,7 @@ static int has_glyphs(const uint32_t *codepoints, const uint32_t *clusters, unsi
 
     if (length != wanted) return 0;
     for (unsigned int i = 0; i < length; i++)
-        if (found[i].codepoint != codepoints[i] || found[i].cluster != clusters[i]) return 0;
+        if (found[i].glyph_id != codepoints[i] || found[i].cluster != clusters[i]) return 0;
     return 1;
 }
 
@@ -199,7 +199,7 @@ static sengadlit_bool_t count_up(const sengadlit_lookup_t *lookup, sengadlit_buf
     sengadlit_glyph_info_t *found = sengadlit_buffer_get_glyph_infos(buffer, &length);
 
     for (unsigned int i = 0; i + 1 < length; i++)
-        if (found[i].mask & lookup->mask) found[i].codepoint++;
+        if (found[i].mask & lookup->mask) found[i].glyph_id++;
     return 1;
 }
 
@@ -213,7 +213,7 @@ static sengadlit_bool_t join(const sengadlit_lookup_t *lookup, sengadlit_buffer_
     check("flagged", sengadlit_buffer_unsafe_to_break(buffer, 0, 2) == SENGADLIT_DONE);
     check("merged", sengadlit_buffer_merge_clusters(buffer, 0, 2) == SENGADLIT_DONE);
     found = sengadlit_buffer_get_glyph_infos(buffer, &length);
-    found[0].codepoint = 0xE000;
+    found[0].glyph_id = 0xE000;
     memmove(&found[1], &found[2], (length - 2) * sizeof *found);
     return sengadlit_buffer_set_length(buffer, length - 1) != NULL;
 }
@@ -233,14 +233,7 @@ static sengadlit_bool_t refuse(const sengadlit_lookup_t *lookup, sengadlit_buffe
 static sengadlit_bool_t leave_great_number(const sengadlit_lookup_t *lookup, sengadlit_buffer_t *buffer)
 {
     (void)lookup;
-    sengadlit_buffer_get_glyph_infos(buffer, NULL)[0].codepoint = 65536;
-    return 1;
-}
-
-static sengadlit_bool_t leave_no_category(const sengadlit_lookup_t *lookup, sengadlit_buffer_t *buffer)
-{
-    (void)lookup;
-    sengadlit_buffer_get_glyph_infos(buffer, NULL)[0].general_category = 30;
+    sengadlit_buffer_get_glyph_infos(buffer, NULL)[0].glyph_id = 65536;
     return 1;
 }
 
@@ -252,13 +245,13 @@ static void try_texts(void)
     lookup_7 = count_up;
     set_text("\u1781\u17C2\u1784");
     check("a word", shape() == SENGADLIT_DONE && has_glyphs((const uint32_t[]){0x17C3, 0x1782, 0x1784}, clusters, 3));
-    check("the global mask", (glyphs()[0].mask & 1u << 31) != 0 && glyphs()[0].var == 0);
+    check("the global mask", (glyphs()[0].mask & 1u << 31) != 0 && glyphs()[0].glyph_props == 0);
     lookup_7 = join;
     set_text("\u1781\u17C2\u1784");
     check("a ligature", shape() == SENGADLIT_DONE && has_glyphs((const uint32_t[]){0xE000, 0x1784}, joined, 2));
     lookup_7 = count_up;
     set_text("\u1780\uFE00\u1784");
-    check("a variant", shape() == SENGADLIT_DONE && glyphs()[0].codepoint == 0xF900);
+    check("a variant", shape() == SENGADLIT_DONE && glyphs()[0].glyph_id == 0xF900);
     set_text("");
     check("no text", shape() == SENGADLIT_DONE && has_glyphs(NULL, NULL, 0));
 }
@@ -290,9 +283,8 @@ static void try_bad_lookups(void)
     expect_after("too long", make_many, SENGADLIT_TOO_LONG, ROOM + 1);
     sengadlit_set_message_func(take_message, &messages);
     expect_after("a number that no glyph has", leave_great_number, SENGADLIT_INTERNAL, 0);
-    expect_after("no category", leave_no_category, SENGADLIT_INTERNAL, 0);
     sengadlit_set_message_func(NULL, NULL);
-    check("messages", messages == 2);
+    check("a message", messages == 1);
     lookup_7 = count_up;
     set_text("\u1781\u17C2\u1784");
     check("again", shape() == SENGADLIT_DONE);
@@ -369,7 +361,7 @@ static void try_ignorables(void)
 
     lookup_7 = keep;
     set_text("\u1781\u200B\u1784");
-    check("shaped", shape_whole(plan) == SENGADLIT_DONE && glyphs()[1].codepoint == 0x20);
+    check("shaped", shape_whole(plan) == SENGADLIT_DONE && glyphs()[1].glyph_id == 0x20);
     found = sengadlit_buffer_get_glyph_positions(world.buffer, &length);
     check("without a width", length == 3 && found[1].x_advance == 0 && found[2].x_advance == 100);
 }
@@ -405,7 +397,7 @@ static void try_spaces(void)
         sengadlit_shape_plan_t *spaced = bare_latin(SENGADLIT_DIRECTION_LTR, ems[i]);
 
         set_text("x\u2002");
-        check("spaced", shape_whole(spaced) == SENGADLIT_DONE && glyphs()[1].codepoint == 0x20);
+        check("spaced", shape_whole(spaced) == SENGADLIT_DONE && glyphs()[1].glyph_id == 0x20);
         found = sengadlit_buffer_get_glyph_positions(world.buffer, NULL);
         check("a space", found[0].x_advance == 100 && found[1].x_advance == widths[i]);
         sengadlit_shape_plan_destroy(spaced);
@@ -490,13 +482,9 @@ static void try_arguments(void)
     world.font_funcs.glyph_h_advance = NULL;
     refuse_text("no advances", shape_whole(plan), SENGADLIT_ARGUMENT_FONT, 0);
     world.font_funcs.glyph_h_advance = advances;
-    glyphs()[1].codepoint = 0xD800;
+    glyphs()[1].glyph_id = 0xD800;
     keep_text();
-    refuse_text("no character", shape(), SENGADLIT_ARGUMENT_CODEPOINT, 1);
-    set_text("\u1781\u17C2\u1784");
-    glyphs()[2].general_category = 30;
-    keep_text();
-    refuse_text("no category", shape(), SENGADLIT_ARGUMENT_GENERAL_CATEGORY, 2);
+    refuse_text("no character", shape(), SENGADLIT_ARGUMENT_GLYPH_ID, 1);
     set_text("\u1781\u17C2\u1784");
     (void)positions();
     keep_text();
@@ -524,7 +512,7 @@ static void try_plan_without_lookups(void)
     bare = sengadlit_shape_plan_create(&input, NULL);
     set_text("\u1781\u17C2");
     check("no lookups", sengadlit_substitute_text(bare, &world.font, &none, world.buffer) == SENGADLIT_DONE);
-    check("no lookups", glyphs()[0].codepoint == 0x17C2 && glyphs()[1].codepoint == 0x1781);
+    check("no lookups", glyphs()[0].glyph_id == 0x17C2 && glyphs()[1].glyph_id == 0x1781);
     sengadlit_shape_plan_destroy(bare);
 }
 
@@ -547,6 +535,9 @@ static sengadlit_bool_t use_all(const sengadlit_lookup_t *lookup, sengadlit_buff
     check("properties", sengadlit_buffer_set_properties(buffer, &properties) == SENGADLIT_DONE);
     check("state", (sengadlit_buffer_set_state(buffer, 3), sengadlit_buffer_get_state(buffer) == 3));
     check("positions", sengadlit_buffer_get_glyph_positions(buffer, &length) != NULL && length == 3);
+    check("no array", sengadlit_buffer_lend(buffer, NULL, 0, 0) == SENGADLIT_ARGUMENT);
+    check("no array", sengadlit_buffer_set_grow_func(buffer, NULL, NULL) == SENGADLIT_ARGUMENT);
+    check("no array", sengadlit_buffer_give_back(buffer, NULL, NULL) == NULL);
     check("glyphs", sengadlit_buffer_get_glyph_infos(buffer, &length) != NULL && length == 3);
     return count_up(lookup, buffer);
 }
@@ -565,7 +556,7 @@ static void try_callbacks(void)
 
     lookup_7 = use_all;
     set_text("\u1781\u17C2\u1784");
-    check("what a callback does", shape() == SENGADLIT_DONE && glyphs()[0].codepoint == 0x17C3);
+    check("what a callback does", shape() == SENGADLIT_DONE && glyphs()[0].glyph_id == 0x17C3);
     check("the state stays", sengadlit_buffer_get_state(world.buffer) == 0);
     check("there are no positions", (keep_text(), sengadlit_buffer_unsafe_to_break(world.buffer, 0, 1) == SENGADLIT_DONE));
     check("the length", sengadlit_buffer_get_glyph_infos(world.buffer, &length) != NULL && length == 3);

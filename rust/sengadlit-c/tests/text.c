@@ -35,7 +35,7 @@ static sengadlit_glyph_info_t *glyphs(unsigned int *length)
 
 /* The buffer has these characters with these clusters, which a 0 ends. */
 struct letter {
-    uint32_t codepoint, cluster;
+    uint32_t character, cluster;
 };
 
 static void expect_text(const char *what, const struct letter *letters)
@@ -43,11 +43,11 @@ static void expect_text(const char *what, const struct letter *letters)
     unsigned int length, count = 0;
     const sengadlit_glyph_info_t *found = glyphs(&length);
 
-    while (letters[count].codepoint != 0)
+    while (letters[count].character != 0)
         count++;
     check(what, length == count);
     for (unsigned int i = 0; i < length && i < count; i++)
-        check(what, found[i].codepoint == letters[i].codepoint && found[i].cluster == letters[i].cluster);
+        check(what, found[i].glyph_id == letters[i].character && found[i].cluster == letters[i].cluster);
 }
 
 /* ---- Encodings ---- */
@@ -87,7 +87,7 @@ static void utf8(void)
     begin();
     check("a zero within a length", sengadlit_buffer_add_utf8(buffer, "a\0b", 3, 0, 3) == SENGADLIT_DONE);
     unsigned int length;
-    check("a zero within a length", glyphs(&length)[1].codepoint == 0 && length == 3);
+    check("a zero within a length", glyphs(&length)[1].glyph_id == 0 && length == 3);
 }
 
 static void utf16(void)
@@ -139,7 +139,7 @@ static void expect_refused(const char *what, sengadlit_status_t status, sengadli
 
     sengadlit_buffer_get_error(buffer, &error);
     check(what, status == SENGADLIT_ARGUMENT && error.status == status && error.argument == argument && error.index == 0);
-    check(what, glyphs(&length)[0].codepoint == 0x61 && length == 1);
+    check(what, glyphs(&length)[0].glyph_id == 0x61 && length == 1);
 }
 
 static void items_that_are_none(void)
@@ -173,14 +173,13 @@ static void lengths(void)
 
     begin();
     sengadlit_glyph_info_t *first = sengadlit_buffer_set_length(buffer, 1);
-    first->codepoint = 0x61;
-    first->general_category = 200;
+    first->glyph_id = 0x61;
+    first->unicode_props = 0xFFFF;
     check("a greatest length", sengadlit_buffer_set_properties(buffer, &one) == SENGADLIT_DONE);
     check("positions", sengadlit_buffer_get_glyph_positions(buffer, NULL) != NULL);
     check("text behind them", sengadlit_buffer_add_utf8(buffer, "bc", -1, 0, -1) == SENGADLIT_DONE);
     expect_text("text behind them", LETTERS({0x61, 0}, {0x62, 0}, {0x63, 1}));
-    check("what is no category stays", glyphs(&length)[0].general_category == 200);
-    glyphs(&length)[0].general_category = 0;
+    check("what was there stays", glyphs(&length)[0].unicode_props == 0xFFFF && length == 3);
     check("hooks are still limited", sengadlit_spans(SENGADLIT_SHAPER_KHMER, buffer, NULL) == NULL);
     check("a shorter one", sengadlit_buffer_set_length(buffer, 1) != NULL);
     check("a shorter one", sengadlit_spans(SENGADLIT_SHAPER_KHMER, buffer, NULL) != NULL);
@@ -198,17 +197,18 @@ static void properties(void)
     const sengadlit_glyph_info_t *found = glyphs(&length);
     static const uint8_t wanted[5][3] = {
         {SENGADLIT_UNICODE_GENERAL_CATEGORY_OTHER_LETTER, 0, 0},
-        {SENGADLIT_UNICODE_GENERAL_CATEGORY_NON_SPACING_MARK, 27, SENGADLIT_GLYPH_MARK_CONTINUATION},
-        {SENGADLIT_UNICODE_GENERAL_CATEGORY_FORMAT, 0, SENGADLIT_GLYPH_MARK_IGNORABLE},
+        {SENGADLIT_UNICODE_GENERAL_CATEGORY_NON_SPACING_MARK, 27, SENGADLIT_UNICODE_PROPS_CONTINUATION},
+        {SENGADLIT_UNICODE_GENERAL_CATEGORY_FORMAT, 0, SENGADLIT_UNICODE_PROPS_IGNORABLE},
         {SENGADLIT_UNICODE_GENERAL_CATEGORY_NON_SPACING_MARK, 0,
-         SENGADLIT_GLYPH_MARK_IGNORABLE | SENGADLIT_GLYPH_MARK_CONTINUATION},
-        {SENGADLIT_UNICODE_GENERAL_CATEGORY_SPACING_MARK, 0, SENGADLIT_GLYPH_MARK_CONTINUATION}};
+         SENGADLIT_UNICODE_PROPS_IGNORABLE | SENGADLIT_UNICODE_PROPS_CONTINUATION},
+        {SENGADLIT_UNICODE_GENERAL_CATEGORY_SPACING_MARK, 0, SENGADLIT_UNICODE_PROPS_CONTINUATION}};
     for (unsigned int i = 0; i < 5; i++) {
-        check("category", found[i].general_category == wanted[i][0]);
-        check("class", found[i].modified_combining_class == wanted[i][1]);
-        check("marks", found[i].marks == wanted[i][2]);
-        check("all else is zero", found[i].mask == 0 && found[i].var == 0 && found[i].syllable == 0 &&
-                                      found[i].category == 0 && found[i].auxiliary == 0 && found[i].lig_comp == 0);
+        const unsigned int props = found[i].unicode_props;
+        check("properties", props == (SENGADLIT_UNICODE_PROPS(wanted[i][0], wanted[i][1]) | wanted[i][2]));
+        check("category", SENGADLIT_UNICODE_PROPS_GET_GENERAL_CATEGORY(props) == wanted[i][0]);
+        check("class", SENGADLIT_UNICODE_PROPS_GET_COMBINING_CLASS(props) == wanted[i][1]);
+        check("all else is zero", found[i].mask == 0 && found[i].glyph_props == 0 && found[i].lig_props == 0 &&
+                                      found[i].syllable == 0 && found[i].category == 0 && found[i].auxiliary == 0);
     }
 }
 
@@ -290,6 +290,15 @@ static void syllables(void)
     check("the same bytes", found[0].syllable == 0x12 && found[1].syllable == 0x21 && found[4].syllable == 0x30);
     check("the same state", sengadlit_buffer_get_state(buffer) == SENGADLIT_BUFFER_STATE_HAS_BROKEN_SYLLABLE);
     check("no set-up", sengadlit_setup_syllables_found(plan, SENGADLIT_PAUSE_REORDER_KHMER, buffer) == SENGADLIT_ABSENT);
+    found[0].syllable = 0x52;
+    found[1].syllable = 0xA1;
+    found[2].syllable = found[3].syllable = found[4].syllable = 0xF0;
+    sengadlit_buffer_set_state(buffer, 0);
+    check("as written", sengadlit_setup_syllables_written(plan, pause, buffer) == SENGADLIT_DONE);
+    found = glyphs(&length);
+    check("the same bytes", found[0].syllable == 0x12 && found[1].syllable == 0x21 && found[4].syllable == 0x30);
+    check("the same state", sengadlit_buffer_get_state(buffer) == SENGADLIT_BUFFER_STATE_HAS_BROKEN_SYLLABLE);
+    check("no set-up", sengadlit_setup_syllables_written(plan, SENGADLIT_PAUSE_REORDER_KHMER, buffer) == SENGADLIT_ABSENT);
     length = 77;
     check("no grammar", sengadlit_spans(SENGADLIT_SHAPER_THAI, buffer, &length) != NULL && length == 0);
     begin();
@@ -301,7 +310,6 @@ static void syllables_that_are_none(void)
 {
     sengadlit_plan_t *plan = plan_of(SENGADLIT_SHAPER_KHMER, SENGADLIT_TAG('K', 'h', 'm', 'r'));
     const sengadlit_pause_t khmer = SENGADLIT_PAUSE_SETUP_SYLLABLES_KHMER, other = SENGADLIT_PAUSE_SETUP_SYLLABLES_USE;
-    sengadlit_error_t error;
 
     begin();
     (void)sengadlit_buffer_add_utf8(buffer, "a", -1, 0, -1);
@@ -312,14 +320,12 @@ static void syllables_that_are_none(void)
     expect_refused("a pause of others", sengadlit_setup_syllables_found(plan, other, buffer), SENGADLIT_ARGUMENT_PAUSE);
     expect_refused("no pause", sengadlit_setup_syllables_found(plan, SENGADLIT_PAUSE_NONE, buffer), SENGADLIT_ARGUMENT_PAUSE);
     check("no buffer", sengadlit_setup_syllables_found(plan, khmer, NULL) == SENGADLIT_ARGUMENT);
+    expect_refused("no plan", sengadlit_setup_syllables_written(NULL, khmer, buffer), SENGADLIT_ARGUMENT_PLAN);
+    expect_refused("a pause of others", sengadlit_setup_syllables_written(plan, other, buffer), SENGADLIT_ARGUMENT_PAUSE);
+    check("no buffer", sengadlit_setup_syllables_written(plan, khmer, NULL) == SENGADLIT_ARGUMENT);
     (void)sengadlit_buffer_get_glyph_positions(buffer, NULL);
     expect_refused("positions", sengadlit_setup_syllables_found(plan, khmer, buffer), SENGADLIT_ARGUMENT_POSITIONS);
-    (void)sengadlit_buffer_set_length(buffer, 1);
-    glyphs(NULL)->general_category = 30;
-    expect_refused("no category", sengadlit_setup_syllables_found(plan, khmer, buffer), SENGADLIT_ARGUMENT_GENERAL_CATEGORY);
-    check("no category", sengadlit_spans(SENGADLIT_SHAPER_KHMER, buffer, NULL) == NULL);
-    sengadlit_buffer_get_error(buffer, &error);
-    check("no category", error.argument == SENGADLIT_ARGUMENT_GENERAL_CATEGORY);
+    expect_refused("positions", sengadlit_setup_syllables_written(plan, khmer, buffer), SENGADLIT_ARGUMENT_POSITIONS);
     sengadlit_plan_destroy(plan);
 }
 
@@ -384,8 +390,6 @@ static void carets_that_are_none(void)
     check("longer", sengadlit_caret_stops(buffer, SENGADLIT_DIRECTION_LTR, NULL) == NULL);
     sengadlit_buffer_get_error(buffer, &error);
     check("longer", error.status == SENGADLIT_TOO_LONG);
-    glyphs(NULL)->general_category = 30;
-    expect_no_stops("no category", SENGADLIT_DIRECTION_LTR, SENGADLIT_ARGUMENT_GENERAL_CATEGORY);
 }
 
 /* The third of five glyphs is replaced, and takes the second into its syllable. */

@@ -35,7 +35,7 @@ static void shape(struct made *made, sengadlit_buffer_t *buffer)
 
     memset(text, 0, LENGTH * sizeof *text);
     for (unsigned int i = 0; i < LENGTH; i++)
-        text[i].codepoint = 0x1780 + i;
+        text[i].glyph_id = 0x1780 + i;
     text[3].category = 22;
     if (sengadlit_run_pause(made->plan, SENGADLIT_PAUSE_SETUP_SYLLABLES_KHMER, NULL, spans, 2, buffer, NULL) != SENGADLIT_DONE ||
         sengadlit_run_pause(made->plan, SENGADLIT_PAUSE_REORDER_KHMER, &font, NULL, 0, buffer, NULL) != SENGADLIT_DONE)
@@ -44,7 +44,7 @@ static void shape(struct made *made, sengadlit_buffer_t *buffer)
     if (length != MADE)
         made->failed++;
     for (unsigned int i = 0; i < length && i < MADE; i++)
-        made->codepoints[i] = text[i].codepoint;
+        made->codepoints[i] = text[i].glyph_id;
 }
 
 static void *run(void *data)

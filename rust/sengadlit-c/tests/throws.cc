@@ -89,9 +89,9 @@ static sengadlit_bool_t variation_glyph(void *, uint32_t, uint32_t, uint32_t *)
     return 0;
 }
 
-static uint32_t note(void *, const sengadlit_glyph_info_t *)
+static uint16_t glyph_props(void *, const sengadlit_glyph_info_t *)
 {
-    meet("note");
+    meet("glyph_props");
     return 0;
 }
 
@@ -178,8 +178,8 @@ static void stretch()
     (void)sengadlit_buffer_set_properties(buffer, &properties);
     sengadlit_glyph_info_t *glyphs = sengadlit_buffer_set_length(buffer, 3);
     for (unsigned int i = 0; i < 3; i++) {
-        glyphs[i].codepoint = i + 1;
-        glyphs[i].general_category = SENGADLIT_UNICODE_GENERAL_CATEGORY_OTHER_LETTER;
+        glyphs[i].glyph_id = i + 1;
+        glyphs[i].unicode_props = SENGADLIT_UNICODE_GENERAL_CATEGORY_OTHER_LETTER;
     }
     glyphs[1].auxiliary = 8;
     glyphs[2].auxiliary = 9;
@@ -195,7 +195,7 @@ static void shape_whole()
 {
     static const uint16_t zero = 0;
     static const sengadlit_table_feature_t mark = {SENGADLIT_TAG('m', 'a', 'r', 'k'), 1, &zero};
-    static const sengadlit_lookups_funcs_t funcs = {variation_glyph, note,           substitute,     is_mark, position,
+    static const sengadlit_lookups_funcs_t funcs = {variation_glyph, glyph_props, substitute, is_mark, position,
                                                     finish_positions, glyph_v_advance, glyph_v_origin};
     static const sengadlit_lookups_t lookups = {&funcs, nullptr};
     sengadlit_shape_plan_input_t input = {};
@@ -276,7 +276,7 @@ int main()
     static const char *const callbacks[] = {"nominal_glyph",    "glyph_h_advance",  "would_substitute", "has_feature", "joining_type",
                                             "general_category", "indic_categories", "use_category",     "compose",     "decompose",
                                             "add_feature",      "add_gsub_pause",   "destroy",          "message",     "variation_glyph",
-                                            "note",
+                                            "glyph_props",
                                             "substitute",       "is_mark",          "position",         "finish_positions",
                                             "glyph_v_advance",  "glyph_v_origin"};
 

@@ -146,6 +146,36 @@ static int create_objects(sengadlit_shaper_t shaper, sengadlit_tag_t script, uns
            is_there(sengadlit_buffer_set_length(world.buffer, length), "sengadlit_buffer_set_length");
 }
 
+/* The array that the buffer is lent. */
+static sengadlit_glyph_info_t *array;
+
+#ifdef LENT
+static sengadlit_glyph_info_t *grow(void *user_data, sengadlit_glyph_info_t *old, unsigned int wanted, unsigned int *allocated)
+{
+    sengadlit_glyph_info_t *moved = malloc(wanted * sizeof *moved);
+
+    if (user_data != &world || moved == NULL)
+        exit(EXIT_FAILURE);
+    if (old != array && *allocated != 0)
+        exit(EXIT_FAILURE);
+    if (world.at_growth)
+        world.at_growth();
+    if (*allocated != 0)
+        memcpy(moved, old, *allocated * sizeof *moved);
+    free(array);
+    *allocated = wanted;
+    return array = moved;
+}
+
+static void lend_text(unsigned int length)
+{
+    array = length == 0 ? NULL : calloc(length, sizeof *array);
+    if (sengadlit_buffer_set_grow_func(world.buffer, grow, &world) != SENGADLIT_DONE ||
+        sengadlit_buffer_lend(world.buffer, array, length, length) != SENGADLIT_DONE)
+        exit(EXIT_FAILURE);
+}
+#endif
+
 void begin_world(sengadlit_shaper_t shaper, sengadlit_tag_t script, uint32_t codepoint, unsigned int length)
 {
     end_world();
@@ -154,14 +184,17 @@ void begin_world(sengadlit_shaper_t shaper, sengadlit_tag_t script, uint32_t cod
         if (!create_objects(shaper, script, length))
             exit(EXIT_FAILURE);
     }
+#ifdef LENT
+    lend_text(length);
+#endif
     set_answers();
     world.properties.script = script;
     world.properties.direction = SENGADLIT_DIRECTION_LTR;
     limit_length(ROOM);
     for (unsigned int i = 0; i < length; i++) {
-        glyphs()[i].codepoint = codepoint;
+        glyphs()[i].glyph_id = codepoint;
         glyphs()[i].cluster = i;
-        glyphs()[i].general_category = SENGADLIT_UNICODE_GENERAL_CATEGORY_OTHER_LETTER;
+        glyphs()[i].unicode_props = SENGADLIT_UNICODE_GENERAL_CATEGORY_OTHER_LETTER;
     }
 }
 
@@ -171,9 +204,9 @@ void begin_word_and_tiles(void)
     world.properties.direction = SENGADLIT_DIRECTION_RTL;
     limit_length(ROOM);
     for (unsigned int i = 1; i < 3; i++) {
-        glyphs()[i].codepoint = i + 1;
-        glyphs()[i].marks = SENGADLIT_GLYPH_MARK_MULTIPLIED;
-        glyphs()[i].lig_comp = (uint8_t)(i + 1);
+        glyphs()[i].glyph_id = i + 1;
+        glyphs()[i].glyph_props = SENGADLIT_GLYPH_PROPS_MULTIPLIED;
+        glyphs()[i].lig_props = (uint8_t)(i + 1);
     }
 }
 
@@ -181,6 +214,8 @@ void end_world(void)
 {
     sengadlit_buffer_destroy(world.buffer);
     sengadlit_plan_destroy(world.plan);
+    free(array);
+    array = NULL;
     memset(&world, 0, sizeof world);
 }
 
@@ -218,15 +253,6 @@ void keep_text(void)
         memcpy(kept.positions, positions(), kept.length * sizeof *kept.positions);
 }
 
-/* Field by field: the byte behind them is nobody's. */
-static int is_same_glyph(const sengadlit_glyph_info_t *a, const sengadlit_glyph_info_t *b)
-{
-    return a->codepoint == b->codepoint && a->cluster == b->cluster && a->mask == b->mask && a->var == b->var &&
-           a->syllable == b->syllable && a->category == b->category && a->auxiliary == b->auxiliary &&
-           a->general_category == b->general_category && a->modified_combining_class == b->modified_combining_class &&
-           a->lig_comp == b->lig_comp && a->marks == b->marks;
-}
-
 int text_is_changed(void)
 {
     unsigned int length;
@@ -234,8 +260,7 @@ int text_is_changed(void)
 
     if (length != kept.length || sengadlit_buffer_get_state(world.buffer) != kept.state)
         return 1;
-    for (unsigned int i = 0; i < length; i++)
-        if (!is_same_glyph(&now[i], &kept.glyphs[i]))
-            return 1;
+    if (memcmp(now, kept.glyphs, length * sizeof *now) != 0)
+        return 1;
     return world.has_positions && memcmp(kept.positions, positions(), length * sizeof *kept.positions) != 0;
 }

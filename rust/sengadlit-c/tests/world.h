@@ -27,9 +27,12 @@ struct world {
     sengadlit_font_t font;
     sengadlit_tables_t tables;
     int has_positions;
+    void (*at_growth)(void);         /* Called where the array of the text grows, if it isn't null. */
 };
 
 extern struct world world;
+
+/* Compiled with LENT, the texts stand in an array that the buffer is lent, which has no room to spare and moves as it grows. */
 
 /* A plan of the features stch, isol, rphf and pref, with a lookup each, and a text of one letter, so many times. Where memory
    is refused it says so on stderr and tries again, once. */

@@ -1,13 +1,15 @@
 //! Buffers.
+use super::arrays::Grow;
 use super::handle::Pointer;
+use super::plans::UserData;
 use super::{Out, array, put, text};
 use crate::buffer::Buffer;
 use crate::encodings::Unit;
-use crate::layout::{Glyph, Properties};
+use crate::layout::Properties;
 use crate::status::{Argument, Error, Status};
 use core::ffi::{c_char, c_int, c_uint};
 use core::ops::Range;
-use sengadlit::buffer::GlyphPosition;
+use sengadlit::buffer::{GlyphInfo, GlyphPosition};
 
 #[unsafe(no_mangle)]
 pub extern "C" fn sengadlit_buffer_create() -> Pointer {
@@ -47,7 +49,7 @@ pub extern "C" fn sengadlit_buffer_reset(buffer: Pointer) {
 }
 
 #[unsafe(no_mangle)]
-pub extern "C" fn sengadlit_buffer_set_length(buffer: Pointer, length: c_uint) -> *mut Glyph {
+pub extern "C" fn sengadlit_buffer_set_length(buffer: Pointer, length: c_uint) -> *mut GlyphInfo {
     buffer.call_for_place(|buffer| {
         buffer.set_length(length as usize)?;
         Ok(buffer.text.place())
@@ -58,7 +60,7 @@ pub extern "C" fn sengadlit_buffer_set_length(buffer: Pointer, length: c_uint) -
 pub extern "C" fn sengadlit_buffer_get_glyph_infos(
     buffer: Pointer,
     length: Out<'_, c_uint>,
-) -> *mut Glyph {
+) -> *mut GlyphInfo {
     buffer.call_for_place(|buffer| {
         put(length, buffer.text.len() as c_uint);
         Ok(buffer.text.place())
@@ -74,6 +76,60 @@ pub extern "C" fn sengadlit_buffer_get_glyph_positions(
         let positions = buffer.positions().map_err(|_| Error::MEMORY)?;
         put(length, positions.len() as c_uint);
         Ok(positions.as_mut_ptr())
+    })
+}
+
+#[unsafe(no_mangle)]
+pub extern "C" fn sengadlit_buffer_set_grow_func(
+    buffer: Pointer,
+    grow: Option<Grow>,
+    user_data: UserData,
+) -> Status {
+    buffer.call_own(
+        |status| status,
+        |buffer| {
+            buffer.text.set_grow(grow, user_data)?;
+            Ok(Status::Done)
+        },
+    )
+}
+
+/// # Safety
+///
+/// The array has room for so many glyphs, all of which are written.
+#[unsafe(no_mangle)]
+pub unsafe extern "C" fn sengadlit_buffer_lend(
+    buffer: Pointer,
+    glyphs: *mut GlyphInfo,
+    length: c_uint,
+    allocated: c_uint,
+) -> Status {
+    buffer.call_own(
+        |status| status,
+        |buffer| {
+            // SAFETY: an array of C's with its lengths.
+            unsafe {
+                buffer
+                    .text
+                    .lend_array(glyphs, length as usize, allocated as usize)
+            }?;
+            buffer.clear_positions();
+            Ok(Status::Done)
+        },
+    )
+}
+
+#[unsafe(no_mangle)]
+pub extern "C" fn sengadlit_buffer_give_back(
+    buffer: Pointer,
+    length: Out<'_, c_uint>,
+    allocated: Out<'_, c_uint>,
+) -> *mut GlyphInfo {
+    buffer.call_for_place(|buffer| {
+        let (glyphs, found, room) = buffer.take_array()?;
+        put(length, found as c_uint);
+        put(allocated, room as c_uint);
+        Ok(glyphs)
     })
 }
 

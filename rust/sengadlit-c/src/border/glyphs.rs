@@ -1,22 +1,17 @@
-//! The glyphs of a buffer: C reads and writes them between calls, and the crate during one. They are the same bytes, but that a
-//! general category of C's may be any number, and one of the crate's is one of thirty: so the crate looks at the glyphs only
-//! after a pass over them has found no other.
-use crate::layout::Glyph;
+//! The glyphs of a buffer: C reads and writes them between calls, and the crate during one. They are the crate's own structs,
+//! of which any bytes are valid. They stand in a list of the buffer's, or in an array that C lends.
+use super::arrays::{Array, Grow};
+use super::plans::UserData;
 use crate::status::{Argument, Error};
-use core::slice;
-use sengadlit::alloc::Global;
+use sengadlit::alloc::{Global, Vec as List};
 use sengadlit::buffer::{
-    Buffer as Inner, BufferSettings, Direction, GeneralCategory, GlyphInfo, ShaperError,
+    Buffer as Inner, BufferSettings, Direction, GlyphInfo, GlyphRewriting, ShaperError,
 };
-use std::vec::Vec;
-
-/// The number of general categories.
-const CATEGORIES: u32 = GeneralCategory::ALL.len() as u32;
 
 /// The greatest length of a text for which none is set.
 pub const MAX_LENGTH: usize = u32::MAX as usize;
 
-/// The codepoints that a hook takes.
+/// The numbers of characters or glyphs that a hook takes.
 #[derive(Clone, Copy)]
 pub enum Takes {
     /// All numbers.
@@ -26,63 +21,61 @@ pub enum Takes {
 }
 
 impl Takes {
-    // The bits that none of them has.
+    // Whether a glyph has such a number.
     #[inline]
-    fn outside(self) -> u32 {
+    fn takes(self, glyph: &GlyphInfo) -> bool {
         match self {
-            Takes::Numbers => 0,
-            Takes::GlyphNumbers => 0xFFFF_0000,
+            Takes::Numbers => true,
+            Takes::GlyphNumbers => glyph.glyph_id <= 0xFFFF,
         }
     }
 }
 
 /// The glyphs and their settings.
 pub struct Text {
-    // Its glyphs may have categories that are none: whatever looks at them is behind `is_known`.
+    // (before the array, so that its lists are dropped first)
     inner: Inner,
-    // Where they stand. It is taken anew after whatever may move them.
-    first: *mut Glyph,
     max_length: usize,
+    // What C lends; none before it first does.
+    array: Option<Array>,
 }
 
 impl Text {
     /// An empty text, which takes no memory.
     pub fn new() -> Self {
-        Text::of(Inner::new(Global, MAX_LENGTH), MAX_LENGTH)
-    }
-
-    fn of(mut inner: Inner, max_length: usize) -> Self {
-        let first = place_of(&mut inner);
         Text {
-            inner,
-            first,
-            max_length,
+            inner: Inner::new(Global, MAX_LENGTH),
+            max_length: MAX_LENGTH,
+            array: None,
         }
     }
 
     /// An empty text with the settings of this one, whose glyphs a panic left in any state.
     #[cold]
     pub fn recover(&mut self) {
+        self.renew();
+        self.set_state(false, false);
+        self.settle();
+    }
+
+    // Drops the lists.
+    fn renew(&mut self) {
         let mut inner = Inner::new(Global, MAX_LENGTH);
-        inner.set_settings(&BufferSettings {
-            has_broken_syllable: false,
-            has_stch: false,
-            ..self.inner.settings()
-        });
-        *self = Text::of(inner, self.max_length);
+        inner.set_settings(&self.inner.settings());
+        self.inner = inner;
     }
 
     /// Takes the glyphs and settings of a text of the crate's, which is empty then.
     pub fn lend(&mut self, text: &mut Inner) {
-        let max_length = text.max_len();
+        self.max_length = text.max_len();
         let empty = Inner::new(Global, MAX_LENGTH);
-        *self = Text::of(core::mem::replace(text, empty), max_length);
+        self.inner = core::mem::replace(text, empty);
     }
 
-    /// Gives the glyphs back, into a text of the crate's whose settings stay but for the greatest length, if each general
-    /// category is one and each codepoint is a glyph's number; returns whether it did.
+    /// Gives the glyphs back, into a text of the crate's whose settings stay but for the greatest length, if each has a number
+    /// of a font's glyphs; returns whether it did.
     pub fn take_back(&mut self, text: &mut Inner) -> bool {
-        if !self.is_known(Takes::GlyphNumbers) {
+        if self.wrong_glyph(Takes::GlyphNumbers).is_some() {
             return false;
         }
         let mut inner = core::mem::replace(self, Text::new()).inner;
@@ -94,6 +87,119 @@ impl Text {
         });
         *text = inner;
         true
+    }
+
+    // The array that C may lend, which is made where there is none.
+    fn array(&mut self) -> Result<&Array, Error> {
+        if self.array.is_none() {
+            self.array = Some(Array::new().ok_or(Error::MEMORY)?);
+        }
+        self.array.as_ref().ok_or(Error::MEMORY)
+    }
+
+    /// Takes the function by which arrays grow that C lends.
+    pub fn set_grow(&mut self, grow: Option<Grow>, user_data: UserData) -> Result<(), Error> {
+        self.array()?.set_grow(grow, user_data);
+        Ok(())
+    }
+
+    /// Works in an array of C's from now on, of which the first glyphs are the text; what it had is gone.
+    ///
+    /// # Safety
+    ///
+    /// If `first` isn't null, there is room for so many glyphs, which are all written, until C takes the array back.
+    #[inline]
+    pub unsafe fn lend_array(
+        &mut self,
+        first: *mut GlyphInfo,
+        length: usize,
+        room: usize,
+    ) -> Result<(), Error> {
+        let is_none = first.is_null() && room != 0;
+        if is_none || length > room || self.is_lent() {
+            return Err(Error::argument(Argument::Glyphs));
+        }
+        if length > self.inner.max_len() {
+            self.inner.set_max_len(length);
+        }
+        let array = self.array()?;
+        array.lend(first, room);
+        // SAFETY: the caller's promise; no list works in an array that wasn't lent. The list is the text's, and is dropped by
+        // `take_array`, or with the text before the array is.
+        let mut list = unsafe { array.list(length) };
+        let ended = self.inner.exchange_glyphs(&mut list);
+        if ended.is_err() {
+            self.array()?.give_back();
+        }
+        Ok(ended?)
+    }
+
+    /// Whether C lends an array.
+    #[inline]
+    pub fn is_lent(&self) -> bool {
+        self.array.as_ref().is_some_and(Array::is_lent)
+    }
+
+    /// Ends the loan: returns where the glyphs are, how many, and the room that they have in C's array. If it hadn't any for
+    /// them, they are the buffer's still.
+    #[inline]
+    pub fn take_array(&mut self) -> Result<(*mut GlyphInfo, usize, usize), Error> {
+        let Some(array) = self.array.as_ref().filter(|array| array.is_lent()) else {
+            return Err(Error::argument(Argument::Glyphs));
+        };
+        array.give_back();
+        let (place, length) = (self.inner.glyphs().as_ptr(), self.inner.len());
+        if place == array.first() {
+            let found = (array.first(), length, array.room());
+            drop(self.inner.take_glyphs());
+            return Ok(found);
+        }
+        if array.is_used() {
+            self.renew_around();
+        }
+        Ok((self.place(), length, 0))
+    }
+
+    // Drops the lists, one of which works in the array still, but for that of the glyphs.
+    #[cold]
+    fn renew_around(&mut self) {
+        let mut glyphs = self.inner.take_glyphs();
+        self.renew();
+        let exchanged = self.inner.exchange_glyphs(&mut glyphs);
+        debug_assert!(exchanged.is_ok());
+    }
+
+    // Brings glyphs into the array that C lends, from where a hook left them, if it has room for them.
+    #[inline]
+    fn settle(&mut self) {
+        if let Some(array) = self.array.as_ref() {
+            if array.is_lent() && self.inner.glyphs().as_ptr() != array.first() {
+                self.move_in();
+            }
+        }
+    }
+
+    #[cold]
+    fn move_in(&mut self) {
+        let Some(array) = self.array.as_ref() else {
+            return;
+        };
+        let length = self.inner.len();
+        self.inner.set_max_len(length.max(self.max_length));
+        if array.is_used() {
+            // (the list in the array is that of spare glyphs, which a rewriting exchanges for that of the text)
+            let moved = self.inner.rewrite(length, &Same);
+            debug_assert!(moved.is_ok());
+        } else if length <= array.room() {
+            // SAFETY: C lends the array, which has the room, and no list works in it. The new one is the text's, as in
+            // `lend_array`.
+            let mut list = unsafe {
+                array.write(self.inner.glyphs());
+                array.list(length)
+            };
+            let moved = self.inner.exchange_glyphs(&mut list);
+            debug_assert!(moved.is_ok());
+        }
     }
 
     /// Removes the glyphs, and what was said of the text.
@@ -109,23 +215,20 @@ impl Text {
 
     /// The glyphs.
     #[inline]
-    pub fn glyphs(&self) -> &[Glyph] {
-        // SAFETY: so many glyphs of the same layout stand there (crate::layout), and every number is a field of `Glyph`.
-        // `first` was taken after the last change by the crate, and nobody writes while `self` is borrowed.
-        unsafe { slice::from_raw_parts(self.first, self.inner.len()) }
+    pub fn glyphs(&self) -> &[GlyphInfo] {
+        self.inner.glyphs()
     }
 
-    /// The glyphs, to be written.
+    /// Writes glyphs.
     #[inline]
-    pub fn glyphs_mut(&mut self) -> &mut [Glyph] {
-        // SAFETY: as for `glyphs`, and `self` is borrowed by nobody else.
-        unsafe { slice::from_raw_parts_mut(self.first, self.inner.len()) }
+    pub fn with_glyphs_mut<A>(&mut self, write: impl FnOnce(&mut [GlyphInfo]) -> A) -> A {
+        self.inner.with_glyphs_mut(write)
     }
 
     /// Where the glyphs stand, for C to read and write until the next call that is given the text.
     #[inline]
-    pub fn place(&mut self) -> *mut Glyph {
-        self.first
+    pub fn place(&mut self) -> *mut GlyphInfo {
+        self.with_glyphs_mut(<[GlyphInfo]>::as_mut_ptr)
     }
 
     /// Keeps so many glyphs, or adds default ones.
@@ -138,35 +241,9 @@ impl Text {
         if length > self.inner.max_len() {
             self.inner.set_max_len(length);
         }
-        if !self.is_known(Takes::Numbers) {
-            return self.grow_unknown(length);
-        }
-        self.inner.grow(length - self.len())?;
-        self.first = place_of(&mut self.inner);
-        Ok(())
-    }
-
-    // The same where some category is none: the crate sees default glyphs in the place of those that were there.
-    #[cold]
-    fn grow_unknown(&mut self, length: usize) -> Result<(), ShaperError> {
-        let mut kept: Vec<Glyph> = Vec::new();
-        kept.try_reserve_exact(self.len())
-            .map_err(|_| ShaperError::Memory)?;
-        kept.extend_from_slice(self.glyphs());
-        let mut longer = Inner::new(Global, MAX_LENGTH);
-        longer.grow(length)?;
-        longer.set_settings(&BufferSettings {
-            max_len: MAX_LENGTH,
-            ..self.inner.settings()
-        });
-        self.inner = longer;
-        self.first = place_of(&mut self.inner);
-        // SAFETY: there are `length` glyphs, which are more than those that were kept and not the same; none is borrowed.
-        unsafe {
-            self.first
-                .copy_from_nonoverlapping(kept.as_ptr(), kept.len())
-        };
-        Ok(())
+        let grown = self.inner.grow(length - self.len());
+        self.settle();
+        grown
     }
 
     /// Takes the direction, script, level, flags and greatest length of these settings.
@@ -208,47 +285,27 @@ impl Text {
         self.inner.set_has_stch(has_stch);
     }
 
-    // Whether each general category is one, and each codepoint is taken. It doesn't branch at a glyph: what is too great
-    // leaves a bit in a sum.
+    // The place of the first glyph that isn't taken.
     #[inline]
-    fn is_known(&self, takes: Takes) -> bool {
-        let (mut categories, mut codepoints) = (0, 0);
-        let mut left = self.glyphs();
-        while let [glyph, others @ ..] = left {
-            categories |= u32::from(glyph.general_category) + (0x100 - CATEGORIES);
-            codepoints |= glyph.codepoint;
-            left = others;
-        }
-        categories < 0x100 && codepoints & takes.outside() == 0
+    fn wrong_glyph(&self, takes: Takes) -> Option<usize> {
+        self.glyphs().iter().position(|glyph| !takes.takes(glyph))
     }
 
-    #[cold]
-    fn wrong_glyph(&self, takes: Takes) -> Error {
-        let mut glyphs = self.glyphs().iter();
-        let is_none = |glyph: &Glyph| u32::from(glyph.general_category) >= CATEGORIES;
-        if let Some(index) = glyphs.position(is_none) {
-            return Error::argument_at(Argument::GeneralCategory, index);
-        }
-        let mut glyphs = self.glyphs().iter();
-        let index = glyphs.position(|glyph| glyph.codepoint & takes.outside() != 0);
-        Error::argument_at(Argument::Codepoint, index.unwrap_or(0))
-    }
-
-    /// Runs a hook of the crate's, if each general category is one and each codepoint is taken.
+    /// Runs a hook of the crate's, if each glyph is taken.
     #[inline]
     pub fn run<A>(
         &mut self,
         takes: Takes,
         hook: impl FnOnce(&mut Inner) -> Result<A, Error>,
     ) -> Result<A, Error> {
-        if !self.is_known(takes) {
-            return Err(self.wrong_glyph(takes));
+        if let Some(index) = self.wrong_glyph(takes) {
+            return Err(Error::argument_at(Argument::GlyphId, index));
         }
         if self.inner.max_len() != self.max_length {
             self.limit()?;
         }
         let ended = hook(&mut self.inner);
-        self.first = place_of(&mut self.inner);
+        self.settle();
         ended
     }
 
@@ -263,63 +320,34 @@ impl Text {
     }
 }
 
-// Where a buffer keeps its glyphs, which have categories.
-#[inline]
-fn place_of(inner: &mut Inner) -> *mut Glyph {
-    inner.with_glyphs_mut(|glyphs: &mut [GlyphInfo]| glyphs.as_mut_ptr().cast())
+// The same glyphs.
+struct Same;
+
+impl GlyphRewriting for Same {
+    fn rewrite(&self, glyphs: &mut [GlyphInfo], to: &mut List<GlyphInfo>) {
+        // (there is room for as many, by contract)
+        let written = to.extend_from_slice(glyphs);
+        debug_assert!(written.is_ok());
+    }
 }
 
 #[cfg(test)]
 mod tests {
     use super::{Takes, Text};
-    use crate::status::Error;
-    use sengadlit::buffer::{BufferSettings, GeneralCategory};
+    use crate::status::{Argument, Error};
+    use sengadlit::buffer::{BufferSettings, GlyphInfo};
 
-    // Writes as C does.
-    fn write(text: &mut Text, index: usize, general_category: u8) {
-        assert!(index < text.len());
+    #[test]
+    fn numbers_above_those_of_glyphs_are_seen() {
+        let mut text = Text::new();
+        text.set_len(3).unwrap();
         // SAFETY: a glyph of the text, which nobody borrows.
-        unsafe { (*text.place().add(index)).general_category = general_category }
-    }
-
-    fn categories(text: &mut Text) -> Result<Vec<GeneralCategory>, Error> {
-        text.run(Takes::Numbers, |inner| {
-            Ok(inner
-                .glyphs()
-                .iter()
-                .map(|glyph| glyph.general_category)
-                .collect())
-        })
-    }
-
-    #[test]
-    fn every_category_is_seen_and_no_other_number() {
-        let mut text = Text::new();
-        text.set_len(1).unwrap();
-        for number in 0..=255 {
-            write(&mut text, 0, number);
-            match GeneralCategory::from_number(number) {
-                Some(category) => assert_eq!(categories(&mut text), Ok(vec![category])),
-                None => assert!(categories(&mut text).is_err()),
-            }
-        }
-    }
-
-    #[test]
-    fn what_is_no_category_stays_where_the_text_grows() {
-        let mut text = Text::new();
+        unsafe { (*text.place().add(2)).glyph_id = 0x1_0000 };
+        let refused = text.run(Takes::GlyphNumbers, |_| Ok(()));
+        assert_eq!(refused, Err(Error::argument_at(Argument::GlyphId, 2)));
+        assert_eq!(text.run(Takes::Numbers, |_| Ok(())), Ok(()));
         text.set_len(2).unwrap();
-        write(&mut text, 0, 7);
-        write(&mut text, 1, 200);
-        text.set_len(100).unwrap();
-        let found: Vec<u8> = text
-            .glyphs()
-            .iter()
-            .map(|glyph| glyph.general_category)
-            .collect();
-        assert_eq!((found.len(), &found[..3]), (100, &[7, 200, 0][..]));
-        text.set_len(1).unwrap();
-        assert_eq!(categories(&mut text), Ok(vec![GeneralCategory::Lo]));
+        assert_eq!(text.run(Takes::GlyphNumbers, |_| Ok(())), Ok(()));
     }
 
     #[test]
@@ -327,14 +355,14 @@ mod tests {
         let mut text = Text::new();
         text.set_len(3).unwrap();
         text.set_properties(&BufferSettings::new(2));
-        assert!(categories(&mut text).is_err());
+        assert!(text.run(Takes::Numbers, |_| Ok(())).is_err());
         text.set_len(2).unwrap();
         assert!(
             text.run(Takes::Numbers, |inner| Ok(inner.grow(1)?))
                 .is_err()
         );
         text.set_len(5).unwrap();
-        assert!(categories(&mut text).is_err());
-        assert_eq!(text.glyphs().len(), 5);
+        assert!(text.run(Takes::Numbers, |_| Ok(())).is_err());
+        assert_eq!(text.glyphs(), [GlyphInfo::DEFAULT; 5]);
     }
 }

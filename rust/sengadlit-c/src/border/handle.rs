@@ -1,6 +1,6 @@
 //! Buffers as C has them. While a call has a buffer, other calls with it, from a callback, are rejected.
 use crate::buffer::Buffer;
-use crate::status::{Error, Status};
+use crate::status::{Argument, Error, Status};
 use core::cell::{Cell, UnsafeCell};
 use core::ptr::{NonNull, null_mut};
 
@@ -73,6 +73,27 @@ impl Pointer {
                 handle.state.set(State::Abandoned);
             }
         }
+    }
+
+    /// That it is C's own buffer, to which it may lend an array.
+    fn may_be_lent(self) -> Result<(), Error> {
+        match self.handle() {
+            Some(handle) if handle.is_lent => Err(Error::argument(Argument::Glyphs)),
+            _ => Ok(()),
+        }
+    }
+
+    /// Makes a call as `call` does, on a buffer of C's own.
+    #[inline]
+    pub fn call_own<A>(
+        self,
+        refused: impl FnOnce(Status) -> A,
+        call: impl FnOnce(&mut Buffer) -> Result<A, Error>,
+    ) -> A {
+        self.call(refused, |buffer| {
+            self.may_be_lent()?;
+            call(buffer)
+        })
     }
 
     /// Why the last call that failed did.

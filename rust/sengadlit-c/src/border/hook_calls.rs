@@ -178,6 +178,17 @@ pub extern "C" fn sengadlit_setup_syllables_found(
 }
 
 #[unsafe(no_mangle)]
+pub extern "C" fn sengadlit_setup_syllables_written(
+    plan: Option<&Plan>,
+    pause: u32,
+    buffer: Pointer,
+) -> Status {
+    on_buffer(plan, buffer, |plan, buffer| {
+        hooks::setup_syllables_written(plan, pause, buffer)
+    })
+}
+
+#[unsafe(no_mangle)]
 pub extern "C" fn sengadlit_postprocess_glyphs(
     plan: Option<&Plan>,
     font: Option<&Font<'_>>,

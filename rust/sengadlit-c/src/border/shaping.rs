@@ -5,7 +5,7 @@ use super::handle::{Lent, Pointer};
 use super::plans::UserData;
 use super::{Out, array, boxed, guarded, put};
 use crate::buffer::Buffer;
-use crate::layout::{Bool, Glyph, Lookup, UserFeature};
+use crate::layout::{Bool, Lookup, UserFeature};
 use crate::plan::list;
 use crate::shaping::{self, LayoutTable, ShapePlan};
 use crate::status::{Argument, Error, Status};
@@ -13,7 +13,7 @@ use core::cell::RefCell;
 use core::ffi::c_uint;
 use core::ptr::null_mut;
 use sengadlit::alloc::Vec as List;
-use sengadlit::buffer::{Buffer as Inner, GlyphInfo, ShaperError};
+use sengadlit::buffer::{Buffer as Inner, GlyphInfo, GlyphProps, ShaperError};
 use sengadlit::font::GlyphId;
 use sengadlit::ot_shape::Lookups as AnswersLookups;
 use sengadlit::ot_shape_plan::StageLookup;
@@ -147,8 +147,8 @@ pub unsafe extern "C" fn sengadlit_shape_plan_destroy(plan: *mut ShapePlan) {
 
 // ---- Lookups ----
 
-type Note = unsafe extern "C-unwind" fn(UserData, *const Glyph) -> u32;
-type IsMark = unsafe extern "C-unwind" fn(UserData, *const Glyph) -> Bool;
+type Props = unsafe extern "C-unwind" fn(UserData, *const GlyphInfo) -> u16;
+type IsMark = unsafe extern "C-unwind" fn(UserData, *const GlyphInfo) -> Bool;
 type Apply = unsafe extern "C-unwind" fn(UserData, *const Lookup, Pointer) -> Bool;
 type Origin = unsafe extern "C-unwind" fn(UserData, u32, *mut i32, *mut i32);
 
@@ -156,7 +156,7 @@ type Origin = unsafe extern "C-unwind" fn(UserData, u32, *mut i32, *mut i32);
 #[repr(C)]
 pub struct LookupsFuncs {
     pub variation_glyph: Option<unsafe extern "C-unwind" fn(UserData, u32, u32, *mut u32) -> Bool>,
-    pub note: Option<Note>,
+    pub glyph_props: Option<Props>,
     pub substitute: Option<Apply>,
     pub is_mark: Option<IsMark>,
     pub position: Option<Apply>,
@@ -275,13 +275,12 @@ impl<'a> AskedLookups<'a> {
 }
 
 impl AnswersLookups for AskedLookups<'_> {
-    fn note(&self, glyph: &GlyphInfo) -> u32 {
-        let Some(note) = self.funcs.note else {
-            return 0;
+    fn glyph_props(&self, glyph: &GlyphInfo) -> GlyphProps {
+        let Some(props) = self.funcs.glyph_props else {
+            return GlyphProps::NONE;
         };
-        let glyph = Glyph::from(*glyph);
         // SAFETY: a callback of C, with what it is given.
-        call_back(|| unsafe { note(self.user_data, &glyph) })
+        GlyphProps(call_back(|| unsafe { props(self.user_data, glyph) }))
     }
 
     // C's callbacks tell no bound.
@@ -329,9 +328,8 @@ impl GlyphClasses for AskedLookups<'_> {
         let Some(is_mark) = self.funcs.is_mark else {
             return false;
         };
-        let glyph = Glyph::from(*glyph);
         // SAFETY: a callback of C, with what it is given.
-        call_back(|| unsafe { is_mark(self.user_data, &glyph) }) != 0
+        call_back(|| unsafe { is_mark(self.user_data, glyph) }) != 0
     }
 }
 
