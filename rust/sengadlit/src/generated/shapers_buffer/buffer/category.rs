@@ -117,7 +117,40 @@ impl GeneralCategory {
     /// </details>
     #[inline]
     pub fn from_number(number: u8) -> Option<Self> {
-        Self::ALL.as_slice().get(number as usize).copied()
+        let category = match number {
+            0 => Self::Cc,
+            1 => Self::Cf,
+            2 => Self::Cn,
+            3 => Self::Co,
+            4 => Self::Cs,
+            5 => Self::Ll,
+            6 => Self::Lm,
+            7 => Self::Lo,
+            8 => Self::Lt,
+            9 => Self::Lu,
+            10 => Self::Mc,
+            11 => Self::Me,
+            12 => Self::Mn,
+            13 => Self::Nd,
+            14 => Self::Nl,
+            15 => Self::No,
+            16 => Self::Pc,
+            17 => Self::Pd,
+            18 => Self::Pe,
+            19 => Self::Pf,
+            20 => Self::Pi,
+            21 => Self::Po,
+            22 => Self::Ps,
+            23 => Self::Sc,
+            24 => Self::Sk,
+            25 => Self::Sm,
+            26 => Self::So,
+            27 => Self::Zl,
+            28 => Self::Zp,
+            29 => Self::Zs,
+            _ => return None,
+        };
+        Some(category)
     }
 
     /// The number of the category, its place in `ALL`.

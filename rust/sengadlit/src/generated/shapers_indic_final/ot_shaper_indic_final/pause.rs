@@ -47,6 +47,7 @@ pub fn final_reordering<F: Font>(plan: &Plan, face: &F, buffer: &mut Buffer) {
         rules: &rules,
         script: buffer.script(),
     };
+    // (this order never refuses)
     if reorder_syllables(&order, buffer).is_ok() {
         open_words(rules.init, buffer);
     }

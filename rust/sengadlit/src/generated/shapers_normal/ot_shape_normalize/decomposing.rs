@@ -37,8 +37,8 @@ enum Way {
 type Parts = ArrayVec<u32, MAX_PARTS>;
 
 /// Takes the characters of a text apart, as far as the font has the parts, and writes the number of
-/// each character's glyph to `var`. A character alone that the font has stays, unless the shaper
-/// wants letters and marks apart; one with marks comes apart, unless the shaper wants no
+/// each character's glyph to `glyph_props`. A character alone that the font has stays, unless the
+/// shaper wants letters and marks apart; one with marks comes apart, unless the shaper wants no
 /// normalization. Parts keep the cluster of what they came from. A cluster with a variation selector
 /// stays; the font's glyph for a character and a selector stands for both. Refuses by the number of
 /// glyphs, and then nothing has changed. A text of which nothing comes apart takes no memory.

@@ -25,10 +25,10 @@ pub enum Rounds {
 }
 
 /// Normalizes a text without positions, whose glyphs are characters with their properties: takes
-/// them apart, orders the marks, and composes what the font has. `var` is then the number of each
-/// character's glyph. Refuses where the text taken apart is longer than the buffer may be, and then
-/// nothing has changed. A text of which nothing comes apart takes no memory. (Unicode Standard Annex
-/// 15; HarfBuzz's order of rounds.)
+/// them apart, orders the marks, and composes what the font has. `glyph_props` is then the number of
+/// each character's glyph. Refuses where the text taken apart is longer than the buffer may be, and
+/// then nothing has changed. A text of which nothing comes apart takes no memory. (Unicode Standard
+/// Annex 15; HarfBuzz's order of rounds.)
 ///
 /// # Errors
 ///

@@ -9,10 +9,10 @@ use crate::generated::shapers_base::buffer::{Buffer, GlyphInfo, GlyphPosition, S
 use crate::generated::shapers_base::font::GlyphId;
 use crate::support::alloc::Global;
 
-/// Gives each glyph a position of its own: its advance in the font, and no offset; in vertical text
-/// it is drawn by its origin for that. What positions there were are gone. A font has no glyph of a
-/// number above 65535, nor of that one: every greater number is queried as that one. (HarfBuzz's
-/// `hb_ot_position_default`.)
+/// Gives each glyph a position of its own: its advance in the font, no offset, and `var` 0; in
+/// vertical text it is drawn by its origin for that. What positions there were are gone. A font has
+/// no glyph of a number above 65535, nor of that one: every greater number is queried as that one.
+/// (HarfBuzz's `hb_ot_position_default`.)
 ///
 /// # Errors
 ///

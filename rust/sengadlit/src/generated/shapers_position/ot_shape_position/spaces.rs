@@ -24,8 +24,8 @@ const STOPS: [u32; 2] = [0x2E, 0x2C];
 
 /// Gives each space that is drawn by another one's glyph the width that it stands for: a part of
 /// the em, a digit's, a full stop's or half of its glyph's. In vertical text that is its height.
-/// Normalization leaves the kind of such a space as its glyph's `modified_combining_class`; a space
-/// of the font's own has none, and keeps its advance. It comes behind `set_advances`; a buffer
+/// Normalization leaves the kind of such a space in the high byte of its glyph's `unicode_props`; a
+/// space of the font's own has none, and keeps its advance. It comes behind `set_advances`; a buffer
 /// without positions keeps none. (HarfBuzz's `_hb_ot_shape_fallback_spaces`.)
 ///
 /// <details><summary>Contract</summary>

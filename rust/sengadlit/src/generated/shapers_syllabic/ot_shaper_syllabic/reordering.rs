@@ -132,7 +132,6 @@ fn reorder_in_turn<R: ReorderBySteps>(order: &R, buffer: &mut Buffer) -> Result<
 #[inline(never)]
 fn reorder_carrying<R: ReorderBySteps>(order: &R, buffer: &mut Buffer) -> Result<(), ShaperError> {
     let mut carrying = Carrying {
-        falls: true,
         run: CarriedRun::NONE,
         glyph: GlyphInfo::DEFAULT,
     };
@@ -147,11 +146,10 @@ fn reorder_carrying<R: ReorderBySteps>(order: &R, buffer: &mut Buffer) -> Result
     Ok(())
 }
 
-// What the walk carries along, in a text whose clusters may fall: the run that merges flooded, if
-// there is one, and the glyph whose cluster they may change or that stands for a guard.
+// What the walk carries along: the run that merges flooded, if there is one, and the glyph whose
+// cluster they may change or that stands for a guard.
 #[derive(Clone, Copy)]
 struct Carrying {
-    falls: bool,
     run: CarriedRun,
     glyph: GlyphInfo,
 }
@@ -174,14 +172,6 @@ fn reorder_behind<R: ReorderBySteps>(
 // Carries the run up to a syllable, with another cluster in its last place but one, or writes it.
 #[inline]
 fn guard(carrying: &mut Carrying, buffer: &mut Buffer, first: usize) {
-    if carrying.falls {
-        guard_run(carrying, buffer, first);
-    }
-}
-
-#[cold]
-#[inline(never)]
-fn guard_run(carrying: &mut Carrying, buffer: &mut Buffer, first: usize) {
     if let Some(run) = carrying.run.reaching(buffer.glyphs(), first) {
         let glyph = buffer.get(first - 2);
         buffer.set(
@@ -213,14 +203,6 @@ fn glyph_before(glyphs: &[GlyphInfo], place: usize) -> GlyphInfo {
 // Takes the guard away; or a run begins, where merges flooded what stands before the syllable.
 #[inline]
 fn settle(carrying: &mut Carrying, buffer: &mut Buffer, first: usize) {
-    if carrying.falls {
-        settle_run(carrying, buffer, first);
-    }
-}
-
-#[cold]
-#[inline(never)]
-fn settle_run(carrying: &mut Carrying, buffer: &mut Buffer, first: usize) {
     if carrying.run.is_none() {
         carrying.run = begun(buffer.glyphs(), first, carrying.glyph.cluster);
     } else {
@@ -245,22 +227,9 @@ fn write(run: CarriedRun, buffer: &mut Buffer) {
     buffer.change_each(run.start, run.end, &cluster);
 }
 
-/// Where the next syllable starts that may change, of those from `start` on.
-///
-/// <details><summary>Contract</summary>
-///
-/// # Contract
-///
-/// ```text
-/// requires { start ≤ length glyphs.now }
-/// ensures { NextChanging (M.changes order.now) start glyphs.now result }
-/// ```
-///
-/// - `NextChanging`: `crates/shapers_syllabic/specs/ReorderingLaws.antt`
-///
-/// </details>
+// Where the next syllable starts that may change, of those from `start` on.
 #[inline]
-pub fn next_changing<M: MayChange>(order: &M, glyphs: &[GlyphInfo], start: usize) -> Option<usize> {
+fn next_changing<M: MayChange>(order: &M, glyphs: &[GlyphInfo], start: usize) -> Option<usize> {
     let count = first_changing(order, &glyphs[start..])?;
     Some(syllable_start(glyphs, start, start + count))
 }
