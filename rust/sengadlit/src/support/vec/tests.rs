@@ -127,10 +127,10 @@ fn a_list_is_gone_through_as_a_slice_is() {
 
 #[test]
 fn lists_go_to_rusts_own_and_back() {
-    let own = std::vec![1, 2];
+    let own: vec::Vec<_> = [1, 2].into_iter().collect();
     let place = own.as_ptr();
     let words = Vec::from(own);
     assert_eq!(words.as_ptr(), place);
-    assert_eq!(std::vec::Vec::from(words), [1, 2]);
+    assert_eq!(vec::Vec::from(words).as_slice(), [1, 2]);
     assert_eq!(format!("{:?}", list(&[1, 2])), "[1, 2]");
 }
