@@ -128,7 +128,7 @@ fn a_list_is_gone_through_as_a_slice_is() {
 #[test]
 fn lists_go_to_rusts_own_and_back() {
     let own: vec::Vec<_> = [1, 2].into_iter().collect();
-    let place = own.as_ptr();
+    let place = own.as_slice().as_ptr();
     let words = Vec::from(own);
     assert_eq!(words.as_ptr(), place);
     assert_eq!(vec::Vec::from(words).as_slice(), [1, 2]);
