@@ -28,8 +28,8 @@ pub struct NormalizeSettings {
 
 /// Normalizes a text without positions, whose glyphs are characters with their properties, for a
 /// shaper with its plan, a font and Unicode's tables: by the shaper's own `decompose`, `compose`
-/// and `reorder_marks`, and where it lacks one by the tables. `var` is then the number of each
-/// character's glyph. None stands for the shaper of a script that needs none.
+/// and `reorder_marks`, and where it lacks one by the tables. `glyph_props` is then the number
+/// of each character's glyph. None stands for the shaper of a script that needs none.
 ///
 /// # Errors
 ///

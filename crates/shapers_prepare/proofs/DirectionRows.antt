@@ -10,7 +10,7 @@ use Rattle.shapers_buffer.specs.declared.buffer.level.Direction.TheVariants.{Inv
 use Rattle.shapers_buffer.specs.declared.buffer.tag.Script.{Script}
 use Rattle.shapers_buffer.specs.Buffer.{Buffer, new_buffer}
 use Rattle.shapers_buffer.specs.Glyph.{default_glyph}
-use Rattle.shapers_buffer.specs.Properties.{CONTINUATION, set_mark, properties, set_property}
+use Rattle.shapers_buffer.specs.Properties.{CONTINUATION, properties, set_property}
 use Rattle.shapers_prepare.specs.NativeDirection.{are_numbers_or_flags, graphemes_turned, in_native_direction, is_turned, native_direction, opposite_direction, script_direction, text_direction}
 
 abbrev direction_of : List ℕ → Direction
@@ -39,7 +39,7 @@ abbrev of_category : hb_unicode_general_category_t → hb_glyph_info_t
 of_category c = record default_glyph { unicode_props = properties c 0 }
 
 abbrev indicator : ℕ → hb_glyph_info_t
-indicator c = record default_glyph { glyph_id = c; unicode_props = record { 0 = 0x001A } }
+indicator c = record default_glyph { glyph_id = c; unicode_props = properties So 0 }
 
 -- numbers alone, flags alone (the first, the last, and their neighbours), with a space; each kind of
 -- letter beside them; other numbers; nothing
@@ -83,8 +83,7 @@ text ps = map
     (λ p. let g : hb_glyph_info_t = record default_glyph {
       glyph_id = p.0;
       cluster = p.0;
-      unicode_props = record { 0 = 0x0007 };
-      unicode_props = set_property CONTINUATION p.1 default_glyph.unicode_props;
+      unicode_props = set_property CONTINUATION p.1 (properties Lo 0);
     } in g) ps
 
 abbrev six : List hb_glyph_info_t

@@ -34,14 +34,15 @@ font_with character = record {
 abbrev glyph : hb_unicode_general_category_t → hb_glyph_info_t
 glyph general = record {
   glyph_id = 0x301;
-  cluster = 5;
   mask = 0x80000007;
+  cluster = 5;
+  glyph_props = record { 0 = 0x70 };
+  lig_props = record { 0 = 0x2E };
   syllable = 13;
+  unicode_props =
+      with_property CONTINUATION (with_property HIDDEN (with_property IGNORABLE (properties general 23)));
   category = 17;
   auxiliary = 19;
-  glyph_props = record { 0 = 0x70 };
-  lig_props = record { 0 = 14 };
-  unicode_props = with_property CONTINUATION (with_property HIDDEN (with_property IGNORABLE (properties general 23)));
 }
 
 abbrev buffer : ℕ → List ℕ → List hb_glyph_info_t → Buffer
@@ -51,14 +52,14 @@ buffer flags before gs = let b : Buffer =
 -- the circle has the mark's cluster and mask and nothing else of it
 circle_made : with_first_circle sample (font_with 0x25CC) (buffer 2 [] (glyph Mn ∷ glyph Lo ∷ [])) ≡ record {
   glyph_id = 0x25CC;
-  cluster = 5;
   mask = 0x80000007;
-  syllable = 0;
-  category = 0;
-  auxiliary = 0;
+  cluster = 5;
   glyph_props = record { 0 = 0 };
   lig_props = record { 0 = 0 };
+  syllable = 0;
   unicode_props = record { 0 = 0x001A };
+  category = 0;
+  auxiliary = 0;
 } ∷ glyph Mn ∷ glyph Lo ∷ []
 circle_made = refl
 

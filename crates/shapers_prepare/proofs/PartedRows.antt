@@ -100,23 +100,23 @@ others = refl
 -- the circle has all fields of the glyph behind it but its character, and begins a grapheme
 circle : vowel_circle (record {
   glyph_id = 0x93E;
-  cluster = 5;
   mask = 7;
+  cluster = 5;
+  glyph_props = record { 0 = 0x70 };
+  lig_props = record { 0 = 0x2E };
   syllable = 13;
+  unicode_props = record { 0 = 0x17EA };
   category = 17;
   auxiliary = 19;
-  glyph_props = record { 0 = 0x70 };
-  lig_props = record { 0 = 14 };
-  unicode_props = record { 0 = 0x17EA };
 }) ≡ record {
   glyph_id = 0x25CC;
-  cluster = 5;
   mask = 7;
+  cluster = 5;
+  glyph_props = record { 0 = 0x70 };
+  lig_props = record { 0 = 0x2E };
   syllable = 13;
+  unicode_props = record { 0 = 0x176A };
   category = 17;
   auxiliary = 19;
-  glyph_props = record { 0 = 0x70 };
-  lig_props = record { 0 = 14 };
-  unicode_props = record { 0 = 0x176A };
 }
 circle = refl

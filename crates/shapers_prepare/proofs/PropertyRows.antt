@@ -7,7 +7,7 @@ use Rattle.shapers_buffer.specs.Glyph.{default_glyph}
 use Rattle.shapers_buffer.specs.Properties.{is_continuation}
 use Rattle.shapers_normal.specs.Properties.{is_from_to}
 use Rattle.shapers_prepare.specs.CharacterProperties.{CharacterProperties}
-use Rattle.shapers_prepare.specs.GlyphProperties.{kept_class, kept_marks, properties_set, with_properties}
+use Rattle.shapers_prepare.specs.GlyphProperties.{kept_class, kept_properties, properties_set, with_properties}
 
 -- some characters of Unicode, and in ASCII a mark that is ignorable, which there is none of
 abbrev category_of : ℕ → hb_unicode_general_category_t
@@ -34,26 +34,26 @@ sample = record {
 abbrev busy : hb_glyph_info_t
 busy = record {
   glyph_id = 0x301;
-  cluster = 5;
   mask = 7;
+  cluster = 5;
+  glyph_props = record { 0 = 0x70 };
+  lig_props = record { 0 = 0x2E };
   syllable = 13;
+  unicode_props = record { 0 = 0x17F9 };
   category = 17;
   auxiliary = 19;
-  glyph_props = record { 0 = 0x70 };
-  lig_props = record { 0 = 14 };
-  unicode_props = record { 0 = 0x17F9 };
 }
 
 as_mark : with_properties sample true busy ≡ record {
   glyph_id = 0x301;
-  cluster = 5;
   mask = 7;
+  cluster = 5;
+  glyph_props = record { 0 = 0x70 };
+  lig_props = record { 0 = 0x2E };
   syllable = 13;
+  unicode_props = record { 0 = 0xE68C };
   category = 17;
   auxiliary = 19;
-  glyph_props = record { 0 = 0x70 };
-  lig_props = record { 0 = 14 };
-  unicode_props = record { 0 = 0xE68C };
 }
 as_mark = refl
 
@@ -62,9 +62,9 @@ as_mark = refl
 abbrev samples : List ℕ
 samples = 0x905 ∷ 0x301 ∷ 0xAD ∷ 0x200C ∷ 0x200D ∷ 0x34F ∷ 0x180B ∷ 0xE0020 ∷ 0xE001F ∷ 0x41 ∷ []
 
-marks_of : map (λ c. (kept_marks sample false c (record { 0 = 0 })).0) samples ≡ 0 ∷ 0 ∷ 8 ∷ 8 ∷ 8 ∷ 40 ∷ 40 ∷ 40 ∷ 8
-    ∷ 0 ∷ []
-marks_of = refl
+properties_of : map (λ c. (kept_properties sample false c).0) samples ≡ 0x0007 ∷ 0xE60C ∷ 0x0021 ∷ 0x0221 ∷ 0x0121
+    ∷ 0x006C ∷ 0x006C ∷ 0x0061 ∷ 0x0021 ∷ 0x000C ∷ []
+properties_of = refl
 
 bytes_of : map (kept_class sample) samples ≡ 0 ∷ 230 ∷ 0 ∷ 2 ∷ 1 ∷ 0 ∷ 0 ∷ 0 ∷ 0 ∷ 0 ∷ []
 bytes_of = refl

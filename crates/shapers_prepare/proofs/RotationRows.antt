@@ -37,14 +37,14 @@ to direction has_vert = record { direction = direction; rtlm_mask = 0x80; has_ve
 abbrev glyph : ℕ → hb_glyph_info_t
 glyph c = record {
   glyph_id = c;
-  cluster = 5;
   mask = 0x103;
+  cluster = 5;
+  glyph_props = record { 0 = 0x70 };
+  lig_props = record { 0 = 0x2E };
   syllable = 13;
+  unicode_props = record { 0 = 0x17F9 };
   category = 17;
   auxiliary = 19;
-  glyph_props = record { 0 = 0x70 };
-  lig_props = record { 0 = 14 };
-  unicode_props = record { 0 = 0x17F9 };
 }
 
 -- the mirrored bracket, which the font has: nothing else changes

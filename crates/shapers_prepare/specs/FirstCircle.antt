@@ -5,9 +5,9 @@ use Rattle.shapers_buffer.specs.declared.buffer.glyph.hb_glyph_info_t.{hb_glyph_
 use Rattle.shapers_buffer.specs.Buffer.{Buffer, asks, no_dotted_circle}
 use Rattle.shapers_buffer.specs.Category.{is_mark}
 use Rattle.shapers_buffer.specs.Glyph.{default_glyph}
+use Rattle.shapers_buffer.specs.Properties.{general_category}
 use Rattle.shapers_prepare.specs.CharacterProperties.{CharacterProperties}
 use Rattle.shapers_prepare.specs.GlyphProperties.{with_properties_behind}
-use Rattle.shapers_buffer.specs.Properties.{general_category}
 
 -- the flag of a buffer whose text is the beginning of one, as a paragraph's
 abbrev pub begins_text : ℕ

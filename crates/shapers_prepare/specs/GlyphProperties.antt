@@ -52,8 +52,8 @@ continues_grapheme p before c =
     is_mark_character p c || always_continues c || (ends_joined before && p.pictographic c)
     || (ends_in_half_flag before && is_regional_indicator c)
 
--- what the high byte of a character's properties holds: the class of a mark, or which joiner a character is that
--- need not be drawn
+-- what the high byte of a character's properties holds: the class of a mark, or which joiner a
+-- character is that need not be drawn
 abbrev pub kept_class : CharacterProperties → ℕ → ℕ
 kept_class p c =
     if is_mark_character p c then p.class c
@@ -69,9 +69,8 @@ kept_properties p continues c =
 
 -- a glyph with the properties of its character
 abbrev pub with_properties : CharacterProperties → Bool → hb_glyph_info_t → hb_glyph_info_t
-with_properties p continues g = record g {
-  unicode_props = kept_properties p continues g.glyph_id;
-}
+with_properties p continues g =
+    record g { unicode_props = kept_properties p continues g.glyph_id }
 
 -- the same behind these glyphs
 abbrev pub with_properties_behind : CharacterProperties → List hb_glyph_info_t →

@@ -11,10 +11,10 @@ use Rattle.shapers_buffer.specs.declared.buffer.level.Direction.TheVariants.{Inv
 use Rattle.shapers_buffer.specs.declared.buffer.tag.Script.{Script}
 use Rattle.shapers_buffer.specs.Buffer.{Buffer}
 use Rattle.shapers_buffer.specs.Clusters.{merge_all, stretch_of}
+use Rattle.shapers_buffer.specs.Properties.{general_category}
 use Rattle.shapers_choice.specs.Choice.{is_among}
 use Rattle.shapers_prepare.specs.GlyphProperties.{is_regional_indicator}
 use Rattle.shapers_prepare.specs.Graphemes.{graphemes}
-use Rattle.shapers_buffer.specs.Properties.{general_category}
 
 -- the scripts that run from right to left, by their codes in ISO 15924, and those that run either
 -- way
@@ -56,7 +56,8 @@ abbrev pub is_letter_glyph : hb_glyph_info_t → Bool
 is_letter_glyph g = is_letter_category (general_category g.unicode_props)
 
 abbrev pub is_number_or_flag : hb_glyph_info_t → Bool
-is_number_or_flag g = is_decimal_number (general_category g.unicode_props) || is_regional_indicator g.glyph_id
+is_number_or_flag g =
+    is_decimal_number (general_category g.unicode_props) || is_regional_indicator g.glyph_id
 
 -- numbers or flags, and no letter beside them
 abbrev pub are_numbers_or_flags : List hb_glyph_info_t → Bool
