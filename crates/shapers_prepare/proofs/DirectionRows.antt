@@ -10,7 +10,7 @@ use Rattle.shapers_buffer.specs.declared.buffer.level.Direction.TheVariants.{Inv
 use Rattle.shapers_buffer.specs.declared.buffer.tag.Script.{Script}
 use Rattle.shapers_buffer.specs.Buffer.{Buffer, new_buffer}
 use Rattle.shapers_buffer.specs.Glyph.{default_glyph}
-use Rattle.shapers_buffer.specs.Properties.{CONTINUATION, properties, set_property}
+use Rattle.shapers_buffer.specs.Properties.{CONTINUATION, general_category, properties, set_property}
 use Rattle.shapers_prepare.specs.NativeDirection.{are_numbers_or_flags, graphemes_turned, in_native_direction, is_turned, native_direction, opposite_direction, script_direction, text_direction}
 
 abbrev direction_of : List ℕ → Direction
@@ -47,22 +47,27 @@ numbers : map are_numbers_or_flags (
     (of_category Nd ∷ []) ∷ (of_category Zs ∷ of_category Nd ∷ []) ∷ (indicator 0x1F1E6 ∷ []) ∷ (indicator 0x1F1FF ∷ [])
     ∷ (indicator 0x1F1E5 ∷ []) ∷ (indicator 0x1F200 ∷ []) ∷ (of_category Nl ∷ of_category No ∷ []) ∷ [] ∷ [])
     ≡ true ∷ true ∷ true ∷ true ∷ false ∷ false ∷ false ∷ false ∷ []
+unfolding general_category
 numbers = refl
 
 beside_letters : map (λ c. are_numbers_or_flags (of_category Nd ∷ of_category c ∷ [])) (Ll ∷ Lm ∷ Lo ∷ Lt ∷ Lu ∷ Mn ∷ So
     ∷ []) ≡ false ∷ false ∷ false ∷ false ∷ false ∷ true ∷ true ∷ []
+unfolding general_category
 beside_letters = refl
 
 letters_first : are_numbers_or_flags (of_category Lo ∷ of_category Nd ∷ []) ≡ false
+unfolding general_category
 letters_first = refl
 
 -- only a text from left to right whose script runs the other way keeps its direction by its numbers
 own : map (λ d. text_direction d RightToLeft (of_category Nd ∷ [])) (Invalid ∷ LeftToRight ∷ RightToLeft ∷ TopToBottom
     ∷ BottomToTop ∷ []) ≡ RightToLeft ∷ LeftToRight ∷ RightToLeft ∷ RightToLeft ∷ RightToLeft ∷ []
+unfolding general_category
 own = refl
 
 own_letters : map (λ d. text_direction LeftToRight d (of_category Lo ∷ [])) (Invalid ∷ LeftToRight ∷ RightToLeft ∷ [])
     ≡ Invalid ∷ LeftToRight ∷ RightToLeft ∷ []
+unfolding general_category
 own_letters = refl
 
 -- the other direction, for each direction of a text and of its script
@@ -112,17 +117,21 @@ prepared level direction gs =
 -- at the level of graphemes their clusters are formed before
 at_graphemes : seen (prepared MonotoneGraphemes LeftToRight six).glyphs ≡ (4, 4) ∷ (5, 5) ∷ (3, 3) ∷ (0, 0) ∷ (1, 1)
     ∷ (2, 2) ∷ []
+unfolding general_category
 at_graphemes = refl
 
 at_characters : seen (prepared MonotoneCharacters LeftToRight six).glyphs ≡ (4, 4) ∷ (5, 4) ∷ (3, 3) ∷ (0, 0) ∷ (1, 0)
     ∷ (2, 0) ∷ []
+unfolding general_category
 at_characters = refl
 
 apart : seen (prepared Characters LeftToRight six).glyphs ≡ (4, 4) ∷ (5, 5) ∷ (3, 3) ∷ (0, 0) ∷ (1, 1) ∷ (2, 2) ∷ []
+unfolding general_category
 apart = refl
 
 directions : map (λ d. (prepared MonotoneCharacters d six).direction) (LeftToRight ∷ RightToLeft ∷ TopToBottom
     ∷ BottomToTop ∷ []) ≡ RightToLeft ∷ RightToLeft ∷ TopToBottom ∷ TopToBottom ∷ []
+unfolding general_category
 directions = refl
 
 -- a text in its own direction stays, and its clusters, and so do numbers
@@ -130,4 +139,5 @@ stays : seen (prepared MonotoneCharacters RightToLeft six).glyphs ≡ seen six
 stays = refl
 
 numbers_stay : (prepared MonotoneCharacters LeftToRight (of_category Nd ∷ of_category Mn ∷ [])).direction ≡ LeftToRight
+unfolding general_category
 numbers_stay = refl

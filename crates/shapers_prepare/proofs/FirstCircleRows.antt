@@ -7,9 +7,9 @@ use Rattle.shapers_buffer.specs.declared.buffer.category.hb_unicode_general_cate
 use Rattle.shapers_buffer.specs.declared.buffer.category.hb_unicode_general_category_t.TheVariants.{Lo, Mc, Me, Mn, So}
 use Rattle.shapers_buffer.specs.declared.buffer.glyph.hb_glyph_info_t.{hb_glyph_info_t}
 use Rattle.shapers_buffer.specs.Buffer.{Buffer, new_buffer}
+use Rattle.shapers_buffer.specs.Properties.{CONTINUATION, HIDDEN, IGNORABLE, general_category, properties, with_property}
 use Rattle.shapers_prepare.specs.CharacterProperties.{CharacterProperties}
 use Rattle.shapers_prepare.specs.FirstCircle.{with_first_circle}
-use Rattle.shapers_buffer.specs.Properties.{CONTINUATION, HIDDEN, IGNORABLE, properties, with_property}
 
 abbrev sample : CharacterProperties
 sample = record {
@@ -61,6 +61,7 @@ circle_made : with_first_circle sample (font_with 0x25CC) (buffer 2 [] (glyph Mn
   category = 0;
   auxiliary = 0;
 } ∷ glyph Mn ∷ glyph Lo ∷ []
+unfolding general_category
 circle_made = refl
 
 -- how many glyphs there are with the circle
@@ -79,4 +80,5 @@ counted = map length
 -- a spacing and an enclosing mark; a letter in front; a font without the circle; circles forbidden; not
 -- the beginning of a text; a character before it; nothing
 circles_wanted : counted ≡ 2 ∷ 2 ∷ 2 ∷ 1 ∷ 1 ∷ 1 ∷ 1 ∷ 0 ∷ []
+unfolding general_category
 circles_wanted = refl

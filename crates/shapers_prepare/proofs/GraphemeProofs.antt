@@ -58,8 +58,8 @@ holds_from s i (suc k) (false ∷ cs) order is =
     or_right (nat_lt s (i + suc k) && nat_lt (i + suc k) i) (held (graphemes_from i (i + 1) cs) (i + suc k))
     (ap (held (graphemes_from i (i + 1) cs)) (sym there) ∙ holds_from i (i + 1) k cs (omega arith) is)
 
-holds : (gs : List hb_glyph_info_t) (p : ℕ) → 0 < p → p < length gs → is_continuation (get_or gs p default_glyph).unicode_props
-    ≡ true → held (graphemes gs) p ≡ true
+holds : (gs : List hb_glyph_info_t) (p : ℕ) → 0 < p → p < length gs
+    → is_continuation (get_or gs p default_glyph).unicode_props ≡ true → held (graphemes gs) p ≡ true
 holds [] p some inside is = absurd (omega arith)
 holds (g ∷ gs) zero some inside is = absurd (omega arith)
 holds (g ∷ gs) (suc k) some inside is =

@@ -33,7 +33,8 @@ pub grapheme_goes_on : (s i : ℕ) (now all : List hb_glyph_info_t) → i < leng
 grapheme_goes_on s i now all inside same is = next_by true s i now all inside same is
 
 pub grapheme_ends : (s i : ℕ) (now all : List hb_glyph_info_t) → i < length now → continuations now ≡ continuations all
-    → is_continuation (get_or now i default_glyph).unicode_props ≡ false → graphemes_from s i (drop i (continuations all))
+    → is_continuation (get_or now i default_glyph).unicode_props ≡ false
+    → graphemes_from s i (drop i (continuations all))
     ≡ (s, i) ∷ graphemes_from i (i + 1) (drop (i + 1) (continuations all))
 grapheme_ends s i now all inside same is = next_by false s i now all inside same is
 

@@ -153,8 +153,10 @@ fn has_letter(glyphs: &[hb_glyph_info_t]) -> bool
 fn is_number_or_flag(glyph: &hb_glyph_info_t) -> bool
     ensures { result ≡ is_number_or_flag glyph.now }
 {
-    matches!(glyph.unicode_props.general_category(), hb_unicode_general_category_t::Nd)
-        || is_regional_indicator(glyph.glyph_id)
+    matches!(
+        glyph.unicode_props.general_category(),
+        hb_unicode_general_category_t::Nd
+    ) || is_regional_indicator(glyph.glyph_id)
 }
 
 #[inline]
