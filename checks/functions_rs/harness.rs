@@ -3,8 +3,8 @@
 
 use crate::alloc::{ArrayVec, Global, Vec as List};
 use crate::buffer::{
-    Buffer, BufferClusterLevel, BufferFlags, Direction, GeneralCategory, GlyphInfo, GlyphMarks, GlyphPosition, Script,
-    Span, Tag,
+    Buffer, BufferClusterLevel, BufferFlags, Direction, GeneralCategory, GlyphInfo, GlyphPosition, GlyphProps, LigProps,
+    Script, Span, Tag, UnicodeProps,
 };
 use crate::font::{Font, GlyphId, Tables};
 use crate::map::{FeatureMap, Map};
@@ -400,26 +400,32 @@ impl Draw for GlyphInfo {
                 0 => number(choices),
                 _ => choices.below(8) as u32,
             },
-            var: choices.below(4) as u32,
+            // (what lookups did, and the lowest bits of a class)
+            glyph_props: GlyphProps((choices.below(8) << 4 | choices.below(4)) as u16),
+            lig_props: LigProps(choices.below(32) as u8),
             syllable: choices.one_of(&[0x10, 0x10, 0x10, 0x11, 0x12, 0x13, 0x15, 0x20, 0x27, 0x28, 0x00]),
             category: choices.category(),
             auxiliary: match choices.below(10) {
                 0 => u8::draw(choices),
                 _ => choices.below(15) as u8,
             },
-            general_category: match choices.below(3) {
-                0 => GeneralCategory::ALL[choices.below(30) as usize],
-                _ => choices.one_of(&[GeneralCategory::Lo, GeneralCategory::Mn, GeneralCategory::Mn, GeneralCategory::Mc, GeneralCategory::Zs]),
-            },
-            modified_combining_class: match choices.below(8) {
-                0 => u8::draw(choices),
-                _ => choices.one_of(&[0, 0, 14, 15, 16, 20, 21, 22, 23, 25, 26, 27, 220, 220, 230, 230]),
-            },
-            lig_comp: choices.below(8) as u8,
-            // (five marks, and the one that normalization has of its own)
-            marks: GlyphMarks(choices.below(64) as u8),
+            unicode_props: properties(choices),
         }
     }
+}
+
+/// A character's properties: mostly a letter's, a mark's or a space's, and a class that some hook knows.
+fn properties(choices: &mut Choices) -> UnicodeProps {
+    // (the numbers 30 and 31 are no categories)
+    let category = match choices.below(3) {
+        0 => choices.below(32) as u16,
+        _ => choices.one_of(&[7, 12, 12, 10, 29]),
+    };
+    let byte = match choices.below(8) {
+        0 => u8::draw(choices),
+        _ => choices.one_of(&[0, 0, 14, 15, 16, 20, 21, 22, 23, 25, 26, 27, 220, 220, 230, 230]),
+    };
+    UnicodeProps(category | (choices.below(8) as u16) << 5 | u16::from(byte) << 8)
 }
 
 impl Draw for Span {

@@ -138,7 +138,7 @@ impl fmt::Debug for GlyphProps {
         if self.is_empty() {
             f.write_str("NONE")?;
         }
-        write_flags(*self, f)?;
+        write_flags(self, f)?;
         f.write_str(")")
     }
 }
@@ -171,13 +171,13 @@ impl fmt::Debug for UnicodeProps {
         if !bits.is_empty() {
             f.write_str(", ")?;
         }
-        write_flags(bits, f)?;
+        write_flags(&bits, f)?;
         f.write_str(")")
     }
 }
 
 // The names of bits with `|` between them, and a number for what has none.
-fn write_flags<F: Flags<Bits = u16>>(flags: F, f: &mut fmt::Formatter<'_>) -> fmt::Result {
+fn write_flags<F: Flags<Bits = u16>>(flags: &F, f: &mut fmt::Formatter<'_>) -> fmt::Result {
     let mut names = flags.iter_names();
     let mut between = "";
     for (name, _) in names.by_ref() {

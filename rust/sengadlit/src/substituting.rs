@@ -8,8 +8,9 @@ impl Buffer {
     /// does. Each is a copy of the first one of the range but for its number, in the cluster that
     /// the range has when its clusters are merged, with the mark
     /// [`SUBSTITUTED`](GlyphProps::SUBSTITUTED). Several for one glyph have the mark
-    /// [`MULTIPLIED`](GlyphProps::MULTIPLIED), and as components their places among them. Where none
-    /// are given, the clusters of the range go to the glyph behind it, or to the one before it.
+    /// [`MULTIPLIED`](GlyphProps::MULTIPLIED), and as components their places among them, unless the
+    /// glyph has the number of a ligature, which keeps its `lig_props` (HarfBuzz's `Sequence`). Where
+    /// none are given, the clusters of the range go to the glyph behind it, or to the one before it.
     ///
     /// It takes time by the number of glyphs from the range on, and no memory unless the text grows.
     ///
@@ -59,7 +60,9 @@ impl Buffer {
                 glyph.glyph_props.insert(GlyphProps::SUBSTITUTED);
                 if is_multiplied {
                     glyph.glyph_props.insert(GlyphProps::MULTIPLIED);
-                    glyph.lig_props.set_component(place);
+                }
+                if is_multiplied && first.lig_props.number() == 0 {
+                    glyph.lig_props = LigProps::mark(0, place);
                 }
             }
         });
@@ -122,7 +125,7 @@ impl Buffer {
 
 #[cfg(test)]
 mod tests {
-    use crate::buffer::{Buffer, GlyphProps, ShaperError};
+    use crate::buffer::{Buffer, GlyphProps, LigProps, ShaperError};
     use std::vec::Vec;
 
     fn text() -> Buffer {
@@ -162,6 +165,19 @@ mod tests {
         ];
         assert_eq!(seen(&buffer)[3..], parts);
         assert_eq!(seen(&buffer)[2], (u32::from('c'), 2, NONE, 0));
+    }
+
+    /// HarfBuzz's `Sequence::apply`: what is attached to a ligature isn't disturbed.
+    #[test]
+    fn parts_of_a_mark_stay_at_its_component() {
+        let mut buffer = text();
+        let of_component = LigProps::mark(3, 2);
+        buffer.with_glyphs_mut(|glyphs| glyphs[1].lig_props = of_component);
+        buffer.replace_range(1..2, &[7, 8]).unwrap();
+        for glyph in &buffer.glyphs()[1..3] {
+            assert!(glyph.glyph_props.is_multiplied());
+            assert_eq!(glyph.lig_props, of_component);
+        }
     }
 
     #[test]
