@@ -27,7 +27,8 @@ opened_alike : {X : Type 0} (test : X → Bool) (rule other : List X → X → L
 opened_alike test rule other agree [] = refl
 opened_alike test rule other agree (x ∷ before) =
     elim (test x) as (λ b. test x ≡ b
-    → cond b (rule (reverse before) x) (reverse (x ∷ before)) ≡ cond b (other (reverse before) x) (reverse (x ∷ before))) [
+    → cond b (rule (reverse before) x) (reverse (x ∷ before))
+    ≡ cond b (other (reverse before) x) (reverse (x ∷ before))) [
       | true ↦ λ e. agree (reverse before) x e
       | false ↦ λ e. refl
     ] refl
