@@ -1,5 +1,5 @@
 -- For which shapers, with which plans, letters join.
-use Rattle.std.proofs.Common.{false, None, Some, refl}
+use Rattle.std.proofs.Common.{None, Some, refl}
 use Rattle.std.proofs.lemmas.Bool.{false≢true}
 use Rattle.shapers_base.specs.declared.plan.PlanData.{PlanData}
 use Rattle.shapers_base.specs.declared.plan.PlanData.TheVariants as data_of
