@@ -270,7 +270,8 @@ pub record ShowsCategories (view : hb_glyph_info_t → hb_glyph_info_t) : Type 0
   pub category : (c : ℕ) (g : hb_glyph_info_t) → in_category c (view g) ≡ view (in_category c g)
 
 recorded_seen : (view : hb_glyph_info_t → hb_glyph_info_t)
-    → ((g : hb_glyph_info_t) → (view g).glyph_props ≡ g.glyph_props) → (c : ℕ) → ((g : hb_glyph_info_t) → in_category c (view g) ≡ view (in_category c g)) → (gs : Glyphs)
+    → ((g : hb_glyph_info_t) → (view g).glyph_props ≡ g.glyph_props) → (c : ℕ)
+    → ((g : hb_glyph_info_t) → in_category c (view g) ≡ view (in_category c g)) → (gs : Glyphs)
     → first_recorded c (map view gs) ≡ map view (first_recorded c gs)
 recorded_seen view marks c category [] = refl
 recorded_seen view marks c category (g ∷ gs) =
