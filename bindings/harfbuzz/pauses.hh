@@ -30,7 +30,7 @@ set_up_syllables (const hb_ot_shape_plan_t *plan, hb_font_t *font, hb_buffer_t *
   call_t call (plan, buffer, font);
   if (unlikely (!call.open (false))) return false;
   call.set_state (0);
-  if (unlikely (!call.close (sengadlit_setup_syllables_written (call.proved->plan, (sengadlit_pause_t) number, call.work->buffer)))) return false;
+  if (unlikely (!call.close_same (sengadlit_setup_syllables_written (call.proved->plan, (sengadlit_pause_t) number, call.work->buffer)))) return false;
   if (buffer->len > 1) buffer->scratch_flags |= has_glyph_flags; /* of longer syllables */
   if (call.get_state () & SENGADLIT_BUFFER_STATE_HAS_BROKEN_SYLLABLE)
     buffer->scratch_flags |= HB_BUFFER_SCRATCH_FLAG_HAS_BROKEN_SYLLABLE;
@@ -81,8 +81,8 @@ record (const hb_ot_shape_plan_t *plan, hb_font_t *font, hb_buffer_t *buffer)
   if (unlikely (!call.open (false))) return false;
   if (number == SENGADLIT_PAUSE_RECORD_STCH) call.set_state (0);
   sengadlit_font_t f = call.font ();
-  if (unlikely (!call.close (sengadlit_run_pause (call.proved->plan, (sengadlit_pause_t) number, &f, nullptr, 0, call.work->buffer,
-						  nullptr)))) return false;
+  if (unlikely (!call.close_same (sengadlit_run_pause (call.proved->plan, (sengadlit_pause_t) number, &f, nullptr, 0, call.work->buffer,
+						       nullptr)))) return false;
   if (number == SENGADLIT_PAUSE_RECORD_STCH && call.get_state () & SENGADLIT_BUFFER_STATE_HAS_STCH)
     buffer->scratch_flags |= HB_BUFFER_SCRATCH_FLAG_ARABIC_HAS_STCH;
   return false;
@@ -96,7 +96,8 @@ any_is_substituted (const hb_buffer_t *buffer)
   return false;
 }
 
-/* Whether a pause changes nothing, as its contract says: then there is no call to make. */
+/* Whether a pause changes nothing, as its contract says, or nothing but a byte that HarfBuzz frees: then there is no call to
+   make. */
 static inline bool
 changes_nothing (unsigned number, const hb_ot_shape_plan_t *plan, const hb_buffer_t *buffer)
 {
@@ -107,6 +108,7 @@ changes_nothing (unsigned number, const hb_ot_shape_plan_t *plan, const hb_buffe
     case SENGADLIT_PAUSE_RECORD_RPHF: return !data.rphf_mask || !any_is_substituted (buffer);
     case SENGADLIT_PAUSE_RECORD_PREF: return !any_is_substituted (buffer);
     case SENGADLIT_PAUSE_CLEAR_SUBSTITUTION_FLAGS: return !any_is_substituted (buffer);
+    case SENGADLIT_PAUSE_SYLLABIC_CLEAR_VAR: return true; /* the syllable's */
     case SENGADLIT_PAUSE_ARABIC_FALLBACK_SHAPE: return true;
     default: return false;
   }

@@ -143,7 +143,7 @@ struct proved_hooks_t
     sengadlit_tables_t tables = call.tables ();
     sengadlit_status_t status = sengadlit_setup_masks (call.proved->plan, &tables, call.work->buffer);
     if (joins && unlikely (status == SENGADLIT_ARGUMENT)) status = setup_masks_of_scalars (call, tables);
-    if (unlikely (!call.close (status))) return;
+    if (unlikely (!call.close_same (status))) return;
     if (joins || shaper == SENGADLIT_SHAPER_HANGUL) call.note_flags ();
     if (shaper == SENGADLIT_SHAPER_HANGUL)
       HB_BUFFER_DEALLOCATE_VAR (buffer, ot_shaper_var_u8_auxiliary);

@@ -85,6 +85,9 @@ struct call_t
     return likely (status == SENGADLIT_DONE) || (status != SENGADLIT_ABSENT && fail ());
   }
 
+  /* The same of a hook that leaves the length: there is nothing to take, and the next call lends anew. */
+  bool close_same (sengadlit_status_t status) { return likely (status == SENGADLIT_DONE) || close (status); }
+
   /* HarfBuzz notes that a glyph may have a flag. */
   void note_flags ()
   {

@@ -109,8 +109,8 @@ typedef enum sengadlit_argument_t {
     SENGADLIT_ARGUMENT_RANGE = 8,    /* Places that aren't in order, beyond the text, or too many. */
     SENGADLIT_ARGUMENT_SPANS = 9,    /* Null, or the kind of span `index` is above 15. */
     SENGADLIT_ARGUMENT_GLYPH_ID = 10, /* The hook doesn't accept that of glyph `index`, or a character among the arguments. */
-    SENGADLIT_ARGUMENT_GLYPHS = 11,  /* An array that can't be lent: null, shorter than the text, or the buffer has one already or
-                                        is a lookup's; or none was lent. */
+    SENGADLIT_ARGUMENT_GLYPHS = 11,  /* An array that can't be lent: null, shorter than the text, or to the buffer of a lookup; or
+                                        none was lent. */
     SENGADLIT_ARGUMENT_POSITIONS = 12, /* There are positions where the hook takes none, or none where it needs them. */
     SENGADLIT_ARGUMENT_DIRECTION = 13,
     SENGADLIT_ARGUMENT_CLUSTER_LEVEL = 14,
@@ -693,6 +693,7 @@ sengadlit_status_t sengadlit_buffer_set_grow_func(sengadlit_buffer_t *buffer, se
    - A text that outgrows the array moves into a longer one by the function of sengadlit_buffer_set_grow_func. Where that refuses,
      the call returns MEMORY, and the text in the array and its length are as they were. Without a function the text goes on in a
      list of the buffer's, and after a call in which it fits the array again it is in that.
+   - Another array may be lent without giving this one back, which is the caller's then, with what the last call left.
    - What stands behind the text in the array is anything; nothing behind `allocated` glyphs is touched.
    - After SENGADLIT_INTERNAL the array is lent still, with a text of length 0, and what stands in it is anything.
    - After a jump out of a callback the array is the caller's, and what stands in it is anything.
