@@ -1,13 +1,12 @@
 /* The pauses: set-ups of syllables, reorderings and the rest. Included by proved.cc alone. */
 
-/* HarfBuzz's functions for a pause, and the kinds that its machine gives as ours have them. */
+/* HarfBuzz's functions for a pause. */
 struct pause_t
 {
   const char *name;                   /* of the script, in messages */
   hb_ot_map_t::pause_func_t stock;
   hb_ot_map_t::pause_func_t proved;
   void (*find_syllables) (hb_buffer_t *buffer);
-  uint8_t kinds[16];
 };
 
 /* By enum sengadlit_pause_t. */
@@ -15,25 +14,7 @@ extern const pause_t pauses[15];
 
 /* ---- Set-ups ---- */
 
-/* Reads the spans off the syllable bytes that HarfBuzz's machine wrote. */
-static bool
-take_spans (const hb_buffer_t *buffer, const pause_t &pause, hb_vector_t<sengadlit_span_t> &spans)
-{
-  const hb_glyph_info_t *info = buffer->info;
-  unsigned length = buffer->len, count = 0;
-  if (unlikely (spans.length < length && !spans.resize (length))) return false;
-  for (unsigned start = 0, end; start < length; start = end)
-  {
-    unsigned byte = info[start].syllable ();
-    for (end = start + 1; end < length && info[end].syllable () == byte; end++) ;
-    spans.arrayZ[count].length = end - start;
-    spans.arrayZ[count].kind = pause.kinds[byte & 0x0F];
-    count++;
-  }
-  spans.length = count;
-  return true;
-}
-
+/* HarfBuzz's machine writes the syllables, and the library reads them there. */
 template <unsigned number>
 static bool
 set_up_syllables (const hb_ot_shape_plan_t *plan, hb_font_t *font, hb_buffer_t *buffer)
@@ -42,34 +23,16 @@ set_up_syllables (const hb_ot_shape_plan_t *plan, hb_font_t *font, hb_buffer_t *
   hb_buffer_scratch_flags_t scratch_flags = buffer->scratch_flags;
   pauses[number].find_syllables (buffer);
   buffer->scratch_flags = scratch_flags;
+  if (number == SENGADLIT_PAUSE_SETUP_SYLLABLES_MYANMAR)
+    for (unsigned i = 0; i < buffer->len; i++)
+      buffer->info[i].syllable () = (buffer->info[i].syllable () & 0xF0) |
+				    SENGADLIT_MYANMAR_SYLLABLE_FROM_HARFBUZZ (buffer->info[i].syllable () & 0x0F);
   call_t call (plan, buffer, font);
-  unsigned length = buffer->len;
-  hb_glyph_info_t *info = buffer->info;
-  sengadlit_glyph_info_t *glyphs = call.open (length);
-  if (unlikely (!glyphs)) return false;
-  if (unlikely (!take_spans (buffer, pauses[number], call.work->spans))) { call.fail (); return false; }
-  for (unsigned i = 0; i < length; i++)
-  {
-    glyphs[i].cluster = info[i].cluster;
-    glyphs[i].mask = info[i].mask;
-    if (number == SENGADLIT_PAUSE_SETUP_SYLLABLES_USE)
-      glyphs[i].category = info[i].ot_shaper_var_u8_category ();
-  }
-  sengadlit_buffer_set_state (call.work->buffer, 0);
-  sengadlit_font_t f = call.font ();
-  sengadlit_status_t status = sengadlit_run_pause (call.proved->plan, (sengadlit_pause_t) number, &f, call.work->spans.arrayZ,
-						   call.work->spans.length, call.work->buffer, nullptr);
-  const sengadlit_glyph_info_t *made = call.close (status, &length);
-  if (unlikely (!made)) return false;
-  hb_mask_t masks = 0;
-  for (unsigned i = 0; i < length; i++)
-  {
-    info[i].mask = made[i].mask;
-    info[i].syllable () = made[i].syllable;
-    masks |= made[i].mask;
-  }
-  note_flags (buffer, masks);
-  if (sengadlit_buffer_get_state (call.work->buffer) & SENGADLIT_BUFFER_STATE_HAS_BROKEN_SYLLABLE)
+  if (unlikely (!call.open (false))) return false;
+  call.set_state (0);
+  if (unlikely (!call.close_same (sengadlit_setup_syllables_written (call.proved->plan, (sengadlit_pause_t) number, call.work->buffer)))) return false;
+  if (buffer->len > 1) buffer->scratch_flags |= has_glyph_flags; /* of longer syllables */
+  if (call.get_state () & SENGADLIT_BUFFER_STATE_HAS_BROKEN_SYLLABLE)
     buffer->scratch_flags |= HB_BUFFER_SCRATCH_FLAG_HAS_BROKEN_SYLLABLE;
   return false;
 }
@@ -88,28 +51,13 @@ static bool
 reorder_glyphs (const hb_ot_shape_plan_t *plan, hb_font_t *font, hb_buffer_t *buffer)
 {
   call_t call (plan, buffer, font);
-  unsigned length = buffer->len;
-  sengadlit_glyph_info_t *glyphs = call.open (length);
-  if (unlikely (!glyphs)) return false;
-  const hb_glyph_info_t *info = buffer->info;
-  for (unsigned i = 0; i < length; i++)
-    read_glyph (info[i], number == SENGADLIT_PAUSE_REORDER_USE, &glyphs[i]);
-  sengadlit_buffer_set_state (call.work->buffer, buffer->scratch_flags & HB_BUFFER_SCRATCH_FLAG_HAS_BROKEN_SYLLABLE ?
-			      SENGADLIT_BUFFER_STATE_HAS_BROKEN_SYLLABLE : 0);
+  if (unlikely (!call.open (false))) return false;
+  call.set_state (buffer->scratch_flags & HB_BUFFER_SCRATCH_FLAG_HAS_BROKEN_SYLLABLE ? SENGADLIT_BUFFER_STATE_HAS_BROKEN_SYLLABLE : 0);
   sengadlit_font_t f = call.font ();
   sengadlit_bool_t circles = 0;
-  sengadlit_status_t status = sengadlit_run_pause (call.proved->plan, (sengadlit_pause_t) number, &f, nullptr, 0, call.work->buffer,
-						   &circles);
-  const sengadlit_glyph_info_t *made = call.close (status, &length);
-  if (unlikely (!made)) return false;
-  hb_mask_t masks = 0;
-  for (unsigned i = 0; i < length; i++)
-  {
-    write_glyph (made[i], &buffer->info[i]);
-    masks |= made[i].mask;
-  }
-  buffer->len = length;
-  note_flags (buffer, masks);
+  if (unlikely (!call.close (sengadlit_run_pause (call.proved->plan, (sengadlit_pause_t) number, &f, nullptr, 0, call.work->buffer,
+						  &circles)))) return false;
+  if (buffer->len > 1) buffer->scratch_flags |= has_glyph_flags;
   return circles;
 }
 
@@ -125,49 +73,17 @@ reorder (const hb_ot_shape_plan_t *plan, hb_font_t *font, hb_buffer_t *buffer)
 
 /* ---- Records: glyphs stay where they are ---- */
 
-static inline uint8_t
-marks_of_lookups (const hb_glyph_info_t &info)
-{
-  return info.var1.u32 >> 4 & 7u;
-}
-
 template <unsigned number>
 static bool
 record (const hb_ot_shape_plan_t *plan, hb_font_t *font, hb_buffer_t *buffer)
 {
   call_t call (plan, buffer, font);
-  unsigned length = buffer->len;
-  sengadlit_glyph_info_t *glyphs = call.open (length);
-  if (unlikely (!glyphs)) return false;
-  hb_glyph_info_t *info = buffer->info;
-  if (number != SENGADLIT_PAUSE_SYLLABIC_CLEAR_VAR)
-    for (unsigned i = 0; i < length; i++)
-    {
-      glyphs[i].mask = info[i].mask;
-      glyphs[i].syllable = info[i].syllable ();
-      glyphs[i].category = info[i].ot_shaper_var_u8_category ();
-      glyphs[i].auxiliary = info[i].ot_shaper_var_u8_auxiliary ();
-      glyphs[i].marks = marks_of_lookups (info[i]);
-      if (number == SENGADLIT_PAUSE_RECORD_STCH)
-	glyphs[i].lig_comp = _hb_glyph_info_get_lig_comp (&info[i]);
-    }
-  sengadlit_buffer_set_state (call.work->buffer, 0);
+  if (unlikely (!call.open (false))) return false;
+  if (number == SENGADLIT_PAUSE_RECORD_STCH) call.set_state (0);
   sengadlit_font_t f = call.font ();
-  sengadlit_status_t status = sengadlit_run_pause (call.proved->plan, (sengadlit_pause_t) number, &f, nullptr, 0, call.work->buffer,
-						   nullptr);
-  const sengadlit_glyph_info_t *made = call.close (status, &length);
-  if (unlikely (!made)) return false;
-  for (unsigned i = 0; i < length; i++)
-    switch (number)
-    {
-      case SENGADLIT_PAUSE_RECORD_RPHF: case SENGADLIT_PAUSE_RECORD_PREF: info[i].ot_shaper_var_u8_category () = made[i].category; break;
-      case SENGADLIT_PAUSE_RECORD_STCH: info[i].ot_shaper_var_u8_auxiliary () = made[i].auxiliary; break;
-      case SENGADLIT_PAUSE_SYLLABIC_CLEAR_VAR: info[i].syllable () = made[i].syllable; break;
-      case SENGADLIT_PAUSE_CLEAR_SUBSTITUTION_FLAGS:
-	if (!(made[i].marks & SENGADLIT_GLYPH_MARK_SUBSTITUTED)) _hb_glyph_info_clear_substituted (&info[i]);
-	break;
-    }
-  if (number == SENGADLIT_PAUSE_RECORD_STCH && sengadlit_buffer_get_state (call.work->buffer) & SENGADLIT_BUFFER_STATE_HAS_STCH)
+  if (unlikely (!call.close_same (sengadlit_run_pause (call.proved->plan, (sengadlit_pause_t) number, &f, nullptr, 0, call.work->buffer,
+						       nullptr)))) return false;
+  if (number == SENGADLIT_PAUSE_RECORD_STCH && call.get_state () & SENGADLIT_BUFFER_STATE_HAS_STCH)
     buffer->scratch_flags |= HB_BUFFER_SCRATCH_FLAG_ARABIC_HAS_STCH;
   return false;
 }
@@ -180,7 +96,8 @@ any_is_substituted (const hb_buffer_t *buffer)
   return false;
 }
 
-/* Whether a pause changes nothing, as its contract says: then there is no call to make. */
+/* Whether a pause changes nothing, as its contract says, or nothing but a byte that HarfBuzz frees: then there is no call to
+   make. */
 static inline bool
 changes_nothing (unsigned number, const hb_ot_shape_plan_t *plan, const hb_buffer_t *buffer)
 {
@@ -191,6 +108,7 @@ changes_nothing (unsigned number, const hb_ot_shape_plan_t *plan, const hb_buffe
     case SENGADLIT_PAUSE_RECORD_RPHF: return !data.rphf_mask || !any_is_substituted (buffer);
     case SENGADLIT_PAUSE_RECORD_PREF: return !any_is_substituted (buffer);
     case SENGADLIT_PAUSE_CLEAR_SUBSTITUTION_FLAGS: return !any_is_substituted (buffer);
+    case SENGADLIT_PAUSE_SYLLABIC_CLEAR_VAR: return true; /* the syllable's */
     case SENGADLIT_PAUSE_ARABIC_FALLBACK_SHAPE: return true;
     default: return false;
   }
@@ -240,19 +158,19 @@ fallback_shape (const hb_ot_shape_plan_t *plan, hb_font_t *font, hb_buffer_t *bu
 /* HarfBuzz's own functions of a pause may be inline or in a header: they have names in this unit all the same. */
 const pause_t pauses[15] =
 {
-  {"", setup_syllables_indic, proved_pause<SENGADLIT_PAUSE_SETUP_SYLLABLES_INDIC>, find_syllables_indic, {0, 1, 2, 3, 4, 5}},
-  {"", setup_syllables_khmer, proved_pause<SENGADLIT_PAUSE_SETUP_SYLLABLES_KHMER>, find_syllables_khmer, {0, 1, 2}},
-  {"", setup_syllables_myanmar, proved_pause<SENGADLIT_PAUSE_SETUP_SYLLABLES_MYANMAR>, find_syllables_myanmar, {0, 2, 3}},
-  {"", setup_syllables_use, proved_pause<SENGADLIT_PAUSE_SETUP_SYLLABLES_USE>, find_syllables_use, {0, 1, 2, 3, 4, 5, 6, 7, 8}},
-  {"indic initial", initial_reordering_indic, proved_pause<SENGADLIT_PAUSE_INITIAL_REORDERING>, nullptr, {}},
-  {"khmer", reorder_khmer, proved_pause<SENGADLIT_PAUSE_REORDER_KHMER>, nullptr, {}},
-  {"myanmar", reorder_myanmar, proved_pause<SENGADLIT_PAUSE_REORDER_MYANMAR>, nullptr, {}},
-  {"USE", reorder_use, proved_pause<SENGADLIT_PAUSE_REORDER_USE>, nullptr, {}},
-  {"indic final", final_reordering_indic, proved_pause<SENGADLIT_PAUSE_FINAL_REORDERING>, nullptr, {}},
-  {"", record_stch, proved_pause<SENGADLIT_PAUSE_RECORD_STCH>, nullptr, {}},
-  {"", record_rphf_use, proved_pause<SENGADLIT_PAUSE_RECORD_RPHF>, nullptr, {}},
-  {"", record_pref_use, proved_pause<SENGADLIT_PAUSE_RECORD_PREF>, nullptr, {}},
-  {"", hb_syllabic_clear_var, proved_pause<SENGADLIT_PAUSE_SYLLABIC_CLEAR_VAR>, nullptr, {}},
-  {"", _hb_clear_substitution_flags, proved_pause<SENGADLIT_PAUSE_CLEAR_SUBSTITUTION_FLAGS>, nullptr, {}},
-  {"", arabic_fallback_shape, fallback_shape, nullptr, {}},
+  {"", setup_syllables_indic, proved_pause<SENGADLIT_PAUSE_SETUP_SYLLABLES_INDIC>, find_syllables_indic},
+  {"", setup_syllables_khmer, proved_pause<SENGADLIT_PAUSE_SETUP_SYLLABLES_KHMER>, find_syllables_khmer},
+  {"", setup_syllables_myanmar, proved_pause<SENGADLIT_PAUSE_SETUP_SYLLABLES_MYANMAR>, find_syllables_myanmar},
+  {"", setup_syllables_use, proved_pause<SENGADLIT_PAUSE_SETUP_SYLLABLES_USE>, find_syllables_use},
+  {"indic initial", initial_reordering_indic, proved_pause<SENGADLIT_PAUSE_INITIAL_REORDERING>, nullptr},
+  {"khmer", reorder_khmer, proved_pause<SENGADLIT_PAUSE_REORDER_KHMER>, nullptr},
+  {"myanmar", reorder_myanmar, proved_pause<SENGADLIT_PAUSE_REORDER_MYANMAR>, nullptr},
+  {"USE", reorder_use, proved_pause<SENGADLIT_PAUSE_REORDER_USE>, nullptr},
+  {"indic final", final_reordering_indic, proved_pause<SENGADLIT_PAUSE_FINAL_REORDERING>, nullptr},
+  {"", record_stch, proved_pause<SENGADLIT_PAUSE_RECORD_STCH>, nullptr},
+  {"", record_rphf_use, proved_pause<SENGADLIT_PAUSE_RECORD_RPHF>, nullptr},
+  {"", record_pref_use, proved_pause<SENGADLIT_PAUSE_RECORD_PREF>, nullptr},
+  {"", hb_syllabic_clear_var, proved_pause<SENGADLIT_PAUSE_SYLLABIC_CLEAR_VAR>, nullptr},
+  {"", _hb_clear_substitution_flags, proved_pause<SENGADLIT_PAUSE_CLEAR_SUBSTITUTION_FLAGS>, nullptr},
+  {"", arabic_fallback_shape, fallback_shape, nullptr},
 };

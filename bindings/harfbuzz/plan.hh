@@ -12,8 +12,9 @@ struct work_t
 
   sengadlit_buffer_t *buffer = sengadlit_buffer_create ();
   sengadlit_buffer_properties_t properties = {};
+  hb_buffer_t *text = nullptr; /* Whose properties those are. */
+  unsigned state = 0;
   bool has_context = false;
-  hb_vector_t<sengadlit_span_t> spans;
   hb_font_t *virama_font = nullptr; /* HarfBuzz's own keeps the glyph of the virama with the plan. */
   unsigned virama_serial = 0;
   hb_codepoint_t virama = 0, virama_glyph = 0;

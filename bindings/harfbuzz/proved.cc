@@ -1,8 +1,8 @@
 /* HarfBuzz's script shapers with the proved hooks in their place.
 
    This unit stands for the nine files of HarfBuzz's script shapers. It includes them, their shapers renamed, and
-   then has shapers of the same names: each hook and each pause converts HarfBuzz's buffer, plan, map and font to
-   what sengadlit.h takes, makes the call, and writes the result back. HarfBuzz's own functions still do what the
+   then has shapers of the same names: each hook and each pause lends HarfBuzz's glyphs to a buffer of the library's, hands over
+   plan, map and font as sengadlit.h takes them, and makes the call. HarfBuzz's own functions still do what the
    proved hooks leave to a caller: syllable machines, vowel constraints, tables of Unicode, the fallback shaper.
 
    With SENGADLIT_SOUND the plans choose the sound flags of breaks.
@@ -35,29 +35,6 @@ free_joining_byte (const hb_ot_shape_plan_t *plan HB_UNUSED, hb_font_t *font HB_
 
 /* ---- Hooks ---- */
 
-/* Hands over the places from `start` to before `end`, as characters, runs a hook, and writes back what it made. */
-template <typename Make>
-static void
-run_on_characters (call_t &call, unsigned start, unsigned end, Make make)
-{
-  hb_buffer_t *buffer = call.buffer;
-  unsigned length = end - start;
-  sengadlit_glyph_info_t *glyphs = call.open (length);
-  if (unlikely (!glyphs)) return;
-  for (unsigned i = 0; i < length; i++)
-    read_character (buffer->info[start + i], &glyphs[i]);
-  const sengadlit_glyph_info_t *made = call.close (make (), &length);
-  if (unlikely (!made)) return;
-  if (length != end - start) buffer->len = length; /* of the whole text alone */
-  hb_mask_t masks = 0;
-  for (unsigned i = 0; i < length; i++)
-  {
-    write_character (made[i], &buffer->info[start + i], buffer);
-    masks |= made[i].mask;
-  }
-  note_flags (buffer, masks);
-}
-
 /* The hooks of a shaper, by its number. */
 template <unsigned shaper>
 struct proved_hooks_t
@@ -75,14 +52,15 @@ struct proved_hooks_t
     }
     if (shaper == SENGADLIT_SHAPER_HANGUL)
       HB_BUFFER_ALLOCATE_VAR (buffer, ot_shaper_var_u8_auxiliary);
-    if (shaper == SENGADLIT_SHAPER_THAI && plan->map.found_script[0] && !has_sara_am (buffer)) return; /* no change, by contract */
+    bool is_parted = shaper == SENGADLIT_SHAPER_THAI && has_sara_am (buffer);
+    if (shaper == SENGADLIT_SHAPER_THAI && plan->map.found_script[0] && !is_parted) return; /* no change, by contract */
     call_t call (plan, buffer, font);
-    run_on_characters (call, 0, buffer->len, [&] ()
-    {
-      sengadlit_bool_t constraints;
-      sengadlit_font_t f = call.font ();
-      return sengadlit_preprocess_text (call.proved->plan, &f, call.work->buffer, &constraints);
-    });
+    if (unlikely (!call.open (true))) return;
+    sengadlit_bool_t constraints;
+    sengadlit_font_t f = call.font ();
+    if (unlikely (!call.close (sengadlit_preprocess_text (call.proved->plan, &f, call.work->buffer, &constraints)))) return;
+    if (is_parted) buffer->scratch_flags |= has_continuations;
+    call.note_flags ();
   }
 
   /* That of Thai or of Lao. */
@@ -100,48 +78,30 @@ struct proved_hooks_t
     return false;
   }
 
-  /* Where a glyph comes from is its place, from 1: copies of tiles have no other fields of their own. */
   static void postprocess_glyphs (const hb_ot_shape_plan_t *plan, hb_buffer_t *buffer, hb_font_t *font)
   {
     if (!(buffer->scratch_flags & HB_BUFFER_SCRATCH_FLAG_ARABIC_HAS_STCH)) return; /* no change, by contract */
     call_t call (plan, buffer, font);
-    unsigned length = buffer->len;
     int sign = sign_of (font);
-    hb_vector_t<hb_glyph_info_t> infos;
-    hb_vector_t<hb_glyph_position_t> places;
-    sengadlit_glyph_info_t *glyphs = call.open (length);
-    sengadlit_glyph_position_t *positions = glyphs ? sengadlit_buffer_get_glyph_positions (call.work->buffer, nullptr) : nullptr;
-    if (unlikely (!positions || !infos.resize (length) || !places.resize (length))) { call.fail (); return; }
-    for (unsigned i = 0; i < length; i++)
-    {
-      const hb_glyph_position_t &pos = buffer->pos[i];
-      read_glyph (infos.arrayZ[i] = buffer->info[i], false, &glyphs[i]);
-      if (buffer->info[i].unicode_props () & UPROPS_MASK_IGNORABLE) glyphs[i].marks |= SENGADLIT_GLYPH_MARK_IGNORABLE;
-      glyphs[i].var = i + 1;
-      places.arrayZ[i] = pos;
-      positions[i] = {sign * pos.x_advance, pos.y_advance, sign * pos.x_offset, pos.y_offset};
-    }
-    sengadlit_buffer_set_state (call.work->buffer, SENGADLIT_BUFFER_STATE_HAS_STCH);
+    if (unlikely (!call.open (true))) return;
+    unsigned length = 0;
+    sengadlit_glyph_position_t *positions = sengadlit_buffer_get_glyph_positions (call.work->buffer, &length);
+    if (unlikely (!positions)) { (void) call.close (SENGADLIT_MEMORY); return; }
+    copy_positions ((sengadlit_glyph_position_t *) buffer->pos, positions, length, sign);
+    call.set_state (SENGADLIT_BUFFER_STATE_HAS_STCH);
     sengadlit_font_t f = call.font ();
-    const sengadlit_glyph_info_t *made = call.close (sengadlit_postprocess_glyphs (call.proved->plan, &f, call.work->buffer), &length);
-    if (unlikely (!made)) return;
-    positions = sengadlit_buffer_get_glyph_positions (call.work->buffer, nullptr);
-    hb_mask_t masks = 0;
+    sengadlit_status_t status = sengadlit_postprocess_glyphs (call.proved->plan, &f, call.work->buffer);
+    positions = sengadlit_buffer_get_glyph_positions (call.work->buffer, &length);
+    if (likely (status == SENGADLIT_DONE && positions))
+      copy_positions (positions, (sengadlit_glyph_position_t *) buffer->pos, length, sign);
+    if (likely (call.close (status))) call.note_flags ();
+  }
+
+  /* The library counts in one direction. */
+  static void copy_positions (const sengadlit_glyph_position_t *from, sengadlit_glyph_position_t *to, unsigned length, int sign)
+  {
     for (unsigned i = 0; i < length; i++)
-    {
-      hb_glyph_info_t *info = &buffer->info[i];
-      hb_glyph_position_t *pos = &buffer->pos[i];
-      *info = infos.arrayZ[made[i].var - 1];
-      info->codepoint = made[i].codepoint;
-      info->cluster = made[i].cluster;
-      info->mask = made[i].mask;
-      masks |= made[i].mask;
-      *pos = places.arrayZ[made[i].var - 1];
-      pos->x_advance = sign * positions[i].x_advance;
-      pos->x_offset = sign * positions[i].x_offset;
-    }
-    buffer->len = length;
-    note_flags (buffer, masks);
+      to[i] = {sign * from[i].x_advance, from[i].y_advance, sign * from[i].x_offset, from[i].y_offset, from[i].var};
   }
 
   /* Whether the shaper may have, of a character or a pair, what Unicode hasn't: by contract Hebrew, and these alone. */
@@ -176,58 +136,41 @@ struct proved_hooks_t
     }
     call_t call (plan, buffer, font);
     bool joins = (shaper == SENGADLIT_SHAPER_ARABIC || shaper == SENGADLIT_SHAPER_UNIVERSAL) && call.proved->data.joins;
-    bool has_auxiliary = has_position () || joins, has_masks = joins || shaper == SENGADLIT_SHAPER_HANGUL;
     if (has_category ()) HB_BUFFER_ALLOCATE_VAR (buffer, ot_shaper_var_u8_category);
-    if (has_auxiliary || shaper == SENGADLIT_SHAPER_MYANMAR) HB_BUFFER_ALLOCATE_VAR (buffer, ot_shaper_var_u8_auxiliary);
-    unsigned length = buffer->len;
-    hb_glyph_info_t *info = buffer->info;
-    sengadlit_glyph_info_t *glyphs = call.open (length);
-    if (unlikely (!glyphs)) return;
+    if (has_position () || joins || shaper == SENGADLIT_SHAPER_MYANMAR) HB_BUFFER_ALLOCATE_VAR (buffer, ot_shaper_var_u8_auxiliary);
+    if (unlikely (!call.open (true))) return;
     if (joins) call.set_contexts ();
-    for (unsigned i = 0; i < length; i++)
-    {
-      glyphs[i].codepoint = joins ? scalar_of (info[i].codepoint) : info[i].codepoint;
-      if (shaper == SENGADLIT_SHAPER_HANGUL)
-	glyphs[i].auxiliary = info[i].ot_shaper_var_u8_auxiliary ();
-      if (has_masks)
-      {
-	glyphs[i].cluster = info[i].cluster;
-	glyphs[i].mask = info[i].mask;
-      }
-      if (joins)
-	glyphs[i].general_category = _hb_glyph_info_get_general_category (&info[i]);
-    }
     sengadlit_tables_t tables = call.tables ();
-    const sengadlit_glyph_info_t *made = call.close (sengadlit_setup_masks (call.proved->plan, &tables, call.work->buffer), &length);
-    if (unlikely (!made)) return;
-    hb_mask_t masks = 0;
-    for (unsigned i = 0; i < length; i++)
-    {
-      if (has_masks)
-      {
-	info[i].mask = made[i].mask;
-	masks |= made[i].mask;
-      }
-      if (has_category ()) info[i].ot_shaper_var_u8_category () = made[i].category;
-      if (has_auxiliary) info[i].ot_shaper_var_u8_auxiliary () = made[i].auxiliary;
-    }
-    note_flags (buffer, masks);
+    sengadlit_status_t status = sengadlit_setup_masks (call.proved->plan, &tables, call.work->buffer);
+    if (joins && unlikely (status == SENGADLIT_ARGUMENT)) status = setup_masks_of_scalars (call, tables);
+    if (unlikely (!call.close_same (status))) return;
+    if (joins || shaper == SENGADLIT_SHAPER_HANGUL) call.note_flags ();
     if (shaper == SENGADLIT_SHAPER_HANGUL)
       HB_BUFFER_DEALLOCATE_VAR (buffer, ot_shaper_var_u8_auxiliary);
   }
 
-  /* Merges reach over neighbours of the same cluster, and no further: so far the call reads the buffer. */
+  /* The same of a text that has what is no character; letters that join stay in their places. */
+  static sengadlit_status_t setup_masks_of_scalars (call_t &call, const sengadlit_tables_t &tables)
+  {
+    hb_buffer_t *buffer = call.buffer;
+    hb_vector_t<hb_codepoint_t> codepoints;
+    if (unlikely (!codepoints.resize (buffer->len))) return SENGADLIT_MEMORY;
+    for (unsigned i = 0; i < buffer->len; i++)
+    {
+      codepoints.arrayZ[i] = buffer->info[i].codepoint;
+      buffer->info[i].codepoint = scalar_of (buffer->info[i].codepoint);
+    }
+    sengadlit_status_t status = sengadlit_setup_masks (call.proved->plan, &tables, call.work->buffer);
+    for (unsigned i = 0; i < buffer->len; i++)
+      buffer->info[i].codepoint = codepoints.arrayZ[i];
+    return status;
+  }
+
   static void reorder_marks (const hb_ot_shape_plan_t *plan, hb_buffer_t *buffer, unsigned int start, unsigned int end)
   {
     call_t call (plan, buffer, nullptr);
-    const hb_glyph_info_t *info = buffer->info;
-    unsigned first = start, last = end;
-    while (first && info[first - 1].cluster == info[start].cluster) first--;
-    while (last < buffer->len && info[last].cluster == info[end - 1].cluster) last++;
-    run_on_characters (call, first, last, [&] ()
-    {
-      return sengadlit_reorder_marks (call.proved->plan, call.work->buffer, start - first, end - first);
-    });
+    if (unlikely (!call.open (true))) return;
+    if (likely (call.close (sengadlit_reorder_marks (call.proved->plan, call.work->buffer, start, end)))) call.note_flags ();
   }
 };
 

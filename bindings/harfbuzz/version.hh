@@ -10,11 +10,8 @@ template <typename T> using atomic_pointer_t = hb_atomic_t<T *>;
 /* Whether a glyph has a flag isn't noted. */
 static constexpr hb_buffer_scratch_flags_t has_glyph_flags = HB_BUFFER_SCRATCH_FLAG_DEFAULT;
 
-static inline void
-set_continuation (hb_glyph_info_t *info, hb_buffer_t *buffer)
-{
-  _hb_glyph_info_set_continuation (info, buffer);
-}
+/* That a glyph continues a grapheme is. */
+static constexpr hb_buffer_scratch_flags_t has_continuations = HB_BUFFER_SCRATCH_FLAG_HAS_CONTINUATIONS;
 
 /* A longer stretch gets no flags. Of Hangul's tones it is counted from a place in the output to one in the input, and so is
    longer than any where the output is ahead. */
@@ -38,11 +35,7 @@ static constexpr hb_buffer_scratch_flags_t has_glyph_flags = HB_BUFFER_SCRATCH_F
 
 static constexpr unsigned longest_flagged = UINT_MAX;
 
-static inline void
-set_continuation (hb_glyph_info_t *info, hb_buffer_t *buffer HB_UNUSED)
-{
-  _hb_glyph_info_set_continuation (info);
-}
+static constexpr hb_buffer_scratch_flags_t has_continuations = HB_BUFFER_SCRATCH_FLAG_DEFAULT;
 
 static inline sengadlit_buffer_cluster_level_t
 cluster_level_of (const hb_buffer_t *buffer, unsigned shaper HB_UNUSED)

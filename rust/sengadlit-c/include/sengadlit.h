@@ -109,8 +109,8 @@ typedef enum sengadlit_argument_t {
     SENGADLIT_ARGUMENT_RANGE = 8,    /* Places that aren't in order, beyond the text, or too many. */
     SENGADLIT_ARGUMENT_SPANS = 9,    /* Null, or the kind of span `index` is above 15. */
     SENGADLIT_ARGUMENT_GLYPH_ID = 10, /* The hook doesn't accept that of glyph `index`, or a character among the arguments. */
-    SENGADLIT_ARGUMENT_GLYPHS = 11,  /* An array that can't be lent: null, shorter than the text, or the buffer has one already or
-                                        is a lookup's; or none was lent. */
+    SENGADLIT_ARGUMENT_GLYPHS = 11,  /* An array that can't be lent: null, shorter than the text, or to the buffer of a lookup; or
+                                        none was lent. */
     SENGADLIT_ARGUMENT_POSITIONS = 12, /* There are positions where the hook takes none, or none where it needs them. */
     SENGADLIT_ARGUMENT_DIRECTION = 13,
     SENGADLIT_ARGUMENT_CLUSTER_LEVEL = 14,
@@ -675,10 +675,10 @@ sengadlit_glyph_position_t *sengadlit_buffer_get_glyph_positions(sengadlit_buffe
 
 /* ---- Glyphs in an array of the caller's ---- */
 
-/* Makes room in the array that a buffer is lent for at least `wanted` glyphs, as realloc does: the first ones stay, and where
+/* Makes room in the array that a buffer is lent for at least `wanted` glyphs, as realloc does: those that it has stay, and where
    the array moves its old place is gone. Returns its place and sets `allocated`, which is the room that it had, to the room that
-   it has; or returns null, and all is as it was. Texts grow by a few glyphs at a time, so that more room than is wanted is well
-   spent. */
+   it has. Where memory is refused, it returns null, or the place of an array with less room than wanted. Texts grow by a few
+   glyphs at a time, so that more room than is wanted is well spent. */
 typedef sengadlit_glyph_info_t *(*sengadlit_grow_func_t)(void *user_data, sengadlit_glyph_info_t *glyphs, unsigned int wanted,
                                                          unsigned int *allocated);
 /* Sets what makes room in the arrays that the buffer is lent from now on; it stays until it is set again. It runs within calls,
@@ -691,8 +691,9 @@ sengadlit_status_t sengadlit_buffer_set_grow_func(sengadlit_buffer_t *buffer, se
    and memory for its glyphs that the buffer had are gone; properties, contexts and the state stay. There is room then for all that
    reorderings take, so that only what makes the text longer, and spans, may be refused MEMORY.
    - A text that outgrows the array moves into a longer one by the function of sengadlit_buffer_set_grow_func. Where that refuses,
-     the call returns MEMORY, and text, length and array are as they were. Without a function the text goes on in a list of the
-     buffer's, and after a call in which it fits the array again it is in that.
+     the call returns MEMORY, and the text in the array and its length are as they were. Without a function the text goes on in a
+     list of the buffer's, and after a call in which it fits the array again it is in that.
+   - Another array may be lent without giving this one back, which is the caller's then, with what the last call left.
    - What stands behind the text in the array is anything; nothing behind `allocated` glyphs is touched.
    - After SENGADLIT_INTERNAL the array is lent still, with a text of length 0, and what stands in it is anything.
    - After a jump out of a callback the array is the caller's, and what stands in it is anything.

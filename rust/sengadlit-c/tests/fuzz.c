@@ -606,7 +606,7 @@ static void lend(sengadlit_buffer_t *buffer)
     grows = next() & 1;
     if (sengadlit_buffer_set_grow_func(buffer, grows ? grow : NULL, buffer) != SENGADLIT_DONE ||
         sengadlit_buffer_lend(buffer, array, length, room) != SENGADLIT_DONE ||
-        sengadlit_buffer_lend(buffer, array, length, room) != SENGADLIT_ARGUMENT)
+        sengadlit_buffer_lend(buffer, array, length, room) != SENGADLIT_DONE)
         abort();
     is_lent = 1;
 }

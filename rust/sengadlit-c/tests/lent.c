@@ -119,12 +119,28 @@ static void arrays_that_are_none(void)
     check("no buffer", sengadlit_buffer_give_back(NULL, &length, &length) == NULL);
     check("no buffer", sengadlit_buffer_set_grow_func(NULL, grow, NULL) == SENGADLIT_ARGUMENT);
     check("none", sengadlit_buffer_lend(world.buffer, NULL, 0, 0) == SENGADLIT_DONE);
-    expect_refused("twice", sengadlit_buffer_lend(world.buffer, array, 1, 1));
     check("none", sengadlit_buffer_get_glyph_infos(world.buffer, &length) != NULL && length == 0);
     check("none given back", sengadlit_buffer_give_back(world.buffer, &length, NULL) != NULL && length == 0);
+    end_world();
+}
+
+static void one_array_after_another(void)
+{
+    unsigned int length;
+
     begin(8, 0);
-    expect_refused("twice", sengadlit_buffer_lend(world.buffer, other, 1, 1));
-    give_back("the first", array, 3, 8);
+    memcpy(other, array, 3 * sizeof *array);
+    check("preprocessed", preprocess() == SENGADLIT_DONE);
+    check("another", sengadlit_buffer_lend(world.buffer, other, 3, 4) == SENGADLIT_DONE && glyphs() == other);
+    check("the first one is left", is_done(array));
+    check("preprocessed", preprocess() == SENGADLIT_DONE && is_done(other));
+    check("again", sengadlit_buffer_lend(world.buffer, other, 2, 4) == SENGADLIT_DONE);
+    check("again", sengadlit_buffer_get_glyph_infos(world.buffer, &length) == other && length == 2);
+    give_back("the last", other, 2, 4);
+    begin(3, 0);
+    check("elsewhere", preprocess() == SENGADLIT_DONE && glyphs() != array);
+    check("another", sengadlit_buffer_lend(world.buffer, other, 4, 8) == SENGADLIT_DONE && glyphs() == other);
+    give_back("the last", other, 4, 8);
     end_world();
 }
 
@@ -304,6 +320,7 @@ static void many_arrays(void)
 int main(void)
 {
     arrays_that_are_none();
+    one_array_after_another();
     texts_that_fit();
     texts_that_grow();
     growth_that_is_refused();

@@ -214,6 +214,27 @@ static void shape_whole()
     (void)sengadlit_shape(sengadlit_shape_plan_create(&input, nullptr), &font, &lookups, buffer);
 }
 
+static sengadlit_glyph_info_t *grow(void *, sengadlit_glyph_info_t *, unsigned int, unsigned int *)
+{
+    meet("grow");
+    return nullptr;
+}
+
+// A text that outgrows the array in which it stands.
+static void lend()
+{
+    sengadlit_plan_t *plan = plan_of(SENGADLIT_SHAPER_THAI, SENGADLIT_TAG('T', 'h', 'a', 'i'));
+    sengadlit_buffer_t *buffer = sengadlit_buffer_create();
+    sengadlit_glyph_info_t glyph = {};
+
+    glyph.glyph_id = 0x0E33;
+    (void)sengadlit_buffer_set_grow_func(buffer, grow, nullptr);
+    (void)sengadlit_buffer_lend(buffer, &glyph, 1, 1);
+    (void)sengadlit_preprocess_text(plan, &font, buffer, nullptr);
+    sengadlit_buffer_destroy(buffer);
+    sengadlit_plan_destroy(plan);
+}
+
 // Calls that make every call back.
 static void call_everything()
 {
@@ -235,6 +256,7 @@ static void call_everything()
     (void)sengadlit_setup_syllables_found(indic, SENGADLIT_PAUSE_SETUP_SYLLABLES_INDIC, devanagari);
     (void)sengadlit_run_pause(indic, SENGADLIT_PAUSE_INITIAL_REORDERING, &font, nullptr, 0, devanagari, nullptr);
     shape_whole();
+    lend();
     sengadlit_set_message_func(receive, nullptr);
     for (int i = 0; i < 3000; i++) stretch();
 }
@@ -273,12 +295,11 @@ static void expect_end(const char *callback)
 
 int main()
 {
-    static const char *const callbacks[] = {"nominal_glyph",    "glyph_h_advance",  "would_substitute", "has_feature", "joining_type",
-                                            "general_category", "indic_categories", "use_category",     "compose",     "decompose",
-                                            "add_feature",      "add_gsub_pause",   "destroy",          "message",     "variation_glyph",
-                                            "glyph_props",
-                                            "substitute",       "is_mark",          "position",         "finish_positions",
-                                            "glyph_v_advance",  "glyph_v_origin"};
+    static const char *const callbacks[] = {
+        "nominal_glyph", "glyph_h_advance", "would_substitute", "has_feature", "joining_type", "general_category",
+        "indic_categories", "use_category", "compose", "decompose", "add_feature", "add_gsub_pause", "destroy", "message",
+        "variation_glyph", "glyph_props", "substitute", "is_mark", "position", "finish_positions", "glyph_v_advance",
+        "glyph_v_origin", "grow"};
 
     for (const char *callback : callbacks) expect_end(callback);
     std::printf("%u passed, %u failed\n", passed, failed);

@@ -29,7 +29,7 @@ pub unsafe trait Lender {
 /// What became of an array that was to grow.
 #[derive(Debug)]
 pub enum Growth {
-    /// It is here, has room for so many items, and begins with those that it had.
+    /// It is here, has room for so many items, which may be fewer than wanted, and begins with those that it had.
     Array(NonNull<u8>, usize),
     /// It is as it was, and so is the list.
     Refused,

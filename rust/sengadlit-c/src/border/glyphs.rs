@@ -116,16 +116,19 @@ impl Text {
         room: usize,
     ) -> Result<(), Error> {
         let is_none = first.is_null() && room != 0;
-        if is_none || length > room || self.is_lent() {
+        if is_none || length > room {
             return Err(Error::argument(Argument::Glyphs));
+        }
+        if self.is_lent() {
+            self.leave_array();
         }
         if length > self.inner.max_len() {
             self.inner.set_max_len(length);
         }
         let array = self.array()?;
         array.lend(first, room);
-        // SAFETY: the caller's promise; no list works in an array that wasn't lent. The list is the text's, and is dropped by
-        // `take_array`, or with the text before the array is.
+        // SAFETY: the caller's promise; no list works in the array before, which was left. The list is the text's, and is
+        // dropped by `leave_array`, or with the text before the array is.
         let mut list = unsafe { array.list(length) };
         let ended = self.inner.exchange_glyphs(&mut list);
         if ended.is_err() {
@@ -138,6 +141,15 @@ impl Text {
     #[inline]
     pub fn is_lent(&self) -> bool {
         self.array.as_ref().is_some_and(Array::is_lent)
+    }
+
+    // Drops the list that works in the array, and what it has of the text.
+    #[inline]
+    fn leave_array(&mut self) {
+        drop(self.inner.take_glyphs());
+        if self.array.as_ref().is_some_and(Array::is_used) {
+            self.renew();
+        }
     }
 
     /// Ends the loan: returns where the glyphs are, how many, and the room that they have in C's array. If it hadn't any for
