@@ -10,13 +10,12 @@ use Rattle.shapers_buffer.specs.declared.buffer.glyph.hb_glyph_info_t.{hb_glyph_
 use Rattle.shapers_buffer.specs.declared.buffer.modified_combining_class.TheConstants.{CCC22, CCC26}
 use Rattle.shapers_buffer.proofs.MappedLists.{all-append, map-hidden}
 use Rattle.shapers_normal.specs.Context.{Context}
-use Rattle.shapers_normal.specs.Sorting.{class_of, is_mark_glyph}
+use Rattle.shapers_normal.specs.Sorting.{class_of}
 use Rattle.shapers_normalize.proofs.ArabicAlone.{sum_joined}
 use Rattle.shapers_equivalence.specs.Equivalence.{SameButForOrder}
 use Rattle.shapers_equivalence.specs.Laws.{mark_class}
 use Rattle.shapers_equivalence.proofs.Projections as order
 use Rattle.shapers_equivalence.proofs.Apart.{AreMarks, IsMark, OtherMarks, Same, TakesApart, apart_text, apart-append, mark_parts, other_parts}
-use Rattle.shapers_buffer.specs.Properties.{modified_combining_class}
 
 abbrev Glyphs : Type 0
 Glyphs = List hb_glyph_info_t

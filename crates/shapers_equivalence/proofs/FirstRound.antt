@@ -1,5 +1,5 @@
 -- The first round keeps what a text is, taken apart to the end.
-use Rattle.std.proofs.Common.{◌≡◌, ◌==◌, ℕ, zero, suc, Bool, true, false, ◌||◌, ◌&&◌, cond, nat_le, List, [], ◌∷◌, ◌++◌, map, Option, None, Some, refl, sym, ap, ◌∙◌, subst}
+use Rattle.std.proofs.Common.{◌≡◌, ◌==◌, ℕ, zero, suc, Bool, true, false, ◌||◌, ◌&&◌, cond, List, [], ◌∷◌, ◌++◌, map, Option, None, Some, refl, sym, ap, ◌∙◌, subst}
 use Rattle.std.specs.List.{flat_map, list_any}
 use Rattle.std.specs.Option.{option_map_or}
 use Rattle.std.proofs.lemmas.Bool.{false≢true, or_parts}
@@ -18,7 +18,7 @@ use Rattle.shapers_buffer.proofs.MappedLists.{all-append, list_any-map}
 use Rattle.shapers_normal.specs.Context.{Context, has_glyph}
 use Rattle.shapers_normal.specs.Decomposition.{apart_in, apart_way, as_part, becomes, cluster_becomes, come_off, first_round, glyph_number, image, is_space_separator, mark_clusters, text_decomposed, with_own_glyph, without_glyph, written_as}
 use Rattle.shapers_normal.specs.DecompositionWalk.{or_base_alone, then_come_off}
-use Rattle.shapers_normal.specs.Properties.{as_character, joiner_class}
+use Rattle.shapers_normal.specs.Properties.{as_character}
 use Rattle.shapers_normal.specs.Sorting.{class_of, is_mark_glyph}
 use Rattle.shapers_normal.specs.Variants.{forms_written, is_kept_cluster, is_selector_glyph, variants_joined}
 use Rattle.shapers_normal.proofs.Apart.{apart_blocked, apart_further, apart_none, apart_not}
@@ -27,7 +27,7 @@ use Rattle.shapers_normal.proofs.Pairs.{together}
 use Rattle.shapers_normal.proofs.Viewed.{variants-view}
 use Rattle.shapers_equivalence.specs.Laws.{HaveOwnClasses, mark_class}
 use Rattle.shapers_equivalence.proofs.Apart.{TakesApart, apart_text, apart-append, apart-view, own_of_view, view_own}
-use Rattle.shapers_buffer.specs.Properties.{general_category, modified_combining_class, properties, with_high_byte}
+use Rattle.shapers_buffer.specs.Properties.{general_category, with_high_byte}
 use Rattle.shapers_normal.proofs.CharacterProperties.{class_of_character, class_of_other}
 use Rattle.shapers_buffer.proofs.PropertyLemmas.{properties_set}
 

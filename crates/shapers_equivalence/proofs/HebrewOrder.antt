@@ -23,7 +23,6 @@ use Rattle.shapers_equivalence.proofs.Projections as order
 use Rattle.shapers_equivalence.proofs.Apart.{AreMarks, IsMark, Same, TakesApart, apart_text, mark_parts, other_parts, same_beside}
 use Rattle.shapers_equivalence.proofs.ArabicOrder.{marks_parts}
 use Rattle.shapers_equivalence.proofs.ShortRuns.{stretch_whole}
-use Rattle.shapers_buffer.specs.Properties.{modified_combining_class}
 
 abbrev Glyphs : Type 0
 Glyphs = List hb_glyph_info_t
