@@ -101,8 +101,8 @@ glyphs_made p noted b =
     text_noted noted (record masked { glyphs = map as_glyph featured })
 
 -- what the law of the whole pipeline needs of it, besides its pauses: no features in ranges
-pub record LeavesAllPieces (p : Preparation) (noted : hb_glyph_info_t → GlyphProps) (r : Substitution)
-    (old : Buffer) : Type 0 where
+pub record LeavesAllPieces (p : Preparation) (noted : hb_glyph_info_t → GlyphProps)
+    (r : Substitution) (old : Buffer) : Type 0 where
   pub no_ranges : p.ranges ≡ []
   pub masks : MasksInPieces p.shaper p.plan p.tables old
   pub notes : NotesReadOrder noted
