@@ -2,8 +2,8 @@
 //! `parts`.
 //!
 //! A glyph of the host has the fields of one of `sengadlit`, at the same places, and so have positions. The host's list is
-//! lent to a hook whole: `into_iter().map(..).collect()` keeps the list where it is, and where the compiler optimizes nothing
-//! is left of the pass.
+//! lent to a hook whole: `into_iter().map(..).collect()` keeps it where it is, and at `opt-level` 2 and 3 nothing is left of
+//! the pass.
 
 // `hooks` is this module or its shadow.
 #![allow(unused_qualifications)]

@@ -163,18 +163,17 @@ pub fn prepare(context: &mut OtShapeContext) {
     let turned = context.buffer.direction;
     before.put_back(context.buffer);
     context.buffer.direction = direction;
+    context.buffer.work.begin();
     run_steps(plan, context.font_funcs, context.target_direction, context.buffer);
     let answers = [turned, context.buffer.direction];
     shadow::compare(shaper.unwrap_or(9), "prepare", &[before, by_host], context.buffer, answers);
 }
 
-/// Room that is used again.
+/// Room that is used again, for a text that comes apart and for one of its clusters.
 #[derive(Default)]
 pub struct Room {
-    /// For a part of a text that comes apart.
-    part: Option<Box<Buffer>>,
-    /// For a text that came apart.
-    glyphs: Vec<Glyph>,
+    text: Vec<Glyph>,
+    cluster: Vec<Glyph>,
 }
 
 /// Where a step is refused, the text is what the steps before it made, and the buffer has failed.
@@ -306,8 +305,13 @@ impl<'p, 'f, 'a, 'u> Steps<'p, 'f, 'a, 'u> {
             info.set_normalizer_glyph_index(number.map_or(0, crate::GlyphId::to_u32));
             number.is_some()
         });
-        if has_all {
-            infos.iter_mut().for_each(|info| info.mask |= mask);
+        for info in infos {
+            if has_all {
+                info.mask |= mask;
+            } else {
+                // (a number may take more than the 16 bits that the steps write)
+                info.set_normalizer_glyph_index(0);
+            }
         }
         has_all
     }
@@ -428,34 +432,23 @@ impl<'p, 'f, 'a, 'u> Steps<'p, 'f, 'a, 'u> {
         text.with_glyphs_mut(|glyphs| glyphs.iter_mut().all(|glyph| context.number(glyph)))
     }
 
-    /// Takes the clusters apart that may come apart, each in another text, and gives the others their glyphs.
+    /// Takes the clusters apart that may come apart, each in the text alone, and gives the others their glyphs. Where this is
+    /// refused, the text stays.
     fn take_apart(&mut self, text: &mut Buffer, room: &mut Room) -> Result<(), ShaperError> {
-        let level = self.level;
         let context = self.context();
-        let mut all = mem::take(&mut room.glyphs);
-        all.clear();
-        all.reserve(2 * text.len());
-        let mut rest = text.glyphs();
-        while !rest.is_empty() {
-            let marks = rest[1..].iter().take_while(|glyph| glyph.unicode_props.general_category().is_mark()).count();
-            let (cluster, behind) = rest.split_at(1 + marks);
-            let start = all.len();
-            all.extend_from_slice(cluster);
-            if !context.number_whole(&mut all[start..]) {
-                all.truncate(start);
-                let part = room.part.get_or_insert_default();
-                part.set_max_len(text.max_len());
-                part.set_cluster_level(level);
-                refill(part, cluster)?;
-                decompose(&context, part)?;
-                all.extend_from_slice(part.glyphs());
+        let (mut apart, mut cluster) = (mem::take(&mut room.text), mem::take(&mut room.cluster));
+        apart.clear();
+        apart.reserve(2 * text.len());
+        let glyphs: Vec<Glyph> = text.take_glyphs().into();
+        let done = context.take_apart(&glyphs, text, &mut cluster, &mut apart);
+        let mut apart = apart.into();
+        match done.and_then(|()| text.exchange_glyphs(&mut apart)) {
+            Ok(()) => {
+                *room = Room { text: glyphs, cluster };
+                Ok(())
             }
-            rest = behind;
+            Err(refusal) => text.replace_glyphs(glyphs.into()).and(Err(refusal)),
         }
-        let mut all = all.into();
-        text.exchange_glyphs(&mut all)?;
-        room.glyphs = all.into();
-        Ok(())
     }
 
     /// The second and the third round of normalization.
@@ -497,14 +490,6 @@ impl<'p, 'f, 'a, 'u> Steps<'p, 'f, 'a, 'u> {
             }
         }
     }
-}
-
-/// Makes a text one of these glyphs.
-fn refill(text: &mut Buffer, with: &[Glyph]) -> Result<(), ShaperError> {
-    let mut glyphs: Vec<Glyph> = text.take_glyphs().into();
-    glyphs.clear();
-    glyphs.extend_from_slice(with);
-    text.replace_glyphs(glyphs.into())
 }
 
 /// The cluster level of steps that merge where clusters are in order.
@@ -556,6 +541,36 @@ impl Context<'_, '_, '_, '_> {
             NormalizationMode::CD => false,
         };
         cluster.iter_mut().all(|glyph| self.number(glyph) && (is_short || stays_whole(glyph.glyph_id)))
+    }
+}
+
+impl Context<'_, '_, '_, '_> {
+    /// Writes what these glyphs become to the end of a list, by way of a text, with room for a cluster.
+    fn take_apart(
+        &self,
+        glyphs: &[Glyph],
+        text: &mut Buffer,
+        room: &mut Vec<Glyph>,
+        to: &mut Vec<Glyph>,
+    ) -> Result<(), ShaperError> {
+        let mut rest = glyphs;
+        while !rest.is_empty() {
+            let marks = rest[1..].iter().take_while(|glyph| glyph.unicode_props.general_category().is_mark()).count();
+            let (cluster, behind) = rest.split_at(1 + marks);
+            let start = to.len();
+            to.extend_from_slice(cluster);
+            if !self.number_whole(&mut to[start..]) {
+                to.truncate(start);
+                room.clear();
+                room.extend_from_slice(cluster);
+                text.replace_glyphs(mem::take(room).into())?;
+                decompose(self, text)?;
+                to.extend_from_slice(text.glyphs());
+                *room = text.take_glyphs().into();
+            }
+            rest = behind;
+        }
+        Ok(())
     }
 }
 
