@@ -196,14 +196,19 @@ fn host_positions_of(positions: Vec<Position>) -> Vec<GlyphPosition> {
 
 // ---- The text that hooks work on ----
 
-/// The text of the hooks, which has the host's glyphs while a hook works on them. It stays with the host's buffer, for its
-/// room.
+/// What stays with the host's buffer; a text that no hook works on needs none of it.
 #[derive(Default)]
 pub struct Work {
-    text: Buffer,
+    kept: Option<Box<Kept>>,
     /// Whether the text has the settings of the host's.
     has_settings: bool,
-    /// Room for what is in `parts`.
+}
+
+/// The text of the hooks, which has the host's glyphs while a hook works on them, and room for `parts`.
+#[derive(Default)]
+struct Kept {
+    text: Buffer,
+    #[allow(dead_code)]
     room: parts::Room,
 }
 
@@ -213,6 +218,16 @@ impl Work {
     pub fn begin(&mut self) {
         self.has_settings = false;
     }
+
+    #[inline]
+    fn kept(&mut self) -> &mut Kept {
+        self.kept.get_or_insert_with(Box::default)
+    }
+
+    #[inline]
+    fn text(&mut self) -> &mut Buffer {
+        &mut self.kept().text
+    }
 }
 
 const HAS_BROKEN_SYLLABLE: hb_buffer_scratch_flags_t = HB_BUFFER_SCRATCH_FLAG_HAS_BROKEN_SYLLABLE;
@@ -220,7 +235,7 @@ const HAS_STCH: hb_buffer_scratch_flags_t = HB_BUFFER_SCRATCH_FLAG_SHAPER0;
 
 /// Gives the text the settings of the host's.
 fn set_settings(buffer: &mut hb_buffer_t) {
-    let text = &mut buffer.work.text;
+    let text = buffer.work.text();
     text.set_max_len(buffer.max_len.max(buffer.len));
     text.set_cluster_level(parts::cluster_level(buffer.cluster_level, buffer.script));
     text.set_flags(BufferFlags::from_harfbuzz(parts::flag_bits(buffer.flags)));
@@ -239,7 +254,7 @@ fn lend(buffer: &mut hb_buffer_t) -> Result<(), ShaperError> {
     }
     buffer.info.truncate(buffer.len);
     let mut glyphs = glyphs_of(mem::take(&mut buffer.info)).into();
-    let lent = buffer.work.text.exchange_glyphs(&mut glyphs);
+    let lent = buffer.work.text().exchange_glyphs(&mut glyphs);
     if lent.is_err() {
         buffer.info = infos_of(glyphs.into());
     }
@@ -249,16 +264,14 @@ fn lend(buffer: &mut hb_buffer_t) -> Result<(), ShaperError> {
 /// Gives the host its glyphs back.
 #[inline]
 fn take_back(buffer: &mut hb_buffer_t) {
-    buffer.info = infos_of(buffer.work.text.take_glyphs().into());
+    let text = buffer.work.text();
+    let marks = [(HAS_BROKEN_SYLLABLE, text.has_broken_syllable()), (HAS_STCH, text.has_stch())];
+    buffer.info = infos_of(text.take_glyphs().into());
     buffer.len = buffer.info.len();
     // (the two lists are exchanged where lookups write)
     buffer.pos.resize(buffer.len, GlyphPosition::default());
-    let text = &buffer.work.text;
-    if text.has_broken_syllable() {
-        buffer.scratch_flags |= HAS_BROKEN_SYLLABLE;
-    }
-    if text.has_stch() {
-        buffer.scratch_flags |= HAS_STCH;
+    for (mark, is_set) in marks {
+        buffer.scratch_flags |= if is_set { mark } else { 0 };
     }
     parts::note_masks(buffer);
 }
@@ -267,7 +280,7 @@ fn take_back(buffer: &mut hb_buffer_t) {
 #[inline(always)]
 fn on_text<T>(buffer: &mut hb_buffer_t, hook: impl FnOnce(&mut Buffer) -> Result<T, ShaperError>) -> Option<T> {
     let done = lend(buffer).and_then(|()| {
-        let done = hook(&mut buffer.work.text);
+        let done = hook(buffer.work.text());
         take_back(buffer);
         done
     });

@@ -94,21 +94,21 @@ fn stays_whole(c: u32) -> bool {
 
 /// The facts of a character.
 #[inline(always)]
-fn facts_of(c: u32) -> Result<u32, ShaperError> {
+fn facts_of(c: u32, work: &mut Work) -> Result<u32, ShaperError> {
     match remembered(c) {
         Some(facts) => Ok(facts),
-        None => find_facts(c),
+        None => find_facts(c, work.text()),
     }
 }
 
 /// Finds the facts of a character, and remembers them.
 #[cold]
 #[inline(never)]
-fn find_facts(c: u32) -> Result<u32, ShaperError> {
-    let mut text = Buffer::default();
+fn find_facts(c: u32, text: &mut Buffer) -> Result<u32, ShaperError> {
     text.push(Glyph { glyph_id: c, ..Glyph::DEFAULT })?;
-    set_unicode_properties(&UnicodeTables, &mut text);
+    set_unicode_properties(&UnicodeTables, text);
     let mut facts = c >> PLACE << NUMBER | u32::from(text.get(0).unicode_props.0);
+    text.truncate(0);
     let Some(character) = char::from_u32(c) else {
         return Ok(facts | OPENS);
     };
@@ -133,7 +133,7 @@ fn find_facts(c: u32) -> Result<u32, ShaperError> {
 fn set_properties_alone(buffer: &mut hb_buffer_t) -> Result<u32, ShaperError> {
     let mut all = 0;
     for info in &mut buffer.info[..buffer.len] {
-        let facts = facts_of(info.glyph_id)?;
+        let facts = facts_of(info.glyph_id, &mut buffer.work)?;
         info.set_normalizer_glyph_index(0);
         info.set_unicode_props(facts as u16);
         all |= facts & ((1 << NUMBER) - 1);
@@ -186,7 +186,7 @@ fn run_steps(plan: &hb_ot_shape_plan_t, font: FontRef, wanted: HostDirection, bu
         }
         lend(buffer)?;
         let done = steps.run(buffer);
-        buffer.direction = host_direction_of(buffer.work.text.direction());
+        buffer.direction = host_direction_of(buffer.work.text().direction());
         take_back(buffer);
         steps.finish(buffer);
         done
@@ -318,7 +318,7 @@ impl<'p, 'f, 'a, 'u> Steps<'p, 'f, 'a, 'u> {
 
     /// Does the steps on the buffer's text, which keeps the shaper's level.
     fn run(&mut self, buffer: &mut hb_buffer_t) -> Result<(), ShaperError> {
-        let text = &mut buffer.work.text;
+        let Kept { text, room } = buffer.work.kept();
         if self.has(OPENS) {
             set_unicode_properties(&UnicodeTables, text);
         }
@@ -343,7 +343,7 @@ impl<'p, 'f, 'a, 'u> Steps<'p, 'f, 'a, 'u> {
         self.preprocess(text)?;
         self.rotate(text);
         text.set_cluster_level(self.level);
-        let done = self.normalize(text, &mut buffer.work.room);
+        let done = self.normalize(text, room);
         text.set_cluster_level(shaper_level);
         done
     }
