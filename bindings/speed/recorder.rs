@@ -66,7 +66,6 @@ std::thread_local! {
 }
 
 fn note(shaper: usize, hook: Hook, buffer: &mut hb_buffer_t) {
-    settle(buffer);
     let mut found = hb_buffer_t::new();
     fill(&mut found, buffer);
     CALLS.with_borrow_mut(|calls| calls.push(Call { shaper, hook, buffer: found, marks: Vec::new() }));
@@ -341,8 +340,7 @@ impl<'f, 'a> Recorded<'f, 'a> {
         text.set_has_stch(from.scratch_flags & HAS_STCH != 0);
         text.replace_glyphs(glyphs.into()).expect("it isn't too long");
         if call.hook == Hook::PostprocessGlyphs {
-            let positions: Vec<_> = from.pos[..from.len].iter().map(position_of).collect();
-            text.set_positions(positions.into());
+            text.set_positions(positions_of(from.pos[..from.len].to_vec()).into());
         }
     }
 
