@@ -15,7 +15,7 @@ mod text;
 
 pub use crate::hb::buffer::GlyphInfo as Info;
 pub use crate::hb::unicode::Codepoint;
-pub use text::{data_without_shaper, may_turn, prepare};
+pub use text::{data_without_shaper, may_turn, prepare, Room};
 
 // ---- Fonts ----
 
@@ -107,12 +107,6 @@ pub fn set_up(pause: Pause, plan: &Plan, text: &mut Buffer) -> bool {
     setup_syllables_found(pause, plan, text)
 }
 
-pub fn set_up_universal(plan: &Plan, buffer: &mut hb_buffer_t) {
-    super::on_masks(buffer, |text| {
-        setup_syllables_found(Pause::SetupSyllablesUse, plan, text);
-    });
-}
-
 /// Vowels are parted before (`text.rs`); in the shadow, where this is called, as the host does.
 pub fn part_vowels(_buffer: &mut hb_buffer_t) {
     #[cfg(feature = "shadow")]
@@ -134,7 +128,7 @@ pub fn flag_bits(flags: BufferFlags) -> u32 {
 }
 
 /// Nothing is noted of masks.
-pub fn note_masks(_: u32, _: &mut hb_buffer_t) {}
+pub fn note_masks(_: &mut hb_buffer_t) {}
 
 /// Hangul's marks are placed by their classes; HarfBuzz and rustybuzz don't place them.
 pub const fn places_marks(shaper: Shaper) -> bool {

@@ -135,7 +135,7 @@ impl Snapshot {
         let mut fields = infos.map(|(a, b)| compare_infos(a, b)).fold(0, |all, here| all | here);
         if self.have_positions {
             let pairs = self.positions[..self.len].iter().zip(&other.positions[..other.len]);
-            let differ = |(a, b): (&GlyphPosition, &GlyphPosition)| position_of(a) != position_of(b);
+            let differ = |(a, b): (&GlyphPosition, &GlyphPosition)| fields_of(a) != fields_of(b);
             fields |= u32::from(pairs.into_iter().any(differ)) << 10;
         }
         let marks = HAS_BROKEN_SYLLABLE | HAS_STCH;
@@ -144,15 +144,19 @@ impl Snapshot {
     }
 
     fn show(&self) -> String {
-        let infos = self.infos[..self.len].iter();
-        let shown = infos.map(|info| {
-            let Glyph { glyph_id, mask, cluster, glyph_props, lig_props, syllable, unicode_props, category, auxiliary } =
-                glyph_of(info);
-            let (lookups, bytes) = ([glyph_props.0, lig_props.0.into(), syllable.into()], [category, auxiliary]);
-            format!("{glyph_id:04x}={cluster},{mask:x},{lookups:x?},{:04x},{bytes:x?}", unicode_props.0)
+        let shown = self.infos[..self.len].iter().map(|info| {
+            let glyph = glyph_of(info);
+            let lookups = [glyph.glyph_props.0, glyph.lig_props.0.into(), glyph.syllable.into()];
+            let (props, bytes) = (glyph.unicode_props.0, [glyph.category, glyph.auxiliary]);
+            format!("{:04x}={},{:x},{lookups:x?},{props:04x},{bytes:x?}", glyph.glyph_id, glyph.cluster, glyph.mask)
         });
         shown.collect::<Vec<_>>().join(" ")
     }
+}
+
+fn fields_of(position: &GlyphPosition) -> ([i32; 4], u32) {
+    let &GlyphPosition { x_advance, y_advance, x_offset, y_offset, var } = position;
+    ([x_advance, y_advance, x_offset, y_offset], var)
 }
 
 fn compare_infos(a: &Info, b: &Info) -> u32 {
@@ -178,13 +182,11 @@ fn both<A: PartialEq>(
     buffer: &mut hb_buffer_t,
     mut run: impl FnMut(&mut hb_buffer_t, bool) -> A,
 ) -> A {
-    settle(buffer);
     let before = Snapshot::of(buffer);
     let stock_answer = run(buffer, true);
     let by_stock = Snapshot::of(buffer);
     before.put_back(buffer);
     let answer = run(buffer, false);
-    settle(buffer);
     compare(shaper, hook, &[before, by_stock], buffer, [&stock_answer, &answer]);
     answer
 }

@@ -1,8 +1,9 @@
-//! The script shapers: each hook and pause is that of the crate `sengadlit`, on a text that glyphs are copied into and
-//! back. What one host has otherwise than another is in `parts`.
+//! The script shapers: each hook and pause is that of the crate `sengadlit`. What one host has otherwise than another is in
+//! `parts`.
 //!
-//! A glyph of the host and one of `sengadlit` have the same fields. After a pause the text is the newer of the two until
-//! lookups are about to read the buffer (`settle`), so that a run of pauses copies once.
+//! A glyph of the host has the fields of one of `sengadlit`, at the same places, and so have positions. The host's list is
+//! lent to a hook whole: `into_iter().map(..).collect()` keeps it where it is, and at `opt-level` 2 and 3 nothing is left of
+//! the pass.
 
 // `hooks` is this module or its shadow.
 #![allow(unused_qualifications)]
@@ -10,6 +11,7 @@
 use alloc::boxed::Box;
 use alloc::vec::Vec;
 use core::any::Any;
+use core::mem;
 use core::ops::Range;
 
 use sengadlit::alloc::Global;
@@ -20,8 +22,8 @@ use sengadlit::plan::{BaseSearch, BreakFlags, NormalizationMode, ZeroWidthMarks}
 use sengadlit::shaper::{pause_may_change, Hook};
 use sengadlit::{
     ot_shaper_hangul, ot_shaper_indic, ot_shaper_khmer, ot_shaper_use, run_pause, Buffer, BufferFlags, Direction,
-    FeatureMap, GlyphInfo as Glyph, GlyphPosition as Position, Pause, Plan, Planner, Request, Script, Shaper, ShaperError,
-    Tag,
+    FeatureMap, GlyphInfo as Glyph, GlyphPosition as Position, Map, Pause, Plan, Planner, Request, Script, Shaper,
+    ShaperError, Tag,
 };
 
 use super::buffer::*;
@@ -83,26 +85,27 @@ const BREAK_FLAGS: BreakFlags = if cfg!(feature = "sound-breaks") { BreakFlags::
 
 fn create_data<const S: usize>(from: &hb_ot_shape_plan_t) -> Box<dyn Any + Send + Sync> {
     const GSUB: TableIndex = TableIndex::GSUB;
+    let shaper = Shaper::ALL[S];
     let map = &from.ot_map;
-    let features: Vec<_> =
-        map.features_of(GSUB).map(|(tag, mask, stage)| FeatureMap::new(parts::tag_of(tag), mask, stage)).collect();
-    let stages: Vec<_> = (0..map.stages(GSUB).len()).map(|stage| map.stage_lookup_range(GSUB, stage)).collect();
-    let lookups: Vec<_> =
-        (0..stages.last().map_or(0, |last| last.end)).map(|place| map.lookup(GSUB, place).index).collect();
-    let made = Plan::builder()
-        .script(script_of(from.script))
-        .features(&features)
-        .stages(&stages)
-        .lookups(&lookups)
-        .global_mask(map.get_global_mask())
-        .chosen_script(map.chosen_script(GSUB).map(parts::tag_of))
-        .found_script(map.found_script(GSUB))
-        .has_gpos_mark(from.has_gpos_mark)
-        .base_search(BaseSearch::AllConsonants)
-        .break_flags(BREAK_FLAGS)
-        .build_for(Shaper::ALL[S]);
-    let plan = made.expect("stages are ranges, and masks touch no glyph flag");
-    Box::new(ShaperPlan { shaper: Some(Shaper::ALL[S]), plan, may_turn: parts::may_turn(from) })
+    let (mut features, mut stages, mut lookups) = (Vec::new(), Vec::new(), Vec::new());
+    // (the others read no feature, and Indic alone asks whether lookups apply)
+    if !matches!(shaper, Shaper::Hebrew | Shaper::Myanmar | Shaper::MyanmarZawgyi | Shaper::Thai) {
+        let mapped = map.features_of(GSUB);
+        features = mapped.map(|(tag, mask, stage)| FeatureMap::new(parts::tag_of(tag), mask, stage)).collect();
+    }
+    if shaper == Shaper::Indic {
+        stages = (0..map.stages(GSUB).len()).map(|stage| map.stage_lookup_range(GSUB, stage)).collect();
+        let end = stages.last().map_or(0, |last: &Range<usize>| last.end);
+        lookups = (0..end).map(|place| map.lookup(GSUB, place).index).collect();
+    }
+    let chosen_script = map.chosen_script(GSUB).map(parts::tag_of);
+    let (global_mask, found_script) = (map.get_global_mask(), map.found_script(GSUB));
+    let made = Map::new(features.into(), stages.into(), lookups.into(), global_mask, chosen_script, found_script);
+    let mut plan = Plan::new(script_of(from.script), made.expect("stages are ranges, and masks touch no glyph flag"));
+    plan.has_gpos_mark = from.has_gpos_mark;
+    plan.base_search = BaseSearch::AllConsonants;
+    plan.break_flags = BREAK_FLAGS;
+    Box::new(ShaperPlan { shaper: Some(shaper), plan: shaper.with_data(plan), may_turn: parts::may_turn(from) })
 }
 
 /// What a plan keeps of this type.
@@ -123,6 +126,14 @@ fn plan_of(plan: &hb_ot_shape_plan_t) -> &Plan {
 }
 
 // ---- Glyphs ----
+
+/// A list is lent where it stands if its elements are as long.
+const _: () = {
+    assert!(size_of::<Info>() == size_of::<Glyph>() && align_of::<Info>() == align_of::<Glyph>());
+    assert!(
+        size_of::<GlyphPosition>() == size_of::<Position>() && align_of::<GlyphPosition>() == align_of::<Position>()
+    );
+};
 
 #[inline(always)]
 fn glyph_of(info: &Info) -> Glyph {
@@ -151,136 +162,138 @@ fn info_of(glyph: &Glyph) -> Info {
     info
 }
 
-fn position_of(position: &GlyphPosition) -> Position {
-    let &GlyphPosition { x_advance, y_advance, x_offset, y_offset, var } = position;
-    Position { x_advance, y_advance, x_offset, y_offset, var }
+#[inline(always)]
+fn glyphs_of(infos: Vec<Info>) -> Vec<Glyph> {
+    infos.into_iter().map(|info| glyph_of(&info)).collect()
+}
+
+#[inline(always)]
+fn infos_of(glyphs: Vec<Glyph>) -> Vec<Info> {
+    glyphs.into_iter().map(|glyph| info_of(&glyph)).collect()
+}
+
+#[inline(always)]
+fn positions_of(positions: Vec<GlyphPosition>) -> Vec<Position> {
+    let positions = positions.into_iter();
+    positions
+        .map(|position| {
+            let GlyphPosition { x_advance, y_advance, x_offset, y_offset, var } = position;
+            Position { x_advance, y_advance, x_offset, y_offset, var }
+        })
+        .collect()
+}
+
+#[inline(always)]
+fn host_positions_of(positions: Vec<Position>) -> Vec<GlyphPosition> {
+    let positions = positions.into_iter();
+    positions
+        .map(|position| {
+            let Position { x_advance, y_advance, x_offset, y_offset, var } = position;
+            GlyphPosition { x_advance, y_advance, x_offset, y_offset, var }
+        })
+        .collect()
 }
 
 // ---- The text that hooks work on ----
 
-/// The text of the hooks. It stays with the host's buffer, for its room.
+/// What stays with the host's buffer; a text that no hook works on needs none of it.
 #[derive(Default)]
 pub struct Work {
-    text: Option<Box<Buffer>>,
-    /// A part of a text that comes apart, for its room.
-    part: Option<Box<Buffer>>,
-    /// Whether the text is newer than the host's buffer.
-    is_newer: bool,
+    kept: Option<Box<Kept>>,
+    /// Whether the text has the settings of the host's.
+    has_settings: bool,
+}
+
+/// The text of the hooks, which has the host's glyphs while a hook works on them, and room for `parts`.
+#[derive(Default)]
+struct Kept {
+    text: Buffer,
+    #[allow(dead_code)]
+    room: parts::Room,
 }
 
 impl Work {
+    /// Lets the next hook read the settings of the host's text.
+    #[inline]
+    pub fn begin(&mut self) {
+        self.has_settings = false;
+    }
+
+    #[inline]
+    fn kept(&mut self) -> &mut Kept {
+        self.kept.get_or_insert_with(Box::default)
+    }
+
     #[inline]
     fn text(&mut self) -> &mut Buffer {
-        self.text.get_or_insert_with(Box::default)
+        &mut self.kept().text
     }
 }
 
 const HAS_BROKEN_SYLLABLE: hb_buffer_scratch_flags_t = HB_BUFFER_SCRATCH_FLAG_HAS_BROKEN_SYLLABLE;
 const HAS_STCH: hb_buffer_scratch_flags_t = HB_BUFFER_SCRATCH_FLAG_SHAPER0;
 
-/// Makes the text one of the glyphs at these places, and returns it.
-#[inline(always)]
-fn load(
-    buffer: &mut hb_buffer_t,
-    places: Range<usize>,
-    glyph_of: impl Fn(&Info) -> Glyph,
-) -> Result<&mut Buffer, ShaperError> {
-    let others = buffer.len - places.len();
+/// Gives the text the settings of the host's.
+fn set_settings(buffer: &mut hb_buffer_t) {
     let text = buffer.work.text();
-    let mut glyphs: Vec<Glyph> = text.take_glyphs().into();
-    glyphs.clear();
-    glyphs.extend(buffer.info[places].iter().map(glyph_of));
-    text.set_max_len(buffer.max_len.max(buffer.len) - others);
+    text.set_max_len(buffer.max_len.max(buffer.len));
     text.set_cluster_level(parts::cluster_level(buffer.cluster_level, buffer.script));
     text.set_flags(BufferFlags::from_harfbuzz(parts::flag_bits(buffer.flags)));
     text.set_direction(direction_of(buffer.direction));
     text.set_script(script_of(buffer.script));
-    text.set_has_broken_syllable(buffer.scratch_flags & HAS_BROKEN_SYLLABLE != 0);
-    text.set_has_stch(buffer.scratch_flags & HAS_STCH != 0);
-    text.replace_glyphs(glyphs.into())?;
-    Ok(text)
+    text.set_has_broken_syllable(false);
+    text.set_has_stch(false);
+    buffer.work.has_settings = true;
 }
 
-/// Puts the text's glyphs in place of those at these places.
-fn store(buffer: &mut hb_buffer_t, places: Range<usize>) {
-    let (old, new) = (places.len(), buffer.work.text().len());
-    if new != old {
-        let len = buffer.len;
-        if !buffer.ensure(len.max(len - old + new)) {
-            return;
-        }
-        buffer.info.copy_within(places.end..len, places.start + new);
-        buffer.len = len - old + new;
-    }
-    let text = buffer.work.text();
-    let mut masks = 0;
-    for (info, glyph) in buffer.info[places.start..].iter_mut().zip(text.glyphs()) {
-        *info = info_of(glyph);
-        masks |= glyph.mask;
-    }
-    if text.has_broken_syllable() {
-        buffer.scratch_flags |= HAS_BROKEN_SYLLABLE;
-    }
-    if text.has_stch() {
-        buffer.scratch_flags |= HAS_STCH;
-    }
-    parts::note_masks(masks, buffer);
-}
-
-/// Brings the host's buffer up to date.
+/// Lends the host's glyphs to the text. Where it refuses, they stay.
 #[inline]
-pub fn settle(buffer: &mut hb_buffer_t) {
-    if buffer.work.is_newer {
-        buffer.work.is_newer = false;
-        store(buffer, 0..buffer.len);
+fn lend(buffer: &mut hb_buffer_t) -> Result<(), ShaperError> {
+    if !buffer.work.has_settings {
+        set_settings(buffer);
     }
+    buffer.info.truncate(buffer.len);
+    let mut glyphs = glyphs_of(mem::take(&mut buffer.info)).into();
+    let lent = buffer.work.text().exchange_glyphs(&mut glyphs);
+    if lent.is_err() {
+        buffer.info = infos_of(glyphs.into());
+    }
+    lent
 }
 
-/// Calls a hook on the glyphs at these places. Where it refuses, they stay, and the buffer has failed.
-fn on_text<T>(
-    buffer: &mut hb_buffer_t,
-    places: Range<usize>,
-    hook: impl FnOnce(&mut Buffer) -> Result<T, ShaperError>,
-) {
-    match load(buffer, places.clone(), glyph_of).and_then(hook) {
-        Ok(_) => store(buffer, places),
-        Err(_) => buffer.successful = false,
+/// Gives the host its glyphs back.
+#[inline]
+fn take_back(buffer: &mut hb_buffer_t) {
+    let text = buffer.work.text();
+    let marks = [(HAS_BROKEN_SYLLABLE, text.has_broken_syllable()), (HAS_STCH, text.has_stch())];
+    buffer.info = infos_of(text.take_glyphs().into());
+    buffer.len = buffer.info.len();
+    // (the two lists are exchanged where lookups write)
+    buffer.pos.resize(buffer.len, GlyphPosition::default());
+    for (mark, is_set) in marks {
+        buffer.scratch_flags |= if is_set { mark } else { 0 };
     }
+    parts::note_masks(buffer);
 }
 
-/// Calls a hook that changes masks, syllables, categories and auxiliary bytes alone, and reads no marks.
-fn on_masks(buffer: &mut hb_buffer_t, hook: impl FnOnce(&mut Buffer)) {
-    let Ok(text) = load(buffer, 0..buffer.len, bare_glyph_of) else {
-        buffer.successful = false;
-        return;
-    };
-    hook(text);
-    let mut masks = 0;
-    for (info, glyph) in buffer.info.iter_mut().zip(buffer.work.text().glyphs()) {
-        info.mask = glyph.mask;
-        masks |= glyph.mask;
-        info.set_syllable(glyph.syllable);
-        info.set_ot_shaper_var_u8_category(glyph.category);
-        info.set_ot_shaper_var_u8_auxiliary(glyph.auxiliary);
-    }
-    if buffer.work.text().has_broken_syllable() {
-        buffer.scratch_flags |= HAS_BROKEN_SYLLABLE;
-    }
-    parts::note_masks(masks, buffer);
-}
-
+/// Calls a hook on the text. Where it refuses, the glyphs stay, and the buffer has failed.
 #[inline(always)]
-fn bare_glyph_of(info: &Info) -> Glyph {
-    Glyph {
-        glyph_id: info.glyph_id,
-        cluster: info.cluster,
-        mask: info.mask,
-        syllable: info.syllable(),
-        category: info.ot_shaper_var_u8_category(),
-        auxiliary: info.ot_shaper_var_u8_auxiliary(),
-        unicode_props: UnicodeProps(info.unicode_props()),
-        ..Glyph::DEFAULT
-    }
+fn on_text<T>(buffer: &mut hb_buffer_t, hook: impl FnOnce(&mut Buffer) -> Result<T, ShaperError>) -> Option<T> {
+    let done = lend(buffer).and_then(|()| {
+        let done = hook(buffer.work.text());
+        take_back(buffer);
+        done
+    });
+    buffer.successful &= done.is_ok();
+    done.ok()
+}
+
+/// Calls a hook on the glyphs, which reads nothing else of a text.
+#[inline(always)]
+fn on_glyphs(buffer: &mut hb_buffer_t, hook: impl FnOnce(&mut [Glyph])) {
+    let mut glyphs = glyphs_of(mem::take(&mut buffer.info));
+    hook(&mut glyphs[..buffer.len]);
+    buffer.info = infos_of(glyphs);
 }
 
 fn direction_of(direction: super::Direction) -> Direction {
@@ -303,9 +316,7 @@ fn preprocess_text<const S: usize>(plan: &hb_ot_shape_plan_t, font: FontRef, buf
     }
     let characters = buffer.info[..buffer.len].iter().map(|info| info.glyph_id);
     if may_rewrite(shaper, plan_of(plan), characters, |c| font.has_glyph(c)) {
-        on_text(buffer, 0..buffer.len, |text| {
-            shaper.preprocess_text(plan_of(plan), &parts::font(font), text)
-        });
+        on_text(buffer, |text| shaper.preprocess_text(plan_of(plan), &parts::font(font), text));
     }
 }
 
@@ -332,38 +343,16 @@ fn may_rewrite(
 
 fn setup_masks<const S: usize>(plan: &hb_ot_shape_plan_t, _: FontRef, buffer: &mut hb_buffer_t) {
     let plan = plan_of(plan);
-    let len = buffer.len;
-    let infos = &mut buffer.info[..len];
     match Shaper::ALL[S] {
-        Shaper::Indic => each(infos, |glyph| set_categories_and_positions_in(&Ucd, glyph)),
-        Shaper::Khmer | Shaper::Myanmar => each(infos, |glyph| set_categories_in(&Ucd, glyph)),
+        Shaper::Indic => on_glyphs(buffer, |glyphs| set_categories_and_positions_in(&Ucd, glyphs)),
+        Shaper::Khmer | Shaper::Myanmar => on_glyphs(buffer, |glyphs| set_categories_in(&Ucd, glyphs)),
         Shaper::Universal if !joins(plan) => {
-            each(infos, |glyph| ot_shaper_use::set_categories_in(&Ucd, glyph));
+            on_glyphs(buffer, |glyphs| ot_shaper_use::set_categories_in(&Ucd, glyphs));
         }
         shaper => match plan.plan_data.hangul() {
-            Some(data) => each(infos, |glyph| ot_shaper_hangul::setup_masks_in(data, glyph)),
+            Some(data) => on_glyphs(buffer, |glyphs| ot_shaper_hangul::setup_masks_in(data, glyphs)),
             None => setup_joining_masks(shaper, plan, buffer),
         },
-    }
-}
-
-/// Calls a hook on each glyph alone, of which it reads and writes these fields at most.
-#[inline(always)]
-fn each(infos: &mut [Info], hook: impl Fn(&mut [Glyph])) {
-    for info in infos {
-        let mut glyph = [Glyph {
-            glyph_id: info.glyph_id,
-            mask: info.mask,
-            syllable: info.syllable(),
-            category: info.ot_shaper_var_u8_category(),
-            auxiliary: info.ot_shaper_var_u8_auxiliary(),
-            ..Glyph::DEFAULT
-        }];
-        hook(&mut glyph);
-        info.mask = glyph[0].mask;
-        info.set_syllable(glyph[0].syllable);
-        info.set_ot_shaper_var_u8_category(glyph[0].category);
-        info.set_ot_shaper_var_u8_auxiliary(glyph[0].auxiliary);
     }
 }
 
@@ -374,26 +363,21 @@ fn joins(plan: &Plan) -> bool {
 fn setup_joining_masks(shaper: Shaper, plan: &Plan, buffer: &mut hb_buffer_t) {
     let [before, after] = buffer.context;
     let [before_len, after_len] = buffer.context_len;
-    on_masks(buffer, |text| {
+    on_text(buffer, |text| {
         text.set_pre_context(&parts::context(&before[..before_len]));
         text.set_post_context(&parts::context(&after[..after_len]));
         shaper.setup_masks(plan, &FeaturesOnly(|_: Tag| false), &Ucd, text);
+        Ok(())
     });
 }
 
-/// Merges reach over neighbours of the same cluster and no further, so the call reads these too.
 fn reorder_marks<const S: usize>(plan: &hb_ot_shape_plan_t, buffer: &mut hb_buffer_t, start: usize, end: usize) {
-    let infos = &buffer.info[..buffer.len];
-    if !may_reorder(Shaper::ALL[S], &infos[start..end]) {
-        return;
+    if may_reorder(Shaper::ALL[S], &buffer.info[start..end]) {
+        on_text(buffer, |text| {
+            Shaper::ALL[S].reorder_marks(plan_of(plan), text, start, end);
+            Ok(())
+        });
     }
-    let (first, last) = (infos[start].cluster, infos[end - 1].cluster);
-    let before = infos[..start].iter().rev().take_while(|info| info.cluster == first).count();
-    let after = infos[end..].iter().take_while(|info| info.cluster == last).count();
-    on_text(buffer, start - before..end + after, |text| {
-        Shaper::ALL[S].reorder_marks(plan_of(plan), text, before, before + end - start);
-        Ok(())
-    });
 }
 
 /// Whether marks may change places: Arabic's where one modifies a letter, Hebrew's where there are three.
@@ -428,17 +412,15 @@ fn postprocess_glyphs<const S: usize>(plan: &hb_ot_shape_plan_t, font: FontRef, 
     if buffer.scratch_flags & HAS_STCH == 0 {
         return; // nothing stretches
     }
-    let positions: Vec<_> = buffer.pos[..buffer.len].iter().map(position_of).collect();
-    on_text(buffer, 0..buffer.len, |text| {
-        text.set_positions(positions.into());
-        Shaper::ALL[S].postprocess_glyphs(plan_of(plan), &parts::font(font), text)
+    buffer.pos.truncate(buffer.len);
+    let mut positions = positions_of(mem::take(&mut buffer.pos)).into();
+    on_text(buffer, |text| {
+        text.exchange_positions(&mut positions);
+        let done = Shaper::ALL[S].postprocess_glyphs(plan_of(plan), &parts::font(font), text);
+        positions = text.take_positions();
+        done
     });
-    let text = buffer.work.text();
-    for (to, from) in buffer.pos.iter_mut().zip(text.positions()) {
-        let &Position { x_advance, y_advance, x_offset, y_offset, var } = from;
-        *to = GlyphPosition { x_advance, y_advance, x_offset, y_offset, var };
-    }
-    text.take_positions();
+    buffer.pos = host_positions_of(positions.into());
 }
 
 // ---- Pauses ----
@@ -473,22 +455,8 @@ fn pause<const P: usize>(plan: &hb_ot_shape_plan_t, font: FontRef, buffer: &mut 
     if !may_change(pause, plan, buffer) || clears_in_place(pause, buffer) {
         return false;
     }
-    if pause == Pause::SetupSyllablesUse {
-        // lookups follow, so that masks alone are copied
-        settle(buffer);
-        parts::set_up_universal(plan, buffer);
-        return false;
-    }
     parts::find_syllables(pause, buffer);
-    let loaded = if buffer.work.is_newer { Ok(buffer.work.text()) } else { load(buffer, 0..buffer.len, glyph_of) };
-    let done = loaded.and_then(|text| run(pause, plan, font, text));
-    buffer.work.is_newer |= done.is_ok();
-    buffer.successful &= done.is_ok();
-    let wants_circles = done.unwrap_or(false);
-    if wants_circles {
-        settle(buffer);
-    }
-    wants_circles
+    on_text(buffer, |text| run(pause, plan, font, text)).unwrap_or(false)
 }
 
 /// Does what the pause does on the text.
@@ -500,26 +468,20 @@ fn run(pause: Pause, plan: &Plan, font: FontRef, text: &mut Buffer) -> Result<bo
 }
 
 /// Whether a pause may change the text, by its contract.
-fn may_change(pause: Pause, plan: &Plan, buffer: &mut hb_buffer_t) -> bool {
+fn may_change(pause: Pause, plan: &Plan, buffer: &hb_buffer_t) -> bool {
     let reads_substitutions = matches!(pause, Pause::RecordRphf | Pause::RecordPref | Pause::ClearSubstitutionFlags);
     pause_may_change(pause, plan) && (!reads_substitutions || any_is_substituted(buffer))
 }
 
-fn any_is_substituted(buffer: &mut hb_buffer_t) -> bool {
-    if buffer.work.is_newer {
-        buffer.work.text().glyphs().iter().any(|glyph| glyph.glyph_props.is_substituted())
-    } else {
-        buffer.info[..buffer.len].iter().any(parts::is_substituted)
-    }
+fn any_is_substituted(buffer: &hb_buffer_t) -> bool {
+    buffer.info[..buffer.len].iter().any(parts::is_substituted)
 }
 
-/// Clears a byte or a bit of each glyph where the buffer is up to date, which needs no copy.
+/// Clears a byte or a bit of each glyph, which needs no text.
 fn clears_in_place(pause: Pause, buffer: &mut hb_buffer_t) -> bool {
-    let infos = &mut buffer.info[..buffer.len];
     match pause {
-        _ if buffer.work.is_newer => return false,
-        Pause::SyllabicClearVar => each(infos, clear_syllables_in),
-        Pause::ClearSubstitutionFlags => infos.iter_mut().for_each(parts::clear_substituted),
+        Pause::SyllabicClearVar => on_glyphs(buffer, clear_syllables_in),
+        Pause::ClearSubstitutionFlags => buffer.info[..buffer.len].iter_mut().for_each(parts::clear_substituted),
         _ => return false,
     }
     true

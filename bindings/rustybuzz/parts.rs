@@ -21,6 +21,9 @@ pub use crate::hb::buffer::hb_glyph_info_t as Info;
 
 pub type Codepoint = char;
 
+/// No room is needed.
+pub type Room = ();
+
 /// A text is turned by rustybuzz itself.
 pub fn may_turn(_: &hb_ot_shape_plan_t) -> bool {
     false
@@ -156,38 +159,35 @@ pub fn reserve_syllables(_: Pause, _: &mut hb_buffer_t) {}
 
 // ---- Syllables ----
 
-/// Lets the host's machine find the syllables of a text that is to be set up.
+/// Lets the host's machine find the syllables of a text that is to be set up. The universal machine's kinds are one more than
+/// those of the hooks; what it passes over at the front has no byte, and stays in its order.
 pub fn find_syllables(pause: Pause, buffer: &mut hb_buffer_t) {
     let find: fn(&mut hb_buffer_t) = match pause {
         Pause::SetupSyllablesIndic => crate::hb::ot_shaper_indic_machine::find_syllables_indic,
         Pause::SetupSyllablesKhmer => crate::hb::ot_shaper_khmer_machine::find_syllables_khmer,
         Pause::SetupSyllablesMyanmar => crate::hb::ot_shaper_myanmar_machine::find_syllables_myanmar,
+        Pause::SetupSyllablesUse => crate::hb::ot_shaper_use_machine::find_syllables,
         _ => return,
     };
-    super::settle(buffer);
     find(buffer);
+    if pause == Pause::SetupSyllablesUse {
+        for info in &mut buffer.info[..buffer.len] {
+            let byte = info.syllable().checked_sub(1);
+            info.set_syllable(byte.unwrap_or(use_syllable::NUMERAL_CLUSTER));
+        }
+    }
 }
 
 /// Sets the syllables up that the machine has found. Returns whether the pause does so.
-pub fn set_up(pause: Pause, _: &Plan, text: &mut Buffer) -> bool {
+pub fn set_up(pause: Pause, plan: &Plan, text: &mut Buffer) -> bool {
     match pause {
         Pause::SetupSyllablesIndic => set_up_by_bytes(indic_syllable::BROKEN_CLUSTER, text),
         Pause::SetupSyllablesKhmer => set_up_by_bytes(khmer_syllable::BROKEN_CLUSTER, text),
         Pause::SetupSyllablesMyanmar => set_up_by_bytes(myanmar_syllable::BROKEN_CLUSTER, text),
+        Pause::SetupSyllablesUse => ot_shaper_use::setup_syllables_use_by_bytes(plan, text),
         _ => return false,
     }
     true
-}
-
-/// The universal machine's kinds are one more than those of the hooks; what it passes over at the front has no byte,
-/// and stays in its order.
-pub fn set_up_universal(plan: &Plan, buffer: &mut hb_buffer_t) {
-    crate::hb::ot_shaper_use_machine::find_syllables(buffer);
-    for info in &mut buffer.info[..buffer.len] {
-        let byte = info.syllable().checked_sub(1);
-        info.set_syllable(byte.unwrap_or(use_syllable::NUMERAL_CLUSTER));
-    }
-    super::on_masks(buffer, |text| ot_shaper_use::setup_syllables_use_by_bytes(plan, text));
 }
 
 /// The vowel constraints of Indic and the universal shaper.
@@ -210,10 +210,13 @@ pub fn flag_bits(flags: BufferFlags) -> u32 {
     (flags.bits() & 0x7F) | (flags & BufferFlags::PRODUCE_UNSAFE_TO_CONCAT).bits() << 1
 }
 
-/// A mask with glyph flags is noted.
-pub fn note_masks(masks: u32, buffer: &mut hb_buffer_t) {
-    if masks & glyph_flag::DEFINED != 0 {
-        buffer.scratch_flags |= HB_BUFFER_SCRATCH_FLAG_HAS_GLYPH_FLAGS;
+/// Masks with glyph flags are noted.
+pub fn note_masks(buffer: &mut hb_buffer_t) {
+    if buffer.scratch_flags & HB_BUFFER_SCRATCH_FLAG_HAS_GLYPH_FLAGS == 0 {
+        let masks = buffer.info.iter().fold(0, |all, info| all | info.mask);
+        if masks & glyph_flag::DEFINED != 0 {
+            buffer.scratch_flags |= HB_BUFFER_SCRATCH_FLAG_HAS_GLYPH_FLAGS;
+        }
     }
 }
 

@@ -5,11 +5,10 @@
 //! in place. Others are copied once, and back once. A step that has nothing to do isn't called.
 
 use core::cell::{Cell, RefCell};
+use core::mem;
 use core::sync::atomic::{AtomicU32, Ordering};
 
-use sengadlit::ot_shape_normalize::{
-    decompose, normalize, order_marks_in, recompose_in, NormalizeContext, Rounds,
-};
+use sengadlit::ot_shape_normalize::{decompose, normalize, order_marks_in, recompose_in, NormalizeContext, Rounds};
 use sengadlit::ot_shape_prepare::{
     ensure_native_direction, form_clusters, insert_dotted_circle, preprocess_text_vowel_constraints, rotate_chars,
     set_unicode_properties, CharRotation, BEGINNING_OF_TEXT,
@@ -38,13 +37,27 @@ pub fn may_turn(plan: &hb_ot_shape_plan_t) -> bool {
         return true;
     };
     let direction = direction_of(plan.direction);
+    let tag = parts::tag_of(script.tag()).0;
+    // (seven bits for each letter)
+    let asked = tag.iter().fold(direction as u32, |asked, byte| asked << 7 | u32::from(byte & 0x7F));
+    let last = LAST_TURN.load(Ordering::Relaxed);
+    if tag.is_ascii() && last >> 1 == asked {
+        return last & 1 != 0;
+    }
     let letter = Glyph { unicode_props: UnicodeProps::new(GeneralCategory::Lo, 0), ..Glyph::DEFAULT };
     let mut text: Buffer = core::iter::once(letter).collect();
     text.set_direction(direction);
     text.set_script(script_of(Some(script)));
     ensure_native_direction(&mut text);
-    text.direction() != direction
+    let turns = text.direction() != direction;
+    if tag.is_ascii() {
+        LAST_TURN.store(asked << 1 | u32::from(turns), Ordering::Relaxed);
+    }
+    turns
 }
+
+/// The script and direction that were last asked for, and whether a text of these may be turned.
+static LAST_TURN: AtomicU32 = AtomicU32::new(0);
 
 // ---- What is known of a character alone ----
 
@@ -81,10 +94,10 @@ fn stays_whole(c: u32) -> bool {
 
 /// The facts of a character.
 #[inline(always)]
-fn facts_of(c: u32, text: &mut Buffer) -> Result<u32, ShaperError> {
+fn facts_of(c: u32, work: &mut Work) -> Result<u32, ShaperError> {
     match remembered(c) {
         Some(facts) => Ok(facts),
-        None => find_facts(c, text),
+        None => find_facts(c, work.text()),
     }
 }
 
@@ -92,9 +105,10 @@ fn facts_of(c: u32, text: &mut Buffer) -> Result<u32, ShaperError> {
 #[cold]
 #[inline(never)]
 fn find_facts(c: u32, text: &mut Buffer) -> Result<u32, ShaperError> {
-    refill(text, &[Glyph { glyph_id: c, ..Glyph::DEFAULT }])?;
+    text.push(Glyph { glyph_id: c, ..Glyph::DEFAULT })?;
     set_unicode_properties(&UnicodeTables, text);
     let mut facts = c >> PLACE << NUMBER | u32::from(text.get(0).unicode_props.0);
+    text.truncate(0);
     let Some(character) = char::from_u32(c) else {
         return Ok(facts | OPENS);
     };
@@ -116,10 +130,11 @@ fn find_facts(c: u32, text: &mut Buffer) -> Result<u32, ShaperError> {
 }
 
 /// Sets the properties of each character alone, and gives all facts of the text's characters.
-fn set_properties_alone(buffer: &mut hb_buffer_t, text: &mut Buffer) -> Result<u32, ShaperError> {
+fn set_properties_alone(buffer: &mut hb_buffer_t) -> Result<u32, ShaperError> {
     let mut all = 0;
     for info in &mut buffer.info[..buffer.len] {
-        let facts = facts_of(info.glyph_id, text)?;
+        let facts = facts_of(info.glyph_id, &mut buffer.work)?;
+        info.set_normalizer_glyph_index(0);
         info.set_unicode_props(facts as u16);
         all |= facts & ((1 << NUMBER) - 1);
     }
@@ -148,65 +163,35 @@ pub fn prepare(context: &mut OtShapeContext) {
     let turned = context.buffer.direction;
     before.put_back(context.buffer);
     context.buffer.direction = direction;
+    context.buffer.work.begin();
     run_steps(plan, context.font_funcs, context.target_direction, context.buffer);
     let answers = [turned, context.buffer.direction];
     shadow::compare(shaper.unwrap_or(9), "prepare", &[before, by_host], context.buffer, answers);
 }
 
+/// Room that is used again, for a text that comes apart and for one of its clusters.
+#[derive(Default)]
+pub struct Room {
+    text: Vec<Glyph>,
+    cluster: Vec<Glyph>,
+}
+
 /// Where a step is refused, the text is what the steps before it made, and the buffer has failed.
 fn run_steps(plan: &hb_ot_shape_plan_t, font: FontRef, wanted: HostDirection, buffer: &mut hb_buffer_t) {
-    let mut text = buffer.work.text.take().unwrap_or_default();
-    let mut part = buffer.work.part.take();
-    let done = set_properties_alone(buffer, &mut text).and_then(|facts| {
-        let mut steps = Steps::new(plan, font, wanted, buffer, facts);
+    let done = set_properties_alone(buffer).and_then(|facts| {
         note_facts(facts, buffer);
+        let mut steps = Steps::new(plan, font, wanted, buffer, facts);
         if steps.number_in_place(buffer) {
             return Ok(());
         }
-        load(buffer, &mut text)?;
-        let done = steps.run(&mut text, &mut part);
-        store(buffer, &text);
-        if steps.is_beyond.get() {
-            steps.renumber(buffer);
-        }
-        if steps.is_rewritten {
-            note_normalized(buffer);
-        }
+        lend(buffer)?;
+        let done = steps.run(buffer);
+        buffer.direction = host_direction_of(buffer.work.text().direction());
+        take_back(buffer);
+        steps.finish(buffer);
         done
     });
     buffer.successful &= done.is_ok();
-    buffer.work.text = Some(text);
-    buffer.work.part = part;
-}
-
-/// Makes the text one of the buffer's characters with their properties.
-fn load(buffer: &hb_buffer_t, text: &mut Buffer) -> Result<(), ShaperError> {
-    let mut glyphs: Vec<Glyph> = text.take_glyphs().into();
-    glyphs.clear();
-    glyphs.extend(buffer.info[..buffer.len].iter().map(glyph_of));
-    let mut flags = BufferFlags::from_harfbuzz(parts::flag_bits(buffer.flags));
-    if buffer.flags.contains(HostFlags::BEGINNING_OF_TEXT) {
-        flags.0 |= BEGINNING_OF_TEXT.0;
-        text.set_pre_context(&parts::context(&buffer.context[0][..buffer.context_len[0]]));
-    }
-    text.set_max_len(buffer.max_len.max(buffer.len));
-    text.set_flags(flags);
-    text.set_direction(direction_of(buffer.direction));
-    text.set_script(script_of(buffer.script));
-    text.replace_glyphs(glyphs.into())
-}
-
-/// Puts the text's glyphs into the buffer.
-fn store(buffer: &mut hb_buffer_t, text: &Buffer) {
-    if !buffer.ensure(text.len()) {
-        return;
-    }
-    buffer.len = text.len();
-    buffer.direction = host_direction_of(text.direction());
-    for (info, glyph) in buffer.info.iter_mut().zip(text.glyphs()) {
-        *info = info_of(glyph);
-        info.set_normalizer_glyph_index(glyph.glyph_props.0.into());
-    }
 }
 
 /// Notes what the buffer's later steps want to know of its characters.
@@ -257,8 +242,6 @@ struct Steps<'p, 'f, 'a, 'u> {
     rounds: Rounds,
     invisible_glyph: Option<GlyphId>,
     draws_selectors: bool,
-    /// The level of the shaper's own preparation.
-    shaper_level: BufferClusterLevel,
     /// The level of clusters by graphemes.
     grapheme_level: BufferClusterLevel,
     /// The level of the other steps.
@@ -292,7 +275,6 @@ impl<'p, 'f, 'a, 'u> Steps<'p, 'f, 'a, 'u> {
             rounds: if buffer.flags.contains(HostFlags::NORMALIZE_ALWAYS) { Rounds::Always } else { Rounds::AsCode },
             invisible_glyph: buffer.invisible.and_then(|glyph| narrow(glyph.to_u32())),
             draws_selectors: buffer.not_found_variation_selector.is_some(),
-            shaper_level: parts::cluster_level(buffer.cluster_level, buffer.script),
             grapheme_level: if merges_graphemes { BufferClusterLevel::MonotoneGraphemes } else { level },
             level,
             is_rewritten: false,
@@ -323,19 +305,32 @@ impl<'p, 'f, 'a, 'u> Steps<'p, 'f, 'a, 'u> {
             info.set_normalizer_glyph_index(number.map_or(0, crate::GlyphId::to_u32));
             number.is_some()
         });
-        if has_all {
-            infos.iter_mut().for_each(|info| info.mask |= mask);
+        for info in infos {
+            if has_all {
+                info.mask |= mask;
+            } else {
+                // (a number may take more than the 16 bits that the steps write)
+                info.set_normalizer_glyph_index(0);
+            }
         }
         has_all
     }
 
-    fn run(&mut self, text: &mut Buffer, part: &mut Option<Box<Buffer>>) -> Result<(), ShaperError> {
+    /// Does the steps on the buffer's text, which keeps the shaper's level.
+    fn run(&mut self, buffer: &mut hb_buffer_t) -> Result<(), ShaperError> {
+        let Kept { text, room } = buffer.work.kept();
         if self.has(OPENS) {
             set_unicode_properties(&UnicodeTables, text);
         }
-        if text.flags().contains(BEGINNING_OF_TEXT) {
-            insert_dotted_circle(&UnicodeTables, &parts::font(self.font), text)?;
+        if buffer.flags.contains(HostFlags::BEGINNING_OF_TEXT) {
+            let flags = text.flags();
+            text.set_flags(BufferFlags(flags.0 | BEGINNING_OF_TEXT.0));
+            text.set_pre_context(&parts::context(&buffer.context[0][..buffer.context_len[0]]));
+            let done = insert_dotted_circle(&UnicodeTables, &parts::font(self.font), text);
+            text.set_flags(flags);
+            done?;
         }
+        let shaper_level = text.cluster_level();
         if self.continues() || self.has(OPENS) {
             text.set_cluster_level(self.grapheme_level);
             form_clusters(text);
@@ -344,9 +339,27 @@ impl<'p, 'f, 'a, 'u> Steps<'p, 'f, 'a, 'u> {
         if self.may_turn {
             ensure_native_direction(text);
         }
+        text.set_cluster_level(shaper_level);
         self.preprocess(text)?;
         self.rotate(text);
-        self.normalize(text, part)
+        text.set_cluster_level(self.level);
+        let done = self.normalize(text, room);
+        text.set_cluster_level(shaper_level);
+        done
+    }
+
+    /// Ends the steps in the buffer: numbers that don't fit 16 bits, and what later steps want to know.
+    fn finish(&mut self, buffer: &mut hb_buffer_t) {
+        if cfg!(target_endian = "big") {
+            let infos = buffer.info.iter_mut();
+            infos.for_each(|info| info.set_normalizer_glyph_index(info.glyph_props().into()));
+        }
+        if self.is_beyond.get() {
+            self.renumber(buffer);
+        }
+        if self.is_rewritten {
+            note_normalized(buffer);
+        }
     }
 
     /// Whether the shaper's own preparation may change a text of these characters.
@@ -368,10 +381,7 @@ impl<'p, 'f, 'a, 'u> Steps<'p, 'f, 'a, 'u> {
             Some(shaper) => {
                 // (no shaper makes a selector)
                 self.facts |= ROTATES | COMES_APART;
-                text.set_cluster_level(self.shaper_level);
-                let done = shaper.preprocess_text(self.plan, &parts::font(self.font), text);
-                text.set_cluster_level(self.level);
-                done.map(drop)
+                shaper.preprocess_text(self.plan, &parts::font(self.font), text).map(drop)
             }
         }
     }
@@ -396,7 +406,7 @@ impl<'p, 'f, 'a, 'u> Steps<'p, 'f, 'a, 'u> {
 
     /// Normalizes a text. Its clusters, each a character and the marks behind it, come apart on their own, so only those
     /// that may do so are taken apart; then marks are ordered and composed.
-    fn normalize(&mut self, text: &mut Buffer, part: &mut Option<Box<Buffer>>) -> Result<(), ShaperError> {
+    fn normalize(&mut self, text: &mut Buffer, room: &mut Room) -> Result<(), ShaperError> {
         if self.has(SELECTS) {
             self.is_rewritten = true;
             let rounds = self.rounds;
@@ -405,7 +415,7 @@ impl<'p, 'f, 'a, 'u> Steps<'p, 'f, 'a, 'u> {
         let has_mark = text.glyphs().iter().skip(1).any(|glyph| glyph.unicode_props.general_category().is_mark());
         if !self.number(text) {
             self.is_rewritten = true;
-            self.take_apart(text, part.get_or_insert_default())?;
+            self.take_apart(text, room)?;
         }
         if has_mark || self.rounds == Rounds::Always {
             self.order_and_compose(text);
@@ -422,27 +432,23 @@ impl<'p, 'f, 'a, 'u> Steps<'p, 'f, 'a, 'u> {
         text.with_glyphs_mut(|glyphs| glyphs.iter_mut().all(|glyph| context.number(glyph)))
     }
 
-    /// Takes the clusters apart that may come apart, each in this other text, and gives the others their glyphs.
-    fn take_apart(&mut self, text: &mut Buffer, part: &mut Buffer) -> Result<(), ShaperError> {
-        part.set_max_len(text.max_len());
-        part.set_cluster_level(self.level);
+    /// Takes the clusters apart that may come apart, each in the text alone, and gives the others their glyphs. Where this is
+    /// refused, the text stays.
+    fn take_apart(&mut self, text: &mut Buffer, room: &mut Room) -> Result<(), ShaperError> {
         let context = self.context();
-        let mut all: Vec<Glyph> = Vec::with_capacity(2 * text.len());
-        let mut rest = text.glyphs();
-        while !rest.is_empty() {
-            let marks = rest[1..].iter().take_while(|glyph| glyph.unicode_props.general_category().is_mark()).count();
-            let (cluster, behind) = rest.split_at(1 + marks);
-            let start = all.len();
-            all.extend_from_slice(cluster);
-            if !context.number_whole(&mut all[start..]) {
-                all.truncate(start);
-                refill(part, cluster)?;
-                decompose(&context, part)?;
-                all.extend_from_slice(part.glyphs());
+        let (mut apart, mut cluster) = (mem::take(&mut room.text), mem::take(&mut room.cluster));
+        apart.clear();
+        apart.reserve(2 * text.len());
+        let glyphs: Vec<Glyph> = text.take_glyphs().into();
+        let done = context.take_apart(&glyphs, text, &mut cluster, &mut apart);
+        let mut apart = apart.into();
+        match done.and_then(|()| text.exchange_glyphs(&mut apart)) {
+            Ok(()) => {
+                *room = Room { text: glyphs, cluster };
+                Ok(())
             }
-            rest = behind;
+            Err(refusal) => text.replace_glyphs(glyphs.into()).and(Err(refusal)),
         }
-        text.replace_glyphs(all.into())
     }
 
     /// The second and the third round of normalization.
@@ -484,14 +490,6 @@ impl<'p, 'f, 'a, 'u> Steps<'p, 'f, 'a, 'u> {
             }
         }
     }
-}
-
-/// Makes a text one of these glyphs.
-fn refill(text: &mut Buffer, with: &[Glyph]) -> Result<(), ShaperError> {
-    let mut glyphs: Vec<Glyph> = text.take_glyphs().into();
-    glyphs.clear();
-    glyphs.extend_from_slice(with);
-    text.replace_glyphs(glyphs.into())
 }
 
 /// The cluster level of steps that merge where clusters are in order.
@@ -546,6 +544,36 @@ impl Context<'_, '_, '_, '_> {
     }
 }
 
+impl Context<'_, '_, '_, '_> {
+    /// Writes what these glyphs become to the end of a list, by way of a text, with room for a cluster.
+    fn take_apart(
+        &self,
+        glyphs: &[Glyph],
+        text: &mut Buffer,
+        room: &mut Vec<Glyph>,
+        to: &mut Vec<Glyph>,
+    ) -> Result<(), ShaperError> {
+        let mut rest = glyphs;
+        while !rest.is_empty() {
+            let marks = rest[1..].iter().take_while(|glyph| glyph.unicode_props.general_category().is_mark()).count();
+            let (cluster, behind) = rest.split_at(1 + marks);
+            let start = to.len();
+            to.extend_from_slice(cluster);
+            if !self.number_whole(&mut to[start..]) {
+                to.truncate(start);
+                room.clear();
+                room.extend_from_slice(cluster);
+                text.replace_glyphs(mem::take(room).into())?;
+                decompose(self, text)?;
+                to.extend_from_slice(text.glyphs());
+                *room = text.take_glyphs().into();
+            }
+            rest = behind;
+        }
+        Ok(())
+    }
+}
+
 impl NormalizeContext for Context<'_, '_, '_, '_> {
     #[inline]
     fn normalization_preference(&self) -> NormalizationMode {
@@ -558,14 +586,16 @@ impl NormalizeContext for Context<'_, '_, '_, '_> {
             return None;
         }
         let ab = char::from_u32(ab)?;
-        let by_shaper = self.shaper.map_or(Decomposition::NoHook, |shaper| shaper.decompose(self.plan, &UnicodeTables, ab));
+        let by_shaper =
+            self.shaper.map_or(Decomposition::NoHook, |shaper| shaper.decompose(self.plan, &UnicodeTables, ab));
         let (a, b) = by_shaper.or_else(|| UnicodeTables.decompose(ab))?;
         Some((a.into(), b.into()))
     }
 
     fn compose(&self, a: u32, b: u32) -> Option<u32> {
         let (a, b) = (char::from_u32(a)?, char::from_u32(b)?);
-        let by_shaper = self.shaper.map_or(Composition::NoHook, |shaper| shaper.compose(self.plan, &UnicodeTables, a, b));
+        let by_shaper =
+            self.shaper.map_or(Composition::NoHook, |shaper| shaper.compose(self.plan, &UnicodeTables, a, b));
         by_shaper.or_else(|| UnicodeTables.compose(a, b)).map(u32::from)
     }
 

@@ -1,6 +1,6 @@
 -- Where a text may be broken that was given to the stages of lookups; and one that was shaped up to
 -- the last of them.
-use Rattle.std.specs.Prelude.{ℕ, ◌≡◌, ◌⊎◌, true, List, [], Option, None, Some, map}
+use Rattle.std.specs.Prelude.{◌≡◌, ◌⊎◌, true, List, [], Option, None, Some, map}
 use Rattle.shapers_base.specs.Font.{CharacterTables, Font}
 use Rattle.shapers_base.specs.declared.plan.hb_ot_shape_plan_t.{hb_ot_shape_plan_t}
 use Rattle.shapers_base.specs.declared.plan.pause.Pause.{Pause}
@@ -101,8 +101,8 @@ glyphs_made p noted b =
     text_noted noted (record masked { glyphs = map as_glyph featured })
 
 -- what the law of the whole pipeline needs of it, besides its pauses: no features in ranges
-pub record LeavesAllPieces (p : Preparation) (noted : hb_glyph_info_t → GlyphProps) (r : Substitution)
-    (old : Buffer) : Type 0 where
+pub record LeavesAllPieces (p : Preparation) (noted : hb_glyph_info_t → GlyphProps)
+    (r : Substitution) (old : Buffer) : Type 0 where
   pub no_ranges : p.ranges ≡ []
   pub masks : MasksInPieces p.shaper p.plan p.tables old
   pub notes : NotesReadOrder noted

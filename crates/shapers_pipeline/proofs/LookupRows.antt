@@ -1,6 +1,5 @@
 -- What is kept beside glyphs, and single substitutions.
 use Rattle.std.specs.Prelude.{◌≡◌, ◌+◌, ℕ, false, true, List, [], ◌∷◌, refl}
-use Rattle.shapers_buffer.specs.declared.buffer.category.hb_unicode_general_category_t.TheVariants.{Lo}
 use Rattle.shapers_buffer.specs.declared.buffer.glyph.hb_glyph_info_t.{hb_glyph_info_t}
 use Rattle.shapers_plan.specs.declared.ot_map.lookups.StageLookup.{StageLookup}
 use Rattle.shapers_pipeline.specs.Lookups.{with_note}
@@ -37,7 +36,7 @@ singles =
 first_entry : single_applied singles lookup (glyph 60 0x20 0xFF8F 0x6E) ≡ glyph 72 0x20 0xFF9F 0x6E
 first_entry = refl
 
-other_entry : single_applied singles lookup (glyph 61 0x10 9 0) ≡ glyph 71 0x10 9 1
+other_entry : single_applied singles lookup (glyph 61 0x10 9 0) ≡ glyph 71 0x10 0x19 0
 other_entry = refl
 
 -- none for the glyph, none of the list, and a glyph that lacks the feature

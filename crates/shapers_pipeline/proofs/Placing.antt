@@ -1,5 +1,5 @@
 -- What lookups of GPOS keep leaves a position for each glyph, and so do widths that go.
-use Rattle.std.proofs.Common.{◌≡◌, ◌∙◌, Bool, true, false, List, length, map, sym, ap, arith}
+use Rattle.std.proofs.Common.{◌≡◌, ◌∙◌, Bool, true, false, List, length, sym, ap, arith}
 use Rattle.std.proofs.lemmas.List.{length-map}
 use Rattle.std.proofs.lemmas.Slice.Zip.{length-zip}
 use Rattle.std.specs.List.{zip}

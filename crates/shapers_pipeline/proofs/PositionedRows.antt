@@ -6,7 +6,6 @@ use Rattle.shapers_base.specs.declared.font.GlyphId.{GlyphId}
 use Rattle.shapers_base.specs.declared.plan.record.ZeroWidthMarks.TheVariants.{GDEF_EARLY, GDEF_LATE, NONE}
 use Rattle.shapers_buffer.specs.Buffer.{Buffer, new_buffer}
 use Rattle.shapers_buffer.specs.Glyph.{default_glyph, default_position}
-use Rattle.shapers_buffer.specs.declared.buffer.category.hb_unicode_general_category_t.TheVariants.{Zs}
 use Rattle.shapers_buffer.specs.declared.buffer.glyph.GlyphPosition.{GlyphPosition}
 use Rattle.shapers_buffer.specs.declared.buffer.level.Direction.{Direction}
 use Rattle.shapers_buffer.specs.declared.buffer.level.Direction.TheVariants.{BottomToTop, LeftToRight, RightToLeft, TopToBottom}
@@ -16,6 +15,7 @@ use Rattle.shapers_position.specs.declared.ot_shape_position.ignorables.DefaultI
 use Rattle.rustybuzz_shapers.specs.declared.shaper.hb_ot_shaper_t.{hb_ot_shaper_t}
 use Rattle.rustybuzz_shapers.specs.declared.shaper.hb_ot_shaper_t.TheVariants.{Khmer, Universal}
 use Rattle.shapers_pipeline.specs.Positioned.{Positioning, is_early, is_late, text_shaped, zeroing_of}
+use Rattle.shapers_buffer.specs.Properties.{general_category, modified_combining_class}
 
 times : map is_early (NONE ∷ GDEF_EARLY ∷ GDEF_LATE ∷ []) ≡ false ∷ true ∷ false ∷ []
 times = refl
@@ -98,6 +98,7 @@ plain = refl
 
 plain_positions : (text_shaped (by None false) BottomToTop (text LeftToRight)).positions
     ≡ spot (pos 10) (pos 0) (pos 1) ∷ spot (pos 0) (neg_ℤ (pos 20)) (pos 0) ∷ spot (pos 0) (pos 0) (pos 0) ∷ []
+unfolding general_category modified_combining_class
 plain_positions = refl
 
 callers : (text_shaped (by None false) BottomToTop (text LeftToRight)).direction ≡ BottomToTop
@@ -106,10 +107,12 @@ callers = refl
 -- with GPOS it doesn't, and both lookups widen the base; Khmer's marks keep their advances
 applied : (text_shaped (by None true) LeftToRight (text LeftToRight)).positions
     ≡ spot (pos 117) (pos 0) (pos 1) ∷ spot (pos 0) (pos 0) (pos 0) ∷ spot (pos 0) (pos 0) (pos 0) ∷ []
+unfolding general_category modified_combining_class
 applied = refl
 
 khmer : (text_shaped (by (Some Khmer) true) LeftToRight (text LeftToRight)).positions
     ≡ spot (pos 117) (pos 0) (pos 1) ∷ spot (pos 20) (pos 0) (pos 0) ∷ spot (pos 0) (pos 0) (pos 0) ∷ []
+unfolding general_category modified_combining_class
 khmer = refl
 
 -- a mark in front is widened by GPOS behind an early time, and loses that at a late one
@@ -117,9 +120,11 @@ abbrev mark_first : Buffer
 mark_first = record (new_buffer 9) { glyphs = record default_glyph { glyph_id = 20 } ∷ []; direction = LeftToRight }
 
 early : (text_shaped (by (Some Universal) true) LeftToRight mark_first).positions ≡ spot (pos 107) (pos 0) (pos 1) ∷ []
+unfolding general_category modified_combining_class
 early = refl
 
 late : (text_shaped (by None true) LeftToRight mark_first).positions ≡ spot (pos 0) (pos 0) (pos 1) ∷ []
+unfolding general_category modified_combining_class
 late = refl
 
 -- from right to left it is turned, and nothing hangs
@@ -129,6 +134,7 @@ backward = refl
 
 backward_positions : (text_shaped (by None false) RightToLeft (text RightToLeft)).positions
     ≡ spot (pos 0) (pos 0) (pos 0) ∷ spot (pos 0) (pos 0) (pos 0) ∷ spot (pos 10) (pos 0) (pos 1) ∷ []
+unfolding general_category modified_combining_class
 backward_positions = refl
 
 -- a space of half an em that the font lacks
@@ -139,6 +145,7 @@ half_em = record (new_buffer 9) {
 }
 
 spaced : (text_shaped (by None false) LeftToRight half_em).positions ≡ spot (pos 500) (pos 0) (pos 1) ∷ []
+unfolding general_category modified_combining_class
 spaced = refl
 
 -- downwards the mark hangs, too, and the ignorable one keeps its place beside the line
@@ -148,4 +155,5 @@ below advance x y = record default_position { y_advance = advance; x_offset = x;
 downward : (text_shaped (by None false) TopToBottom (text TopToBottom)).positions
     ≡ below (neg_ℤ (pos 11)) (neg_ℤ (pos 5)) (neg_ℤ (pos 7)) ∷ below (pos 0) (neg_ℤ (pos 5)) (pos 13) ∷
     below (pos 0) (neg_ℤ (pos 5)) (pos 0) ∷ []
+unfolding general_category modified_combining_class
 downward = refl

@@ -1,24 +1,22 @@
 -- How long stages make a text, and what comes behind them.
-use Rattle.std.proofs.Common.{◌≡◌, ◌∙◌, ℕ, suc, ◌+◌, ◌*◌, ◌<◌, ◌≤◌, ◌≢◌, Bool, true, false, cond, List, [], ◌∷◌, drop, flat_map, get_or, inr, length, map, sym, ap, subst, arith}
+use Rattle.std.proofs.Common.{◌≡◌, ◌∙◌, ℕ, suc, ◌+◌, ◌*◌, ◌<◌, ◌≤◌, ◌≢◌, Bool, true, false, List, [], ◌∷◌, drop, get_or, inr, length, map, sym, ap, subst, arith}
 use Rattle.std.specs.Prelude.{IfErr, IsOk, Option, None, Some, Result, Err, if◌then◌else◌, option_map}
-use Rattle.std.specs.List.{count_by}
 use Rattle.std.specs.Option.{option_map_or}
 use Rattle.std.specs.Result.{IsErrAnd}
 use Rattle.std.proofs.Math.Seq.{drop-cons}
 use Rattle.std.proofs.Math.Nat.{le-mul_of_pos_right, le_refl, le_trans, mul-le-mul_right}
 use Rattle.std.proofs.lemmas.Bool.{false≢true}
 use Rattle.std.proofs.lemmas.Result.{err_from_is_err_and}
-use Rattle.std.proofs.lemmas.List.{length-append, length-map}
+use Rattle.std.proofs.lemmas.List.{length-map}
 use Rattle.std.proofs.lemmas.List.Elements.{length_all_zip}
 use Rattle.std.proofs.lemmas.List.Sorted.{length_permutation}
-use Rattle.std.proofs.lemmas.List.Sums.{sum_by-cons}
 use Rattle.shapers_base.specs.Font.{Font}
 use Rattle.shapers_base.specs.declared.plan.hb_ot_shape_plan_t.{hb_ot_shape_plan_t}
 use Rattle.shapers_base.specs.declared.plan.pause.Pause.{Pause}
 use Rattle.shapers_base.specs.declared.plan.pause.Pause.TheVariants.{SetupSyllablesIndic, SetupSyllablesKhmer, SetupSyllablesMyanmar, SetupSyllablesUse, InitialReordering, ReorderKhmer, ReorderMyanmar, ReorderUse, FinalReordering, RecordStch, RecordRphf, RecordPref, SyllabicClearVar, ClearSubstitutionFlags, ArabicFallbackShape}
 use Rattle.shapers_buffer.specs.Buffer.{Buffer}
 use Rattle.shapers_buffer.specs.Refusals.{RefusesInput, RefusesLength}
-use Rattle.shapers_buffer.specs.Syllables.{spans_cover, syllables, unknown_syllable}
+use Rattle.shapers_buffer.specs.Syllables.{spans_cover, unknown_syllable}
 use Rattle.shapers_buffer.specs.declared.buffer.glyph.hb_glyph_info_t.{hb_glyph_info_t}
 use Rattle.shapers_buffer.specs.declared.buffer.refusal.ShaperError.{ShaperError}
 use Rattle.shapers_buffer.specs.declared.buffer.refusal.ShaperError.TheVariants.{Memory, TooLong, UnknownSyllable, SpansDontCover, StretchOverflow}
@@ -27,10 +25,10 @@ use Rattle.shapers_clusters.specs.FlagLaw.{FlagsAdded, OnlyFlagsAdded}
 use Rattle.rustybuzz_shapers.proofs.Lengths.{few_circles}
 use Rattle.shapers_syllabic.specs.Circles.{circled}
 use Rattle.shapers_syllabic.specs.declared.ot_shaper_syllabic.circles.DottedCircles.{DottedCircles}
-use Rattle.shapers_syllabic.proofs.CircleLaws.{joined-syllables, length-with_circles}
+use Rattle.shapers_syllabic.proofs.CircleLaws.{length-with_circles}
 use Rattle.shapers_plan.specs.declared.ot_map.lookups.Stage.{Stage}
 use Rattle.shapers_plan.specs.declared.ot_map.lookups.StageLookup.{StageLookup}
-use Rattle.rustybuzz_shapers.specs.Lengths.{broken_in, pause_growth}
+use Rattle.rustybuzz_shapers.specs.Lengths.{pause_growth}
 use Rattle.rustybuzz_shapers.specs.Checked.{AsRefused}
 use Rattle.rustybuzz_shapers.specs.Pauses.{PauseKeeps, RefusesPause, RefusesReordering, pause_circles}
 use Rattle.rustybuzz_shapers.specs.declared.shaper.checked.CallError.{CallError}

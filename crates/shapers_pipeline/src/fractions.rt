@@ -169,7 +169,10 @@ fn is_fraction_slash(glyph: &hb_glyph_info_t) -> bool
 fn is_decimal_glyph(glyph: &hb_glyph_info_t) -> bool
     ensures { result ≡ is_decimal_glyph glyph.now }
 {
-    matches!(glyph.unicode_props.general_category(), hb_unicode_general_category_t::Nd)
+    matches!(
+        glyph.unicode_props.general_category(),
+        hb_unicode_general_category_t::Nd
+    )
 }
 
 // Flags a slash that lacks numbers on one side.
