@@ -349,13 +349,13 @@ def row_of(out, script, font, kind, texts, pool):
         file.flush()
         stock, proved, remembered = pool.map(lambda which: instructions_of(out, which, font, file.name), BUILDS)
     characters = sum(map(len, texts))
-    return (f"| {script} | {os.path.basename(font)} | {kind} | {characters} | {stock / len(texts):.0f} | "
+    return (f"| {script} | {os.path.basename(font)} | {kind} | {len(texts)} | {characters} | {stock / len(texts):.0f} | "
             f"{proved / stock:.3f} | {remembered / stock:.3f} |")
 
 
 def compare_speed(out, root):
-    print("| script | font | a text is | characters | instructions per text, as it is | proved | results remembered |")
-    print("|---|---|---|---|---|---|---|")
+    print("| script | font | a text is | texts | characters | instructions per text, as it is | proved | results remembered |")
+    print("|---|---|---|---|---|---|---|---|")
     with concurrent.futures.ThreadPoolExecutor(2) as pool:
         for script in SPEED_SCRIPTS:
             font, texts = texts_of(root, script)

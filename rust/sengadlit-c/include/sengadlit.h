@@ -698,7 +698,8 @@ sengadlit_status_t sengadlit_buffer_set_grow_func(sengadlit_buffer_t *buffer, se
    - After SENGADLIT_INTERNAL the array is lent still, with a text of length 0, and what stands in it is anything.
    - After a jump out of a callback the array is the caller's, and what stands in it is anything.
    - sengadlit_buffer_destroy gives nothing back: the array is the caller's, with what the last call left.
-   `glyphs` may be null if `allocated` is 0. ARGUMENT: GLYPHS, and for a null buffer; MEMORY, and nothing was lent then. */
+   `glyphs` may be null if `allocated` is 0; null is given back then, if the text stays empty. ARGUMENT: GLYPHS, and for a null
+   buffer; MEMORY, and nothing was lent then. */
 sengadlit_status_t sengadlit_buffer_lend(sengadlit_buffer_t *buffer, sengadlit_glyph_info_t *glyphs, unsigned int length,
                                          unsigned int allocated);
 /* Ends that: returns the array, in the place to which it may have moved, and writes the length of the text and the room of the

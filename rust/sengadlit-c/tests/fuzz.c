@@ -467,10 +467,8 @@ static void finish_positions(void *user_data, sengadlit_buffer_t *lent)
         positions[i].x_offset = (int32_t)next_word();
         glyphs[i].glyph_props = what;
     }
-    if (what % 64 == 7 && length > 0) {
-        faulty = 1;
-        (void)sengadlit_buffer_set_length(lent, length - 1 + (what & 64) / 32);
-    }
+    /* (an array that is lent may refuse to grow) */
+    if (what % 64 == 7 && length > 0 && sengadlit_buffer_set_length(lent, length - 1 + (what & 64) / 32)) faulty = 1;
 }
 
 static sengadlit_bool_t position(void *user_data, const sengadlit_lookup_t *lookup, sengadlit_buffer_t *lent)
@@ -618,12 +616,12 @@ static void take_back(sengadlit_buffer_t *buffer)
     unsigned int length, allocated;
     const sengadlit_glyph_info_t *given = sengadlit_buffer_give_back(buffer, &length, &allocated);
 
-    if ((given != NULL) != is_lent) abort();
+    if (!is_lent && given) abort();
     if (!is_lent) return;
-    if (grows && (given != array && array != NULL)) abort();
+    if (grows ? given != array : !given && (array || length != 0)) abort();
     if (length > allocated && (grows || allocated != 0)) abort();
     if (length > ROOM) length = ROOM;
-    memcpy(copy, given, length * sizeof *given);
+    if (length != 0) memcpy(copy, given, length * sizeof *given);
     free(array);
     array = NULL;
     is_lent = 0;

@@ -42,6 +42,15 @@ static sengadlit_glyph_info_t *grow(void *user_data, sengadlit_glyph_info_t *gly
     return other;
 }
 
+/* Makes an array where there was none. */
+static sengadlit_glyph_info_t *grow_none(void *user_data, sengadlit_glyph_info_t *glyphs, unsigned int wanted,
+                                         unsigned int *allocated)
+{
+    check("none, and more is wanted", user_data == NULL && glyphs == NULL && *allocated == 0 && wanted == 3);
+    *allocated = MOST;
+    return array;
+}
+
 /* A text of Thai in the array: a consonant, a tone and SARA AM. (The script is Lao, without forms of the Private Use Area.) */
 static void write_thai(void)
 {
@@ -120,7 +129,12 @@ static void arrays_that_are_none(void)
     check("no buffer", sengadlit_buffer_set_grow_func(NULL, grow, NULL) == SENGADLIT_ARGUMENT);
     check("none", sengadlit_buffer_lend(world.buffer, NULL, 0, 0) == SENGADLIT_DONE);
     check("none", sengadlit_buffer_get_glyph_infos(world.buffer, &length) != NULL && length == 0);
-    check("none given back", sengadlit_buffer_give_back(world.buffer, &length, NULL) != NULL && length == 0);
+    length = 77;
+    check("none given back", sengadlit_buffer_give_back(world.buffer, &length, NULL) == NULL && length == 0);
+    check("a function", sengadlit_buffer_set_grow_func(world.buffer, grow_none, NULL) == SENGADLIT_DONE);
+    check("none", sengadlit_buffer_lend(world.buffer, NULL, 0, 0) == SENGADLIT_DONE);
+    check("grown", sengadlit_buffer_set_length(world.buffer, 3) == array && array[2].glyph_id == 0);
+    give_back("grown", array, 3, MOST);
     end_world();
 }
 

@@ -25,7 +25,7 @@ static void receive(const char *message, void *user_data)
 {
     received++;
     check("the user data", user_data == &received);
-    check("the place in the library", strstr(message, "/sengadlit/src/") != NULL);
+    check("the place in the library", strstr(message, "rust/sengadlit/src/") != NULL && strstr(message, "/..") == NULL);
 }
 
 static int32_t changing_advance(void *user_data, uint32_t glyph)

@@ -417,7 +417,7 @@ static void take(sengadlit_buffer_t *buffer, struct text *text, int is_lent)
 
     if (text->length > ROOM || text->length > allocated) exit(EXIT_FAILURE);
     memcpy(text->glyphs, made, text->length * sizeof *made);
-    if (is_lent && allocated != 0) free(made);
+    if (is_lent) free(made); /* (it grows, so that no text leaves it) */
 }
 
 /* Makes a call on a text, which is then what the call made of it. */

@@ -137,14 +137,15 @@ static sengadlit_bool_t variation_glyph(void *user_data, uint32_t unicode, uint3
     return 1;
 }
 
-/* The first glyph is another one then. */
+/* The first glyph is another one then, if there is one. */
 static sengadlit_bool_t substitute(void *user_data, const sengadlit_lookup_t *lookup, sengadlit_buffer_t *buffer)
 {
-    sengadlit_glyph_info_t *found = sengadlit_buffer_get_glyph_infos(buffer, NULL);
+    unsigned int length;
+    sengadlit_glyph_info_t *found = sengadlit_buffer_get_glyph_infos(buffer, &length);
 
     (void)user_data, (void)lookup;
     meet(SUBSTITUTE);
-    found[0].glyph_id++;
+    if (length > 0) found[0].glyph_id++;
     return 1;
 }
 
@@ -165,21 +166,23 @@ static sengadlit_bool_t is_mark(void *user_data, const sengadlit_glyph_info_t *g
 /* The first glyph is placed elsewhere then. */
 static sengadlit_bool_t position(void *user_data, const sengadlit_lookup_t *lookup, sengadlit_buffer_t *buffer)
 {
-    sengadlit_glyph_position_t *found = sengadlit_buffer_get_glyph_positions(buffer, NULL);
+    unsigned int length;
+    sengadlit_glyph_position_t *found = sengadlit_buffer_get_glyph_positions(buffer, &length);
 
     (void)user_data, (void)lookup;
     meet(POSITION);
-    found[0].x_offset = 7;
+    if (length > 0) found[0].x_offset = 7;
     return 1;
 }
 
 static void finish_positions(void *user_data, sengadlit_buffer_t *buffer)
 {
-    sengadlit_glyph_position_t *found = sengadlit_buffer_get_glyph_positions(buffer, NULL);
+    unsigned int length;
+    sengadlit_glyph_position_t *found = sengadlit_buffer_get_glyph_positions(buffer, &length);
 
     (void)user_data;
     meet(FINISH_POSITIONS);
-    found[0].y_offset = 8;
+    if (length > 0) found[0].y_offset = 8;
 }
 
 static int32_t glyph_v_advance(void *user_data, uint32_t glyph)

@@ -67,6 +67,12 @@ impl Array {
         self.record().first.get().as_ptr()
     }
 
+    /// The same, as C has it: null where C lent null.
+    #[inline]
+    pub fn given(&self) -> *mut GlyphInfo {
+        self.record().given()
+    }
+
     /// How many glyphs it has room for.
     #[inline]
     pub fn room(&self) -> usize {
@@ -127,6 +133,18 @@ impl Drop for Array {
     }
 }
 
+impl Record {
+    #[inline]
+    fn given(&self) -> *mut GlyphInfo {
+        let first = self.first.get();
+        if first == NonNull::dangling() {
+            null_mut()
+        } else {
+            first.as_ptr()
+        }
+    }
+}
+
 // SAFETY: the array is where C's function says, with the room that it says.
 unsafe impl Lender for Record {
     fn grow(&self, wanted: usize) -> Growth {
@@ -137,7 +155,7 @@ unsafe impl Lender for Record {
             return Growth::Refused;
         };
         let mut room = self.room.get() as c_uint;
-        let first = self.first.get().as_ptr();
+        let first = self.given();
         // SAFETY: a callback of C, with the array that it lends and room for a number.
         let first = call_back(|| unsafe { grow(user_data, first, wanted, &mut room) });
         let Some(first) = NonNull::new(first) else {

@@ -162,7 +162,7 @@ impl Text {
         array.give_back();
         let (place, length) = (self.inner.glyphs().as_ptr(), self.inner.len());
         if place == array.first() {
-            let found = (array.first(), length, array.room());
+            let found = (array.given(), length, array.room());
             drop(self.inner.take_glyphs());
             return Ok(found);
         }
