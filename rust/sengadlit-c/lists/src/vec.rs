@@ -50,7 +50,7 @@ pub struct Vec<T> {
     items: PhantomData<T>,
 }
 
-// SAFETY: it owns its items, and whoever has the list may use the array and the lender, by the condition of `borrowed`.
+// SAFETY: the list owns its items; by the condition of `borrowed` its lender may be called on each thread that has the list.
 unsafe impl<T: Send> Send for Vec<T> {}
 // SAFETY: through a shared reference items are only read.
 unsafe impl<T: Sync> Sync for Vec<T> {}
