@@ -119,8 +119,8 @@ pub category_is : (p : UnicodeProps) (c : hb_unicode_general_category_t) → p.0
 unfolding general_category
 category_is p c same = ap (λ n. slice_index_or categories n Cn) same ∙ by_number c
 
-keeps : (bit : ℕ) (p : UnicodeProps) → ((n : ℕ) (on : Bool) → EndsStay n (set_bit bit on n)) → BitKeeps bit p
-keeps bit p stay = record {
+bit_keeps : (bit : ℕ) (p : UnicodeProps) → ((n : ℕ) (on : Bool) → EndsStay n (set_bit bit on n)) → BitKeeps bit p
+bit_keeps bit p stay = record {
   category = λ on. elim on as (λ on. general_category (set_property bit on p) ≡ general_category p) [
     | true ↦ same_category (set_property bit true p) p (stay p.0 true).low
     | false ↦ same_category (set_property bit false p) p (stay p.0 false).low
@@ -131,8 +131,8 @@ keeps bit p stay = record {
   ];
 }
 
-pub properties_set : (p : UnicodeProps) → PropertiesSet p
-properties_set p = record {
+pub set_is_read : (p : UnicodeProps) → PropertiesSet p
+set_is_read p = record {
   category = λ c. category_is (with_general_category c p) c (omega (arith, number-lt c));
   byte = λ byte. omega arith;
   category_stays = λ byte. same_category (with_high_byte byte p) p (omega arith);
@@ -141,17 +141,17 @@ properties_set p = record {
 }
 
 pub ignorable_keeps : (p : UnicodeProps) → BitKeeps IGNORABLE p
-ignorable_keeps p = keeps 0x20 p ends_5
+ignorable_keeps p = bit_keeps 0x20 p ends_5
 
 pub hidden_keeps : (p : UnicodeProps) → BitKeeps HIDDEN p
-hidden_keeps p = keeps 0x40 p ends_6
+hidden_keeps p = bit_keeps 0x40 p ends_6
 
 pub continuation_keeps : (p : UnicodeProps) → BitKeeps CONTINUATION p
-continuation_keeps p = keeps 0x80 p ends_7
+continuation_keeps p = bit_keeps 0x80 p ends_7
 
 pub properties_are_set : PropertiesAreSet
 properties_are_set = record {
-  set = properties_set;
+  set = set_is_read;
   ignorable = ignorable_keeps;
   hidden = hidden_keeps;
   continuation = continuation_keeps;

@@ -29,7 +29,7 @@ use Rattle.shapers_equivalence.specs.Laws.{HaveOwnClasses, mark_class}
 use Rattle.shapers_equivalence.proofs.Apart.{TakesApart, apart_text, apart-append, apart-view, own_of_view, view_own}
 use Rattle.shapers_buffer.specs.Properties.{general_category, with_high_byte}
 use Rattle.shapers_normal.proofs.CharacterProperties.{class_of_character, class_of_other}
-use Rattle.shapers_buffer.proofs.PropertyLemmas.{properties_set}
+use Rattle.shapers_buffer.proofs.PropertyLemmas.{set_is_read}
 
 -- ---- one character
 
@@ -135,7 +135,7 @@ space_same g new None e same = same
 space_same g new (Some space) e same = record {
   character = refl;
   class = class_of_other (as_space g space)
-      (ap is_mark ((properties_set g.unicode_props).category_stays space.0) ∙ e) ∙ sym (class_of_other g e);
+      (ap is_mark ((set_is_read g.unicode_props).category_stays space.0) ∙ e) ∙ sym (class_of_other g e);
 }
 
 without_same : (g new : hb_glyph_info_t) (o : Option (ℕ × GlyphId)) (space : Bool)

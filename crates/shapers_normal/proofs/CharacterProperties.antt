@@ -4,7 +4,7 @@ use Rattle.shapers_buffer.specs.declared.buffer.glyph.hb_glyph_info_t.{hb_glyph_
 use Rattle.shapers_buffer.specs.declared.buffer.unicode_props.UnicodeProps.{UnicodeProps}
 use Rattle.shapers_buffer.specs.Category.{is_mark}
 use Rattle.shapers_buffer.specs.Properties.{CONTINUATION, HIDDEN, IGNORABLE, general_category, high_byte, modified_combining_class, properties, set_property}
-use Rattle.shapers_buffer.proofs.PropertyLemmas.{continuation_keeps, hidden_keeps, ignorable_keeps, properties_set}
+use Rattle.shapers_buffer.proofs.PropertyLemmas.{continuation_keeps, hidden_keeps, ignorable_keeps, set_is_read}
 use Rattle.shapers_normal.specs.Context.{Context}
 use Rattle.shapers_normal.specs.Properties.{character_properties, class_byte, is_ignorable_in, is_mark_in, is_seen_by_lookups, joiner_class}
 use Rattle.shapers_normal.specs.Sorting.{class_of, is_mark_glyph}
@@ -50,7 +50,7 @@ category_of_character context c =
     (hidden_keeps (with_continuation context c)).category (is_ignorable_in context c && is_seen_by_lookups c)
     ∙ (continuation_keeps (with_ignorable context c)).category (is_mark_in context c)
     ∙ (ignorable_keeps (made context c)).category (is_ignorable_in context c)
-    ∙ (properties_set (made context c)).made (context.general c) (class_byte context c)
+    ∙ (set_is_read (made context c)).made (context.general c) (class_byte context c)
 
 pub byte_of_character : (context : Context) (c : ℕ) → high_byte (character_properties context c)
     ≡ class_byte context c
@@ -58,7 +58,7 @@ byte_of_character context c =
     (hidden_keeps (with_continuation context c)).byte (is_ignorable_in context c && is_seen_by_lookups c)
     ∙ (continuation_keeps (with_ignorable context c)).byte (is_mark_in context c)
     ∙ (ignorable_keeps (made context c)).byte (is_ignorable_in context c)
-    ∙ (properties_set (made context c)).made_byte (context.general c) (class_byte context c)
+    ∙ (set_is_read (made context c)).made_byte (context.general c) (class_byte context c)
 
 -- of a mark its byte is its class, and no mark of ASCII's has one
 byte_of_mark : (beyond mark ignorable : Bool) (class joiner : ℕ) →

@@ -1,4 +1,5 @@
-ghost use Rattle.std.specs.Prelude.{◌≡◌, Some, slice_get};
+ghost use Rattle.std.specs.Prelude.{◌≡◌, Some, slice_get, slice_index_or};
+ghost use Rattle.shapers_buffer.specs.declared.buffer.category.hb_unicode_general_category_t.TheVariants.{Cn};
 ghost use Rattle.shapers_buffer.specs.Category.{categories, category_number, is_mark};
 
 /// The general categories of the Unicode Character Database, in their order: one byte, from 0 to 29,
@@ -108,7 +109,20 @@ impl hb_unicode_general_category_t {
     pub fn from_number(number: u8) -> Option<Self>
         ensures { result ≡ slice_get categories number }
     {
-        let category = match number {
+        if number < 30 {
+            Some(Self::from_number_or_unassigned(number))
+        } else {
+            None
+        }
+    }
+
+    /// The category of this number, its place in `ALL`; Cn where none has it.
+    // (Without an `Option` between, the compiler sees a number where the category is compared.)
+    #[inline]
+    pub fn from_number_or_unassigned(number: u8) -> Self
+        ensures { result ≡ slice_index_or categories number Cn }
+    {
+        match number {
             0 => Self::Cc,
             1 => Self::Cf,
             2 => Self::Cn,
@@ -139,9 +153,8 @@ impl hb_unicode_general_category_t {
             27 => Self::Zl,
             28 => Self::Zp,
             29 => Self::Zs,
-            _ => return None,
-        };
-        Some(category)
+            _ => Self::Cn,
+        }
     }
 
     /// The number of the category, its place in `ALL`.

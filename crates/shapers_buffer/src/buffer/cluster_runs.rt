@@ -4,7 +4,7 @@ ghost use Rattle.std.specs.Prelude.{◌≡◌, ℕ, ◌<◌, ◌≤◌, ◌+◌,
 ghost use Rattle.std.specs.List.{list_all, prefix_len, suffix_len};
 ghost use Rattle.shapers_buffer.specs.Clusters.{has_cluster, merge, merged};
 ghost use Rattle.shapers_buffer.specs.ClusterRuns.{RunFits, with_run};
-ghost use Rattle.shapers_buffer.specs.RunWalk.{equal_before, equal_behind};
+ghost use Rattle.shapers_buffer.specs.RunWalk.{ReachesGlyph, equal_before, equal_behind};
 
 use super::glyph::hb_glyph_info_t;
 use super::merging::{least_cluster, merges, set_cluster};
@@ -114,6 +114,7 @@ fn reaching(glyphs: &[hb_glyph_info_t], run: ClusterRun, s: usize) -> ClusterRun
     requires inside { s + 1 < length glyphs.now }
     requires room { s + 1 < 2 ^ 64 }
     requires fits { RunFits run glyphs.now }
+    ensures reached { ReachesGlyph s run glyphs.now result }
     ensures same { with_run result glyphs.now ≡ with_run run glyphs.now }
     ensures fits { RunFits result glyphs.now }
 {

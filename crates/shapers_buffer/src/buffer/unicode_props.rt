@@ -69,10 +69,7 @@ impl UnicodeProps {
     pub fn general_category(self) -> hb_unicode_general_category_t
         ensures { result ≡ general_category self }
     {
-        let number = (self.0 % 32) as u8;
-        hb_unicode_general_category_t::from_number(number).unwrap_or(
-            hb_unicode_general_category_t::Cn,
-        )
+        hb_unicode_general_category_t::from_number_or_unassigned((self.0 % 32) as u8)
     }
 
     /// The high byte: a mark's class, which joiner a format character is, a space's kind.
