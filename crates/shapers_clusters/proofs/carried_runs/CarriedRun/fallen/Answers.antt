@@ -1,5 +1,5 @@
 -- The run that fell: its glyphs are in its cluster, and what stands before it is above that.
-use Rattle.std.proofs.Common.{◌-◌, ◌<◌, arith, get_or, true}
+use Rattle.std.proofs.Common.{◌-◌, ◌<◌, arith, get_or}
 use Rattle.std.proofs.lemmas.Bool.Decides.{nat_tests}
 use Rattle.shapers_buffer.specs.Glyph.{default_glyph}
 use Rattle.shapers_clusters.proofs.CarriedGlyphs.{ended, fallen_fits, fallen_same}

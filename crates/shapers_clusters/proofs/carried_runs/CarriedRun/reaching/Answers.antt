@@ -7,8 +7,8 @@ use Rattle.shapers_clusters.specs.CarriedRuns.{carried_cluster}
 use Rattle.shapers_clusters.proofs.CarriedGlyphs.{reaches}
 use Rattle.shapers_clusters.proofs.carried_runs.CarriedRun.reaching.Goals as goal
 
-pub returns-then-are_in : goal.returns-then-are_in
-returns-then-are_in c =
+pub returns-then-are_in-clause-reaches : goal.returns-then-are_in-clause-reaches
+returns-then-are_in-clause-reaches c =
     let run = c.args.self in
     let gs = c.args.glyphs.now in
     let place = c.args.place in
