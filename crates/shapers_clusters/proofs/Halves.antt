@@ -299,7 +299,8 @@ added-twice a s (p ∷ ps) = let i : a + (s + p) ≡ a + s + p =
     omega arith in ap (λ x. x ∷ map (λ p. a + p) (map (λ p. s + p) ps)) i
     ∙ ap (λ l. (a + s + p) ∷ l) (added-twice a s ps)
 
-pub ranges-join : (a b j k l : ℕ) → a + j ≡ b → j + k ≡ l → range_with_len a j ++ range_with_len b k ≡ range_with_len a l
+pub ranges-join : (a b j k l : ℕ) → a + j ≡ b → j + k ≡ l
+    → range_with_len a j ++ range_with_len b k ≡ range_with_len a l
 ranges-join a b j k l e f = ap (λ x. range_with_len a j ++ range_with_len x k) (sym e) ∙ sym (range-append a j k)
     ∙ ap (range_with_len a) f
 

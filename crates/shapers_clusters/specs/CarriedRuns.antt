@@ -59,7 +59,7 @@ fallen_run place above gs =
 abbrev pub reaching_run : CarriedRun → ℕ → List hb_glyph_info_t → Option CarriedRun
 reaching_run run place gs =
     if nat_lt run.start run.end && nat_le run.end place
-        && list_all (has_cluster (carried_cluster run gs)) (stretch_of run.end place gs)
+    && list_all (has_cluster (carried_cluster run gs)) (stretch_of run.end place gs)
     then Some (record run { end = place })
     else None
 
