@@ -65,8 +65,8 @@ either : (n : ℕ) (a : Bool) {X : Type 0} (P : X → Type 0) (x y : X) → P y 
 either n true P x y here there = grind (arith, nat_tests)
 either n false P x y here there = here
 
-merge_taken : (n : ℕ) (a : Bool) {X : Type 0} (x y : X) → a ≡ true → 1 < n → (if a && not (nat_lt n 2) then x else y)
-    ≡ x
+pub merge_taken : (n : ℕ) (a : Bool) {X : Type 0} (x y : X) → a ≡ true → 1 < n
+    → (if a && not (nat_lt n 2) then x else y) ≡ x
 merge_taken n true x y m h = grind (arith, nat_tests)
 merge_taken n false x y m h = absurd cc
 

@@ -33,6 +33,13 @@ in_order R o cs h p q a b = elim (cases_lt p q) [
       λ k. R (get_or cs p 0) (get_or cs k 0) in subst P i (o.same (get_or cs p 0))
 ]
 
+-- clusters that never decrease, or never increase, from one place on to any other
+pub rising_to : (cs : List ℕ) → IsRising cs → (p q : ℕ) → p ≤ q → q < length cs → get_or cs p 0 ≤ get_or cs q 0
+rising_to cs rises = in_order (λ a b. a ≤ b) upwards cs rises
+
+pub falling_to : (cs : List ℕ) → IsFalling cs → (p q : ℕ) → p ≤ q → q < length cs → get_or cs q 0 ≤ get_or cs p 0
+falling_to cs falls = in_order (λ a b. b ≤ a) downwards cs falls
+
 all_pairs : (R : ℕ → ℕ → Type 0) (cs : List ℕ) → InOrder R cs → AllPairs R cs
 all_pairs R cs h i j d a b =
     let P : ℕ → Type 0 = λ x. R x (get_or cs j d) in

@@ -38,7 +38,7 @@ flooded-front c m (g ∷ gs) hs h = elim (cases_eq g.cluster c) [
   | inr n ↦ flooded-miss c m g (gs ++ hs) n ∙ sym (ap (λ l. l ++ hs) (flooded-miss c m g gs n))
 ]
 
-each-append : (P : ℕ → Type 0) (gs hs : List hb_glyph_info_t) → Each P gs → Each P hs → Each P (gs ++ hs)
+pub each-append : (P : ℕ → Type 0) (gs hs : List hb_glyph_info_t) → Each P gs → Each P hs → Each P (gs ++ hs)
 each-append P [] hs h i = i
 each-append P (g ∷ gs) hs h i = (h.0, each-append P gs hs h.1 i)
 
@@ -48,12 +48,12 @@ each-reverse P (g ∷ gs) h = let Q : List hb_glyph_info_t → Type 0 =
     Each P in subst Q (sym (reverse-append (g ∷ []) gs))
     (each-append P (reverse gs) (g ∷ []) (each-reverse P gs h.1) (h.0, tt))
 
-each-take : (P : ℕ → Type 0) (n : ℕ) (gs : List hb_glyph_info_t) → Each P gs → Each P (take n gs)
+pub each-take : (P : ℕ → Type 0) (n : ℕ) (gs : List hb_glyph_info_t) → Each P gs → Each P (take n gs)
 each-take P zero gs h = tt
 each-take P (suc n) [] h = tt
 each-take P (suc n) (g ∷ gs) h = (h.0, each-take P n gs h.1)
 
-each-drop : (P : ℕ → Type 0) (n : ℕ) (gs : List hb_glyph_info_t) → Each P gs → Each P (drop n gs)
+pub each-drop : (P : ℕ → Type 0) (n : ℕ) (gs : List hb_glyph_info_t) → Each P gs → Each P (drop n gs)
 each-drop P zero gs h = h
 each-drop P (suc n) [] h = tt
 each-drop P (suc n) (g ∷ gs) h = each-drop P n gs h.1
@@ -299,7 +299,8 @@ added-twice a s (p ∷ ps) = let i : a + (s + p) ≡ a + s + p =
     omega arith in ap (λ x. x ∷ map (λ p. a + p) (map (λ p. s + p) ps)) i
     ∙ ap (λ l. (a + s + p) ∷ l) (added-twice a s ps)
 
-pub ranges-join : (a b j k l : ℕ) → a + j ≡ b → j + k ≡ l → range_with_len a j ++ range_with_len b k ≡ range_with_len a l
+pub ranges-join : (a b j k l : ℕ) → a + j ≡ b → j + k ≡ l
+    → range_with_len a j ++ range_with_len b k ≡ range_with_len a l
 ranges-join a b j k l e f = ap (λ x. range_with_len a j ++ range_with_len x k) (sym e) ∙ sym (range-append a j k)
     ∙ ap (range_with_len a) f
 

@@ -4,6 +4,7 @@ pub mod Borders
 mod BorderRows
 pub mod Bounds
 pub mod CarriedGlyphs
+mod CarriedRunRows
 pub mod CarriedRuns
 pub mod ClearPlaces
 pub mod Cuts

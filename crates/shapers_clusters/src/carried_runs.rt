@@ -3,9 +3,10 @@ ghost use Rattle.std.specs.Prelude.{◌≡◌, ◌==◌, ◌<◌, ◌≤◌, len
 ghost use Rattle.std.specs.List.{list_all, suffix_len};
 ghost use Rattle.std.specs.Option.{IfSome};
 ghost use Rattle.shapers_buffer.specs.Clusters.{has_cluster, in_cluster, with_stretch};
-ghost use Rattle.shapers_clusters.specs.CarriedRuns.{IsCarried, ReachesPlace, with_carried};
+ghost use Rattle.shapers_clusters.specs.CarriedRuns.{IsCarried, ReachesPlace, fallen_run, reaching_run, with_carried};
 
-use shapers_buffer::buffer::{GlyphChange, hb_glyph_info_t};
+use crate::into_cluster::IntoCluster;
+use shapers_buffer::buffer::hb_glyph_info_t;
 
 /// Glyphs in front of the place where merges go on. All are in the cluster of the last of them, but
 /// only that one is written: a merge behind it that floods it floods all of them, and where such
@@ -18,25 +19,6 @@ pub struct CarriedRun {
     pub end: usize,
     /// A cluster above theirs.
     pub above: u32,
-}
-
-/// A cluster that glyphs come into.
-#[derive(Clone, Copy, Debug)]
-pub struct CarriedCluster(pub u32);
-
-impl GlyphChange for CarriedCluster {
-    ghost use Rattle.shapers_buffer.specs.Clusters.{in_cluster};
-
-    ghost changed = { λ to g. in_cluster to.0 g };
-
-    // A glyph whose cluster changes loses its glyph flags.
-    #[inline]
-    fn change(&self, glyph: &mut hb_glyph_info_t) {
-        if glyph.cluster != self.0 {
-            glyph.cluster = self.0;
-            glyph.mask &= !7;
-        }
-    }
 }
 
 impl CarriedRun {
@@ -54,6 +36,7 @@ impl CarriedRun {
     pub fn fallen(glyphs: &[hb_glyph_info_t], place: usize, above: u32) -> Self
         requires some { 0 < place }
         requires in_range { place ≤ length glyphs.now }
+        ensures is { result ≡ fallen_run place above glyphs.now }
         ensures same { with_carried result glyphs.now ≡ glyphs.now }
         ensures fits { IsCarried result glyphs.now }
         ensures at { result.end ≤ place }
@@ -87,7 +70,8 @@ impl CarriedRun {
     pub fn reaching(self, glyphs: &[hb_glyph_info_t], place: usize) -> Option<Self>
         requires fits { IsCarried self glyphs.now }
         requires in_range { place ≤ length glyphs.now }
-        ensures { IfSome result (λ run. ReachesPlace self place glyphs.now run) }
+        ensures is { result ≡ reaching_run self place glyphs.now }
+        ensures reaches { IfSome result (λ run. ReachesPlace self place glyphs.now run) }
     {
         if self.is_none() || place < self.end {
             return None;
@@ -102,15 +86,15 @@ impl CarriedRun {
 
     /// The change of its glyphs that writes them.
     #[inline]
-    pub fn cluster(self, glyphs: &[hb_glyph_info_t]) -> CarriedCluster
+    pub fn cluster(self, glyphs: &[hb_glyph_info_t]) -> IntoCluster
         requires { IsCarried self glyphs.now }
         ensures { let put = map (in_cluster result.0) in
             with_stretch self.start self.end put glyphs.now ≡ with_carried self glyphs.now }
     {
         if self.is_none() {
-            CarriedCluster(0)
+            IntoCluster(0)
         } else {
-            CarriedCluster(glyphs[self.end - 1].cluster)
+            IntoCluster(glyphs[self.end - 1].cluster)
         }
     }
 }

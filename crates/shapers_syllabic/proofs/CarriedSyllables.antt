@@ -27,8 +27,8 @@ use Rattle.shapers_syllabic.proofs.Skipping.{to_end}
 use Rattle.shapers_syllabic.specs.declared.ot_shaper_syllabic.reordering.Carrying.{Carrying}
 use Rattle.shapers_syllabic.specs.Borders.{MeetAtBorder}
 use Rattle.shapers_syllabic.specs.Reordering.{SyllableReordered, SyllablesLinked, TakesText, carried, glyph_numbers}
-use Rattle.shapers_syllabic.specs.ReorderingLaws.{IsNextChanging, ReorderLaws}
-use Rattle.shapers_syllabic.specs.ReorderingWalk.{CarryingFits, Guarded, ReorderedBehind, Settled, guarded_at, run_written}
+use Rattle.shapers_syllabic.specs.ReorderingLaws.{ReorderLaws}
+use Rattle.shapers_syllabic.specs.ReorderingWalk.{CarryingFits, Guarded, IsNextChanging, ReorderedBehind, Settled, guarded_at, run_written}
 
 abbrev zip_with : {X Y Z : Type 0} → (X → Y → Z) → List X → List Y → List Z
 zip_with f [] ys = []
@@ -327,8 +327,8 @@ pub behind_carried_run : (meaning : Meaning) (steps : Option Script → List hb_
     (it mid after : Carrying) (old now reordered new : Buffer) → first ≤ end → end ≤ length old.glyphs →
     CarryingFits first it old.glyphs → Guarded first it old mid now → link first end now reordered →
     Settled first mid reordered after new → ReorderedBehind link first end it old after new
-behind_carried_run meaning steps link leads suffices laws first end it mid after old now reordered new order within fits g
-    linked settled =
+behind_carried_run meaning steps link leads suffices laws first end it mid after old now reordered new order within fits
+    g linked settled =
     let between = g.between in
     let many : length between.glyphs ≡ length old.glyphs =
     sym (length_carried mid.run between.glyphs g.fits.fits.in_order)
@@ -434,8 +434,8 @@ takes_carried meaning takes changes link old it now read start first end is perm
     let fits = state.fits.fits in
     let order = found.in_order in
     let found_meant = next_carried changes run start first now.glyphs read is fits ends found in
-    let to = to_changing meaning takes changes link old (run_written run now) meant start first refl permutes orders stays
-    found_meant state.to in
+    let to = to_changing meaning takes changes link old (run_written run now) meant start first refl permutes orders
+    stays found_meant state.to in
     let rest : drop first meant ≡ drop first now.glyphs =
     behind_carried run first now.glyphs fits.in_order (omega arith) fits.in_range in
     let end_meant : end ≡ first + first_syllable_len (drop first meant) = end_is
@@ -467,9 +467,9 @@ carry_next meaning takes changes link old it now read start first end after new 
     let found_meant = next_carried changes run start first now.glyphs read is fits ends found in
     let rest : drop first meant ≡ drop first now.glyphs =
     behind_carried run first now.glyphs fits.in_order (omega arith) fits.in_range in
-    let next = past_changing meaning takes changes link old (run_written run now) (run_written after.run new) meant start first
-    end refl permutes orders stays found_meant state.to (end_is ∙ ap (λ l. first + first_syllable_len l) (sym rest))
-    done.linked in
+    let next = past_changing meaning takes changes link old (run_written run now) (run_written after.run new) meant
+    start first end refl permutes orders stays found_meant state.to
+    (end_is ∙ ap (λ l. first + first_syllable_len l) (sym rest)) done.linked in
     record {
       same_length = sym (length_carried after.run new.glyphs done.fits.fits.in_order) ∙ next.same_length
           ∙ length_carried run now.glyphs fits.in_order;

@@ -15,8 +15,8 @@ with_no_marks : filter (λ c. is_consonant (glyph_with 0 c)) (range_with_len 0 2
 with_no_marks = refl
 
 -- other marks than the one of a ligature don't matter
-with_other_marks : filter (λ c. is_consonant (glyph_with 0xFFDF c)) (range_with_len 0 42) ≡ 1 ∷ 2 ∷ 10 ∷ 11 ∷ 15 ∷ 16 ∷ 18
-    ∷ []
+with_other_marks : filter (λ c. is_consonant (glyph_with 0xFFDF c)) (range_with_len 0 42)
+    ≡ 1 ∷ 2 ∷ 10 ∷ 11 ∷ 15 ∷ 16 ∷ 18 ∷ []
 with_other_marks = refl
 
 -- what a lookup put in for several is none

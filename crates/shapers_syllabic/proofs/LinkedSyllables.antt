@@ -15,7 +15,7 @@ use Rattle.shapers_buffer.specs.Syllables.{first_syllable_len, syllables}
 use Rattle.shapers_buffer.proofs.ClusterLemmas.{length-stretch, map-stretch}
 use Rattle.shapers_clusters.specs.Steps.{Step, run_step, run_steps, steps_along, widened}
 use Rattle.shapers_syllabic.specs.Reordering.{Chain, SyllableOrdered, SyllableReordered, SyllablesLinked, SyllablesReordered, TakesText, TextOrdered, carried, glyph_numbers, syllable_lens, text_order}
-use Rattle.shapers_syllabic.specs.ReorderingLaws.{IsNextChanging}
+use Rattle.shapers_syllabic.specs.ReorderingWalk.{IsNextChanging}
 use Rattle.shapers_syllabic.proofs.Borders.{syllables-viewed}
 use Rattle.shapers_syllabic.proofs.ReorderingLemmas.{run_steps-carried}
 use Rattle.shapers_syllabic.proofs.ReorderingWalk.{first_len-view, first_len-within, opens, pieces_of}

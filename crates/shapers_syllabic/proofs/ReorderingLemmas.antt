@@ -29,8 +29,8 @@ carried_hides = record {
   shows = record { cluster = λ g. refl; flags = λ g. (let i : g.mask % 8 % 8 ≡ g.mask % 8 = omega arith in i) };
   apart = λ g. (let i : without_flags (without_flags g.mask % 8)
       ≡ without_flags (g.mask % 8) =
-      omega arith in ap (λ (x : ℕ). record g { cluster = 0; mask = x; glyph_props = no_marks; category = 0; auxiliary = 0 })
-      i);
+      omega arith in ap
+      (λ (x : ℕ). record g { cluster = 0; mask = x; glyph_props = no_marks; category = 0; auxiliary = 0 }) i);
 }
 
 pub carried_passes : PassesMerges carried
@@ -40,7 +40,8 @@ carried_passes = record {
       (if b then g else record g { cluster = m; mask = without_flags g.mask })
       ≡ (if b then carried g else record (carried g) { cluster = m; mask = without_flags (g.mask % 8) })) [
         | true ↦ refl
-        | false ↦ ap (λ (x : ℕ). record g { cluster = m; mask = x; glyph_props = no_marks; category = 0; auxiliary = 0 })
+        | false ↦ ap
+            (λ (x : ℕ). record g { cluster = m; mask = x; glyph_props = no_marks; category = 0; auxiliary = 0 })
             (flags-carried g.mask)
       ];
 }

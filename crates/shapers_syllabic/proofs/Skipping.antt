@@ -11,7 +11,7 @@ use Rattle.shapers_buffer.specs.Glyph.{default_glyph}
 use Rattle.shapers_buffer.specs.Syllables.{first_syllable_len, has_byte, syllables}
 use Rattle.shapers_buffer.proofs.ListLaws.{none_in_front}
 use Rattle.shapers_syllabic.specs.Borders.{MeetAtBorder}
-use Rattle.shapers_syllabic.specs.ReorderingLaws.{IsNextChanging}
+use Rattle.shapers_syllabic.specs.ReorderingWalk.{IsNextChanging}
 use Rattle.shapers_syllabic.proofs.Borders.{first_byte, last-behind, last_byte, syllables-append}
 use Rattle.shapers_syllabic.proofs.Found.{found_first, missed_all}
 use Rattle.shapers_syllabic.proofs.NonePass.{none_behind}

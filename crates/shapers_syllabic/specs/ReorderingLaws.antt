@@ -1,13 +1,12 @@
 -- The laws of reordering syllable by syllable, as statements.
-use Rattle.std.specs.Prelude.{ℕ, ◌≡◌, ◌<◌, Bool, List, Option, MatchOption, ◌++◌, drop, take, length, map, ◌≤◌, All, false, true}
-use Rattle.std.specs.List.{AllByRecursion, list_any}
+use Rattle.std.specs.Prelude.{ℕ, ◌≡◌, List, Option, ◌++◌, length, map, ◌≤◌, All, true}
+use Rattle.std.specs.List.{AllByRecursion}
 use Rattle.std.specs.List.Sorted.{IsPermutation}
 use Rattle.shapers_buffer.specs.declared.buffer.glyph.hb_glyph_info_t.{hb_glyph_info_t}
 use Rattle.shapers_buffer.specs.declared.buffer.level.BufferClusterLevel.{BufferClusterLevel}
 use Rattle.shapers_buffer.specs.declared.buffer.syllables.Span.{Span}
-use Rattle.shapers_buffer.specs.Syllables.{first_syllable_len, spans_cover}
+use Rattle.shapers_buffer.specs.Syllables.{spans_cover}
 use Rattle.shapers_buffer.specs.Buffer.{Buffer}
-use Rattle.shapers_buffer.specs.Clusters.{stretch_of}
 use Rattle.shapers_buffer.specs.Glyph.{clusters, order_view}
 use Rattle.shapers_buffer.specs.Places.{pick}
 use Rattle.shapers_clusters.specs.Cuts.{ShareNone}
@@ -28,21 +27,6 @@ pub record ReorderLaws (meaning : List hb_glyph_info_t →
   pub permutes : (gs : List hb_glyph_info_t) → AllByRecursion (Permutes (length gs)) (steps gs)
   pub agrees : (gs : List hb_glyph_info_t) →
       seen carried (meaning gs) ≡ pick (old_places (length gs) (steps gs)) (seen carried gs)
-
--- In the code: a syllable starts at place first, if one does at start, and no glyph between them
--- may change one; one of that syllable's own may.
-pub record IsNextChanging (changes : hb_glyph_info_t → Bool) (start : ℕ) (gs : List
-    hb_glyph_info_t) (first : ℕ) : Type 0 where
-  pub in_order : start ≤ first
-  pub inside : first < length gs
-  pub stay : list_any changes (stretch_of start first gs) ≡ false
-  pub border : MeetAtBorder (stretch_of start first gs) (drop first gs)
-  pub changing : list_any changes (take (first_syllable_len (drop first gs)) (drop first gs)) ≡ true
-
--- and where there is none, no glyph from start on may
-abbrev pub NextChanging : (hb_glyph_info_t → Bool) → ℕ → List hb_glyph_info_t → Option ℕ → Type 0
-NextChanging changes start gs next =
-    MatchOption next (list_any changes (drop start gs) ≡ false) (IsNextChanging changes start gs)
 
 -- The text order loses nothing: what is carried along, and glyph numbers alone, are those of the
 -- text in some order.

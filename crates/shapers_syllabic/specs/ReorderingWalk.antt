@@ -1,11 +1,34 @@
 -- Words of the code's walk over syllables: a run of glyphs that isn't written yet.
-use Rattle.std.specs.Prelude.{ℕ, ◌-◌, ◌<◌, ◌≡◌, ◌≤◌, List, get_or, slice_set}
+use Rattle.std.specs.Prelude.{ℕ, ◌-◌, ◌<◌, ◌≡◌, ◌≤◌, nat_lt, Bool, false, true, List, drop, get_or, length, slice_set, take, Option, MatchOption}
+use Rattle.std.specs.List.{list_any}
 use Rattle.shapers_buffer.specs.declared.buffer.glyph.hb_glyph_info_t.{hb_glyph_info_t}
 use Rattle.shapers_buffer.specs.Buffer.{Buffer}
+use Rattle.shapers_buffer.specs.Clusters.{first_cluster, last_cluster, stretch_of}
 use Rattle.shapers_buffer.specs.Glyph.{default_glyph}
+use Rattle.shapers_buffer.specs.Syllables.{first_syllable_len}
 use Rattle.shapers_clusters.specs.CarriedRuns.{IsCarried, with_carried}
 use Rattle.shapers_clusters.specs.declared.carried_runs.CarriedRun.{CarriedRun}
 use Rattle.shapers_syllabic.specs.declared.ot_shaper_syllabic.reordering.Carrying.{Carrying}
+use Rattle.shapers_syllabic.specs.Borders.{MeetAtBorder}
+
+-- whether the last cluster is below the first one
+abbrev pub clusters_fall : List hb_glyph_info_t → Bool
+clusters_fall gs = nat_lt (last_cluster gs) (first_cluster gs)
+
+-- A syllable starts at place first, if one does at start, and no glyph between them
+-- may change one; one of that syllable's own may.
+pub record IsNextChanging (changes : hb_glyph_info_t → Bool) (start : ℕ) (gs : List
+    hb_glyph_info_t) (first : ℕ) : Type 0 where
+  pub in_order : start ≤ first
+  pub inside : first < length gs
+  pub stay : list_any changes (stretch_of start first gs) ≡ false
+  pub border : MeetAtBorder (stretch_of start first gs) (drop first gs)
+  pub changing : list_any changes (take (first_syllable_len (drop first gs)) (drop first gs)) ≡ true
+
+-- and where there is none, no glyph from start on may
+abbrev pub NextChanging : (hb_glyph_info_t → Bool) → ℕ → List hb_glyph_info_t → Option ℕ → Type 0
+NextChanging changes start gs next =
+    MatchOption next (list_any changes (drop start gs) ≡ false) (IsNextChanging changes start gs)
 
 -- the buffer with a run in its cluster
 abbrev pub run_written : CarriedRun → Buffer → Buffer

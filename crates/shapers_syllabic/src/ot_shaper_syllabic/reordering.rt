@@ -1,13 +1,12 @@
 //! Reordering a text syllable by syllable.
-ghost use Rattle.std.specs.Prelude.{◌≡◌, ◌<◌, ◌≤◌, ℕ, [], OnOk, true, false, drop, get_or, length};
+ghost use Rattle.std.specs.Prelude.{◌≡◌, ◌<◌, ◌≤◌, ℕ, [], OnOk, false, drop, get_or, length};
 ghost use Rattle.std.specs.List.{position};
 ghost use Rattle.shapers_buffer.specs.Clusters.{stretch_of};
 ghost use Rattle.shapers_buffer.specs.Glyph.{default_glyph};
 ghost use Rattle.shapers_syllabic.specs.Borders.{MeetAtBorder};
 ghost use Rattle.shapers_syllabic.specs.Reordering.{RefusesIf, SyllablesLinked, TakesText, TextOrdered, glyph_numbers};
 ghost use Rattle.shapers_clusters.specs.CarriedRuns.{IsCarried, with_carried};
-ghost use Rattle.shapers_syllabic.specs.ReorderingLaws.{NextChanging};
-ghost use Rattle.shapers_syllabic.specs.ReorderingWalk.{CarryingFits, Guarded, ReorderedBehind, Settled, run_written};
+ghost use Rattle.shapers_syllabic.specs.ReorderingWalk.{CarryingFits, Guarded, NextChanging, ReorderedBehind, Settled, clusters_fall, run_written};
 
 use shapers_base::buffer::{ShaperError, hb_buffer_t, hb_glyph_info_t};
 use shapers_clusters::carried_runs::CarriedRun;
@@ -130,7 +129,9 @@ pub fn reorder_syllables<R: ReorderBySteps>(
 // Whether the last cluster is below the first one. Where they never fall, no merge floods what
 // stands before its syllable.
 #[inline]
-fn clusters_fall(glyphs: &[hb_glyph_info_t]) -> bool {
+fn clusters_fall(glyphs: &[hb_glyph_info_t]) -> bool
+    ensures { result ≡ clusters_fall glyphs.now }
+{
     !glyphs.is_empty() && glyphs[glyphs.len() - 1].cluster < glyphs[0].cluster
 }
 

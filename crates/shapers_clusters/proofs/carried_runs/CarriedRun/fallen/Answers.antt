@@ -1,5 +1,5 @@
 -- The run that fell: its glyphs are in its cluster, and what stands before it is above that.
-use Rattle.std.proofs.Common.{◌-◌, ◌<◌, arith, get_or, true}
+use Rattle.std.proofs.Common.{◌-◌, ◌<◌, arith, get_or}
 use Rattle.std.proofs.lemmas.Bool.Decides.{nat_tests}
 use Rattle.shapers_buffer.specs.Glyph.{default_glyph}
 use Rattle.shapers_clusters.proofs.CarriedGlyphs.{ended, fallen_fits, fallen_same}
@@ -30,5 +30,5 @@ returns-then-glyphs-start-clause-fits c =
       | else-start-eq0 w ↦ grind (arith, nat_tests, w.value-is, c.if-glyphs-start.true)
     ] in
     fallen_fits (record { start = start; end = place; above = c.args.above }) cluster gs c.if-start-place.true within
-    (ended place cluster gs start within (omega (arith, c.len_at_end.ensures.len))) (omega (arith, c.if-cluster-above.false))
-    higher
+    (ended place cluster gs start within (omega (arith, c.len_at_end.ensures.len)))
+    (omega (arith, c.if-cluster-above.false)) higher

@@ -1,6 +1,6 @@
 -- A glyph that may change its syllable, or none.
 use Rattle.std.proofs.Common.{subst, sym}
-use Rattle.shapers_syllabic.specs.ReorderingLaws.{NextChanging}
+use Rattle.shapers_syllabic.specs.ReorderingWalk.{NextChanging}
 use Rattle.shapers_syllabic.proofs.Skipping.{next_found, none_found}
 use Rattle.shapers_syllabic.proofs.ot_shaper_syllabic.reordering.next_changing.Goals as goal
 

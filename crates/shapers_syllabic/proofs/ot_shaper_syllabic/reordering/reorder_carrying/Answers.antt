@@ -38,8 +38,8 @@ loop-first-smaller g c =
     let next = carry_next (g.R.Reorder.meaning order) (g.R.Reorder.takes order) (g.R.MayChange.changes order)
     (g.R.Reorder.relation order) c.args.buffer.now c.loop-first.carrying c.loop-first.buffer c.glyphs.result.now
     c.loop-first.start c.in-Some.first c.next_syllable-after.result c.reorder_behind.new.carrying
-    c.reorder_behind.new.buffer c.glyphs.ensures (g.met.R.Reorder.permutes order) (g.met.R.Reorder.orders order) (g.met.R.Reorder.stays order)
-    c.in-Some.ensures c.loop-first.invariant c.next_syllable-after.ensures.end
+    c.reorder_behind.new.buffer c.glyphs.ensures (g.met.R.Reorder.permutes order) (g.met.R.Reorder.orders order)
+    (g.met.R.Reorder.stays order) c.in-Some.ensures c.loop-first.invariant c.next_syllable-after.ensures.end
     (omega arith) c.in_ok-reorder_behind.ensures.behind in
     let same = next.same_length in
     let ordered = c.in-Some.ensures.in_order in
@@ -53,8 +53,8 @@ loop-first-preserved g c =
     let next = carry_next (g.R.Reorder.meaning order) (g.R.Reorder.takes order) (g.R.MayChange.changes order)
     (g.R.Reorder.relation order) c.args.buffer.now c.loop-first.carrying c.loop-first.buffer c.glyphs.result.now
     c.loop-first.start c.in-Some.first c.next_syllable-after.result c.reorder_behind.new.carrying
-    c.reorder_behind.new.buffer c.glyphs.ensures (g.met.R.Reorder.permutes order) (g.met.R.Reorder.orders order) (g.met.R.Reorder.stays order)
-    c.in-Some.ensures c.loop-first.invariant c.next_syllable-after.ensures.end
+    c.reorder_behind.new.buffer c.glyphs.ensures (g.met.R.Reorder.permutes order) (g.met.R.Reorder.orders order)
+    (g.met.R.Reorder.stays order) c.in-Some.ensures c.loop-first.invariant c.next_syllable-after.ensures.end
     (omega arith) c.in_ok-reorder_behind.ensures.behind in
     next.state
 
