@@ -63,8 +63,8 @@ set_mark mark on props = record { 0 = set_bit mark on props.0 }
 abbrev pub no_ligature : LigProps
 no_ligature = record { 0 = 0 }
 
--- The low four bits are the component's number. Where bit 4 is set the glyph is the ligature itself,
--- and they count its components: it is none of them, which reads as 0.
+-- The low four bits are the component's number. Where bit 4 is set the glyph is the ligature
+-- itself, and they count its components: it is none of them, which reads as 0.
 abbrev pub component : LigProps → ℕ
 component props = if props.0 / 16 % 2 == 1 then 0 else props.0 % 16
 

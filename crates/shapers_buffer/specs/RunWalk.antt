@@ -14,8 +14,8 @@ equal_before c m gs = if c == m then 0 else suffix_len (has_cluster c) gs
 abbrev pub equal_behind : ℕ → ℕ → List hb_glyph_info_t → ℕ
 equal_behind c m gs = if c == m then 0 else prefix_len (has_cluster c) gs
 
--- The run goes on to the glyph at s, if there is a run before it and all glyphs from its end to that
--- one are in its cluster.
+-- The run goes on to the glyph at s, if there is a run before it and all glyphs from its end to
+-- that one are in its cluster.
 abbrev pub ReachesGlyph : ℕ → ClusterRun → List hb_glyph_info_t → ClusterRun → Type 0
 ReachesGlyph s run gs reached = run.start < run.end → run.end ≤ s
     → list_all (has_cluster run.cluster) (stretch_of run.end (s + 1) gs) ≡ true → s < reached.end
