@@ -117,7 +117,30 @@ impl GeneralCategory {
     /// </details>
     #[inline]
     pub fn from_number(number: u8) -> Option<Self> {
-        let category = match number {
+        if number < 30 {
+            Some(Self::from_number_or_unassigned(number))
+        } else {
+            None
+        }
+    }
+
+    /// The category of this number, its place in `ALL`; Cn where none has it.
+    // (Without an `Option` between, the compiler sees a number where the category is compared.)
+    ///
+    /// <details><summary>Contract</summary>
+    ///
+    /// # Contract
+    ///
+    /// ```text
+    /// ensures { result ≡ slice_index_or categories number Cn }
+    /// ```
+    ///
+    /// - `categories`: `crates/shapers_buffer/specs/Category.antt`
+    ///
+    /// </details>
+    #[inline]
+    pub fn from_number_or_unassigned(number: u8) -> Self {
+        match number {
             0 => Self::Cc,
             1 => Self::Cf,
             2 => Self::Cn,
@@ -148,9 +171,8 @@ impl GeneralCategory {
             27 => Self::Zl,
             28 => Self::Zp,
             29 => Self::Zs,
-            _ => return None,
-        };
-        Some(category)
+            _ => Self::Cn,
+        }
     }
 
     /// The number of the category, its place in `ALL`.

@@ -5,7 +5,7 @@ use super::lig_props::LigProps;
 use super::unicode_props::UnicodeProps;
 
 /// One glyph of the buffer, or before the font's mapping one character: 20 bytes, each where
-/// HarfBuzz's `GlyphInfo` has it.
+/// HarfBuzz's glyph info has it.
 #[repr(C)]
 #[derive(Clone, Copy, Debug, PartialEq, Eq, Hash)]
 pub struct GlyphInfo {
@@ -23,9 +23,11 @@ pub struct GlyphInfo {
     pub syllable: u8,
     /// What the glyph's character is.
     pub unicode_props: UnicodeProps,
-    /// What the character is in its syllable, by the shaper's own table (HarfBuzz's Indic and universal categories).
+    /// What the character is in its syllable, by the shaper's own table (HarfBuzz's Indic and
+    /// universal categories).
     pub category: u8,
-    /// What else its shaper notes of it: an Arabic form, a Hangul jamo's feature, an Indic or Myanmar position.
+    /// What else its shaper notes of it: an Arabic form, a Hangul jamo's feature, an Indic or Myanmar
+    /// position.
     pub auxiliary: u8,
 }
 

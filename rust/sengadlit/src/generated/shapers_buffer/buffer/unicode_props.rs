@@ -80,8 +80,7 @@ impl UnicodeProps {
     /// </details>
     #[inline]
     pub fn general_category(self) -> GeneralCategory {
-        let number = (self.0 % 32) as u8;
-        GeneralCategory::from_number(number).unwrap_or(GeneralCategory::Cn)
+        GeneralCategory::from_number_or_unassigned((self.0 % 32) as u8)
     }
 
     /// The high byte: a mark's class, which joiner a format character is, a space's kind.
