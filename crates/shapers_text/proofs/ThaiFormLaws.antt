@@ -45,7 +45,7 @@ below-cons u us = ap (list_any (λ v. stands_below (mark_type v))) (take_while-c
     ∙ any_of_cond (is_thai_mark u) u (take_while is_thai_mark us)
 
 -- what stands behind a character that is no mark isn't seen
-below_stop : (us : List ℕ) (a : ℕ) (after : List ℕ) → is_thai_mark a ≡ false
+pub below_stop : (us : List ℕ) (a : ℕ) (after : List ℕ) → is_thai_mark a ≡ false
     → has_below (us ++ a ∷ after) ≡ has_below (us ++ [])
 below_stop [] a after h = below-cons a after ∙ ap (λ b. cond b (stands_below (mark_type a) || has_below after) false) h
 below_stop (u ∷ us) a after h =

@@ -10,7 +10,7 @@ use Rattle.shapers_buffer.specs.Lists.{cut_after, opened_back, last_run, before_
 use Rattle.shapers_buffer.specs.Properties.{CONTINUATION, with_bit, with_general_category, with_property, without_bit, without_property}
 use Rattle.shapers_clusters.specs.Flags.{ShowsClusters}
 use Rattle.shapers_text.specs.Thai.{is_sara_am, is_am, is_above, SaraAmRule, piece_in_two, in_two, glyph_rule, place_rule, nikhahit, sara_aa}
-use Rattle.shapers_text.specs.ThaiLaws.{is_of_sara_am, unnamed, without_name}
+use Rattle.shapers_text.specs.ThaiLaws.{is_of_sara_am, without_number, without_name}
 
 abbrev pub guarded : {X : Type 0} → SaraAmRule X → SaraAmRule X
 guarded rule =
@@ -84,16 +84,16 @@ unnamed_nikhahit : (am : hb_glyph_info_t) → is_sara_am am.glyph_id ≡ true
     → without_name (nikhahit am) ≡ without_name am
 unnamed_nikhahit am h =
     let known = known_parts am.glyph_id h in
-    ap (λ b. if b then unnamed (nikhahit am) else nikhahit am) known.1
+    ap (λ b. if b then without_number (nikhahit am) else nikhahit am) known.1
     ∙ ap (λ p. record am { glyph_id = 0; unicode_props = p }) (hidden_properties am.unicode_props)
-    ∙ sym (ap (λ b. if b then unnamed am else am) known.0)
+    ∙ sym (ap (λ b. if b then without_number am else am) known.0)
 
 unnamed_sara_aa : (am : hb_glyph_info_t) → is_sara_am am.glyph_id ≡ true
     → without_name (sara_aa am) ≡ without_name am
 unnamed_sara_aa am h =
     let known = known_parts am.glyph_id h in
-    ap (λ b. if b then unnamed (sara_aa am) else sara_aa am) known.2
-    ∙ sym (ap (λ b. if b then unnamed am else am) known.0)
+    ap (λ b. if b then without_number (sara_aa am) else sara_aa am) known.2
+    ∙ sym (ap (λ b. if b then without_number am else am) known.0)
 
 -- but for what the rewriting changes, the parts of a SARA AM are that SARA AM, and others stay
 pub guarded_nikhahit : (g : hb_glyph_info_t) → without_name ((guarded glyph_rule).nikhahit g) ≡ without_name g
@@ -132,8 +132,8 @@ placed_sara_aa place g =
 -- clusters and glyph flags show without the name
 pub name_shows : ShowsClusters without_name
 name_shows = record {
-  cluster = λ g. elim (is_of_sara_am g.glyph_id) as (λ b. (if b then unnamed g else g).cluster ≡ g.cluster)
+  cluster = λ g. elim (is_of_sara_am g.glyph_id) as (λ b. (if b then without_number g else g).cluster ≡ g.cluster)
       [ true ↦ refl | false ↦ refl ];
-  flags = λ g. elim (is_of_sara_am g.glyph_id) as (λ b. (if b then unnamed g else g).mask % 8 ≡ g.mask % 8)
+  flags = λ g. elim (is_of_sara_am g.glyph_id) as (λ b. (if b then without_number g else g).mask % 8 ≡ g.mask % 8)
       [ true ↦ refl | false ↦ refl ];
 }

@@ -38,13 +38,13 @@ is_of_sara_am u = is_sara_am u || is_sara_am (u + 1) || is_sara_am (u - 0x1A)
 
 -- a glyph without what the rewriting changes of these: the character, its category, the high byte
 -- and the continuation
-abbrev pub unnamed : hb_glyph_info_t → hb_glyph_info_t
-unnamed g =
+abbrev pub without_number : hb_glyph_info_t → hb_glyph_info_t
+without_number g =
     let other = with_general_category Cc g.unicode_props in
     record g { glyph_id = 0; unicode_props = without_property CONTINUATION other }
 
 abbrev pub without_name : hb_glyph_info_t → hb_glyph_info_t
-without_name g = if is_of_sara_am g.glyph_id then unnamed g else g
+without_name g = if is_of_sara_am g.glyph_id then without_number g else g
 
 -- What it gives: rs. But for its order it is the merged text with each SARA AM taken in rule. Each
 -- glyph is its source after the merges; one of a SARA AM is so in all but character, category, high

@@ -5,11 +5,12 @@ use Rattle.ucd_table.proofs.Stepped.{runs_of}
 use Rattle.shapers_unicode.specs.declared.tables.general.TheConstants.{GENERAL_INDEX, GENERAL_BLOCKS, GENERAL_TAIL}
 use Rattle.shapers_unicode.specs.Table.{IsTable, table_value}
 use Rattle.shapers_unicode.proofs.TableCheck.{cells_hold, table_cells, table_ok, table_ok-IsTable, table_value-Stepped}
-use Rattle.shapers_unicode.specs.General.{general_category}
-use Rattle.shapers_unicode.proofs.GeneralSteps.{category_number, general_stepped, number_stepped}
+use Rattle.shapers_buffer.specs.Category.{category_number}
+use Rattle.shapers_unicode.specs.General.{category_of_character}
+use Rattle.shapers_unicode.proofs.GeneralSteps.{general_stepped, number_stepped}
 
 GENERAL-ok : table_ok 128 GENERAL_INDEX GENERAL_BLOCKS GENERAL_TAIL
-    (runs_of (λ c. category_number (general_category c)) number_stepped) ≡ true
+    (runs_of (λ c. category_number (category_of_character c)) number_stepped) ≡ true
 unfolding tables table_cells general_stepped
 GENERAL-ok = refl
 
@@ -17,9 +18,9 @@ pub IsTable-GENERAL : IsTable 128 GENERAL_INDEX GENERAL_BLOCKS
 IsTable-GENERAL = table_ok-IsTable 128 GENERAL_INDEX GENERAL_BLOCKS GENERAL_TAIL _ GENERAL-ok
 
 pub table_value-GENERAL : (c : ℕ) → c < 0x11_0000 → table_value 128 GENERAL_INDEX GENERAL_BLOCKS GENERAL_TAIL c
-    ≡ category_number (general_category c)
+    ≡ category_number (category_of_character c)
 table_value-GENERAL =
-    table_value-Stepped 128 GENERAL_INDEX GENERAL_BLOCKS GENERAL_TAIL (λ c. category_number (general_category c))
+    table_value-Stepped 128 GENERAL_INDEX GENERAL_BLOCKS GENERAL_TAIL (λ c. category_number (category_of_character c))
     number_stepped GENERAL-ok
 
 -- the first and the last cell of each block, and of each range above
@@ -116,6 +117,6 @@ GENERAL-cells : cells_hold (
     ∷ (0xE0020, 1) ∷ (0xE007F, 1) ∷ (0xE0080, 2) ∷ (0xE00FF, 2) ∷ (0xE0100, 12) ∷ (0xE01EF, 12)
     ∷ (0xE01F0, 2) ∷ (0xEFFFF, 2) ∷ (0xF0000, 3) ∷ (0xFFFFD, 3) ∷ (0xFFFFE, 2) ∷ (0xFFFFF, 2)
     ∷ (0x100000, 3) ∷ (0x10FFFD, 3) ∷ (0x10FFFE, 2) ∷ (0x10FFFF, 2) ∷ [])
-    (runs_of (λ c. category_number (general_category c)) number_stepped) ≡ true
+    (runs_of (λ c. category_number (category_of_character c)) number_stepped) ≡ true
 unfolding tables table_cells general_stepped
 GENERAL-cells = refl

@@ -7,7 +7,7 @@ use Rattle.shapers_unicode.specs.BlockRows.{block_rows}
 use Rattle.shapers_unicode.specs.ClassRows.{class_rows}
 use Rattle.shapers_unicode.specs.Classes.{changed_classes, class_exceptions, modified_class}
 use Rattle.shapers_unicode.specs.ExclusionRanges.{exclusion_ranges}
-use Rattle.shapers_unicode.specs.General.{general_category}
+use Rattle.shapers_unicode.specs.General.{category_of_character}
 use Rattle.shapers_unicode.specs.GeneralRows.{general_rows}
 use Rattle.shapers_unicode.specs.GroupRows.{group_rows}
 use Rattle.shapers_unicode.specs.Ignorable.{default_ignorable, drawn_ranges}
@@ -30,10 +30,10 @@ use Rattle.shapers_unicode.specs.UseSyllabicRows.{use_syllabic_rows}
 use Rattle.shapers_unicode.specs.Vertical.{vertical_form, vertical_forms}
 
 -- A, a, 0, space, an unassigned code point, a surrogate, private use, both ends of CJK, the last
-categories : map general_category (0x41 ∷ 0x61 ∷ 0x30 ∷ 0x20 ∷ 0x378 ∷ 0xD800 ∷ 0xE000 ∷ 0x4E00 ∷ 0x9FFF ∷ 0x10FFFF
+categories : map category_of_character (0x41 ∷ 0x61 ∷ 0x30 ∷ 0x20 ∷ 0x378 ∷ 0xD800 ∷ 0xE000 ∷ 0x4E00 ∷ 0x9FFF ∷ 0x10FFFF
     ∷ []) ≡ general.Lu ∷ general.Ll ∷ general.Nd ∷ general.Zs ∷ general.Cn ∷ general.Cs ∷ general.Co ∷ general.Lo
     ∷ general.Lo ∷ general.Cn ∷ []
-unfolding tables general_category general_rows
+unfolding tables category_of_character general_rows
 categories = refl
 
 -- alef, beh, tatweel, Syriac's alaph, dalath and rish, a mark, the joiner, the non-joiner, Phags-pa's
@@ -81,7 +81,7 @@ indics = refl
 universals : map universal_category (0xA98F ∷ 0xA9C0 ∷ 0xA9BF ∷ 0xA9BE ∷ 0x1A60 ∷ 0xDCA ∷ 0x1BF2 ∷ 0x200D ∷ 0x200C
     ∷ 0x2060 ∷ 0x13000 ∷ 0x13430 ∷ 0x628 ∷ 0x41 ∷ 0xAAB2 ∷ []) ≡ 1 ∷ 12 ∷ 28 ∷ 29 ∷ 48 ∷ 53 ∷ 56 ∷ 6 ∷ 14 ∷ 16 ∷ 49 ∷ 50
     ∷ 0 ∷ 0 ∷ 34 ∷ []
-unfolding tables universal_category general_category general_rows default_ignorable drawn_ranges ignorable_ranges
+unfolding tables universal_category category_of_character general_rows default_ignorable drawn_ranges ignorable_ranges
     joining_type group_rows joining_rows other_script_ranges own_categories positional_changes positional_rows
     syllabic_changes syllabic_rows use_positional_rows use_syllabic_rows
 universals = refl

@@ -3,7 +3,7 @@ use Rattle.std.proofs.Common.{ℕ, None, refl}
 use Rattle.ucd_table.proofs.Stepped.{Stepped, of_rows, of_ranges, map_stepped, zip_stepped}
 use Rattle.ucd_table.proofs.StepsLemmas.{rises_from}
 use Rattle.ucd_table.specs.Rows.{in_ranges, value_in}
-use Rattle.shapers_unicode.specs.General.{general_category}
+use Rattle.shapers_unicode.specs.General.{category_of_character}
 use Rattle.shapers_unicode.specs.Ignorable.{default_ignorable, ignorable_property}
 use Rattle.shapers_unicode.specs.Joining.{joining_type}
 use Rattle.shapers_unicode.specs.Values.{Positional as at, Syllabic as is, over}
@@ -50,7 +50,7 @@ with f g s t = zip_stepped (λ h v. h v) f g s t
 unfoldable pub universal_stepped : Stepped universal_category
 unfolding universal_category rises_from other_script_ranges own_categories
 universal_stepped =
-    with _ general_category
+    with _ category_of_character
     (with _ joining_type
     (with _ use_syllabic
     (with _ use_positional

@@ -1,6 +1,6 @@
 -- Unicode's tables as the shapers see them.
 use Rattle.shapers_base.specs.Font.{CharacterTables}
-use Rattle.shapers_unicode.specs.General.{general_category}
+use Rattle.shapers_unicode.specs.General.{category_of_character}
 use Rattle.shapers_unicode.specs.Indic.{indic_categories}
 use Rattle.shapers_unicode.specs.Joining.{joining_type}
 use Rattle.shapers_unicode.specs.Pairs.{composed, decomposed}
@@ -10,7 +10,7 @@ abbrev pub unicode_tables : CharacterTables
 unicode_tables =
     record {
       joining = joining_type;
-      general = general_category;
+      general = category_of_character;
       indic = indic_categories;
       universal = universal_category;
       composed = composed;

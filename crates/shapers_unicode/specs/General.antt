@@ -6,5 +6,5 @@ use Rattle.shapers_buffer.specs.declared.buffer.category.hb_unicode_general_cate
 use Rattle.shapers_unicode.specs.GeneralRows.{general_rows}
 
 -- Unicode's General_Category: unassigned where the data file has no line
-unfoldable pub general_category : ℕ → hb_unicode_general_category_t
-general_category = value_in Cn general_rows
+unfoldable pub category_of_character : ℕ → hb_unicode_general_category_t
+category_of_character = value_in Cn general_rows

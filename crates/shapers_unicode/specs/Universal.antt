@@ -8,7 +8,7 @@ use Rattle.shapers_base.specs.declared.plan.joining.hb_arabic_joining_type_t.The
 use Rattle.shapers_buffer.specs.Category.{is_mark}
 use Rattle.shapers_buffer.specs.declared.buffer.category.hb_unicode_general_category_t.{hb_unicode_general_category_t}
 use Rattle.shapers_buffer.specs.declared.buffer.category.hb_unicode_general_category_t.TheVariants as general
-use Rattle.shapers_unicode.specs.General.{general_category}
+use Rattle.shapers_unicode.specs.General.{category_of_character}
 use Rattle.shapers_unicode.specs.Ignorable.{default_ignorable, ignorable_property}
 use Rattle.shapers_unicode.specs.Joining.{joining_type}
 use Rattle.shapers_unicode.specs.Values.{Positional, Syllabic, Positional as at, Syllabic as is, over}
@@ -200,4 +200,4 @@ unfoldable pub universal_category : ℕ → ℕ
 universal_category c =
     universal_by (in_ranges other_script_ranges c) (value_in None own_categories c)
     (ignorable_property c) (default_ignorable c) (use_positional c) (use_syllabic c)
-    (joining_type c) (general_category c)
+    (joining_type c) (category_of_character c)

@@ -4,7 +4,7 @@
 
 ghost use Rattle.std.specs.Prelude.{◌≡◌};
 ghost use Rattle.shapers_unicode.specs.Answers.{unicode_tables};
-ghost use Rattle.shapers_unicode.specs.General.{general_category};
+ghost use Rattle.shapers_unicode.specs.General.{category_of_character};
 ghost use Rattle.shapers_unicode.specs.Indic.{indic_categories};
 ghost use Rattle.shapers_unicode.specs.Joining.{joining_type};
 ghost use Rattle.shapers_unicode.specs.Pairs.{composed, decomposed};
@@ -47,7 +47,7 @@ impl Tables for UnicodeTables {
 
     #[inline]
     fn general_category(&self, c: char) -> hb_unicode_general_category_t
-        ensures { result ≡ general_category c }
+        ensures { result ≡ category_of_character c }
     {
         properties::general_category(c)
     }

@@ -1,7 +1,7 @@
 //! Properties of characters.
 ghost use Rattle.std.specs.Prelude.{◌≡◌};
 ghost use Rattle.shapers_unicode.specs.Classes.{modified_class};
-ghost use Rattle.shapers_unicode.specs.General.{general_category};
+ghost use Rattle.shapers_unicode.specs.General.{category_of_character};
 ghost use Rattle.shapers_unicode.specs.Ignorable.{default_ignorable};
 ghost use Rattle.shapers_unicode.specs.Pictographic.{extended_pictographic};
 ghost use Rattle.shapers_unicode.specs.Universal.{universal_category};
@@ -21,7 +21,7 @@ use shapers_buffer::buffer::hb_unicode_general_category_t;
 
 /// The general category of a character.
 pub fn general_category(c: char) -> hb_unicode_general_category_t
-    ensures { result ≡ general_category c }
+    ensures { result ≡ category_of_character c }
 {
     let number = value_of(&GENERAL_INDEX, &GENERAL_BLOCKS, &GENERAL_TAIL, c as u32);
     hb_unicode_general_category_t::from_number(number).unwrap_or(hb_unicode_general_category_t::Cn)

@@ -2,7 +2,7 @@ use Rattle.std.proofs.Common.{◌≡◌, Some, ap, ◌∙◌, arith, lit<, slice
 use Rattle.shapers_buffer.specs.Category.{categories}
 use Rattle.std.specs.Option.{unwrap_or}
 use Rattle.shapers_buffer.specs.declared.buffer.category.hb_unicode_general_category_t.TheVariants.{Cn}
-use Rattle.shapers_unicode.specs.General.{general_category}
+use Rattle.shapers_unicode.specs.General.{category_of_character}
 use Rattle.shapers_unicode.proofs.GeneralSteps.{category-found}
 use Rattle.shapers_unicode.proofs.GeneralTable.{IsTable-GENERAL, table_value-GENERAL}
 use Rattle.shapers_unicode.proofs.properties.general_category.Goals as goal
@@ -13,6 +13,6 @@ value_of-number-requires c = (lit< tt, IsTable-GENERAL)
 pub returns : goal.returns
 returns c =
     let number = c.value_of-number.ensures ∙ table_value-GENERAL c.args.c (omega arith) in
-    let found : c.from_number.result ≡ Some (general_category c.args.c) =
-    c.from_number.ensures ∙ ap (slice_get categories) number ∙ category-found (general_category c.args.c) in
+    let found : c.from_number.result ≡ Some (category_of_character c.args.c) =
+    c.from_number.ensures ∙ ap (slice_get categories) number ∙ category-found (category_of_character c.args.c) in
     c.unwrap_or.ensures ∙ ap (λ o. unwrap_or o Cn) found
