@@ -24,7 +24,7 @@ pub fn general_category(c: char) -> hb_unicode_general_category_t
     ensures { result ≡ category_of_character c }
 {
     let number = value_of(&GENERAL_INDEX, &GENERAL_BLOCKS, &GENERAL_TAIL, c as u32);
-    hb_unicode_general_category_t::from_number(number).unwrap_or(hb_unicode_general_category_t::Cn)
+    hb_unicode_general_category_t::from_number_or_unassigned(number)
 }
 
 /// How a character joins its neighbours.
