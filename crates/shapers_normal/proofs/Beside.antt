@@ -1,5 +1,5 @@
 -- Changes of a text that stay within a part of it, whose clusters the rest lacks.
-use Rattle.std.proofs.Common.{◌≡◌, ◌+◌, ◌-◌, ◌<◌, ◌≤◌, ℕ, suc, zero, Bool, true, false, cond, eqb, List, [], ◌∷◌, ◌++◌, length, map, take, drop, get_or, refl, sym, ap, ◌∙◌, subst, arith, append_assoc, length-drop}
+use Rattle.std.proofs.Common.{◌≡◌, ◌+◌, ◌-◌, ◌<◌, ◌≤◌, ℕ, Bool, true, false, cond, eqb, List, [], ◌∷◌, ◌++◌, length, map, take, drop, get_or, refl, sym, ap, ◌∙◌, subst, arith, append_assoc, length-drop}
 use Rattle.std.specs.List.{All, AllByRecursion, fold, range_with_len}
 use Rattle.std.proofs.Math.Seq.{drop-append-add, take-append-add}
 use Rattle.std.proofs.lemmas.List.{append-nil, drop-append-le, length-append, length-map, take-append-le}
@@ -14,7 +14,7 @@ use Rattle.shapers_buffer.proofs.ClusterLemmas.{length-stretch}
 use Rattle.shapers_buffer.proofs.MappedLists.{all-range}
 use Rattle.shapers_clusters.specs.Cuts.{ShareNone}
 use Rattle.shapers_clusters.specs.Steps.{Step, FitsStep, run_steps, widened}
-use Rattle.shapers_clusters.proofs.Halves.{Each, steps_alone}
+use Rattle.shapers_clusters.proofs.Halves.{Each, each-append, each-drop, each-take, steps_alone}
 use Rattle.shapers_clusters.proofs.Merging.{length-merge}
 use Rattle.shapers_clusters.proofs.Moves.{all-joined, clusters-merge_all}
 use Rattle.shapers_clusters.proofs.Picks.{pick-all}
@@ -34,20 +34,6 @@ each_of P (g ∷ gs) h = (All-head P g.cluster (clusters gs) h, each_of P gs (Al
 pub all_of : (P : ℕ → Type 0) (gs : List hb_glyph_info_t) → Each P gs → All P (clusters gs)
 all_of P [] h = All-nil P
 all_of P (g ∷ gs) h = All-cons P g.cluster (clusters gs) h.0 (all_of P gs h.1)
-
-pub each-append : (P : ℕ → Type 0) (gs hs : List hb_glyph_info_t) → Each P gs → Each P hs → Each P (gs ++ hs)
-each-append P [] hs h i = i
-each-append P (g ∷ gs) hs h i = (h.0, each-append P gs hs h.1 i)
-
-pub each-take : (P : ℕ → Type 0) (n : ℕ) (gs : List hb_glyph_info_t) → Each P gs → Each P (take n gs)
-each-take P zero gs h = tt
-each-take P (suc n) [] h = tt
-each-take P (suc n) (g ∷ gs) h = (h.0, each-take P n gs h.1)
-
-pub each-drop : (P : ℕ → Type 0) (n : ℕ) (gs : List hb_glyph_info_t) → Each P gs → Each P (drop n gs)
-each-drop P zero gs h = h
-each-drop P (suc n) [] h = tt
-each-drop P (suc n) (g ∷ gs) h = each-drop P n gs h.1
 
 each-flagged : (P : ℕ → Type 0) (bits m : ℕ) (gs : List hb_glyph_info_t) → Each P gs
     → Each P (map (with_bits_off bits m) gs)

@@ -44,9 +44,9 @@ with_ignorable context c = set_property IGNORABLE (is_ignorable_in context c) (m
 abbrev with_continuation : Context → ℕ → UnicodeProps
 with_continuation context c = set_property CONTINUATION (is_mark_in context c) (with_ignorable context c)
 
-pub category_of_character : (context : Context) (c : ℕ) → general_category (character_properties context c)
+pub general_of_character : (context : Context) (c : ℕ) → general_category (character_properties context c)
     ≡ context.general c
-category_of_character context c =
+general_of_character context c =
     (hidden_keeps (with_continuation context c)).category (is_ignorable_in context c && is_seen_by_lookups c)
     ∙ (continuation_keeps (with_ignorable context c)).category (is_mark_in context c)
     ∙ (ignorable_keeps (made context c)).category (is_ignorable_in context c)
@@ -72,7 +72,7 @@ pub class_of_character : (context : Context) (c : ℕ) → modified_combining_cl
     ≡ cond (is_mark_in context c) (context.class c) 0
 unfolding modified_combining_class
 class_of_character context c =
-    ap (λ g. cond (is_mark g) (high_byte (character_properties context c)) 0) (category_of_character context c)
+    ap (λ g. cond (is_mark g) (high_byte (character_properties context c)) 0) (general_of_character context c)
     ∙ ap (λ b. cond (is_mark (context.general c)) b 0) (byte_of_character context c)
     ∙ byte_of_mark (nat_le 0x80 c) (is_mark (context.general c)) (context.ignorable c) (context.class c)
     (joiner_class c)

@@ -1,5 +1,5 @@
 -- A merge that ends with the first of two lists: it goes on over the second.
-use Rattle.std.proofs.Common.{◌≡◌, ◌+◌, ◌-◌, ◌<◌, ◌≤◌, ℕ, Bool, true, false, not, ◌&&◌, nat_lt, if◌then◌else◌, List, [], ◌++◌, length, map, reverse, take, drop, get_or, sym, ap, ◌∙◌, arith, append_assoc}
+use Rattle.std.proofs.Common.{◌≡◌, ◌+◌, ◌-◌, ◌<◌, ◌≤◌, ℕ, true, List, [], ◌++◌, length, map, reverse, take, drop, get_or, sym, ap, ◌∙◌, arith, append_assoc}
 use Rattle.std.proofs.Math.Seq.{drop-append_seam, take-append_seam}
 use Rattle.std.proofs.lemmas.Bool.Decides.{nat_tests}
 use Rattle.std.proofs.lemmas.List.{append-nil, drop-append-le, get_or_append_left, get_or-append_right, get_or-drop, get_or-map, length-drop, length-map, length-reverse, length-take-le, take-append-le}
@@ -10,11 +10,7 @@ use Rattle.shapers_buffer.specs.Glyph.{clusters, default_glyph}
 use Rattle.shapers_buffer.proofs.ClusterLemmas.{flood_merged, last-read, merge_is}
 use Rattle.shapers_buffer.proofs.OneCluster.{length-flooded}
 use Rattle.shapers_clusters.proofs.Appended.{assembled}
-
-merge_taken : (n : ℕ) (a : Bool) {X : Type 0} (x z : X) → a ≡ true → 1 < n → (if a && not (nat_lt n 2) then x else z)
-    ≡ x
-merge_taken n true x z h two = grind (arith, nat_tests)
-merge_taken n false x z h two = absurd (grind arith)
+use Rattle.shapers_clusters.proofs.Bounds.{merge_taken}
 
 merged_two : (level : BufferClusterLevel) (s e : ℕ) (gs : List hb_glyph_info_t) → merges level ≡ true → 1 < e - s
     → merge level s e gs ≡ assembled (take s gs) (stretch_of s e gs) (drop e gs)

@@ -14,7 +14,7 @@ use Rattle.shapers_buffer.specs.GlyphFlags.{unsafe_inside}
 use Rattle.shapers_buffer.proofs.ClusterLemmas.{get_or-stretch, length-stretch, map-stretch, three_parts}
 use Rattle.shapers_buffer.proofs.MappedLists.{all-flat_map, all-range}
 use Rattle.shapers_clusters.specs.Cuts.{IsMonotone}
-use Rattle.shapers_clusters.proofs.Halves.{Each}
+use Rattle.shapers_clusters.proofs.Halves.{Each, each-append, each-drop, each-take}
 use Rattle.shapers_clusters.proofs.Merging.{length-merge}
 use Rattle.shapers_clusters.proofs.Proved.{exact_cuts_hold, merge_holds}
 use Rattle.shapers_normal.specs.Context.{Context}
@@ -25,7 +25,7 @@ use Rattle.shapers_normal.specs.Properties.{as_character, numbered_as}
 use Rattle.shapers_normal.specs.Recomposition.{StarterWalk, composition, left_as_is, next_glyph, recomposed, taken_in, walk_over}
 use Rattle.shapers_normal.specs.Sorting.{brought_before, class_of, classes, is_mark_glyph, mark_runs, marks_ordered, passed_marks, run_ordered, run_sorted, sorted_in, stay_together}
 use Rattle.shapers_normal.specs.Variants.{cut_before_others, form_written, forms_written, has_variant_at, is_kept_cluster, is_selector_glyph, selecting_nothing, variant_joined, variants_joined, with_first, with_number}
-use Rattle.shapers_normal.proofs.Beside.{each-append, each-drop, each-take, each_of}
+use Rattle.shapers_normal.proofs.Beside.{each_of}
 use Rattle.shapers_normal.proofs.DecompositionClusters.{each-became, each-form, each-written}
 use Rattle.shapers_normal.proofs.Pairs.{Pairs, clusters-set, each_as, mono_by, pairs-append, pairs-without, pairs_same, pairs_together, together}
 use Rattle.shapers_normal.proofs.RecompositionHalves.{Walking, left_over, length-left, walk_start, walking_by, walking_start}

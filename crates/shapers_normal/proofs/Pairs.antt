@@ -7,8 +7,8 @@ use Rattle.std.proofs.lemmas.List.Kept.{AllPairs-cons}
 use Rattle.shapers_buffer.specs.declared.buffer.glyph.hb_glyph_info_t.{hb_glyph_info_t}
 use Rattle.shapers_buffer.specs.Glyph.{clusters}
 use Rattle.shapers_clusters.specs.Cuts.{IsMonotone}
-use Rattle.shapers_clusters.proofs.Halves.{Each}
-use Rattle.shapers_normal.proofs.Beside.{all_of, each-append, each-drop, each_of}
+use Rattle.shapers_clusters.proofs.Halves.{Each, each-append, each-drop}
+use Rattle.shapers_normal.proofs.Beside.{all_of, each_of}
 
 -- R holds of each glyph's cluster and each later one's
 abbrev pub Pairs : (ℕ → ℕ → Type 0) → List hb_glyph_info_t → Type 0

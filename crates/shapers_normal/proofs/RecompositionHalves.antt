@@ -9,13 +9,13 @@ use Rattle.shapers_buffer.specs.declared.buffer.glyph.hb_glyph_info_t.{hb_glyph_
 use Rattle.shapers_buffer.specs.declared.buffer.level.BufferClusterLevel.{BufferClusterLevel}
 use Rattle.shapers_buffer.specs.Clusters.{merge}
 use Rattle.shapers_buffer.specs.Glyph.{default_glyph}
-use Rattle.shapers_clusters.proofs.Halves.{Each}
+use Rattle.shapers_clusters.proofs.Halves.{Each, each-append, each-drop, each-take}
 use Rattle.shapers_clusters.proofs.Merging.{length-merge}
 use Rattle.shapers_normal.specs.Context.{Context}
 use Rattle.shapers_normal.specs.Properties.{as_character}
 use Rattle.shapers_normal.specs.Recomposition.{StarterWalk, composition, glyph_at, if_drawn, left_as_is, next_glyph, recomposed, taken_in, walk_over, without_place}
 use Rattle.shapers_normal.specs.Sorting.{class_of, is_mark_glyph}
-use Rattle.shapers_normal.proofs.Beside.{Not, each-append, each-drop, each-merge, each-take, merge_alone}
+use Rattle.shapers_normal.proofs.Beside.{Not, each-merge, merge_alone}
 use Rattle.shapers_normal.proofs.CharacterProperties.{class_of_other}
 use Rattle.shapers_normal.proofs.SortingHalves.{glyph_in_part, twice_not}
 

@@ -28,7 +28,8 @@ is_ignorable_in context c = nat_le 0x80 c && context.ignorable c
 abbrev pub is_mark_in : Context → ℕ → Bool
 is_mark_in context c = nat_le 0x80 c && is_mark (context.general c)
 
--- what the high byte of a character's properties holds: 1 for an ignorable zero width joiner, 2 for a non-joiner
+-- what the high byte of a character's properties holds: 1 for an ignorable zero width joiner, 2 for
+-- a non-joiner
 abbrev pub joiner_class : ℕ → ℕ
 joiner_class c = if c == 0x200D then 1 else if c == 0x200C then 2 else 0
 

@@ -48,9 +48,8 @@ with_number context g = option_map_or
 abbrev pub selecting_nothing : Context → hb_glyph_info_t → hb_glyph_info_t
 selecting_nothing context g =
     let selector = with_high_byte 4 (with_general_category Cf g.unicode_props) in
-    record g {
-      unicode_props = if context.draws_selectors then set_property IGNORABLE false selector else selector;
-    }
+    let drawn = set_property IGNORABLE false selector in
+    record g { unicode_props = if context.draws_selectors then drawn else selector }
 
 -- A character and the selectors behind it. Where the font has the form that the first of them
 -- selects, its glyph stands for both, and else both stay; further selectors stay.

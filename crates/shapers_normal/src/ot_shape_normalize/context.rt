@@ -59,7 +59,8 @@ pub trait NormalizeContext {
     fn invisible_glyph(&self) -> Option<GlyphId>
         ensures { result ≡ (context self.now).invisible };
 
-    /// Whether the caller has a glyph for selectors that select nothing: they aren't ignorable then.
+    /// Whether the caller has a glyph for selectors that select nothing: they aren't ignorable
+    /// then.
     fn draws_selectors(&self) -> bool
         ensures { result ≡ (context self.now).draws_selectors };
 

@@ -33,8 +33,8 @@ pub fn clusters_law()
     ensures { MakesNoCluster }
 {}
 
-/// A text without marks that the font has gets its glyphs and nothing else, for a shaper that leaves
-/// letters whole.
+/// A text without marks that the font has gets its glyphs and nothing else, for a shaper that
+/// leaves letters whole.
 pub fn whole_texts_law()
     ensures { WholeTextsStay }
 {}

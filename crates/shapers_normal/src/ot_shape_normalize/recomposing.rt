@@ -10,9 +10,10 @@ use super::context::NormalizeContext;
 use super::properties::set_character;
 use super::sorting::{class, is_mark, merges};
 use shapers_base::buffer::{
-    BufferClusterLevel, GlyphChange, change_each_in, hb_glyph_info_t, merge_clusters_in,
+    BufferClusterLevel, change_each_in, hb_glyph_info_t, merge_clusters_in,
 };
 use shapers_base::font::GlyphId;
+use shapers_clusters::into_cluster::IntoCluster;
 
 /// Composes each starter with the marks behind it that nothing keeps apart from it, as far as the
 /// shaper composes them and the font has the character. A mark that is taken in comes into one
@@ -195,24 +196,6 @@ fn count_in(glyphs: &[hb_glyph_info_t], cluster: u32) -> usize
         .iter()
         .take_while(|glyph| glyph.cluster == cluster)
         .count()
-}
-
-// Puts a glyph into a cluster; if that is another one, its glyph flags go.
-#[derive(Clone, Copy)]
-struct IntoCluster(u32);
-
-impl GlyphChange for IntoCluster {
-    ghost use Rattle.shapers_buffer.specs.Clusters.{in_cluster};
-
-    ghost changed = { λ change g. in_cluster change.0 g };
-
-    #[inline]
-    fn change(&self, glyph: &mut hb_glyph_info_t) {
-        if glyph.cluster != self.0 {
-            glyph.cluster = self.0;
-            glyph.mask &= !7;
-        }
-    }
 }
 
 // A walk that takes glyphs out: what stays lies before `to`, what is still to come from `from` on,
