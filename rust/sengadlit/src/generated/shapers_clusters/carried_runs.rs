@@ -2,7 +2,8 @@
 
 //! Runs of glyphs that merges behind them flood again and again, written once.
 
-use crate::generated::shapers_buffer::buffer::{GlyphChange, GlyphInfo};
+use crate::generated::shapers_buffer::buffer::GlyphInfo;
+use crate::generated::shapers_clusters::into_cluster::IntoCluster;
 
 /// Glyphs in front of the place where merges go on. All are in the cluster of the last of them, but
 /// only that one is written: a merge behind it that floods it floods all of them, and where such
@@ -15,21 +16,6 @@ pub struct CarriedRun {
     pub end: usize,
     /// A cluster above theirs.
     pub above: u32,
-}
-
-/// A cluster that glyphs come into.
-#[derive(Clone, Copy, Debug)]
-pub struct CarriedCluster(pub u32);
-
-impl GlyphChange for CarriedCluster {
-    // A glyph whose cluster changes loses its glyph flags.
-    #[inline]
-    fn change(&self, glyph: &mut GlyphInfo) {
-        if glyph.cluster != self.0 {
-            glyph.cluster = self.0;
-            glyph.mask &= !7;
-        }
-    }
 }
 
 impl CarriedRun {
@@ -51,12 +37,13 @@ impl CarriedRun {
     /// ```text
     /// requires some { 0 < place }
     /// requires in_range { place ≤ length glyphs.now }
+    /// ensures is { result ≡ fallen_run place above glyphs.now }
     /// ensures same { with_carried result glyphs.now ≡ glyphs.now }
     /// ensures fits { IsCarried result glyphs.now }
     /// ensures at { result.end ≤ place }
     /// ```
     ///
-    /// - `IsCarried`, `with_carried`: `crates/shapers_clusters/specs/CarriedRuns.antt`
+    /// - `IsCarried`, `fallen_run`, `with_carried`: `crates/shapers_clusters/specs/CarriedRuns.antt`
     ///
     /// </details>
     #[inline]
@@ -102,10 +89,11 @@ impl CarriedRun {
     /// ```text
     /// requires fits { IsCarried self glyphs.now }
     /// requires in_range { place ≤ length glyphs.now }
-    /// ensures { IfSome result (λ run. ReachesPlace self place glyphs.now run) }
+    /// ensures is { result ≡ reaching_run self place glyphs.now }
+    /// ensures reaches { IfSome result (λ run. ReachesPlace self place glyphs.now run) }
     /// ```
     ///
-    /// - `IsCarried`, `ReachesPlace`: `crates/shapers_clusters/specs/CarriedRuns.antt`
+    /// - `IsCarried`, `ReachesPlace`, `reaching_run`: `crates/shapers_clusters/specs/CarriedRuns.antt`
     ///
     /// </details>
     #[inline]
@@ -138,11 +126,11 @@ impl CarriedRun {
     ///
     /// </details>
     #[inline]
-    pub fn cluster(self, glyphs: &[GlyphInfo]) -> CarriedCluster {
+    pub fn cluster(self, glyphs: &[GlyphInfo]) -> IntoCluster {
         if self.is_none() {
-            CarriedCluster(0)
+            IntoCluster(0)
         } else {
-            CarriedCluster(glyphs[self.end - 1].cluster)
+            IntoCluster(glyphs[self.end - 1].cluster)
         }
     }
 }

@@ -4,3 +4,4 @@
 //! function here does nothing, and its contract is the law.
 
 pub mod carried_runs;
+pub mod into_cluster;
