@@ -13,6 +13,7 @@ use Rattle.shapers_buffer.proofs.MappedLists.{all-append}
 use Rattle.shapers_clusters.specs.Breaks.{greater, is_unsafe}
 use Rattle.shapers_clusters.specs.Cuts.{IsFalling, IsRising}
 use Rattle.shapers_clusters.specs.Flags.{bit_at}
+use Rattle.shapers_clusters.proofs.Cuts.{falling_to, rising_to}
 use Rattle.shapers_position.specs.ClusterFlags.{flags_of, flags_propagated, with_flags}
 use Rattle.shapers_position.specs.Laws.{FlagsLaw, OneFlagTells, OneGlyphTells, glyph_flags}
 use Rattle.shapers_position.proofs.FlagLaws.{again, by_groups, clear_from, clear_to, clusters-propagated, length-propagated, map-propagated, more, opening_flags, opening_small, opens, run_is, unsafe_at}
@@ -88,20 +89,6 @@ flags_are_shared wanted gs =
     }
 
 -- ---- the glyphs of a cluster, from one of them to another
-
-rising_to : (cs : List ℕ) → IsRising cs → (i j : ℕ) → i ≤ j → j < length cs → get_or cs i 0 ≤ get_or cs j 0
-rising_to cs rises i j order within = elim (cases_lt i j) [
-  | inl l ↦ rises i j 0 l within
-  | inr l ↦ (let same : i ≡ j = omega arith in let P : ℕ →
-      Type 0 = λ k. get_or cs i 0 ≤ get_or cs k 0 in subst P same (omega arith))
-]
-
-falling_to : (cs : List ℕ) → IsFalling cs → (i j : ℕ) → i ≤ j → j < length cs → get_or cs j 0 ≤ get_or cs i 0
-falling_to cs falls i j order within = elim (cases_lt i j) [
-  | inl l ↦ falls i j 0 l within
-  | inr l ↦ (let same : i ≡ j = omega arith in let P : ℕ →
-      Type 0 = λ k. get_or cs k 0 ≤ get_or cs i 0 in subst P same (omega arith))
-]
 
 -- all from place p on up to one of the same cluster have the same flags
 same_along : (ms : List hb_glyph_info_t) → Alike ms → (p d : ℕ) → p + d < length ms →

@@ -19,9 +19,9 @@ use Rattle.shapers_clusters.specs.Cuts.{IsFalling, IsMonotone, IsRising}
 use Rattle.shapers_clusters.proofs.ClusterMerges.{clusters-merge}
 use Rattle.shapers_clusters.proofs.Cuts.{stays_falling, stays_rising}
 use Rattle.shapers_clusters.proofs.FlagCalls.{without_flags-or}
-use Rattle.shapers_clusters.proofs.Halves.{Each}
+use Rattle.shapers_clusters.proofs.Halves.{Each, each-append}
 use Rattle.shapers_clusters.proofs.Merging.{order_view-merge, without_flags-twice}
-use Rattle.shapers_normal.proofs.Beside.{all_of, each-append, each-merge, each_of}
+use Rattle.shapers_normal.proofs.Beside.{all_of, each-merge, each_of}
 use Rattle.shapers_normal.proofs.Pairs.{Cross, Pairs, each_as, from_pairs, pairs-append, pairs-cross, pairs-first, pairs-last, to_pairs}
 use Rattle.shapers_position.specs.Ignorables.{covering, drawn_by, goes_on, in_place_of, is_default_ignorable, stays_in_text, positions_kept, removed, removed_behind}
 use Rattle.shapers_position.specs.Laws.{DrawnLaw, PositionsLaw, RemovalLaw, with_glyph_id}

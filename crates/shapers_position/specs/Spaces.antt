@@ -46,7 +46,8 @@ space_width font metrics horizontal kind advance =
 
 -- a space that no lookup put in for several glyphs
 abbrev pub is_space_glyph : hb_glyph_info_t → Bool
-is_space_glyph g = is_space_separator (general_category g.unicode_props) && not (is_ligated g.glyph_props)
+is_space_glyph g =
+    is_space_separator (general_category g.unicode_props) && not (is_ligated g.glyph_props)
 
 -- a glyph's position, with that width along the line if it is such a space
 abbrev pub space_placed : Font → Metrics → Bool → hb_glyph_info_t → GlyphPosition → GlyphPosition

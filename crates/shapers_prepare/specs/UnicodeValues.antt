@@ -1,7 +1,7 @@
 -- Unicode's tables as preparing a text sees them.
 use Rattle.shapers_buffer.specs.Settings.{character_of}
 use Rattle.shapers_unicode.specs.Classes.{modified_class}
-use Rattle.shapers_unicode.specs.General.{general_category}
+use Rattle.shapers_unicode.specs.General.{category_of_character}
 use Rattle.shapers_unicode.specs.Ignorable.{default_ignorable}
 use Rattle.shapers_unicode.specs.Pairs.{mirrored}
 use Rattle.shapers_unicode.specs.Pictographic.{extended_pictographic}
@@ -11,7 +11,7 @@ use Rattle.shapers_prepare.specs.CharacterProperties.{CharacterProperties}
 -- a number that is no character has the properties of U+FFFD
 abbrev pub unicode_properties : CharacterProperties
 unicode_properties = record {
-  general = λ c. general_category (character_of c);
+  general = λ c. category_of_character (character_of c);
   class = λ c. modified_class (character_of c);
   ignorable = λ c. default_ignorable (character_of c);
   pictographic = λ c. extended_pictographic (character_of c);

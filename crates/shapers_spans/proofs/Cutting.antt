@@ -16,20 +16,20 @@ use Rattle.shapers_spans.proofs.Reached.{reach-zero}
 
 -- what is read of a text is what is read of its halves
 
-alike_tail : (g : Grammar) (x : hb_glyph_info_t) (gs hs : List hb_glyph_info_t) → ReadsAlike g (x ∷ gs) hs
+pub alike_tail : (g : Grammar) (x : hb_glyph_info_t) (gs hs : List hb_glyph_info_t) → ReadsAlike g (x ∷ gs) hs
     → ReadsAlike g gs hs
 alike_tail g x gs hs a fs ks e l = a (x ∷ fs) ks (ap (λ (xs : List hb_glyph_info_t). x ∷ xs) e) l
 
-alike_head : (g : Grammar) (x : hb_glyph_info_t) (gs hs : List hb_glyph_info_t) → ReadsAlike g (x ∷ gs) hs
+pub alike_head : (g : Grammar) (x : hb_glyph_info_t) (gs hs : List hb_glyph_info_t) → ReadsAlike g (x ∷ gs) hs
     → g.passes (x ∷ (gs ++ hs)) ≡ g.passes (x ∷ gs)
 alike_head g x gs hs a = a [] (x ∷ gs) refl (omega arith)
 
-alike_drop : (g : Grammar) (gs hs : List hb_glyph_info_t) (n : ℕ) → ReadsAlike g gs hs → ReadsAlike g (drop n gs) hs
+pub alike_drop : (g : Grammar) (gs hs : List hb_glyph_info_t) (n : ℕ) → ReadsAlike g gs hs → ReadsAlike g (drop n gs) hs
 alike_drop g gs hs zero a = a
 alike_drop g [] hs (suc n) a = a
 alike_drop g (x ∷ gs) hs (suc n) a = alike_drop g gs hs n (alike_tail g x gs hs a)
 
-read-append : (g : Grammar) (gs hs : List hb_glyph_info_t) → ReadsAlike g gs hs → read_of g.passes (gs ++ hs)
+pub read-append : (g : Grammar) (gs hs : List hb_glyph_info_t) → ReadsAlike g gs hs → read_of g.passes (gs ++ hs)
     ≡ read_of g.passes gs ++ read_of g.passes hs
 read-append g [] hs a = refl
 read-append g (x ∷ gs) hs a =
@@ -88,7 +88,7 @@ reach-append g (x ∷ gs) hs (suc n) a l b =
     (cases_Bool (g.passes (x ∷ gs)))
 
 -- what stands behind a reach is read
-behind-reach : (p : List hb_glyph_info_t → Bool) → p [] ≡ false → (gs : List hb_glyph_info_t) (n : ℕ)
+pub behind-reach : (p : List hb_glyph_info_t → Bool) → p [] ≡ false → (gs : List hb_glyph_info_t) (n : ℕ)
     → p (drop (reach_of p gs n) gs) ≡ false
 behind-reach p z [] n = z
 behind-reach p z (x ∷ gs) zero =
@@ -225,7 +225,7 @@ with_lead g gs n ss e h c =
       cut = subst (λ k. IsCutFrom g (drop k gs) ss) (sym e) c;
     }
 
-covered : (n : ℕ) (spans : List Span) → spans_cover n spans ≡ true → sum_by (λ (s : Span). s.len) spans ≡ n
+pub covered : (n : ℕ) (spans : List Span) → spans_cover n spans ≡ true → sum_by (λ (s : Span). s.len) spans ≡ n
 covered n spans h =
     eqb-true (sum_by (λ (s : Span). s.len) spans) n
     (second_so (list_all (λ (s : Span). nat_lt 0 s.len) spans) (sum_by (λ (s : Span). s.len) spans == n) h)

@@ -7,7 +7,8 @@ use Rattle.shapers_buffer.specs.Properties.{general_category}
 -- whether the first glyph that isn't CGJ is a mark
 abbrev pub next_is_mark : List hb_glyph_info_t → Bool
 next_is_mark [] = false
-next_is_mark (g ∷ gs) = if g.category == 6 then next_is_mark gs else is_mark (general_category g.unicode_props)
+next_is_mark (g ∷ gs) =
+    if g.category == 6 then next_is_mark gs else is_mark (general_category g.unicode_props)
 
 -- whether the text begins with a glyph that is passed over
 abbrev pub opens_passed : List hb_glyph_info_t → Bool

@@ -93,7 +93,7 @@ last_run_after test front run stops passes =
     )
 
 -- what stands before doesn't matter where a list ends with no run
-stops_behind : {X : Type 0} (test : X → Bool) (front back : List X) → suffix_len test (front ++ back) ≡ 0
+pub stops_behind : {X : Type 0} (test : X → Bool) (front back : List X) → suffix_len test (front ++ back) ≡ 0
     → suffix_len test back ≡ 0
 stops_behind test front back h =
     elim (last_of back) [
@@ -198,11 +198,11 @@ in_word_other g h = (and_parts (other g) _ h).0
 ends_with_tile : (front : List Cell) (a : Cell) → suffix_len other (front ++ a ∷ []) ≡ 0 → tile a ≡ true
 ends_with_tile front a h = not-false (tile a) (last_fails other front a h)
 
-alone : (others tiles : List Cell) → list_all other others ≡ true → list_all tile tiles ≡ true
+pub as_one_part : (others tiles : List Cell) → list_all other others ≡ true → list_all tile tiles ≡ true
     → 0 < length (others ++ tiles) → parts_of_text (others ++ tiles) ≡ (others ++ tiles) ∷ []
-alone [] [] h p some = absurd (omega arith)
-alone [] (t ∷ tiles) h p some = tiles_alone t tiles p
-alone (x ∷ others) tiles h p some = one_part x others tiles h p
+as_one_part [] [] h p some = absurd (omega arith)
+as_one_part [] (t ∷ tiles) h p some = tiles_alone t tiles p
+as_one_part (x ∷ others) tiles h p some = one_part x others tiles h p
 
 behind_tile : (front : List Cell) (a : Cell) (others tiles : List Cell) → tile a ≡ true
     → suffix_len tile ((front ++ a ∷ []) ++ others) ≡ 0 → list_all other others ≡ true → list_all tile tiles ≡ true
@@ -224,7 +224,7 @@ parted_at front others tiles s t h p some =
       | inl none ↦
           let P : List Cell → Type 0 = λ f. parts_of_text (f ++ (others ++ tiles)) ≡ parts_of_text f
           ++ (others ++ tiles) ∷ [] in
-          subst P (sym none) (alone others tiles h p some)
+          subst P (sym none) (as_one_part others tiles h p some)
       | inr q ↦
           let P : List Cell → Type 0 = λ f. suffix_len other f ≡ 0 → suffix_len tile (f ++ others) ≡ 0
           → parts_of_text (f ++ (others ++ tiles)) ≡ parts_of_text f ++ (others ++ tiles) ∷ [] in

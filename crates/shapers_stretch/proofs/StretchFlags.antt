@@ -35,7 +35,7 @@ every_drop P zero xs all = all
 every_drop P (suc n) [] all = tt
 every_drop P (suc n) (x ∷ xs) all = every_drop P n xs all.1
 
-every_reverse : {X : Type 0} (P : X → Type 0) (xs : List X) → AllByRecursion P xs → AllByRecursion P (reverse xs)
+pub every_reverse : {X : Type 0} (P : X → Type 0) (xs : List X) → AllByRecursion P xs → AllByRecursion P (reverse xs)
 every_reverse P [] all = tt
 every_reverse P (x ∷ xs) all =
     subst (AllByRecursion P) (sym (reverse-append (x ∷ []) xs))

@@ -15,9 +15,8 @@ ghost use Rattle.shapers_indic_final.specs.LeftMatraWalk.{Merged, Reaches, as_pa
 
 use super::matras::is_left;
 use super::moves::move_matra;
-use shapers_base::buffer::{
-    BufferClusterLevel, GlyphChange, Placement, hb_buffer_t, hb_glyph_info_t,
-};
+use shapers_base::buffer::{BufferClusterLevel, Placement, hb_buffer_t, hb_glyph_info_t};
+use shapers_clusters::into_cluster::IntoCluster;
 
 // What merges have put into two clusters, which aren't written yet: where the glyphs before the
 // matras start, up to these, and their cluster; the place behind the glyphs from the matras on, and
@@ -273,26 +272,6 @@ fn move_matras(top: usize, buffer: &mut hb_buffer_t, s: usize, e: usize) -> usiz
     at
 }
 
-// A cluster that glyphs are put into.
-#[derive(Clone, Copy)]
-struct PutInCluster {
-    cluster: u32,
-}
-
-impl GlyphChange for PutInCluster {
-    ghost use Rattle.shapers_buffer.specs.Clusters.{in_cluster};
-
-    ghost changed = { λ change g. in_cluster change.cluster g };
-
-    #[inline]
-    fn change(&self, glyph: &mut hb_glyph_info_t) {
-        if glyph.cluster != self.cluster {
-            glyph.cluster = self.cluster;
-            glyph.mask &= !7;
-        }
-    }
-}
-
 // Puts the glyphs from `s` to `e` into a cluster, at a level that merges.
 #[inline]
 fn put(buffer: &mut hb_buffer_t, s: usize, e: usize, cluster: u32)
@@ -304,7 +283,7 @@ fn put(buffer: &mut hb_buffer_t, s: usize, e: usize, cluster: u32)
 {
     match buffer.cluster_level() {
         BufferClusterLevel::MonotoneGraphemes | BufferClusterLevel::MonotoneCharacters => {
-            buffer.change_each(s, e, &PutInCluster { cluster });
+            buffer.change_each(s, e, &IntoCluster(cluster));
         }
         BufferClusterLevel::Characters => {}
     }

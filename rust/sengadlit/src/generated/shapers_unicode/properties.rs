@@ -32,10 +32,10 @@ use crate::generated::shapers_unicode::tables::universal::{
 /// # Contract
 ///
 /// ```text
-/// ensures { result ≡ general_category c }
+/// ensures { result ≡ category_of_character c }
 /// ```
 ///
-/// - `general_category`: `crates/shapers_unicode/specs/General.antt`
+/// - `category_of_character`: `crates/shapers_unicode/specs/General.antt`
 ///
 /// </details>
 pub fn general_category(c: char) -> GeneralCategory {

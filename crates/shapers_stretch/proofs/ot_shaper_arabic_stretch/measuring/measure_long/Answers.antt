@@ -1,9 +1,10 @@
-use Rattle.std.proofs.Common.{◌≡◌, ◌&&◌, true, false, ◌<◌, ◌≤◌, ◌+ℤ◌, ◌≤ℤ◌, ◌*◌, ◌-◌, neg_ℤ, pos, not, length, map, sym, subst, ap, ◌∙◌, arith, rules, length-append, FitsSigned, List, to_z, of_z, [], ◌∷◌, ◌++◌}
+use Rattle.std.proofs.Common.{◌≡◌, ◌&&◌, true, false, ◌<◌, ◌≤◌, ◌+ℤ◌, ◌≤ℤ◌, ◌*◌, ◌-◌, neg_ℤ, pos, not, length, map, sym, subst, ap, ◌∙◌, arith, rules, length-append, FitsSigned, to_z, of_z, [], ◌∷◌}
 use Rattle.std.specs.List.{AllByRecursion, list_all}
 use Rattle.std.proofs.lemmas.Bool.{and_right}
 use Rattle.std.proofs.lemmas.Int.{to_z-of_z}
 use Rattle.std.specs.Slice.Iter.{chunks_rest}
 use mir.Syntax.{w64, w128}
+use Rattle.shapers_clusters.proofs.LabelsAsMerged.{all_split}
 use Rattle.shapers_stretch.specs.Cells.{repeats}
 use Rattle.shapers_stretch.specs.Lays.{MeasuresRun}
 use Rattle.shapers_stretch.specs.Measure.{fits_i32, left, total}
@@ -12,10 +13,6 @@ use Rattle.shapers_stretch.specs.declared.ot_shaper_arabic_stretch.measuring.Run
 use Rattle.shapers_stretch.proofs.Numbers.{repeating_apart, same_run}
 use Rattle.shapers_stretch.proofs.Sums.{PieceBounds, kept_counted, kept_piece_counted, kept_piece_summed, kept_summed, length_kept, piece_bounds}
 use Rattle.shapers_stretch.proofs.ot_shaper_arabic_stretch.measuring.measure_long.Goals as goal
-
-split_all : {X : Type 0} (P : X → Type 0) (xs ys : List X) → AllByRecursion P (xs ++ ys) → AllByRecursion P ys
-split_all P [] ys h = h
-split_all P (x ∷ xs) ys h = split_all P xs ys h.1
 
 pub overflow_add-repeaters : goal.overflow_add-repeaters
 overflow_add-repeaters g c =
@@ -76,7 +73,7 @@ loop-piece-preserved g c =
       tt,
       steps.0 ∙ inv.2,
       omega (arith, less, inv.3),
-      split_all (λ g. g.glyph_id ≤ 65535) piece rest (subst (AllByRecursion (λ g. g.glyph_id ≤ 65535)) steps.1.0 inv.4),
+      (all_split (λ g. g.glyph_id ≤ 65535) piece rest (subst (AllByRecursion (λ g. g.glyph_id ≤ 65535)) steps.1.0 inv.4)).1,
       ap (λ x. x +ℤ total (map (width_of font) (fixed rest))) same ∙ summed,
       ap (λ x. x +ℤ total (map (width_of font) (repeating rest))) same_2 ∙ summed_2,
       counted,

@@ -8,9 +8,8 @@
 
 use super::matras::is_left;
 use super::moves::move_matra;
-use crate::generated::shapers_base::buffer::{
-    Buffer, BufferClusterLevel, GlyphChange, GlyphInfo, Placement,
-};
+use crate::generated::shapers_base::buffer::{Buffer, BufferClusterLevel, GlyphInfo, Placement};
+use crate::generated::shapers_clusters::into_cluster::IntoCluster;
 
 // What merges have put into two clusters, which aren't written yet: where the glyphs before the
 // matras start, up to these, and their cluster; the place behind the glyphs from the matras on, and
@@ -181,28 +180,12 @@ fn move_matras(top: usize, buffer: &mut Buffer, s: usize, e: usize) -> usize {
     at
 }
 
-// A cluster that glyphs are put into.
-#[derive(Clone, Copy)]
-struct PutInCluster {
-    cluster: u32,
-}
-
-impl GlyphChange for PutInCluster {
-    #[inline]
-    fn change(&self, glyph: &mut GlyphInfo) {
-        if glyph.cluster != self.cluster {
-            glyph.cluster = self.cluster;
-            glyph.mask &= !7;
-        }
-    }
-}
-
 // Puts the glyphs from `s` to `e` into a cluster, at a level that merges.
 #[inline]
 fn put(buffer: &mut Buffer, s: usize, e: usize, cluster: u32) {
     match buffer.cluster_level() {
         BufferClusterLevel::MonotoneGraphemes | BufferClusterLevel::MonotoneCharacters => {
-            buffer.change_each(s, e, &PutInCluster { cluster });
+            buffer.change_each(s, e, &IntoCluster(cluster));
         }
         BufferClusterLevel::Characters => {}
     }

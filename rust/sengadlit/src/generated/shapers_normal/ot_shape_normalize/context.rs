@@ -146,7 +146,8 @@ pub trait NormalizeContext {
     /// </details>
     fn invisible_glyph(&self) -> Option<GlyphId>;
 
-    /// Whether the caller has a glyph for selectors that select nothing: they aren't ignorable then.
+    /// Whether the caller has a glyph for selectors that select nothing: they aren't ignorable
+    /// then.
     ///
     /// <details><summary>Contract</summary>
     ///

@@ -39,9 +39,10 @@ type Parts = ArrayVec<u32, MAX_PARTS>;
 /// Takes the characters of a text apart, as far as the font has the parts, and writes the number of
 /// each character's glyph to `glyph_props`. A character alone that the font has stays, unless the
 /// shaper wants letters and marks apart; one with marks comes apart, unless the shaper wants no
-/// normalization. Parts keep the cluster of what they came from. A cluster with a variation selector
-/// stays; the font's glyph for a character and a selector stands for both. Refuses by the number of
-/// glyphs, and then nothing has changed. A text of which nothing comes apart takes no memory.
+/// normalization. Parts keep the cluster of what they came from. A cluster with a variation
+/// selector stays; the font's glyph for a character and a selector stands for both. Refuses by the
+/// number of glyphs, and then nothing has changed. A text of which nothing comes apart takes no
+/// memory.
 ///
 /// # Errors
 ///
@@ -57,12 +58,15 @@ type Parts = ArrayVec<u32, MAX_PARTS>;
 ///
 /// ```text
 /// requires { buffer.old.positions ≡ [] }
-/// ensures ok { let text = first_round (C.context context.now) buffer.old.level buffer.old.glyphs in
+/// ensures ok { let context = C.context context.now in
+///     let text = first_round context buffer.old.level buffer.old.glyphs in
 ///     OnOk result (buffer.new ≡ record buffer.old { glyphs = text }) }
-/// ensures length { let text = first_round (C.context context.now) buffer.old.level buffer.old.glyphs in
+/// ensures length { let context = C.context context.now in
+///     let text = first_round context buffer.old.level buffer.old.glyphs in
 ///     RefusesLength buffer.old.max_len (length text) result }
 /// ensures memory { is_whole (C.context context.now) buffer.old.glyphs ≡ true → IsOk result }
-/// ensures in_place { stays_together (C.context context.now) buffer.old.glyphs ≡ true → IsOk result }
+/// ensures in_place { let context = C.context context.now in
+///     stays_together context buffer.old.glyphs ≡ true → IsOk result }
 /// ensures err { OnErr result (buffer.new ≡ buffer.old) }
 /// ```
 ///

@@ -25,10 +25,10 @@ pub enum Rounds {
 }
 
 /// Normalizes a text without positions, whose glyphs are characters with their properties: takes
-/// them apart, orders the marks, and composes what the font has. `glyph_props` is then the number of
-/// each character's glyph. Refuses where the text taken apart is longer than the buffer may be, and
-/// then nothing has changed. A text of which nothing comes apart takes no memory. (Unicode Standard
-/// Annex 15; HarfBuzz's order of rounds.)
+/// them apart, orders the marks, and composes what the font has. `glyph_props` is then the number
+/// of each character's glyph. Refuses where the text taken apart is longer than the buffer may be,
+/// and then nothing has changed. A text of which nothing comes apart takes no memory. (Unicode
+/// Standard Annex 15; HarfBuzz's order of rounds.)
 ///
 /// # Errors
 ///
@@ -47,10 +47,12 @@ pub enum Rounds {
 /// ensures ok { let context = C.context context.now in
 ///     let text = normalized context rounds buffer.old.level buffer.old.glyphs in
 ///     OnOk result (buffer.new ≡ record buffer.old { glyphs = text }) }
-/// ensures length { let text = first_round (C.context context.now) buffer.old.level buffer.old.glyphs in
+/// ensures length { let context = C.context context.now in
+///     let text = first_round context buffer.old.level buffer.old.glyphs in
 ///     RefusesLength buffer.old.max_len (length text) result }
 /// ensures memory { is_whole (C.context context.now) buffer.old.glyphs ≡ true → IsOk result }
-/// ensures in_place { stays_together (C.context context.now) buffer.old.glyphs ≡ true → IsOk result }
+/// ensures in_place { let context = C.context context.now in
+///     stays_together context buffer.old.glyphs ≡ true → IsOk result }
 /// ensures err { OnErr result (buffer.new ≡ buffer.old) }
 /// ```
 ///

@@ -31,7 +31,8 @@ fn joiner_class(c: u32) -> u8 {
     }
 }
 
-/// Makes a glyph a character, with its properties and with the number of its glyph in `glyph_props`.
+/// Makes a glyph a character, with its properties and with the number of its glyph in
+/// `glyph_props`.
 #[inline]
 pub(super) fn set_character<C: NormalizeContext>(
     context: &C,

@@ -7,9 +7,10 @@ use super::context::NormalizeContext;
 use super::properties::set_character;
 use super::sorting::{class, is_mark, merges};
 use crate::generated::shapers_base::buffer::{
-    BufferClusterLevel, GlyphChange, GlyphInfo, change_each_in, merge_clusters_in,
+    BufferClusterLevel, GlyphInfo, change_each_in, merge_clusters_in,
 };
 use crate::generated::shapers_base::font::GlyphId;
+use crate::generated::shapers_clusters::into_cluster::IntoCluster;
 
 /// Composes each starter with the marks behind it that nothing keeps apart from it, as far as the
 /// shaper composes them and the font has the character. A mark that is taken in comes into one
@@ -162,20 +163,6 @@ fn count_in(glyphs: &[GlyphInfo], cluster: u32) -> usize {
         .iter()
         .take_while(|glyph| glyph.cluster == cluster)
         .count()
-}
-
-// Puts a glyph into a cluster; if that is another one, its glyph flags go.
-#[derive(Clone, Copy)]
-struct IntoCluster(u32);
-
-impl GlyphChange for IntoCluster {
-    #[inline]
-    fn change(&self, glyph: &mut GlyphInfo) {
-        if glyph.cluster != self.0 {
-            glyph.cluster = self.0;
-            glyph.mask &= !7;
-        }
-    }
 }
 
 // A walk that takes glyphs out: what stays lies before `to`, what is still to come from `from` on,
