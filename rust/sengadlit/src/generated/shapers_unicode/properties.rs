@@ -40,7 +40,7 @@ use crate::generated::shapers_unicode::tables::universal::{
 /// </details>
 pub fn general_category(c: char) -> GeneralCategory {
     let number = value_of(&GENERAL_INDEX, &GENERAL_BLOCKS, &GENERAL_TAIL, c as u32);
-    GeneralCategory::from_number(number).unwrap_or(GeneralCategory::Cn)
+    GeneralCategory::from_number_or_unassigned(number)
 }
 
 /// How a character joins its neighbours.
