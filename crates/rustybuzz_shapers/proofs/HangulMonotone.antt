@@ -11,6 +11,7 @@ use Rattle.shapers_base.specs.Font.{Font, dotted_circle, has_nominal}
 use Rattle.shapers_clusters.specs.ClusterMerges.{joined_all}
 use Rattle.shapers_clusters.specs.Cuts.{EndWithin, OneAlong}
 use Rattle.shapers_clusters.proofs.Cuts.{stays_falling, stays_rising}
+use Rattle.shapers_clusters.proofs.LabelsAsMerged.{all_split}
 use Rattle.shapers_clusters.proofs.Merging.{length-merge_all}
 use Rattle.shapers_clusters.proofs.Moves.{HeldIn, all_held, clusters-merge_all, held_share}
 use Rattle.shapers_hangul.specs.Hangul.{allows_circles, combines_l, combines_t, combines_v, first_item, first_unit, has_jamo_of, is_l, is_lv, is_narrow, is_s, is_syllable, is_t, is_tone, is_v, item_len, item_output, item_stretches, items, items_from, marked_from, opening_unit, outputs, stretches, taken, tone_len, tone_stretch, unit_output, unit_stretch, with_t, with_tone, with_v}
@@ -134,17 +135,9 @@ unit_keeps P R self font circles u v t ws =
     (λ _. first_taken P R 0 ws)))
 
 -- PARTS of a list
-all_left : {X : Type 0} (P : X → Type 0) (xs ys : List X) → AllByRecursion P (xs ++ ys) → AllByRecursion P xs
-all_left P [] ys own = tt
-all_left P (x ∷ xs) ys own = (own.0, all_left P xs ys own.1)
-
-all_right : {X : Type 0} (P : X → Type 0) (xs ys : List X) → AllByRecursion P (xs ++ ys) → AllByRecursion P ys
-all_right P [] ys own = own
-all_right P (x ∷ xs) ys own = all_right P xs ys own.1
-
 ordered_left : (R : ℕ → ℕ → Type 0) (xs ys : List ℕ) → Ordered R (xs ++ ys) → Ordered R xs
 ordered_left R [] ys own = tt
-ordered_left R (x ∷ xs) ys own = (all_left (R x) xs ys own.0, ordered_left R xs ys own.1)
+ordered_left R (x ∷ xs) ys own = ((all_split (R x) xs ys own.0).0, ordered_left R xs ys own.1)
 
 ordered_right : (R : ℕ → ℕ → Type 0) (xs ys : List ℕ) → Ordered R (xs ++ ys) → Ordered R ys
 ordered_right R [] ys own = own
@@ -153,7 +146,7 @@ ordered_right R (x ∷ xs) ys own = ordered_right R xs ys own.1
 ordered_across : (R : ℕ → ℕ → Type 0) (xs ys : List ℕ) → Ordered R (xs ++ ys)
     → AllByRecursion (λ x. AllByRecursion (R x) ys) xs
 ordered_across R [] ys own = tt
-ordered_across R (x ∷ xs) ys own = (all_right (R x) xs ys own.0, ordered_across R xs ys own.1)
+ordered_across R (x ∷ xs) ys own = ((all_split (R x) xs ys own.0).1, ordered_across R xs ys own.1)
 
 -- What keeps, whatever holds of all. Two parts that each do:
 abbrev pub KeepsEach : (ℕ → ℕ → Type 0) → List ℕ → List ℕ → Type 1
@@ -162,7 +155,7 @@ KeepsEach R xs ys = (P : ℕ → Type 0) → Keeps P R xs ys
 pub keeps_both : (R : ℕ → ℕ → Type 0) (xs ys us vs : List ℕ) → KeepsEach R xs us → KeepsEach R ys vs
     → KeepsEach R (xs ++ ys) (us ++ vs)
 keeps_both R xs ys us vs first second P = record {
-  all = λ own. all_append P us vs ((first P).all (all_left P xs ys own)) ((second P).all (all_right P xs ys own));
+  all = λ own. all_append P us vs ((first P).all (all_split P xs ys own).0) ((second P).all (all_split P xs ys own).1);
   ordered = λ own.
       ordered_append R us vs ((first P).ordered (ordered_left R xs ys own))
       ((second P).ordered (ordered_right R xs ys own))
@@ -175,7 +168,7 @@ keeps_both R xs ys us vs first second P = record {
 keeps_turned : (R : ℕ → ℕ → Type 0) → OfItself R → (xs us : List ℕ) (y : ℕ) → KeepsEach R xs us
     → AllByRecursion (λ x. x ≡ y) xs → KeepsEach R (xs ++ y ∷ []) (y ∷ us)
 keeps_turned R self xs us y first same P = record {
-  all = λ own. ((all_right P xs (y ∷ []) own).0, (first P).all (all_left P xs (y ∷ []) own));
+  all = λ own. ((all_split P xs (y ∷ []) own).1.0, (first P).all (all_split P xs (y ∷ []) own).0);
   ordered = λ own. (
     all_weaker (λ x. x ≡ y) (R y) (λ x is. subst (R y) (sym is) (self y)) us ((first (λ x. x ≡ y)).all same),
     (first P).ordered (ordered_left R xs (y ∷ []) own),
@@ -262,12 +255,11 @@ keeps_from R self level font circles xs place zero (u ∷ us) all few one P =
     let fits : k ≤ suc (length us) = first_item-within font circles (u ∷ us) (omega arith) in
     let some = taken_some item.unit in
     let ws = drop place xs in
-    let tone = all_right (OneAlong xs) (unit_stretch level item.unit place)
-    (tone_stretch item.tone place (place + taken item.unit))
-    (all_left (OneAlong xs) (item_stretches level item place) (stretches level rest) one) in
+    let parts = all_split (OneAlong xs) (item_stretches level item place) (stretches level rest) one in
+    let tone = (all_split (OneAlong xs) (unit_stretch level item.unit place)
+    (tone_stretch item.tone place (place + taken item.unit)) parts.0).1 in
     let later = keeps_from R self level font circles xs (place + 1) (k - 1) us (omega (arith, all))
-    (omega (arith, fits, some))
-    (all_right (OneAlong xs) (item_stretches level item place) (stretches level rest) one) in
+    (omega (arith, fits, some)) parts.1 in
     let there : place + k ≡ (place + 1) + (k - 1) = omega (arith, some) in
     let here : place + 0 ≡ place = omega arith in
     keeps_by R (drop (place + 0) xs) (take k ws ++ drop ((place + 1) + (k - 1)) xs) (item_output place_copies item ws

@@ -1,9 +1,8 @@
 -- A Thai text cut before a glyph that is neither an above-base mark nor a SARA AM, and with private use forms no mark.
-use Rattle.std.proofs.Common.{ℕ, suc, ◌<◌, ◌≡◌, Bool, true, false, cond, ◌&&◌, ◌||◌, List, [], ◌∷◌, ◌++◌, length, map, reverse, refl, sym, ap, ◌∙◌, arith}
+use Rattle.std.proofs.Common.{ℕ, suc, ◌<◌, ◌≡◌, Bool, true, false, cond, ◌&&◌, List, [], ◌∷◌, ◌++◌, length, map, reverse, refl, sym, ap, ◌∙◌, arith}
 use Rattle.std.specs.Prelude.{if◌then◌else◌}
-use Rattle.std.specs.List.{count_by, list_any, take_while}
-use Rattle.std.proofs.lemmas.List.{append_assoc, length-map, length-reverse, map-append, reverse-append}
-use Rattle.std.proofs.lemmas.List.Sums.{take_while-cons}
+use Rattle.std.specs.List.{count_by}
+use Rattle.std.proofs.lemmas.List.{append-nil, append_assoc, length-map, length-reverse, map-append, reverse-append}
 use Rattle.std.proofs.lemmas.Simd.{map-map}
 use Rattle.shapers_buffer.specs.declared.buffer.glyph.hb_glyph_info_t.{hb_glyph_info_t}
 use Rattle.shapers_buffer.specs.declared.buffer.level.BufferClusterLevel.{BufferClusterLevel}
@@ -17,6 +16,7 @@ use Rattle.shapers_clusters.proofs.Merging.{order_view-merge_all}
 use Rattle.shapers_text.specs.Thai.{SaraAmRule, glyph_rule, glyphs_in_two, in_two, is_above, is_am, nikhahit, sara_aa, sara_am_stretches}
 use Rattle.shapers_text.specs.ThaiForms.{action_after, action_of, base_type, below_action, consonant_type, form_between, forms_between, has_below, is_removable, is_thai_mark, last_type, mark_stretches, mark_type, stands_above, stands_below, marks_above, marks_below, preprocessed_text, pua_shaped, shaped_by, with_character, with_characters, with_thai_forms}
 use Rattle.shapers_text.specs.ThaiWalk.{text_with_pending}
+use Rattle.shapers_text.proofs.ThaiFormLaws.{below_stop}
 use Rattle.shapers_text.proofs.ThaiFormWalks.{in_order}
 use Rattle.shapers_text.proofs.ThaiInTwo.{held_push_other, in_two-map, in_two_push, in_two_push_am, pending_push_mark}
 
@@ -169,21 +169,9 @@ forms_behind has us v vs after h =
     ∙ ap (λ b. cond b (shaped_by has v (action_after [] v)) plainly ∷ forms_between has (v ∷ []) vs after) (sym h)
 
 -- nor is what stands behind it seen before it
-below-cons : (u : ℕ) (us : List ℕ)
-    → has_below (u ∷ us) ≡ cond (is_thai_mark u) (stands_below (mark_type u) || has_below us) false
-below-cons u us =
-    ap (list_any (λ v. stands_below (mark_type v))) (take_while-cons is_thai_mark u us)
-    ∙ elim (is_thai_mark u) as (λ b. list_any (λ v. stands_below (mark_type v)) (cond b (u ∷ take_while is_thai_mark us)
-    []) ≡ cond b (stands_below (mark_type u) || has_below us) false) [ true ↦ refl | false ↦ refl ]
-
 below_stops : (us : List ℕ) (v : ℕ) (vs : List ℕ) → is_thai_mark v ≡ false → has_below ((us ++ v ∷ vs) ++ [])
     ≡ has_below (us ++ [])
-below_stops [] v vs h = below-cons v (vs ++ [])
-    ∙ ap (λ b. cond b (stands_below (mark_type v) || has_below (vs ++ [])) false) h
-below_stops (u ∷ us) v vs h =
-    below-cons u ((us ++ v ∷ vs) ++ [])
-    ∙ ap (λ b. cond (is_thai_mark u) (stands_below (mark_type u) || b) false) (below_stops us v vs h)
-    ∙ sym (below-cons u (us ++ []))
+below_stops us v vs h = ap has_below (append-nil (us ++ v ∷ vs)) ∙ below_stop us v vs h
 
 forms_cut : (has : ℕ → Bool) (before us : List ℕ) (v : ℕ) (vs : List ℕ) → is_thai_mark v ≡ false
     → forms_between has before (us ++ v ∷ vs) [] ≡ forms_between has before us [] ++ forms_between has [] (v ∷ vs) []

@@ -13,6 +13,7 @@ use Rattle.shapers_buffer.specs.Syllables.{syllables}
 use Rattle.shapers_clusters.specs.Breaks.{IsClear}
 use Rattle.shapers_clusters.specs.Cuts.{IsMonotone}
 use Rattle.shapers_clusters.specs.Steps.{FitsStep, MovesMerged, Permutes, Step, run_steps}
+use Rattle.shapers_clusters.proofs.Cuts.{falling_to, rising_to}
 use Rattle.shapers_clusters.proofs.Proved.{along_holds}
 use Rattle.shapers_syllabic.specs.Circles.{circle_in, circled, circled_syllable, is_of_kind, rephas_len, with_circle}
 use Rattle.shapers_syllabic.specs.Reordering.{carried, text_order, text_steps}
@@ -25,7 +26,7 @@ use Rattle.shapers_syllabic.proofs.ReorderingLaws.{each_piece, nothing_lost, sum
 use Rattle.shapers_syllabic.proofs.ReorderingLemmas.{carried_hides}
 use Rattle.shapers_syllabic.proofs.ReorderingWalk.{pieces_of}
 use Rattle.shapers_breaks.specs.SetUp.{FlaggedAt}
-use Rattle.shapers_breaks.proofs.ClearSteps.{clear_before, up_to, down_to}
+use Rattle.shapers_breaks.proofs.ClearSteps.{clear_before}
 use Rattle.shapers_breaks.proofs.Guarded.{IsWhole, border_or_flagged, circled_whole, clear_not_flagged}
 use Rattle.shapers_breaks.proofs.SetUp.{Glyphs}
 
@@ -141,14 +142,14 @@ apart_at cs ds mono a b ne i j il jl same =
     (λ k. get_or ds k 0) back in
     elim mono [
       | inl up ↦
-          let x = up_to all up i (n - 1) (omega arith) (omega arith) in
-          let y = up_to all up (n - 1) n (omega arith) (omega arith) in
-          let z = up_to all up n (n + j) (omega arith) (omega arith) in
+          let x = rising_to all up i (n - 1) (omega arith) (omega arith) in
+          let y = rising_to all up (n - 1) n (omega arith) (omega arith) in
+          let z = rising_to all up n (n + j) (omega arith) (omega arith) in
           ne (omega arith)
       | inr down ↦
-          let x = down_to all down i (n - 1) (omega arith) (omega arith) in
-          let y = down_to all down (n - 1) n (omega arith) (omega arith) in
-          let z = down_to all down n (n + j) (omega arith) (omega arith) in
+          let x = falling_to all down i (n - 1) (omega arith) (omega arith) in
+          let y = falling_to all down (n - 1) n (omega arith) (omega arith) in
+          let z = falling_to all down n (n + j) (omega arith) (omega arith) in
           ne (omega arith)
     ]
 

@@ -18,6 +18,7 @@ use Rattle.shapers_clusters.specs.Cuts.{ExactCuts, IsFalling, IsMonotone, IsRisi
 use Rattle.shapers_clusters.specs.Flags.{FlagsFall, bit_at}
 use Rattle.shapers_clusters.specs.Steps.{MovesMerged, Permutes, Step, all_first, old_places}
 use Rattle.shapers_clusters.specs.Laws.{ReorderedHold}
+use Rattle.shapers_clusters.proofs.Cuts.{falling_to, rising_to}
 use Rattle.shapers_clusters.proofs.Moves.{length-old_places, merged_fits, within-old_places}
 use Rattle.shapers_clusters.proofs.Permuted.{moved-permuted, picked-permuted}
 use Rattle.shapers_clusters.proofs.Picks.{get_or-pick, length-pick, within_at}
@@ -54,18 +55,6 @@ falls : (cs : List ℕ) (sts : List (ℕ × ℕ)) (js : List ℕ) → ExactCuts 
     → get_or js a 0 ≤ get_or cs a 0
 falls cs sts js x a l = x.least a a l l (λ k b c. absurd (omega arith))
 
-pub up_to : (cs : List ℕ) → IsRising cs → (a b : ℕ) → a ≤ b → b < length cs → get_or cs a 0 ≤ get_or cs b 0
-up_to cs up a b h l = elim (cases_lt a b) [
-  | inl less ↦ up a b 0 less l
-  | inr more ↦ let same : a ≡ b = omega arith in omega (arith, ap (λ k. get_or cs k 0) same)
-]
-
-pub down_to : (cs : List ℕ) → IsFalling cs → (a b : ℕ) → a ≤ b → b < length cs → get_or cs b 0 ≤ get_or cs a 0
-down_to cs down a b h l = elim (cases_lt a b) [
-  | inl less ↦ down a b 0 less l
-  | inr more ↦ let same : a ≡ b = omega arith in omega (arith, ap (λ k. get_or cs k 0) same)
-]
-
 -- the greater cluster at a cut stays, and so do all that were in it
 pub record Stays (cs js : List ℕ) (p : ℕ) : Type 0 where
   pub greatest : max (get_or js (p - 1) 0) (get_or js p 0) ≡ max (get_or cs (p - 1) 0) (get_or cs p 0)
@@ -82,18 +71,18 @@ stays_up : (cs : List ℕ) (sts : List (ℕ × ℕ)) (js : List ℕ) → ExactCu
     → p < length cs → get_or js (p - 1) 0 ≢ get_or js p 0 → Stays cs js p
 stays_up cs sts js x up p z l ne =
     let old = differ_before cs sts js x p z l ne in
-    let step = up_to cs up (p - 1) p (omega arith) l in
+    let step = rising_to cs up (p - 1) p (omega arith) l in
     let (q, far, ql, is) = behind_cut cs sts js x p p z l ne (omega arith) l in
-    let least = up_to cs up p q far ql in
+    let least = rising_to cs up p q far ql in
     let own = falls cs sts js x p l in
     let before = falls cs sts js x (p - 1) (omega arith) in
     record {
       greatest = omega arith;
       each = λ k kl e. elim (cases_lt k p) [
-        | inl less ↦ let low = up_to cs up k (p - 1) (omega arith) (omega arith) in absurd (omega arith)
+        | inl less ↦ let low = rising_to cs up k (p - 1) (omega arith) (omega arith) in absurd (omega arith)
         | inr more ↦
             let (r, rf, rl, rs) = behind_cut cs sts js x p k z l ne more kl in
-            let bound = up_to cs up p r rf rl in
+            let bound = rising_to cs up p r rf rl in
             let fell = falls cs sts js x k kl in
             omega arith
       ];
@@ -103,9 +92,9 @@ stays_down : (cs : List ℕ) (sts : List (ℕ × ℕ)) (js : List ℕ) → Exact
     → p < length cs → get_or js (p - 1) 0 ≢ get_or js p 0 → Stays cs js p
 stays_down cs sts js x down p z l ne =
     let old = differ_before cs sts js x p z l ne in
-    let step = down_to cs down (p - 1) p (omega arith) l in
+    let step = falling_to cs down (p - 1) p (omega arith) l in
     let (q, near, is) = before_cut cs sts js x p (p - 1) z l ne (omega arith) in
-    let least = down_to cs down q (p - 1) (omega arith) (omega arith) in
+    let least = falling_to cs down q (p - 1) (omega arith) (omega arith) in
     let own = falls cs sts js x (p - 1) (omega arith) in
     let behind = falls cs sts js x p l in
     record {
@@ -113,10 +102,10 @@ stays_down cs sts js x down p z l ne =
       each = λ k kl e. elim (cases_lt k p) [
         | inl less ↦
             let (r, rn, rs) = before_cut cs sts js x p k z l ne less in
-            let bound = down_to cs down r (p - 1) (omega arith) (omega arith) in
+            let bound = falling_to cs down r (p - 1) (omega arith) (omega arith) in
             let fell = falls cs sts js x k kl in
             omega arith
-        | inr more ↦ let low = down_to cs down p k more kl in absurd (omega arith)
+        | inr more ↦ let low = falling_to cs down p k more kl in absurd (omega arith)
       ];
     }
 

@@ -16,8 +16,8 @@ use Rattle.shapers_syllabic.specs.Circles.{circle_in, circled, is_of_kind, repha
 use Rattle.shapers_syllabic.specs.declared.ot_shaper_syllabic.circles.DottedCircles.{DottedCircles}
 use Rattle.shapers_syllabic.proofs.Borders.{syllables_cut}
 use Rattle.shapers_syllabic.proofs.CircleLaws.{joined-syllables}
+use Rattle.shapers_clusters.proofs.Cuts.{falling_to, rising_to}
 use Rattle.shapers_breaks.proofs.CircledBorders.{OpenedBorder, circled_is, opened_piece}
-use Rattle.shapers_breaks.proofs.ClearSteps.{down_to, up_to}
 use Rattle.shapers_breaks.proofs.KeptBorders.{syllable_cut}
 use Rattle.shapers_breaks.proofs.SetUp.{Glyphs}
 use Rattle.shapers_breaks.proofs.UniversalSound.{none_empty}
@@ -145,12 +145,12 @@ circle_last g c gs same mono =
     let end : get_or cs m 0 ≡ c.cluster = ap (λ k. get_or cs k 0) (sym place) ∙ last in
     elim mono [
       | inl up ↦
-          let a = up_to cs up 0 (m - 1) (omega arith) (omega arith) in
-          let b = up_to cs up (m - 1) m (omega arith) (omega arith) in
+          let a = rising_to cs up 0 (m - 1) (omega arith) (omega arith) in
+          let b = rising_to cs up (m - 1) m (omega arith) (omega arith) in
           omega arith
       | inr down ↦
-          let a = down_to cs down 0 (m - 1) (omega arith) (omega arith) in
-          let b = down_to cs down (m - 1) m (omega arith) (omega arith) in
+          let a = falling_to cs down 0 (m - 1) (omega arith) (omega arith) in
+          let b = falling_to cs down (m - 1) m (omega arith) (omega arith) in
           omega arith
     ]
 

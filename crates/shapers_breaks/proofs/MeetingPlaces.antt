@@ -11,8 +11,8 @@ use Rattle.shapers_buffer.specs.Places.{pick}
 use Rattle.shapers_buffer.proofs.Picks.{pick-within}
 use Rattle.shapers_clusters.specs.ClusterMerges.{joined_all}
 use Rattle.shapers_clusters.specs.Cuts.{EndWithin, IsFalling, IsMonotone, IsRising, held}
-use Rattle.shapers_clusters.proofs.Cuts.{exact_cuts, stays_falling, stays_rising}
-use Rattle.shapers_breaks.proofs.ClearSteps.{down_to, stays, up_to}
+use Rattle.shapers_clusters.proofs.Cuts.{exact_cuts, falling_to, rising_to, stays_falling, stays_rising}
+use Rattle.shapers_breaks.proofs.ClearSteps.{stays}
 
 -- both lists rise, or both fall
 abbrev pub InOneOrder : List ℕ → List ℕ → Type 0
@@ -121,18 +121,18 @@ border_by : (cs js : List ℕ) → InOneOrder cs js → (q p : ℕ) → 0 < q �
     → All (Contains bs) ys → length xs ≡ p
 border_by cs js order q p some within apart z l differ greatest fs bs xs ys cut long made first second = elim order [
   | inl up ↦
-      let step = less_of (up_to cs up.0 (q - 1) q (omega arith) within) apart in
-      let less = less_of (up_to js up.1 (p - 1) p (omega arith) l) differ in
+      let step = less_of (rising_to cs up.0 (q - 1) q (omega arith) within) apart in
+      let less = less_of (rising_to js up.1 (p - 1) p (omega arith) l) differ in
       border_at (λ x. x < get_or cs q 0) (λ x. get_or cs q 0 ≤ x) (λ x a b. omega (arith, a, b)) cs js q p
-      (λ i h. let m = up_to cs up.0 i (q - 1) (omega (arith, h)) (omega (arith, within)) in omega (arith, m, step))
-      (λ i low high. up_to cs up.0 q i low high) z l (omega (arith, step, less, greatest))
+      (λ i h. let m = rising_to cs up.0 i (q - 1) (omega (arith, h)) (omega (arith, within)) in omega (arith, m, step))
+      (λ i low high. rising_to cs up.0 q i low high) z l (omega (arith, step, less, greatest))
       (omega (arith, step, less, greatest)) fs bs xs ys cut long made first second
   | inr down ↦
-      let step = less_of (down_to cs down.0 (q - 1) q (omega arith) within) (λ e. apart (sym e)) in
-      let less = less_of (down_to js down.1 (p - 1) p (omega arith) l) (λ e. differ (sym e)) in
+      let step = less_of (falling_to cs down.0 (q - 1) q (omega arith) within) (λ e. apart (sym e)) in
+      let less = less_of (falling_to js down.1 (p - 1) p (omega arith) l) (λ e. differ (sym e)) in
       border_at (λ x. get_or cs (q - 1) 0 ≤ x) (λ x. x < get_or cs (q - 1) 0) (λ x a b. omega (arith, a, b)) cs js q p
-      (λ i h. down_to cs down.0 i (q - 1) (omega (arith, h)) (omega (arith, within)))
-      (λ i low high. let m = down_to cs down.0 q i low high in omega (arith, m, step)) z l
+      (λ i h. falling_to cs down.0 i (q - 1) (omega (arith, h)) (omega (arith, within)))
+      (λ i low high. let m = falling_to cs down.0 q i low high in omega (arith, m, step)) z l
       (omega (arith, step, less, greatest)) (omega (arith, step, less, greatest)) fs bs xs ys cut long made first second
 ]
 
@@ -150,10 +150,10 @@ meets_up cs js up none p z l less =
     ] in
     let within : q < length cs = omega (arith, reach, kl) in
     let least : c ≤ get_or cs q 0 = s.fails within in
-    let most = up_to cs up q k reach kl in
+    let most = rising_to cs up q k reach kl in
     let some : 0 < q = elim (cases_lt f q) [
       | inl a ↦ omega (arith, a)
-      | inr b ↦ let m = up_to cs up q f b fl in absurd (omega (arith, least, m, was, less))
+      | inr b ↦ let m = rising_to cs up q f b fl in absurd (omega (arith, least, m, was, less))
     ] in
     let below = s.before (q - 1) (omega (arith, some)) in
     record {
@@ -180,11 +180,11 @@ meets_down cs js down none p z l less =
     let most : get_or cs q 0 < c = s.fails within in
     let inside : k < q = elim (cases_lt k q) [
       | inl a ↦ a
-      | inr b ↦ let m = down_to cs down q k b kl in absurd (omega (arith, m, is, most))
+      | inr b ↦ let m = falling_to cs down q k b kl in absurd (omega (arith, m, is, most))
     ] in
     let some : 0 < q = omega (arith, inside) in
     let above : c ≤ get_or cs (q - 1) 0 = s.before (q - 1) (omega (arith, some)) in
-    let least = down_to cs down k (q - 1) (omega (arith, inside)) (omega (arith, within)) in
+    let least = falling_to cs down k (q - 1) (omega (arith, inside)) (omega (arith, within)) in
     record {
       place = q;
       some = some;
@@ -196,9 +196,9 @@ meets_down cs js down none p z l less =
 meets_at : (cs js : List ℕ) → InOneOrder cs js → All (Contains cs) js → (p : ℕ) → 0 < p → p < length js
     → get_or js (p - 1) 0 ≢ get_or js p 0 → MeetsAt cs js p
 meets_at cs js order none p z l differ = elim order [
-  | inl up ↦ meets_up cs js up.0 none p z l (less_of (up_to js up.1 (p - 1) p (omega arith) l) differ)
+  | inl up ↦ meets_up cs js up.0 none p z l (less_of (rising_to js up.1 (p - 1) p (omega arith) l) differ)
   | inr down ↦ meets_down cs js down.0 none p z l
-      (less_of (down_to js down.1 (p - 1) p (omega arith) l) (λ e. differ (sym e)))
+      (less_of (falling_to js down.1 (p - 1) p (omega arith) l) (λ e. differ (sym e)))
 ]
 
 -- Before place `place` of cs no stretch holds both sides and the two clusters meet of which, once the

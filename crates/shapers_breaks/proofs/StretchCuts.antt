@@ -1,27 +1,28 @@
 -- A stretched text cut in two: what is made of it is what is made of the halves, unless the cut falls inside a word with
 -- its run, all of which is flagged.
-use Rattle.std.proofs.Common.{ℕ, zero, suc, ◌<◌, ◌≤◌, ◌≡◌, ◌⊎◌, Bool, true, false, cond, not, ◌&&◌, List, [], ◌∷◌, ◌++◌, ℤ, length, map, take, drop, reverse, get_or, inl, inr, refl, sym, ap, subst, ◌∙◌, arith, length-append}
+use Rattle.std.proofs.Common.{ℕ, zero, suc, ◌<◌, ◌≤◌, ◌≡◌, ◌⊎◌, Bool, true, false, cond, not, List, [], ◌∷◌, ◌++◌, ℤ, length, map, take, drop, reverse, get_or, inl, inr, refl, sym, ap, subst, ◌∙◌, arith, length-append}
 use Rattle.std.specs.Prelude.{nat_lt}
-use Rattle.std.specs.List.{AllByRecursion, flat_map, list_all, onto_first, suffix_len}
-use Rattle.std.proofs.lemmas.Bool.{and_from, and_parts, and_right, cases_lt, lt-ltb, not-true}
-use Rattle.std.proofs.lemmas.List.{append-nil, append_assoc, length-map, map-append, reverse-append, reverse-reverse, take_at}
+use Rattle.std.specs.List.{AllByRecursion, flat_map, list_all, suffix_len}
+use Rattle.std.proofs.lemmas.Bool.{and_from, and_parts, cases_lt, lt-ltb, not-true}
+use Rattle.std.proofs.lemmas.List.{append-nil, append_assoc, length-map, map-append, reverse-reverse, take_at}
 use Rattle.std.proofs.lemmas.List.Folds.{list_all-append}
 use Rattle.shapers_buffer.specs.declared.buffer.glyph.hb_glyph_info_t.{hb_glyph_info_t}
 use Rattle.shapers_buffer.specs.Clusters.{least}
 use Rattle.shapers_buffer.specs.Glyph.{clusters}
 use Rattle.shapers_buffer.specs.GlyphFlags.{with_bits_off}
 use Rattle.shapers_buffer.specs.Lists.{before_last_run, each_after, last_run}
-use Rattle.shapers_buffer.proofs.ListLaws.{last_of, suffix_len_no, suffix_len_yes}
+use Rattle.shapers_buffer.proofs.ListLaws.{last_of, suffix_len_no}
 use Rattle.shapers_buffer.proofs.MappedLists.{all-append}
 use Rattle.shapers_base.specs.Font.{Font}
 use Rattle.shapers_clusters.proofs.ClusterMerges.{least-le}
 use Rattle.shapers_buffer.specs.declared.buffer.glyph.GlyphPosition.{GlyphPosition}
-use Rattle.shapers_stretch.specs.Cells.{Cell, before_word, cut_here, glyphs_of, in_word, is_tile, parts_of_text, positions_of, run_ends, tiles_of, word_of}
+use Rattle.shapers_stretch.specs.Cells.{Cell, before_word, glyphs_of, in_word, is_tile, parts_of_text, positions_of, tiles_of, word_of}
 use Rattle.shapers_stretch.specs.Measure.{start}
 use Rattle.shapers_stretch.specs.Stretch.{Copy, Laying, copies, copies_of, has_run, laid_at, laid_run, measured, offset, stretched, stretched_over, stretched_part, unbroken}
 use Rattle.shapers_stretch.proofs.Flagging.{flag_cell, tiles_are, unbroken_is}
-use Rattle.shapers_stretch.proofs.LastParts.{last_run_after, one_part, run_split}
+use Rattle.shapers_stretch.proofs.LastParts.{as_one_part, last_run_after, run_split, stops_behind}
 use Rattle.shapers_stretch.proofs.Parts.{parts-append}
+use Rattle.shapers_stretch.proofs.StretchFlags.{every_reverse}
 use Rattle.shapers_clusters.proofs.LabelsAsMerged.{all_split}
 
 abbrev tile : Cell → Bool
@@ -44,33 +45,10 @@ two_cuts (x ∷ xs) (p ∷ ps) ys rest same short =
     let (zs, (front, back)) = two_cuts xs ps ys rest (ap (drop 1) same) (omega (arith, short)) in
     (zs, (ap (λ y. y ∷ ps) first ∙ ap (λ l. x ∷ l) front, back))
 
-all_turned : {X : Type 0} (P : X → Type 0) (xs : List X) → AllByRecursion P xs → AllByRecursion P (reverse xs)
-all_turned P [] all = tt
-all_turned P (x ∷ xs) all =
-    subst (AllByRecursion P) (sym (reverse-append (x ∷ []) xs))
-    (all-append P (reverse xs) (x ∷ []) (all_turned P xs all.1) (all.0, tt))
-
 pub all_back : {X : Type 0} (P : X → Type 0) (xs : List X) → AllByRecursion P (reverse xs) → AllByRecursion P xs
-all_back P xs all = subst (AllByRecursion P) (reverse-reverse xs) (all_turned P (reverse xs) all)
+all_back P xs all = subst (AllByRecursion P) (reverse-reverse xs) (every_reverse P (reverse xs) all)
 
--- a list of which none passes ends with no run; nor does what ends such a list
-ends_so : {X : Type 0} (test : X → Bool) (xs : List X) (x : X) → suffix_len test (xs ++ x ∷ []) ≡ 0 → test x ≡ false
-ends_so test xs x none =
-    elim (test x) as (λ b. test x ≡ b → b ≡ false) [
-      | true ↦ λ e. absurd (omega (arith, suffix_len_yes test xs x e, none))
-      | false ↦ λ e. refl
-    ] refl
-
-no_run_behind : {X : Type 0} (test : X → Bool) (xs ys : List X) → suffix_len test (xs ++ ys) ≡ 0
-    → suffix_len test ys ≡ 0
-no_run_behind test xs ys none = elim (last_of ys) [
-  | inl empty ↦ ap (suffix_len test) empty
-  | inr p ↦
-      let fails = ends_so test (xs ++ p.front) p.last (ap (suffix_len test) (append_assoc xs p.front (p.last ∷ [])
-      ∙ ap (λ zs. xs ++ zs) (sym p.parts)) ∙ none) in
-      ap (suffix_len test) p.parts ∙ suffix_len_no test p.front p.last fails
-]
-
+-- a list of which none passes ends with no run
 no_tiles : (xs : List Cell) → list_all other xs ≡ true → suffix_len tile xs ≡ 0
 no_tiles xs all = elim (last_of xs) [
   | inl empty ↦ ap (suffix_len tile) empty
@@ -157,27 +135,11 @@ first_part_of (c ∷ cs) =
     ] refl
 
 -- it is a part
-only_tiles : (x : Cell) (xs : List Cell) → list_all tile (x ∷ xs) ≡ true → parts_of_text (x ∷ xs) ≡ (x ∷ xs) ∷ []
-only_tiles x [] all = refl
-only_tiles x (y ∷ xs) all =
-    let both = and_parts (tile x) (list_all tile (y ∷ xs)) all in
-    let next = (and_parts (tile y) (list_all tile xs) both.1).0 in
-    let here : cut_here run_ends x (y ∷ xs) ≡ false = ap (λ b. is_tile x.0 && not b) next
-    ∙ and_right (is_tile x.0) false refl in
-    ap (λ b. cond b ((x ∷ []) ∷ parts_of_text (y ∷ xs)) (onto_first x (parts_of_text (y ∷ xs)))) here
-    ∙ ap (onto_first x) (only_tiles y xs both.1)
-
-one : (others tiles : List Cell) → list_all other others ≡ true → list_all tile tiles ≡ true
-    → 0 < length (others ++ tiles) → parts_of_text (others ++ tiles) ≡ (others ++ tiles) ∷ []
-one [] [] os ts some = absurd (omega (arith, some))
-one [] (t ∷ tiles) os ts some = only_tiles t tiles ts
-one (o ∷ others) tiles os ts some = one_part o others tiles os ts
-
 one_then : (others tiles rest : List Cell) → list_all other others ≡ true → list_all tile tiles ≡ true
     → 0 < length (others ++ tiles) → Follows tiles rest → parts_of_text ((others ++ tiles) ++ rest)
     ≡ (others ++ tiles) ∷ parts_of_text rest
 one_then others tiles [] os ts some follows = ap parts_of_text (append-nil (others ++ tiles))
-    ∙ one others tiles os ts some
+    ∙ as_one_part others tiles os ts some
 one_then others tiles (b ∷ bs) os ts some follows =
     let (opens, behind) = follows b bs refl in
     elim (last_of tiles) [
@@ -190,7 +152,7 @@ one_then others tiles (b ∷ bs) os ts some follows =
           ap (λ l. parts_of_text (l ++ b ∷ bs)) whole
           ∙ parts-append (others ++ p.front) p.last b bs is opens
           ∙ ap (λ l. parts_of_text l ++ parts_of_text (b ∷ bs)) (sym whole)
-          ∙ ap (λ l. l ++ parts_of_text (b ∷ bs)) (one others tiles os ts some)
+          ∙ ap (λ l. l ++ parts_of_text (b ∷ bs)) (as_one_part others tiles os ts some)
     ]
 
 stretched_first : (how : Laying) (others tiles rest : List Cell) → list_all other others ≡ true
@@ -404,7 +366,7 @@ cut_in_others how xs others tiles rest some os ts behind follows =
             | inr before ↦
                 let (bs, (first, second)) = two_cuts xs r.front others r.run r.whole before in
                 let own : list_all other (bs ++ r.run) ≡ true = ap (list_all other) (sym second) ∙ yo in
-                let stops = no_run_behind wordly xs bs (ap (suffix_len wordly) (sym first) ∙ r.stops) in
+                let stops = stops_behind wordly xs bs (ap (suffix_len wordly) (sym first) ∙ r.stops) in
                 joined (part
                 ∙ ap (λ l. l ++ run_made how r.run tiles) first
                 ∙ append_assoc xs bs (run_made how r.run tiles)

@@ -3,7 +3,7 @@ mod HebrewRows
 mod SaraAmRows
 pub mod ThaiClusters
 pub mod ThaiFlags
-mod ThaiFormLaws
+pub mod ThaiFormLaws
 mod ThaiFormRows
 pub mod ThaiFormWalks
 pub mod ThaiGuarded

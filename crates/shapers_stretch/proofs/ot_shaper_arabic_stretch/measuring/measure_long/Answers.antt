@@ -73,7 +73,8 @@ loop-piece-preserved g c =
       tt,
       steps.0 ∙ inv.2,
       omega (arith, less, inv.3),
-      (all_split (λ g. g.glyph_id ≤ 65535) piece rest (subst (AllByRecursion (λ g. g.glyph_id ≤ 65535)) steps.1.0 inv.4)).1,
+      (all_split (λ g. g.glyph_id ≤ 65535) piece rest
+          (subst (AllByRecursion (λ g. g.glyph_id ≤ 65535)) steps.1.0 inv.4)).1,
       ap (λ x. x +ℤ total (map (width_of font) (fixed rest))) same ∙ summed,
       ap (λ x. x +ℤ total (map (width_of font) (repeating rest))) same_2 ∙ summed_2,
       counted,
