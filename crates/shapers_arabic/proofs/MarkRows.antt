@@ -10,7 +10,7 @@ use Rattle.shapers_buffer.specs.declared.buffer.level.BufferClusterLevel.TheVari
 use Rattle.shapers_buffer.specs.declared.buffer.modified_combining_class.TheConstants.{CCC22, CCC26}
 use Rattle.shapers_clusters.specs.Steps.{run_step}
 use Rattle.shapers_arabic.specs.declared.ot_shaper_arabic.marks.TheConstants.{ABOVE}
-use Rattle.shapers_arabic.specs.MarkParts.{lengths_of, passed_by, last_marks_first}
+use Rattle.shapers_arabic.specs.MarkParts.{is_among_modifiers, lengths_of, may_modify, passed_by, last_marks_first}
 use Rattle.shapers_arabic.specs.Marks.{modifiers, has_lower_class, is_modifier_of, split_marks, with_modifiers_first, marks_reordered, marks_merged, merged_for, passed, places_moved, arabic_mark_step, text_step, without_class}
 
 abbrev mark : ℕ × ℕ × ℕ → hb_glyph_info_t
@@ -278,6 +278,16 @@ last_first_row : view (last_marks_first 2 25 five) ≡ (0x0654, 25) ∷ (0x0653,
     ∷ (0x065C, 220) ∷ []
 unfolding modified_combining_class general_category
 last_first_row = refl
+
+-- the three ranges, and what may modify: by the high byte of any glyph, and its character
+among : map is_among_modifiers (0x0653 ∷ 0x0654 ∷ 0x0656 ∷ 0x0658 ∷ 0x0659 ∷ 0x06DB ∷ 0x06DC ∷ 0x06E8 ∷ 0x06E9
+    ∷ 0x08C9 ∷ 0x08CA ∷ 0x08F3 ∷ 0x08F4 ∷ []) ≡ false ∷ true ∷ true ∷ true ∷ false ∷ false ∷ true ∷ true ∷ false
+    ∷ false ∷ true ∷ true ∷ false ∷ []
+among = refl
+
+may : map may_modify (full ∷ unclassed 220 ∷ unclassed 230 ∷ unclassed 219 ∷ [] ++ map mark ((0x0656, 230, 0)
+    ∷ (0x0653, 230, 0) ∷ (0x0655, 231, 0) ∷ [])) ≡ true ∷ true ∷ true ∷ false ∷ true ∷ false ∷ false ∷ []
+may = refl
 
 hidden_class : without_class full ≡ record full { unicode_props = record { 0 = 0x00AC } }
 hidden_class = refl
