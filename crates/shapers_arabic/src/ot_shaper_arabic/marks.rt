@@ -5,7 +5,7 @@ ghost use Rattle.shapers_buffer.specs.Clusters.{merge_all, stretch_of};
 ghost use Rattle.shapers_buffer.specs.Glyph.{order_view};
 ghost use Rattle.shapers_clusters.specs.Steps.{shifted};
 ghost use Rattle.shapers_arabic.specs.MarkParts.{is_among_modifiers, is_modifier, may_modify, lengths_of, end_of, passed_by, last_marks_first};
-ghost use Rattle.shapers_arabic.specs.Marks.{ArabicMarksReordered, in_class, has_lower_class, is_modifier_of, marks_merged, marks_reordered, merged_for, modifiers, split_marks, with_modifiers_first};
+ghost use Rattle.shapers_arabic.specs.Marks.{ArabicMarksReordered, ModifiersTakeClasses, in_class, has_lower_class, is_modifier_of, marks_merged, marks_reordered, merged_for, modifiers, split_marks, with_modifiers_first};
 
 use shapers_base::buffer::modified_combining_class::{BELOW, CCC22, CCC26};
 use shapers_base::buffer::{
@@ -34,6 +34,7 @@ pub fn reorder_marks(_plan: &hb_ot_shape_plan_t, buffer: &mut hb_buffer_t, start
         buffer.new ≡ record buffer.old { glyphs = marks_reordered start end merged } }
     ensures order { let view = order_view buffer.old.glyphs in
         order_view buffer.new.glyphs ≡ marks_reordered start end view }
+    ensures classes { ModifiersTakeClasses start end buffer.old.glyphs buffer.new.glyphs }
     ensures laws { ArabicMarksReordered start end buffer.old buffer.new }
 {
     let level = buffer.cluster_level();
@@ -78,6 +79,7 @@ pub fn reorder_marks_in(
     ensures moved { let marks = stretch_of start end glyphs.old in
         result ≡ list_any is_modifier marks }
     ensures unchanged { result ≡ false → glyphs.new ≡ glyphs.old }
+    ensures classes { ModifiersTakeClasses start end glyphs.old glyphs.new }
 {
     if !may_have_modifier(&glyphs[start..end]) {
         return false;

@@ -33,10 +33,11 @@ const ABOVE: u8 = 230;
 ///     buffer.new ≡ record buffer.old { glyphs = marks_reordered start end merged } }
 /// ensures order { let view = order_view buffer.old.glyphs in
 ///     order_view buffer.new.glyphs ≡ marks_reordered start end view }
+/// ensures classes { ModifiersTakeClasses start end buffer.old.glyphs buffer.new.glyphs }
 /// ensures laws { ArabicMarksReordered start end buffer.old buffer.new }
 /// ```
 ///
-/// - `ArabicMarksReordered`, `marks_merged`, `marks_reordered`: `crates/shapers_arabic/specs/Marks.antt`
+/// - `ArabicMarksReordered`, `ModifiersTakeClasses`, `marks_merged`, `marks_reordered`: `crates/shapers_arabic/specs/Marks.antt`
 /// - `order_view`: `crates/shapers_buffer/specs/Glyph.antt`
 ///
 /// </details>
@@ -79,10 +80,11 @@ impl GlyphWalk for MarkOrder {
 /// ensures moved { let marks = stretch_of start end glyphs.old in
 ///     result ≡ list_any is_modifier marks }
 /// ensures unchanged { result ≡ false → glyphs.new ≡ glyphs.old }
+/// ensures classes { ModifiersTakeClasses start end glyphs.old glyphs.new }
 /// ```
 ///
 /// - `is_modifier`: `crates/shapers_arabic/specs/MarkParts.antt`
-/// - `marks_merged`, `marks_reordered`: `crates/shapers_arabic/specs/Marks.antt`
+/// - `ModifiersTakeClasses`, `marks_merged`, `marks_reordered`: `crates/shapers_arabic/specs/Marks.antt`
 /// - `stretch_of`: `crates/shapers_buffer/specs/Clusters.antt`
 ///
 /// </details>
