@@ -23,6 +23,7 @@ mod JoiningRows
 pub mod JoiningTable
 pub mod JoiningWalk
 pub mod LostForms
+pub mod MarkClasses
 pub mod MarkLaws
 pub mod MarkLists
 pub mod MarkMoves

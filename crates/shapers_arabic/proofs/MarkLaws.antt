@@ -1,16 +1,14 @@
 -- The order of marks in a text: what merging leaves of the parts, and what the laws of steps say.
-use Rattle.std.proofs.Common.{◌≡◌, ℕ, zero, suc, ◌+◌, ◌-◌, ◌≤◌, Bool, true, false, if◌then◌else◌, List, [], ◌∷◌, ◌++◌, map, length, take, drop, refl, ap, sym, ◌∙◌, subst, arith, length-append, length-take, length-drop}
+use Rattle.std.proofs.Common.{◌≡◌, ℕ, zero, suc, ◌+◌, ◌-◌, ◌≤◌, Bool, List, [], ◌∷◌, ◌++◌, map, length, take, drop, refl, ap, sym, ◌∙◌, subst, arith, length-append, length-take, length-drop}
 use Rattle.std.specs.List.{prefix_len}
 use Rattle.std.proofs.lemmas.List.{length-map, take-map, drop-map, map-append}
 use Rattle.shapers_buffer.specs.declared.buffer.glyph.hb_glyph_info_t.{hb_glyph_info_t}
 use Rattle.shapers_buffer.specs.declared.buffer.level.BufferClusterLevel.{BufferClusterLevel}
 use Rattle.shapers_buffer.specs.declared.buffer.modified_combining_class.TheConstants.{CCC22, CCC26}
-use Rattle.shapers_buffer.specs.declared.buffer.unicode_props.UnicodeProps.{UnicodeProps}
-use Rattle.shapers_buffer.specs.Category.{is_mark}
 use Rattle.shapers_buffer.specs.Clusters.{stretch_of, merge_all}
 use Rattle.shapers_buffer.specs.Glyph.{plain, order_view}
 use Rattle.shapers_buffer.specs.Places.{pick}
-use Rattle.shapers_buffer.specs.Properties.{general_category, with_high_byte, with_modified_combining_class}
+use Rattle.shapers_buffer.specs.Properties.{modified_combining_class, with_modified_combining_class}
 use Rattle.shapers_buffer.proofs.MappedLists.{prefix_len-seen}
 use Rattle.shapers_buffer.proofs.ClusterLemmas.{map-stretch}
 use Rattle.shapers_clusters.specs.Flags.{HidesFields}
@@ -22,7 +20,8 @@ use Rattle.shapers_clusters.proofs.Proved.{reordered_hold}
 use Rattle.shapers_clusters.proofs.Widened.{moves-widened, fits-widened, pick-widened}
 use Rattle.shapers_arabic.specs.declared.ot_shaper_arabic.marks.Parts.{Parts}
 use Rattle.shapers_arabic.specs.MarkParts.{lengths_of}
-use Rattle.shapers_arabic.specs.Marks.{Marks, split_marks, front_of, behind, has_lower_class, is_modifier_of, in_class, with_modifiers_first, marks_reordered, merged_for, passed, arabic_mark_step, text_step, marks_merged, without_class}
+use Rattle.shapers_arabic.specs.Marks.{Marks, ModifiersTakeClasses, classes_moved, combining_classes, split_marks, front_of, behind, has_lower_class, is_modifier_of, in_class, with_modifiers_first, marks_reordered, merged_for, passed, arabic_mark_step, text_step, marks_merged, without_class}
+use Rattle.shapers_arabic.proofs.MarkClasses.{class-hidden, reordered_classes}
 use Rattle.shapers_arabic.proofs.MarkLists.{joined_parts, parts_moved, split-joined, pick-moved}
 use Rattle.shapers_arabic.proofs.MarkMoves.{step_of, moves-merged, moves-permute}
 
@@ -210,25 +209,51 @@ pub marks_view : (level : BufferClusterLevel) (s e : ℕ) (gs : List hb_glyph_in
 marks_view level s e gs = reordered-plain s e (marks_merged level s e gs)
     ∙ ap (marks_reordered s e) (order_view-merge_all level (text_step s e gs).merged_first gs)
 
+-- CLASSES: merging leaves them, and the modifiers take theirs
+length-plain : (gs : List hb_glyph_info_t) → length (order_view gs) ≡ length gs
+length-plain gs = length-map gs plain
+
+classes-plain : (gs : List hb_glyph_info_t) → combining_classes (order_view gs) ≡ combining_classes gs
+classes-plain [] = refl
+classes-plain (g ∷ gs) = ap (λ cs. modified_combining_class g.unicode_props ∷ cs) (classes-plain gs)
+
+moved-plain : (s : Marks) → classes_moved (parts_plain s) ≡ classes_moved s
+moved-plain s =
+    let kept = s.low ++ (s.middle ++ s.rest) in
+    let parts : order_view s.low ++ (order_view s.middle ++ order_view s.rest) ≡ order_view kept =
+    sym (map-append plain s.low (s.middle ++ s.rest)
+    ∙ ap (λ xs. order_view s.low ++ xs) (map-append plain s.middle s.rest)) in
+    rw (parts, classes-plain kept, length-plain s.modifiers_below, length-plain s.modifiers_above) refl
+
+pub marks_take_classes : (level : BufferClusterLevel) (s e : ℕ) (gs : List hb_glyph_info_t)
+    → ModifiersTakeClasses s e gs (marks_reordered s e (marks_merged level s e gs))
+marks_take_classes level s e gs =
+    let new = marks_reordered s e (marks_merged level s e gs) in
+    let marks = stretch_of s e gs in
+    let seen : classes_moved (split_marks (stretch_of s e (order_view gs))) ≡ classes_moved (split_marks marks) =
+    ap (λ xs. classes_moved (split_marks xs)) (sym (map-stretch plain s e gs))
+    ∙ ap classes_moved (split-plain marks)
+    ∙ moved-plain (split_marks marks) in
+    let front : combining_classes (take s (order_view gs)) ≡ combining_classes (take s gs) =
+    ap combining_classes (take-map plain s gs) ∙ classes-plain (take s gs) in
+    let back : combining_classes (drop e (order_view gs)) ≡ combining_classes (drop e gs) =
+    ap combining_classes (drop-map plain e gs) ∙ classes-plain (drop e gs) in
+    sym (classes-plain new)
+    ∙ ap combining_classes (marks_view level s e gs)
+    ∙ reordered_classes s e (order_view gs)
+    ∙ ap (λ cs. cs ++ (classes_moved (split_marks (stretch_of s e (order_view gs)))
+    ++ combining_classes (drop e (order_view gs)))) front
+    ∙ ap (λ cs. combining_classes (take s gs) ++ (cs ++ combining_classes (drop e (order_view gs)))) seen
+    ∙ ap (λ cs. combining_classes (take s gs) ++ (classes_moved (split_marks marks) ++ cs)) back
+
 -- the view that hides classes
 class_hidden : HidesFields without_class
 class_hidden = record {
   shows = record { cluster = λ g. refl; flags = λ g. refl };
-  apart = λ g. ap (λ (m : ℕ). record g { cluster = 0; mask = m; unicode_props = with_high_byte 0 g.unicode_props })
+  apart = λ g. ap
+      (λ (m : ℕ). record g { cluster = 0; mask = m; unicode_props = with_modified_combining_class 0 g.unicode_props })
       (without_flags-twice g.mask);
 }
-
--- a class that is set is hidden with the one before it
-byte-hidden : (class : ℕ) (p : UnicodeProps) → with_high_byte 0 (with_high_byte class p) ≡ with_high_byte 0 p
-byte-hidden class p = ap (λ n. record { 0 = n }) (omega arith)
-
-class-hidden : (class : ℕ) (p : UnicodeProps)
-    → with_high_byte 0 (with_modified_combining_class class p) ≡ with_high_byte 0 p
-class-hidden class p = elim (is_mark (general_category p)) as
-    (λ b. with_high_byte 0 (if b then with_high_byte class p else p) ≡ with_high_byte 0 p) [
-      | true ↦ byte-hidden class p
-      | false ↦ refl
-    ]
 
 classed-hidden : (class : ℕ) (gs : List hb_glyph_info_t) → map without_class (map (in_class class) gs)
     ≡ map without_class gs

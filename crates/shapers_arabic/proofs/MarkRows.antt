@@ -10,8 +10,8 @@ use Rattle.shapers_buffer.specs.declared.buffer.level.BufferClusterLevel.TheVari
 use Rattle.shapers_buffer.specs.declared.buffer.modified_combining_class.TheConstants.{CCC22, CCC26}
 use Rattle.shapers_clusters.specs.Steps.{run_step}
 use Rattle.shapers_arabic.specs.declared.ot_shaper_arabic.marks.TheConstants.{ABOVE}
-use Rattle.shapers_arabic.specs.MarkParts.{lengths_of, passed_by, last_marks_first}
-use Rattle.shapers_arabic.specs.Marks.{modifiers, has_lower_class, is_modifier_of, split_marks, with_modifiers_first, marks_reordered, marks_merged, merged_for, passed, places_moved, arabic_mark_step, text_step, without_class}
+use Rattle.shapers_arabic.specs.MarkParts.{is_among_modifiers, lengths_of, may_modify, passed_by, last_marks_first}
+use Rattle.shapers_arabic.specs.Marks.{ModifiersTakeClasses, classes_moved, combining_classes, modifiers, has_lower_class, is_modifier_of, split_marks, with_modifiers_first, marks_reordered, marks_merged, merged_for, passed, places_moved, arabic_mark_step, text_step, without_class}
 
 abbrev mark : ℕ × ℕ × ℕ → hb_glyph_info_t
 mark p = record default_glyph { glyph_id = p.0; unicode_props = properties Mn p.1; cluster = p.2 }
@@ -279,5 +279,38 @@ last_first_row : view (last_marks_first 2 25 five) ≡ (0x0654, 25) ∷ (0x0653,
 unfolding modified_combining_class general_category
 last_first_row = refl
 
-hidden_class : without_class full ≡ record full { unicode_props = record { 0 = 0x00AC } }
+-- the three ranges, and what may modify: by the high byte of any glyph, and its character
+among : map is_among_modifiers (0x0653 ∷ 0x0654 ∷ 0x0656 ∷ 0x0658 ∷ 0x0659 ∷ 0x06DB ∷ 0x06DC ∷ 0x06E8 ∷ 0x06E9
+    ∷ 0x08C9 ∷ 0x08CA ∷ 0x08F3 ∷ 0x08F4 ∷ []) ≡ false ∷ true ∷ true ∷ true ∷ false ∷ false ∷ true ∷ true ∷ false
+    ∷ false ∷ true ∷ true ∷ false ∷ []
+among = refl
+
+may : map may_modify (full ∷ unclassed 220 ∷ unclassed 230 ∷ unclassed 219 ∷ [] ++ map mark ((0x0656, 230, 0)
+    ∷ (0x0653, 230, 0) ∷ (0x0655, 231, 0) ∷ [])) ≡ true ∷ true ∷ true ∷ false ∷ true ∷ false ∷ false ∷ []
+may = refl
+
+-- the view hides the class of a mark, and no other high byte
+hidden_class : map without_class (full ∷ unclassed 220 ∷ []) ≡ record full { unicode_props = record { 0 = 0x00AC } }
+    ∷ unclassed 220 ∷ []
+unfolding modified_combining_class general_category
 hidden_class = refl
+
+-- the classes after the reordering: of the five parts, and of a text in which a letter has a high byte
+five_classes : classes_moved (split_marks five) ≡ 25 ∷ 26 ∷ 31 ∷ 220 ∷ 230 ∷ []
+unfolding modified_combining_class general_category
+five_classes = refl
+
+old_classes : combining_classes (unclassed 220 ∷ five ++ unclassed 230 ∷ full ∷ [])
+    ≡ 0 ∷ 31 ∷ 220 ∷ 220 ∷ 230 ∷ 230 ∷ 0 ∷ 220 ∷ []
+unfolding modified_combining_class general_category
+old_classes = refl
+
+classes_taken : ModifiersTakeClasses 1 6 (unclassed 220 ∷ five ++ unclassed 230 ∷ full ∷ [])
+    (marks_reordered 1 6 (unclassed 220 ∷ five ++ unclassed 230 ∷ full ∷ []))
+unfolding modified_combining_class general_category
+classes_taken = refl
+
+new_classes : combining_classes (marks_reordered 1 6 (unclassed 220 ∷ five ++ unclassed 230 ∷ full ∷ []))
+    ≡ 0 ∷ 25 ∷ 26 ∷ 31 ∷ 220 ∷ 230 ∷ 0 ∷ 220 ∷ []
+unfolding modified_combining_class general_category
+new_classes = refl

@@ -26,7 +26,8 @@ is_mongolian (Some s) = pointwise nat_eq s.0 (codes "Mong")
 -- the types of glyphs, where the stored category decides X
 abbrev pub stored_types : (ℕ → hb_arabic_joining_type_t) → List hb_glyph_info_t →
     List hb_arabic_joining_type_t
-stored_types joining gs = map (λ g. resolved (joining g.glyph_id) (general_category g.unicode_props)) gs
+stored_types joining gs =
+    map (λ g. resolved (joining g.glyph_id) (general_category g.unicode_props)) gs
 
 -- the types of characters, where the table's own category decides X
 abbrev pub context_types : (ℕ → hb_arabic_joining_type_t) → (ℕ → hb_unicode_general_category_t) →
@@ -161,7 +162,8 @@ CopiedContextsShow = (n : ℕ) (text : Text) → Shows (drop n text.types ++ tex
 
 -- the stored categories are those of the table
 abbrev pub AgreesWithTable : (ℕ → hb_unicode_general_category_t) → List hb_glyph_info_t → Type 0
-AgreesWithTable general gs = AllByRecursion (λ g. general_category g.unicode_props ≡ general g.glyph_id) gs
+AgreesWithTable general gs =
+    AllByRecursion (λ g. general_category g.unicode_props ≡ general g.glyph_id) gs
 
 -- the halves of a buffer that is cut at place n, each with a context copied from the other
 abbrev pub first_of : ℕ → Buffer → Buffer

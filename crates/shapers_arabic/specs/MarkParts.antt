@@ -1,6 +1,7 @@
 -- Words for the code that orders marks, which the contracts of its steps cite.
-use Rattle.std.specs.Prelude.{ℕ, ◌+◌, ◌-◌, Bool, ◌||◌, List, ◌++◌, length, map, take, drop}
+use Rattle.std.specs.Prelude.{ℕ, ◌+◌, ◌-◌, ◌==◌, nat_le, Bool, ◌&&◌, ◌||◌, List, ◌++◌, length, map, take, drop}
 use Rattle.shapers_buffer.specs.declared.buffer.glyph.hb_glyph_info_t.{hb_glyph_info_t}
+use Rattle.shapers_buffer.specs.Properties.{high_byte}
 use Rattle.shapers_arabic.specs.declared.ot_shaper_arabic.marks.Parts.{Parts}
 use Rattle.shapers_arabic.specs.Marks.{Marks, in_class, is_modifier_of, passed}
 
@@ -29,3 +30,14 @@ is_modifier g = is_modifier_of 220 g || is_modifier_of 230 g
 abbrev pub last_marks_first : ℕ → ℕ → List hb_glyph_info_t → List hb_glyph_info_t
 last_marks_first k class gs =
     map (in_class class) (drop (length gs - k) gs) ++ take (length gs - k) gs
+
+-- whether a character is in one of the three ranges in which the modifiers stand
+abbrev pub is_among_modifiers : ℕ → Bool
+is_among_modifiers c =
+    nat_le 0x0654 c && nat_le c 0x0658 || nat_le 0x06DC c && nat_le c 0x06E8
+    || nat_le 0x08CA c && nat_le c 0x08F3
+
+-- whether a glyph's high byte and its character are such as a modifier's
+abbrev pub may_modify : hb_glyph_info_t → Bool
+may_modify g = let byte = high_byte g.unicode_props in
+    (byte == 220 || byte == 230) && is_among_modifiers g.glyph_id

@@ -1,13 +1,13 @@
 -- The order of Arabic marks: marks that modify a letter come to the front. (Unicode Technical
 -- Report 53.)
-use Rattle.std.specs.Prelude.{ℕ, zero, suc, ◌+◌, ◌==◌, nat_lt, Bool, ◌&&◌, List, [], ◌∷◌, ◌++◌, length, map, take, drop}
+use Rattle.std.specs.Prelude.{ℕ, zero, suc, ◌+◌, ◌==◌, nat_lt, Bool, ◌&&◌, ◌≡◌, List, [], ◌∷◌, ◌++◌, length, map, take, drop, replicate}
 use Rattle.std.specs.List.{list_any, prefix_len, range_with_len}
 use Rattle.shapers_buffer.specs.declared.buffer.glyph.hb_glyph_info_t.{hb_glyph_info_t}
 use Rattle.shapers_buffer.specs.declared.buffer.modified_combining_class.TheConstants.{CCC22, CCC26}
 use Rattle.shapers_buffer.specs.declared.buffer.level.BufferClusterLevel.{BufferClusterLevel}
 use Rattle.shapers_buffer.specs.Buffer.{Buffer}
 use Rattle.shapers_buffer.specs.Clusters.{stretch_of, with_stretch, merge_all}
-use Rattle.shapers_buffer.specs.Properties.{modified_combining_class, with_high_byte, with_modified_combining_class}
+use Rattle.shapers_buffer.specs.Properties.{modified_combining_class, with_modified_combining_class}
 use Rattle.shapers_clusters.specs.Laws.{ReorderedHold}
 use Rattle.shapers_clusters.specs.Steps.{Step, widened}
 
@@ -107,9 +107,28 @@ text_step start end gs =
 abbrev pub marks_merged : BufferClusterLevel → ℕ → ℕ → List hb_glyph_info_t → List hb_glyph_info_t
 marks_merged level start end gs = merge_all level (text_step start end gs).merged_first gs
 
--- the view that hides classes
+-- the classes of a list of glyphs: 0 of each that is no mark
+abbrev pub combining_classes : List hb_glyph_info_t → List ℕ
+combining_classes gs = map (λ g. modified_combining_class g.unicode_props) gs
+
+-- The classes of the marks in their new order: the modifiers of 220 are of CCC22 now, those of 230
+-- of CCC26, and the other marks keep theirs.
+abbrev pub classes_moved : Marks → List ℕ
+classes_moved s =
+    replicate (length s.modifiers_below) CCC22
+    ++ (replicate (length s.modifiers_above) CCC26
+    ++ combining_classes (s.low ++ (s.middle ++ s.rest)))
+
+-- so of the marks from start to end, and all other glyphs keep theirs too
+abbrev pub ModifiersTakeClasses : ℕ → ℕ → List hb_glyph_info_t → List hb_glyph_info_t → Type 0
+ModifiersTakeClasses start end old new =
+    combining_classes new
+    ≡ combining_classes (take start old)
+    ++ (classes_moved (split_marks (stretch_of start end old)) ++ combining_classes (drop end old))
+
+-- the view that hides classes, of marks alone: other glyphs keep their high bytes
 abbrev pub without_class : hb_glyph_info_t → hb_glyph_info_t
-without_class g = record g { unicode_props = with_high_byte 0 g.unicode_props }
+without_class g = in_class 0 g
 
 -- what the reordering promises, through that view: no glyph is lost, and the laws hold
 abbrev pub ArabicMarksReordered : ℕ → ℕ → Buffer → Buffer → Type 0

@@ -4,8 +4,8 @@ ghost use Rattle.std.specs.List.{list_any, prefix_len};
 ghost use Rattle.shapers_buffer.specs.Clusters.{merge_all, stretch_of};
 ghost use Rattle.shapers_buffer.specs.Glyph.{order_view};
 ghost use Rattle.shapers_clusters.specs.Steps.{shifted};
-ghost use Rattle.shapers_arabic.specs.MarkParts.{is_modifier, lengths_of, end_of, passed_by, last_marks_first};
-ghost use Rattle.shapers_arabic.specs.Marks.{ArabicMarksReordered, in_class, has_lower_class, is_modifier_of, marks_merged, marks_reordered, merged_for, modifiers, split_marks, with_modifiers_first};
+ghost use Rattle.shapers_arabic.specs.MarkParts.{is_among_modifiers, is_modifier, may_modify, lengths_of, end_of, passed_by, last_marks_first};
+ghost use Rattle.shapers_arabic.specs.Marks.{ArabicMarksReordered, ModifiersTakeClasses, in_class, has_lower_class, is_modifier_of, marks_merged, marks_reordered, merged_for, modifiers, split_marks, with_modifiers_first};
 
 use shapers_base::buffer::modified_combining_class::{BELOW, CCC22, CCC26};
 use shapers_base::buffer::{
@@ -34,6 +34,7 @@ pub fn reorder_marks(_plan: &hb_ot_shape_plan_t, buffer: &mut hb_buffer_t, start
         buffer.new ≡ record buffer.old { glyphs = marks_reordered start end merged } }
     ensures order { let view = order_view buffer.old.glyphs in
         order_view buffer.new.glyphs ≡ marks_reordered start end view }
+    ensures classes { ModifiersTakeClasses start end buffer.old.glyphs buffer.new.glyphs }
     ensures laws { ArabicMarksReordered start end buffer.old buffer.new }
 {
     let level = buffer.cluster_level();
@@ -78,6 +79,57 @@ pub fn reorder_marks_in(
     ensures moved { let marks = stretch_of start end glyphs.old in
         result ≡ list_any is_modifier marks }
     ensures unchanged { result ≡ false → glyphs.new ≡ glyphs.old }
+    ensures classes { ModifiersTakeClasses start end glyphs.old glyphs.new }
+{
+    if !may_have_modifier(&glyphs[start..end]) {
+        return false;
+    }
+    reorder_modifiers(level, glyphs, start, end)
+}
+
+// Whether one of these marks may modify a letter.
+#[inline]
+fn may_have_modifier(marks: &[hb_glyph_info_t]) -> bool
+    ensures { result ≡ list_any may_modify marks.now }
+{
+    marks.iter().any(may_modify)
+}
+
+// Whether the mark may modify a letter: by its class, if it has one, and by where its character
+// stands. (Few marks may, and it is faster to ask this of all marks first.)
+#[inline]
+fn may_modify(mark: &hb_glyph_info_t) -> bool
+    ensures { result ≡ may_modify mark.now }
+{
+    matches!(mark.unicode_props.high_byte(), BELOW | ABOVE) && is_among_modifiers(mark.glyph_id)
+}
+
+// Whether a character is in one of the three ranges of `MODIFIERS`.
+#[inline]
+fn is_among_modifiers(character: u32) -> bool
+    ensures { result ≡ is_among_modifiers character }
+{
+    matches!(
+        character,
+        0x0654..=0x0658 | 0x06DC..=0x06E8 | 0x08CA..=0x08F3
+    )
+}
+
+// `reorder_marks_in`, where one of the marks may modify a letter.
+#[inline(never)]
+fn reorder_modifiers(
+    level: BufferClusterLevel,
+    glyphs: &mut [hb_glyph_info_t],
+    start: usize,
+    end: usize,
+) -> bool
+    requires in_order { start ≤ end }
+    requires in_range { end ≤ length glyphs.old }
+    ensures marks { glyphs.new
+        ≡ marks_reordered start end (marks_merged level start end glyphs.old) }
+    ensures moved { let marks = stretch_of start end glyphs.old in
+        result ≡ list_any is_modifier marks }
+    ensures unchanged { result ≡ false → glyphs.new ≡ glyphs.old }
 {
     if !has_modifier(&glyphs[start..end]) {
         return false;
@@ -95,7 +147,7 @@ fn has_modifier(marks: &[hb_glyph_info_t]) -> bool
 }
 
 // Merges what the modifiers pass with them, and brings them to the front.
-#[inline(never)]
+#[inline]
 fn move_modifiers(
     level: BufferClusterLevel,
     glyphs: &mut [hb_glyph_info_t],

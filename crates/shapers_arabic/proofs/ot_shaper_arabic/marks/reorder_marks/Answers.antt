@@ -2,8 +2,8 @@
 use Rattle.std.proofs.Common.{◌∷◌, [], ◌∙◌, ap, sym, subst}
 use Rattle.shapers_buffer.specs.Glyph.{order_view}
 use Rattle.shapers_clusters.specs.Laws.{ReorderedHold}
-use Rattle.shapers_arabic.specs.Marks.{marks_merged, marks_reordered, text_step, without_class}
-use Rattle.shapers_arabic.proofs.MarkLaws.{marks_view, mark_laws}
+use Rattle.shapers_arabic.specs.Marks.{ModifiersTakeClasses, marks_merged, marks_reordered, text_step, without_class}
+use Rattle.shapers_arabic.proofs.MarkLaws.{marks_take_classes, marks_view, mark_laws}
 use Rattle.shapers_arabic.proofs.ot_shaper_arabic.marks.reorder_marks.Goals as goal
 
 pub returns-clause-order : goal.returns-clause-order
@@ -14,6 +14,15 @@ returns-clause-order c =
     let level_is = c.cluster_level-level.ensures in
     ap order_view (c.walk.ensures.walked ∙ ap (λ level. marks_reordered s e (marks_merged level s e b.glyphs)) level_is)
     ∙ marks_view b.level s e b.glyphs
+
+pub returns-clause-classes : goal.returns-clause-classes
+returns-clause-classes c =
+    let b = c.args.buffer.now in
+    let s = c.args.start in
+    let e = c.args.end in
+    let is = c.walk.ensures.walked
+    ∙ ap (λ level. marks_reordered s e (marks_merged level s e b.glyphs)) c.cluster_level-level.ensures in
+    subst (ModifiersTakeClasses s e b.glyphs) (sym is) (marks_take_classes b.level s e b.glyphs)
 
 pub returns-clause-laws : goal.returns-clause-laws
 returns-clause-laws c =

@@ -33,10 +33,11 @@ const ABOVE: u8 = 230;
 ///     buffer.new ≡ record buffer.old { glyphs = marks_reordered start end merged } }
 /// ensures order { let view = order_view buffer.old.glyphs in
 ///     order_view buffer.new.glyphs ≡ marks_reordered start end view }
+/// ensures classes { ModifiersTakeClasses start end buffer.old.glyphs buffer.new.glyphs }
 /// ensures laws { ArabicMarksReordered start end buffer.old buffer.new }
 /// ```
 ///
-/// - `ArabicMarksReordered`, `marks_merged`, `marks_reordered`: `crates/shapers_arabic/specs/Marks.antt`
+/// - `ArabicMarksReordered`, `ModifiersTakeClasses`, `marks_merged`, `marks_reordered`: `crates/shapers_arabic/specs/Marks.antt`
 /// - `order_view`: `crates/shapers_buffer/specs/Glyph.antt`
 ///
 /// </details>
@@ -79,16 +80,53 @@ impl GlyphWalk for MarkOrder {
 /// ensures moved { let marks = stretch_of start end glyphs.old in
 ///     result ≡ list_any is_modifier marks }
 /// ensures unchanged { result ≡ false → glyphs.new ≡ glyphs.old }
+/// ensures classes { ModifiersTakeClasses start end glyphs.old glyphs.new }
 /// ```
 ///
 /// - `is_modifier`: `crates/shapers_arabic/specs/MarkParts.antt`
-/// - `marks_merged`, `marks_reordered`: `crates/shapers_arabic/specs/Marks.antt`
+/// - `ModifiersTakeClasses`, `marks_merged`, `marks_reordered`: `crates/shapers_arabic/specs/Marks.antt`
 /// - `stretch_of`: `crates/shapers_buffer/specs/Clusters.antt`
 ///
 /// </details>
 ///
 /// [`reorder_marks`]: crate::Shaper::reorder_marks
 pub fn reorder_marks_in(
+    level: BufferClusterLevel,
+    glyphs: &mut [GlyphInfo],
+    start: usize,
+    end: usize,
+) -> bool {
+    if !may_have_modifier(&glyphs[start..end]) {
+        return false;
+    }
+    reorder_modifiers(level, glyphs, start, end)
+}
+
+// Whether one of these marks may modify a letter.
+#[inline]
+fn may_have_modifier(marks: &[GlyphInfo]) -> bool {
+    marks.iter().any(may_modify)
+}
+
+// Whether the mark may modify a letter: by its class, if it has one, and by where its character
+// stands. (Few marks may, and it is faster to ask this of all marks first.)
+#[inline]
+fn may_modify(mark: &GlyphInfo) -> bool {
+    matches!(mark.unicode_props.high_byte(), BELOW | ABOVE) && is_among_modifiers(mark.glyph_id)
+}
+
+// Whether a character is in one of the three ranges of `MODIFIERS`.
+#[inline]
+fn is_among_modifiers(character: u32) -> bool {
+    matches!(
+        character,
+        0x0654..=0x0658 | 0x06DC..=0x06E8 | 0x08CA..=0x08F3
+    )
+}
+
+// `reorder_marks_in`, where one of the marks may modify a letter.
+#[inline(never)]
+fn reorder_modifiers(
     level: BufferClusterLevel,
     glyphs: &mut [GlyphInfo],
     start: usize,
@@ -110,7 +148,7 @@ fn has_modifier(marks: &[GlyphInfo]) -> bool {
 }
 
 // Merges what the modifiers pass with them, and brings them to the front.
-#[inline(never)]
+#[inline]
 fn move_modifiers(level: BufferClusterLevel, glyphs: &mut [GlyphInfo], start: usize, end: usize) {
     let parts = parts_of(&glyphs[start..end]);
     merge_passed(level, glyphs, start, parts);
