@@ -2,16 +2,15 @@
 use Rattle.std.proofs.Common.{◌≡◌, ℕ, Bool, true, cond, List, [], ◌∷◌, length, refl, sym, ap, ◌∙◌}
 use Rattle.std.specs.List.{AllByRecursion}
 use Rattle.shapers_buffer.specs.declared.buffer.glyph.hb_glyph_info_t.{hb_glyph_info_t}
-use Rattle.shapers_buffer.specs.declared.buffer.level.BufferClusterLevel.{BufferClusterLevel}
 use Rattle.shapers_buffer.specs.Buffer.{Buffer}
 use Rattle.shapers_buffer.specs.Glyph.{characters}
 use Rattle.shapers_base.specs.Font.{Font}
 use Rattle.shapers_base.specs.declared.plan.breaks.BreakFlags.{BreakFlags}
 use Rattle.shapers_base.specs.declared.plan.breaks.BreakFlags.TheVariants.{AsCode, Sound}
 use Rattle.shapers_hangul.specs.declared.ot_shaper_hangul.item.Item.{Item}
-use Rattle.shapers_hangul.specs.Hangul.{all_joined, allows_circles, is_kept, items, items_at, items_flagged, preprocessed, rewritten_by}
+use Rattle.shapers_hangul.specs.Hangul.{allows_circles, is_kept, items, items_at, items_flagged, preprocessed, rewritten_by}
 use Rattle.shapers_hangul.specs.HangulLaws.{AllKept}
-use Rattle.shapers_hangul.specs.RewritingWalk.{KeptBefore, changed_from, rewritten_items}
+use Rattle.shapers_hangul.specs.RewritingWalk.{KeptBefore, rewritten_items}
 use Rattle.shapers_hangul.proofs.Changes.{buffer_changed, length-flagged, none_next}
 
 -- every item stays just where none changes the text

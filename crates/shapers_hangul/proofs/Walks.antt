@@ -1,8 +1,7 @@
 -- The walks of the code over the items: what is written, what is merged, what changes.
-use Rattle.std.proofs.Common.{◌≡◌, ℕ, zero, suc, ◌+◌, ◌<◌, ◌≤◌, ◌||◌, ◌&&◌, ◌==◌, not, nat_lt, Bool, true, false, cond, List, [], ◌∷◌, ◌++◌, length, map, take, drop, refl, sym, subst, ap, ◌∙◌, arith}
-use Rattle.std.specs.List.{AllByRecursion}
+use Rattle.std.proofs.Common.{◌≡◌, ℕ, zero, suc, ◌+◌, ◌<◌, ◌≤◌, ◌||◌, ◌&&◌, ◌==◌, not, nat_lt, Bool, true, false, cond, List, [], ◌∷◌, ◌++◌, length, map, take, drop, refl, sym, ap, ◌∙◌, arith}
 use Rattle.std.proofs.lemmas.Bool.{eqb-true}
-use Rattle.std.proofs.lemmas.List.{append_assoc, length-append, length-map, drop-map}
+use Rattle.std.proofs.lemmas.List.{length-append, length-map, drop-map}
 use Rattle.shapers_buffer.specs.declared.buffer.glyph.hb_glyph_info_t.{hb_glyph_info_t}
 use Rattle.shapers_buffer.specs.declared.buffer.level.BufferClusterLevel.{BufferClusterLevel}
 use Rattle.shapers_buffer.specs.Clusters.{merge, merge_all}
@@ -19,7 +18,7 @@ use Rattle.shapers_hangul.specs.declared.ot_shaper_hangul.item.JoinedTone.{Joine
 use Rattle.shapers_hangul.specs.declared.ot_shaper_hangul.item.JoinedTone.TheVariants.{Absent, Before, Behind}
 use Rattle.shapers_hangul.specs.declared.ot_shaper_hangul.item.Unit.{Unit}
 use Rattle.shapers_hangul.specs.declared.ot_shaper_hangul.item.Unit.TheVariants.{ComposedTwo, ComposedThree, JamoTwo, JamoThree, PartsTwo, PartsThree, PartsBeforeT, Syllable, ToneCircle, CircleTone, Other}
-use Rattle.shapers_hangul.specs.Hangul.{taken, output_len, tone_len, item_len, keeps, is_kept, first_item, Copying, unit_output, with_tone, item_output, outputs, is_merged, item_stretches, stretches, unsafe_stretches, item_joined, all_joined, whole_items, glyph_copies, items_at}
+use Rattle.shapers_hangul.specs.Hangul.{taken, output_len, tone_len, item_len, keeps, is_kept, first_item, Copying, unit_output, with_tone, item_output, outputs, is_merged, item_stretches, stretches, unsafe_stretches, item_joined, all_joined, glyph_copies, items_at}
 use Rattle.shapers_hangul.proofs.Items.{items_at_next, items_at_end}
 
 pub characters-merge_all : (level : BufferClusterLevel) (sts : List (ℕ × ℕ)) (gs : List hb_glyph_info_t)

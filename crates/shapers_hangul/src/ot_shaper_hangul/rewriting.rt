@@ -92,7 +92,7 @@ impl Cut {
         }
     }
 
-    // One more, unless it stays as it is.
+    // One more, unless it stays as it is, of a text of so many characters.
     #[inline]
     fn add(&mut self, place: usize, item: Item, len: usize)
         ensures kept { is_kept item ≡ true → self.new ≡ self.old }
@@ -108,7 +108,7 @@ impl Cut {
                 self.few.push((place, item));
                 return;
             }
-            if self.list(len).is_err() {
+            if self.list_few(len).is_err() {
                 self.is_whole = false;
                 return;
             }
@@ -120,7 +120,7 @@ impl Cut {
 
     // Lists the few items, with room for half the characters: most items take two or more.
     #[inline(never)]
-    fn list(&mut self, len: usize) -> Result<(), AllocError>
+    fn list_few(&mut self, len: usize) -> Result<(), AllocError>
         ensures listed { OnOk result (self.new.many.items ≡ self.old.many.items ++ self.old.few.items) }
         ensures few { self.new.few ≡ self.old.few }
         ensures whole { self.new.is_whole ≡ self.old.is_whole }

@@ -51,8 +51,7 @@ loop-place-preserved g c =
       none = λ all.
           let so_far = l.invariant.none all in
           let next = nothing_next font circles gs l.place item c.loop-place-test.true c.item_at-item.ensures.item
-          so_far.0 in
-          (
+          so_far.0 in (
             subst (λ p. rewritten_items (items_at font circles (characters gs) p) ≡ []) on next.1,
             ap (λ (cut : Cut). cut.is_whole) (c.add.ensures.kept next.0) ∙ so_far.1,
           );

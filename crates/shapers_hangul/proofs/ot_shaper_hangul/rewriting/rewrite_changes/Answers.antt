@@ -113,7 +113,7 @@ returns-in_err-len-clause-kept g c all =
       arith,
       passed,
       length_read font (allows_circles b) b.level b.glyphs circles read kept c.wants_circles-circles.ensures
-    c.glyphs-glyphs.ensures c.kept_len-kept.ensures,
+          c.glyphs-glyphs.ensures c.kept_len-kept.ensures,
       same_length font b all,
       c.max_len.ensures.limit,
       c.len.ensures.fits,
@@ -155,7 +155,7 @@ returns-then-not-cut-clause-length g c =
     omega (
       arith,
       length_read font (allows_circles b) b.level b.glyphs circles read kept c.wants_circles-circles.ensures
-    c.glyphs-glyphs.ensures c.kept_len-kept.ensures,
+          c.glyphs-glyphs.ensures c.kept_len-kept.ensures,
       c.in_ok-len.ensures.length,
       c.max_len.ensures.limit,
     )
@@ -238,7 +238,7 @@ returns-clause-length g c =
       told,
       c.in_ok-len.ensures.exact,
       length_read font (allows_circles b) b.level b.glyphs circles read kept c.wants_circles-circles.ensures
-    c.glyphs-glyphs.ensures c.kept_len-kept.ensures,
+          c.glyphs-glyphs.ensures c.kept_len-kept.ensures,
     )
 
 pub returns-clause-ok : goal.returns-clause-ok
