@@ -1,9 +1,8 @@
 -- The items that change the text, and what stands between them.
 use Rattle.std.proofs.Common.{◌≡◌, ℕ, zero, suc, ◌+◌, ◌-◌, ◌<◌, ◌≤◌, Bool, true, false, cond, List, [], ◌∷◌, ◌++◌, length, take, drop, refl, sym, ap, subst, ◌∙◌, arith}
-use Rattle.std.specs.Prelude.{slice_index_or, Result, OnOk}
+use Rattle.std.specs.Prelude.{slice_index_or}
 use Rattle.shapers_buffer.specs.Glyph.{characters}
 use Rattle.shapers_buffer.specs.Buffer.{Buffer}
-use Rattle.shapers_buffer.specs.declared.buffer.refusal.ShaperError.{ShaperError}
 use Rattle.std.proofs.lemmas.List.{append_assoc, drop_all, drop-drop, length-append, length-drop, length-take-le, take-append-drop}
 use Rattle.std.proofs.Math.Seq.{take-add}
 use Rattle.shapers_buffer.specs.declared.buffer.glyph.hb_glyph_info_t.{hb_glyph_info_t}
@@ -13,15 +12,15 @@ use Rattle.shapers_base.specs.Font.{Font}
 use Rattle.shapers_base.specs.declared.plan.breaks.BreakFlags.{BreakFlags}
 use Rattle.shapers_base.specs.declared.plan.breaks.BreakFlags.TheVariants.{AsCode, Sound}
 use Rattle.shapers_hangul.specs.declared.ot_shaper_hangul.item.Item.{Item}
-use Rattle.shapers_hangul.specs.Hangul.{item_len, output_len, tone_len, is_kept, first_item, items_from, items_at, Fit, item_output, outputs, item_joined, all_joined, character_copies, glyph_copies, allows_circles, items, items_flagged, rewritten, rewritten_by, text_rewritten, whole_items, KeptBefore}
-use Rattle.shapers_hangul.specs.RewritingWalk.{rewritten_items, InTurn, change_output, changed_from}
+use Rattle.shapers_hangul.specs.Hangul.{item_len, output_len, tone_len, is_kept, first_item, items_from, items_at, Fit, item_output, outputs, item_joined, all_joined, character_copies, glyph_copies, allows_circles, items, items_flagged, rewritten, rewritten_by, text_rewritten, whole_items}
+use Rattle.shapers_hangul.specs.RewritingWalk.{KeptBefore, rewritten_items, InTurn, change_output, changed_from}
 use Rattle.shapers_hangul.proofs.ItemFlags.{characters-items_flagged, length-items_flagged}
-use Rattle.shapers_hangul.proofs.Items.{taken_some, first_item-within, items_at_fit}
+use Rattle.shapers_hangul.proofs.Items.{taken_some, first_item-within, items_fit}
 use Rattle.shapers_hangul.proofs.Outputs.{characters-outputs}
-use Rattle.shapers_hangul.proofs.Walks.{kept_stays, one_unflagged, staying_next, glyphs_next, length-characters, length-all_joined, length-item_output}
+use Rattle.shapers_hangul.proofs.Walks.{kept_stays, one_unflagged, staying_next, length_staying, glyphs_next, length-characters, length-all_joined, length-item_output}
 
 -- a choice by whether an item is kept
-by_kept : (P : List (ℕ × Item) → Type 0) (item : Item) (a b : List (ℕ × Item)) → (is_kept item ≡ true → P a)
+pub by_kept : (P : List (ℕ × Item) → Type 0) (item : Item) (a b : List (ℕ × Item)) → (is_kept item ≡ true → P a)
     → (is_kept item ≡ false → P b) → P (cond (is_kept item) a b)
 by_kept P item a b stays goes = elim (is_kept item) as (λ k. is_kept item ≡ k → P (cond k a b))
     [ true ↦ stays | false ↦ goes ] refl
@@ -55,6 +54,31 @@ recording_staying font circles gs list start place inside stays so_far =
     ap (λ l. list ++ l) (sym (ap rewritten_items (staying_next font circles gs place inside stays)
     ∙ ap (λ k. cond k rest ((place, item) ∷ rest)) stays))
     ∙ so_far
+
+-- one more character that stays
+pub kept_next : (font : Font) (circles : Bool) (gs : List hb_glyph_info_t) (place : ℕ) → place < length gs
+    → is_kept (first_item font circles (characters (drop place gs))) ≡ true → KeptBefore font circles gs place
+    → KeptBefore font circles gs (place + 1)
+kept_next font circles gs place inside stays so_far = record {
+  within = omega (arith, inside);
+  listed = sym (recording_staying font circles gs [] _ place inside stays (sym so_far.listed));
+  long = omega (arith, so_far.long, length_staying font circles gs place inside stays);
+}
+
+-- where no item changes the text, the next one stays, and so do the others
+pub none_next : (p : ℕ × Item) (cut : List (ℕ × Item)) → rewritten_items (p ∷ cut) ≡ []
+    → (is_kept p.1 ≡ true) × (rewritten_items cut ≡ [])
+none_next p cut none =
+    by_kept (λ l. l ≡ [] → (is_kept p.1 ≡ true) × (rewritten_items cut ≡ [])) p.1 (rewritten_items cut)
+    (p ∷ rewritten_items cut) (λ stays rest. (stays, rest)) (λ _ some. absurd cc) none
+
+pub nothing_next : (font : Font) (circles : Bool) (gs : List hb_glyph_info_t) (place : ℕ) (item : Item)
+    → place < length gs → item ≡ first_item font circles (characters (drop place gs))
+    → rewritten_items (items_at font circles (characters gs) place) ≡ []
+    → (is_kept item ≡ true) × (rewritten_items (items_at font circles (characters gs) (place + item_len item)) ≡ [])
+nothing_next font circles gs place item inside is none =
+    none_next (place, item) (items_at font circles (characters gs) (place + item_len item))
+    (ap rewritten_items (sym (glyphs_next font circles gs (characters gs) place item refl inside is)) ∙ none)
 
 -- what is kept joins nothing
 pub joined_changes : (level : BufferClusterLevel) (cut : List (ℕ × Item)) (gs : List hb_glyph_info_t)
@@ -195,21 +219,6 @@ turn-at n place [] k p inside turn = absurd (omega arith)
 turn-at n place (q ∷ cut) zero p inside turn = turn_within n (q.0 + item_len q.1) cut turn.1
 turn-at n place (q ∷ cut) (suc k) p inside turn = turn-at n (q.0 + item_len q.1) cut k p (omega arith) turn.1
 
--- the same from the start of the text, before the items
-changed_from-start : (n k : ℕ) (cut : List (ℕ × Item)) (gs : List hb_glyph_info_t) → InTurn n k cut
-    → changed_from 0 cut gs ≡ take k gs ++ changed_from k cut gs
-changed_from-start n k [] gs turn = sym (take-append-drop k gs)
-changed_from-start n k (p ∷ cut) gs turn =
-    let m = p.0 - k in
-    let more : p.0 - 0 ≡ k + m = omega (arith, turn.0) in
-    let output = item_output glyph_copies p.1 (drop p.0 gs) in
-    let rest = changed_from (p.0 + item_len p.1) cut gs in
-    let between = take m (drop k gs) in
-    ap (λ j. (take j gs ++ output) ++ rest) more
-    ∙ ap (λ l. (l ++ output) ++ rest) (take-add k m gs)
-    ∙ ap (λ l. l ++ rest) (append_assoc (take k gs) between output)
-    ∙ append_assoc (take k gs) (between ++ output) rest
-
 -- ROOM
 pub length-change_output : (place : ℕ) (p : ℕ × Item) (gs : List hb_glyph_info_t) → place ≤ p.0
     → p.0 + item_len p.1 ≤ length gs → length (change_output place p gs)
@@ -250,79 +259,48 @@ flagged_listed : (breaks : BreakFlags) (cut : List (ℕ × Item)) (gs : List hb_
 flagged_listed AsCode cut gs = refl
 flagged_listed Sound cut gs = flagged_changes cut gs
 
-flagged_kept : (breaks : BreakFlags) (font : Font) (circles : Bool) (gs : List hb_glyph_info_t) (place : ℕ)
-    → KeptBefore font circles gs place → (xs : List hb_glyph_info_t)
-    → items_flagged breaks (items font circles (characters gs)) xs
-    ≡ items_flagged breaks (items_at font circles (characters gs) place) xs
-flagged_kept AsCode font circles gs place kept xs = refl
-flagged_kept Sound font circles gs place kept xs = kept.unflagged xs
-
 pub changed_whole : (breaks : BreakFlags) (font : Font) (circles : Bool) (level : BufferClusterLevel)
-    (gs : List hb_glyph_info_t) (place : ℕ) (cut : List (ℕ × Item)) → KeptBefore font circles gs place
-    → cut ≡ rewritten_items (items_at font circles (characters gs) place)
+    (gs : List hb_glyph_info_t) (cut : List (ℕ × Item)) → cut ≡ rewritten_items (items font circles (characters gs))
     → changed_from 0 cut (items_flagged breaks cut (all_joined level cut gs))
     ≡ text_rewritten breaks font circles level gs
-changed_whole breaks font circles level gs place cut kept same =
-    let us = characters gs in
-    let at = items_at font circles us place in
-    let whole = items font circles us in
-    let joined = all_joined level at gs in
-    let flagged = items_flagged breaks at joined in
-    let all = all_joined level whole gs in
-    let here : place + 0 ≡ place = omega arith in
+changed_whole breaks font circles level gs cut same =
+    let whole = items font circles (characters gs) in
+    let joined = all_joined level whole gs in
+    let flagged = items_flagged breaks whole joined in
     let is_flagged : items_flagged breaks cut (all_joined level cut gs) ≡ flagged =
     ap (λ (l : List (ℕ × Item)). items_flagged breaks l (all_joined level l gs)) same
-    ∙ flagged_listed breaks at (all_joined level (rewritten_items at) gs)
-    ∙ ap (items_flagged breaks at) (joined_changes level at gs) in
-    let long : length flagged ≡ place + length (drop place us) =
+    ∙ flagged_listed breaks whole (all_joined level (rewritten_items whole) gs)
+    ∙ ap (items_flagged breaks whole) (joined_changes level whole gs) in
+    let long : length flagged ≡ 0 + length (characters gs) =
     omega (
       arith,
-      length-items_flagged breaks at joined,
-      length-all_joined level at gs,
-      length-drop place us,
+      length-items_flagged breaks whole joined,
+      length-all_joined level whole gs,
       length-characters gs,
-      kept.within,
     ) in
-    let turn : InTurn (length gs) place cut =
-    subst (InTurn (length gs) place) (sym same) (items_at_turn font circles gs place kept.within) in
-    let written : changed_from place (rewritten_items at) flagged ≡ outputs glyph_copies at flagged =
-    ap (λ m. changed_from m (rewritten_items at) flagged) (sym here)
-    ∙ changed_all font circles place 0 (drop place us) flagged (omega arith) long in
-    let is_whole : flagged ≡ items_flagged breaks whole all =
-    ap (items_flagged breaks at) (sym (kept.unjoined level gs))
-    ∙ sym (flagged_kept breaks font circles gs place kept all) in
     ap (changed_from 0 cut) is_flagged
-    ∙ changed_from-start (length gs) place cut flagged turn
-    ∙ ap (λ (l : List (ℕ × Item)). take place flagged ++ changed_from place l flagged) same
-    ∙ ap (λ l. take place flagged ++ l) written
-    ∙ sym (kept.same flagged)
-    ∙ ap (outputs glyph_copies whole) is_whole
+    ∙ ap (λ (l : List (ℕ × Item)). changed_from 0 l flagged) same
+    ∙ changed_all font circles 0 0 (characters gs) flagged (omega arith) long
 
 -- what the code asks of the items that it listed, and what it makes of a buffer by them
-pub changes_stand : (font : Font) (circles : Bool) (gs : List hb_glyph_info_t) (place : ℕ) (cut : List (ℕ × Item))
-    → place ≤ length gs → cut ≡ rewritten_items (items_at font circles (characters gs) place) → Fit (length gs) cut
-    × InTurn (length gs) 0 cut
-changes_stand font circles gs place cut within same =
-    let whole = items_at font circles (characters gs) place in
+pub changes_stand : (font : Font) (circles : Bool) (gs : List hb_glyph_info_t) (cut : List (ℕ × Item))
+    → cut ≡ rewritten_items (items font circles (characters gs)) → Fit (length gs) cut × InTurn (length gs) 0 cut
+changes_stand font circles gs cut same =
+    let whole = items font circles (characters gs) in
     let fit : Fit (length gs) whole =
-    subst (λ n. Fit n whole) (length-characters gs)
-    (items_at_fit font circles (characters gs) place (omega (arith, within, length-characters gs))) in
-    let turn : InTurn (length gs) 0 (rewritten_items whole) =
-    sooner (length gs) 0 place (rewritten_items whole) (omega arith)
-    (items_at_turn font circles gs place within) in
+    subst (λ n. Fit n whole) (length-characters gs) (items_fit font circles (characters gs)) in
     subst (λ (l : List (ℕ × Item)). Fit (length gs) l × InTurn (length gs) 0 l) (sym same)
-    (changes_fit (length gs) whole fit, turn)
+    (changes_fit (length gs) whole fit, items_at_turn font circles gs 0 (omega arith))
 
 pub buffer_changed : (breaks : BreakFlags) (font : Font) (b : Buffer) (circles : Bool) (level : BufferClusterLevel)
-    (read : List hb_glyph_info_t) (place : ℕ) (cut : List (ℕ × Item)) → circles ≡ allows_circles b → level ≡ b.level
-    → read ≡ b.glyphs → KeptBefore font circles read place
-    → cut ≡ rewritten_items (items_at font circles (characters read) place)
+    (read : List hb_glyph_info_t) (cut : List (ℕ × Item)) → circles ≡ allows_circles b → level ≡ b.level
+    → read ≡ b.glyphs → cut ≡ rewritten_items (items font circles (characters read))
     → changed_from 0 cut (items_flagged breaks cut (all_joined level cut b.glyphs))
     ≡ (rewritten_by breaks font b).glyphs
-buffer_changed breaks font b circles level read place cut same_circles same_level same_glyphs kept same =
+buffer_changed breaks font b circles level read cut same_circles same_level same_glyphs same =
     ap (λ (xs : List hb_glyph_info_t). changed_from 0 cut (items_flagged breaks cut (all_joined level cut xs)))
     (sym same_glyphs)
-    ∙ changed_whole breaks font circles level read place cut kept same
+    ∙ changed_whole breaks font circles level read cut same
     ∙ ap (λ c. text_rewritten breaks font c level read) same_circles
     ∙ ap (λ l. text_rewritten breaks font (allows_circles b) l read) same_level
     ∙ ap (text_rewritten breaks font (allows_circles b) b.level) same_glyphs
@@ -339,10 +317,3 @@ length-flagged breaks font b =
     ∙ ap (outputs character_copies cut) (characters-items_flagged breaks cut joined)
     ∙ sym (characters-outputs cut joined))
     ∙ length-characters (outputs glyph_copies cut joined)
-
--- a buffer that took another text
-pub replaced_by : {T : Type 0} (b after : Buffer) (r : Result T ShaperError) {list text : List hb_glyph_info_t}
-    → list ≡ text → OnOk r (after ≡ (let new : Buffer = record b { glyphs = list } in new))
-    → OnOk r (after ≡ (let new : Buffer = record b { glyphs = text } in new))
-replaced_by b after r same told =
-    subst (λ l. OnOk r (after ≡ (let new : Buffer = record b { glyphs = l } in new))) same told

@@ -1,55 +1,62 @@
 -- A text of which every item stays as it is.
-use Rattle.std.proofs.Common.{◌≡◌, ℕ, zero, suc, ◌+◌, ◌-◌, ◌<◌, ◌≤◌, Bool, true, false, List, [], ◌∷◌, length, drop, refl, sym, ap, ◌∙◌, subst, arith}
+use Rattle.std.proofs.Common.{◌≡◌, ℕ, Bool, true, cond, List, [], ◌∷◌, length, refl, sym, ap, ◌∙◌}
 use Rattle.std.specs.List.{AllByRecursion}
-use Rattle.std.proofs.lemmas.List.{drop-map}
 use Rattle.shapers_buffer.specs.declared.buffer.glyph.hb_glyph_info_t.{hb_glyph_info_t}
 use Rattle.shapers_buffer.specs.Buffer.{Buffer}
 use Rattle.shapers_buffer.specs.Glyph.{characters}
 use Rattle.shapers_base.specs.Font.{Font}
+use Rattle.shapers_base.specs.declared.plan.breaks.BreakFlags.{BreakFlags}
+use Rattle.shapers_base.specs.declared.plan.breaks.BreakFlags.TheVariants.{AsCode, Sound}
 use Rattle.shapers_hangul.specs.declared.ot_shaper_hangul.item.Item.{Item}
-use Rattle.shapers_hangul.specs.Hangul.{KeptBefore, first_item, is_kept, item_len, items, items_from, allows_circles}
+use Rattle.shapers_hangul.specs.Hangul.{allows_circles, is_kept, items, items_at, items_flagged, preprocessed, rewritten_by}
 use Rattle.shapers_hangul.specs.HangulLaws.{AllKept}
-use Rattle.shapers_hangul.proofs.Walks.{glyphs_end, kept_stays, length-characters}
+use Rattle.shapers_hangul.specs.RewritingWalk.{KeptBefore, rewritten_items}
+use Rattle.shapers_hangul.proofs.Changes.{buffer_changed, length-flagged, none_next}
 
--- there is then an item at each place
-kept_at : (font : Font) (circles : Bool) (place : ℕ) (us : List ℕ)
-    → AllByRecursion (λ p. is_kept p.1 ≡ true) (items_from (first_item font circles) place 0 us) → (k : ℕ)
-    → k < length us → is_kept (first_item font circles (drop k us)) ≡ true
-kept_at font circles place [] all k inside = absurd (omega arith)
-kept_at font circles place (u ∷ us) all zero inside = all.0
-kept_at font circles place (u ∷ us) all (suc k) inside =
-    let one : item_len (first_item font circles (u ∷ us)) - 1 ≡ 0 =
-    omega (arith, (kept_stays (first_item font circles (u ∷ us)) all.0).one) in
-    kept_at font circles (place + 1) us
-    (subst (λ n. AllByRecursion (λ p. is_kept p.1 ≡ true) (items_from (first_item font circles) (place + 1) n us))
-    one all.1) k (omega (arith, inside))
+-- every item stays just where none changes the text
+none_changes : (cut : List (ℕ × Item)) → AllByRecursion (λ p. is_kept p.1 ≡ true) cut → rewritten_items cut ≡ []
+none_changes [] all = refl
+none_changes (p ∷ cut) all =
+    ap (λ k. cond k (rewritten_items cut) (p ∷ rewritten_items cut)) all.0 ∙ none_changes cut all.1
 
-goes_at : (font : Font) (circles : Bool) (gs : List hb_glyph_info_t) (kept : ℕ) → kept < length gs
-    → is_kept (first_item font circles (characters (drop kept gs))) ≡ false
-    → AllByRecursion (λ p. is_kept p.1 ≡ true) (items font circles (characters gs)) → ⊥
-goes_at font circles gs kept inside goes all =
-    let e : false ≡ true =
-    sym goes ∙ ap (λ xs. is_kept (first_item font circles xs)) (sym (drop-map (λ g. g.glyph_id) kept gs))
-    ∙ kept_at font circles 0 (characters gs) all kept (omega (arith, inside, length-characters gs)) in
-    cc
+each_stays : (cut : List (ℕ × Item)) → rewritten_items cut ≡ [] → AllByRecursion (λ p. is_kept p.1 ≡ true) cut
+each_stays [] none = tt
+each_stays (p ∷ cut) none = let rest = none_next p cut none in (rest.0, each_stays cut rest.1)
 
--- so the code, which stops at the first item that doesn't stay, comes to its end
-pub never_goes : (font : Font) (b : Buffer) (circles : Bool) (gs : List hb_glyph_info_t) (kept : ℕ)
-    → circles ≡ allows_circles b → gs ≡ b.glyphs → kept < length gs
-    → (kept < length gs → is_kept (first_item font circles (characters (drop kept gs))) ≡ false) → AllKept font b → ⊥
-never_goes font b circles gs kept same_circles same inside stops all =
-    goes_at font circles gs kept inside (stops inside)
-    (subst (λ c. AllByRecursion (λ p. is_kept p.1 ≡ true) (items font c (characters gs))) (sym same_circles)
-    (subst (λ xs. AllByRecursion (λ p. is_kept p.1 ≡ true) (items font (allows_circles b) (characters xs)))
-    (sym same) all))
+-- so the code lists none
+pub nothing_listed : (font : Font) (b : Buffer) (circles : Bool) (gs : List hb_glyph_info_t) (kept : ℕ)
+    → circles ≡ allows_circles b → gs ≡ b.glyphs → KeptBefore font circles gs kept → AllKept font b
+    → rewritten_items (items_at font circles (characters gs) kept) ≡ []
+nothing_listed font b circles gs kept same_circles same before all =
+    sym before.listed
+    ∙ ap (λ (xs : List hb_glyph_info_t). rewritten_items (items font circles (characters xs))) same
+    ∙ ap (λ c. rewritten_items (items font c (characters b.glyphs))) same_circles
+    ∙ none_changes (items font (allows_circles b) (characters b.glyphs)) all
 
--- and where it comes there, every item stays
+-- and where it lists none, every item stays
 pub all_stay : (font : Font) (b : Buffer) (circles : Bool) (gs : List hb_glyph_info_t) (kept : ℕ)
-    → circles ≡ allows_circles b → gs ≡ b.glyphs → length gs ≤ kept → KeptBefore font circles gs kept → AllKept font b
-all_stay font b circles gs kept same_circles same past before =
-    let all : AllByRecursion (λ p. is_kept p.1 ≡ true) (items font circles (characters gs)) =
-    before.stays (subst (AllByRecursion (λ (p : ℕ × Item). is_kept p.1 ≡ true))
-    (sym (glyphs_end font circles gs (characters gs) kept refl past)) tt) in
-    subst (λ (xs : List hb_glyph_info_t). AllByRecursion (λ p. is_kept p.1 ≡ true)
-    (items font (allows_circles b) (characters xs))) same
-    (subst (λ c. AllByRecursion (λ p. is_kept p.1 ≡ true) (items font c (characters gs))) same_circles all)
+    → circles ≡ allows_circles b → gs ≡ b.glyphs → KeptBefore font circles gs kept
+    → rewritten_items (items_at font circles (characters gs) kept) ≡ [] → AllKept font b
+all_stay font b circles gs kept same_circles same before none =
+    each_stays (items font (allows_circles b) (characters b.glyphs))
+    (ap (λ c. rewritten_items (items font c (characters b.glyphs))) (sym same_circles)
+    ∙ ap (λ (xs : List hb_glyph_info_t). rewritten_items (items font circles (characters xs))) (sym same)
+    ∙ before.listed ∙ none)
+
+-- the text is then what it was
+unflagged : (breaks : BreakFlags) (gs : List hb_glyph_info_t) → items_flagged breaks [] gs ≡ gs
+unflagged AsCode gs = refl
+unflagged Sound gs = refl
+
+pub unchanged : (breaks : BreakFlags) (font : Font) (b : Buffer) → AllKept font b → b ≡ rewritten_by breaks font b
+unchanged breaks font b all =
+    let none = none_changes (items font (allows_circles b) (characters b.glyphs)) all in
+    let same : b.glyphs ≡ (rewritten_by breaks font b).glyphs =
+    sym (unflagged breaks b.glyphs)
+    ∙ buffer_changed breaks font b (allows_circles b) b.level b.glyphs [] refl refl refl (sym none) in
+    ap (λ (xs : List hb_glyph_info_t). let new : Buffer = record b { glyphs = xs } in new) same
+
+pub same_length : (font : Font) (b : Buffer) → AllKept font b
+    → length (preprocessed font (allows_circles b) b.level b.glyphs) ≡ length b.glyphs
+same_length font b all =
+    sym (length-flagged AsCode font b) ∙ ap (λ (new : Buffer). length new.glyphs) (sym (unchanged AsCode font b all))

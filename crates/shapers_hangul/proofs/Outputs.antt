@@ -4,7 +4,7 @@ use Rattle.std.specs.Prelude.{Result}
 use Rattle.shapers_buffer.specs.Glyph.{characters}
 use Rattle.shapers_buffer.specs.Refusals.{RefusesLength}
 use Rattle.shapers_buffer.specs.declared.buffer.refusal.ShaperError.{ShaperError}
-use Rattle.std.proofs.lemmas.List.{length-append, length-take-le, map-append, drop-map}
+use Rattle.std.proofs.lemmas.List.{map-append, drop-map}
 use Rattle.std.specs.List.{take-map}
 use Rattle.shapers_buffer.specs.declared.buffer.glyph.hb_glyph_info_t.{hb_glyph_info_t}
 use Rattle.shapers_buffer.specs.declared.buffer.level.BufferClusterLevel.{BufferClusterLevel}
@@ -14,7 +14,8 @@ use Rattle.shapers_hangul.specs.declared.ot_shaper_hangul.item.JoinedTone.{Joine
 use Rattle.shapers_hangul.specs.declared.ot_shaper_hangul.item.JoinedTone.TheVariants.{Absent, Before, Behind}
 use Rattle.shapers_hangul.specs.declared.ot_shaper_hangul.item.Unit.{Unit}
 use Rattle.shapers_hangul.specs.declared.ot_shaper_hangul.item.Unit.TheVariants.{ComposedTwo, ComposedThree, JamoTwo, JamoThree, PartsTwo, PartsThree, PartsBeforeT, Syllable, ToneCircle, CircleTone, Other}
-use Rattle.shapers_hangul.specs.Hangul.{taken, items, Copying, marked_from, unit_output, with_tone, item_output, outputs, all_joined, glyph_copies, character_copies, items_at, preprocessed, KeptBefore}
+use Rattle.shapers_hangul.specs.Hangul.{taken, items, Copying, marked_from, unit_output, with_tone, item_output, outputs, all_joined, glyph_copies, character_copies, items_at, preprocessed}
+use Rattle.shapers_hangul.specs.RewritingWalk.{KeptBefore}
 use Rattle.shapers_hangul.proofs.Walks.{characters-all_joined, length-characters}
 
 -- f leads what the one copying makes to what the other makes
@@ -119,12 +120,7 @@ length-preprocessed font circles level gs =
 pub length-kept : (font : Font) (circles : Bool) (level : BufferClusterLevel) (gs : List hb_glyph_info_t) (place : ℕ)
     → KeptBefore font circles gs place → length (preprocessed font circles level gs)
     ≡ place + length (outputs glyph_copies (items_at font circles (characters gs) place) gs)
-length-kept font circles level gs place kept =
-    length-preprocessed font circles level gs
-    ∙ ap length (kept.same gs)
-    ∙ length-append (take place gs) (outputs glyph_copies (items_at font circles (characters gs) place) gs)
-    ∙ ap (λ n. n + length (outputs glyph_copies (items_at font circles (characters gs) place) gs))
-    (length-take-le place gs kept.within)
+length-kept font circles level gs place kept = length-preprocessed font circles level gs ∙ kept.long
 
 -- the result and its length, by what was read of the buffer
 pub length_read : (font : Font) (circles : Bool) (level : BufferClusterLevel) (gs : List hb_glyph_info_t) (asked : Bool)

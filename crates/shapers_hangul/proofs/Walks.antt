@@ -1,8 +1,7 @@
 -- The walks of the code over the items: what is written, what is merged, what changes.
-use Rattle.std.proofs.Common.{◌≡◌, ℕ, zero, suc, ◌+◌, ◌<◌, ◌≤◌, ◌||◌, ◌&&◌, ◌==◌, not, nat_lt, Bool, true, false, cond, List, [], ◌∷◌, ◌++◌, length, map, take, drop, refl, sym, subst, ap, ◌∙◌, arith}
-use Rattle.std.specs.List.{AllByRecursion}
+use Rattle.std.proofs.Common.{◌≡◌, ℕ, zero, suc, ◌+◌, ◌<◌, ◌≤◌, ◌||◌, ◌&&◌, ◌==◌, not, nat_lt, Bool, true, false, cond, List, [], ◌∷◌, ◌++◌, length, map, take, drop, refl, sym, ap, ◌∙◌, arith}
 use Rattle.std.proofs.lemmas.Bool.{eqb-true}
-use Rattle.std.proofs.lemmas.List.{append_assoc, length-append, length-map, drop-map}
+use Rattle.std.proofs.lemmas.List.{length-append, length-map, drop-map}
 use Rattle.shapers_buffer.specs.declared.buffer.glyph.hb_glyph_info_t.{hb_glyph_info_t}
 use Rattle.shapers_buffer.specs.declared.buffer.level.BufferClusterLevel.{BufferClusterLevel}
 use Rattle.shapers_buffer.specs.Clusters.{merge, merge_all}
@@ -19,7 +18,7 @@ use Rattle.shapers_hangul.specs.declared.ot_shaper_hangul.item.JoinedTone.{Joine
 use Rattle.shapers_hangul.specs.declared.ot_shaper_hangul.item.JoinedTone.TheVariants.{Absent, Before, Behind}
 use Rattle.shapers_hangul.specs.declared.ot_shaper_hangul.item.Unit.{Unit}
 use Rattle.shapers_hangul.specs.declared.ot_shaper_hangul.item.Unit.TheVariants.{ComposedTwo, ComposedThree, JamoTwo, JamoThree, PartsTwo, PartsThree, PartsBeforeT, Syllable, ToneCircle, CircleTone, Other}
-use Rattle.shapers_hangul.specs.Hangul.{taken, output_len, tone_len, item_len, keeps, is_kept, first_item, Copying, unit_output, with_tone, item_output, outputs, is_merged, item_stretches, stretches, unsafe_stretches, item_joined, all_joined, whole_items, glyph_copies, items_at, KeptBefore}
+use Rattle.shapers_hangul.specs.Hangul.{taken, output_len, tone_len, item_len, keeps, is_kept, first_item, Copying, unit_output, with_tone, item_output, outputs, is_merged, item_stretches, stretches, unsafe_stretches, item_joined, all_joined, glyph_copies, items_at}
 use Rattle.shapers_hangul.proofs.Items.{items_at_next, items_at_end}
 
 pub characters-merge_all : (level : BufferClusterLevel) (sts : List (ℕ × ℕ)) (gs : List hb_glyph_info_t)
@@ -226,47 +225,10 @@ kept_stays item kept =
     })
     item.unit item.tone item.unsafe_len kept
 
-one_more : {X : Type 0} (n : ℕ) (xs : List X) → take n xs ++ take 1 (drop n xs) ≡ take (suc n) xs
-one_more zero xs = refl
-one_more (suc n) [] = refl
-one_more (suc n) (x ∷ xs) = ap (λ l. x ∷ l) (one_more n xs)
-
 -- one place has no flags
 pub one_unflagged : (s : ℕ) (item : Item) (gs : List hb_glyph_info_t) → item_len item ≡ 1
     → unsafe_inside s (s + item_len item) gs ≡ gs
 one_unflagged s item gs one = unsafe_few s (s + item_len item) gs (omega arith) (omega (arith, one))
-
-pub kept_next : (font : Font) (circles : Bool) (gs : List hb_glyph_info_t) (place : ℕ) (item : Item) → place < length gs
-    → item ≡ first_item font circles (characters (drop place gs)) → is_kept item ≡ true
-    → KeptBefore font circles gs place → KeptBefore font circles gs (place + 1)
-kept_next font circles gs place item inside is kept so_far =
-    let us = characters gs in
-    let cut = items_at font circles us (place + 1) in
-    let keeps = kept_stays item kept in
-    let next : items_at font circles us place ≡ (place, item) ∷ cut =
-    glyphs_next font circles gs us place item refl inside is
-    ∙ ap (λ n. (place, item) ∷ items_at font circles us (place + n)) keeps.one in
-    let on : suc place ≡ place + 1 = omega arith in
-    record {
-      within = omega (arith, inside);
-      unjoined = λ level xs.
-          so_far.unjoined level xs
-          ∙ ap (λ (l : List (ℕ × Item)). all_joined level l xs) next
-          ∙ ap (all_joined level cut) (keeps.unjoined level place xs);
-      unflagged = λ xs.
-          so_far.unflagged xs
-          ∙ ap (λ (l : List (ℕ × Item)). unsafe_all (whole_items l) xs) next
-          ∙ ap (unsafe_all (whole_items cut)) (one_unflagged place item xs keeps.one);
-      same = λ xs.
-          let rest = outputs glyph_copies cut xs in
-          so_far.same xs
-          ∙ ap (λ (l : List (ℕ × Item)). take place xs ++ outputs glyph_copies l xs) next
-          ∙ ap (λ (l : List hb_glyph_info_t). take place xs ++ (l ++ rest)) (keeps.itself (drop place xs))
-          ∙ sym (append_assoc (take place xs) (take 1 (drop place xs)) rest)
-          ∙ ap (λ l. l ++ rest) (one_more place xs ∙ ap (λ n. take n xs) on);
-      stays = λ all. so_far.stays
-          (subst (AllByRecursion (λ (p : ℕ × Item). is_kept p.1 ≡ true)) (sym next) (kept, all));
-    }
 
 -- the items from a character on that stays, and the length of what they become
 pub staying_next : (font : Font) (circles : Bool) (gs : List hb_glyph_info_t) (place : ℕ) → place < length gs

@@ -1,6 +1,6 @@
 -- Hangul: jamo, syllables and tones (The Unicode Standard, "Conjoining Jamo Behavior"; OpenType's
 -- notes on Hangul).
-use Rattle.std.specs.Prelude.{ℕ, ◌+◌, ◌-◌, ◌*◌, ◌/◌, ◌%◌, ◌==◌, ◌≡◌, ◌≤◌, nat_le, nat_lt, nat_abs, zero, suc, get_or, not, Bool, true, false, ◌||◌, ◌&&◌, List, [], ◌∷◌, ◌++◌, map, flat_map, length, take, drop, if◌then◌else◌}
+use Rattle.std.specs.Prelude.{ℕ, ◌+◌, ◌-◌, ◌*◌, ◌/◌, ◌%◌, ◌==◌, ◌≤◌, nat_le, nat_lt, nat_abs, zero, suc, get_or, not, Bool, true, false, ◌||◌, ◌&&◌, List, [], ◌∷◌, ◌++◌, map, flat_map, take, drop, if◌then◌else◌}
 use Rattle.std.specs.Option.{option_map_or}
 use Rattle.std.specs.List.{AllByRecursion}
 use Rattle.shapers_buffer.specs.declared.buffer.glyph.hb_glyph_info_t.{hb_glyph_info_t}
@@ -365,19 +365,3 @@ rewritten_by breaks font b =
 
 abbrev pub rewritten : Font → Buffer → Buffer
 rewritten font b = record b { glyphs = preprocessed font (allows_circles b) b.level b.glyphs }
-
--- in the code: up to this place every item is one character that stays as it is
-pub record KeptBefore (font : Font) (circles : Bool) (gs : List hb_glyph_info_t) (place :
-    ℕ) : Type 0 where
-  pub within : place ≤ length gs
-  pub unjoined : (level : BufferClusterLevel) (xs : List hb_glyph_info_t) →
-      all_joined level (items font circles (characters gs)) xs
-      ≡ all_joined level (items_at font circles (characters gs) place) xs
-  pub unflagged : (xs : List hb_glyph_info_t) →
-      unsafe_all (whole_items (items font circles (characters gs))) xs
-      ≡ unsafe_all (whole_items (items_at font circles (characters gs) place)) xs
-  pub same : (xs : List hb_glyph_info_t) →
-      outputs glyph_copies (items font circles (characters gs)) xs
-      ≡ take place xs ++ outputs glyph_copies (items_at font circles (characters gs) place) xs
-  pub stays : AllByRecursion (λ p. is_kept p.1 ≡ true) (items_at font circles (characters gs) place)
-      → AllByRecursion (λ p. is_kept p.1 ≡ true) (items font circles (characters gs))

@@ -1,9 +1,11 @@
 -- Words of the code's walk over a Hangul text: only the items that change it are listed.
-use Rattle.std.specs.Prelude.{ℕ, ◌+◌, ◌-◌, ◌≤◌, Bool, ◌&&◌, ◌||◌, not, List, [], ◌∷◌, ◌++◌, take, drop, get_or, if◌then◌else◌}
+use Rattle.std.specs.Prelude.{ℕ, ◌+◌, ◌-◌, ◌≤◌, ◌==◌, ◌≡◌, length, Bool, ◌&&◌, ◌||◌, not, List, [], ◌∷◌, ◌++◌, take, drop, get_or, if◌then◌else◌}
 use Rattle.shapers_buffer.specs.declared.buffer.glyph.hb_glyph_info_t.{hb_glyph_info_t}
+use Rattle.shapers_buffer.specs.Glyph.{characters}
 use Rattle.shapers_hangul.specs.declared.ot_shaper_hangul.item.Item.{Item}
+use Rattle.shapers_hangul.specs.declared.ot_shaper_hangul.rewriting.Cut.{Cut}
 use Rattle.shapers_base.specs.Font.{Font, dotted_circle, has_nominal}
-use Rattle.shapers_hangul.specs.Hangul.{glyph_copies, is_kept, is_s, is_t, is_tone, is_v, item_len, item_output}
+use Rattle.shapers_hangul.specs.Hangul.{glyph_copies, is_kept, is_s, is_t, is_tone, is_v, item_len, item_output, items, items_at, outputs}
 
 -- What a look at a character and the next one settles: that a syllable character stays which the
 -- font has and nothing joins, a tone that gets no circle, and any other that nothing joins.
@@ -20,6 +22,20 @@ stays_at_sight font circles us =
 abbrev pub rewritten_items : List (ℕ × Item) → List (ℕ × Item)
 rewritten_items [] = []
 rewritten_items (p ∷ cut) = if is_kept p.1 then rewritten_items cut else p ∷ rewritten_items cut
+
+-- up to this place every item is one character that stays as it is: the items from there on are all
+-- that change the text, and give all of its length but that
+pub record KeptBefore (font : Font) (circles : Bool) (gs : List hb_glyph_info_t) (place :
+    ℕ) : Type 0 where
+  pub within : place ≤ length gs
+  pub listed : rewritten_items (items font circles (characters gs))
+      ≡ rewritten_items (items_at font circles (characters gs) place)
+  pub long : length (outputs glyph_copies (items font circles (characters gs)) gs)
+      ≡ place + length (outputs glyph_copies (items_at font circles (characters gs) place) gs)
+
+-- the items that are listed: the few, until they are more and all stand in the other list
+abbrev pub changes_in : Cut → List (ℕ × Item)
+changes_in cut = if length cut.many.items == 0 then cut.few.items else cut.many.items
 
 -- items that stand one behind the other, from a place on, within n characters
 abbrev pub InTurn : ℕ → ℕ → List (ℕ × Item) → Type 0

@@ -4,12 +4,13 @@ ghost use Rattle.shapers_buffer.specs.Glyph.{characters};
 ghost use Rattle.shapers_buffer.specs.GlyphFlags.{unsafe_all};
 ghost use Rattle.shapers_clusters.specs.CarriedRuns.{IsCarried, with_carried};
 ghost use Rattle.shapers_hangul.specs.HangulLaws.{AllKept};
-ghost use Rattle.shapers_hangul.specs.RewritingWalk.{rewritten_items, InTurn, change_output, changed_from};
+ghost use Rattle.shapers_hangul.specs.RewritingWalk.{KeptBefore, changes_in, rewritten_items, InTurn, change_output, changed_from};
 ghost use Rattle.shapers_buffer.specs.Refusals.{RefusesLength};
 ghost use Rattle.shapers_buffer.specs.declared.buffer.refusal.ShaperError.TheVariants.{TooLong};
-ghost use Rattle.shapers_hangul.specs.Hangul.{first_item, item_len, items_at, items_flagged, glyph_copies, outputs, Fit, all_joined, item_joined, rewritten, allows_circles, is_kept, whole_items, KeptBefore, rewritten_by};
+ghost use Rattle.shapers_hangul.specs.Hangul.{first_item, item_len, items_at, items_flagged, glyph_copies, outputs, Fit, all_joined, item_joined, rewritten, allows_circles, is_kept, whole_items, rewritten_by};
 
 use super::item::{Item, first_item, stays_alone};
+use arrayvec::ArrayVec;
 use bitflags::Flags;
 use shapers_base::buffer::{
     BufferClusterLevel, BufferFlags, GlyphRewriting, ShaperError, change_each_in, hb_buffer_t,
@@ -18,7 +19,7 @@ use shapers_base::buffer::{
 use shapers_base::font::hb_font_t;
 use shapers_base::plan::BreakFlags;
 use shapers_clusters::carried_runs::CarriedRun;
-use std::alloc::Global;
+use std::alloc::{AllocError, Global};
 
 // The item at a place of the text.
 #[inline]
@@ -41,66 +42,91 @@ fn rest_from(glyphs: &[hb_glyph_info_t], place: usize) -> &[hb_glyph_info_t]
     &glyphs[place..]
 }
 
-// Whether the item at a place of the text is one character that stays as it is.
-#[inline]
-fn stays_at<F: hb_font_t>(face: &F, circles: bool, glyphs: &[hb_glyph_info_t], place: usize) -> bool
-    requires { place < length glyphs.now }
-    ensures { let us = characters (drop place glyphs.now) in
-        result ≡ is_kept (first_item (F.font face.now) circles us) }
-{
-    let rest = rest_from(glyphs, place);
-    stays_alone(face, circles, rest) || first_item(face, circles, rest).is_kept()
-}
-
-// How far the text stays as it is: the place of the first item that changes it, or its end.
+// How far a look at each character tells that the text stays as it is.
 #[inline]
 fn kept_len<F: hb_font_t>(face: &F, circles: bool, glyphs: &[hb_glyph_info_t]) -> usize
-    ensures kept { KeptBefore (F.font face.now) circles glyphs.now result }
-    ensures stops { let us = characters (drop result glyphs.now) in
-        result < length glyphs.now → is_kept (first_item (F.font face.now) circles us) ≡ false }
+    ensures { KeptBefore (F.font face.now) circles glyphs.now result }
 {
     let mut place = 0;
-    while place < glyphs.len() {
-        if !stays_at(face, circles, glyphs, place) {
-            return place;
-        }
+    while place < glyphs.len() && stays_alone(face, circles, rest_from(glyphs, place)) {
         place += 1;
     }
     place
 }
 
-// For so many items room is made at least, where there are as many characters.
-const FEW: usize = 24;
+// So many items take no memory.
+const FEW: usize = 8;
 
-// The items that change a text from a place on, each with the place of its first character, as long
-// as memory was found.
+// The items that change a text, each with the place of its first character, as long as memory was
+// found: `few`, and once they are more all of them in `many`.
 #[derive(Drop)]
 struct Cut {
-    items: Vec<(usize, Item)>,
+    few: ArrayVec<(usize, Item), FEW>,
+    many: Vec<(usize, Item)>,
     is_whole: bool,
 }
 
 impl Cut {
-    // None so far, with room for the items of so many characters, if most take two or more.
+    // None so far.
     #[inline]
-    fn new(alloc: Global, len: usize) -> Self
-        ensures none { result.items.items ≡ [] }
+    fn new(alloc: Global) -> Self
+        ensures none { changes_in result ≡ [] }
+        ensures whole { result.is_whole ≡ true }
     {
-        let mut items = Vec::new(alloc);
-        let is_whole = items.reserve_exact(len.min(FEW.max(len / 2))).is_ok();
-        Cut { items, is_whole }
+        Cut {
+            few: ArrayVec::new(),
+            many: Vec::new(alloc),
+            is_whole: true,
+        }
     }
 
-    // One more, unless it stays as it is.
+    // The items.
     #[inline]
-    fn add(&mut self, place: usize, item: Item)
+    fn items(&self) -> &[(usize, Item)]
+        ensures { result.now ≡ changes_in self.now }
+    {
+        if self.many.is_empty() {
+            self.few.as_slice()
+        } else {
+            self.many.as_slice()
+        }
+    }
+
+    // One more, unless it stays as it is, of a text of so many characters.
+    #[inline]
+    fn add(&mut self, place: usize, item: Item, len: usize)
+        ensures kept { is_kept item ≡ true → self.new ≡ self.old }
         ensures whole { self.new.is_whole ≡ true → self.old.is_whole ≡ true }
         ensures added { let one = rewritten_items ((place, item) ∷ []) in
-            self.new.is_whole ≡ true → self.new.items.items ≡ self.old.items.items ++ one }
+            self.new.is_whole ≡ true → changes_in self.new ≡ changes_in self.old ++ one }
     {
-        if !item.is_kept() && self.items.push((place, item)).is_err() {
+        if item.is_kept() {
+            return;
+        }
+        if self.many.is_empty() {
+            if !self.few.is_full() {
+                self.few.push((place, item));
+                return;
+            }
+            if self.list_few(len).is_err() {
+                self.is_whole = false;
+                return;
+            }
+        }
+        if self.many.push((place, item)).is_err() {
             self.is_whole = false;
         }
+    }
+
+    // Lists the few items, with room for half the characters: most items take two or more.
+    #[inline(never)]
+    fn list_few(&mut self, len: usize) -> Result<(), AllocError>
+        ensures listed { OnOk result (self.new.many.items ≡ self.old.many.items ++ self.old.few.items) }
+        ensures few { self.new.few ≡ self.old.few }
+        ensures whole { self.new.is_whole ≡ self.old.is_whole }
+    {
+        self.many.reserve_exact(FEW + len / 2)?;
+        self.many.extend_from_slice(self.few.as_slice())
     }
 }
 
@@ -115,13 +141,15 @@ fn measure<F: hb_font_t>(
     limit: usize,
     cut: &mut Cut,
 ) -> Result<usize, ShaperError>
-    requires none { cut.old.items.items ≡ [] }
+    requires none { changes_in cut.old ≡ [] }
     requires fits { kept ≤ limit }
     requires within { kept ≤ length glyphs.now }
     ensures length { let cut = items_at (F.font face.now) circles (characters glyphs.now) kept in
         RefusesLength limit (kept + length (outputs glyph_copies cut glyphs.now)) result }
     ensures items { let rest = items_at (F.font face.now) circles (characters glyphs.now) kept in
-        IfOk result (λ len. cut.new.is_whole ≡ true → cut.new.items.items ≡ rewritten_items rest) }
+        IfOk result (λ len. cut.new.is_whole ≡ true → changes_in cut.new ≡ rewritten_items rest) }
+    ensures kept { let rest = items_at (F.font face.now) circles (characters glyphs.now) kept in
+        IfOk result (λ len. rewritten_items rest ≡ [] → cut.new.is_whole ≡ cut.old.is_whole) }
     ensures exact { let cut = items_at (F.font face.now) circles (characters glyphs.now) kept in
         IfOk result (λ len. len ≡ kept + length (outputs glyph_copies cut glyphs.now)) }
     ensures refusal { IfErr result (λ e. e ≡ TooLong) }
@@ -142,7 +170,7 @@ fn measure<F: hb_font_t>(
             return Err(ShaperError::TooLong);
         }
         room -= item.output_len();
-        cut.add(place, item);
+        cut.add(place, item, glyphs.len());
         place += item.len();
     }
     Ok(limit - room)
@@ -366,11 +394,26 @@ pub(super) fn rewrite_changes<F: hb_font_t>(
     ensures err { OnErr result (buffer.new ≡ buffer.old) }
 {
     let circles = wants_circles(buffer);
+    let (level, alloc) = (buffer.cluster_level(), buffer.alloc());
     let glyphs = buffer.glyphs();
-    if kept_len(face, circles, glyphs) == buffer.len() {
+    let kept = kept_len(face, circles, glyphs);
+    if kept == buffer.len() {
         return Ok(false);
     }
-    rewrite(breaks, face, buffer)?;
+    let mut cut = Cut::new(alloc);
+    let len = measure(face, circles, glyphs, kept, buffer.max_len(), &mut cut)?;
+    if !cut.is_whole {
+        return Err(ShaperError::Memory);
+    }
+    if cut.items().is_empty() {
+        return Ok(false);
+    }
+    let rewriting = Rewriting {
+        breaks,
+        cut: cut.items(),
+        level,
+    };
+    buffer.rewrite(len, &rewriting)?;
     Ok(true)
 }
 
@@ -388,22 +431,6 @@ pub(super) fn rewrite<F: hb_font_t>(
     ensures err { OnErr result (buffer.new ≡ buffer.old) }
     ensures kept { AllKept (F.font face.now) buffer.old → IsOk result }
 {
-    let circles = wants_circles(buffer);
-    let (level, alloc) = (buffer.cluster_level(), buffer.alloc());
-    let glyphs = buffer.glyphs();
-    let kept = kept_len(face, circles, glyphs);
-    if kept == buffer.len() {
-        return Ok(());
-    }
-    let mut cut = Cut::new(alloc, glyphs.len() - kept);
-    let len = measure(face, circles, glyphs, kept, buffer.max_len(), &mut cut)?;
-    if !cut.is_whole {
-        return Err(ShaperError::Memory);
-    }
-    let rewriting = Rewriting {
-        breaks,
-        cut: cut.items.as_slice(),
-        level,
-    };
-    buffer.rewrite(len, &rewriting)
+    rewrite_changes(breaks, face, buffer)?;
+    Ok(())
 }

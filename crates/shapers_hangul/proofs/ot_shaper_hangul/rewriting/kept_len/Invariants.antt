@@ -1,6 +1,6 @@
 -- All items so far are kept.
 use Rattle.std.proofs.Common.{◌-◌, length}
-use Rattle.shapers_hangul.specs.Hangul.{KeptBefore}
+use Rattle.shapers_hangul.specs.RewritingWalk.{KeptBefore}
 use Rattle.shapers_hangul.proofs.ot_shaper_hangul.rewriting.kept_len.Given as goal
 
 abbrev pub invariant-loop-place : goal.invariant-loop-place

@@ -1,10 +1,11 @@
 -- One more item, no room for one, and the end.
-use Rattle.std.proofs.Common.{◌≡◌, ◌+◌, ◌++◌, true, List, sym, ap, subst, drop, length, arith}
+use Rattle.std.proofs.Common.{◌≡◌, ◌+◌, ◌++◌, ◌∙◌, [], true, List, sym, ap, subst, drop, length, arith}
 use Rattle.shapers_buffer.specs.declared.buffer.glyph.hb_glyph_info_t.{hb_glyph_info_t}
 use Rattle.shapers_buffer.specs.Glyph.{characters}
+use Rattle.shapers_hangul.specs.declared.ot_shaper_hangul.rewriting.Cut.{Cut}
 use Rattle.shapers_hangul.specs.Hangul.{first_item, glyph_copies, is_kept, item_len, items_at, outputs}
-use Rattle.shapers_hangul.specs.RewritingWalk.{rewritten_items}
-use Rattle.shapers_hangul.proofs.Changes.{recording_next, recording_staying}
+use Rattle.shapers_hangul.specs.RewritingWalk.{changes_in, rewritten_items}
+use Rattle.shapers_hangul.proofs.Changes.{nothing_next, recording_next, recording_staying}
 use Rattle.shapers_hangul.proofs.Walks.{length_next, length_staying}
 use Rattle.shapers_hangul.proofs.ot_shaper_hangul.rewriting.measure.Goals as goal
 
@@ -42,11 +43,18 @@ loop-place-preserved g c =
         c.output_len-room.ensures,
       );
       recorded = λ whole.
-          subst (λ p. c.add.new.self.items.items ++ rewritten_items (items_at font circles (characters gs) p)
+          subst (λ p. changes_in c.add.new.self ++ rewritten_items (items_at font circles (characters gs) p)
           ≡ rewritten_items (items_at font circles (characters gs) c.args.kept)) on
-          (recording_next font circles gs l.cut.items.items c.add.new.self.items.items _ l.place item
+          (recording_next font circles gs (changes_in l.cut) (changes_in c.add.new.self) _ l.place item
           c.loop-place-test.true c.item_at-item.ensures.item (l.invariant.recorded (c.add.ensures.whole whole))
           (c.add.ensures.added whole));
+      none = λ all.
+          let so_far = l.invariant.none all in
+          let next = nothing_next font circles gs l.place item c.loop-place-test.true c.item_at-item.ensures.item
+          so_far.0 in (
+            subst (λ p. rewritten_items (items_at font circles (characters gs) p) ≡ []) on next.1,
+            ap (λ (cut : Cut). cut.is_whole) (c.add.ensures.kept next.0) ∙ so_far.1,
+          );
     }
 
 pub returns-then-room-eq0-clause-length : goal.returns-then-room-eq0-clause-length
@@ -82,6 +90,9 @@ loop-place-preserved-then-stays_alone g c =
         l.invariant.room_left,
         c.if-room-eq0.false,
       );
-      recorded = λ whole. recording_staying font circles gs l.cut.items.items _ l.place c.loop-place-test.true stays
+      recorded = λ whole. recording_staying font circles gs (changes_in l.cut) _ l.place c.loop-place-test.true stays
           (l.invariant.recorded whole);
+      none = λ all.
+          let so_far = l.invariant.none all in
+          (recording_staying font circles gs [] _ l.place c.loop-place-test.true stays so_far.0, so_far.1);
     }

@@ -24,7 +24,7 @@ const TJMO: u8 = 3;
 const DOTTED_CIRCLE: u32 = 0x25CC;
 
 // What a unit of the text becomes.
-#[derive(Clone, Copy)]
+#[derive(Clone, Copy, Default)]
 pub(super) enum Unit {
     // Two characters: this syllable character.
     ComposedTwo(u32),
@@ -47,13 +47,15 @@ pub(super) enum Unit {
     // A tone: a circle and itself.
     CircleTone,
     // Any other character: itself, no syllable.
+    #[default]
     Other,
 }
 
 // The tone directly after a syllable.
-#[derive(Clone, Copy)]
+#[derive(Clone, Copy, Default)]
 pub(super) enum JoinedTone {
     // There is none.
+    #[default]
     Absent,
     // It moves before the syllable.
     Before,
@@ -62,7 +64,7 @@ pub(super) enum JoinedTone {
 }
 
 // A unit with its tone, and how many characters from its first on a break would tear apart.
-#[derive(Clone, Copy)]
+#[derive(Clone, Copy, Default)]
 pub(super) struct Item {
     unit: Unit,
     tone: JoinedTone,

@@ -12,7 +12,8 @@ use crate::generated::shapers_base::buffer::{
 use crate::generated::shapers_base::font::Font;
 use crate::generated::shapers_base::plan::BreakFlags;
 use crate::generated::shapers_clusters::carried_runs::CarriedRun;
-use crate::support::alloc::Global;
+use crate::support::alloc::{AllocError, Global};
+use crate::support::arrayvec::ArrayVec;
 
 // The item at a place of the text.
 #[inline]
@@ -26,51 +27,74 @@ fn rest_from(glyphs: &[GlyphInfo], place: usize) -> &[GlyphInfo] {
     &glyphs[place..]
 }
 
-// Whether the item at a place of the text is one character that stays as it is.
-#[inline]
-fn stays_at<F: Font>(face: &F, circles: bool, glyphs: &[GlyphInfo], place: usize) -> bool {
-    let rest = rest_from(glyphs, place);
-    stays_alone(face, circles, rest) || first_item(face, circles, rest).is_kept()
-}
-
-// How far the text stays as it is: the place of the first item that changes it, or its end.
+// How far a look at each character tells that the text stays as it is.
 #[inline]
 fn kept_len<F: Font>(face: &F, circles: bool, glyphs: &[GlyphInfo]) -> usize {
     let mut place = 0;
-    while place < glyphs.len() {
-        if !stays_at(face, circles, glyphs, place) {
-            return place;
-        }
+    while place < glyphs.len() && stays_alone(face, circles, rest_from(glyphs, place)) {
         place += 1;
     }
     place
 }
 
-// For so many items room is made at least, where there are as many characters.
-const FEW: usize = 24;
+// So many items take no memory.
+const FEW: usize = 8;
 
-// The items that change a text from a place on, each with the place of its first character, as long
-// as memory was found.
+// The items that change a text, each with the place of its first character, as long as memory was
+// found: `few`, and once they are more all of them in `many`.
 struct Cut {
-    items: Vec<(usize, Item)>,
+    few: ArrayVec<(usize, Item), FEW>,
+    many: Vec<(usize, Item)>,
     is_whole: bool,
 }
 
 impl Cut {
-    // None so far, with room for the items of so many characters, if most take two or more.
+    // None so far.
     #[inline]
-    fn new(alloc: Global, len: usize) -> Self {
-        let mut items = Vec::new(alloc);
-        let is_whole = items.reserve_exact(len.min(FEW.max(len / 2))).is_ok();
-        Cut { items, is_whole }
+    fn new(alloc: Global) -> Self {
+        Cut {
+            few: ArrayVec::new(),
+            many: Vec::new(alloc),
+            is_whole: true,
+        }
+    }
+
+    // The items.
+    #[inline]
+    fn items(&self) -> &[(usize, Item)] {
+        if self.many.is_empty() {
+            self.few.as_slice()
+        } else {
+            self.many.as_slice()
+        }
     }
 
     // One more, unless it stays as it is.
     #[inline]
-    fn add(&mut self, place: usize, item: Item) {
-        if !item.is_kept() && self.items.push((place, item)).is_err() {
+    fn add(&mut self, place: usize, item: Item, len: usize) {
+        if item.is_kept() {
+            return;
+        }
+        if self.many.is_empty() {
+            if !self.few.is_full() {
+                self.few.push((place, item));
+                return;
+            }
+            if self.list(len).is_err() {
+                self.is_whole = false;
+                return;
+            }
+        }
+        if self.many.push((place, item)).is_err() {
             self.is_whole = false;
         }
+    }
+
+    // Lists the few items, with room for half the characters: most items take two or more.
+    #[inline(never)]
+    fn list(&mut self, len: usize) -> Result<(), AllocError> {
+        self.many.reserve_exact(FEW + len / 2)?;
+        self.many.extend_from_slice(self.few.as_slice())
     }
 }
 
@@ -101,7 +125,7 @@ fn measure<F: Font>(
             return Err(ShaperError::TooLong);
         }
         room -= item.output_len();
-        cut.add(place, item);
+        cut.add(place, item, glyphs.len());
         place += item.len();
     }
     Ok(limit - room)
@@ -245,11 +269,26 @@ pub(super) fn rewrite_changes<F: Font>(
     buffer: &mut Buffer,
 ) -> Result<bool, ShaperError> {
     let circles = wants_circles(buffer);
+    let (level, alloc) = (buffer.cluster_level(), buffer.alloc());
     let glyphs = buffer.glyphs();
-    if kept_len(face, circles, glyphs) == buffer.len() {
+    let kept = kept_len(face, circles, glyphs);
+    if kept == buffer.len() {
         return Ok(false);
     }
-    rewrite(breaks, face, buffer)?;
+    let mut cut = Cut::new(alloc);
+    let len = measure(face, circles, glyphs, kept, buffer.max_len(), &mut cut)?;
+    if !cut.is_whole {
+        return Err(ShaperError::Memory);
+    }
+    if cut.items().is_empty() {
+        return Ok(false);
+    }
+    let rewriting = Rewriting {
+        breaks,
+        cut: cut.items(),
+        level,
+    };
+    buffer.rewrite(len, &rewriting)?;
     Ok(true)
 }
 
@@ -260,22 +299,6 @@ pub(super) fn rewrite<F: Font>(
     face: &F,
     buffer: &mut Buffer,
 ) -> Result<(), ShaperError> {
-    let circles = wants_circles(buffer);
-    let (level, alloc) = (buffer.cluster_level(), buffer.alloc());
-    let glyphs = buffer.glyphs();
-    let kept = kept_len(face, circles, glyphs);
-    if kept == buffer.len() {
-        return Ok(());
-    }
-    let mut cut = Cut::new(alloc, glyphs.len() - kept);
-    let len = measure(face, circles, glyphs, kept, buffer.max_len(), &mut cut)?;
-    if !cut.is_whole {
-        return Err(ShaperError::Memory);
-    }
-    let rewriting = Rewriting {
-        breaks,
-        cut: cut.items.as_slice(),
-        level,
-    };
-    buffer.rewrite(len, &rewriting)
+    rewrite_changes(breaks, face, buffer)?;
+    Ok(())
 }
