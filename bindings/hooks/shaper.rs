@@ -52,24 +52,29 @@ fn script_of(script: Option<super::Script>) -> Option<Script> {
     script.map(|script| Script(parts::tag_of(script.tag()).0))
 }
 
+/// What the hooks request; the host's planner keeps it.
+pub fn planner(script: Option<super::Script>) -> Planner {
+    Planner::new(Global, script_of(script))
+}
+
 fn collect_features<const S: usize>(planner: &mut hb_ot_shape_planner_t) {
-    let mut wanted = Planner::new(Global, script_of(planner.script));
     let map = &planner.ot_map;
     let font = FeaturesOnly(|tag| map.has_feature(parts::hb_tag(tag)));
-    let collected = Shaper::ALL[S].collect_features(&font, &mut wanted);
+    let collected = Shaper::ALL[S].collect_features(&font, &mut planner.wanted);
     collected.expect("memory for a list of features");
-    request(planner, &wanted);
+    request(planner, 0);
 }
 
 fn override_features<const S: usize>(planner: &mut hb_ot_shape_planner_t) {
-    let mut wanted = Planner::new(Global, script_of(planner.script));
-    let overridden = Shaper::ALL[S].override_features(&mut wanted);
+    let collected = planner.wanted.requests().len();
+    let overridden = Shaper::ALL[S].override_features(&mut planner.wanted);
     overridden.expect("memory for a list of features");
-    request(planner, &wanted);
+    request(planner, collected);
 }
 
-fn request(planner: &mut hb_ot_shape_planner_t, wanted: &Planner) {
-    for request in wanted.requests() {
+/// Makes the requests from this one on.
+fn request(planner: &mut hb_ot_shape_planner_t, first: usize) {
+    for request in &planner.wanted.requests()[first..] {
         match *request {
             Request::Feature(tag, flags, value) => {
                 planner.ot_map.add_feature(parts::hb_tag(tag), flags, value);
@@ -288,12 +293,19 @@ fn on_text<T>(buffer: &mut hb_buffer_t, hook: impl FnOnce(&mut Buffer) -> Result
     done.ok()
 }
 
-/// Calls a hook on the glyphs, which reads nothing else of a text.
+/// Calls a hook that changes each glyph by itself, and of it no more than what is taken back here.
 #[inline(always)]
-fn on_glyphs(buffer: &mut hb_buffer_t, hook: impl FnOnce(&mut [Glyph])) {
-    let mut glyphs = glyphs_of(mem::take(&mut buffer.info));
-    hook(&mut glyphs[..buffer.len]);
-    buffer.info = infos_of(glyphs);
+fn on_glyphs(buffer: &mut hb_buffer_t, hook: impl Fn(&mut [Glyph])) {
+    for info in &mut buffer.info[..buffer.len] {
+        let mut glyph = [glyph_of(info)];
+        hook(&mut glyph);
+        let [Glyph { mask, syllable, category, auxiliary, .. }] = glyph;
+        info.mask = mask;
+        info.set_syllable(syllable);
+        info.set_ot_shaper_var_u8_category(category);
+        info.set_ot_shaper_var_u8_auxiliary(auxiliary);
+        debug_assert!(glyph == [glyph_of(info)]);
+    }
 }
 
 fn direction_of(direction: super::Direction) -> Direction {

@@ -37,12 +37,13 @@ pub fn may_turn(plan: &hb_ot_shape_plan_t) -> bool {
         return true;
     };
     let direction = direction_of(plan.direction);
-    let tag = parts::tag_of(script.tag()).0;
-    // (seven bits for each letter)
-    let asked = tag.iter().fold(direction as u32, |asked, byte| asked << 7 | u32::from(byte & 0x7F));
+    let tag = u32::from_be_bytes(parts::tag_of(script.tag()).0);
+    let number = direction as u32;
+    let asked = tag | (number & 1) << 31 | (number & 2) << 22 | (number & 4) << 13;
+    let is_ascii = tag & 0x8080_8080 == 0;
     let last = LAST_TURN.load(Ordering::Relaxed);
-    if tag.is_ascii() && last >> 1 == asked {
-        return last & 1 != 0;
+    if is_ascii && last & !TURNS == asked {
+        return last & TURNS != 0;
     }
     let letter = Glyph { unicode_props: UnicodeProps::new(GeneralCategory::Lo, 0), ..Glyph::DEFAULT };
     let mut text: Buffer = core::iter::once(letter).collect();
@@ -50,14 +51,16 @@ pub fn may_turn(plan: &hb_ot_shape_plan_t) -> bool {
     text.set_script(script_of(Some(script)));
     ensure_native_direction(&mut text);
     let turns = text.direction() != direction;
-    if tag.is_ascii() {
-        LAST_TURN.store(asked << 1 | u32::from(turns), Ordering::Relaxed);
+    if is_ascii {
+        LAST_TURN.store(if turns { asked | TURNS } else { asked }, Ordering::Relaxed);
     }
     turns
 }
 
-/// The script and direction that were last asked for, and whether a text of these may be turned.
+/// The script and direction that were last asked for, and whether a text of these may be turned: what letters of ASCII leave
+/// of their four bytes has the direction's three bits, and TURNS.
 static LAST_TURN: AtomicU32 = AtomicU32::new(0);
+const TURNS: u32 = 0x80;
 
 // ---- What is known of a character alone ----
 
@@ -79,9 +82,20 @@ const PLACE: u32 = 12;
 /// The facts of the last character whose number ends in these bits, each bit turned over: none is remembered at first.
 static REMEMBERED: [AtomicU32; 1 << PLACE] = [const { AtomicU32::new(0) }; 1 << PLACE];
 
+/// The character of which this one's facts are remembered: syllables of Hangul, too many for the list, are alike.
+#[inline(always)]
+fn example_of(c: u32) -> u32 {
+    if matches!(c, 0xAC00..=0xD7A3) {
+        0xAC00
+    } else {
+        c
+    }
+}
+
 /// What is remembered of a character.
 #[inline(always)]
 fn remembered(c: u32) -> Option<u32> {
+    let c = example_of(c);
     let facts = !REMEMBERED[c as usize % REMEMBERED.len()].load(Ordering::Relaxed);
     (facts >> NUMBER == c >> PLACE).then_some(facts)
 }
@@ -105,6 +119,7 @@ fn facts_of(c: u32, work: &mut Work) -> Result<u32, ShaperError> {
 #[cold]
 #[inline(never)]
 fn find_facts(c: u32, text: &mut Buffer) -> Result<u32, ShaperError> {
+    let c = example_of(c);
     text.push(Glyph { glyph_id: c, ..Glyph::DEFAULT })?;
     set_unicode_properties(&UnicodeTables, text);
     let mut facts = c >> PLACE << NUMBER | u32::from(text.get(0).unicode_props.0);
