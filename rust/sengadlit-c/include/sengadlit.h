@@ -677,8 +677,9 @@ sengadlit_glyph_position_t *sengadlit_buffer_get_glyph_positions(sengadlit_buffe
 
 /* Makes room in the array that a buffer is lent for at least `wanted` glyphs, as realloc does: those that it has stay, and where
    the array moves its old place is gone. Returns its place and sets `allocated`, which is the room that it had, to the room that
-   it has. Where memory is refused, it returns null, or the place of an array with less room than wanted. Texts grow by a few
-   glyphs at a time, so that more room than is wanted is well spent. */
+   it has. Where memory is refused, it returns null, or the place of an array with less room than wanted; one without room
+   for the text itself counts as null, and the text stands where it was. Texts grow by a few glyphs at a time, so that more room
+   than is wanted is well spent. */
 typedef sengadlit_glyph_info_t *(*sengadlit_grow_func_t)(void *user_data, sengadlit_glyph_info_t *glyphs, unsigned int wanted,
                                                          unsigned int *allocated);
 /* Sets what makes room in the arrays that the buffer is lent from now on; it stays until it is set again. It runs within calls,
