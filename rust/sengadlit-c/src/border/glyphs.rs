@@ -21,12 +21,15 @@ pub enum Takes {
 }
 
 impl Takes {
-    // Whether a glyph has such a number.
+    // Whether these glyphs have such numbers: whether the bits of all of them together are one.
     #[inline]
-    fn takes(self, glyph: &GlyphInfo) -> bool {
+    fn takes(self, glyphs: &[GlyphInfo]) -> bool {
         match self {
             Takes::Numbers => true,
-            Takes::GlyphNumbers => glyph.glyph_id <= 0xFFFF,
+            Takes::GlyphNumbers => {
+                let bits = glyphs.iter().fold(0, |bits, glyph| bits | glyph.glyph_id);
+                bits <= 0xFFFF
+            }
         }
     }
 }
@@ -297,10 +300,15 @@ impl Text {
         self.inner.set_has_stch(has_stch);
     }
 
-    // The place of the first glyph that isn't taken.
+    // The place of the first glyph that isn't taken. As a rule there is none, and so they are tested by fours.
     #[inline]
     fn wrong_glyph(&self, takes: Takes) -> Option<usize> {
-        self.glyphs().iter().position(|glyph| !takes.takes(glyph))
+        let mut fours = self.glyphs().chunks_exact(4);
+        if fours.all(|four| takes.takes(four)) && takes.takes(fours.remainder()) {
+            return None;
+        }
+        let mut glyphs = self.glyphs().chunks(1);
+        glyphs.position(|glyph| !takes.takes(glyph))
     }
 
     /// Runs a hook of the crate's, if each glyph is taken.
@@ -360,6 +368,13 @@ mod tests {
         assert_eq!(text.run(Takes::Numbers, |_| Ok(())), Ok(()));
         text.set_len(2).unwrap();
         assert_eq!(text.run(Takes::GlyphNumbers, |_| Ok(())), Ok(()));
+        for place in [0, 3, 7, 8] {
+            text.set_len(0).unwrap();
+            text.set_len(9).unwrap();
+            text.with_glyphs_mut(|glyphs| glyphs[place].glyph_id = 0x1_0000);
+            let refused = text.run(Takes::GlyphNumbers, |_| Ok(()));
+            assert_eq!(refused, Err(Error::argument_at(Argument::GlyphId, place)));
+        }
     }
 
     #[test]
