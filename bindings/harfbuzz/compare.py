@@ -27,6 +27,9 @@ from words import hunspell, is_in, random_words, spread, torn, translations  # n
 
 SHAPERS = ["arabic", "hangul", "hebrew", "indic", "khmer", "myanmar", "zawgyi", "thai", "universal"]
 
+# How many texts are compared at a time.
+JOBS = os.cpu_count() or 1
+
 # A list that differs in what has no effect is no difference of a case or word.
 WITHOUT_EFFECT = {"same", "another-list"}
 
@@ -144,7 +147,7 @@ def run_case(out, case):
 
 
 def compare_cases(out, source):
-    with concurrent.futures.ThreadPoolExecutor(2) as pool:
+    with concurrent.futures.ThreadPoolExecutor(JOBS) as pool:
         results = list(pool.map(lambda case: run_case(out, case), cases(source)))
     failed = []
     rows = {shaper: {"cases": 0, "same": 0, "tally": Tally()} for shaper in SHAPERS}
@@ -280,24 +283,31 @@ def of_real(differ, is_of_flags):
     return f"{len(real)}, of real words {sum(real)}" if real else "0"
 
 
+def compare_script(out, root, script):
+    """Shapes real words, torn ones and random ones of a script: how many of each, and what `run_words` returns."""
+    fonts, lists, languages, blocks = SCRIPTS[script]
+    real = words_of(root, lists, languages, blocks)
+    others = list(torn(real)) + list(random_words(blocks, RANDOM_WORDS))
+    return len(real), len(others), *run_words(out, root, fonts, real, others)
+
+
 def compare_words(out, root):
     print("| script | real words | torn and random | shaped | through | calls | calls that differ | other flags | other glyphs |")
     print("|---|---|---|---|---|---|---|---|---|")
     total, failed, passed = Tally(), [], 0
-    for script, (fonts, lists, languages, blocks) in SCRIPTS.items():
-        real = words_of(root, lists, languages, blocks)
-        others = list(torn(real)) + list(random_words(blocks, RANDOM_WORDS))
-        tally, differ, shaped = run_words(out, root, fonts, real, others)
-        unexplained = [place for place in differ if not place[2] or place[2]["UNKNOWN"]]
-        if tally.reasons()["UNKNOWN"] or unexplained:
-            failed.append((script, tally, unexplained))
-        passed += shaped - len(unexplained)
-        shapers = ", ".join(sorted(tally.shapers(), key=lambda shaper: -tally.number(shaper)))
-        calls = sum(tally.calls.values())
-        flags, glyphs = of_real(differ, True), of_real(differ, False)
-        print(f"| {script} | {len(real)} | {len(others)} | {shaped} | {shapers} | {calls} | {told(tally.reasons())} | {flags} | {glyphs} |",
-              flush=True)
-        total.add(tally)
+    with concurrent.futures.ThreadPoolExecutor(JOBS) as pool:
+        results = pool.map(lambda script: (script, *compare_script(out, root, script)), SCRIPTS)
+        for script, real, others, tally, differ, shaped in results:
+            unexplained = [place for place in differ if not place[2] or place[2]["UNKNOWN"]]
+            if tally.reasons()["UNKNOWN"] or unexplained:
+                failed.append((script, tally, unexplained))
+            passed += shaped - len(unexplained)
+            shapers = ", ".join(sorted(tally.shapers(), key=lambda shaper: -tally.number(shaper)))
+            calls = sum(tally.calls.values())
+            flags, glyphs = of_real(differ, True), of_real(differ, False)
+            print(f"| {script} | {real} | {others} | {shaped} | {shapers} | {calls} | {told(tally.reasons())} | {flags} | {glyphs} |",
+                  flush=True)
+            total.add(tally)
     print()
     for shaper in SHAPERS:
         hooks = {hook for of, hook, _ in total.calls if of == shaper}
