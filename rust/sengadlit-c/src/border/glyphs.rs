@@ -20,18 +20,17 @@ pub enum Takes {
     GlyphNumbers,
 }
 
-impl Takes {
-    // Whether these glyphs have such numbers: whether the bits of all of them together are one.
-    #[inline]
-    fn takes(self, glyphs: &[GlyphInfo]) -> bool {
-        match self {
-            Takes::Numbers => true,
-            Takes::GlyphNumbers => {
-                let bits = glyphs.iter().fold(0, |bits, glyph| bits | glyph.glyph_id);
-                bits <= 0xFFFF
-            }
-        }
+// The place of the first glyph whose number is no font's. As a rule there is none, and so they are tested by fours.
+fn first_of_no_font(glyphs: &[GlyphInfo]) -> Option<usize> {
+    let are_fonts = |some: &[GlyphInfo]| {
+        let bits = some.iter().fold(0, |bits, glyph| bits | glyph.glyph_id);
+        bits <= 0xFFFF
+    };
+    let mut fours = glyphs.chunks_exact(4);
+    if fours.all(are_fonts) && are_fonts(fours.remainder()) {
+        return None;
     }
+    glyphs.iter().position(|glyph| glyph.glyph_id > 0xFFFF)
 }
 
 /// The glyphs and their settings.
@@ -300,15 +299,13 @@ impl Text {
         self.inner.set_has_stch(has_stch);
     }
 
-    // The place of the first glyph that isn't taken. As a rule there is none, and so they are tested by fours.
+    // The place of the first glyph that isn't taken.
     #[inline]
     fn wrong_glyph(&self, takes: Takes) -> Option<usize> {
-        let mut fours = self.glyphs().chunks_exact(4);
-        if fours.all(|four| takes.takes(four)) && takes.takes(fours.remainder()) {
-            return None;
+        match takes {
+            Takes::Numbers => None,
+            Takes::GlyphNumbers => first_of_no_font(self.glyphs()),
         }
-        let mut glyphs = self.glyphs().chunks(1);
-        glyphs.position(|glyph| !takes.takes(glyph))
     }
 
     /// Runs a hook of the crate's, if each glyph is taken.
