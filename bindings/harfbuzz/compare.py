@@ -3,7 +3,8 @@
 
     compare.py OUT cases SOURCE    HarfBuzz's own shaping cases, one process each
     compare.py OUT words ROOT      words of Debian's packages, unpacked in ROOT
-    compare.py OUT speed ROOT      the instructions of each build over such words, and lines of them
+    compare.py OUT speed ROOT JOBS [SCRIPT..]      the instructions of each build over such words, and lines of them
+    compare.py OUT functions ROOT JOBS [SCRIPT..]  by hook and function, of every tenth word
 
 OUT is the folder that `build` made. A table goes to standard output, by shaper. A case or a word whose output differs
 has a reason that the shadow saw, or it fails, as does a call whose fields differ without a known reason. The last line
@@ -25,6 +26,9 @@ sys.path.insert(0, os.path.dirname(os.path.dirname(os.path.abspath(__file__))))
 from words import hunspell, is_in, random_words, spread, torn, translations  # noqa: E402
 
 SHAPERS = ["arabic", "hangul", "hebrew", "indic", "khmer", "myanmar", "zawgyi", "thai", "universal"]
+
+# How many texts are compared at a time.
+JOBS = os.cpu_count() or 1
 
 # A list that differs in what has no effect is no difference of a case or word.
 WITHOUT_EFFECT = {"same", "another-list"}
@@ -143,7 +147,7 @@ def run_case(out, case):
 
 
 def compare_cases(out, source):
-    with concurrent.futures.ThreadPoolExecutor(2) as pool:
+    with concurrent.futures.ThreadPoolExecutor(JOBS) as pool:
         results = list(pool.map(lambda case: run_case(out, case), cases(source)))
     failed = []
     rows = {shaper: {"cases": 0, "same": 0, "tally": Tally()} for shaper in SHAPERS}
@@ -279,24 +283,31 @@ def of_real(differ, is_of_flags):
     return f"{len(real)}, of real words {sum(real)}" if real else "0"
 
 
+def compare_script(out, root, script):
+    """Shapes real words, torn ones and random ones of a script: how many of each, and what `run_words` returns."""
+    fonts, lists, languages, blocks = SCRIPTS[script]
+    real = words_of(root, lists, languages, blocks)
+    others = list(torn(real)) + list(random_words(blocks, RANDOM_WORDS))
+    return len(real), len(others), *run_words(out, root, fonts, real, others)
+
+
 def compare_words(out, root):
     print("| script | real words | torn and random | shaped | through | calls | calls that differ | other flags | other glyphs |")
     print("|---|---|---|---|---|---|---|---|---|")
     total, failed, passed = Tally(), [], 0
-    for script, (fonts, lists, languages, blocks) in SCRIPTS.items():
-        real = words_of(root, lists, languages, blocks)
-        others = list(torn(real)) + list(random_words(blocks, RANDOM_WORDS))
-        tally, differ, shaped = run_words(out, root, fonts, real, others)
-        unexplained = [place for place in differ if not place[2] or place[2]["UNKNOWN"]]
-        if tally.reasons()["UNKNOWN"] or unexplained:
-            failed.append((script, tally, unexplained))
-        passed += shaped - len(unexplained)
-        shapers = ", ".join(sorted(tally.shapers(), key=lambda shaper: -tally.number(shaper)))
-        calls = sum(tally.calls.values())
-        flags, glyphs = of_real(differ, True), of_real(differ, False)
-        print(f"| {script} | {len(real)} | {len(others)} | {shaped} | {shapers} | {calls} | {told(tally.reasons())} | {flags} | {glyphs} |",
-              flush=True)
-        total.add(tally)
+    with concurrent.futures.ThreadPoolExecutor(JOBS) as pool:
+        results = pool.map(lambda script: (script, *compare_script(out, root, script)), SCRIPTS)
+        for script, real, others, tally, differ, shaped in results:
+            unexplained = [place for place in differ if not place[2] or place[2]["UNKNOWN"]]
+            if tally.reasons()["UNKNOWN"] or unexplained:
+                failed.append((script, tally, unexplained))
+            passed += shaped - len(unexplained)
+            shapers = ", ".join(sorted(tally.shapers(), key=lambda shaper: -tally.number(shaper)))
+            calls = sum(tally.calls.values())
+            flags, glyphs = of_real(differ, True), of_real(differ, False)
+            print(f"| {script} | {real} | {others} | {shaped} | {shapers} | {calls} | {told(tally.reasons())} | {flags} | {glyphs} |",
+                  flush=True)
+            total.add(tally)
     print()
     for shaper in SHAPERS:
         hooks = {hook for of, hook, _ in total.calls if of == shaper}
@@ -318,16 +329,12 @@ SPEED_SCRIPTS = ["Devanagari", "Tamil", "Hangul", "Sinhala", "Khmer", "Myanmar",
 BUILDS = ["stock", "proved", "remembered"]
 
 
-def counted(out, which, font, path, iterations):
+def counted(out, which, font, path, iterations, into="/dev/null"):
     """The instructions of shaping each line so many times, as valgrind counts them."""
-    arguments = ["valgrind", "--tool=callgrind", "--callgrind-out-file=/dev/null", f"{out}/{which}/hb-shape", font,
+    arguments = ["valgrind", "--tool=callgrind", f"--callgrind-out-file={into}", f"{out}/{which}/hb-shape", font,
                  "--num-iterations", str(iterations), "--text-file", path]
     told = subprocess.run(arguments, stdout=subprocess.DEVNULL, stderr=subprocess.PIPE, check=True).stderr
     return int(re.search(rb"Collected : ([0-9]+)", told).group(1))
-
-
-def instructions_of(out, which, font, path):
-    return (counted(out, which, font, path, 3) - counted(out, which, font, path, 1)) / 2
 
 
 def lines_of(words, number):
@@ -342,33 +349,131 @@ def texts_of(root, script):
     return path_of_font(root, fonts[0]), {"a word": words[:1000], "ten words": lines_of(words, 100)}
 
 
-def row_of(out, script, font, kind, texts, pool):
-    """A row of the table: the instructions of each build over the same texts."""
-    with tempfile.NamedTemporaryFile("w", encoding="utf-8") as file:
+def written(folder, name, texts):
+    """A file of these texts, a line each."""
+    path = f"{folder}/{name}"
+    with open(path, "w", encoding="utf-8") as file:
         file.writelines(text + "\n" for text in texts)
-        file.flush()
-        stock, proved, remembered = pool.map(lambda which: instructions_of(out, which, font, file.name), BUILDS)
-    characters = sum(map(len, texts))
-    return (f"| {script} | {os.path.basename(font)} | {kind} | {len(texts)} | {characters} | {stock / len(texts):.0f} | "
-            f"{proved / stock:.3f} | {remembered / stock:.3f} |")
+    return path
 
 
-def compare_speed(out, root):
+def compare_speed(out, root, jobs, scripts):
+    """A row of the table: the instructions of each build over the same texts."""
     print("| script | font | a text is | texts | characters | instructions per text, as it is | proved | results remembered |")
-    print("|---|---|---|---|---|---|---|---|")
-    with concurrent.futures.ThreadPoolExecutor(2) as pool:
-        for script in SPEED_SCRIPTS:
+    print("|---|---|---|---|---|---|---|---|", flush=True)
+    with tempfile.TemporaryDirectory() as folder, concurrent.futures.ThreadPoolExecutor(jobs) as pool:
+        rows = []
+        for script in scripts:
             font, texts = texts_of(root, script)
             for kind, some in texts.items():
-                print(row_of(out, script, font, kind, some, pool), flush=True)
+                path = written(folder, f"{script} {kind}", some)
+                counts = [[pool.submit(counted, out, which, font, path, n) for n in (3, 1)] for which in BUILDS]
+                rows.append((script, os.path.basename(font), kind, some, counts))
+        for script, font, kind, texts, counts in rows:
+            stock, proved, remembered = ((three.result() - one.result()) / 2 for three, one in counts)
+            characters = sum(map(len, texts))
+            print(f"| {script} | {font} | {kind} | {len(texts)} | {characters} | {stock / len(texts):.0f} | "
+                  f"{proved / stock:.3f} | {remembered / stock:.3f} |", flush=True)
+    return True
+
+
+# The hooks, and the functions that run them: HarfBuzz's own, and those of proved.cc.
+OURS = r"proved_hooks_t<\d+u>::"
+THEIRS = r"_(arabic|hangul|hebrew|indic|khmer|myanmar|thai|use)"
+HOOKS = {hook: re.compile(rf"(bool |void )?({OURS}{name}|{name}{THEIRS}|{pauses})\(.*") for hook, name, pauses in (
+    ("preprocessing", "preprocess_text", "-"),
+    ("decomposition", "decompose", "-"),
+    ("composition", "compose", "-"),
+    ("masks", "setup_masks", "-"),
+    ("set-up", "setup_syllables", "proved_pause<[0-3]u>"),
+    ("initial reordering", "initial_reordering", "proved_pause<4u>"),
+    ("reordering", "reorder", "reorder_(khmer|myanmar|use)|proved_pause<[567]u>"),
+    ("final reordering", "final_reordering", "proved_pause<8u>"),
+    ("other pauses", "record_(rphf|pref)", "record_stch|proved_pause<(9|1[0-4])u>"),
+    ("marks", "reorder_marks", "-"),
+    ("stretching", "postprocess_glyphs", "-"),
+)}
+
+
+def costs(path):
+    """What callgrind counted of each function: its own instructions, and with all that it calls."""
+    names, own, whole = {}, collections.Counter(), collections.Counter()
+    function, is_call = None, False
+    with open(path, encoding="utf-8", errors="replace") as file:
+        for line in file:
+            named = re.match(r"(c?fn)=\((\d+)\)(?: (.*))?", line)
+            if named:
+                kind, number, name = named.groups()
+                if name:
+                    names[number] = name
+                if kind == "fn":
+                    function = names[number]
+            elif line.startswith("calls="):
+                is_call = True
+            elif line[0] in "+-*0123456789":
+                cost = int(line.split()[1])
+                whole[function] += cost
+                if not is_call:
+                    own[function] += cost
+                is_call = False
+    return own, whole
+
+
+def costs_per_text(out, which, font, path, texts, folder):
+    """The same of shaping one text, without what comes once."""
+    told = []
+    for iterations in (3, 1):
+        into = f"{folder}/{os.path.basename(path)} {which} {iterations}"
+        counted(out, which, font, path, iterations, into)
+        told.append(costs(into))
+    return [{name: (many[name] - once[name]) / 2 / texts for name in many} for many, once in zip(*told)]
+
+
+def print_functions(script, texts, stock, proved):
+    """The hooks, with all that they call, and the functions whose own instructions are most."""
+    characters = sum(map(len, texts)) / len(texts)
+    print(f"\n{script}: {len(texts)} words of {characters:.1f} characters\n\n| hook, with all that it calls | as it is | proved |\n|---|---|---|")
+    left = [sum(own.values()) for own, _ in (stock, proved)]
+    print(f"| all of shaping | {left[0]:.0f} | {left[1]:.0f} |")
+    for hook, names in HOOKS.items():
+        sums = [sum(cost for name, cost in whole.items() if names.fullmatch(name)) for _, whole in (stock, proved)]
+        left = [rest - found for rest, found in zip(left, sums)]
+        if any(sums):
+            print(f"| {hook} | {sums[0]:.0f} | {sums[1]:.0f} |")
+    print(f"| the rest | {left[0]:.0f} | {left[1]:.0f} |\n\n| function, alone | as it is | proved |\n|---|---|---|")
+    functions = {name: (stock[0].get(name, 0), proved[0].get(name, 0)) for name in {**stock[0], **proved[0]}}
+    for name, (one, other) in sorted(functions.items(), key=lambda item: -abs(item[1][0] - item[1][1])):
+        if abs(one - other) >= 10:
+            short = re.sub(r"sengadlit_lending::(generated::)?|\(.*", "", name)
+            print(f"| `{short}` | {one:.0f} | {other:.0f} |", flush=True)
+
+
+def compare_functions(out, root, jobs, scripts):
+    """Where a word's instructions are: every tenth of the words that `speed` counts."""
+    with tempfile.TemporaryDirectory() as folder, concurrent.futures.ThreadPoolExecutor(jobs) as pool:
+        rows = []
+        for script in scripts:
+            font, texts = texts_of(root, script)
+            words = texts["a word"][::10]
+            path = written(folder, script, words)
+            found = [pool.submit(costs_per_text, out, which, font, path, len(words), folder) for which in ("stock", "proved")]
+            rows.append((script, words, found))
+        for script, words, found in rows:
+            print_functions(script, words, *(costs.result() for costs in found))
     return True
 
 
 def main():
-    compare = {"cases": compare_cases, "words": compare_words, "speed": compare_speed}
-    if len(sys.argv) != 4 or sys.argv[2] not in compare:
+    compare = {"cases": compare_cases, "words": compare_words}
+    count = {"speed": compare_speed, "functions": compare_functions}
+    arguments = sys.argv[1:]
+    if len(arguments) == 3 and arguments[1] in compare:
+        done = compare[arguments[1]](arguments[0], arguments[2])
+    elif len(arguments) > 3 and arguments[1] in count and arguments[3].isdecimal() and set(arguments[4:]) <= SCRIPTS.keys():
+        done = count[arguments[1]](arguments[0], arguments[2], int(arguments[3]), arguments[4:] or SPEED_SCRIPTS)
+    else:
         raise SystemExit(__doc__)
-    sys.exit(0 if compare[sys.argv[2]](sys.argv[1], sys.argv[3]) else 1)
+    sys.exit(0 if done else 1)
 
 
 if __name__ == "__main__":

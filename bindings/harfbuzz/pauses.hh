@@ -55,8 +55,9 @@ reorder_glyphs (const hb_ot_shape_plan_t *plan, hb_font_t *font, hb_buffer_t *bu
   call.set_state (buffer->scratch_flags & HB_BUFFER_SCRATCH_FLAG_HAS_BROKEN_SYLLABLE ? SENGADLIT_BUFFER_STATE_HAS_BROKEN_SYLLABLE : 0);
   sengadlit_font_t f = call.font ();
   sengadlit_bool_t circles = 0;
-  if (unlikely (!call.close (sengadlit_run_pause (call.proved->plan, (sengadlit_pause_t) number, &f, nullptr, 0, call.work->buffer,
-						  &circles)))) return false;
+  sengadlit_status_t status = sengadlit_run_pause (call.proved->plan, (sengadlit_pause_t) number, &f, nullptr, 0, call.work->buffer,
+						   &circles);
+  if (unlikely (!(circles ? call.close (status) : call.close_same (status)))) return false; /* circles alone make it longer */
   if (buffer->len > 1) buffer->scratch_flags |= has_glyph_flags;
   return circles;
 }

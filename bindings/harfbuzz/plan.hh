@@ -2,7 +2,7 @@
 
 #ifdef SENGADLIT_REMEMBERS
 /* What the face returned for up to three glyphs. */
-struct remembered_t { uint64_t question; bool answer; };
+struct remembered_t { uint64_t question; sengadlit_bool_t answer; };
 #endif
 
 /* What is kept with a plan between calls: a buffer of the library's, and what it was told last. */
@@ -13,6 +13,8 @@ struct work_t
   sengadlit_buffer_t *buffer = sengadlit_buffer_create ();
   sengadlit_buffer_properties_t properties = {};
   hb_buffer_t *text = nullptr; /* Whose properties those are. */
+  const hb_glyph_info_t *glyphs = nullptr; /* Those that are lent; null where none are. */
+  unsigned length = 0, allocated = 0;
   unsigned state = 0;
   bool has_context = false;
   hb_font_t *virama_font = nullptr; /* HarfBuzz's own keeps the glyph of the virama with the plan. */
@@ -130,14 +132,22 @@ glyph_h_advance (void *user_data, uint32_t glyph)
   return sign_of (font) * font->get_glyph_h_advance (glyph);
 }
 
-static bool
-ask_face (const asked_t *asked, unsigned number, const uint32_t *glyphs, unsigned length)
+SENGADLIT_APART static sengadlit_bool_t
+ask_face_of_all (const asked_t *asked, const stage_t &stage, const uint32_t *glyphs, unsigned length)
 {
-  const stage_t &stage = asked->proved->asked.arrayZ[number];
   for (unsigned i = 0; i < stage.length; i++)
     if (hb_ot_layout_lookup_would_substitute (asked->font->face, stage.lookups[i].index, glyphs, length, asked->proved->zero_context))
       return true;
   return false;
+}
+
+/* Most stages have one lookup, and then nothing is left to do after the call. */
+static inline sengadlit_bool_t
+ask_face (const asked_t *asked, unsigned number, const uint32_t *glyphs, unsigned length)
+{
+  const stage_t &stage = asked->proved->asked.arrayZ[number];
+  if (unlikely (stage.length != 1)) return ask_face_of_all (asked, stage, glyphs, length);
+  return hb_ot_layout_lookup_would_substitute (asked->font->face, stage.lookups->index, glyphs, length, asked->proved->zero_context);
 }
 
 /* The library is told of one lookup per stage, by the stage's number: the face is queried about all of the stage. Glyphs have

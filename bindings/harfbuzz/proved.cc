@@ -18,6 +18,13 @@
 
 #define SENGADLIT_NONE 0xFFFFFFFFu
 
+/* What few calls need is a function of its own, so that the others don't save registers for it. */
+#ifdef __GNUC__
+#define SENGADLIT_APART __attribute__ ((noinline))
+#else
+#define SENGADLIT_APART
+#endif
+
 #include "version.hh"
 #include "stock.hh"
 

@@ -20,15 +20,13 @@ enum reason_t
   LONG_STRETCH,    /* 12 sets no flags on a longer stretch */
   SYMBOL_CLUSTERS, /* HarfBuzz reorders the universal shaper's kind 5 */
   CIRCLES,         /* HarfBuzz opens no circle for a broken syllable behind another one of the same byte */
-  SERIAL,          /* universal: HarfBuzz counts no serial for ignorables that lead the text */
   UNKNOWN,
   REASONS
 };
 
 static const char *const reason_names[REASONS] =
 {
-  "same", "another-list", "level-characters", "joining-flags", "stretch", "long-stretch", "symbol-clusters", "dotted-circles", "serial",
-  "UNKNOWN",
+  "same", "another-list", "level-characters", "joining-flags", "stretch", "long-stretch", "symbol-clusters", "dotted-circles", "UNKNOWN",
 };
 
 /* ---- Counts ---- */
@@ -199,20 +197,6 @@ compare_texts (const snapshot_t &stock, const snapshot_t &proved, uint8_t var_bi
   return differ;
 }
 
-/* Whether the syllables of both are the same stretches of the same kinds. */
-static bool
-same_syllables (const snapshot_t &a, const snapshot_t &b)
-{
-  if (a.infos.length != b.infos.length) return false;
-  for (unsigned i = 0; i < a.infos.length; i++)
-  {
-    if ((a.infos[i].syllable () ^ b.infos[i].syllable ()) & 0x0F) return false;
-    if (i && (a.infos[i].syllable () == a.infos[i - 1].syllable ()) != (b.infos[i].syllable () == b.infos[i - 1].syllable ()))
-      return false;
-  }
-  return true;
-}
-
 /* The end of the syllable that begins at `start`. */
 static unsigned
 syllable_end (const snapshot_t &text, unsigned start)
@@ -335,8 +319,6 @@ struct shadow_t
     if (hook == POSTPROCESS_GLYPHS && differ == X_POSITION) return STRETCH;
     if (hook == SENGADLIT_PAUSE_REORDER_USE && differ_only_in (stock, proved, var_bits, is_symbol_cluster)) return SYMBOL_CLUSTERS;
     if (differ & LENGTH && proved.infos.length == stock.infos.length + circles_left_out (before, broken_kind (hook))) return CIRCLES;
-    if (hook == SENGADLIT_PAUSE_SETUP_SYLLABLES_USE && differ == SYLLABLE && !stock.infos[0].syllable () && same_syllables (stock, proved))
-      return SERIAL;
     return UNKNOWN;
   }
 

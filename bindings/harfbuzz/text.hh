@@ -44,15 +44,13 @@ struct call_t
   call_t (const call_t &) = delete;
   call_t &operator = (const call_t &) = delete;
 
-  /* Lends the glyphs. The hooks of characters begin a text, and tell what it is like; the pauses only if another buffer came
-     between. */
+  /* Lends the glyphs. The hooks of characters begin a text, and tell what it is like. The pauses only do if another buffer came
+     between, and if the glyphs are as many as they were, in the same array, that is lent still. */
   bool open (bool begins)
   {
-    if (unlikely (!work || !work->buffer)) return fail ();
-    if ((begins || unlikely (work->text != buffer)) && unlikely (!tell ())) return fail ();
-    sengadlit_glyph_info_t *glyphs = (sengadlit_glyph_info_t *) buffer->info;
-    if (unlikely (sengadlit_buffer_lend (work->buffer, glyphs, buffer->len, buffer->allocated) != SENGADLIT_DONE)) return fail ();
-    return true;
+    if (unlikely (!work)) return fail ();
+    bool is_told = !begins && work->text == buffer;
+    return (is_told && work->glyphs == buffer->info && work->length == buffer->len && work->allocated == buffer->allocated) || lend (is_told);
   }
 
   /* The state of the text, where it isn't what the last call left. */
@@ -82,10 +80,11 @@ struct call_t
   bool close (sengadlit_status_t status)
   {
     (void) sengadlit_buffer_give_back (work->buffer, &buffer->len, nullptr);
+    work->glyphs = nullptr;
     return likely (status == SENGADLIT_DONE) || (status != SENGADLIT_ABSENT && fail ());
   }
 
-  /* The same of a hook that leaves the length: there is nothing to take, and the next call lends anew. */
+  /* The same of a hook that leaves the length: there is nothing to take, and the array stays lent. */
   bool close_same (sengadlit_status_t status) { return likely (status == SENGADLIT_DONE) || close (status); }
 
   /* HarfBuzz notes that a glyph may have a flag. */
@@ -114,11 +113,25 @@ struct call_t
   asked_t asked;
 
   private:
+  SENGADLIT_APART bool lend (bool is_told)
+  {
+    if (unlikely (!work->buffer || (!is_told && !tell ()))) return fail ();
+    sengadlit_glyph_info_t *glyphs = (sengadlit_glyph_info_t *) buffer->info;
+    if (unlikely (sengadlit_buffer_lend (work->buffer, glyphs, buffer->len, buffer->allocated) != SENGADLIT_DONE)) return fail ();
+    work->glyphs = buffer->info;
+    work->length = buffer->len;
+    work->allocated = buffer->allocated;
+    return true;
+  }
+
   bool tell ()
   {
-    if (unlikely (work->text != buffer) && unlikely (sengadlit_buffer_set_grow_func (work->buffer, grow_buffer, buffer) != SENGADLIT_DONE))
-      return false;
-    work->text = buffer;
+    if (unlikely (work->text != buffer))
+    {
+      if (unlikely (sengadlit_buffer_set_grow_func (work->buffer, grow_buffer, buffer) != SENGADLIT_DONE)) return false;
+      work->text = buffer;
+      work->glyphs = nullptr;
+    }
     sengadlit_buffer_properties_t &told = work->properties;
     unsigned max_length = hb_max (buffer->max_len, buffer->len);
     sengadlit_direction_t direction = (sengadlit_direction_t) buffer->props.direction;

@@ -677,8 +677,9 @@ sengadlit_glyph_position_t *sengadlit_buffer_get_glyph_positions(sengadlit_buffe
 
 /* Makes room in the array that a buffer is lent for at least `wanted` glyphs, as realloc does: those that it has stay, and where
    the array moves its old place is gone. Returns its place and sets `allocated`, which is the room that it had, to the room that
-   it has. Where memory is refused, it returns null, or the place of an array with less room than wanted. Texts grow by a few
-   glyphs at a time, so that more room than is wanted is well spent. */
+   it has. Where memory is refused, it returns null, or the place of an array with less room than wanted; one without room
+   for the text itself counts as null, and the text stands where it was. Texts grow by a few glyphs at a time, so that more room
+   than is wanted is well spent. */
 typedef sengadlit_glyph_info_t *(*sengadlit_grow_func_t)(void *user_data, sengadlit_glyph_info_t *glyphs, unsigned int wanted,
                                                          unsigned int *allocated);
 /* Sets what makes room in the arrays that the buffer is lent from now on; it stays until it is set again. It runs within calls,
@@ -878,9 +879,9 @@ typedef struct sengadlit_span_t {
 
 /* The syllables of the text by the grammar of Indic, Khmer, Myanmar or universal, for the pause that sets them up: in order,
    they cover the text; there are none for other shapers. `length` gets their number, unless it is null. They are found by
-   category, as sengadlit_setup_masks writes it. The pointer isn't null where there are none, and holds until this function or
-   sengadlit_setup_syllables_written is called with the buffer, or the buffer is destroyed. Null is returned for ARGUMENT:
-   SHAPER, and for a null buffer; TOO_LONG; IN_CALL; and MEMORY, where the buffer never had so many syllables. */
+   category, as sengadlit_setup_masks writes it. The pointer isn't null where there are none, and holds until this function is
+   called with the buffer, or the buffer is destroyed. Null is returned for ARGUMENT: SHAPER, and for a null buffer; TOO_LONG;
+   IN_CALL; and MEMORY, where the buffer never had so many syllables. */
 const sengadlit_span_t *sengadlit_spans(sengadlit_shaper_t shaper, sengadlit_buffer_t *buffer, unsigned int *length);
 
 /* Does what a shaper does between two stages of GSUB.
@@ -905,8 +906,7 @@ sengadlit_status_t sengadlit_setup_syllables_found(const sengadlit_plan_t *plan,
                                                    sengadlit_buffer_t *buffer);
 
 /* The same on the syllables that stand in the text already: glyphs beside each other with the same `syllable` are one, of the
-   kind in its low four bits, as HarfBuzz's machines write them (but for Myanmar's kinds). They are numbered anew. MEMORY, where
-   the buffer never had so many. */
+   kind in its low four bits, as HarfBuzz's machines write them (but for Myanmar's kinds). These bytes stay. */
 sengadlit_status_t sengadlit_setup_syllables_written(const sengadlit_plan_t *plan, sengadlit_pause_t pause,
                                                      sengadlit_buffer_t *buffer);
 

@@ -144,28 +144,6 @@ impl Buffer {
         Ok(spans.as_slice())
     }
 
-    /// Runs a hook on the syllables that the glyphs' bytes tell of.
-    #[inline]
-    pub fn run_on_written<A>(
-        &mut self,
-        hook: impl FnOnce(&[Span], &mut Inner) -> Result<A, Error>,
-    ) -> Result<A, Error> {
-        self.spans.clear();
-        let mut glyphs = self.text.glyphs();
-        while let [GlyphInfo { syllable, .. }, ..] = *glyphs {
-            let others = glyphs.iter().position(|glyph| glyph.syllable != syllable);
-            let len = others.unwrap_or(glyphs.len());
-            let kind = syllable & 0x0F;
-            let pushed = self.spans.push(Span { len, kind });
-            pushed.map_err(|_| Error::MEMORY)?;
-            glyphs = &glyphs[len..];
-        }
-        let spans = replace(&mut self.spans, List::new(Global));
-        let ended = self.run(Takes::Numbers, |inner| hook(spans.as_slice(), inner));
-        self.spans = spans;
-        ended
-    }
-
     /// Where a caret may stand in the text, whose glyphs are in the order in which they are drawn.
     pub fn find_stops(&mut self, direction: Direction) -> Result<&[u32], Error> {
         let stops = &mut self.stops;

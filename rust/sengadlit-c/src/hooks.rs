@@ -9,8 +9,13 @@ use crate::layout::Unaffected;
 use crate::numbers;
 use crate::plan::Plan;
 use crate::status::{Argument, Error, Status};
-use sengadlit::buffer::Span;
+use sengadlit::buffer::{Buffer as Inner, Span};
 use sengadlit::editing;
+use sengadlit::ot_shaper_syllabic::{
+    indic_syllable, khmer_syllable, myanmar_syllable, set_categories_and_positions_in,
+    set_categories_in, set_up_by_bytes,
+};
+use sengadlit::ot_shaper_use;
 use sengadlit::plan::{Pause, Preprocess};
 use sengadlit::shaper::{Composition, Decomposition, Shaper, pause_fits, run_pause as run};
 use sengadlit::spans::setup_syllables_found as set_up_found;
@@ -123,9 +128,29 @@ pub fn setup_masks(
     }
     let font = Asked::font(None, 0)?;
     let done = buffer.run(Takes::Numbers, |inner| {
-        Ok(plan.shaper.setup_masks(&plan.inner, &font, &tables, inner))
+        Ok(set_categories(plan.shaper, joins, tables, inner)
+            || plan
+                .shaper
+                .setup_masks(&plan.inner, &font, &tables, inner)
+                .is_done())
     })?;
-    Ok(done_if(done.is_done()))
+    Ok(done_if(done))
+}
+
+// Sets the categories in their place, if the hook does no more. The crate's call takes the text out of the buffer meanwhile, in
+// case that the tables panic, which C's can't.
+#[inline]
+fn set_categories(shaper: Shaper, joins: bool, tables: AskedTables<'_>, text: &mut Inner) -> bool {
+    let tables = &tables;
+    text.with_glyphs_mut(|glyphs| {
+        match shaper {
+            Shaper::Indic => set_categories_and_positions_in(tables, glyphs),
+            Shaper::Khmer | Shaper::Myanmar => set_categories_in(tables, glyphs),
+            Shaper::Universal if !joins => ot_shaper_use::set_categories_in(tables, glyphs),
+            _ => return false,
+        }
+        true
+    })
 }
 
 /// `sengadlit_run_pause`, and whether dotted circles were wanted.
@@ -174,22 +199,21 @@ pub fn setup_syllables_written(
     buffer: &mut Buffer,
 ) -> Result<Status, Error> {
     let pause = pause_of(plan, pause)?;
-    if !sets_up_syllables(pause) {
-        return Ok(Status::Absent);
-    }
-    let font = Asked::font(None, 0)?;
-    buffer.run_on_written(|spans, inner| Ok(run(pause, &plan.inner, &font, spans, inner)?))?;
-    Ok(Status::Done)
-}
-
-fn sets_up_syllables(pause: Pause) -> bool {
-    matches!(
-        pause,
-        Pause::SetupSyllablesIndic
-            | Pause::SetupSyllablesKhmer
-            | Pause::SetupSyllablesMyanmar
-            | Pause::SetupSyllablesUse
-    )
+    let done = buffer.run(Takes::Numbers, |inner| {
+        match pause {
+            Pause::SetupSyllablesIndic => set_up_by_bytes(indic_syllable::BROKEN_CLUSTER, inner),
+            Pause::SetupSyllablesKhmer => set_up_by_bytes(khmer_syllable::BROKEN_CLUSTER, inner),
+            Pause::SetupSyllablesMyanmar => {
+                set_up_by_bytes(myanmar_syllable::BROKEN_CLUSTER, inner);
+            }
+            Pause::SetupSyllablesUse => {
+                ot_shaper_use::setup_syllables_use_by_bytes(&plan.inner, inner);
+            }
+            _ => return Ok(false),
+        }
+        Ok(true)
+    })?;
+    Ok(done_if(done))
 }
 
 // The pause of this number, if the plan's shaper has it.

@@ -24,7 +24,7 @@ enum { MOST = 32, NOBODYS = 0x5A };
 
 static sengadlit_glyph_info_t array[MOST], other[MOST];
 static unsigned int growths, wanted_last;
-static int refuses;
+static int refuses, is_short;
 
 /* Moves the text to the other array. */
 static sengadlit_glyph_info_t *grow(void *user_data, sengadlit_glyph_info_t *glyphs, unsigned int wanted,
@@ -36,6 +36,10 @@ static sengadlit_glyph_info_t *grow(void *user_data, sengadlit_glyph_info_t *gly
     check("more is wanted than there is", wanted > *allocated && wanted <= MOST);
     if (refuses) return NULL;
     check("the array", glyphs == array);
+    if (is_short) {
+        *allocated = 2;
+        return other;
+    }
     memcpy(other, glyphs, *allocated * sizeof *glyphs);
     memset(array, NOBODYS, sizeof array);
     *allocated = wanted;
@@ -71,7 +75,7 @@ static void begin(unsigned int allocated, int grows)
     begin_world(SENGADLIT_SHAPER_THAI, SENGADLIT_TAG('L', 'a', 'o', 'o'), 0x0E01, 1);
     write_thai();
     growths = wanted_last = 0;
-    refuses = 0;
+    refuses = is_short = 0;
     check("a function", sengadlit_buffer_set_grow_func(world.buffer, grows ? grow : NULL, &growths) == SENGADLIT_DONE);
     check("lent", sengadlit_buffer_lend(world.buffer, array, 3, allocated) == SENGADLIT_DONE);
 }
@@ -202,6 +206,12 @@ static void growth_that_is_refused(void)
     check("nothing added", sengadlit_buffer_add_utf8(world.buffer, "ab", -1, 0, -1) == SENGADLIT_MEMORY);
     check("in the array", memcmp(before, array, sizeof before) == 0);
     refuses = 0;
+    is_short = 1;
+    check("no room for the text", preprocess() == SENGADLIT_MEMORY && glyphs() == array);
+    check("no longer", sengadlit_buffer_set_length(world.buffer, 4) == NULL);
+    check("as it was", sengadlit_buffer_get_glyph_infos(world.buffer, &length) == array && length == 3);
+    check("in the array", memcmp(before, array, sizeof before) == 0 && is_nobodys(other, MOST));
+    is_short = 0;
     check("done", preprocess() == SENGADLIT_DONE && is_done(other));
     give_back("the other", other, 4, 4);
     end_world();

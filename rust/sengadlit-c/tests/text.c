@@ -296,7 +296,7 @@ static void syllables(void)
     sengadlit_buffer_set_state(buffer, 0);
     check("as written", sengadlit_setup_syllables_written(plan, pause, buffer) == SENGADLIT_DONE);
     found = glyphs(&length);
-    check("the same bytes", found[0].syllable == 0x12 && found[1].syllable == 0x21 && found[4].syllable == 0x30);
+    check("bytes that stay", found[0].syllable == 0x52 && found[1].syllable == 0xA1 && found[4].syllable == 0xF0);
     check("the same state", sengadlit_buffer_get_state(buffer) == SENGADLIT_BUFFER_STATE_HAS_BROKEN_SYLLABLE);
     check("no set-up", sengadlit_setup_syllables_written(plan, SENGADLIT_PAUSE_REORDER_KHMER, buffer) == SENGADLIT_ABSENT);
     length = 77;

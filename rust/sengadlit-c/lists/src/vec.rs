@@ -17,10 +17,10 @@ use rust_alloc::vec::Vec as Own;
 ///
 /// # Safety
 ///
-/// What `grow` returns is true, and the place is that of items.
+/// What `grow` returns is true, the place is that of items, and it has room for the first `len`.
 pub unsafe trait Lender {
-    /// Makes room for so many items in the array, as `realloc` does.
-    fn grow(&self, wanted: usize) -> Growth;
+    /// Makes room for so many items in the array, the first `len` of which are there, as `realloc` does.
+    fn grow(&self, len: usize, wanted: usize) -> Growth;
 
     /// The list is done with the array.
     fn end(&self);
@@ -29,7 +29,8 @@ pub unsafe trait Lender {
 /// What became of an array that was to grow.
 #[derive(Debug)]
 pub enum Growth {
-    /// It is here, has room for so many items, which may be fewer than wanted, and begins with those that it had.
+    /// It is here, has room for so many items, which may be fewer than wanted but aren't fewer than it has, and begins with
+    /// those.
     Array(NonNull<u8>, usize),
     /// It is as it was, and so is the list.
     Refused,
@@ -177,7 +178,7 @@ impl<T> Vec<T> {
         };
         let wanted = self.len.checked_add(additional).ok_or(Refused)?;
         // SAFETY: the loan hasn't ended, so the lender is where it was.
-        match unsafe { lender.as_ref() }.grow(wanted) {
+        match unsafe { lender.as_ref() }.grow(self.len, wanted) {
             Growth::Array(first, capacity) => {
                 (self.first, self.capacity) = (first.cast(), capacity);
                 if capacity >= wanted {

@@ -145,9 +145,9 @@ impl Record {
     }
 }
 
-// SAFETY: the array is where C's function says, with the room that it says.
+// SAFETY: the array is where C's function says, with the room that it says, which is tested to be enough for the text.
 unsafe impl Lender for Record {
-    fn grow(&self, wanted: usize) -> Growth {
+    fn grow(&self, len: usize, wanted: usize) -> Growth {
         let (Some(grow), user_data) = self.grow.get() else {
             return Growth::Own;
         };
@@ -158,12 +158,13 @@ unsafe impl Lender for Record {
         let first = self.given();
         // SAFETY: a callback of C, with the array that it lends and room for a number.
         let first = call_back(|| unsafe { grow(user_data, first, wanted, &mut room) });
-        let Some(first) = NonNull::new(first) else {
+        let room = room as usize;
+        let Some(first) = NonNull::new(first).filter(|_| room >= len) else {
             return Growth::Refused;
         };
         self.first.set(first);
-        self.room.set(room as usize);
-        Growth::Array(first.cast(), room as usize)
+        self.room.set(room);
+        Growth::Array(first.cast(), room)
     }
 
     #[inline]

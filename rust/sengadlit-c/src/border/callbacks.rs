@@ -78,6 +78,15 @@ pub struct Asked<'a, F> {
     user_data: UserData,
 }
 
+impl<F> Clone for Asked<'_, F> {
+    #[inline]
+    fn clone(&self) -> Self {
+        *self
+    }
+}
+
+impl<F> Copy for Asked<'_, F> {}
+
 pub(super) fn bit(is_there: bool, bit: u8) -> u8 {
     if is_there { bit } else { 0 }
 }
@@ -136,6 +145,7 @@ impl<'a> Asked<'a, FontFuncs> {
 }
 
 /// Tables: Unicode's, or functions with their user data.
+#[derive(Clone, Copy)]
 pub struct AskedTables<'a> {
     // None where the tables are Unicode's.
     asked: Option<Asked<'a, TablesFuncs>>,

@@ -20,15 +20,17 @@ pub enum Takes {
     GlyphNumbers,
 }
 
-impl Takes {
-    // Whether a glyph has such a number.
-    #[inline]
-    fn takes(self, glyph: &GlyphInfo) -> bool {
-        match self {
-            Takes::Numbers => true,
-            Takes::GlyphNumbers => glyph.glyph_id <= 0xFFFF,
-        }
+// The place of the first glyph whose number is no font's. As a rule there is none, and so they are tested by fours.
+fn first_of_no_font(glyphs: &[GlyphInfo]) -> Option<usize> {
+    let are_fonts = |some: &[GlyphInfo]| {
+        let bits = some.iter().fold(0, |bits, glyph| bits | glyph.glyph_id);
+        bits <= 0xFFFF
+    };
+    let mut fours = glyphs.chunks_exact(4);
+    if fours.all(are_fonts) && are_fonts(fours.remainder()) {
+        return None;
     }
+    glyphs.iter().position(|glyph| glyph.glyph_id > 0xFFFF)
 }
 
 /// The glyphs and their settings.
@@ -300,7 +302,10 @@ impl Text {
     // The place of the first glyph that isn't taken.
     #[inline]
     fn wrong_glyph(&self, takes: Takes) -> Option<usize> {
-        self.glyphs().iter().position(|glyph| !takes.takes(glyph))
+        match takes {
+            Takes::Numbers => None,
+            Takes::GlyphNumbers => first_of_no_font(self.glyphs()),
+        }
     }
 
     /// Runs a hook of the crate's, if each glyph is taken.
@@ -360,6 +365,13 @@ mod tests {
         assert_eq!(text.run(Takes::Numbers, |_| Ok(())), Ok(()));
         text.set_len(2).unwrap();
         assert_eq!(text.run(Takes::GlyphNumbers, |_| Ok(())), Ok(()));
+        for place in [0, 3, 7, 8] {
+            text.set_len(0).unwrap();
+            text.set_len(9).unwrap();
+            text.with_glyphs_mut(|glyphs| glyphs[place].glyph_id = 0x1_0000);
+            let refused = text.run(Takes::GlyphNumbers, |_| Ok(()));
+            assert_eq!(refused, Err(Error::argument_at(Argument::GlyphId, place)));
+        }
     }
 
     #[test]

@@ -14,7 +14,8 @@ struct Array {
 
 // SAFETY: the array is the list's, as long as it is.
 unsafe impl Lender for Array {
-    fn grow(&self, wanted: usize) -> Growth {
+    fn grow(&self, len: usize, wanted: usize) -> Growth {
+        assert!(len < wanted);
         let mut items = self.items.borrow_mut();
         match self.most {
             None => Growth::Own,
