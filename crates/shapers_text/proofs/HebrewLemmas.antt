@@ -1,17 +1,13 @@
 -- Steps of the search for the first three marks.
-use Rattle.std.proofs.Common.{◌≡◌, ℕ, suc, ◌+◌, ◌-◌, ◌<◌, ◌≤◌, Bool, true, false, ◌&&◌, List, [], ◌∷◌, length, get_or, take, drop, set, refl, ap, subst, sym, ◌∙◌, arith, Some, None, Option, Bor}
+use Rattle.std.proofs.Common.{◌≡◌, ℕ, suc, ◌+◌, ◌-◌, ◌<◌, ◌≤◌, Bool, true, false, List, [], ◌∷◌, length, get_or, take, drop, set, refl, ap, subst, sym, ◌∙◌, arith, Some, None, Option, Bor}
 use Rattle.std.specs.Prelude.{option_map, swap, IfSome, MatchOption, if◌then◌else◌}
-use Rattle.std.proofs.Math.Bool.{and-true, and-false}
 use Rattle.std.proofs.lemmas.Bool.{false≢true}
 use Rattle.std.proofs.lemmas.List.{get_or_read, take-map, drop-map}
 use Rattle.std.proofs.lemmas.List.Edits.{swap_is}
 use Rattle.shapers_buffer.specs.Glyph.{default_glyph, plain, order_view}
 use Rattle.std.proofs.lemmas.Grind.{common_steps}
 use Rattle.shapers_buffer.specs.declared.buffer.glyph.hb_glyph_info_t.{hb_glyph_info_t}
-use Rattle.shapers_buffer.specs.declared.buffer.unicode_props.UnicodeProps.{UnicodeProps}
-use Rattle.shapers_buffer.specs.Category.{is_mark}
 use Rattle.shapers_buffer.specs.Clusters.{stretch_of}
-use Rattle.shapers_buffer.specs.Properties.{general_category, high_byte, modified_combining_class}
 use Rattle.std.specs.Option.{option_map_or}
 use Rattle.shapers_buffer.specs.declared.buffer.level.BufferClusterLevel.{BufferClusterLevel}
 use Rattle.shapers_clusters.specs.Flags.{whole}
@@ -20,7 +16,7 @@ use Rattle.shapers_clusters.specs.Steps.{Permutes, MovesMerged, run_step}
 use Rattle.shapers_clusters.proofs.Permuted.{still_permutes, swap_permutes}
 use Rattle.shapers_clusters.proofs.Proved.{reordered_whole}
 use Rattle.shapers_clusters.proofs.Swaps.{still_moves_merged, swap_moves_merged, run-still_step, order_view-swap_step}
-use Rattle.shapers_text.specs.Hebrew.{hebrew_mark_step, step_at, is_meteg_or_below, is_patah_or_qamats, is_sheva_or_hiriq, marks_swapped, opens_triple, triple_place, second_of_triple}
+use Rattle.shapers_text.specs.Hebrew.{hebrew_mark_step, step_at, marks_swapped, opens_triple, triple_place, second_of_triple}
 
 triple_place_hit : (g : hb_glyph_info_t) (gs : List hb_glyph_info_t) → opens_triple (g ∷ gs) ≡ true
     → triple_place (g ∷ gs) ≡ Some 0
@@ -29,67 +25,6 @@ triple_place_hit g gs h = rw h refl
 triple_place_miss : (g : hb_glyph_info_t) (gs : List hb_glyph_info_t) → opens_triple (g ∷ gs) ≡ false
     → triple_place (g ∷ gs) ≡ option_map suc (triple_place gs)
 triple_place_miss g gs h = rw h refl
-
--- a class that isn't 0 is the high byte of a mark
-by_mark : (test : ℕ → Bool) (byte : ℕ) (marked : Bool) → test 0 ≡ false
-    → test (if marked then byte else 0) ≡ (test byte && marked)
-by_mark test byte true none = sym (and-true (test byte))
-by_mark test byte false none = none ∙ sym (and-false (test byte))
-
-class_tested : (test : ℕ → Bool) (p : UnicodeProps) → test 0 ≡ false
-    → test (modified_combining_class p) ≡ (test (high_byte p) && is_mark (general_category p))
-unfolding modified_combining_class
-class_tested test p none = by_mark test (high_byte p) (is_mark (general_category p)) none
-
--- so three marks are of such classes where their bytes are such and all three are marks
-in_pairs : (p q r a b c : Bool) → ((p && a) && (q && b) && (r && c)) ≡ ((p && q && r) && (a && b && c))
-in_pairs false q r a b c = refl
-in_pairs true q r false b c = sym (and-false (q && r))
-in_pairs true false r true b c = refl
-in_pairs true true r true false c = sym (and-false r)
-in_pairs true true r true true c = refl
-
-abbrev have_bytes : hb_glyph_info_t → hb_glyph_info_t → hb_glyph_info_t → Bool
-have_bytes a b c =
-    is_patah_or_qamats (high_byte a.unicode_props) && is_sheva_or_hiriq (high_byte b.unicode_props)
-    && is_meteg_or_below (high_byte c.unicode_props)
-
-abbrev are_marks : hb_glyph_info_t → hb_glyph_info_t → hb_glyph_info_t → Bool
-are_marks a b c =
-    is_mark (general_category a.unicode_props) && is_mark (general_category b.unicode_props)
-    && is_mark (general_category c.unicode_props)
-
-opens_by_bytes : (gs : List hb_glyph_info_t) (d : hb_glyph_info_t) → 3 ≤ length gs
-    → opens_triple gs
-    ≡ (have_bytes (get_or gs 0 d) (get_or gs 1 d) (get_or gs 2 d)
-    && are_marks (get_or gs 0 d) (get_or gs 1 d) (get_or gs 2 d))
-opens_by_bytes [] d long = absurd (omega arith)
-opens_by_bytes (a ∷ []) d long = absurd (omega arith)
-opens_by_bytes (a ∷ (b ∷ [])) d long = absurd (omega arith)
-opens_by_bytes (a ∷ (b ∷ (c ∷ gs))) d long =
-    rw (
-      class_tested is_patah_or_qamats a.unicode_props refl,
-      class_tested is_sheva_or_hiriq b.unicode_props refl,
-      class_tested is_meteg_or_below c.unicode_props refl,
-    )
-    (in_pairs (is_patah_or_qamats (high_byte a.unicode_props)) (is_sheva_or_hiriq (high_byte b.unicode_props))
-    (is_meteg_or_below (high_byte c.unicode_props)) (is_mark (general_category a.unicode_props))
-    (is_mark (general_category b.unicode_props)) (is_mark (general_category c.unicode_props)))
-
--- and the bytes are asked for first
-pub by_bytes_and_marks : (gs : List hb_glyph_info_t) (d : hb_glyph_info_t) (bytes marks : Bool) → 3 ≤ length gs
-    → bytes ≡ have_bytes (get_or gs 0 d) (get_or gs 1 d) (get_or gs 2 d) → bytes ≡ true
-    → marks ≡ are_marks (get_or gs 0 d) (get_or gs 1 d) (get_or gs 2 d) → marks ≡ opens_triple gs
-by_bytes_and_marks gs d bytes marks long bytes_are pass marks_are =
-    marks_are
-    ∙ ap (λ x. x && are_marks (get_or gs 0 d) (get_or gs 1 d) (get_or gs 2 d)) (sym pass ∙ bytes_are)
-    ∙ sym (opens_by_bytes gs d long)
-
-pub by_bytes : (gs : List hb_glyph_info_t) (d : hb_glyph_info_t) (bytes : Bool) → 3 ≤ length gs
-    → bytes ≡ have_bytes (get_or gs 0 d) (get_or gs 1 d) (get_or gs 2 d) → bytes ≡ false → bytes ≡ opens_triple gs
-by_bytes gs d bytes long bytes_are fail =
-    fail ∙ ap (λ x. x && are_marks (get_or gs 0 d) (get_or gs 1 d) (get_or gs 2 d)) (sym fail ∙ bytes_are)
-    ∙ sym (opens_by_bytes gs d long)
 
 -- the first three glyphs tell whether a list opens with the three
 opens-front : (gs : List hb_glyph_info_t) → opens_triple (take 3 gs) ≡ opens_triple gs

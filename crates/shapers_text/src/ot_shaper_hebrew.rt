@@ -1,12 +1,10 @@
 //! Hebrew: the order of marks, and the letters that compose with points where the font places no
 //! marks.
 ghost use Rattle.std.specs.Prelude.{◌≡◌, ◌==◌, ◌&&◌, ◌≤◌, find, length, option_map, is_some, false, swap, ◌+◌, ◌^◌, ◌<◌, IfSome};
-ghost use Rattle.shapers_buffer.specs.Category.{is_mark};
 ghost use Rattle.shapers_buffer.specs.Clusters.{merge};
 ghost use Rattle.shapers_buffer.specs.Glyph.{order_view};
-ghost use Rattle.shapers_buffer.specs.Properties.{general_category, high_byte};
 ghost use Rattle.shapers_clusters.specs.Steps.{run_step};
-ghost use Rattle.shapers_text.specs.Hebrew.{hebrew_mark_step, marks_swapped, HebrewMarksReordered, second_of_triple, opens_triple, is_patah_or_qamats, is_sheva_or_hiriq, is_meteg_or_below, hebrew_form, composed_in_hebrew, lacks_dagesh, is_in_dagesh_row, pairs};
+ghost use Rattle.shapers_text.specs.Hebrew.{hebrew_mark_step, marks_swapped, HebrewMarksReordered, second_of_triple, opens_triple, hebrew_form, composed_in_hebrew, lacks_dagesh, is_in_dagesh_row, pairs};
 
 use shapers_base::buffer::modified_combining_class::{BELOW, CCC10, CCC14, CCC17, CCC18, CCC22};
 use shapers_base::buffer::{
@@ -116,32 +114,9 @@ fn opens_triple(marks: &[hb_glyph_info_t]) -> bool
     let [a, b, c, ..] = marks else {
         return false;
     };
-    have_bytes_of_triple(a, b, c) && are_marks(a, b, c)
-}
-
-// Whether three glyphs, if they are marks, are of such classes. (A mark's class is its high byte. It
-// is asked for first, since few marks are of these classes.)
-#[inline]
-fn have_bytes_of_triple(a: &hb_glyph_info_t, b: &hb_glyph_info_t, c: &hb_glyph_info_t) -> bool
-    ensures { result ≡ is_patah_or_qamats (high_byte a.now.unicode_props)
-        && is_sheva_or_hiriq (high_byte b.now.unicode_props)
-        && is_meteg_or_below (high_byte c.now.unicode_props) }
-{
-    matches!(a.unicode_props.high_byte(), CCC17 | CCC18)
-        && matches!(b.unicode_props.high_byte(), CCC10 | CCC14)
-        && matches!(c.unicode_props.high_byte(), CCC22 | BELOW)
-}
-
-// Whether all three glyphs are marks.
-#[inline]
-fn are_marks(a: &hb_glyph_info_t, b: &hb_glyph_info_t, c: &hb_glyph_info_t) -> bool
-    ensures { result ≡ is_mark (general_category a.now.unicode_props)
-        && is_mark (general_category b.now.unicode_props)
-        && is_mark (general_category c.now.unicode_props) }
-{
-    a.unicode_props.general_category().is_mark()
-        && b.unicode_props.general_category().is_mark()
-        && c.unicode_props.general_category().is_mark()
+    matches!(a.unicode_props.modified_combining_class(), CCC17 | CCC18)
+        && matches!(b.unicode_props.modified_combining_class(), CCC10 | CCC14)
+        && matches!(c.unicode_props.modified_combining_class(), CCC22 | BELOW)
 }
 
 /// The composition of two characters: the table's, or else, where GPOS places no marks, the Hebrew

@@ -122,24 +122,9 @@ fn opens_triple(marks: &[GlyphInfo]) -> bool {
     let [a, b, c, ..] = marks else {
         return false;
     };
-    have_bytes_of_triple(a, b, c) && are_marks(a, b, c)
-}
-
-// Whether three glyphs, if they are marks, are of such classes. (A mark's class is its high byte. It
-// is asked for first, since few marks are of these classes.)
-#[inline]
-fn have_bytes_of_triple(a: &GlyphInfo, b: &GlyphInfo, c: &GlyphInfo) -> bool {
-    matches!(a.unicode_props.high_byte(), CCC17 | CCC18)
-        && matches!(b.unicode_props.high_byte(), CCC10 | CCC14)
-        && matches!(c.unicode_props.high_byte(), CCC22 | BELOW)
-}
-
-// Whether all three glyphs are marks.
-#[inline]
-fn are_marks(a: &GlyphInfo, b: &GlyphInfo, c: &GlyphInfo) -> bool {
-    a.unicode_props.general_category().is_mark()
-        && b.unicode_props.general_category().is_mark()
-        && c.unicode_props.general_category().is_mark()
+    matches!(a.unicode_props.modified_combining_class(), CCC17 | CCC18)
+        && matches!(b.unicode_props.modified_combining_class(), CCC10 | CCC14)
+        && matches!(c.unicode_props.modified_combining_class(), CCC22 | BELOW)
 }
 
 /// The composition of two characters: the table's, or else, where GPOS places no marks, the Hebrew
