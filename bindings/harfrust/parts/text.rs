@@ -82,20 +82,9 @@ const PLACE: u32 = 12;
 /// The facts of the last character whose number ends in these bits, each bit turned over: none is remembered at first.
 static REMEMBERED: [AtomicU32; 1 << PLACE] = [const { AtomicU32::new(0) }; 1 << PLACE];
 
-/// The character of which this one's facts are remembered: syllables of Hangul, too many for the list, are alike.
-#[inline(always)]
-fn example_of(c: u32) -> u32 {
-    if matches!(c, 0xAC00..=0xD7A3) {
-        0xAC00
-    } else {
-        c
-    }
-}
-
 /// What is remembered of a character.
 #[inline(always)]
 fn remembered(c: u32) -> Option<u32> {
-    let c = example_of(c);
     let facts = !REMEMBERED[c as usize % REMEMBERED.len()].load(Ordering::Relaxed);
     (facts >> NUMBER == c >> PLACE).then_some(facts)
 }
@@ -115,14 +104,31 @@ fn facts_of(c: u32, work: &mut Work) -> Result<u32, ShaperError> {
     }
 }
 
-/// Finds the facts of a character, and remembers them.
+/// Finds the facts of a character, and remembers them. Hangul's syllables, too many for the list, are alike.
 #[cold]
 #[inline(never)]
 fn find_facts(c: u32, text: &mut Buffer) -> Result<u32, ShaperError> {
-    let c = example_of(c);
+    let is_syllable = matches!(c, 0xAC00..=0xD7A3);
+    let alike = if is_syllable { OF_SYLLABLES.load(Ordering::Relaxed) } else { 0 };
+    let facts = if alike == 0 { facts_alone(c, text)? } else { alike };
+    if is_syllable {
+        OF_SYLLABLES.store(facts, Ordering::Relaxed);
+    }
+    let facts = facts | c >> PLACE << NUMBER;
+    if char::from_u32(c).is_some() {
+        REMEMBERED[c as usize % REMEMBERED.len()].store(!facts, Ordering::Relaxed);
+    }
+    Ok(facts)
+}
+
+/// The facts of a syllable of Hangul, 0 until one is found.
+static OF_SYLLABLES: AtomicU32 = AtomicU32::new(0);
+
+/// The facts of a character without its number.
+fn facts_alone(c: u32, text: &mut Buffer) -> Result<u32, ShaperError> {
     text.push(Glyph { glyph_id: c, ..Glyph::DEFAULT })?;
     set_unicode_properties(&UnicodeTables, text);
-    let mut facts = c >> PLACE << NUMBER | u32::from(text.get(0).unicode_props.0);
+    let mut facts = u32::from(text.get(0).unicode_props.0);
     text.truncate(0);
     let Some(character) = char::from_u32(c) else {
         return Ok(facts | OPENS);
@@ -140,7 +146,6 @@ fn find_facts(c: u32, text: &mut Buffer) -> Result<u32, ShaperError> {
     ] {
         facts |= if holds { bit } else { 0 };
     }
-    REMEMBERED[c as usize % REMEMBERED.len()].store(!facts, Ordering::Relaxed);
     Ok(facts)
 }
 
