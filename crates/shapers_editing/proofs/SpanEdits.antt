@@ -1,62 +1,32 @@
 -- Spans in front of an edit and behind it.
-use Rattle.std.proofs.Common.{◌≡◌, ℕ, zero, suc, ◌+◌, ◌-◌, ◌<◌, ◌≤◌, Bool, true, false, ◌==◌, List, [], ◌∷◌, ◌++◌, drop, take, length, get_or, sum_by, refl, sym, ap, subst, ◌∙◌, arith, inl, inr, ⊎_elim}
-use Rattle.std.specs.Prelude.{nat_lt}
-use Rattle.std.specs.Cmp.{second_so}
-use Rattle.std.specs.List.{list_all}
-use Rattle.std.proofs.lemmas.Bool.{cases_Bool, cases_lt, cond_both, cond-true, cond-false, eqb-true}
+use Rattle.std.proofs.Common.{◌≡◌, ℕ, zero, suc, ◌+◌, ◌-◌, ◌<◌, ◌≤◌, true, false, ◌==◌, List, [], ◌∷◌, ◌++◌, drop, take, length, get_or, sum_by, refl, sym, ap, subst, ◌∙◌, arith, inl, inr, ⊎_elim}
+use Rattle.std.proofs.lemmas.Bool.{cases_Bool, cases_lt, cond-true, cond-false, eqb-true}
 use Rattle.std.proofs.lemmas.List.{length-append, take-append-le, drop-append-le, nil_from_length, length-drop}
 use Rattle.std.proofs.lemmas.List.Sums.{sum_by-cons}
 use Rattle.shapers_buffer.specs.declared.buffer.glyph.hb_glyph_info_t.{hb_glyph_info_t}
 use Rattle.shapers_buffer.specs.declared.buffer.syllables.Span.{Span}
-use Rattle.shapers_buffer.specs.Syllables.{spans_cover}
 use Rattle.shapers_spans.specs.Cuts.{ReadsAlike}
 use Rattle.shapers_spans.specs.Grammar.{Grammar, IsCutFrom, IsFirst, IsSyllable, IsSyllableCut, NoneTakes, OpensWith, lead_spans, reach_of, read_of}
 use Rattle.shapers_spans.specs.Re.{Re}
+use Rattle.shapers_spans.proofs.Cutting.{alike_drop, alike_head, alike_tail, behind-reach, covered, read-append}
 use Rattle.shapers_spans.proofs.Reached.{behind-is-read, keep_reach, keep_read, reach-le, reach-zero, skip_reach, skip_read}
 use Rattle.shapers_spans.proofs.Reading.{syllable_within}
 use Rattle.shapers_editing.specs.SpanEdits.{AreDone, IsDone, OneCut, SpansBehindStay, SpansInFrontStay}
-
--- what is read alike
-alike-tail : (g : Grammar) (x : hb_glyph_info_t) (gs hs : List hb_glyph_info_t) → ReadsAlike g (x ∷ gs) hs
-    → ReadsAlike g gs hs
-alike-tail g x gs hs a fs ks e l = a (x ∷ fs) ks (ap (λ zs. x ∷ zs) e) l
-
-alike-head : (g : Grammar) (x : hb_glyph_info_t) (gs hs : List hb_glyph_info_t) → ReadsAlike g (x ∷ gs) hs → g.passes
-    (x ∷ (gs ++ hs)) ≡ g.passes (x ∷ gs)
-alike-head g x gs hs a = a [] (x ∷ gs) refl (omega arith)
-
-alike-drop : (g : Grammar) (gs hs : List hb_glyph_info_t) (n : ℕ) → ReadsAlike g gs hs → ReadsAlike g (drop n gs) hs
-alike-drop g gs hs zero a = a
-alike-drop g [] hs (suc n) a = a
-alike-drop g (x ∷ gs) hs (suc n) a = alike-drop g gs hs n (alike-tail g x gs hs a)
-
-read-append : (g : Grammar) (gs hs : List hb_glyph_info_t) → ReadsAlike g gs hs → read_of g.passes (gs ++ hs)
-    ≡ read_of g.passes gs ++ read_of g.passes hs
-read-append g [] hs a = refl
-read-append g (x ∷ gs) hs a =
-    let h = alike-head g x gs hs a in
-    let rest = read-append g gs hs (alike-tail g x gs hs a) in
-    ⊎_elim
-    (λ e. skip_read g.passes x (gs ++ hs) (h ∙ e) ∙ rest ∙ ap (λ w. w ++ read_of g.passes hs)
-    (sym (skip_read g.passes x gs e)))
-    (λ e. keep_read g.passes x (gs ++ hs) (h ∙ e) ∙ ap (λ w. x.category ∷ w) rest ∙ ap (λ w. w ++ read_of g.passes hs)
-    (sym (keep_read g.passes x gs e)))
-    (cases_Bool (g.passes (x ∷ gs)))
 
 reach-in : (g : Grammar) (gs hs : List hb_glyph_info_t) (n : ℕ) → ReadsAlike g gs hs → n < length (read_of g.passes gs)
     → reach_of g.passes (gs ++ hs) n ≡ reach_of g.passes gs n
 reach-in g [] hs n a l = absurd (omega arith)
 reach-in g (x ∷ gs) hs zero a l =
-    let h = alike-head g x gs hs a in
+    let h = alike_head g x gs hs a in
     ⊎_elim
     (λ e. skip_reach g.passes x (gs ++ hs) 0 (h ∙ e) ∙ ap suc
-    (reach-in g gs hs 0 (alike-tail g x gs hs a) (omega (arith, ap length (skip_read g.passes x gs e)))) ∙ sym
+    (reach-in g gs hs 0 (alike_tail g x gs hs a) (omega (arith, ap length (skip_read g.passes x gs e)))) ∙ sym
     (skip_reach g.passes x gs 0 e))
     (λ e. reach-zero g.passes (x ∷ (gs ++ hs)) (h ∙ e) ∙ sym (reach-zero g.passes (x ∷ gs) e))
     (cases_Bool (g.passes (x ∷ gs)))
 reach-in g (x ∷ gs) hs (suc n) a l =
-    let h = alike-head g x gs hs a in
-    let b = alike-tail g x gs hs a in
+    let h = alike_head g x gs hs a in
+    let b = alike_tail g x gs hs a in
     ⊎_elim
     (λ e. skip_reach g.passes x (gs ++ hs) (suc n) (h ∙ e) ∙ ap suc
     (reach-in g gs hs (suc n) b (omega (arith, ap length (skip_read g.passes x gs e)))) ∙ sym
@@ -198,8 +168,8 @@ front-from g gs hs ks (p ∷ ps) ss (t ∷ ts) a b c d done =
     (drop-append-le p.len gs hs o.0) c.1 in
     let two : IsCutFrom g (drop p.len gs ++ ks) ts = subst (λ xs. IsCutFrom g xs ts)
     (ap (λ (u : Span). drop u.len (gs ++ ks)) (sym e) ∙ drop-append-le p.len gs ks o.0) d.1 in
-    let (us, f) = front-from g (drop p.len gs) hs ks ps ss ts (alike-drop g gs hs p.len a)
-    (alike-drop g gs ks p.len b) one two done.1 in
+    let (us, f) = front-from g (drop p.len gs) hs ks ps ss ts (alike_drop g gs hs p.len a)
+    (alike_drop g gs ks p.len b) one two done.1 in
     (us, ap (λ (u : Span). u ∷ ts) (sym e) ∙ ap (λ (vs : List Span). p ∷ vs) f)
 
 cons-head : (x y : Span) (xs ys : List Span) → x ∷ xs ≡ y ∷ ys → x ≡ y
@@ -244,7 +214,7 @@ in-front g gs hs ks (p ∷ ps) ss ts a b c d done =
     let both : p ∷ (ps ++ ss) ≡ lead ∷ c.rest = cw ∙ led n g.other c.rest e in
     let head : p ≡ lead = cons-head p lead (ps ++ ss) c.rest both in
     let tail : ps ++ ss ≡ c.rest = cons-tail p lead (ps ++ ss) c.rest both in
-    let front = front-from g (drop n gs) hs ks ps ss d.rest (alike-drop g gs hs n a) (alike-drop g gs ks n b)
+    let front = front-from g (drop n gs) hs ks ps ss d.rest (alike_drop g gs hs n a) (alike_drop g gs ks n b)
     (subst (λ us. IsCutFrom g (drop n gs ++ hs) us) (sym tail) cc1) dc1
     (subst (λ (u : Span). AreDone g (drop u.len gs) ps) head done.1) in (
       front.0,
@@ -257,16 +227,6 @@ in-front g gs hs ks (p ∷ ps) ss ts a b c d done =
 record Behind (g : Grammar) (hs : List hb_glyph_info_t) (ts : List Span) : Type 0 where
   cut : IsCutFrom g hs ts
   read : g.passes hs ≡ false
-
-behind-reach : (p : List hb_glyph_info_t → Bool) → p [] ≡ false → (gs : List hb_glyph_info_t) (n : ℕ) → p
-    (drop (reach_of p gs n) gs) ≡ false
-behind-reach p z [] n = z
-behind-reach p z (x ∷ gs) zero =
-    cond_both (p (x ∷ gs)) (suc (reach_of p gs 0)) 0 (λ k. p (drop k (x ∷ gs)) ≡ false) (λ _. behind-reach p z gs 0)
-    (λ h. h)
-behind-reach p z (x ∷ gs) (suc n) =
-    cond_both (p (x ∷ gs)) (reach_of p gs (suc n)) (reach_of p gs n) (λ k. p (drop k gs) ≡ false)
-    (λ _. behind-reach p z gs (suc n)) (λ _. behind-reach p z gs n)
 
 behind-from : (g : Grammar) → g.passes [] ≡ false → (gs hs : List hb_glyph_info_t) (ss ts : List Span) → IsCutFrom g
     (gs ++ hs) (ss ++ ts) → sum_by (λ (s : Span). s.len) ss ≡ length gs → g.passes (gs ++ hs) ≡ false → Behind g hs ts
@@ -292,10 +252,6 @@ unopened g hs ts b =
       whole = ap (λ n. lead_spans n g.other ++ ts) (sym none);
       cut = subst (λ n. IsCutFrom g (drop n hs) ts) (sym none) b.cut;
     }
-
-covered : (n : ℕ) (spans : List Span) → spans_cover n spans ≡ true → sum_by (λ (s : Span). s.len) spans ≡ n
-covered n spans h = eqb-true (sum_by (λ (s : Span). s.len) spans) n
-    (second_so (list_all (λ (s : Span). nat_lt 0 s.len) spans) (sum_by (λ (s : Span). s.len) spans == n) h)
 
 behind-cut : (g : Grammar) → g.passes [] ≡ false → (gs hs : List hb_glyph_info_t) (ss ts : List Span) → IsSyllableCut g
     (gs ++ hs) (ss ++ ts) → sum_by (λ (s : Span). s.len) ss ≡ length gs → IsSyllableCut g hs ts

@@ -11,7 +11,7 @@ use Rattle.ucd_table.proofs.TrieCheck.{all_below, all_below-at}
 use Rattle.shapers_text.specs.Hebrew.{composed_in_hebrew, is_in_dagesh_row, lacks_dagesh, pairs}
 use Rattle.shapers_unicode.specs.ClassRows.{class_rows}
 use Rattle.shapers_unicode.specs.Classes.{changed_classes, class_exceptions, modified_class}
-use Rattle.shapers_unicode.specs.General.{general_category}
+use Rattle.shapers_unicode.specs.General.{category_of_character}
 use Rattle.shapers_unicode.specs.GeneralRows.{general_rows}
 use Rattle.shapers_unicode.specs.MappingRows.{mapping_rows}
 use Rattle.shapers_unicode.specs.Pairs.{as_pair, canonical_mapping, composed, decomposed}
@@ -94,15 +94,15 @@ found_in a b q (p ∷ rest) all e =
 -- ---- shin with a dot and dagesh
 
 shin_dot : own_class 0x05C1 ≡ 10
-unfolding tables modified_class class_rows changed_classes class_exceptions general_category general_rows
+unfolding tables modified_class class_rows changed_classes class_exceptions category_of_character general_rows
 shin_dot = refl
 
 sin_dot : own_class 0x05C2 ≡ 11
-unfolding tables modified_class class_rows changed_classes class_exceptions general_category general_rows
+unfolding tables modified_class class_rows changed_classes class_exceptions category_of_character general_rows
 sin_dot = refl
 
 dagesh : own_class 0x05BC ≡ 12
-unfolding tables modified_class class_rows changed_classes class_exceptions general_category general_rows
+unfolding tables modified_class class_rows changed_classes class_exceptions category_of_character general_rows
 dagesh = refl
 
 shin_whole : fully_decomposed decomposed (0xFB2C ∷ []) ≡ 0x05E9 ∷ 0x05BC ∷ 0x05C1 ∷ []

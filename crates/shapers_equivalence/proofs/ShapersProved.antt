@@ -24,7 +24,7 @@ use Rattle.shapers_normalize.specs.ByShaper.{composed_for, decomposed_for, is_ch
 use Rattle.shapers_normalize.specs.TextTables.{VariantForms}
 use Rattle.shapers_syllabic.specs.Characters.{composed_behind}
 use Rattle.shapers_unicode.specs.Answers.{unicode_tables}
-use Rattle.shapers_unicode.specs.General.{general_category}
+use Rattle.shapers_unicode.specs.General.{category_of_character}
 use Rattle.shapers_unicode.specs.MappingRows.{mapping_rows}
 use Rattle.shapers_unicode.specs.Pairs.{composed, decomposed}
 use Rattle.shapers_equivalence.specs.Equivalence.{CanonicallyEquivalent, full_decomposition}
@@ -78,7 +78,7 @@ made_by true o c e = e
 made_by false o c e = absurd (none-some c e)
 
 behind_apart : (a b c : ℕ) → composed_behind unicode_tables a b ≡ Some c → ApartInto a b c
-behind_apart a b c e = composed_apart a b c (some_by (is_mark (general_category a)) (composed a b) c e)
+behind_apart a b c e = composed_apart a b c (some_by (is_mark (category_of_character a)) (composed a b) c e)
 
 ya_nukta_pair : decomposed 0x09DF ≡ Some (0x09AF, 0x09BC)
 unfolding tables decomposed mapping_rows
@@ -95,11 +95,11 @@ ya_nukta_apart a b c both is =
       two = ap (λ x. eqb x 0) second;
     }
 
-indic_composed : (a b c : ℕ) (ya : Bool) → (not (is_mark (general_category a)) && is_ya_nukta a b) ≡ ya
+indic_composed : (a b c : ℕ) (ya : Bool) → (not (is_mark (category_of_character a)) && is_ya_nukta a b) ≡ ya
     → cond ya (Some 0x09DF) (composed_behind unicode_tables a b) ≡ Some c → ApartInto a b c
 indic_composed a b c true test e =
     let is : 0x09DF ≡ c = cc in
-    ya_nukta_apart a b c (and_parts (not (is_mark (general_category a))) (is_ya_nukta a b) test).1 is
+    ya_nukta_apart a b c (and_parts (not (is_mark (category_of_character a))) (is_ya_nukta a b) test).1 is
 indic_composed a b c false test e = behind_apart a b c e
 
 composed_alike : (shaper : Option hb_ot_shaper_t) (plan : hb_ot_shape_plan_t) (a b c : ℕ)
@@ -109,7 +109,7 @@ composed_alike (Some Arabic) plan a b c by e = same_text own_class a b c (compos
 composed_alike (Some Hangul) plan a b c by e = same_text own_class a b c (composed_apart a b c e)
 composed_alike (Some Hebrew) plan a b c by e = hebrew_alike a b c plan.has_gpos_mark e
 composed_alike (Some Indic) plan a b c by e = same_text own_class a b c
-    (indic_composed a b c (not (is_mark (general_category a)) && is_ya_nukta a b) refl e)
+    (indic_composed a b c (not (is_mark (category_of_character a)) && is_ya_nukta a b) refl e)
 composed_alike (Some Khmer) plan a b c by e = absurd (false≢true (sym by))
 composed_alike (Some Myanmar) plan a b c by e = same_text own_class a b c (composed_apart a b c e)
 composed_alike (Some MyanmarZawgyi) plan a b c by e = same_text own_class a b c (composed_apart a b c e)

@@ -18,7 +18,7 @@ use Rattle.shapers_hangul.specs.Hangul.{combines_l, combines_t, combines_v, is_b
 use Rattle.shapers_normal.specs.Decomposition.{come_off}
 use Rattle.shapers_normalize.specs.ByShaper.{is_character}
 use Rattle.shapers_unicode.specs.Classes.{modified_class}
-use Rattle.shapers_unicode.specs.General.{general_category}
+use Rattle.shapers_unicode.specs.General.{category_of_character}
 use Rattle.shapers_unicode.specs.Pairs.{as_pair, canonical_mapping, composed, compositions, decomposed, hangul_parts, paired_with, primary_composite}
 use Rattle.shapers_unicode.proofs.CompositionLemmas.{composite-paired_with, is_empty}
 use Rattle.shapers_unicode.proofs.ClassSteps.{class_stepped}
@@ -325,13 +325,13 @@ same_class general class c mapping = unicode_class general class c == 0 || parts
     (λ a. unicode_class general class a == unicode_class general class c) mapping
 
 mapped_class : (c : ℕ) → is_empty (canonical_mapping c) ≡ false
-    → same_class general_category modified_class c (canonical_mapping c) ≡ true
+    → same_class category_of_character modified_class c (canonical_mapping c) ≡ true
 unfolding tables points_ok same_class mapping_stepped general_stepped class_stepped
 mapped_class c some =
     ap₂ (λ general class. same_class general class c (canonical_mapping c))
-    (tree_value-tree_of general_category general_stepped) (tree_value-tree_of modified_class class_stepped)
+    (tree_value-tree_of category_of_character general_stepped) (tree_value-tree_of modified_class class_stepped)
     ∙ Stepped-at_points canonical_mapping mapping_stepped is_empty
-    (same_class (tree_value Cn (tree_of general_category general_stepped))
+    (same_class (tree_value Cn (tree_of category_of_character general_stepped))
     (tree_value 0 (tree_of modified_class class_stepped))) refl c some
 
 classed_no_syllable : (c : ℕ) → eqb (modified_class c) 0 ≡ false → not (is_s c) ≡ true
@@ -340,7 +340,7 @@ classed_no_syllable c some = Stepped-at_points modified_class class_stepped (λ 
     (λ p k. not (is_s p)) refl c some
 
 abbrev pub own_class : ℕ → ℕ
-own_class c = unicode_class general_category modified_class c
+own_class c = unicode_class category_of_character modified_class c
 
 no_class : (c : ℕ) (mark character : Bool) → modified_class c ≡ 0
     → cond mark (cond character (modified_class c) 0) 0 ≡ 0
@@ -350,7 +350,7 @@ no_class c false character e = refl
 
 class_by : (c : ℕ) (b : Bool) → eqb (modified_class c) 0 ≡ b → own_class c ≢ 0 → is_s c ≡ false
 class_by c true e some = absurd (some (no_class c
-    (nat_le 0x80 c && is_mark (cond (is_character c) (general_category c) Cn)) (is_character c)
+    (nat_le 0x80 c && is_mark (cond (is_character c) (category_of_character c) Cn)) (is_character c)
     (eqb-true (modified_class c) 0 e)))
 class_by c false e some = not_of (is_s c) (classed_no_syllable c e)
 

@@ -10,7 +10,7 @@ use Rattle.shapers_buffer.specs.Glyph.{clusters, order_view, plain}
 use Rattle.shapers_buffer.proofs.ClusterLemmas.{length-stretch}
 use Rattle.shapers_clusters.specs.Cuts.{EndWithin}
 use Rattle.shapers_clusters.specs.Steps.{shifted}
-use Rattle.shapers_clusters.proofs.Halves.{Each}
+use Rattle.shapers_clusters.proofs.Halves.{Each, each-append, each-drop, each-take}
 use Rattle.shapers_arabic.specs.Marks.{Marks, arabic_mark_step, behind, has_lower_class, in_class, is_modifier_of, marks_merged, marks_reordered, split_marks, text_step, with_modifiers_first}
 use Rattle.shapers_arabic.proofs.MarkLaws.{mark_laws, marks_view}
 use Rattle.shapers_arabic.proofs.MarkLists.{joined_parts, split-joined}
@@ -18,7 +18,7 @@ use Rattle.shapers_arabic.proofs.MarkMoves.{moves-merged}
 use Rattle.shapers_clusters.proofs.Merging.{map-merge_all}
 use Rattle.shapers_normal.specs.Sorting.{class_of, classes}
 use Rattle.shapers_normal.proofs.Runs.{drop-changed}
-use Rattle.shapers_normal.proofs.Beside.{Local, Not, each-append, each-drop, each-take, local_as, local_merge, local_nothing, local_stretch, local_then, within_part}
+use Rattle.shapers_normal.proofs.Beside.{Local, Not, local_as, local_merge, local_nothing, local_stretch, local_then, within_part}
 
 each-classed : (P : ℕ → Type 0) (class : ℕ) (gs : List hb_glyph_info_t) → Each P gs → Each P (map (in_class class) gs)
 each-classed P class [] p = tt

@@ -7,8 +7,8 @@ use Rattle.shapers_buffer.specs.Glyph.{clusters}
 use Rattle.shapers_buffer.specs.declared.buffer.glyph.hb_glyph_info_t.{hb_glyph_info_t}
 use Rattle.shapers_clusters.specs.Cuts.{IsMonotone}
 use Rattle.shapers_syllabic.specs.CircleLaws.{NoNewCluster}
-use Rattle.shapers_clusters.proofs.Halves.{Each}
-use Rattle.shapers_normal.proofs.Beside.{all_of, each-append, each_of}
+use Rattle.shapers_clusters.proofs.Halves.{Each, each-append}
+use Rattle.shapers_normal.proofs.Beside.{all_of, each_of}
 use Rattle.shapers_normal.proofs.Pairs.{Cross, Pairs, each_as, from_pairs, mono_by, pairs-append, to_pairs}
 use Rattle.rustybuzz_shapers.specs.Monotone.{StaysMonotone}
 

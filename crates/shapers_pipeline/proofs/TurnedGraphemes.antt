@@ -16,11 +16,11 @@ use Rattle.shapers_buffer.proofs.ClusterLemmas.{get_or-stretch, map-stretch}
 use Rattle.shapers_buffer.proofs.MappedLists.{map-reverse}
 use Rattle.shapers_clusters.specs.Cuts.{EndWithin, IsMonotone}
 use Rattle.shapers_clusters.proofs.FlagCalls.{map-unsafe_all}
-use Rattle.shapers_clusters.proofs.Halves.{Each}
+use Rattle.shapers_clusters.proofs.Halves.{Each, each-append, each-drop, each-take}
 use Rattle.shapers_clusters.proofs.Merging.{map-merge_all}
 use Rattle.shapers_clusters.proofs.Moves.{all-joined, clusters-merge_all}
 use Rattle.shapers_clusters.proofs.Proved.{exact_cuts_hold}
-use Rattle.shapers_normal.proofs.Beside.{all_of, each-append, each-drop, each-take, each_of}
+use Rattle.shapers_normal.proofs.Beside.{all_of, each_of}
 use Rattle.shapers_prepare.specs.GraphemeLaws.{GraphemesCover, NoGraphemeSplits}
 use Rattle.shapers_prepare.specs.Graphemes.{clusters_formed, continuations, graphemes, graphemes_from}
 use Rattle.shapers_prepare.specs.NativeDirection.{graphemes_turned, graphemes_whole}
