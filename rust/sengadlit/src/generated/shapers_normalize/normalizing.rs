@@ -44,24 +44,24 @@ pub struct NormalizeSettings {
 ///
 /// ```text
 /// requires { buffer.old.positions ≡ [] }
-/// ensures ok { let context = shaper_context shaper plan.now (F.font font.now) (F.variants font.now)
-///     (T.tables tables.now) (T.texts tables.now) settings.now.invisible_glyph
-///     settings.now.draws_selectors in
+/// ensures ok { let context = shaper_context shaper plan.now
+///     (F.font font.now) (F.variants font.now) (T.tables tables.now) (T.texts tables.now)
+///     settings.now.invisible_glyph settings.now.draws_selectors in
 ///     let text =
 ///     normalized context settings.now.rounds buffer.old.level buffer.old.glyphs in
 ///     OnOk result (buffer.new ≡ record buffer.old { glyphs = text }) }
-/// ensures length { let context = shaper_context shaper plan.now (F.font font.now) (F.variants font.now)
-///     (T.tables tables.now) (T.texts tables.now) settings.now.invisible_glyph
-///     settings.now.draws_selectors in
+/// ensures length { let context = shaper_context shaper plan.now
+///     (F.font font.now) (F.variants font.now) (T.tables tables.now) (T.texts tables.now)
+///     settings.now.invisible_glyph settings.now.draws_selectors in
 ///     RefusesLength buffer.old.max_len
 ///     (length (first_round context buffer.old.level buffer.old.glyphs)) result }
-/// ensures memory { let context = shaper_context shaper plan.now (F.font font.now) (F.variants font.now)
-///     (T.tables tables.now) (T.texts tables.now) settings.now.invisible_glyph
-///     settings.now.draws_selectors in
+/// ensures memory { let context = shaper_context shaper plan.now
+///     (F.font font.now) (F.variants font.now) (T.tables tables.now) (T.texts tables.now)
+///     settings.now.invisible_glyph settings.now.draws_selectors in
 ///     is_whole context buffer.old.glyphs ≡ true → IsOk result }
-/// ensures in_place { let context = shaper_context shaper plan.now (F.font font.now) (F.variants font.now)
-///     (T.tables tables.now) (T.texts tables.now) settings.now.invisible_glyph
-///     settings.now.draws_selectors in
+/// ensures in_place { let context = shaper_context shaper plan.now
+///     (F.font font.now) (F.variants font.now) (T.tables tables.now) (T.texts tables.now)
+///     settings.now.invisible_glyph settings.now.draws_selectors in
 ///     stays_together context buffer.old.glyphs ≡ true → IsOk result }
 /// ensures err { OnErr result (buffer.new ≡ buffer.old) }
 /// ```
