@@ -69,7 +69,7 @@ impl Cut {
         }
     }
 
-    // One more, unless it stays as it is.
+    // One more, unless it stays as it is, of a text of so many characters.
     #[inline]
     fn add(&mut self, place: usize, item: Item, len: usize) {
         if item.is_kept() {
@@ -80,7 +80,7 @@ impl Cut {
                 self.few.push((place, item));
                 return;
             }
-            if self.list(len).is_err() {
+            if self.list_few(len).is_err() {
                 self.is_whole = false;
                 return;
             }
@@ -92,7 +92,7 @@ impl Cut {
 
     // Lists the few items, with room for half the characters: most items take two or more.
     #[inline(never)]
-    fn list(&mut self, len: usize) -> Result<(), AllocError> {
+    fn list_few(&mut self, len: usize) -> Result<(), AllocError> {
         self.many.reserve_exact(FEW + len / 2)?;
         self.many.extend_from_slice(self.few.as_slice())
     }
