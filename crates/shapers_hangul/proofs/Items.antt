@@ -322,9 +322,3 @@ items_fit_from font circles place (suc skip) (u ∷ us) =
 pub items_fit : (font : Font) (circles : Bool) (us : List ℕ) → Fit (length us) (items font circles us)
 items_fit font circles us = let none : 0 + length us ≡ length us =
     omega arith in subst (λ n. Fit n (items font circles us)) none (items_fit_from font circles 0 0 us)
-
-pub items_at_fit : (font : Font) (circles : Bool) (us : List ℕ) (place : ℕ) → place ≤ length us
-    → Fit (length us) (items_at font circles us place)
-items_at_fit font circles us place within =
-    let whole : place + length (drop place us) ≡ length us = omega (arith, length-drop place us) in
-    subst (λ n. Fit n (items_at font circles us place)) whole (items_fit_from font circles place 0 (drop place us))

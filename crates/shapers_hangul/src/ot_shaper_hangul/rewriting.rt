@@ -121,7 +121,8 @@ impl Cut {
     // Lists the few items, with room for half the characters: most items take two or more.
     #[inline(never)]
     fn list_few(&mut self, len: usize) -> Result<(), AllocError>
-        ensures listed { OnOk result (self.new.many.items ≡ self.old.many.items ++ self.old.few.items) }
+        ensures listed { let all = self.old.many.items ++ self.old.few.items in
+            OnOk result (self.new.many.items ≡ all) }
         ensures few { self.new.few ≡ self.old.few }
         ensures whole { self.new.is_whole ≡ self.old.is_whole }
     {
