@@ -11,7 +11,7 @@ use Rattle.shapers_buffer.specs.declared.buffer.modified_combining_class.TheCons
 use Rattle.shapers_buffer.specs.Category.{is_mark}
 use Rattle.shapers_buffer.specs.Clusters.{stretch_of}
 use Rattle.shapers_buffer.specs.Properties.{general_category, high_byte, modified_combining_class, with_high_byte, with_modified_combining_class}
-use Rattle.shapers_buffer.proofs.PropertyLemmas.{properties_set}
+use Rattle.shapers_buffer.proofs.PropertyLemmas.{set_is_read}
 use Rattle.shapers_arabic.specs.MarkParts.{is_among_modifiers, is_modifier, may_modify}
 use Rattle.shapers_arabic.specs.Marks.{behind, classes_moved, combining_classes, front_of, has_lower_class, in_class, is_modifier_of, marks_reordered, modifiers, split_marks, with_modifiers_first}
 
@@ -82,7 +82,7 @@ set_on_other class p other = rw other refl
 
 still_mark : (class : ℕ) (p : UnicodeProps) → is_mark (general_category p) ≡ true
     → is_mark (general_category (with_high_byte class p)) ≡ true
-still_mark class p marked = ap is_mark ((properties_set p).category_stays class) ∙ marked
+still_mark class p marked = ap is_mark ((set_is_read p).category_stays class) ∙ marked
 
 class_of_mark : (p : UnicodeProps) → is_mark (general_category p) ≡ true → modified_combining_class p ≡ high_byte p
 unfolding modified_combining_class
@@ -93,7 +93,7 @@ class_set : (class : ℕ) (p : UnicodeProps) → is_mark (general_category p) �
 class_set class p marked =
     ap modified_combining_class (set_on_mark class p marked)
     ∙ class_of_mark (with_high_byte class p) (still_mark class p marked)
-    ∙ (properties_set p).byte class
+    ∙ (set_is_read p).byte class
 
 -- a class that is set is hidden with the one before it
 byte-hidden : (class : ℕ) (p : UnicodeProps) → with_high_byte 0 (with_high_byte class p) ≡ with_high_byte 0 p
