@@ -229,14 +229,22 @@ static void try_buffers(void)
     try_call("add", add);
 }
 
+/* Nine syllables of two jamo: the first eight take no memory. */
+static void try_hangul(void)
+{
+    unsigned int i;
+
+    begin_world(SENGADLIT_SHAPER_HANGUL, SENGADLIT_TAG('H', 'a', 'n', 'g'), 0x1100, 18);
+    for (i = 1; i < 18; i += 2)
+        glyphs()[i].glyph_id = 0x1161;
+    try_call("preprocess Hangul", preprocess);
+}
+
 static void try_characters(void)
 {
     begin_world(SENGADLIT_SHAPER_THAI, SENGADLIT_TAG('T', 'h', 'a', 'i'), 0x0E01, 4);
     glyphs()[2].glyph_id = 0x0E33;
     try_call("preprocess Thai", preprocess);
-    begin_world(SENGADLIT_SHAPER_HANGUL, SENGADLIT_TAG('H', 'a', 'n', 'g'), 0x1100, 8);
-    glyphs()[1].glyph_id = 0x1161;
-    try_call("preprocess Hangul", preprocess);
     begin_world(SENGADLIT_SHAPER_ARABIC, SENGADLIT_TAG('A', 'r', 'a', 'b'), 0x064B, 3);
     try_call("collect", collect);
     try_call("marks", marks);
@@ -279,6 +287,7 @@ int main(void)
     setvbuf(stdout, room, _IOFBF, sizeof room);
     try_buffers();
     try_characters();
+    try_hangul();
     try_khmer();
     try_stretch();
     try_whole();
