@@ -1,9 +1,11 @@
 -- Words of the code's walk over a Hangul text: only the items that change it are listed.
-use Rattle.std.specs.Prelude.{ℕ, ◌+◌, ◌-◌, ◌≤◌, ◌==◌, ◌≡◌, length, Bool, ◌&&◌, ◌||◌, not, List, [], ◌∷◌, ◌++◌, take, drop, get_or, if◌then◌else◌}
+use Rattle.std.specs.Prelude.{ℕ, ◌+◌, ◌-◌, ◌≤◌, ◌==◌, ◌≡◌, length, Bool, ◌&&◌, ◌||◌, not, List, [], ◌∷◌, ◌++◌, take, drop, get_or, if◌then◌else◌, unwrap_or}
 use Rattle.shapers_buffer.specs.declared.buffer.glyph.hb_glyph_info_t.{hb_glyph_info_t}
 use Rattle.shapers_buffer.specs.Glyph.{characters}
 use Rattle.shapers_hangul.specs.declared.ot_shaper_hangul.item.Item.{Item}
 use Rattle.shapers_hangul.specs.declared.ot_shaper_hangul.rewriting.Cut.{Cut}
+use Rattle.shapers_clusters.specs.declared.carried_runs.CarriedRun.{CarriedRun}
+use Rattle.shapers_clusters.specs.CarriedRuns.{empty_run, reaching_run}
 use Rattle.shapers_base.specs.Font.{Font, dotted_circle, has_nominal}
 use Rattle.shapers_hangul.specs.Hangul.{glyph_copies, is_kept, is_s, is_t, is_tone, is_v, item_len, item_output, items, items_at, outputs}
 
@@ -52,3 +54,7 @@ abbrev pub changed_from : ℕ → List (ℕ × Item) → List hb_glyph_info_t �
 changed_from place [] gs = drop place gs
 changed_from place (p ∷ cut) gs =
     change_output place p gs ++ changed_from (p.0 + item_len p.1) cut gs
+
+-- the run up to a place, if all glyphs before that are in its cluster, else none
+abbrev pub carried_run : CarriedRun → ℕ → List hb_glyph_info_t → CarriedRun
+carried_run run place gs = unwrap_or (reaching_run run place gs) empty_run

@@ -4,7 +4,7 @@ ghost use Rattle.shapers_buffer.specs.Glyph.{characters};
 ghost use Rattle.shapers_buffer.specs.GlyphFlags.{unsafe_all};
 ghost use Rattle.shapers_clusters.specs.CarriedRuns.{IsCarried, with_carried};
 ghost use Rattle.shapers_hangul.specs.HangulLaws.{AllKept};
-ghost use Rattle.shapers_hangul.specs.RewritingWalk.{KeptBefore, changes_in, rewritten_items, InTurn, change_output, changed_from};
+ghost use Rattle.shapers_hangul.specs.RewritingWalk.{KeptBefore, changes_in, rewritten_items, InTurn, carried_run, change_output, changed_from, stays_at_sight};
 ghost use Rattle.shapers_buffer.specs.Refusals.{RefusesLength};
 ghost use Rattle.shapers_buffer.specs.declared.buffer.refusal.ShaperError.TheVariants.{TooLong};
 ghost use Rattle.shapers_hangul.specs.Hangul.{first_item, item_len, items_at, items_flagged, glyph_copies, outputs, Fit, all_joined, item_joined, rewritten, allows_circles, is_kept, whole_items, rewritten_by};
@@ -45,7 +45,9 @@ fn rest_from(glyphs: &[hb_glyph_info_t], place: usize) -> &[hb_glyph_info_t]
 // How far a look at each character tells that the text stays as it is.
 #[inline]
 fn kept_len<F: hb_font_t>(face: &F, circles: bool, glyphs: &[hb_glyph_info_t]) -> usize
-    ensures { KeptBefore (F.font face.now) circles glyphs.now result }
+    ensures kept { KeptBefore (F.font face.now) circles glyphs.now result }
+    ensures stops { let us = characters (drop result glyphs.now) in
+        result < length glyphs.now → stays_at_sight (F.font face.now) circles us ≡ false }
 {
     let mut place = 0;
     while place < glyphs.len() && stays_alone(face, circles, rest_from(glyphs, place)) {
@@ -221,6 +223,7 @@ fn join_items(cut: &[(usize, Item)], level: BufferClusterLevel, glyphs: &mut [hb
 fn carried_to(run: CarriedRun, glyphs: &mut [hb_glyph_info_t], place: usize) -> CarriedRun
     requires in_range { place ≤ length glyphs.old }
     requires fits { IsCarried run glyphs.old }
+    ensures is { result ≡ carried_run run place glyphs.old }
     ensures same { with_carried result glyphs.new ≡ with_carried run glyphs.old }
     ensures fits { IsCarried result glyphs.new }
     ensures ends { result.start < result.end → result.end ≡ place }

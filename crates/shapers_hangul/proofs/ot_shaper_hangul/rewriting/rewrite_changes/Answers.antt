@@ -24,7 +24,7 @@ returns-then-kept-len-clause-ok g c =
     let past : length read ≤ kept =
     omega (arith, c.if-kept-len.true, c.len.ensures.length, ap length c.glyphs-glyphs.ensures) in
     let all = all_stay font b circles read kept c.wants_circles-circles.ensures c.glyphs-glyphs.ensures
-    c.kept_len-kept.ensures
+    c.kept_len-kept.ensures.kept
     (ap rewritten_items (glyphs_end font circles read (characters read) kept refl past)) in
     unchanged c.args.breaks font b all
 
@@ -38,7 +38,7 @@ returns-then-kept-len-clause-changes g c is =
     let past : length read ≤ kept =
     omega (arith, c.if-kept-len.true, c.len.ensures.length, ap length c.glyphs-glyphs.ensures) in
     let all = all_stay font b circles read kept c.wants_circles-circles.ensures c.glyphs-glyphs.ensures
-    c.kept_len-kept.ensures
+    c.kept_len-kept.ensures.kept
     (ap rewritten_items (glyphs_end font circles read (characters read) kept refl past)) in
     all
 
@@ -52,7 +52,7 @@ returns-then-kept-len-clause-length g c =
     let past : length read ≤ kept =
     omega (arith, c.if-kept-len.true, c.len.ensures.length, ap length c.glyphs-glyphs.ensures) in
     let all = all_stay font b circles read kept c.wants_circles-circles.ensures c.glyphs-glyphs.ensures
-    c.kept_len-kept.ensures
+    c.kept_len-kept.ensures.kept
     (ap rewritten_items (glyphs_end font circles read (characters read) kept refl past)) in
     omega (arith, same_length font b all, c.len.ensures.fits)
 
@@ -66,7 +66,7 @@ returns-then-is_empty-clause-ok g c =
     let none : c.items.result.now ≡ [] = nil_from_length c.items.result.now
     (grind (arith, nat_tests, c.is_empty.ensures, c.if-is_empty.true)) in
     let all = all_stay font b circles read kept c.wants_circles-circles.ensures c.glyphs-glyphs.ensures
-    c.kept_len-kept.ensures
+    c.kept_len-kept.ensures.kept
     (sym (c.in_ok-len.ensures.items c.if-not-cut.false) ∙ (sym c.items.ensures ∙ none)) in
     unchanged c.args.breaks font b all
 
@@ -80,7 +80,7 @@ returns-then-is_empty-clause-changes g c is =
     let none : c.items.result.now ≡ [] = nil_from_length c.items.result.now
     (grind (arith, nat_tests, c.is_empty.ensures, c.if-is_empty.true)) in
     let all = all_stay font b circles read kept c.wants_circles-circles.ensures c.glyphs-glyphs.ensures
-    c.kept_len-kept.ensures
+    c.kept_len-kept.ensures.kept
     (sym (c.in_ok-len.ensures.items c.if-not-cut.false) ∙ (sym c.items.ensures ∙ none)) in
     all
 
@@ -94,7 +94,7 @@ returns-then-is_empty-clause-length g c =
     let none : c.items.result.now ≡ [] = nil_from_length c.items.result.now
     (grind (arith, nat_tests, c.is_empty.ensures, c.if-is_empty.true)) in
     let all = all_stay font b circles read kept c.wants_circles-circles.ensures c.glyphs-glyphs.ensures
-    c.kept_len-kept.ensures
+    c.kept_len-kept.ensures.kept
     (sym (c.in_ok-len.ensures.items c.if-not-cut.false) ∙ (sym c.items.ensures ∙ none)) in
     omega (arith, same_length font b all, c.len.ensures.fits)
 
@@ -113,7 +113,7 @@ returns-in_err-len-clause-kept g c all =
       arith,
       passed,
       length_read font (allows_circles b) b.level b.glyphs circles read kept c.wants_circles-circles.ensures
-          c.glyphs-glyphs.ensures c.kept_len-kept.ensures,
+          c.glyphs-glyphs.ensures c.kept_len-kept.ensures.kept,
       same_length font b all,
       c.max_len.ensures.limit,
       c.len.ensures.fits,
@@ -131,7 +131,7 @@ returns-in_err-len-clause-length g c =
     c.from_residual.result = search rules in
     told_by_text b.max_len c.max_len.result _ _ c.from_residual.result c.max_len.ensures.limit
     (length_read font (allows_circles b) b.level b.glyphs circles read kept c.wants_circles-circles.ensures
-    c.glyphs-glyphs.ensures c.kept_len-kept.ensures) told
+    c.glyphs-glyphs.ensures c.kept_len-kept.ensures.kept) told
 
 pub returns-then-not-cut-clause-kept : goal.returns-then-not-cut-clause-kept
 returns-then-not-cut-clause-kept g c all =
@@ -141,7 +141,7 @@ returns-then-not-cut-clause-kept g c all =
     let read = c.glyphs-glyphs.result.now in
     let kept = c.kept_len-kept.result in
     let whole = c.in_ok-len.ensures.kept (nothing_listed font b circles read kept c.wants_circles-circles.ensures c.glyphs-glyphs.ensures
-    c.kept_len-kept.ensures all) ∙ c.new-cut.ensures.whole in
+    c.kept_len-kept.ensures.kept all) ∙ c.new-cut.ensures.whole in
     let torn = c.if-not-cut.true in
     absurd cc
 
@@ -155,7 +155,7 @@ returns-then-not-cut-clause-length g c =
     omega (
       arith,
       length_read font (allows_circles b) b.level b.glyphs circles read kept c.wants_circles-circles.ensures
-          c.glyphs-glyphs.ensures c.kept_len-kept.ensures,
+          c.glyphs-glyphs.ensures c.kept_len-kept.ensures.kept,
       c.in_ok-len.ensures.length,
       c.max_len.ensures.limit,
     )
@@ -170,7 +170,7 @@ rewrite-requires-clause-can g c =
     let cut = c.items-2.result.now in
     subst (λ (xs : List hb_glyph_info_t). Fit (length xs) cut × InTurn (length xs) 0 cut) c.glyphs-glyphs.ensures
     (changes_stand font circles read cut
-    (c.items-2.ensures ∙ (c.in_ok-len.ensures.items c.if-not-cut.false ∙ sym c.kept_len-kept.ensures.listed)))
+    (c.items-2.ensures ∙ (c.in_ok-len.ensures.items c.if-not-cut.false ∙ sym c.kept_len-kept.ensures.kept.listed)))
 
 pub rewrite-requires-clause-length : goal.rewrite-requires-clause-length
 rewrite-requires-clause-length g c =
@@ -181,10 +181,10 @@ rewrite-requires-clause-length g c =
     let kept = c.kept_len-kept.result in
     ap length (buffer_changed c.args.breaks font b circles c.cluster_level-level.result read c.items-2.result.now
     c.wants_circles-circles.ensures c.cluster_level-level.ensures c.glyphs-glyphs.ensures
-    (c.items-2.ensures ∙ (c.in_ok-len.ensures.items c.if-not-cut.false ∙ sym c.kept_len-kept.ensures.listed)))
+    (c.items-2.ensures ∙ (c.in_ok-len.ensures.items c.if-not-cut.false ∙ sym c.kept_len-kept.ensures.kept.listed)))
     ∙ length-flagged c.args.breaks font b
     ∙ length_read font (allows_circles b) b.level b.glyphs circles read kept c.wants_circles-circles.ensures
-    c.glyphs-glyphs.ensures c.kept_len-kept.ensures
+    c.glyphs-glyphs.ensures c.kept_len-kept.ensures.kept
     ∙ sym c.in_ok-len.ensures.exact
 
 pub returns-in_err-rewrite-clause-kept : goal.returns-in_err-rewrite-clause-kept
@@ -197,7 +197,7 @@ returns-in_err-rewrite-clause-kept g c all =
     let none : c.items.result.now ≡ [] =
     c.items.ensures ∙ (c.in_ok-len.ensures.items c.if-not-cut.false
     ∙ nothing_listed font b circles read kept c.wants_circles-circles.ensures c.glyphs-glyphs.ensures
-    c.kept_len-kept.ensures all) in
+    c.kept_len-kept.ensures.kept all) in
     absurd (grind (arith, nat_tests, c.is_empty.ensures, c.if-is_empty.false, ap length none))
 
 pub returns-clause-kept : goal.returns-clause-kept
@@ -210,7 +210,7 @@ returns-clause-kept g c all =
     let none : c.items.result.now ≡ [] =
     c.items.ensures ∙ (c.in_ok-len.ensures.items c.if-not-cut.false
     ∙ nothing_listed font b circles read kept c.wants_circles-circles.ensures c.glyphs-glyphs.ensures
-    c.kept_len-kept.ensures all) in
+    c.kept_len-kept.ensures.kept all) in
     absurd (grind (arith, nat_tests, c.is_empty.ensures, c.if-is_empty.false, ap length none))
 
 pub returns-in_err-rewrite-clause-length : goal.returns-in_err-rewrite-clause-length
@@ -223,7 +223,7 @@ returns-in_err-rewrite-clause-length g c =
     let told : RefusesLength b.max_len c.in_ok-len.len c.from_residual-in_err-rewrite.result = search rules in
     subst (λ n. RefusesLength b.max_len n c.from_residual-in_err-rewrite.result) (c.in_ok-len.ensures.exact
     ∙ sym (length_read font (allows_circles b) b.level b.glyphs circles read kept c.wants_circles-circles.ensures
-    c.glyphs-glyphs.ensures c.kept_len-kept.ensures)) told
+    c.glyphs-glyphs.ensures c.kept_len-kept.ensures.kept)) told
 
 pub returns-clause-length : goal.returns-clause-length
 returns-clause-length g c =
@@ -238,7 +238,7 @@ returns-clause-length g c =
       told,
       c.in_ok-len.ensures.exact,
       length_read font (allows_circles b) b.level b.glyphs circles read kept c.wants_circles-circles.ensures
-          c.glyphs-glyphs.ensures c.kept_len-kept.ensures,
+          c.glyphs-glyphs.ensures c.kept_len-kept.ensures.kept,
     )
 
 pub returns-clause-ok : goal.returns-clause-ok
@@ -252,4 +252,4 @@ returns-clause-ok g c =
     ∙ ap (λ (xs : List hb_glyph_info_t). let new : Buffer = record b { glyphs = xs } in new)
     (buffer_changed c.args.breaks font b circles c.cluster_level-level.result read c.items-2.result.now
     c.wants_circles-circles.ensures c.cluster_level-level.ensures c.glyphs-glyphs.ensures
-    (c.items-2.ensures ∙ (c.in_ok-len.ensures.items c.if-not-cut.false ∙ sym c.kept_len-kept.ensures.listed)))
+    (c.items-2.ensures ∙ (c.in_ok-len.ensures.items c.if-not-cut.false ∙ sym c.kept_len-kept.ensures.kept.listed)))
