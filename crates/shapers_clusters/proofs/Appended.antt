@@ -13,7 +13,7 @@ use Rattle.shapers_clusters.proofs.ClusterMerges.{opening_run, opening-at, openi
 use Rattle.shapers_clusters.proofs.Merging.{length-merge}
 use Rattle.shapers_buffer.proofs.ClusterLemmas.{flood_merged, merge_is}
 
-flooded-same : (c : ℕ) (gs : List hb_glyph_info_t) → flooded c c gs ≡ gs
+pub flooded-same : (c : ℕ) (gs : List hb_glyph_info_t) → flooded c c gs ≡ gs
 flooded-same c [] = refl
 flooded-same c (g ∷ gs) = grind (arith, nat_tests, flooded-same c gs)
 

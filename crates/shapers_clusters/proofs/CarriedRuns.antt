@@ -48,7 +48,7 @@ all_reversed test (g ∷ gs) =
     ∙ ap (λ b. b && (test g && true)) (all_reversed test gs)
     ∙ ap (λ b. list_all test gs && b) (and-true (test g)) ∙ and_comm (list_all test gs) (test g)
 
-back_within : (c m : ℕ) (before gs : List hb_glyph_info_t) → list_all (has_cluster c) gs ≡ false →
+pub back_within : (c m : ℕ) (before gs : List hb_glyph_info_t) → list_all (has_cluster c) gs ≡ false →
     flooded_back c m (before ++ gs) ≡ before ++ flooded_back c m gs
 back_within c m before gs some =
     ap (λ l. reverse (flooded c m l)) (reverse-append before gs)
@@ -57,7 +57,7 @@ back_within c m before gs some =
     ∙ ap (λ l. l ++ flooded_back c m gs) (reverse-reverse before)
 
 -- and before it begins, where the last glyph is in another one
-back_stays : (c m : ℕ) (gs : List hb_glyph_info_t) → (0 < length gs → last_cluster gs ≢ c) →
+pub back_stays : (c m : ℕ) (gs : List hb_glyph_info_t) → (0 < length gs → last_cluster gs ≢ c) →
     flooded_back c m gs ≡ gs
 back_stays c m gs other = ap reverse (front (reverse gs) (λ some. other (omega (arith, length-reverse gs))))
     ∙ reverse-reverse gs
@@ -122,13 +122,13 @@ back_carried m P M gs c some above same = elim (cases_Bool (list_all (has_cluste
     first_in c [] some all = absurd (omega arith)
     first_in c (g ∷ gs) some all = eqb-true g.cluster c (and_parts (g.cluster == c) (list_all (has_cluster c) gs) all).0
 
-first_of_fallen : (gs hs : List hb_glyph_info_t) → AllZip FallsTo gs hs → first_cluster hs ≤ first_cluster gs
+pub first_of_fallen : (gs hs : List hb_glyph_info_t) → AllZip FallsTo gs hs → first_cluster hs ≤ first_cluster gs
 first_of_fallen [] [] h = omega arith
 first_of_fallen [] (h ∷ hs) all = absurd all
 first_of_fallen (g ∷ gs) [] all = absurd all
 first_of_fallen (g ∷ gs) (h ∷ hs) all = all.0.0
 
-first_taken : (s : ℕ) (gs : List hb_glyph_info_t) → 0 < s → first_cluster (take s gs) ≡ first_cluster gs
+pub first_taken : (s : ℕ) (gs : List hb_glyph_info_t) → 0 < s → first_cluster (take s gs) ≡ first_cluster gs
 first_taken zero gs further = absurd (omega arith)
 first_taken (suc s) [] further = refl
 first_taken (suc s) (g ∷ gs) further = refl
@@ -251,7 +251,7 @@ pick_carries k s e n step further order within fits P M gs kn gn above same =
       falls = omega (arith, first);
     }
 
-starts_behind : (s : ℕ) (sts : List (ℕ × ℕ)) → 0 < s → AllByRecursion (λ st. 0 < st.0) (shifted s sts)
+pub starts_behind : (s : ℕ) (sts : List (ℕ × ℕ)) → 0 < s → AllByRecursion (λ st. 0 < st.0) (shifted s sts)
 starts_behind s [] further = tt
 starts_behind s (st ∷ sts) further = (omega arith, starts_behind s sts further)
 

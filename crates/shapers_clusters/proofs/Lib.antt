@@ -3,6 +3,7 @@ pub mod Appended
 pub mod Borders
 mod BorderRows
 pub mod Bounds
+pub mod CarriedGroups
 pub mod CarriedGlyphs
 mod CarriedRunRows
 pub mod CarriedRuns

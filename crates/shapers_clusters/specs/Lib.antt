@@ -1,6 +1,7 @@
 pub mod ClusterMerges
 pub mod Cuts
 pub mod Steps
+pub mod CarriedGroups
 pub mod CarriedRuns
 pub mod Flags
 pub mod FlagLaw

@@ -1,0 +1,409 @@
+-- Merges and moves behind groups of glyphs: as if one glyph stood for each of them.
+use Rattle.std.proofs.Common.{ℕ, zero, suc, ◌+◌, ◌-◌, ◌<◌, ◌≤◌, ◌≡◌, ◌≢◌, ◌==◌, ◌&&◌, ◌⊎◌, Bool, inl, inr, if◌then◌else◌, nat_lt, not, true, false, List, [], ◌∷◌, ◌++◌, map, length, reverse, take, drop, refl, sym, ◌∙◌, ap, subst, arith, append_assoc, length-append, length-take, length-drop}
+use Rattle.std.specs.List.{AllByRecursion, AllZip, list_all}
+use Rattle.std.proofs.lemmas.List.{length-map, length-reverse, reverse-reverse, take-append-drop}
+use Rattle.std.proofs.Math.Bool.{and-true}
+use Rattle.std.proofs.lemmas.Bool.{and_parts, cases_Bool, eqb-true}
+use Rattle.std.proofs.lemmas.Bool.Decides.{nat_tests}
+use Rattle.shapers_buffer.specs.declared.buffer.glyph.hb_glyph_info_t.{hb_glyph_info_t}
+use Rattle.shapers_buffer.specs.declared.buffer.level.BufferClusterLevel.{BufferClusterLevel}
+use Rattle.shapers_buffer.specs.ClusterRuns.{none_below}
+use Rattle.shapers_buffer.specs.Glyph.{clusters}
+use Rattle.shapers_buffer.specs.Clusters.{least, first_cluster, last_cluster, has_cluster, in_cluster, flooded, merge, merge_all, merges, stretch_of}
+use Rattle.shapers_buffer.specs.Places.{pick}
+use Rattle.shapers_buffer.proofs.ClusterLemmas.{flood_merged, length-stretch, merge_is}
+use Rattle.shapers_buffer.proofs.OneCluster.{all_in_cluster, first_of_front, last_of_end, last_stays, length-flooded}
+use Rattle.shapers_buffer.proofs.RunLemmas.{ended_all, none_lower, puts_twice}
+use Rattle.shapers_clusters.specs.CarriedRuns.{EndsAbove}
+use Rattle.shapers_clusters.specs.CarriedGroups.{StandFor, StopsAt, all_of, spread}
+use Rattle.shapers_clusters.specs.Cuts.{EndWithin}
+use Rattle.shapers_clusters.specs.Flags.{FallsTo}
+use Rattle.shapers_clusters.specs.Steps.{Step, run_step, run_steps, FitsStep, FitSteps, shifted, widened}
+use Rattle.shapers_clusters.proofs.Appended.{assembled, flooded-same, two_sides}
+use Rattle.shapers_clusters.proofs.CarriedRuns.{Change, back_stays, back_within, first_of_fallen, first_taken, flooded_back, starts_behind}
+use Rattle.shapers_clusters.proofs.ClusterMerges.{least-le}
+use Rattle.shapers_clusters.proofs.Falls.{merge-falls}
+use Rattle.shapers_clusters.proofs.Halves.{drop-past, shifted-twice, take-past}
+use Rattle.shapers_clusters.proofs.Merging.{length-merge}
+use Rattle.shapers_clusters.proofs.Picks.{length-pick}
+use Rattle.shapers_clusters.proofs.Widened.{fits-widened, pick-widened}
+
+first_in : (c : ℕ) (gs : List hb_glyph_info_t) → 0 < length gs → list_all (has_cluster c) gs ≡ true →
+    first_cluster gs ≡ c
+first_in c [] some all = absurd (omega arith)
+first_in c (g ∷ gs) some all = eqb-true g.cluster c (and_parts (g.cluster == c) (list_all (has_cluster c) gs) all).0
+
+least-first : (gs : List hb_glyph_info_t) → 0 < length gs → least (clusters gs) ≤ first_cluster gs
+least-first [] some = absurd (omega arith)
+least-first (g ∷ gs) some = least-le (clusters (g ∷ gs)) 0 (omega arith)
+
+-- THE FLOOD to the left runs over a group where it runs over the glyph that stands for it
+back_group : (c m : ℕ) (P G : List hb_glyph_info_t) (g : hb_glyph_info_t) → m ≤ c → 0 < length G →
+    none_below g.cluster G ≡ true → flooded_back c m (P ++ map (in_cluster g.cluster) G)
+    ≡ (if g.cluster == c then flooded_back c m P else P)
+    ++ map (in_cluster (first_cluster (flooded_back c m (g ∷ [])))) G
+back_group c m P G g low some none = elim (cases_Bool (g.cluster == c)) [
+  | inl same ↦
+      let is : g.cluster ≡ c = eqb-true g.cluster c same in
+      let put = map (in_cluster g.cluster) G in
+      let all : list_all (has_cluster c) put ≡ true =
+      ap (λ k. list_all (has_cluster k) put) (sym is) ∙ all_in_cluster g.cluster G in
+      let own : first_cluster (flooded_back c m (g ∷ [])) ≡ m = rw same (put_into m g) in
+      ended_all c m P put all
+      ∙ ap (λ l. flooded_back c m P ++ l) (puts_twice m g.cluster G (omega arith) none)
+      ∙ ap (λ b. (if b then flooded_back c m P else P) ++ map (in_cluster m) G) (sym same)
+      ∙ ap (λ k. (if g.cluster == c then flooded_back c m P else P) ++ map (in_cluster k) G) (sym own)
+  | inr other ↦
+      let put = map (in_cluster g.cluster) G in
+      let own : first_cluster (flooded_back c m (g ∷ [])) ≡ g.cluster = rw other refl in
+      let last : last_cluster put ≢ c = λ is. differ other (sym (last_put g.cluster G some) ∙ is) in
+      back_stays c m (P ++ put) (λ _. λ is. last (sym (last_of_end P put (omega (arith, length-map G (in_cluster g.cluster)))) ∙ is))
+      ∙ ap (λ b. (if b then flooded_back c m P else P) ++ put) (sym other)
+      ∙ ap (λ k. (if g.cluster == c then flooded_back c m P else P) ++ map (in_cluster k) G) (sym own)
+]
+  where
+    put_into : (m : ℕ) (g : hb_glyph_info_t) → (in_cluster m g).cluster ≡ m
+    put_into m g = elim (cases_Bool (g.cluster == m)) [
+      | inl same ↦ rw same (eqb-true g.cluster m same)
+      | inr other ↦ rw other refl
+    ]
+    differ : (g.cluster == c) ≡ false → g.cluster ≢ c
+    differ other is = grind (arith, nat_tests)
+    last_put : (k : ℕ) (G : List hb_glyph_info_t) → 0 < length G → last_cluster (map (in_cluster k) G) ≡ k
+    last_put k G some = last_stays k (map (in_cluster k) G) (omega (arith, length-map G (in_cluster k)))
+        (all_in_cluster k G)
+
+and_none : (a : Bool) → (a && false) ≡ false
+and_none true = refl
+and_none false = refl
+
+spread_one : (G : List hb_glyph_info_t) (Gs : List (List hb_glyph_info_t)) (xs ys : List hb_glyph_info_t) →
+    length xs ≡ 1 → spread (G ∷ Gs) (xs ++ ys) ≡ map (in_cluster (first_cluster xs)) G ++ spread Gs ys
+spread_one G Gs [] ys one = absurd (omega arith)
+spread_one G Gs (x ∷ []) ys one = refl
+spread_one G Gs (x ∷ (y ∷ xs)) ys one = absurd (omega arith)
+
+-- over all groups: before them it goes on where all is in its cluster
+pub back_spread : (c m : ℕ) (Gs : List (List hb_glyph_info_t)) (P ys : List hb_glyph_info_t) → m ≤ c →
+    StandFor Gs ys → flooded_back c m (P ++ spread Gs ys)
+    ≡ (if list_all (has_cluster c) ys then flooded_back c m P else P) ++ spread Gs (flooded_back c m ys)
+back_spread c m [] P ys low stand = elim (cases_Bool (list_all (has_cluster c) ys)) [
+  | inl all ↦ ended_all c m P ys all ∙ ap (λ l. flooded_back c m P ++ l) (sym (ended_all c m [] ys all))
+      ∙ ap (λ b. (if b then flooded_back c m P else P) ++ flooded_back c m ys) (sym all)
+  | inr other ↦ back_within c m P ys other
+      ∙ ap (λ b. (if b then flooded_back c m P else P) ++ flooded_back c m ys) (sym other)
+]
+back_spread c m (G ∷ Gs) P [] low stand = absurd stand
+back_spread c m (G ∷ Gs) P (g ∷ ys) low stand =
+    let put = map (in_cluster g.cluster) G in
+    let go : Bool → List hb_glyph_info_t → List hb_glyph_info_t = λ b p. if b then flooded_back c m p else p in
+    let on : flooded_back c m (P ++ spread (G ∷ Gs) (g ∷ ys))
+    ≡ go (list_all (has_cluster c) ys) (P ++ put) ++ spread Gs (flooded_back c m ys) =
+    ap (flooded_back c m) (sym (append_assoc P put (spread Gs ys)))
+    ∙ back_spread c m Gs (P ++ put) ys low stand.1 in
+    elim (cases_Bool (list_all (has_cluster c) ys)) [
+      | inl all ↦
+          let one = flooded_back c m (g ∷ []) in
+          let n : length one ≡ 1 = omega (
+            arith,
+            length-reverse (flooded c m (reverse (g ∷ []))),
+            length-flooded c m (reverse (g ∷ [])),
+            length-reverse (g ∷ []),
+          ) in
+          let first = map (in_cluster (first_cluster one)) G in
+          let both : list_all (has_cluster c) (g ∷ ys) ≡ (g.cluster == c) =
+          ap (λ b. (g.cluster == c) && b) all ∙ and-true (g.cluster == c) in
+          let parts : flooded_back c m (g ∷ ys) ≡ one ++ flooded_back c m ys = ended_all c m (g ∷ []) ys all
+          ∙ ap (λ l. one ++ l) (sym (ended_all c m [] ys all)) in
+          on ∙ ap (λ b. go b (P ++ put) ++ spread Gs (flooded_back c m ys)) all
+          ∙ ap (λ l. l ++ spread Gs (flooded_back c m ys)) (back_group c m P G g low stand.0.0 stand.0.1)
+          ∙ append_assoc (go (g.cluster == c) P) first (spread Gs (flooded_back c m ys))
+          ∙ ap (λ l. go (g.cluster == c) P ++ l) (sym (spread_one G Gs one (flooded_back c m ys) n))
+          ∙ ap (λ l. go (g.cluster == c) P ++ spread (G ∷ Gs) l) (sym parts)
+          ∙ ap (λ b. go b P ++ spread (G ∷ Gs) (flooded_back c m (g ∷ ys))) (sym both)
+      | inr other ↦
+          let both : list_all (has_cluster c) (g ∷ ys) ≡ false =
+          ap (λ b. (g.cluster == c) && b) other ∙ and_none (g.cluster == c) in
+          let parts : flooded_back c m (g ∷ ys) ≡ g ∷ flooded_back c m ys = back_within c m (g ∷ []) ys other in
+          on ∙ ap (λ b. go b (P ++ put) ++ spread Gs (flooded_back c m ys)) other
+          ∙ append_assoc P put (spread Gs (flooded_back c m ys))
+          ∙ ap (λ l. P ++ spread (G ∷ Gs) l) (sym parts)
+          ∙ ap (λ b. go b P ++ spread (G ∷ Gs) (flooded_back c m (g ∷ ys))) (sym both)
+    ]
+
+-- PLACES behind the groups
+pub as_many_stand : (Gs : List (List hb_glyph_info_t)) (ys : List hb_glyph_info_t) → StandFor Gs ys →
+    length Gs ≤ length ys
+as_many_stand [] ys stand = omega arith
+as_many_stand (G ∷ Gs) [] stand = absurd stand
+as_many_stand (G ∷ Gs) (g ∷ ys) stand = omega (arith, as_many_stand Gs ys stand.1)
+
+pub spread_append : (Gs : List (List hb_glyph_info_t)) (xs ys : List hb_glyph_info_t) → length Gs ≤ length xs →
+    spread Gs (xs ++ ys) ≡ spread Gs xs ++ ys
+spread_append [] xs ys many = refl
+spread_append (G ∷ Gs) [] ys many = absurd (omega arith)
+spread_append (G ∷ Gs) (x ∷ xs) ys many =
+    ap (λ l. map (in_cluster x.cluster) G ++ l) (spread_append Gs xs ys (omega arith))
+    ∙ sym (append_assoc (map (in_cluster x.cluster) G) (spread Gs xs) ys)
+
+stand_front : (Gs : List (List hb_glyph_info_t)) (xs ys : List hb_glyph_info_t) → length Gs ≤ length xs →
+    StandFor Gs (xs ++ ys) → StandFor Gs xs
+stand_front [] xs ys many stand = tt
+stand_front (G ∷ Gs) [] ys many stand = absurd (omega arith)
+stand_front (G ∷ Gs) (x ∷ xs) ys many stand = (stand.0, stand_front Gs xs ys (omega arith) stand.1)
+
+pub stand_with : (Gs : List (List hb_glyph_info_t)) (xs ys : List hb_glyph_info_t) → StandFor Gs xs →
+    StandFor Gs (xs ++ ys)
+stand_with [] xs ys stand = tt
+stand_with (G ∷ Gs) [] ys stand = absurd stand
+stand_with (G ∷ Gs) (x ∷ xs) ys stand = (stand.0, stand_with Gs xs ys stand.1)
+
+pub length-spread : (Gs : List (List hb_glyph_info_t)) (ys : List hb_glyph_info_t) → length Gs ≡ length ys →
+    length (spread Gs ys) ≡ all_of Gs
+length-spread [] [] many = refl
+length-spread [] (y ∷ ys) many = absurd (omega arith)
+length-spread (G ∷ Gs) [] many = absurd (omega arith)
+length-spread (G ∷ Gs) (y ∷ ys) many =
+    length-append (map (in_cluster y.cluster) G) (spread Gs ys)
+    ∙ omega (arith, length-map G (in_cluster y.cluster), length-spread Gs ys (omega arith))
+
+-- a list by those that stand for groups, and the rest
+pub record Placed (P : List hb_glyph_info_t) (Gs : List (List hb_glyph_info_t)) (ys : List hb_glyph_info_t)
+    (k j i : ℕ) : Type 0 where
+  pub front : take (k + i) (P ++ spread Gs ys) ≡ P ++ spread Gs (take (j + i) ys)
+  pub rest : drop (k + i) (P ++ spread Gs ys) ≡ drop (j + i) ys
+  pub long : length (P ++ spread Gs ys) ≡ k + (length ys - j)
+
+pub placed : (P : List hb_glyph_info_t) (Gs : List (List hb_glyph_info_t)) (ys : List hb_glyph_info_t) (k j i : ℕ) →
+    length P + all_of Gs ≡ k → length Gs ≡ j → j ≤ length ys → Placed P Gs ys k j i
+placed P Gs ys k j i kn jn many =
+    let reps = take j ys in
+    let behind = drop j ys in
+    let rn : length reps ≡ j = omega (arith, length-take j ys) in
+    let whole : ys ≡ reps ++ behind = sym (take-append-drop j ys) in
+    let front = P ++ spread Gs reps in
+    let fn : length front ≡ k = length-append P (spread Gs reps) ∙ omega (arith, length-spread Gs reps (omega arith)) in
+    let all : P ++ spread Gs ys ≡ front ++ behind = ap (λ l. P ++ spread Gs l) whole
+    ∙ ap (λ l. P ++ l) (spread_append Gs reps behind (omega arith)) ∙ sym (append_assoc P (spread Gs reps) behind) in
+    record {
+      front = ap (take (k + i)) all ∙ take-past k i front behind fn
+          ∙ append_assoc P (spread Gs reps) (take i behind)
+          ∙ ap (λ l. P ++ l) (sym (spread_append Gs reps (take i behind) (omega arith)))
+          ∙ ap (λ l. P ++ spread Gs l) (sym (take-past j i reps behind rn) ∙ ap (take (j + i)) (sym whole));
+      rest = ap (drop (k + i)) all ∙ drop-past k i front behind fn
+          ∙ sym (ap (drop (j + i)) whole ∙ drop-past j i reps behind rn);
+      long = ap length all ∙ length-append front behind ∙ omega (arith, length-drop j ys);
+    }
+
+-- A change of a list of j + n glyphs, of which j stand for groups, and of k + n glyphs with these groups in
+-- their place.
+pub record Spread (Gs : List (List hb_glyph_info_t)) (P ys all new : List hb_glyph_info_t) : Type 0 where
+  pub same_length : length new ≡ length ys
+  pub stand : StandFor Gs new
+  pub falls : first_cluster new ≤ first_cluster ys
+  pub is : StopsAt P ys new → all ≡ P ++ spread Gs new
+
+abbrev pub Spreads : ℕ → ℕ → ℕ → Change → Change → Type 0
+Spreads k j n over change = (P : List hb_glyph_info_t) (Gs : List (List hb_glyph_info_t)) (ys : List hb_glyph_info_t) →
+    length P + all_of Gs ≡ k → length Gs ≡ j → length ys ≡ j + n → StandFor Gs ys →
+    Spread Gs P ys (over (P ++ spread Gs ys)) (change ys)
+
+stand_fallen : (Gs : List (List hb_glyph_info_t)) (ys zs : List hb_glyph_info_t) → AllZip FallsTo ys zs →
+    StandFor Gs ys → StandFor Gs zs
+stand_fallen [] ys zs falls stand = tt
+stand_fallen (G ∷ Gs) [] zs falls stand = absurd stand
+stand_fallen (G ∷ Gs) (y ∷ ys) [] falls stand = absurd falls
+stand_fallen (G ∷ Gs) (y ∷ ys) (z ∷ zs) falls stand =
+    ((stand.0.0, none_lower z.cluster y.cluster G falls.0.0 stand.0.1), stand_fallen Gs ys zs falls.1 stand.1)
+
+-- where the flood runs over all that stand for groups, it stops there
+stops : (c m : ℕ) (P ys zs : List hb_glyph_info_t) → 0 < length ys → (list_all (has_cluster c) ys ≡ true →
+    StopsAt P ys (map (in_cluster m) ys ++ zs)) →
+    (if list_all (has_cluster c) ys then flooded_back c m P else P) ≡ P
+stops c m P ys zs some until = elim (cases_Bool (list_all (has_cluster c) ys)) [
+  | inl all ↦
+      let first : first_cluster ys ≡ c = first_in c ys some all in
+      let put = map (in_cluster m) ys in
+      let pn : 0 < length put = omega (arith, length-map ys (in_cluster m)) in
+      ap (λ b. if b then flooded_back c m P else P) all ∙ elim (until all) [
+        | inl above ↦ back_stays c m P (λ more. λ is. let up = above more in omega arith)
+        | inr same ↦
+            let is : m ≡ c = sym (first_in m put pn (all_in_cluster m ys)) ∙ sym (first_of_front put zs pn) ∙ same
+            ∙ first in
+            ap (λ k. flooded_back c k P) is ∙ ap reverse (flooded-same c (reverse P)) ∙ reverse-reverse P
+      ]
+  | inr other ↦ ap (λ b. if b then flooded_back c m P else P) other
+]
+
+pub merge_spreads : (level : BufferClusterLevel) (k j s e n : ℕ) → 0 < j → e ≤ n →
+    Spreads k j n (merge level (k + s) (k + e)) (merge level (j + s) (j + e))
+merge_spreads level k j s e n some within P Gs ys kn jn yn stand =
+    let i : (k + e) - (k + s) ≡ (j + e) - (j + s) = omega arith in
+    let all = P ++ spread Gs ys in
+    let falls = merge-falls level (j + s) (j + e) ys (omega arith) in
+    let R : List hb_glyph_info_t → List hb_glyph_info_t → Type 0 = λ x y. StopsAt P ys y → x ≡ P ++ spread Gs y in
+    record {
+      same_length = length-merge level (j + s) (j + e) ys (omega arith);
+      stand = stand_fallen Gs ys (merge level (j + s) (j + e) ys) falls stand;
+      falls = first_of_fallen ys (merge level (j + s) (j + e) ys) falls;
+      is = λ until. merge_is level (k + s) (k + e) all
+          ∙ ap (λ d. if merges level && not (nat_lt d 2) then flood_merged (k + s) (k + e) all else all) i
+          ∙ subst (R (if merges level && not (nat_lt ((j + e) - (j + s)) 2) then flood_merged (k + s) (k + e) all else all))
+          (sym (merge_is level (j + s) (j + e) ys)) (two_sides ((j + e) - (j + s)) (merges level) R
+          (flood_merged (k + s) (k + e) all) all (flood_merged (j + s) (j + e) ys) ys (λ _. refl)
+          (λ two. λ until.
+          let mid = stretch_of (j + s) (j + e) ys in
+          let t = take (j + s) ys in
+          let c = first_cluster mid in
+          let m = least (clusters mid) in
+          let tail = map (in_cluster m) mid ++ flooded (last_cluster mid) m (drop (j + e) ys) in
+          let back = flooded_back c m t in
+          let tn : length t ≡ j + s = omega (arith, length-take (j + s) ys) in
+          let bn : length back ≡ length t = omega (
+            arith,
+            length-reverse (flooded c m (reverse t)),
+            length-flooded c m (reverse t),
+            length-reverse t,
+          ) in
+          let at = placed P Gs ys k j s kn jn (omega arith) in
+          let end = placed P Gs ys k j e kn jn (omega arith) in
+          let middle : stretch_of (k + s) (k + e) all ≡ mid = ap (λ d. take d (drop (k + s) all)) i
+          ∙ ap (take ((j + e) - (j + s))) at.rest in
+          let stand_t : StandFor Gs t = stand_front Gs t (drop (j + s) ys) (omega arith)
+          (subst (StandFor Gs) (sym (take-append-drop (j + s) ys)) stand) in
+          let low : m ≤ c = least-first mid (omega (arith, length-stretch (j + s) (j + e) ys (omega arith))) in
+          let stays = stops c m P t tail (omega arith) (λ full.
+          let own : back ≡ map (in_cluster m) t = ended_all c m [] t full in
+          let from : first_cluster t ≡ first_cluster ys = first_taken (j + s) ys (omega arith) in
+          subst (λ l. StopsAt P t (l ++ tail)) own (subst (λ f. EndsAbove f P ⊎ (first_cluster (back ++ tail) ≡ f))
+          (sym from) until)) in
+          ap (λ x. assembled x (stretch_of (k + s) (k + e) all) (drop (k + e) all)) at.front
+          ∙ ap (λ x. assembled (P ++ spread Gs t) x (drop (k + e) all)) middle
+          ∙ ap (λ x. assembled (P ++ spread Gs t) mid x) end.rest
+          ∙ ap (λ l. l ++ tail) (back_spread c m Gs P t low stand_t ∙ ap (λ p. p ++ spread Gs back) stays)
+          ∙ append_assoc P (spread Gs back) tail
+          ∙ ap (λ l. P ++ l) (sym (spread_append Gs back tail (omega arith))))) until;
+    }
+
+-- one change after another
+spreads_then : (k j n : ℕ) (over change then_over then_change : Change) → Spreads k j n over change →
+    Spreads k j n then_over then_change → Spreads k j n (λ gs. then_over (over gs)) (λ gs. then_change (change gs))
+spreads_then k j n over change then_over then_change first second P Gs ys kn jn yn stand =
+    let one = first P Gs ys kn jn yn stand in
+    let mid = change ys in
+    let new = then_change mid in
+    let fell = one.falls in
+    let two = second P Gs mid kn jn (one.same_length ∙ yn) one.stand in
+    let lower = two.falls in
+    record {
+      same_length = two.same_length ∙ one.same_length;
+      stand = two.stand;
+      falls = omega arith;
+      is = λ until.
+          let here : StopsAt P ys mid = elim until [
+            | inl above ↦ inl above
+            | inr same ↦ inr (omega arith)
+          ] in
+          let there : StopsAt P mid new = elim until [
+            | inl above ↦ inl (λ some. let up = above some in omega arith)
+            | inr same ↦ inr (omega arith)
+          ] in
+          ap then_over (one.is here) ∙ two.is there;
+    }
+
+spreads_nothing : (k j n : ℕ) → Spreads k j n (λ gs. gs) (λ gs. gs)
+spreads_nothing k j n P Gs ys kn jn yn stand = record {
+  same_length = refl;
+  stand = stand;
+  falls = omega arith;
+  is = λ until. refl;
+}
+
+-- stretches that merge behind those that stand for groups
+merge_all_spreads : (level : BufferClusterLevel) (k j n : ℕ) (sts : List (ℕ × ℕ)) → 0 < j → EndWithin n sts →
+    Spreads k j n (merge_all level (shifted k sts)) (merge_all level (shifted j sts))
+merge_all_spreads level k j n [] some within = spreads_nothing k j n
+merge_all_spreads level k j n (st ∷ sts) some within =
+    spreads_then k j n (merge level (k + st.0) (k + st.1)) (merge level (j + st.0) (j + st.1))
+    (merge_all level (shifted k sts)) (merge_all level (shifted j sts))
+    (merge_spreads level k j st.0 st.1 n some within.0)
+    (merge_all_spreads level k j n sts some within.1)
+
+-- glyphs that move behind them
+pick_spreads : (k j s e n : ℕ) (step : Step) → 0 < j → s ≤ e → e ≤ n → FitsStep (e - s) step →
+    Spreads k j n (pick (widened (k + s) (k + e) (k + n) step).places)
+    (pick (widened (j + s) (j + e) (j + n) step).places)
+pick_spreads k j s e n step some order within fits P Gs ys kn jn yn stand =
+    let all = P ++ spread Gs ys in
+    let i : (k + e) - (k + s) ≡ e - s = omega arith in
+    let l : (j + e) - (j + s) ≡ e - s = omega arith in
+    let at = placed P Gs ys k j s kn jn (omega arith) in
+    let end = placed P Gs ys k j e kn jn (omega arith) in
+    let long = at.long in
+    let an : length all ≡ k + n = omega arith in
+    let t = take (j + s) ys in
+    let mid = stretch_of (j + s) (j + e) ys in
+    let tail = pick step.places mid ++ drop (j + e) ys in
+    let tn : length t ≡ j + s = omega (arith, length-take (j + s) ys) in
+    let within_j : AllByRecursion (λ p. p < (j + e) - (j + s)) step.places =
+    subst (λ d. AllByRecursion (λ p. p < d) step.places) (sym l) fits.within in
+    let within_k : AllByRecursion (λ p. p < (k + e) - (k + s)) step.places =
+    subst (λ d. AllByRecursion (λ p. p < d) step.places) (sym i) fits.within in
+    let own : pick (widened (j + s) (j + e) (j + n) step).places ys ≡ t ++ tail =
+    ap (λ d. pick (widened (j + s) (j + e) d step).places ys) (sym yn)
+    ∙ pick-widened (j + s) (j + e) step ys (omega arith) (omega arith) within_j in
+    let wide = fits-widened (j + s) (j + e) (j + n) step (omega arith) (omega arith)
+    (subst (λ d. FitsStep d step) (sym l) fits) in
+    let stand_t : StandFor Gs t = stand_front Gs t (drop (j + s) ys) (omega arith)
+    (subst (StandFor Gs) (sym (take-append-drop (j + s) ys)) stand) in
+    let first : first_cluster (pick (widened (j + s) (j + e) (j + n) step).places ys) ≡ first_cluster ys =
+    ap first_cluster own ∙ first_of_front t tail (omega arith) ∙ first_taken (j + s) ys (omega arith) in
+    let middle : stretch_of (k + s) (k + e) all ≡ mid = ap (λ d. take d (drop (k + s) all)) i
+    ∙ ap (λ d. take d (drop (k + s) all)) (sym l) ∙ ap (take ((j + e) - (j + s))) at.rest in
+    record {
+      same_length = length-pick (widened (j + s) (j + e) (j + n) step).places ys
+          (subst (λ d. AllByRecursion (λ p. p < d) (widened (j + s) (j + e) (j + n) step).places) (sym yn) wide.within)
+          ∙ wide.as_many ∙ sym yn;
+      stand = subst (StandFor Gs) (sym own) (stand_with Gs t tail stand_t);
+      falls = omega (arith, first);
+      is = λ until. ap (λ d. pick (widened (k + s) (k + e) d step).places all) (sym an)
+          ∙ pick-widened (k + s) (k + e) step all (omega arith) (omega arith) within_k
+          ∙ ap (λ x. x ++ (pick step.places (stretch_of (k + s) (k + e) all) ++ drop (k + e) all)) at.front
+          ∙ ap (λ x. (P ++ spread Gs t) ++ (pick step.places x ++ drop (k + e) all)) middle
+          ∙ ap (λ x. (P ++ spread Gs t) ++ (pick step.places mid ++ x)) end.rest
+          ∙ append_assoc P (spread Gs t) tail
+          ∙ ap (λ x. P ++ x) (sym (spread_append Gs t tail (omega arith)) ∙ ap (spread Gs) (sym own));
+    }
+
+step_spreads : (level : BufferClusterLevel) (k j s e n : ℕ) (step : Step) → 0 < j → s ≤ e → e ≤ n →
+    FitsStep (e - s) step → Spreads k j n (run_step level (widened (k + s) (k + e) (k + n) step))
+    (run_step level (widened (j + s) (j + e) (j + n) step))
+step_spreads level k j s e n step some order within fits =
+    let wide = fits-widened s e n step order within fits in
+    let merging : (sts : List (ℕ × ℕ)) → EndWithin n (shifted s sts) →
+    Spreads k j n (merge_all level (shifted (k + s) sts)) (merge_all level (shifted (j + s) sts)) = λ sts ends.
+    subst (λ ts. Spreads k j n (merge_all level ts) (merge_all level (shifted (j + s) sts))) (shifted-twice k s sts)
+    (subst (λ ts. Spreads k j n (merge_all level (shifted k (shifted s sts))) (merge_all level ts))
+    (shifted-twice j s sts) (merge_all_spreads level k j n (shifted s sts) some ends)) in
+    let move = pick (widened (j + s) (j + e) (j + n) step).places in
+    let move_over = pick (widened (k + s) (k + e) (k + n) step).places in
+    spreads_then k j n (λ gs. move_over (merge_all level (shifted (k + s) step.merged_first) gs))
+    (λ gs. move (merge_all level (shifted (j + s) step.merged_first) gs))
+    (merge_all level (shifted (k + s) step.merged_then)) (merge_all level (shifted (j + s) step.merged_then))
+    (spreads_then k j n (merge_all level (shifted (k + s) step.merged_first))
+    (merge_all level (shifted (j + s) step.merged_first)) move_over move
+    (merging step.merged_first wide.first_within) (pick_spreads k j s e n step some order within fits))
+    (merging step.merged_then wide.then_within)
+
+-- steps over a stretch behind them
+pub steps_spread : (level : BufferClusterLevel) (k j s e n : ℕ) (steps : List Step) → 0 < j → s ≤ e → e ≤ n →
+    FitSteps (e - s) steps → Spreads k j n (run_steps level (map (widened (k + s) (k + e) (k + n)) steps))
+    (run_steps level (map (widened (j + s) (j + e) (j + n)) steps))
+steps_spread level k j s e n [] some order within fits = spreads_nothing k j n
+steps_spread level k j s e n (step ∷ steps) some order within fits =
+    spreads_then k j n (run_step level (widened (k + s) (k + e) (k + n) step))
+    (run_step level (widened (j + s) (j + e) (j + n) step))
+    (run_steps level (map (widened (k + s) (k + e) (k + n)) steps))
+    (run_steps level (map (widened (j + s) (j + e) (j + n)) steps))
+    (step_spreads level k j s e n step some order within fits.0)
+    (steps_spread level k j s e n steps some order within fits.1)
