@@ -1,7 +1,7 @@
 -- Merges and moves behind groups of glyphs: as if one glyph stood for each of them.
-use Rattle.std.proofs.Common.{ℕ, zero, suc, ◌+◌, ◌-◌, ◌<◌, ◌≤◌, ◌≡◌, ◌≢◌, ◌==◌, ◌&&◌, ◌⊎◌, Bool, inl, inr, if◌then◌else◌, nat_lt, not, true, false, List, [], ◌∷◌, ◌++◌, map, length, reverse, take, drop, refl, sym, ◌∙◌, ap, subst, arith, append_assoc, length-append, length-take, length-drop}
+use Rattle.std.proofs.Common.{ℕ, zero, suc, ◌+◌, ◌-◌, ◌<◌, ◌≤◌, ◌≡◌, ◌≢◌, ◌==◌, ◌&&◌, ◌⊎◌, Bool, inl, inr, if◌then◌else◌, nat_lt, not, true, false, List, [], ◌∷◌, ◌++◌, map, length, get_or, reverse, take, drop, refl, sym, ◌∙◌, ap, subst, arith, append_assoc, length-append, length-take, length-drop}
 use Rattle.std.specs.List.{AllByRecursion, AllZip, list_all}
-use Rattle.std.proofs.lemmas.List.{length-map, length-reverse, reverse-reverse, take-append-drop}
+use Rattle.std.proofs.lemmas.List.{length-map, length-reverse, reverse-reverse, drop-drop, drop-take, drop_at, take-append-drop, take-take, take_at}
 use Rattle.std.proofs.Math.Bool.{and-true}
 use Rattle.std.proofs.lemmas.Bool.{and_parts, cases_Bool, eqb-true}
 use Rattle.std.proofs.lemmas.Bool.Decides.{nat_tests}
@@ -11,7 +11,7 @@ use Rattle.shapers_buffer.specs.ClusterRuns.{none_below}
 use Rattle.shapers_buffer.specs.Glyph.{clusters}
 use Rattle.shapers_buffer.specs.Clusters.{least, first_cluster, last_cluster, has_cluster, in_cluster, flooded, merge, merge_all, merges, stretch_of}
 use Rattle.shapers_buffer.specs.Places.{pick}
-use Rattle.shapers_buffer.proofs.ClusterLemmas.{flood_merged, length-stretch, merge_is}
+use Rattle.shapers_buffer.proofs.ClusterLemmas.{flood_merged, length-stretch, merge_is, three_parts}
 use Rattle.shapers_buffer.proofs.OneCluster.{all_in_cluster, first_of_front, last_of_end, last_stays, length-flooded}
 use Rattle.shapers_buffer.proofs.RunLemmas.{ended_all, none_lower, puts_twice}
 use Rattle.shapers_clusters.specs.CarriedRuns.{EndsAbove}
@@ -21,10 +21,10 @@ use Rattle.shapers_clusters.specs.Flags.{FallsTo}
 use Rattle.shapers_clusters.specs.Steps.{Step, run_step, run_steps, FitsStep, FitSteps, shifted, widened}
 use Rattle.shapers_clusters.proofs.Appended.{assembled, flooded-same, two_sides}
 use Rattle.shapers_clusters.proofs.CarriedRuns.{Change, back_stays, back_within, first_of_fallen, first_taken, flooded_back, starts_behind}
-use Rattle.shapers_clusters.proofs.ClusterMerges.{least-le}
-use Rattle.shapers_clusters.proofs.Falls.{merge-falls}
-use Rattle.shapers_clusters.proofs.Halves.{drop-past, shifted-twice, take-past}
-use Rattle.shapers_clusters.proofs.Merging.{length-merge}
+use Rattle.shapers_clusters.proofs.ClusterMerges.{least-among, least-le}
+use Rattle.shapers_clusters.proofs.Falls.{all_append, all_reverse, flooded-hit, merge-falls}
+use Rattle.shapers_clusters.proofs.Halves.{Each, drop-past, each-drop, each-pick, each-reverse, each-take, shifted-twice, take-past}
+use Rattle.shapers_clusters.proofs.Merging.{length-merge, merge_cases}
 use Rattle.shapers_clusters.proofs.Picks.{length-pick}
 use Rattle.shapers_clusters.proofs.Widened.{fits-widened, pick-widened}
 
@@ -407,3 +407,213 @@ steps_spread level k j s e n (step ∷ steps) some order within fits =
     (run_steps level (map (widened (j + s) (j + e) (j + n)) steps))
     (step_spreads level k j s e n step some order within fits.0)
     (steps_spread level k j s e n steps some order within fits.1)
+
+-- BELOW ALL CLUSTERS of the stretch that the steps change no glyph changes
+abbrev StaysOnSide : ℕ → hb_glyph_info_t → hb_glyph_info_t → Type 0
+StaysOnSide low g h = (g.cluster < low → h.cluster ≡ g.cluster) × (low ≤ g.cluster → low ≤ h.cluster)
+
+abbrev pub From : ℕ → List hb_glyph_info_t → Type 0
+From low gs = Each (λ c. low ≤ c) gs
+
+stay_there : (low : ℕ) (gs : List hb_glyph_info_t) → AllZip (StaysOnSide low) gs gs
+stay_there low [] = tt
+stay_there low (g ∷ gs) = (((λ _. refl), (λ high. high)), stay_there low gs)
+
+cluster_put : (m : ℕ) (g : hb_glyph_info_t) → (in_cluster m g).cluster ≡ m
+cluster_put m g = elim (cases_Bool (g.cluster == m)) [
+  | inl same ↦ rw same (eqb-true g.cluster m same)
+  | inr other ↦ rw other refl
+]
+
+put_on_side : (low m : ℕ) (g : hb_glyph_info_t) → low ≤ m → low ≤ g.cluster → StaysOnSide low g (in_cluster m g)
+put_on_side low m g high from = let is = cluster_put m g in ((λ less. absurd (omega arith)), (λ _. omega arith))
+
+flood_on_side : (low c m : ℕ) (gs : List hb_glyph_info_t) → low ≤ c → low ≤ m →
+    AllZip (StaysOnSide low) gs (flooded c m gs)
+flood_on_side low c m [] from to = tt
+flood_on_side low c m (g ∷ gs) from to = elim (cases_Bool (g.cluster == c)) [
+  | inl same ↦
+      let is : g.cluster ≡ c = eqb-true g.cluster c same in
+      subst (λ l. AllZip (StaysOnSide low) (g ∷ gs) l) (sym (flooded-hit c m g gs is))
+      (put_on_side low m g to (omega arith), flood_on_side low c m gs from to)
+  | inr other ↦ rw other (stay_there low (g ∷ gs))
+]
+
+put_all_on_side : (low m : ℕ) (gs : List hb_glyph_info_t) → low ≤ m → From low gs →
+    AllZip (StaysOnSide low) gs (map (in_cluster m) gs)
+put_all_on_side low m [] to from = tt
+put_all_on_side low m (g ∷ gs) to from = (put_on_side low m g to from.0, put_all_on_side low m gs to from.1)
+
+from_least : (low : ℕ) (gs : List hb_glyph_info_t) → 0 < length gs → From low gs → low ≤ least (clusters gs)
+from_least low gs some from =
+    let n = length-map gs (λ (g : hb_glyph_info_t). g.cluster) in
+    let (i, inside, is) = least-among (clusters gs) (omega arith) in
+    let at = from_at low gs i from (omega arith) in
+    omega (arith, is, at)
+  where
+    from_at : (low : ℕ) (gs : List hb_glyph_info_t) (i : ℕ) → From low gs → i < length gs →
+        low ≤ get_or (clusters gs) i 0
+    from_at low [] i from inside = absurd (omega arith)
+    from_at low (g ∷ gs) zero from inside = from.0
+    from_at low (g ∷ gs) (suc i) from inside = from_at low gs i from.1 (omega arith)
+
+from_first : (low : ℕ) (gs : List hb_glyph_info_t) → 0 < length gs → From low gs → low ≤ first_cluster gs
+from_first low [] some from = absurd (omega arith)
+from_first low (g ∷ gs) some from = from.0
+
+from_last : (low : ℕ) (gs : List hb_glyph_info_t) → 0 < length gs → From low gs → low ≤ last_cluster gs
+from_last low gs some from = from_first low (reverse gs) (omega (arith, length-reverse gs))
+    (each-reverse (λ c. low ≤ c) gs from)
+
+merge_on_side : (level : BufferClusterLevel) (low s e : ℕ) (gs : List hb_glyph_info_t) → e ≤ length gs →
+    (1 < e - s → From low (stretch_of s e gs)) → AllZip (StaysOnSide low) gs (merge level s e gs)
+merge_on_side level low s e gs within from =
+    merge_cases (AllZip (StaysOnSide low) gs) level s e gs (stay_there low gs) (λ two.
+    let R = StaysOnSide low in
+    let mid = stretch_of s e gs in
+    let c = first_cluster mid in
+    let d = last_cluster mid in
+    let m = least (clusters mid) in
+    let some : 0 < length mid = omega (arith, length-stretch s e gs within) in
+    let high = from two in
+    let to = from_least low mid some high in
+    let t = take s gs in
+    let front : AllZip R t (reverse (flooded c m (reverse t))) =
+    subst (λ l. AllZip R l (reverse (flooded c m (reverse t)))) (reverse-reverse t)
+    (all_reverse R (reverse t) (flooded c m (reverse t)) (flood_on_side low c m (reverse t)
+    (from_first low mid some high) to)) in
+    subst (λ l. AllZip R l (flood_merged s e gs)) (three_parts s e gs (omega arith))
+    (all_append R t (reverse (flooded c m (reverse t))) (mid ++ drop e gs)
+    (map (in_cluster m) mid ++ flooded d m (drop e gs)) front
+    (all_append R mid (map (in_cluster m) mid) (drop e gs) (flooded d m (drop e gs))
+    (put_all_on_side low m mid to high) (flood_on_side low d m (drop e gs) (from_last low mid some high) to))))
+
+first_on_side : (low : ℕ) (gs hs : List hb_glyph_info_t) → AllZip (StaysOnSide low) gs hs → first_cluster gs < low →
+    first_cluster hs ≡ first_cluster gs
+first_on_side low [] [] all less = refl
+first_on_side low [] (h ∷ hs) all less = absurd all
+first_on_side low (g ∷ gs) [] all less = absurd all
+first_on_side low (g ∷ gs) (h ∷ hs) all less = all.0.0 less
+
+from_on_side : (low : ℕ) (gs hs : List hb_glyph_info_t) → AllZip (StaysOnSide low) gs hs → From low gs → From low hs
+from_on_side low [] [] all from = tt
+from_on_side low [] (h ∷ hs) all from = absurd all
+from_on_side low (g ∷ gs) [] all from = absurd all
+from_on_side low (g ∷ gs) (h ∷ hs) all from = (all.0.1 from.0, from_on_side low gs hs all.1 from.1)
+
+zip_drop : {X : Type 0} (R : X → X → Type 0) (n : ℕ) (xs ys : List X) → AllZip R xs ys →
+    AllZip R (drop n xs) (drop n ys)
+zip_drop R zero xs ys all = all
+zip_drop R (suc n) [] [] all = tt
+zip_drop R (suc n) [] (y ∷ ys) all = absurd all
+zip_drop R (suc n) (x ∷ xs) [] all = absurd all
+zip_drop R (suc n) (x ∷ xs) (y ∷ ys) all = zip_drop R n xs ys all.1
+
+zip_take : {X : Type 0} (R : X → X → Type 0) (n : ℕ) (xs ys : List X) → AllZip R xs ys →
+    AllZip R (take n xs) (take n ys)
+zip_take R zero xs ys all = tt
+zip_take R (suc n) [] [] all = tt
+zip_take R (suc n) [] (y ∷ ys) all = absurd all
+zip_take R (suc n) (x ∷ xs) [] all = absurd all
+zip_take R (suc n) (x ∷ xs) (y ∷ ys) all = (all.0, zip_take R n xs ys all.1)
+
+-- a change that leaves the first glyph's cluster, if all from a to b are in clusters above it
+pub record KeepsFirst (low a b : ℕ) (gs new : List hb_glyph_info_t) : Type 0 where
+  pub same_length : length new ≡ length gs
+  pub first : first_cluster new ≡ first_cluster gs
+  pub from : From low (stretch_of a b new)
+
+abbrev Keeps : ℕ → ℕ → ℕ → ℕ → Change → Type 0
+Keeps low a b n change = (gs : List hb_glyph_info_t) → length gs ≡ n → From low (stretch_of a b gs) →
+    first_cluster gs < low → KeepsFirst low a b gs (change gs)
+
+keeps_then : (low a b n : ℕ) (change after : Change) → Keeps low a b n change → Keeps low a b n after →
+    Keeps low a b n (λ gs. after (change gs))
+keeps_then low a b n change after one two gs gn from less =
+    let first = one gs gn from less in
+    let is = first.first in
+    let later = two (change gs) (first.same_length ∙ gn) first.from (omega arith) in
+    record {
+      same_length = later.same_length ∙ first.same_length;
+      first = later.first ∙ is;
+      from = later.from;
+    }
+
+keeps_nothing : (low a b n : ℕ) → Keeps low a b n (λ gs. gs)
+keeps_nothing low a b n gs gn from less = record { same_length = refl; first = refl; from = from }
+
+merge_keeps : (level : BufferClusterLevel) (low a s e b n : ℕ) → e ≤ b → a + b ≤ n →
+    Keeps low a (a + b) n (merge level (a + s) (a + e))
+merge_keeps level low a s e b n order within gs gn from less =
+    let long : (a + b) - a ≡ b = omega arith in
+    let part : 1 < (a + e) - (a + s) → From low (stretch_of (a + s) (a + e) gs) = λ two.
+    let d : (a + e) - (a + s) ≡ e - s = omega arith in
+    let up : s + (e - s) ≡ e = omega arith in
+    let is : stretch_of (a + s) (a + e) gs ≡ drop s (take e (take b (drop a gs))) =
+    ap (λ i. take i (drop (a + s) gs)) d ∙ ap (take (e - s)) (sym (drop-drop s a gs))
+    ∙ sym (drop-take s (e - s) (drop a gs)) ∙ ap (λ i. drop s (take i (drop a gs))) up
+    ∙ ap (drop s) (sym (take-take e b (drop a gs) order)) in
+    subst (From low) (sym is) (each-drop (λ c. low ≤ c) s (take e (take b (drop a gs)))
+    (each-take (λ c. low ≤ c) e (take b (drop a gs)) (subst (λ i. From low (take i (drop a gs))) long from))) in
+    let new = merge level (a + s) (a + e) gs in
+    let sides = merge_on_side level low (a + s) (a + e) gs (omega arith) part in
+    record {
+      same_length = length-merge level (a + s) (a + e) gs (omega arith);
+      first = first_on_side low gs new sides less;
+      from = from_on_side low (stretch_of a (a + b) gs) (stretch_of a (a + b) new)
+          (zip_take (StaysOnSide low) ((a + b) - a) (drop a gs) (drop a new)
+          (zip_drop (StaysOnSide low) a gs new sides)) from;
+    }
+
+merge_all_keeps : (level : BufferClusterLevel) (low a b n : ℕ) (sts : List (ℕ × ℕ)) → a + b ≤ n → EndWithin b sts →
+    Keeps low a (a + b) n (merge_all level (shifted a sts))
+merge_all_keeps level low a b n [] within ends = keeps_nothing low a (a + b) n
+merge_all_keeps level low a b n (st ∷ sts) within ends =
+    keeps_then low a (a + b) n (merge level (a + st.0) (a + st.1)) (merge_all level (shifted a sts))
+    (merge_keeps level low a st.0 st.1 b n ends.0 within) (merge_all_keeps level low a b n sts within ends.1)
+
+pick_keeps : (low a b n : ℕ) (step : Step) → 0 < a → a + b ≤ n → FitsStep b step →
+    Keeps low a (a + b) n (pick (widened a (a + b) n step).places)
+pick_keeps low a b n step some within fits gs gn from less =
+    let long : (a + b) - a ≡ b = omega arith in
+    let t = take a gs in
+    let mid = stretch_of a (a + b) gs in
+    let mn : length mid ≡ b = omega (arith, length-stretch a (a + b) gs (omega arith)) in
+    let inside : AllByRecursion (λ p. p < (a + b) - a) step.places =
+    subst (λ d. AllByRecursion (λ p. p < d) step.places) (sym long) fits.within in
+    let picked = pick step.places mid in
+    let within_mid : AllByRecursion (λ p. p < length mid) step.places =
+    subst (λ d. AllByRecursion (λ p. p < d) step.places) (sym mn) fits.within in
+    let pn : length picked ≡ b = length-pick step.places mid within_mid ∙ fits.as_many in
+    let tn : length t ≡ a = omega (arith, length-take a gs) in
+    let own : pick (widened a (a + b) n step).places gs ≡ t ++ (picked ++ drop (a + b) gs) =
+    ap (λ d. pick (widened a (a + b) d step).places gs) (sym gn)
+    ∙ pick-widened a (a + b) step gs (omega arith) (omega arith) inside in
+    let wide = fits-widened a (a + b) n step (omega arith) within (subst (λ d. FitsStep d step) (sym long) fits) in
+    let moved : stretch_of a (a + b) (pick (widened a (a + b) n step).places gs) ≡ picked =
+    ap (stretch_of a (a + b)) own ∙ ap (take ((a + b) - a)) (drop_at t (picked ++ drop (a + b) gs) a tn)
+    ∙ take_at picked (drop (a + b) gs) ((a + b) - a) (omega arith) in
+    record {
+      same_length = length-pick (widened a (a + b) n step).places gs
+          (subst (λ d. AllByRecursion (λ p. p < d) (widened a (a + b) n step).places) (sym gn) wide.within)
+          ∙ wide.as_many ∙ sym gn;
+      first = ap first_cluster own ∙ first_of_front t (picked ++ drop (a + b) gs) (omega arith)
+          ∙ first_taken a gs some;
+      from = subst (From low) (sym moved) (each-pick (λ c. low ≤ c) step.places mid within_mid from);
+    }
+
+pub steps_keep : (level : BufferClusterLevel) (low a b n : ℕ) (steps : List Step) → 0 < a → a + b ≤ n →
+    FitSteps b steps → Keeps low a (a + b) n (run_steps level (map (widened a (a + b) n) steps))
+steps_keep level low a b n [] some within fits = keeps_nothing low a (a + b) n
+steps_keep level low a b n (step ∷ steps) some within fits =
+    let move = pick (widened a (a + b) n step).places in
+    let one = fits.0 in
+    keeps_then low a (a + b) n (run_step level (widened a (a + b) n step))
+    (run_steps level (map (widened a (a + b) n) steps))
+    (keeps_then low a (a + b) n (λ gs. move (merge_all level (shifted a step.merged_first) gs))
+    (merge_all level (shifted a step.merged_then))
+    (keeps_then low a (a + b) n (merge_all level (shifted a step.merged_first)) move
+    (merge_all_keeps level low a b n step.merged_first within one.first_within)
+    (pick_keeps low a b n step some within one))
+    (merge_all_keeps level low a b n step.merged_then within one.then_within))
+    (steps_keep level low a b n steps some within fits.1)

@@ -80,7 +80,7 @@ all_append R [] (y ∷ ys) zs ws h i = absurd h
 all_append R (x ∷ xs) [] zs ws h i = absurd h
 all_append R (x ∷ xs) (y ∷ ys) zs ws h i = (h.0, all_append R xs ys zs ws h.1 i)
 
-all_reverse : {X : Type 0} (R : X → X → Type 0) (xs ys : List X) → AllZip R xs ys → AllZip R (reverse xs) (reverse ys)
+pub all_reverse : {X : Type 0} (R : X → X → Type 0) (xs ys : List X) → AllZip R xs ys → AllZip R (reverse xs) (reverse ys)
 all_reverse R [] [] h = tt
 all_reverse R [] (y ∷ ys) h = absurd h
 all_reverse R (x ∷ xs) [] h = absurd h

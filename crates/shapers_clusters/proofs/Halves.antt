@@ -42,7 +42,7 @@ pub each-append : (P : ℕ → Type 0) (gs hs : List hb_glyph_info_t) → Each P
 each-append P [] hs h i = i
 each-append P (g ∷ gs) hs h i = (h.0, each-append P gs hs h.1 i)
 
-each-reverse : (P : ℕ → Type 0) (gs : List hb_glyph_info_t) → Each P gs → Each P (reverse gs)
+pub each-reverse : (P : ℕ → Type 0) (gs : List hb_glyph_info_t) → Each P gs → Each P (reverse gs)
 each-reverse P [] h = tt
 each-reverse P (g ∷ gs) h = let Q : List hb_glyph_info_t → Type 0 =
     Each P in subst Q (sym (reverse-append (g ∷ []) gs))
@@ -186,7 +186,7 @@ merge_all-alone P level a (st ∷ sts) before gs behind n w p h i =
     ∙ merge_all-alone P level a sts before ms behind n (subst W (sym (length-merge level st.0 st.1 gs w.0)) w.1)
     (each-merge_all P level (st ∷ []) gs (w.0, tt) p) h i
 
-each-pick : (P : ℕ → Type 0) (ps : List ℕ) (gs : List hb_glyph_info_t) → AllByRecursion (λ p. p < length gs) ps
+pub each-pick : (P : ℕ → Type 0) (ps : List ℕ) (gs : List hb_glyph_info_t) → AllByRecursion (λ p. p < length gs) ps
     → Each P gs → Each P (pick ps gs)
 each-pick P ps gs w p =
     let Q : List ℕ → Type 0 = All P in
