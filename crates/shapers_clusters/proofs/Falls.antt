@@ -15,7 +15,7 @@ use Rattle.shapers_clusters.specs.Flags.{FallsTo, FlagsFall}
 use Rattle.shapers_buffer.proofs.ClusterLemmas.{flood_merged, three_parts}
 use Rattle.shapers_buffer.proofs.RunLemmas.{put_twice}
 
-in_cluster-same : (g : hb_glyph_info_t) → in_cluster g.cluster g ≡ g
+pub in_cluster-same : (g : hb_glyph_info_t) → in_cluster g.cluster g ≡ g
 in_cluster-same g = grind (arith, nat_tests)
 
 in_cluster-other : (m : ℕ) (g : hb_glyph_info_t) → m < g.cluster

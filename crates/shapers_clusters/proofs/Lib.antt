@@ -17,6 +17,7 @@ pub mod FlagLaw
 pub mod Flagging
 pub mod ViewedFlags
 pub mod GatheredCuts
+pub mod GroupWalk
 pub mod Halves
 pub mod ClusterMerges
 pub mod KeptPlaces

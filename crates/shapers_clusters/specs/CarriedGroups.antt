@@ -1,9 +1,12 @@
 -- Groups of glyphs in front of a place where merges go on, each of which one glyph stands for.
-use Rattle.std.specs.Prelude.{ℕ, ◌+◌, ◌≡◌, ◌<◌, ◌⊎◌, List, [], ◌∷◌, ◌++◌, length, map, true}
+use Rattle.std.specs.Prelude.{ℕ, zero, suc, ◌+◌, ◌-◌, ◌^◌, ◌≡◌, ◌<◌, ◌≤◌, ◌⊎◌, List, [], ◌∷◌, ◌++◌, drop, get_or, length, map, min, slice_set, take, true}
 use Rattle.shapers_buffer.specs.declared.buffer.glyph.hb_glyph_info_t.{hb_glyph_info_t}
 use Rattle.shapers_buffer.specs.ClusterRuns.{none_below}
-use Rattle.shapers_buffer.specs.Clusters.{first_cluster, in_cluster}
+use Rattle.shapers_buffer.specs.Clusters.{first_cluster, in_cluster, least, stretch_of}
+use Rattle.shapers_buffer.specs.Glyph.{clusters, default_glyph, order_view}
 use Rattle.shapers_clusters.specs.CarriedRuns.{EndsAbove}
+use Rattle.shapers_clusters.specs.declared.carried_groups.CarriedGroups.{CarriedGroups}
+use Rattle.shapers_clusters.specs.declared.carried_groups.Group.{Group}
 
 -- how many glyphs the groups have
 abbrev pub all_of : List (List hb_glyph_info_t) → ℕ
@@ -29,3 +32,118 @@ StandFor (group ∷ groups) (g ∷ gs) =
 abbrev pub StopsAt : List hb_glyph_info_t → List hb_glyph_info_t → List hb_glyph_info_t → Type 0
 StopsAt before gs new =
     EndsAbove (first_cluster gs) before ⊎ (first_cluster new ≡ first_cluster gs)
+
+-- how many glyphs these groups have
+abbrev pub len_of : List Group → ℕ
+len_of [] = 0
+len_of (group ∷ groups) = group.len + len_of groups
+
+-- the glyphs of these groups, which open the list, each in the cluster of its group
+abbrev pub grouped : List Group → List hb_glyph_info_t → List hb_glyph_info_t
+grouped [] gs = []
+grouped (group ∷ groups) gs =
+    map (in_cluster group.cluster) (take group.len gs) ++ grouped groups (drop group.len gs)
+
+-- none is empty, and in none has a glyph a cluster below its own
+abbrev pub LeastIn : List Group → List hb_glyph_info_t → Type 0
+LeastIn [] gs = Unit {0}
+LeastIn (group ∷ groups) gs = ((0 < group.len)
+    × (none_below group.cluster (take group.len gs) ≡ true)) × LeastIn groups (drop group.len gs)
+
+-- the glyphs, with those of each group in its cluster
+abbrev pub with_list : CarriedGroups → List Group → List hb_glyph_info_t → List hb_glyph_info_t
+with_list it groups gs =
+    take it.start gs ++ (grouped groups (drop it.start gs) ++ drop it.end gs)
+
+abbrev pub with_groups : CarriedGroups → List hb_glyph_info_t → List hb_glyph_info_t
+with_groups it gs = with_list it it.groups.items gs
+
+-- the groups stand one behind the other from start to end
+pub record AreCarried (it : CarriedGroups) (gs : List hb_glyph_info_t) : Type 0 where
+  pub span : it.start + len_of it.groups.items ≡ it.end
+  pub within : it.end ≤ length gs
+  pub least : LeastIn it.groups.items (drop it.start gs)
+
+-- glyphs in the clusters of groups, one for each
+abbrev pub shown : List Group → List hb_glyph_info_t → List hb_glyph_info_t
+shown [] gs = gs
+shown (group ∷ groups) [] = []
+shown (group ∷ groups) (g ∷ gs) = record g { cluster = group.cluster } ∷ shown groups gs
+
+-- groups in the clusters of glyphs, if those are lower
+abbrev pub read_back : List hb_glyph_info_t → List Group → List Group
+read_back [] groups = groups
+read_back (g ∷ gs) [] = []
+read_back (g ∷ gs) (group ∷ groups) =
+    record group { cluster = min group.cluster g.cluster } ∷ read_back gs groups
+
+-- the cluster of the first group
+abbrev pub first_of : List Group → ℕ
+first_of [] = 0
+first_of (group ∷ groups) = group.cluster
+
+-- the last groups, so many
+abbrev pub last_groups : ℕ → CarriedGroups → List Group
+last_groups count it = drop (length it.groups.items - count) it.groups.items
+
+-- What stands before the groups ends in a cluster above that of the first one; and there is one
+-- above that.
+pub record IsApart (it : CarriedGroups) (gs : List hb_glyph_info_t) : Type 0 where
+  pub room : first_of it.groups.items + 1 < 2 ^ 32
+  pub above : EndsAbove (first_of it.groups.items) (take it.start gs)
+
+-- One glyph stands for each of the last groups, with their glyphs' place before it, and one of
+-- another cluster before them; what stood there is kept.
+pub record AreShown (count : ℕ) (it : CarriedGroups) (gs : List hb_glyph_info_t) (after :
+    CarriedGroups) (hs : List hb_glyph_info_t) : Type 0 where
+  pub same : after ≡ record it { kept = after.kept }
+  pub kept : after.kept.items ≡ stretch_of (it.end - count - 1) it.end gs
+  pub room : count ≤ it.end
+  pub rest : drop (it.end - count) hs ≡ shown (last_groups count it) (drop (it.end - count) gs)
+  pub front : take (it.end - count - 1) hs ≡ take (it.end - count - 1) gs
+  pub above : EndsAbove (first_of it.groups.items) (take (it.end - count) hs)
+  pub view : order_view hs ≡ order_view gs
+
+-- Before merges from first to end: groups are shown that stand before first, behind one that is
+-- below all that merges, or that stands behind a glyph above it; or none are left.
+pub record GroupsGuarded (first end : ℕ) (it : CarriedGroups) (gs : List hb_glyph_info_t) (after :
+    CarriedGroups) (count : ℕ) (hs : List hb_glyph_info_t) : Type 0 where
+  pub before : CarriedGroups
+  pub between : List hb_glyph_info_t
+  pub same : with_groups before between ≡ with_groups it gs
+  pub fits : AreCarried before between
+  pub at : before.end ≡ first
+  pub none : count ≡ 0 → (after ≡ before) × (before.groups.items ≡ []) × (hs ≡ between)
+  pub within : count ≤ length before.groups.items
+  pub some : 0 < count → AreShown count before between after hs
+  pub stops : 0 < count → (first < end) ×
+      ((first_of (last_groups count before) < least (clusters (stretch_of first end between)))
+      ⊎ ((count ≡ length before.groups.items) × EndsAbove (first_of before.groups.items)
+      (take before.start between)))
+
+-- the list with what was kept in its place
+abbrev pub taken_back : ℕ → CarriedGroups → List hb_glyph_info_t → List hb_glyph_info_t
+taken_back count it gs = take (it.end - count - 1) gs ++ (it.kept.items ++ drop it.end gs)
+
+-- the last groups in the clusters of the glyphs that stand for them
+abbrev pub fallen_groups : ℕ → CarriedGroups → List hb_glyph_info_t → List Group
+fallen_groups count it gs = take (length it.groups.items - count) it.groups.items
+    ++ read_back (stretch_of (it.end - count) it.end gs) (last_groups count it)
+
+-- the list with another cluster in the place before this one
+abbrev pub put_before : ℕ → ℕ → List hb_glyph_info_t → List hb_glyph_info_t
+put_before zero cluster gs = gs
+put_before (suc place) cluster gs =
+    let g : hb_glyph_info_t = get_or gs place default_glyph in
+    slice_set gs place (record g { cluster = cluster })
+
+-- the last two groups as one, in the cluster of the first of them
+abbrev pub no_group : Group
+no_group = record { len = 0; cluster = 0 }
+
+abbrev pub joined_end : List Group → List Group
+joined_end groups =
+    let n = length groups in
+    let one : Group = get_or groups (n - 2) no_group in
+    let other : Group = get_or groups (n - 1) no_group in
+    take (n - 2) groups ++ record one { len = one.len + other.len } ∷ []

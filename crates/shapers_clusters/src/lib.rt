@@ -6,6 +6,7 @@ ghost use Rattle.shapers_clusters.specs.Borders.{BareLaw};
 ghost use Rattle.shapers_clusters.specs.Breaks.{ClearLaw, NeedlessLaw};
 ghost use Rattle.shapers_clusters.specs.Laws.{ViewLaw, FlagCallsLaw, MergeLaw, ExactCutsLaw, StepsLaw, PermutedLaw, ClustersLaw, MergedStepsLaw, SparedStepsLaw, ClustersReorderedLaw, SeenStepsLaw, ReorderedLaw, WidenedLaw, AlongLaw, HalvesLaw, AloneLaw, MadeLaw, MovedSourcesLaw};
 
+pub mod carried_groups;
 pub mod carried_runs;
 pub mod into_cluster;
 

@@ -1,0 +1,336 @@
+-- The walk over groups: what its steps come to.
+use Rattle.std.proofs.Common.{ℕ, zero, suc, ◌+◌, ◌-◌, ◌<◌, ◌≤◌, ◌≡◌, min, true, List, [], ◌∷◌, ◌++◌, map, length, get_or, slice_set, take, drop, take-add, refl, sym, ◌∙◌, ap, subst, arith, append_assoc, length-append, length-take, length-drop}
+use Rattle.std.proofs.lemmas.List.{append-nil, drop-drop, drop_at, length-map, map-append, take-append-drop, take_all, take_at, take_more, take_more_set}
+use Rattle.std.proofs.lemmas.Bool.Decides.{nat_tests}
+use Rattle.std.proofs.lemmas.List.Folds.{list_all-append}
+use Rattle.std.specs.Prelude.{nat_le}
+use Rattle.shapers_buffer.specs.declared.buffer.glyph.hb_glyph_info_t.{hb_glyph_info_t}
+use Rattle.shapers_buffer.specs.ClusterRuns.{none_below}
+use Rattle.shapers_buffer.specs.Clusters.{in_cluster, stretch_of, with_stretch}
+use Rattle.shapers_buffer.specs.Glyph.{default_glyph}
+use Rattle.shapers_clusters.specs.CarriedGroups.{AreCarried, LeastIn, grouped, joined_end, len_of, no_group, read_back, shown, with_groups, with_list}
+use Rattle.shapers_clusters.specs.declared.carried_groups.CarriedGroups.{CarriedGroups}
+use Rattle.shapers_clusters.specs.declared.carried_groups.Group.{Group}
+use Rattle.shapers_buffer.proofs.RunLemmas.{none_lower}
+use Rattle.shapers_clusters.proofs.Falls.{in_cluster-same}
+use Rattle.shapers_clusters.proofs.Halves.{drop-past, take-past}
+
+-- LISTS of groups
+pub next_at : {X : Type 0} (xs : List X) (i : ℕ) (d : X) → i < length xs →
+    drop i xs ≡ get_or xs i d ∷ drop (i + 1) xs
+next_at [] i d inside = absurd (omega arith)
+next_at (x ∷ xs) zero d inside = refl
+next_at (x ∷ xs) (suc i) d inside =
+    let up : suc i + 1 ≡ suc (i + 1) = omega arith in
+    next_at xs i d (omega arith) ∙ ap (λ k. get_or xs i d ∷ drop k (x ∷ xs)) (sym up)
+
+pub len_of-append : (xs ys : List Group) → len_of (xs ++ ys) ≡ len_of xs + len_of ys
+len_of-append [] ys = omega arith
+len_of-append (x ∷ xs) ys = omega (arith, len_of-append xs ys)
+
+pub grouped-append : (xs ys : List Group) (gs : List hb_glyph_info_t) →
+    grouped (xs ++ ys) gs ≡ grouped xs gs ++ grouped ys (drop (len_of xs) gs)
+grouped-append [] ys gs = refl
+grouped-append (x ∷ xs) ys gs =
+    let put = map (in_cluster x.cluster) (take x.len gs) in
+    ap (λ l. put ++ l) (grouped-append xs ys (drop x.len gs))
+    ∙ sym (append_assoc put (grouped xs (drop x.len gs)) (grouped ys (drop (len_of xs) (drop x.len gs))))
+    ∙ ap (λ l. (put ++ grouped xs (drop x.len gs)) ++ grouped ys l) (drop-drop (len_of xs) x.len gs)
+
+pub length-grouped : (xs : List Group) (gs : List hb_glyph_info_t) → len_of xs ≤ length gs →
+    length (grouped xs gs) ≡ len_of xs
+length-grouped [] gs within = refl
+length-grouped (x ∷ xs) gs within =
+    length-append (map (in_cluster x.cluster) (take x.len gs)) (grouped xs (drop x.len gs))
+    ∙ omega (
+      arith,
+      length-map (take x.len gs) (in_cluster x.cluster),
+      length-take x.len gs,
+      length-drop x.len gs,
+      length-grouped xs (drop x.len gs) (omega (arith, length-drop x.len gs)),
+    )
+
+pub least_front : (xs ys : List Group) (gs : List hb_glyph_info_t) → LeastIn (xs ++ ys) gs → LeastIn xs gs
+least_front [] ys gs all = tt
+least_front (x ∷ xs) ys gs all = (all.0, least_front xs ys (drop x.len gs) all.1)
+
+pub least_behind : (xs ys : List Group) (gs : List hb_glyph_info_t) → LeastIn (xs ++ ys) gs →
+    LeastIn ys (drop (len_of xs) gs)
+least_behind [] ys gs all = all
+least_behind (x ∷ xs) ys gs all =
+    subst (LeastIn ys) (drop-drop (len_of xs) x.len gs) (least_behind xs ys (drop x.len gs) all.1)
+
+pub least_both : (xs ys : List Group) (gs : List hb_glyph_info_t) → LeastIn xs gs → LeastIn ys (drop (len_of xs) gs) →
+    LeastIn (xs ++ ys) gs
+least_both [] ys gs one two = two
+least_both (x ∷ xs) ys gs one two =
+    (one.0, least_both xs ys (drop x.len gs) one.1 (subst (LeastIn ys) (sym (drop-drop (len_of xs) x.len gs)) two))
+
+-- WRITING one
+pub record WrittenNext (g : Group) (groups : List Group) (place : ℕ) (gs hs : List hb_glyph_info_t) : Type 0 where
+  pub within : place + g.len + len_of groups ≤ length hs
+  pub walk : take (place + g.len) hs ++ (grouped groups (drop (place + g.len) hs)
+      ++ drop (place + g.len + len_of groups) hs)
+      ≡ take place gs ++ (grouped (g ∷ groups) (drop place gs) ++ drop (place + len_of (g ∷ groups)) gs)
+
+pub written_next : (g : Group) (groups : List Group) (place : ℕ) (gs hs : List hb_glyph_info_t) →
+    place + len_of (g ∷ groups) ≤ length gs →
+    hs ≡ with_stretch place (place + g.len) (map (in_cluster g.cluster)) gs → WrittenNext g groups place gs hs
+written_next g groups place gs hs within is =
+    let end = place + g.len in
+    let f : hb_glyph_info_t → hb_glyph_info_t = in_cluster g.cluster in
+    let size : end - place ≡ g.len = omega arith in
+    let put = map f (take g.len (drop place gs)) in
+    let front = take place gs ++ put in
+    let rest = drop end gs in
+    let n : length front ≡ end = length-append (take place gs) put ∙ omega (
+      arith,
+      length-take place gs,
+      length-map (take g.len (drop place gs)) f,
+      length-take g.len (drop place gs),
+      length-drop place gs,
+    ) in
+    let whole : hs ≡ front ++ rest = is ∙ ap (λ k. take place gs ++ (map f (take k (drop place gs)) ++ rest)) size
+    ∙ sym (append_assoc (take place gs) put rest) in
+    let behind : drop g.len (drop place gs) ≡ rest = drop-drop g.len place gs in
+    let more : drop (len_of groups) rest ≡ drop (place + len_of (g ∷ groups)) gs =
+    drop-drop (len_of groups) end gs ∙ ap (λ k. drop k gs) (omega arith) in
+    record {
+      within = omega (arith, ap length whole, length-append front rest, length-drop end gs);
+      walk = ap (λ l. take end l ++ (grouped groups (drop end l) ++ drop (end + len_of groups) l)) whole
+          ∙ ap (λ l. l ++ (grouped groups (drop end (front ++ rest)) ++ drop (end + len_of groups) (front ++ rest)))
+          (take_at front rest end n)
+          ∙ ap (λ l. front ++ (grouped groups l ++ drop (end + len_of groups) (front ++ rest)))
+          (drop_at front rest end n)
+          ∙ ap (λ l. front ++ (grouped groups rest ++ l)) (drop-past end (len_of groups) front rest n ∙ more)
+          ∙ append_assoc (take place gs) put (grouped groups rest ++ drop (place + len_of (g ∷ groups)) gs)
+          ∙ ap (λ l. take place gs ++ l) (sym (append_assoc put (grouped groups rest)
+          (drop (place + len_of (g ∷ groups)) gs)))
+          ∙ ap (λ l. take place gs ++ ((put ++ grouped groups l) ++ drop (place + len_of (g ∷ groups)) gs)) (sym behind);
+    }
+
+-- SHOWING one more, and reading one
+pub show_next : (groups : List Group) (gs : List hb_glyph_info_t) (i : ℕ) → i < length groups →
+    length groups ≤ length gs → (let g : hb_glyph_info_t = get_or (shown (take i groups) gs) i default_glyph in
+    slice_set (shown (take i groups) gs) i (record g { cluster = (get_or groups i no_group).cluster })
+    ≡ shown (take (i + 1) groups) gs)
+show_next [] gs i inside many = absurd (omega arith)
+show_next (group ∷ groups) [] i inside many = absurd (omega arith)
+show_next (group ∷ groups) (g ∷ gs) zero inside many = refl
+show_next (group ∷ groups) (g ∷ gs) (suc i) inside many =
+    let up : suc i + 1 ≡ suc (i + 1) = omega arith in
+    let one : hb_glyph_info_t = record g { cluster = group.cluster } in
+    ap (λ l. one ∷ l) (show_next groups gs i (omega arith) (omega arith))
+    ∙ ap (λ k. shown (take k (group ∷ groups)) (g ∷ gs)) (sym up)
+
+pub read_next : (gs : List hb_glyph_info_t) (groups : List Group) (i : ℕ) → i < length gs →
+    length gs ≡ length groups → (let group : Group = get_or (read_back (take i gs) groups) i no_group in
+    slice_set (read_back (take i gs) groups) i (record group {
+      cluster = min group.cluster (get_or gs i default_glyph).cluster;
+    }) ≡ read_back (take (i + 1) gs) groups)
+read_next [] groups i inside many = absurd (omega arith)
+read_next (g ∷ gs) [] i inside many = absurd (omega arith)
+read_next (g ∷ gs) (group ∷ groups) zero inside many = refl
+read_next (g ∷ gs) (group ∷ groups) (suc i) inside many =
+    let up : suc i + 1 ≡ suc (i + 1) = omega arith in
+    let one : Group = record group { cluster = min group.cluster g.cluster } in
+    ap (λ l. one ∷ l) (read_next gs groups i (omega arith) (omega arith))
+    ∙ ap (λ k. read_back (take k (g ∷ gs)) (group ∷ groups)) (sym up)
+
+pub len_of-read : (gs : List hb_glyph_info_t) (groups : List Group) → length gs ≡ length groups →
+    len_of (read_back gs groups) ≡ len_of groups
+len_of-read [] groups many = refl
+len_of-read (g ∷ gs) [] many = absurd (omega arith)
+len_of-read (g ∷ gs) (group ∷ groups) many = omega (arith, len_of-read gs groups (omega arith))
+
+pub least-read : (gs : List hb_glyph_info_t) (groups : List Group) (hs : List hb_glyph_info_t) →
+    length gs ≡ length groups → LeastIn groups hs → LeastIn (read_back gs groups) hs
+least-read [] groups hs many all = all
+least-read (g ∷ gs) [] hs many all = absurd (omega arith)
+least-read (g ∷ gs) (group ∷ groups) hs many all =
+    let low : min group.cluster g.cluster ≤ group.cluster = omega arith in
+    ((all.0.0, none_lower (min group.cluster g.cluster) group.cluster (take group.len hs) low all.0.1),
+    least-read gs groups (drop group.len hs) (omega arith) all.1)
+
+-- THE LAST groups
+pub last_split : (xs : List Group) → 0 < length xs →
+    xs ≡ take (length xs - 1) xs ++ get_or xs (length xs - 1) no_group ∷ []
+last_split xs some =
+    sym (take_all (length xs - 1 + 1) xs (omega arith)) ∙ take_more xs (length xs - 1) no_group (omega arith)
+
+pub two_split : (xs : List Group) → 1 < length xs → xs ≡ take (length xs - 2) xs
+    ++ get_or xs (length xs - 2) no_group ∷ get_or xs (length xs - 1) no_group ∷ []
+two_split xs two =
+    let one = get_or xs (length xs - 2) no_group in
+    let other = get_or xs (length xs - 1) no_group in
+    let up : length xs - 2 + 1 ≡ length xs - 1 = omega arith in
+    last_split xs (omega arith)
+    ∙ ap (λ l. l ++ other ∷ []) (ap (λ k. take k xs) (sym up) ∙ take_more xs (length xs - 2) no_group (omega arith))
+    ∙ append_assoc (take (length xs - 2) xs) (one ∷ []) (other ∷ [])
+
+pub record Joined (xs ys : List Group) : Type 0 where
+  pub len : len_of ys ≡ len_of xs
+  pub many : length ys + 1 ≡ length xs
+  pub same : (gs : List hb_glyph_info_t) → grouped ys gs ≡ grouped xs gs
+  pub least : (gs : List hb_glyph_info_t) → LeastIn xs gs → LeastIn ys gs
+
+pub joined_same : (xs : List Group) → 1 < length xs → (get_or xs (length xs - 2) no_group).cluster
+    ≡ (get_or xs (length xs - 1) no_group).cluster → Joined xs (joined_end xs)
+joined_same xs two same =
+    let front = take (length xs - 2) xs in
+    let one : Group = get_or xs (length xs - 2) no_group in
+    let other : Group = get_or xs (length xs - 1) no_group in
+    let both : Group = record one { len = one.len + other.len } in
+    let split = two_split xs two in
+    record {
+      len = len_of-append front (both ∷ [])
+          ∙ sym (ap len_of split ∙ len_of-append front (one ∷ other ∷ []) ∙ omega arith);
+      many = omega (arith, length-append front (both ∷ []), length-take (length xs - 2) xs);
+      same = λ gs. grouped-append front (both ∷ []) gs
+          ∙ ap (λ l. grouped front gs ++ l) (pair one other (drop (len_of front) gs) same)
+          ∙ sym (ap (λ l. grouped l gs) split ∙ grouped-append front (one ∷ other ∷ []) gs);
+      least = λ gs all.
+          let parts = subst (λ l. LeastIn l gs) split all in
+          least_both front (both ∷ []) gs (least_front front (one ∷ other ∷ []) gs parts)
+          (pair_least one other (drop (len_of front) gs) same (least_behind front (one ∷ other ∷ []) gs parts));
+    }
+  where
+    pair : (one other : Group) (hs : List hb_glyph_info_t) → one.cluster ≡ other.cluster →
+        grouped ((record one { len = one.len + other.len }) ∷ []) hs ≡ grouped (one ∷ other ∷ []) hs
+    pair one other hs is =
+        let f : hb_glyph_info_t → hb_glyph_info_t = in_cluster one.cluster in
+        append-nil (map f (take (one.len + other.len) hs)) ∙ ap (map f) (take-add one.len other.len hs)
+        ∙ map-append f (take one.len hs) (take other.len (drop one.len hs))
+        ∙ ap (λ c. map f (take one.len hs) ++ map (in_cluster c) (take other.len (drop one.len hs))) is
+        ∙ ap (λ l. map f (take one.len hs) ++ l)
+        (sym (append-nil (map (in_cluster other.cluster) (take other.len (drop one.len hs)))))
+    pair_least : (one other : Group) (hs : List hb_glyph_info_t) → one.cluster ≡ other.cluster →
+        LeastIn (one ∷ other ∷ []) hs → LeastIn ((record one { len = one.len + other.len }) ∷ []) hs
+    pair_least one other hs is all =
+        let some = all.0.0 in
+        let a = all.0.1 in
+        let b : none_below one.cluster (take other.len (drop one.len hs)) ≡ true =
+        ap (λ c. none_below c (take other.len (drop one.len hs))) is ∙ all.1.0.1 in
+        ((omega arith, ap (none_below one.cluster) (take-add one.len other.len hs)
+        ∙ list_all-append (λ g. nat_le one.cluster g.cluster) (take one.len hs) (take other.len (drop one.len hs))
+        ∙ rw (a, b) refl), tt)
+
+-- WRITTEN before the last one
+pub record StillSame (it : CarriedGroups) (gs : List hb_glyph_info_t) (after : CarriedGroups)
+    (hs : List hb_glyph_info_t) : Type 0 where
+  pub same : with_groups after hs ≡ with_groups it gs
+  pub fits : AreCarried after hs
+  pub same_length : length hs ≡ length gs
+
+pub written_before : (it after : CarriedGroups) (front : List Group) (last : Group) (gs hs : List hb_glyph_info_t) →
+    it.groups.items ≡ front ++ last ∷ [] → after.groups.items ≡ last ∷ [] → after.start ≡ it.start + len_of front →
+    after.end ≡ it.end → hs ≡ take it.start gs ++ (grouped front (drop it.start gs)
+    ++ drop (it.start + len_of front) gs) → AreCarried it gs → StillSame it gs after hs
+written_before it after front last gs hs are now start_is end_is is fits =
+    let s = it.start + len_of front in
+    let span = fits.span in
+    let within = fits.within in
+    let lens = ap len_of are ∙ len_of-append front (last ∷ []) in
+    let put = grouped front (drop it.start gs) in
+    let A = take it.start gs ++ put in
+    let rest = drop s gs in
+    let n : length A ≡ s = length-append (take it.start gs) put ∙ omega (
+      arith,
+      length-take it.start gs,
+      length-grouped front (drop it.start gs) (omega (arith, length-drop it.start gs)),
+    ) in
+    let whole : hs ≡ A ++ rest = is ∙ sym (append_assoc (take it.start gs) put rest) in
+    let e : s + last.len ≡ it.end = omega arith in
+    let behind : drop it.end hs ≡ drop it.end gs = ap (λ k. drop k hs) (sym e) ∙ ap (drop (s + last.len)) whole
+    ∙ drop-past s last.len A rest n ∙ drop-drop last.len s gs ∙ ap (λ k. drop k gs) e in
+    let from : drop s hs ≡ rest = ap (drop s) whole ∙ drop_at A rest s n in
+    let up : drop (len_of front) (drop it.start gs) ≡ rest = drop-drop (len_of front) it.start gs in
+    let tail = grouped (last ∷ []) rest in
+    record {
+      same = ap (λ k. take k hs ++ (grouped after.groups.items (drop k hs) ++ drop after.end hs)) start_is
+          ∙ ap (λ k. take s hs ++ (grouped after.groups.items (drop s hs) ++ drop k hs)) end_is
+          ∙ ap (λ l. take s hs ++ (grouped l (drop s hs) ++ drop it.end hs)) now
+          ∙ ap (λ l. l ++ (grouped (last ∷ []) (drop s hs) ++ drop it.end hs)) (ap (take s) whole ∙ take_at A rest s n)
+          ∙ ap (λ l. A ++ (grouped (last ∷ []) l ++ drop it.end hs)) from
+          ∙ ap (λ l. A ++ (tail ++ l)) behind
+          ∙ append_assoc (take it.start gs) put (tail ++ drop it.end gs)
+          ∙ ap (λ l. take it.start gs ++ l) (sym (append_assoc put tail (drop it.end gs)))
+          ∙ ap (λ l. take it.start gs ++ (l ++ drop it.end gs))
+          (ap (λ l. put ++ grouped (last ∷ []) l) (sym up) ∙ sym (grouped-append front (last ∷ []) (drop it.start gs))
+          ∙ ap (λ l. grouped l (drop it.start gs)) (sym are));
+      fits = record {
+        span = omega (arith, ap len_of now);
+        within = omega (arith, ap length whole, length-append A rest, length-drop s gs);
+        least = subst (λ l. LeastIn l (drop after.start hs)) (sym now) (subst (LeastIn (last ∷ []))
+            (up ∙ sym from ∙ ap (λ k. drop k hs) (sym start_is)) (least_behind front (last ∷ []) (drop it.start gs)
+            (subst (λ l. LeastIn l (drop it.start gs)) are fits.least)));
+      };
+      same_length = ap length whole ∙ length-append A rest ∙ omega (arith, length-drop s gs);
+    }
+
+-- ADDED: the glyph behind the groups
+pub added : (it after : CarriedGroups) (gs : List hb_glyph_info_t) (g : hb_glyph_info_t) →
+    g ≡ get_or gs it.end default_glyph → it.end < length gs → after.start ≡ it.start → after.end ≡ it.end + 1 →
+    after.groups.items ≡ it.groups.items ++ (record { len = 1; cluster = g.cluster }) ∷ [] → AreCarried it gs →
+    StillSame it gs after gs
+added it after gs g g_is inside start_is end_is are fits =
+    let span = fits.span in
+    let items = it.groups.items in
+    let one : Group = record { len = 1; cluster = g.cluster } in
+    let rest = drop (it.end + 1) gs in
+    let split : drop it.end gs ≡ g ∷ rest = next_at gs it.end default_glyph inside ∙ ap (λ x. x ∷ rest) (sym g_is) in
+    let up : drop (len_of items) (drop it.start gs) ≡ drop it.end gs = drop-drop (len_of items) it.start gs
+    ∙ ap (λ k. drop k gs) span in
+    let stays : in_cluster g.cluster g ≡ g = in_cluster-same g in
+    let tail : grouped (one ∷ []) (drop (len_of items) (drop it.start gs)) ≡ g ∷ [] =
+    ap (grouped (one ∷ [])) (up ∙ split) ∙ ap (λ x. x ∷ []) stays in
+    let put = grouped items (drop it.start gs) in
+    record {
+      same = ap (λ k. take k gs ++ (grouped after.groups.items (drop k gs) ++ drop after.end gs)) start_is
+          ∙ ap (λ k. take it.start gs ++ (grouped after.groups.items (drop it.start gs) ++ drop k gs)) end_is
+          ∙ ap (λ l. take it.start gs ++ (grouped l (drop it.start gs) ++ rest)) are
+          ∙ ap (λ l. take it.start gs ++ (l ++ rest)) (grouped-append items (one ∷ []) (drop it.start gs)
+          ∙ ap (λ l. put ++ l) tail)
+          ∙ ap (λ l. take it.start gs ++ l) (append_assoc put (g ∷ []) rest ∙ ap (λ l. put ++ l) (sym split));
+      fits = record {
+        span = omega (arith, ap len_of are, len_of-append items (one ∷ []));
+        within = omega arith;
+        least = subst (λ k. LeastIn after.groups.items (drop k gs)) (sym start_is)
+            (subst (λ l. LeastIn l (drop it.start gs)) (sym are) (least_both items (one ∷ []) (drop it.start gs)
+            fits.least (subst (LeastIn (one ∷ [])) (sym (up ∙ split)) ((omega arith, own g), tt))));
+      };
+      same_length = refl;
+    }
+  where
+    own : (g : hb_glyph_info_t) → none_below g.cluster (g ∷ []) ≡ true
+    own g = grind (arith, nat_tests)
+
+-- READ
+pub read_fits : (it after : CarriedGroups) (gs hs : List hb_glyph_info_t) (index : ℕ) →
+    index + length gs ≡ length it.groups.items → after.start ≡ it.start → after.end ≡ it.end →
+    after.groups.items ≡ take index it.groups.items ++ read_back gs (drop index it.groups.items) →
+    AreCarried it hs → AreCarried after hs
+read_fits it after gs hs index many start_is end_is are fits =
+    let items = it.groups.items in
+    let front = take index items in
+    let back = drop index items in
+    let whole : front ++ back ≡ items = take-append-drop index items in
+    let n : length gs ≡ length back = omega (arith, length-drop index items) in
+    let span = fits.span in
+    let all = subst (λ l. LeastIn l (drop it.start hs)) (sym whole) fits.least in
+    record {
+      span = omega (
+        arith,
+        ap len_of are,
+        len_of-append front (read_back gs back),
+        len_of-read gs back n,
+        ap len_of whole,
+        len_of-append front back,
+      );
+      within = (let within = fits.within in omega arith);
+      least = subst (λ k. LeastIn after.groups.items (drop k hs)) (sym start_is)
+          (subst (λ l. LeastIn l (drop it.start hs)) (sym are) (least_both front (read_back gs back) (drop it.start hs)
+          (least_front front back (drop it.start hs) all)
+          (least-read gs back (drop (len_of front) (drop it.start hs)) n
+          (least_behind front back (drop it.start hs) all))));
+    }
