@@ -1,17 +1,21 @@
 -- The walk over groups: what its steps come to.
 use Rattle.std.proofs.Common.{ℕ, zero, suc, ◌+◌, ◌-◌, ◌<◌, ◌≤◌, ◌≡◌, min, true, List, [], ◌∷◌, ◌++◌, map, length, get_or, slice_set, take, drop, take-add, refl, sym, ◌∙◌, ap, subst, arith, append_assoc, length-append, length-take, length-drop}
-use Rattle.std.proofs.lemmas.List.{append-nil, drop-drop, drop_at, length-map, map-append, take-append-drop, take_all, take_at, take_more, take_more_set}
+use Rattle.std.proofs.lemmas.List.{append-nil, drop-drop, drop-set-lt, drop_at, length-map, length-set, map-append, take-append-drop, take-append-le, take-take, take_all, take_at, take_more, take_more_set}
 use Rattle.std.proofs.lemmas.Bool.Decides.{nat_tests}
 use Rattle.std.proofs.lemmas.List.Folds.{list_all-append}
 use Rattle.std.specs.Prelude.{nat_le}
 use Rattle.shapers_buffer.specs.declared.buffer.glyph.hb_glyph_info_t.{hb_glyph_info_t}
 use Rattle.shapers_buffer.specs.ClusterRuns.{none_below}
-use Rattle.shapers_buffer.specs.Clusters.{in_cluster, stretch_of, with_stretch}
-use Rattle.shapers_buffer.specs.Glyph.{default_glyph}
-use Rattle.shapers_clusters.specs.CarriedGroups.{AreCarried, LeastIn, grouped, joined_end, len_of, no_group, read_back, shown, with_groups, with_list}
+use Rattle.shapers_buffer.specs.Clusters.{in_cluster, last_cluster, stretch_of, with_stretch}
+use Rattle.shapers_buffer.specs.Glyph.{default_glyph, plain}
+use Rattle.shapers_clusters.specs.CarriedGroups.{AreCarried, AreShown, LeastIn, StillSame, first_of, grouped, joined_end, len_of, no_group, put_before, read_back, shown, taken_back, with_groups, with_list}
 use Rattle.shapers_clusters.specs.declared.carried_groups.CarriedGroups.{CarriedGroups}
 use Rattle.shapers_clusters.specs.declared.carried_groups.Group.{Group}
+use Rattle.std.proofs.Math.Seq.{map-set_same}
+use Rattle.shapers_buffer.proofs.ClusterLemmas.{length-stretch, three_parts}
+use Rattle.shapers_buffer.proofs.OneCluster.{last_of_end}
 use Rattle.shapers_buffer.proofs.RunLemmas.{none_lower}
+use Rattle.shapers_clusters.specs.CarriedRuns.{EndsAbove}
 use Rattle.shapers_clusters.proofs.Falls.{in_cluster-same}
 use Rattle.shapers_clusters.proofs.Halves.{drop-past, take-past}
 
@@ -215,13 +219,48 @@ joined_same xs two same =
         ∙ list_all-append (λ g. nat_le one.cluster g.cluster) (take one.len hs) (take other.len (drop one.len hs))
         ∙ rw (a, b) refl), tt)
 
--- WRITTEN before the last one
-pub record StillSame (it : CarriedGroups) (gs : List hb_glyph_info_t) (after : CarriedGroups)
-    (hs : List hb_glyph_info_t) : Type 0 where
-  pub same : with_groups after hs ≡ with_groups it gs
-  pub fits : AreCarried after hs
-  pub same_length : length hs ≡ length gs
+pub two_lens : (xs : List Group) → 1 < length xs → (get_or xs (length xs - 2) no_group).len
+    + (get_or xs (length xs - 1) no_group).len ≤ len_of xs
+two_lens xs two =
+    let one = get_or xs (length xs - 2) no_group in
+    let other = get_or xs (length xs - 1) no_group in
+    omega (arith, ap len_of (two_split xs two), len_of-append (take (length xs - 2) xs) (one ∷ other ∷ []))
 
+pub joined_list : (xs ys : List Group) (n : ℕ) (one other : Group) → 1 < length xs → n ≡ length xs →
+    ys ≡ take (n - 1) xs → one ≡ get_or xs (n - 2) no_group → other ≡ get_or xs (n - 1) no_group →
+    slice_set ys (n - 2) (record one { len = one.len + other.len }) ≡ joined_end xs
+joined_list xs ys n one other two n_is ys_is one_is other_is =
+    let both : Group = record one { len = one.len + other.len } in
+    let yn : length ys ≡ n - 1 = ap length ys_is ∙ omega (arith, length-take (n - 1) xs) in
+    let up : n - 2 + 1 ≡ n - 1 = omega arith in
+    let hs = slice_set ys (n - 2) both in
+    let many : length hs ≡ n - 1 = length-set ys (n - 2) both ∙ yn in
+    let front : take (n - 2) ys ≡ take (n - 2) xs = ap (take (n - 2)) ys_is
+    ∙ take-take (n - 2) (n - 1) xs (omega arith) in
+    sym (take_all (n - 1) hs (omega arith)) ∙ ap (λ k. take k hs) (sym up)
+    ∙ take_more_set ys (n - 2) both (omega arith) ∙ ap (λ l. l ++ both ∷ []) front
+    ∙ ap (λ (a : Group). take (n - 2) xs ++ (record a { len = a.len + other.len }) ∷ []) one_is
+    ∙ ap (λ (b : Group). take (n - 2) xs ++ (record (get_or xs (n - 2) no_group) {
+      len = (get_or xs (n - 2) no_group).len + b.len;
+    }) ∷ []) other_is
+    ∙ ap (λ k. (let a : Group = get_or xs (k - 2) no_group in let b : Group = get_or xs (k - 1) no_group in
+    take (k - 2) xs ++ (record a { len = a.len + b.len }) ∷ [])) n_is
+
+-- all but the last one, and that
+pub record BeforeLast (xs : List Group) : Type 0 where
+  pub whole : xs ≡ take (length xs - 1) xs ++ get_or xs (length xs - 1) no_group ∷ []
+  pub lens : len_of xs ≡ len_of (take (length xs - 1) xs) + (get_or xs (length xs - 1) no_group).len
+
+pub before_last : (xs : List Group) → 0 < length xs → BeforeLast xs
+before_last xs some =
+    let last = get_or xs (length xs - 1) no_group in
+    let whole = last_split xs some in
+    record {
+      whole = whole;
+      lens = ap len_of whole ∙ len_of-append (take (length xs - 1) xs) (last ∷ []) ∙ omega arith;
+    }
+
+-- WRITTEN before the last one
 pub written_before : (it after : CarriedGroups) (front : List Group) (last : Group) (gs hs : List hb_glyph_info_t) →
     it.groups.items ≡ front ++ last ∷ [] → after.groups.items ≡ last ∷ [] → after.start ≡ it.start + len_of front →
     after.end ≡ it.end → hs ≡ take it.start gs ++ (grouped front (drop it.start gs)
@@ -334,3 +373,190 @@ read_fits it after gs hs index many start_is end_is are fits =
           (least-read gs back (drop (len_of front) (drop it.start hs)) n
           (least_behind front back (drop it.start hs) all))));
     }
+
+-- SHOWN
+pub many_lens : (xs : List Group) (gs : List hb_glyph_info_t) → LeastIn xs gs → length xs ≤ len_of xs
+many_lens [] gs all = omega arith
+many_lens (x ∷ xs) gs all = (let some = all.0.0 in omega (arith, many_lens xs (drop x.len gs) all.1))
+
+pub shown_append : (groups : List Group) (xs ys : List hb_glyph_info_t) → length groups ≤ length xs →
+    shown groups (xs ++ ys) ≡ shown groups xs ++ ys
+shown_append [] xs ys many = refl
+shown_append (group ∷ groups) [] ys many = absurd (omega arith)
+shown_append (group ∷ groups) (x ∷ xs) ys many =
+    let one : hb_glyph_info_t = record x { cluster = group.cluster } in
+    ap (λ l. one ∷ l) (shown_append groups xs ys (omega arith))
+
+pub shown_view : (groups : List Group) (xs : List hb_glyph_info_t) → length groups ≤ length xs →
+    map plain (shown groups xs) ≡ map plain xs
+shown_view [] xs many = refl
+shown_view (group ∷ groups) [] many = absurd (omega arith)
+shown_view (group ∷ groups) (x ∷ xs) many = ap (λ l. plain x ∷ l) (shown_view groups xs (omega arith))
+
+pub record PutBefore (place c : ℕ) (gs : List hb_glyph_info_t) : Type 0 where
+  pub rest : drop place (put_before place (c + 1) gs) ≡ drop place gs
+  pub front : take (place - 1) (put_before place (c + 1) gs) ≡ take (place - 1) gs
+  pub above : EndsAbove c (take place (put_before place (c + 1) gs))
+  pub view : map plain (put_before place (c + 1) gs) ≡ map plain gs
+
+pub puts_before : (place c : ℕ) (gs : List hb_glyph_info_t) → place ≤ length gs → PutBefore place c gs
+puts_before zero c gs within = record {
+  rest = refl;
+  front = refl;
+  above = λ some. absurd (omega arith);
+  view = refl;
+}
+puts_before (suc p) c gs within =
+    let g : hb_glyph_info_t = get_or gs p default_glyph in
+    let x : hb_glyph_info_t = record g { cluster = c + 1 } in
+    let hs = slice_set gs p x in
+    let up : suc p ≡ p + 1 = omega arith in
+    let down : suc p - 1 ≡ p = omega arith in
+    let taken : take (suc p) hs ≡ take p gs ++ x ∷ [] = ap (λ k. take k hs) up ∙ take_more_set gs p x (omega arith) in
+    record {
+      rest = drop-set-lt (suc p) gs p x (omega arith);
+      front = ap (λ k. take k hs) down ∙ sym (take-take p (suc p) hs (omega arith)) ∙ ap (take p) taken
+          ∙ take_at (take p gs) (x ∷ []) p (omega (arith, length-take p gs)) ∙ ap (λ k. take k gs) (sym down);
+      above = λ some. (let last : last_cluster (take (suc p) hs) ≡ c + 1 = ap last_cluster taken
+          ∙ last_of_end (take p gs) (x ∷ []) (omega arith) in omega arith);
+      view = map-set_same plain gs p x default_glyph refl;
+    }
+
+pub are_shown : (count : ℕ) (it after : CarriedGroups) (gs hs : List hb_glyph_info_t) (index place : ℕ) → 0 < count →
+    count ≤ length it.groups.items → index ≡ length it.groups.items - count → place ≡ it.end - count →
+    after ≡ record it { kept = after.kept } → after.kept.items ≡ stretch_of (place - 1) it.end gs →
+    hs ≡ put_before place (first_of it.groups.items + 1)
+    (with_stretch place it.end (shown (drop index it.groups.items)) gs) → AreCarried it gs →
+    AreShown count it gs after hs
+are_shown count it after gs hs index place some many index_is place_is same kept is fits =
+    let items = it.groups.items in
+    let end = it.end in
+    let c = first_of items in
+    let G = drop index items in
+    let Gn : length G ≡ count = omega (arith, length-drop index items) in
+    let lens = many_lens items (drop it.start gs) fits.least in
+    let span = fits.span in
+    let within = fits.within in
+    let room : count ≤ end = omega arith in
+    let mid = with_stretch place end (shown G) gs in
+    let stretch = stretch_of place end gs in
+    let sn : length stretch ≡ count = length-stretch place end gs within ∙ omega arith in
+    let view : map plain mid ≡ map plain gs =
+    map-append plain (take place gs) (shown G stretch ++ drop end gs)
+    ∙ ap (λ l. map plain (take place gs) ++ l) (map-append plain (shown G stretch) (drop end gs)
+    ∙ ap (λ l. l ++ map plain (drop end gs)) (shown_view G stretch (omega arith))
+    ∙ sym (map-append plain stretch (drop end gs)))
+    ∙ sym (map-append plain (take place gs) (stretch ++ drop end gs))
+    ∙ ap (map plain) (three_parts place end gs (omega arith)) in
+    let mn : length mid ≡ length gs = sym (length-map mid plain) ∙ ap length view ∙ length-map gs plain in
+    let tn : length (take place gs) ≡ place = omega (arith, length-take place gs) in
+    let put = puts_before place c mid (omega arith) in
+    let whole : stretch ++ drop end gs ≡ drop place gs =
+    sym (drop_at (take place gs) (stretch ++ drop end gs) place tn)
+    ∙ ap (drop place) (three_parts place end gs (omega arith)) in
+    let rest : drop place hs ≡ shown G (drop place gs) = ap (drop place) is ∙ put.rest
+    ∙ drop_at (take place gs) (shown G stretch ++ drop end gs) place tn
+    ∙ sym (shown_append G stretch (drop end gs) (omega arith)) ∙ ap (shown G) whole in
+    let low : take (place - 1) mid ≡ take (place - 1) gs =
+    take-append-le (place - 1) (take place gs) (shown G stretch ++ drop end gs) (omega arith)
+    ∙ take-take (place - 1) place gs (omega arith) in
+    let shift : (P : ℕ → Type 0) → P place → P (end - count) = λ P. subst P place_is in
+    record {
+      same = same;
+      kept = shift (λ k. after.kept.items ≡ stretch_of (k - 1) end gs) kept;
+      room = room;
+      rest = shift (λ k. drop k hs ≡ shown (drop (length items - count) items) (drop k gs))
+          (rest ∙ ap (λ i. shown (drop i items) (drop place gs)) index_is);
+      front = shift (λ k. take (k - 1) hs ≡ take (k - 1) gs) (ap (take (place - 1)) is ∙ put.front ∙ low);
+      above = shift (λ k. EndsAbove c (take k hs)) (subst (λ l. EndsAbove c (take place l)) (sym is) put.above);
+      view = ap (map plain) is ∙ put.view ∙ view;
+    }
+
+-- the groups themselves are another list, in the same clusters
+pub only_kept : (it after : CarriedGroups) (gs : List hb_glyph_info_t) → after.groups ≡ it.groups →
+    after.start ≡ it.start → after.end ≡ it.end → AreCarried it gs → StillSame it gs after gs
+only_kept it after gs groups_is start_is end_is fits =
+    let items : after.groups.items ≡ it.groups.items = ap (λ v. v.items) groups_is in
+    record {
+      same = ap (λ l. take after.start gs ++ (grouped l (drop after.start gs) ++ drop after.end gs)) items
+          ∙ ap (λ k. take k gs ++ (grouped it.groups.items (drop k gs) ++ drop after.end gs)) start_is
+          ∙ ap (λ k. take it.start gs ++ (grouped it.groups.items (drop it.start gs) ++ drop k gs)) end_is;
+      fits = record {
+        span = omega (arith, ap len_of items, fits.span);
+        within = (let within = fits.within in omega arith);
+        least = subst (λ k. LeastIn after.groups.items (drop k gs)) (sym start_is)
+            (subst (λ l. LeastIn l (drop it.start gs)) (sym items) fits.least);
+      };
+      same_length = refl;
+    }
+
+-- without groups nothing is to be written
+pub none_written : (it : CarriedGroups) (gs : List hb_glyph_info_t) → it.groups.items ≡ [] → it.start ≡ it.end →
+    with_groups it gs ≡ gs
+none_written it gs none same =
+    ap (λ l. take it.start gs ++ (grouped l (drop it.start gs) ++ drop it.end gs)) none
+    ∙ ap (λ k. take it.start gs ++ drop k gs) (sym same) ∙ take-append-drop it.start gs
+
+pub none_carried : (it : CarriedGroups) (gs : List hb_glyph_info_t) → it.groups.items ≡ [] → it.start ≡ it.end →
+    it.end ≤ length gs → AreCarried it gs
+none_carried it gs none same within = record {
+  span = omega (arith, ap len_of none);
+  within = within;
+  least = subst (λ l. LeastIn l (drop it.start gs)) (sym none) tt;
+}
+
+pub first_get : (xs : List Group) → first_of xs ≡ (get_or xs 0 no_group).cluster
+first_get [] = refl
+first_get (x ∷ xs) = refl
+
+pub first_set : (xs : List Group) (y : Group) → 0 < length xs → take 1 (slice_set xs 0 y) ≡ y ∷ []
+first_set [] y some = absurd (omega arith)
+first_set (x ∷ xs) y some = refl
+
+pub joined_still : (it after : CarriedGroups) (gs : List hb_glyph_info_t) → Joined it.groups.items after.groups.items →
+    after.start ≡ it.start → after.end ≡ it.end → AreCarried it gs → StillSame it gs after gs
+joined_still it after gs joined start_is end_is fits =
+    record {
+      same = ap (λ k. take k gs ++ (grouped after.groups.items (drop k gs) ++ drop after.end gs)) start_is
+          ∙ ap (λ k. take it.start gs ++ (grouped after.groups.items (drop it.start gs) ++ drop k gs)) end_is
+          ∙ ap (λ l. take it.start gs ++ (l ++ drop it.end gs)) (joined.same (drop it.start gs));
+      fits = record {
+        span = omega (arith, joined.len, fits.span);
+        within = (let within = fits.within in omega arith);
+        least = subst (λ k. LeastIn after.groups.items (drop k gs)) (sym start_is)
+            (joined.least (drop it.start gs) fits.least);
+      };
+      same_length = refl;
+    }
+
+pub written_by : (it after : CarriedGroups) (gs hs : List hb_glyph_info_t) (n : ℕ) (xs : List Group) (last : Group) →
+    0 < length it.groups.items → n ≡ length it.groups.items → xs ≡ it.groups.items →
+    last ≡ get_or it.groups.items (n - 1) no_group → after.groups.items ≡ take 1 (slice_set it.groups.items 0 last) →
+    after.start ≡ it.end - last.len → after.end ≡ it.end → hs ≡ take it.start gs ++ (grouped (take (n - 1) xs)
+    (drop it.start gs) ++ drop (it.start + len_of (take (n - 1) xs)) gs) → AreCarried it gs → StillSame it gs after hs
+written_by it after gs hs n xs last some n_is xs_is last_is now start_is end_is is fits =
+    let items = it.groups.items in
+    let b = before_last items some in
+    let the_last : last ≡ get_or items (length items - 1) no_group = last_is
+    ∙ ap (λ k. get_or items (k - 1) no_group) n_is in
+    let front : take (n - 1) xs ≡ take (length items - 1) items = ap (take (n - 1)) xs_is
+    ∙ ap (λ k. take (k - 1) items) n_is in
+    written_before it after (take (length items - 1) items) (get_or items (length items - 1) no_group) gs hs b.whole
+    (now ∙ first_set items last some ∙ ap (λ g. g ∷ []) the_last)
+    (omega (arith, ap (λ (g : Group). g.len) the_last, b.lens, fits.span, start_is)) end_is
+    (is ∙ ap (λ l. take it.start gs ++ (grouped l (drop it.start gs) ++ drop (it.start + len_of l) gs)) front) fits
+
+pub taken_is : (count : ℕ) (it : CarriedGroups) (gs hs : List hb_glyph_info_t) (low end : ℕ)
+    (kept : List hb_glyph_info_t) → low ≡ it.end - count - 1 → end ≡ it.end → kept ≡ it.kept.items →
+    hs ≡ with_stretch low end (λ xs. kept) gs → hs ≡ taken_back count it gs
+taken_is count it gs hs low end kept low_is end_is kept_is is =
+    is ∙ ap (λ k. take k gs ++ (kept ++ drop end gs)) low_is
+    ∙ ap (λ k. take (it.end - count - 1) gs ++ (kept ++ drop k gs)) end_is
+    ∙ ap (λ l. take (it.end - count - 1) gs ++ (l ++ drop it.end gs)) kept_is
+
+pub settled : (it after : CarriedGroups) (groups : List Group) (gs : List hb_glyph_info_t) → after.start ≡ it.start →
+    after.end ≡ it.end → after.groups.items ≡ groups → with_groups after gs ≡ with_list it groups gs
+settled it after groups gs start_is end_is are =
+    ap (λ k. take k gs ++ (grouped after.groups.items (drop k gs) ++ drop after.end gs)) start_is
+    ∙ ap (λ k. take it.start gs ++ (grouped after.groups.items (drop it.start gs) ++ drop k gs)) end_is
+    ∙ ap (λ l. take it.start gs ++ (grouped l (drop it.start gs) ++ drop it.end gs)) are

@@ -64,6 +64,13 @@ pub record AreCarried (it : CarriedGroups) (gs : List hb_glyph_info_t) : Type 0 
   pub within : it.end ≤ length gs
   pub least : LeastIn it.groups.items (drop it.start gs)
 
+-- nothing is another one, if the groups were written
+pub record StillSame (it : CarriedGroups) (gs : List hb_glyph_info_t) (after : CarriedGroups)
+    (hs : List hb_glyph_info_t) : Type 0 where
+  pub same : with_groups after hs ≡ with_groups it gs
+  pub fits : AreCarried after hs
+  pub same_length : length hs ≡ length gs
+
 -- glyphs in the clusters of groups, one for each
 abbrev pub shown : List Group → List hb_glyph_info_t → List hb_glyph_info_t
 shown [] gs = gs

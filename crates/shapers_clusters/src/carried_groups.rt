@@ -1,8 +1,8 @@
 //! Runs of glyphs in front of a place where merges go on, each in one cluster, which are written
 //! once.
-ghost use Rattle.std.specs.Prelude.{◌≡◌, ◌<◌, ◌≤◌, ◌+◌, ◌-◌, ◌++◌, ◌∷◌, [], OnOk, OnErr, IsOk, drop, get_or, length, map, take, true};
+ghost use Rattle.std.specs.Prelude.{◌≡◌, ◌<◌, ◌≤◌, ◌+◌, ◌-◌, ◌^◌, ◌++◌, ◌∷◌, [], OnOk, OnErr, IsOk, drop, get_or, length, map, take, true};
 ghost use Rattle.shapers_buffer.specs.Clusters.{in_cluster, with_stretch};
-ghost use Rattle.shapers_clusters.specs.CarriedGroups.{AreCarried, AreShown, GroupsGuarded, IsApart, fallen_groups, first_of, grouped, joined_end, len_of, no_group, put_before, read_back, shown, taken_back, with_groups, with_list};
+ghost use Rattle.shapers_clusters.specs.CarriedGroups.{AreCarried, AreShown, GroupsGuarded, IsApart, StillSame, fallen_groups, first_of, grouped, joined_end, len_of, no_group, put_before, read_back, shown, taken_back, with_groups, with_list};
 
 use crate::into_cluster::IntoCluster;
 use shapers_buffer::buffer::{change_each_in, hb_glyph_info_t, least_cluster};
@@ -68,16 +68,47 @@ impl CarriedGroups {
         requires in_range { end ≤ length glyphs.old }
         ensures { GroupsGuarded first end self.old glyphs.old self.new result glyphs.new }
     {
-        if first < end && self.reach(glyphs, first) && self.is_apart(glyphs) {
-            let count = self.count_from(least_cluster(&glyphs[first..end]));
-            if self.show(glyphs, count).is_ok() {
-                return count;
-            }
+        let count = self.try_guard(glyphs, first, end);
+        if count == 0 {
+            self.write(glyphs);
+            self.start = first;
+            self.end = first;
         }
-        self.write(glyphs);
-        self.start = first;
-        self.end = first;
-        0
+        count
+    }
+
+    // The same, but 0 where that is not to be, and then all is as before.
+    #[inline]
+    fn try_guard(
+        &mut self,
+        glyphs: &mut [hb_glyph_info_t],
+        first: usize,
+        end: usize,
+    ) -> usize
+        requires fits { AreCarried self.old glyphs.old }
+        requires further { self.old.end ≤ first }
+        requires in_order { first ≤ end }
+        requires in_range { end ≤ length glyphs.old }
+        ensures none { result ≡ 0 → StillSame self.old glyphs.old self.new glyphs.new }
+        ensures within { result ≡ 0 → self.new.end ≤ first }
+        ensures some { 0 < result →
+            GroupsGuarded first end self.old glyphs.old self.new result glyphs.new }
+        ensures same_length { length glyphs.new ≡ length glyphs.old }
+    {
+        if first == end {
+            return 0;
+        }
+        if !self.reach(glyphs, first) {
+            return 0;
+        }
+        if !self.is_apart(glyphs) {
+            return 0;
+        }
+        let count = self.count_from(least_cluster(&glyphs[first..end]));
+        match self.show(glyphs, count) {
+            Ok(()) => count,
+            Err(_) => 0,
+        }
     }
 
     /// Behind these merges: takes back the glyphs that stood for `count` groups, and puts the
@@ -103,7 +134,7 @@ impl CarriedGroups {
             return;
         }
         let place = self.end - count;
-        let index = self.groups.len() - count;
+        let index = self.group_count() - count;
         self.read_from(&glyphs[place..self.end], index);
         put_back(self.kept.as_slice(), glyphs, place.saturating_sub(1), self.end);
         self.join(glyphs);
@@ -120,6 +151,14 @@ impl CarriedGroups {
         ensures kept { self.new.kept ≡ self.old.kept }
     {
         read_groups(glyphs, &mut self.groups.as_mut_slice()[index..]);
+    }
+
+    // How many groups there are.
+    #[inline]
+    fn group_count(&self) -> usize
+        ensures { result ≡ length self.now.groups.items }
+    {
+        self.groups.len()
     }
 
     // A group.
@@ -150,7 +189,7 @@ impl CarriedGroups {
                 return false;
             }
         }
-        !self.groups.is_empty()
+        self.group_count() > 0
     }
 
     // Adds the glyph behind the groups.
@@ -168,9 +207,7 @@ impl CarriedGroups {
             len: 1,
             cluster: glyphs[self.end].cluster,
         };
-        if self.groups.push(group).is_err() {
-            return Err(AllocError);
-        }
+        self.groups.push(group)?;
         self.end += 1;
         self.join(glyphs);
         Ok(())
@@ -197,11 +234,11 @@ impl CarriedGroups {
         ensures stops { result < length self.now.groups.items →
             first_of (drop (length self.now.groups.items - result) self.now.groups.items) < least }
     {
-        let mut index = self.groups.len() - 1;
+        let mut index = self.group_count() - 1;
         while index > 0 && self.group(index).cluster >= least {
             index -= 1;
         }
-        self.groups.len() - index
+        self.group_count() - index
     }
 
     // Lets one glyph stand for each of the last `count` groups, and one with another cluster before
@@ -222,7 +259,7 @@ impl CarriedGroups {
         self.kept.truncate(0);
         self.kept
             .extend_from_slice(&glyphs[place.saturating_sub(1)..self.end])?;
-        self.show_from(glyphs, self.groups.len() - count, place);
+        self.show_from(glyphs, self.group_count() - count, place);
         put_before(glyphs, place, self.group(0).cluster + 1);
         Ok(())
     }
@@ -258,8 +295,8 @@ impl CarriedGroups {
         ensures end { self.new.end ≡ self.old.end }
         ensures same_length { length glyphs.new ≡ length glyphs.old }
     {
-        while self.groups.len() >= 2 {
-            let count = self.groups.len();
+        while self.group_count() >= 2 {
+            let count = self.group_count();
             let before = self.group(count - 2);
             let last = self.group(count - 1);
             if before.cluster < last.cluster {
@@ -277,12 +314,12 @@ impl CarriedGroups {
     #[inline]
     fn join_last(&mut self)
         requires two { 2 ≤ length self.old.groups.items }
-        requires span { self.old.start + len_of self.old.groups.items ≡ self.old.end }
+        requires room { len_of self.old.groups.items < 2 ^ 64 }
         ensures groups { self.new.groups.items ≡ joined_end self.old.groups.items }
         ensures start { self.new.start ≡ self.old.start }
         ensures end { self.new.end ≡ self.old.end }
     {
-        let count = self.groups.len();
+        let count = self.group_count();
         let last = self.group(count - 1);
         let before = self.group(count - 2);
         self.groups.truncate(count - 1);
@@ -302,7 +339,7 @@ impl CarriedGroups {
         ensures end { self.new.end ≡ self.old.end }
         ensures same_length { length glyphs.new ≡ length glyphs.old }
     {
-        let before = self.groups.len() - 1;
+        let before = self.group_count() - 1;
         write_groups(&self.groups.as_slice()[..before], glyphs, self.start);
         let last = self.group(before);
         self.groups[0] = last;
