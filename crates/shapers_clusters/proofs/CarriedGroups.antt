@@ -1,7 +1,7 @@
 -- Merges and moves behind groups of glyphs: as if one glyph stood for each of them.
 use Rattle.std.proofs.Common.{ℕ, zero, suc, ◌+◌, ◌-◌, ◌<◌, ◌≤◌, ◌≡◌, ◌≢◌, ◌==◌, ◌&&◌, ◌⊎◌, Bool, inl, inr, if◌then◌else◌, nat_lt, not, true, false, List, [], ◌∷◌, ◌++◌, map, length, get_or, reverse, take, drop, refl, sym, ◌∙◌, ap, subst, arith, append_assoc, length-append, length-take, length-drop}
 use Rattle.std.specs.List.{AllByRecursion, AllZip, list_all}
-use Rattle.std.proofs.lemmas.List.{length-map, length-reverse, reverse-reverse, drop-drop, drop-take, drop_at, take-append-drop, take-take, take_at}
+use Rattle.std.proofs.lemmas.List.{length-map, length-reverse, reverse-reverse, drop-drop, drop-take, drop_at, take-append-drop, take-append-le, take-take, take_at}
 use Rattle.std.proofs.Math.Bool.{and-true}
 use Rattle.std.proofs.lemmas.Bool.{and_parts, cases_Bool, eqb-true}
 use Rattle.std.proofs.lemmas.Bool.Decides.{nat_tests}
@@ -22,7 +22,7 @@ use Rattle.shapers_clusters.specs.Steps.{Step, run_step, run_steps, FitsStep, Fi
 use Rattle.shapers_clusters.proofs.Appended.{assembled, flooded-same, two_sides}
 use Rattle.shapers_clusters.proofs.CarriedRuns.{Change, back_stays, back_within, first_of_fallen, first_taken, flooded_back, starts_behind}
 use Rattle.shapers_clusters.proofs.ClusterMerges.{least-among, least-le}
-use Rattle.shapers_clusters.proofs.Falls.{all_append, all_reverse, flooded-hit, merge-falls}
+use Rattle.shapers_clusters.proofs.Falls.{all_append, all_over, all_reverse, all_weaker, flooded-hit, merge-falls}
 use Rattle.shapers_clusters.proofs.Halves.{Each, drop-past, each-drop, each-pick, each-reverse, each-take, shifted-twice, take-past}
 use Rattle.shapers_clusters.proofs.Merging.{length-merge, merge_cases}
 use Rattle.shapers_clusters.proofs.Picks.{length-pick}
@@ -195,12 +195,36 @@ placed P Gs ys k j i kn jn many =
       long = ap length all ∙ length-append front behind ∙ omega (arith, length-drop j ys);
     }
 
+zip_drop : {X : Type 0} (R : X → X → Type 0) (n : ℕ) (xs ys : List X) → AllZip R xs ys →
+    AllZip R (drop n xs) (drop n ys)
+zip_drop R zero xs ys all = all
+zip_drop R (suc n) [] [] all = tt
+zip_drop R (suc n) [] (y ∷ ys) all = absurd all
+zip_drop R (suc n) (x ∷ xs) [] all = absurd all
+zip_drop R (suc n) (x ∷ xs) (y ∷ ys) all = zip_drop R n xs ys all.1
+
+zip_take : {X : Type 0} (R : X → X → Type 0) (n : ℕ) (xs ys : List X) → AllZip R xs ys →
+    AllZip R (take n xs) (take n ys)
+zip_take R zero xs ys all = tt
+zip_take R (suc n) [] [] all = tt
+zip_take R (suc n) [] (y ∷ ys) all = absurd all
+zip_take R (suc n) (x ∷ xs) [] all = absurd all
+zip_take R (suc n) (x ∷ xs) (y ∷ ys) all = (all.0, zip_take R n xs ys all.1)
+
 -- A change of a list of j + n glyphs, of which j stand for groups, and of k + n glyphs with these groups in
 -- their place.
+abbrev pub NotAbove : hb_glyph_info_t → hb_glyph_info_t → Type 0
+NotAbove g h = h.cluster ≤ g.cluster
+
+not_above : (gs : List hb_glyph_info_t) → AllZip NotAbove gs gs
+not_above [] = tt
+not_above (g ∷ gs) = (omega arith, not_above gs)
+
 pub record Spread (Gs : List (List hb_glyph_info_t)) (P ys all new : List hb_glyph_info_t) : Type 0 where
   pub same_length : length new ≡ length ys
   pub stand : StandFor Gs new
   pub falls : first_cluster new ≤ first_cluster ys
+  pub lower : AllZip NotAbove (take (length Gs) ys) (take (length Gs) new)
   pub is : StopsAt P ys new → all ≡ P ++ spread Gs new
 
 abbrev pub Spreads : ℕ → ℕ → ℕ → Change → Change → Type 0
@@ -246,6 +270,8 @@ merge_spreads level k j s e n some within P Gs ys kn jn yn stand =
       same_length = length-merge level (j + s) (j + e) ys (omega arith);
       stand = stand_fallen Gs ys (merge level (j + s) (j + e) ys) falls stand;
       falls = first_of_fallen ys (merge level (j + s) (j + e) ys) falls;
+      lower = zip_take NotAbove (length Gs) ys (merge level (j + s) (j + e) ys)
+          (all_weaker FallsTo NotAbove (λ x y fell. fell.0) ys (merge level (j + s) (j + e) ys) falls);
       is = λ until. merge_is level (k + s) (k + e) all
           ∙ ap (λ d. if merges level && not (nat_lt d 2) then flood_merged (k + s) (k + e) all else all) i
           ∙ subst (R (if merges level && not (nat_lt ((j + e) - (j + s)) 2) then flood_merged (k + s) (k + e) all else all))
@@ -299,6 +325,8 @@ spreads_then k j n over change then_over then_change first second P Gs ys kn jn 
       same_length = two.same_length ∙ one.same_length;
       stand = two.stand;
       falls = omega arith;
+      lower = all_over NotAbove NotAbove NotAbove (λ x y z one two. omega arith) (take (length Gs) ys)
+          (take (length Gs) mid) (take (length Gs) new) one.lower two.lower;
       is = λ until.
           let here : StopsAt P ys mid = elim until [
             | inl above ↦ inl above
@@ -316,6 +344,7 @@ spreads_nothing k j n P Gs ys kn jn yn stand = record {
   same_length = refl;
   stand = stand;
   falls = omega arith;
+  lower = not_above (take (length Gs) ys);
   is = λ until. refl;
 }
 
@@ -366,6 +395,9 @@ pick_spreads k j s e n step some order within fits P Gs ys kn jn yn stand =
           ∙ wide.as_many ∙ sym yn;
       stand = subst (StandFor Gs) (sym own) (stand_with Gs t tail stand_t);
       falls = omega (arith, first);
+      lower = subst (λ l. AllZip NotAbove (take (length Gs) ys) l) (sym (ap (take (length Gs)) own
+          ∙ take-append-le (length Gs) t tail (omega arith) ∙ take-take (length Gs) (j + s) ys (omega arith)))
+          (not_above (take (length Gs) ys));
       is = λ until. ap (λ d. pick (widened (k + s) (k + e) d step).places all) (sym an)
           ∙ pick-widened (k + s) (k + e) step all (omega arith) (omega arith) within_k
           ∙ ap (λ x. x ++ (pick step.places (stretch_of (k + s) (k + e) all) ++ drop (k + e) all)) at.front
@@ -419,7 +451,7 @@ stay_there : (low : ℕ) (gs : List hb_glyph_info_t) → AllZip (StaysOnSide low
 stay_there low [] = tt
 stay_there low (g ∷ gs) = (((λ _. refl), (λ high. high)), stay_there low gs)
 
-cluster_put : (m : ℕ) (g : hb_glyph_info_t) → (in_cluster m g).cluster ≡ m
+pub cluster_put : (m : ℕ) (g : hb_glyph_info_t) → (in_cluster m g).cluster ≡ m
 cluster_put m g = elim (cases_Bool (g.cluster == m)) [
   | inl same ↦ rw same (eqb-true g.cluster m same)
   | inr other ↦ rw other refl
@@ -500,22 +532,6 @@ from_on_side low [] [] all from = tt
 from_on_side low [] (h ∷ hs) all from = absurd all
 from_on_side low (g ∷ gs) [] all from = absurd all
 from_on_side low (g ∷ gs) (h ∷ hs) all from = (all.0.1 from.0, from_on_side low gs hs all.1 from.1)
-
-zip_drop : {X : Type 0} (R : X → X → Type 0) (n : ℕ) (xs ys : List X) → AllZip R xs ys →
-    AllZip R (drop n xs) (drop n ys)
-zip_drop R zero xs ys all = all
-zip_drop R (suc n) [] [] all = tt
-zip_drop R (suc n) [] (y ∷ ys) all = absurd all
-zip_drop R (suc n) (x ∷ xs) [] all = absurd all
-zip_drop R (suc n) (x ∷ xs) (y ∷ ys) all = zip_drop R n xs ys all.1
-
-zip_take : {X : Type 0} (R : X → X → Type 0) (n : ℕ) (xs ys : List X) → AllZip R xs ys →
-    AllZip R (take n xs) (take n ys)
-zip_take R zero xs ys all = tt
-zip_take R (suc n) [] [] all = tt
-zip_take R (suc n) [] (y ∷ ys) all = absurd all
-zip_take R (suc n) (x ∷ xs) [] all = absurd all
-zip_take R (suc n) (x ∷ xs) (y ∷ ys) all = (all.0, zip_take R n xs ys all.1)
 
 -- a change that leaves the first glyph's cluster, if all from a to b are in clusters above it
 pub record KeepsFirst (low a b : ℕ) (gs new : List hb_glyph_info_t) : Type 0 where
@@ -617,3 +633,12 @@ steps_keep level low a b n (step ∷ steps) some within fits =
     (pick_keeps low a b n step some within one))
     (merge_all_keeps level low a b n step.merged_then within one.then_within))
     (steps_keep level low a b n steps some within fits.1)
+
+-- all of a stretch are in its least cluster or above
+pub from_of_least : (gs : List hb_glyph_info_t) → From (least (clusters gs)) gs
+from_of_least gs = each (least (clusters gs)) gs (λ i inside. least-le (clusters gs) i inside)
+  where
+    each : (low : ℕ) (gs : List hb_glyph_info_t) → ((i : ℕ) → i < length (clusters gs) →
+        low ≤ get_or (clusters gs) i 0) → From low gs
+    each low [] all = tt
+    each low (g ∷ gs) all = (all 0 (omega arith), each low gs (λ i inside. all (suc i) (omega arith)))

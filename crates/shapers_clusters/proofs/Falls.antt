@@ -63,7 +63,7 @@ all_over R S T f (x ∷ xs) [] zs h i = absurd h
 all_over R S T f (x ∷ xs) (y ∷ ys) [] h i = absurd i
 all_over R S T f (x ∷ xs) (y ∷ ys) (z ∷ zs) h i = (f x y z h.0 i.0, all_over R S T f xs ys zs h.1 i.1)
 
-all_weaker : {X Y : Type 0} (R S : X → Y → Type 0) → ((x : X) (y : Y) → R x y → S x y) → (xs : List X) (ys : List Y)
+pub all_weaker : {X Y : Type 0} (R S : X → Y → Type 0) → ((x : X) (y : Y) → R x y → S x y) → (xs : List X) (ys : List Y)
     → AllZip R xs ys → AllZip S xs ys
 all_weaker R S f [] [] h = tt
 all_weaker R S f [] (y ∷ ys) h = absurd h

@@ -18,6 +18,7 @@ pub mod Flagging
 pub mod ViewedFlags
 pub mod GatheredCuts
 pub mod GroupWalk
+pub mod GuardedGroups
 pub mod Halves
 pub mod ClusterMerges
 pub mod KeptPlaces

@@ -1,0 +1,330 @@
+-- Steps behind groups that are shown: what they make of the glyphs with these groups in their clusters.
+use Rattle.std.proofs.Common.{ℕ, zero, suc, ◌+◌, ◌-◌, ◌<◌, ◌≤◌, ◌≡◌, ◌⊎◌, inl, inr, min, List, [], ◌∷◌, ◌++◌, map, length, take, drop, refl, sym, ◌∙◌, ap, subst, arith, append_assoc, length-append, length-take, length-drop}
+use Rattle.std.specs.Prelude.{true}
+use Rattle.std.specs.List.{AllZip}
+use Rattle.std.proofs.lemmas.Bool.Decides.{nat_tests}
+use Rattle.std.proofs.lemmas.List.{append-nil, drop-drop, drop_at, length-map, map-append, take-append-drop, take_at}
+use Rattle.shapers_buffer.specs.declared.buffer.glyph.hb_glyph_info_t.{hb_glyph_info_t}
+use Rattle.shapers_buffer.specs.declared.buffer.level.BufferClusterLevel.{BufferClusterLevel}
+use Rattle.shapers_buffer.specs.ClusterRuns.{none_below}
+use Rattle.shapers_buffer.specs.Clusters.{first_cluster, in_cluster, least, stretch_of}
+use Rattle.shapers_buffer.specs.Glyph.{clusters, plain}
+use Rattle.shapers_buffer.proofs.ClusterLemmas.{length-stretch}
+use Rattle.shapers_clusters.specs.CarriedRuns.{EndsAbove}
+use Rattle.shapers_clusters.specs.CarriedGroups.{AreCarried, AreShown, LeastIn, StandFor, StopsAt, all_of, fallen_groups, first_of, grouped, last_groups, len_of, read_back, shown, spread, with_groups}
+use Rattle.shapers_clusters.specs.declared.carried_groups.CarriedGroups.{CarriedGroups}
+use Rattle.shapers_clusters.specs.declared.carried_groups.Group.{Group}
+use Rattle.shapers_clusters.specs.Steps.{FitSteps, Step, run_steps, widened}
+use Rattle.shapers_clusters.proofs.CarriedGroups.{From, NotAbove, Spreads, cluster_put, from_of_least, length-spread, spread_append, steps_keep, steps_spread}
+use Rattle.shapers_clusters.proofs.Falls.{in_cluster-same}
+use Rattle.shapers_clusters.proofs.GroupWalk.{grouped-append, least_behind, length-grouped, len_of-append}
+
+-- the glyphs of these groups, which open the list
+abbrev pub cut_up : List Group → List hb_glyph_info_t → List (List hb_glyph_info_t)
+cut_up [] gs = []
+cut_up (group ∷ groups) gs = take group.len gs ∷ cut_up groups (drop group.len gs)
+
+length-cut_up : (groups : List Group) (gs : List hb_glyph_info_t) → length (cut_up groups gs) ≡ length groups
+length-cut_up [] gs = refl
+length-cut_up (group ∷ groups) gs = omega (arith, length-cut_up groups (drop group.len gs))
+
+all_of-cut_up : (groups : List Group) (gs : List hb_glyph_info_t) → len_of groups ≤ length gs →
+    all_of (cut_up groups gs) ≡ len_of groups
+all_of-cut_up [] gs within = refl
+all_of-cut_up (group ∷ groups) gs within = omega (
+  arith,
+  length-take group.len gs,
+  all_of-cut_up groups (drop group.len gs) (omega (arith, length-drop group.len gs)),
+)
+
+-- glyphs in the clusters of groups
+abbrev StandAs : List Group → List hb_glyph_info_t → Type 0
+StandAs groups gs = map (λ (g : hb_glyph_info_t). g.cluster) gs ≡ map (λ (group : Group). group.cluster) groups
+
+heads : {X : Type 0} (x y : X) (xs ys : List X) → x ∷ xs ≡ y ∷ ys → (x ≡ y) × (xs ≡ ys)
+heads x y xs ys same = (ap (λ l. first_or x l) same, ap (drop 1) same)
+  where
+    first_or : {X : Type 0} → X → List X → X
+    first_or d [] = d
+    first_or d (x ∷ xs) = x
+
+spread_cut : (groups : List Group) (reps gs rest : List hb_glyph_info_t) → StandAs groups reps →
+    spread (cut_up groups gs) (reps ++ rest) ≡ grouped groups gs ++ rest
+spread_cut [] [] gs rest stood = refl
+spread_cut [] (g ∷ reps) gs rest stood = absurd (cc)
+spread_cut (group ∷ groups) [] gs rest stood = absurd (cc)
+spread_cut (group ∷ groups) (g ∷ reps) gs rest stood =
+    let (one, more) = heads g.cluster group.cluster (map (λ (g : hb_glyph_info_t). g.cluster) reps)
+    (map (λ (group : Group). group.cluster) groups) stood in
+    let put = map (in_cluster group.cluster) (take group.len gs) in
+    ap (λ c. map (in_cluster c) (take group.len gs) ++ spread (cut_up groups (drop group.len gs)) (reps ++ rest)) one
+    ∙ ap (λ l. put ++ l) (spread_cut groups reps (drop group.len gs) rest more)
+    ∙ sym (append_assoc put (grouped groups (drop group.len gs)) rest)
+
+stand_cut : (groups : List Group) (reps gs rest : List hb_glyph_info_t) → StandAs groups reps →
+    len_of groups ≤ length gs → LeastIn groups gs → StandFor (cut_up groups gs) (reps ++ rest)
+stand_cut [] reps gs rest stood within all = tt
+stand_cut (group ∷ groups) [] gs rest stood within all = absurd (cc)
+stand_cut (group ∷ groups) (g ∷ reps) gs rest stood within all =
+    let (one, more) = heads g.cluster group.cluster (map (λ (g : hb_glyph_info_t). g.cluster) reps)
+    (map (λ (group : Group). group.cluster) groups) stood in
+    let some = all.0.0 in
+    ((omega (arith, length-take group.len gs), ap (λ c. none_below c (take group.len gs)) one ∙ all.0.1),
+    stand_cut groups reps (drop group.len gs) rest more (omega (arith, length-drop group.len gs)) all.1)
+
+shown_as : (groups : List Group) (gs : List hb_glyph_info_t) → length groups ≤ length gs →
+    StandAs groups (take (length groups) (shown groups gs))
+shown_as [] gs many = refl
+shown_as (group ∷ groups) [] many = absurd (omega arith)
+shown_as (group ∷ groups) (g ∷ gs) many = ap (λ l. group.cluster ∷ l) (shown_as groups gs (omega arith))
+
+shown_rest : (groups : List Group) (gs : List hb_glyph_info_t) → length groups ≤ length gs →
+    drop (length groups) (shown groups gs) ≡ drop (length groups) gs
+shown_rest [] gs many = refl
+shown_rest (group ∷ groups) [] many = absurd (omega arith)
+shown_rest (group ∷ groups) (g ∷ gs) many = shown_rest groups gs (omega arith)
+
+-- each glyph as a group
+abbrev alone : List hb_glyph_info_t → List (List hb_glyph_info_t)
+alone gs = map (λ (g : hb_glyph_info_t). g ∷ []) gs
+
+all_of-alone : (gs : List hb_glyph_info_t) → all_of (alone gs) ≡ length gs
+all_of-alone [] = refl
+all_of-alone (g ∷ gs) = omega (arith, all_of-alone gs)
+
+own_cluster : (g : hb_glyph_info_t) → in_cluster g.cluster g ≡ g
+own_cluster g = in_cluster-same g
+
+spread_alone : (gs rest : List hb_glyph_info_t) → spread (alone gs) (gs ++ rest) ≡ gs ++ rest
+spread_alone [] rest = refl
+spread_alone (g ∷ gs) rest = ap (λ x. x ∷ spread (alone gs) (gs ++ rest)) (own_cluster g)
+    ∙ ap (λ l. g ∷ l) (spread_alone gs rest)
+
+stand_alone : (gs rest : List hb_glyph_info_t) → StandFor (alone gs) (gs ++ rest)
+stand_alone [] rest = tt
+stand_alone (g ∷ gs) rest = ((omega arith, own g), stand_alone gs rest)
+  where
+    own : (g : hb_glyph_info_t) → none_below g.cluster (g ∷ []) ≡ true
+    own g = grind (arith, nat_tests)
+
+-- what they are read as
+clusters_alone : (gs xs : List hb_glyph_info_t) → length gs ≡ length xs →
+    map (λ (g : hb_glyph_info_t). g.cluster) (spread (alone gs) xs) ≡ map (λ (g : hb_glyph_info_t). g.cluster) xs
+clusters_alone [] [] many = refl
+clusters_alone [] (x ∷ xs) many = absurd (omega arith)
+clusters_alone (g ∷ gs) [] many = absurd (omega arith)
+clusters_alone (g ∷ gs) (x ∷ xs) many =
+    ap (λ c. c ∷ map (λ (g : hb_glyph_info_t). g.cluster) (spread (alone gs) xs)) (cluster_put x.cluster g)
+    ∙ ap (λ l. x.cluster ∷ l) (clusters_alone gs xs (omega arith))
+
+pub read_clusters : (xs ys : List hb_glyph_info_t) (groups : List Group) →
+    map (λ (g : hb_glyph_info_t). g.cluster) xs ≡ map (λ (g : hb_glyph_info_t). g.cluster) ys →
+    read_back xs groups ≡ read_back ys groups
+read_clusters [] [] groups same = refl
+read_clusters [] (y ∷ ys) groups same = absurd (cc)
+read_clusters (x ∷ xs) [] groups same = absurd (cc)
+read_clusters (x ∷ xs) (y ∷ ys) [] same = refl
+read_clusters (x ∷ xs) (y ∷ ys) (group ∷ groups) same =
+    let (one, more) = heads x.cluster y.cluster (map (λ (g : hb_glyph_info_t). g.cluster) xs)
+    (map (λ (g : hb_glyph_info_t). g.cluster) ys) same in
+    ap (λ c. (record group { cluster = min group.cluster c }) ∷ read_back xs groups) one
+    ∙ ap (λ l. (record group { cluster = min group.cluster y.cluster }) ∷ l) (read_clusters xs ys groups more)
+
+spread_read : (groups : List Group) (reps new gs : List hb_glyph_info_t) → StandAs groups reps →
+    AllZip NotAbove reps new → grouped (read_back new groups) gs ≡ spread (cut_up groups gs) new
+spread_read [] [] [] gs stood lower = refl
+spread_read [] [] (n ∷ new) gs stood lower = absurd lower
+spread_read [] (g ∷ reps) new gs stood lower = absurd (cc)
+spread_read (group ∷ groups) [] new gs stood lower = absurd (cc)
+spread_read (group ∷ groups) (g ∷ reps) [] gs stood lower = absurd lower
+spread_read (group ∷ groups) (g ∷ reps) (n ∷ new) gs stood lower =
+    let (one, more) = heads g.cluster group.cluster (map (λ (g : hb_glyph_info_t). g.cluster) reps)
+    (map (λ (group : Group). group.cluster) groups) stood in
+    let fell = lower.0 in
+    let is : min group.cluster n.cluster ≡ n.cluster = omega arith in
+    ap (λ c. map (in_cluster c) (take group.len gs) ++ grouped (read_back new groups) (drop group.len gs)) is
+    ∙ ap (λ l. map (in_cluster n.cluster) (take group.len gs) ++ l)
+    (spread_read groups reps new (drop group.len gs) more lower.1)
+
+-- THE STEPS. What they make of the glyphs with the groups in their clusters, by what they make of those that are
+-- shown.
+pub record StepsBehind (before : CarriedGroups) (count : ℕ) (between hs meant new : List hb_glyph_info_t) : Type 0 where
+  pub same_length : length new ≡ length between
+  pub front : take (before.end - count) new ≡ take (before.end - count) hs
+  pub meant_is : meant ≡ take before.start between
+      ++ (grouped (fallen_groups count before new) (drop before.start between) ++ drop before.end new)
+
+pub steps_behind : (level : BufferClusterLevel) (first end count : ℕ) (steps : List Step)
+    (before after : CarriedGroups) (between hs : List hb_glyph_info_t) → first ≤ end → end ≤ length between →
+    FitSteps (end - first) steps → AreCarried before between → before.end ≡ first → 0 < count →
+    count ≤ length before.groups.items → AreShown count before between after hs →
+    ((first_of (last_groups count before) < least (clusters (stretch_of first end between)))
+    ⊎ ((count ≡ length before.groups.items) × EndsAbove (first_of before.groups.items)
+    (take before.start between))) → (let over = run_steps level (map (widened first end (length between)) steps) in
+    StepsBehind before count between hs (over (with_groups before between)) (over hs))
+steps_behind level first end count steps before after between hs order within fit fits at some many is stops =
+    let items = before.groups.items in
+    let n = length items in
+    let front = take (n - count) items in
+    let last = drop (n - count) items in
+    let e = end - first in
+    let m = length between - first in
+    let place = before.end - count in
+    let span = fits.span in
+    let room = is.room in
+    let up : place + count ≡ before.end = omega arith in
+    let whole : items ≡ front ++ last = sym (take-append-drop (n - count) items) in
+    let ln : length last ≡ count = omega (arith, length-drop (n - count) items) in
+    let lens : len_of items ≡ len_of front + len_of last = ap len_of whole ∙ len_of-append front last in
+    let D = drop before.start between in
+    let dn : length D ≡ length between - before.start = length-drop before.start between in
+    let B = drop (len_of front) D in
+    let bn : length B ≡ length between - before.start - len_of front = length-drop (len_of front) D
+    ∙ ap (λ k. k - len_of front) dn in
+    let rest = drop first between in
+    let rest_n : length rest ≡ m = length-drop first between in
+    -- those that are shown
+    let tail = drop place between in
+    let tail_n : length tail ≡ count + m = length-drop place between ∙ omega arith in
+    let reps = take count (shown last tail) in
+    let shown_n : length (shown last tail) ≡ length tail = long last tail (omega arith) in
+    let reps_n : length reps ≡ count = omega (arith, length-take count (shown last tail)) in
+    let behind : drop count (shown last tail) ≡ rest = ap (λ k. drop k (shown last tail)) (sym ln)
+    ∙ shown_rest last tail (omega arith) ∙ ap (λ k. drop k tail) ln ∙ drop-drop count place between
+    ∙ ap (λ k. drop k between) (up ∙ at) in
+    let ys = reps ++ rest in
+    let ys_is : ys ≡ shown last tail = ap (λ l. reps ++ l) (sym behind) ∙ take-append-drop count (shown last tail) in
+    let yn : length ys ≡ count + m = length-append reps rest ∙ omega arith in
+    let stood : StandAs last reps = ap (λ k. map (λ (g : hb_glyph_info_t). g.cluster) (take k (shown last tail))) (sym ln)
+    ∙ shown_as last tail (omega arith) in
+    let low_front = take place hs in
+    let hn : length hs ≡ length between = sym (length-map hs plain) ∙ ap length is.view ∙ length-map between plain in
+    let front_n : length low_front ≡ place = omega (arith, length-take place hs) in
+    let hs_is : low_front ++ ys ≡ hs = ap (λ l. low_front ++ l) (ys_is ∙ sym is.rest) ∙ take-append-drop place hs in
+    -- the groups
+    let P = take before.start between ++ grouped front D in
+    let Gs = cut_up last B in
+    let gn : length Gs ≡ count = length-cut_up last B ∙ ln in
+    let pn : length P + all_of Gs ≡ first = omega (
+      arith,
+      length-append (take before.start between) (grouped front D),
+      length-take before.start between,
+      length-grouped front D (omega arith),
+      all_of-cut_up last B (omega arith),
+      fits.within,
+    ) in
+    let meant : P ++ spread Gs ys ≡ with_groups before between =
+    ap (λ l. P ++ l) (spread_cut last reps B rest stood)
+    ∙ append_assoc (take before.start between) (grouped front D) (grouped last B ++ rest)
+    ∙ ap (λ l. take before.start between ++ l) (sym (append_assoc (grouped front D) (grouped last B) rest)
+    ∙ ap (λ l. l ++ rest) (sym (ap (λ l. grouped l D) whole ∙ grouped-append front last D))
+    ∙ ap (λ k. grouped items D ++ drop k between) (sym at)) in
+    let stand : StandFor Gs ys = stand_cut last reps B rest stood (omega arith)
+    (least_behind front last D (subst (λ l. LeastIn l D) whole fits.least)) in
+    let over = run_steps level (map (widened first end (length between)) steps) in
+    let change = run_steps level (map (widened (count + 0) (count + e) (count + m)) steps) in
+    let placed_over : (a b c : ℕ) → a ≡ first → b ≡ end → c ≡ length between →
+    run_steps level (map (widened a b c) steps) ≡ over = λ a b c x y z.
+    ap (λ a. run_steps level (map (widened a b c) steps)) x
+    ∙ ap (λ b. run_steps level (map (widened first b c) steps)) y
+    ∙ ap (λ c. run_steps level (map (widened first end c) steps)) z in
+    let e_is : e - 0 ≡ e = omega arith in
+    let c_same : count + 0 ≡ count = omega arith in
+    let c_end : count + 0 + e ≡ count + e = omega arith in
+    let c_long : (count + e) - count ≡ e = omega arith in
+    let spreads = subst (λ f. Spreads first count m f change)
+    (placed_over (first + 0) (first + e) (first + m) (omega arith) (omega arith) (omega arith))
+    (steps_spread level first count 0 e m steps some (omega arith) (omega arith)
+    (subst (λ k. FitSteps k steps) (sym e_is) fit)) in
+    let one = spreads P Gs ys pn gn yn stand in
+    let two = spreads low_front (alone reps) ys
+    (omega (arith, all_of-alone reps)) (length-map reps (λ g. g ∷ []) ∙ reps_n) yn (stand_alone reps rest) in
+    let new = change ys in
+    -- they stop there
+    let first_is : first_cluster ys ≡ first_of last = first_of_reps reps rest last stood (omega arith) in
+    let until : StopsAt P ys new × StopsAt low_front ys new = elim stops [
+      | inl below ↦
+          let mid : stretch_of (count + 0) (count + e) ys ≡ stretch_of first end between =
+          ap (λ k. take ((count + e) - k) (drop k ys)) c_same
+          ∙ ap (λ k. take k (drop count ys)) c_long
+          ∙ ap (take e) (drop_at reps rest count reps_n) in
+          let low = least (clusters (stretch_of first end between)) in
+          let keeps = steps_keep level low (count + 0) e (count + m) steps (omega arith) (omega arith) fit ys yn
+          (subst (From low) (sym (ap (λ k. stretch_of (count + 0) k ys) c_end ∙ mid))
+          (from_of_least (stretch_of first end between))) (omega arith) in
+          let same : first_cluster new ≡ first_cluster ys =
+          ap (λ k. first_cluster (run_steps level (map (widened (count + 0) k (count + m)) steps) ys)) (sym c_end)
+          ∙ keeps.first in
+          (inr same, inr same)
+      | inr above ↦
+          let gone : n - count ≡ 0 = omega (arith, above.0) in
+          let none : front ≡ [] = ap (λ k. take k items) gone in
+          let start_P : P ≡ take before.start between =
+          ap (λ l. take before.start between ++ grouped l D) none ∙ append-nil (take before.start between) in
+          let all : last ≡ items = ap (λ k. drop k items) gone in
+          let c_is : first_of items ≡ first_cluster ys = sym (first_is ∙ ap first_of all) in (
+            inl (subst (λ l. EndsAbove (first_cluster ys) l) (sym start_P)
+                (subst (λ c. EndsAbove c (take before.start between)) c_is above.1)),
+            inl (subst (λ c. EndsAbove c low_front) c_is is.above),
+          )
+    ] in
+    let new_n = one.same_length in
+    let Y = over hs in
+    let y_is : Y ≡ low_front ++ spread (alone reps) new = ap over (sym hs_is ∙ ap (λ l. low_front ++ l)
+    (sym (spread_alone reps rest))) ∙ two.is until.1 in
+    let reps_new = take count new in
+    let rn : length reps_new ≡ count = omega (arith, length-take count new) in
+    let an : length (alone reps) ≡ count = length-map reps (λ g. g ∷ []) ∙ reps_n in
+    let new_is : new ≡ reps_new ++ drop count new = sym (take-append-drop count new) in
+    let parts : Y ≡ low_front ++ (spread (alone reps) reps_new ++ drop count new) = y_is
+    ∙ ap (λ l. low_front ++ spread (alone reps) l) new_is
+    ∙ ap (λ l. low_front ++ l) (spread_append (alone reps) reps_new (drop count new) (omega arith)) in
+    let sn : length (spread (alone reps) reps_new) ≡ count =
+    length-spread (alone reps) reps_new (omega arith) ∙ all_of-alone reps ∙ reps_n in
+    let from : drop place Y ≡ spread (alone reps) reps_new ++ drop count new = ap (drop place) parts
+    ∙ drop_at low_front (spread (alone reps) reps_new ++ drop count new) place front_n in
+    let size : before.end - place ≡ count = omega arith in
+    let S = stretch_of place before.end Y in
+    let s_is : S ≡ spread (alone reps) reps_new = ap (λ k. take k (drop place Y)) size ∙ ap (take count) from
+    ∙ take_at (spread (alone reps) reps_new) (drop count new) count sn in
+    let after_is : drop before.end Y ≡ drop count new = ap (λ k. drop k Y) (sym up)
+    ∙ sym (drop-drop count place Y) ∙ ap (drop count) from
+    ∙ drop_at (spread (alone reps) reps_new) (drop count new) count sn in
+    let read : read_back S last ≡ read_back reps_new last =
+    read_clusters S reps_new last (ap (map (λ (g : hb_glyph_info_t). g.cluster)) s_is
+    ∙ clusters_alone reps reps_new (omega arith)) in
+    let lower : AllZip NotAbove reps reps_new =
+    subst (λ l. AllZip NotAbove l reps_new) (ap (λ k. take k ys) gn ∙ take_at reps rest count reps_n)
+    (subst (λ k. AllZip NotAbove (take (length Gs) ys) (take k new)) gn one.lower) in
+    let F = fallen_groups count before Y in
+    let made : grouped F D ≡ grouped front D ++ spread Gs reps_new = grouped-append front (read_back S last) D
+    ∙ ap (λ l. grouped front D ++ grouped l B) read
+    ∙ ap (λ l. grouped front D ++ l) (spread_read last reps reps_new B stood lower) in
+    record {
+      same_length = ap length parts ∙ length-append low_front (spread (alone reps) reps_new ++ drop count new)
+          ∙ omega (
+            arith,
+            length-append (spread (alone reps) reps_new) (drop count new),
+            length-drop count new,
+          );
+      front = ap (take place) parts ∙ take_at low_front (spread (alone reps) reps_new ++ drop count new) place front_n;
+      meant_is = ap over (sym meant) ∙ one.is until.0
+          ∙ ap (λ l. P ++ spread Gs l) new_is
+          ∙ ap (λ l. P ++ l) (spread_append Gs reps_new (drop count new) (omega arith))
+          ∙ append_assoc (take before.start between) (grouped front D) (spread Gs reps_new ++ drop count new)
+          ∙ ap (λ l. take before.start between ++ l) (sym (append_assoc (grouped front D) (spread Gs reps_new)
+          (drop count new)) ∙ ap (λ l. l ++ drop count new) (sym made) ∙ ap (λ l. grouped F D ++ l) (sym after_is));
+    }
+  where
+    long : (groups : List Group) (gs : List hb_glyph_info_t) → length groups ≤ length gs →
+        length (shown groups gs) ≡ length gs
+    long [] gs few = refl
+    long (group ∷ groups) [] few = absurd (omega arith)
+    long (group ∷ groups) (g ∷ gs) few = omega (arith, long groups gs (omega arith))
+    first_of_reps : (reps rest : List hb_glyph_info_t) (groups : List Group) → StandAs groups reps → 0 < length reps →
+        first_cluster (reps ++ rest) ≡ first_of groups
+    first_of_reps [] rest groups stood more = absurd (omega arith)
+    first_of_reps (g ∷ reps) rest [] stood more = absurd (cc)
+    first_of_reps (g ∷ reps) rest (group ∷ groups) stood more =
+        (heads g.cluster group.cluster (map (λ (g : hb_glyph_info_t). g.cluster) reps)
+        (map (λ (group : Group). group.cluster) groups) stood).0
