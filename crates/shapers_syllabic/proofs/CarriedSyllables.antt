@@ -1,25 +1,26 @@
--- A syllable that is reordered behind a run that isn't written: the same as behind the run in its cluster.
-use Rattle.std.proofs.Common.{ℕ, append_assoc, inl, inr, ◌+◌, ◌-◌, ◌%◌, ◌<◌, ◌≤◌, ◌≡◌, List, [], ◌∷◌, ◌++◌, map, length, get_or, slice_set, take, drop, refl, sym, ◌∙◌, ap, subst, arith, length-append, length-take, length-drop}
+-- A syllable that is reordered behind groups that aren't written: the same as behind these in their clusters.
+use Rattle.std.proofs.Common.{ℕ, append_assoc, inl, inr, ◌⊎◌, ◌+◌, ◌-◌, ◌%◌, ◌<◌, ◌≤◌, ◌≡◌, ◌==◌, List, [], ◌∷◌, ◌++◌, map, length, take, drop, take-add, refl, sym, ◌∙◌, ap, subst, arith, length-append, length-take, length-drop}
 use Rattle.std.specs.Prelude.{Bool, false, Option}
 use Rattle.std.specs.List.{list_any}
+use Rattle.std.proofs.lemmas.List.{drop-append-le, drop-drop, drop-map, drop_at, length-map, map-append, take-append-drop, take-append-le, take-map, take-take}
 use Rattle.std.proofs.Math.Nat.{eq-or-lt_of_le}
-use Rattle.std.proofs.Math.Seq.{map-set_same}
-use Rattle.std.proofs.lemmas.List.{drop-drop, drop-set-lt, drop_at, length-map, length-set, drop-map, map-append, take-append-drop, take-append-le, take-map, take-take, take_at, take_more, take_more_set}
+use Rattle.std.proofs.lemmas.Bool.{cases_Bool}
 use Rattle.shapers_buffer.specs.declared.buffer.glyph.hb_glyph_info_t.{hb_glyph_info_t}
+use Rattle.shapers_buffer.specs.declared.buffer.level.BufferClusterLevel.{BufferClusterLevel}
 use Rattle.shapers_buffer.specs.declared.buffer.tag.Script.{Script}
 use Rattle.shapers_buffer.specs.Buffer.{Buffer, but_places}
 use Rattle.shapers_buffer.specs.ClusterRuns.{none_below}
-use Rattle.shapers_buffer.specs.Clusters.{first_cluster, in_cluster, last_cluster, stretch_of, with_stretch}
-use Rattle.shapers_buffer.specs.Glyph.{default_glyph, order_view, plain, without_flags}
+use Rattle.shapers_buffer.specs.Clusters.{in_cluster, least, stretch_of, with_stretch}
+use Rattle.shapers_buffer.specs.Glyph.{clusters, order_view, plain, without_flags}
 use Rattle.shapers_buffer.specs.Syllables.{first_syllable_len}
 use Rattle.shapers_buffer.proofs.ClusterLemmas.{length-stretch, map-stretch}
-use Rattle.shapers_buffer.proofs.OneCluster.{last_of_end}
-use Rattle.shapers_clusters.specs.CarriedRuns.{IsCarried, carried_cluster, with_carried}
-use Rattle.shapers_clusters.specs.declared.carried_runs.CarriedRun.{CarriedRun}
+use Rattle.shapers_clusters.specs.CarriedGroups.{AreCarried, AreShown, GroupsGuarded, LeastIn, fallen_groups, first_of, grouped, last_groups, len_of, read_back, taken_back, with_groups, with_list}
+use Rattle.shapers_clusters.specs.CarriedRuns.{EndsAbove}
+use Rattle.shapers_clusters.specs.declared.carried_groups.CarriedGroups.{CarriedGroups}
+use Rattle.shapers_clusters.specs.declared.carried_groups.Group.{Group}
 use Rattle.shapers_clusters.specs.Steps.{FitSteps, Step, run_steps, widened}
-use Rattle.shapers_clusters.proofs.CarriedGlyphs.{none_carried, parts_of_run, run_changed, run_kept}
-use Rattle.shapers_clusters.proofs.CarriedRuns.{Carries, steps_carry}
-use Rattle.shapers_clusters.proofs.Merging.{order_view-with_run}
+use Rattle.shapers_clusters.proofs.GroupWalk.{len_of-append, len_of-read, none_carried, none_written}
+use Rattle.shapers_clusters.proofs.GuardedGroups.{read_clusters, steps_behind}
 use Rattle.shapers_clusters.proofs.Moves.{falls-run_steps}
 use Rattle.shapers_clusters.proofs.Widened.{all_fit-widened}
 use Rattle.shapers_syllabic.proofs.LinkedSyllables.{Leads, Link, Meaning, Orders, PermutesNumbers, Stays, ToLink, linked_end, linked_passes, next_syllable, numbers-view, past_changing, takes_next, to_changing, to_link_all}
@@ -28,7 +29,7 @@ use Rattle.shapers_syllabic.specs.declared.ot_shaper_syllabic.reordering.Carryin
 use Rattle.shapers_syllabic.specs.Borders.{MeetAtBorder}
 use Rattle.shapers_syllabic.specs.Reordering.{SyllableReordered, SyllablesLinked, TakesText, carried, glyph_numbers}
 use Rattle.shapers_syllabic.specs.ReorderingLaws.{ReorderLaws}
-use Rattle.shapers_syllabic.specs.ReorderingWalk.{CarryingFits, Guarded, IsNextChanging, ReorderedBehind, Settled, guarded_at, run_written}
+use Rattle.shapers_syllabic.specs.ReorderingWalk.{CanSettle, CarryingFits, GroupsSettled, IsNextChanging, ReorderedBehind, groups_written}
 
 abbrev zip_with : {X Y Z : Type 0} → (X → Y → Z) → List X → List Y → List Z
 zip_with f [] ys = []
@@ -55,38 +56,99 @@ both_views gs hs same also =
     all (g ∷ gs) = ap (λ x. x ∷ zip_with rebuilt (map plain gs) (map carried gs)) (rebuilt_is g)
         ∙ ap (λ xs. g ∷ xs) (all gs)
 
-pub order_view-carried : (run : CarriedRun) (gs : List hb_glyph_info_t) → run.start ≤ run.end →
-    order_view (with_carried run gs) ≡ order_view gs
-order_view-carried run gs order =
-    order_view-with_run (record { start = run.start; end = run.end; cluster = carried_cluster run gs }) gs order
+-- GROUPS: the order view of the glyphs in their clusters, and what they read
+plain-put : (m : ℕ) (g : hb_glyph_info_t) → plain (in_cluster m g) ≡ plain g
+plain-put m g = elim (cases_Bool (g.cluster == m)) [
+  | inl same ↦ rw same refl
+  | inr other ↦ (let twice : without_flags (without_flags g.mask) ≡ without_flags g.mask = omega arith in
+      rw other (ap (λ (x : ℕ). record g { cluster = 0; mask = x }) twice))
+]
 
-order_view-guarded : (place cluster : ℕ) (gs : List hb_glyph_info_t) →
-    order_view (guarded_at place cluster gs) ≡ order_view gs
-order_view-guarded place cluster gs =
-    let g : hb_glyph_info_t = get_or gs place default_glyph in
-    map-set_same plain gs place (record g { cluster = cluster }) default_glyph refl
+plain-all : (m : ℕ) (gs : List hb_glyph_info_t) → map plain (map (in_cluster m) gs) ≡ map plain gs
+plain-all m [] = refl
+plain-all m (g ∷ gs) = ap (λ x. x ∷ map plain (map (in_cluster m) gs)) (plain-put m g)
+    ∙ ap (λ l. plain g ∷ l) (plain-all m gs)
 
--- THE WALK looks at what stands behind the run
-pub behind_carried : (run : CarriedRun) (start : ℕ) (gs : List hb_glyph_info_t) → run.start ≤ run.end →
-    run.end ≤ start → run.end ≤ length gs → drop start (with_carried run gs) ≡ drop start gs
-behind_carried run start gs order further within =
-    let f : List hb_glyph_info_t → List hb_glyph_info_t = map (in_cluster (carried_cluster run gs)) in
-    let put = f (stretch_of run.start run.end gs) in
-    let front = take run.start gs ++ put in
-    let n : length front ≡ run.end = length-append (take run.start gs) put
-    ∙ omega (
-      arith,
-      length-take run.start gs,
-      length-map (stretch_of run.start run.end gs)
-          (in_cluster (carried_cluster run gs)),
-      length-stretch run.start run.end gs within,
-    ) in
-    let up : run.end + (start - run.end) ≡ start = omega arith in
-    let behind : drop run.end (with_carried run gs) ≡ drop run.end gs =
-    ap (drop run.end) (sym (append_assoc (take run.start gs) put (drop run.end gs)))
-    ∙ drop_at front (drop run.end gs) run.end n in
-    ap (λ i. drop i (with_carried run gs)) (sym up) ∙ sym (drop-drop (start - run.end) run.end (with_carried run gs))
-    ∙ ap (drop (start - run.end)) behind ∙ drop-drop (start - run.end) run.end gs ∙ ap (λ i. drop i gs) up
+plain-grouped : (groups : List Group) (gs : List hb_glyph_info_t) →
+    map plain (grouped groups gs) ≡ map plain (take (len_of groups) gs)
+plain-grouped [] gs = refl
+plain-grouped (group ∷ groups) gs =
+    let put = map (in_cluster group.cluster) (take group.len gs) in
+    map-append plain put (grouped groups (drop group.len gs))
+    ∙ ap (λ l. l ++ map plain (grouped groups (drop group.len gs))) (plain-all group.cluster (take group.len gs))
+    ∙ ap (λ l. map plain (take group.len gs) ++ l) (plain-grouped groups (drop group.len gs))
+    ∙ sym (map-append plain (take group.len gs) (take (len_of groups) (drop group.len gs)))
+    ∙ ap (map plain) (sym (take-add group.len (len_of groups) gs))
+
+grouped_front : (groups : List Group) (xs ys : List hb_glyph_info_t) → len_of groups ≤ length xs →
+    grouped groups (xs ++ ys) ≡ grouped groups xs
+grouped_front [] xs ys within = refl
+grouped_front (group ∷ groups) xs ys within =
+    ap (λ l. map (in_cluster group.cluster) l ++ grouped groups (drop group.len (xs ++ ys)))
+    (take-append-le group.len xs ys (omega arith))
+    ∙ ap (λ l. map (in_cluster group.cluster) (take group.len xs) ++ grouped groups l)
+    (drop-append-le group.len xs ys (omega arith))
+    ∙ ap (λ l. map (in_cluster group.cluster) (take group.len xs) ++ l)
+    (grouped_front groups (drop group.len xs) ys (omega (arith, length-drop group.len xs)))
+
+least_other : (groups : List Group) (xs ys zs : List hb_glyph_info_t) → len_of groups ≤ length xs →
+    LeastIn groups (xs ++ ys) → LeastIn groups (xs ++ zs)
+least_other [] xs ys zs within all = tt
+least_other (group ∷ groups) xs ys zs within all =
+    let same : take group.len (xs ++ ys) ≡ take group.len (xs ++ zs) = take-append-le group.len xs ys (omega arith)
+    ∙ sym (take-append-le group.len xs zs (omega arith)) in
+    let more : LeastIn groups (drop group.len xs ++ ys) =
+    subst (LeastIn groups) (drop-append-le group.len xs ys (omega arith)) all.1 in
+    ((all.0.0, ap (none_below group.cluster) (sym same) ∙ all.0.1),
+    subst (LeastIn groups) (sym (drop-append-le group.len xs zs (omega arith)))
+    (least_other groups (drop group.len xs) ys zs (omega (arith, length-drop group.len xs)) more))
+
+-- the first part in the clusters of groups
+abbrev front_of : CarriedGroups → List Group → List hb_glyph_info_t → List hb_glyph_info_t
+front_of it groups gs = take it.start gs ++ grouped groups (drop it.start gs)
+
+front_view : (it : CarriedGroups) (groups : List Group) (gs : List hb_glyph_info_t) →
+    it.start + len_of groups ≡ it.end → map plain (front_of it groups gs) ≡ take it.end (map plain gs)
+front_view it groups gs span =
+    map-append plain (take it.start gs) (grouped groups (drop it.start gs))
+    ∙ ap (λ l. map plain (take it.start gs) ++ l) (plain-grouped groups (drop it.start gs))
+    ∙ sym (map-append plain (take it.start gs) (take (len_of groups) (drop it.start gs)))
+    ∙ ap (map plain) (sym (take-add it.start (len_of groups) gs) ∙ ap (λ k. take k gs) span)
+    ∙ sym (take-map plain it.end gs)
+
+list_is : (it : CarriedGroups) (groups : List Group) (gs : List hb_glyph_info_t) →
+    with_list it groups gs ≡ front_of it groups gs ++ drop it.end gs
+list_is it groups gs = sym (append_assoc (take it.start gs) (grouped groups (drop it.start gs)) (drop it.end gs))
+
+pub order_view-groups : (it : CarriedGroups) (gs : List hb_glyph_info_t) →
+    it.start + len_of it.groups.items ≡ it.end → order_view (with_groups it gs) ≡ order_view gs
+order_view-groups it gs span =
+    ap (map plain) (list_is it it.groups.items gs)
+    ∙ map-append plain (front_of it it.groups.items gs) (drop it.end gs)
+    ∙ ap (λ l. l ++ map plain (drop it.end gs)) (front_view it it.groups.items gs span)
+    ∙ ap (λ l. take it.end (map plain gs) ++ l) (sym (drop-map plain it.end gs))
+    ∙ take-append-drop it.end (map plain gs)
+
+pub length_groups : (it : CarriedGroups) (gs : List hb_glyph_info_t) →
+    it.start + len_of it.groups.items ≡ it.end → length (with_groups it gs) ≡ length gs
+length_groups it gs span = sym (length-map (with_groups it gs) plain) ∙ ap length (order_view-groups it gs span)
+    ∙ length-map gs plain
+
+-- THE WALK looks at what stands behind them
+pub behind_groups : (it : CarriedGroups) (start : ℕ) (gs : List hb_glyph_info_t) → AreCarried it gs → it.end ≤ start →
+    drop start (with_groups it gs) ≡ drop start gs
+behind_groups it start gs fits further =
+    let front = front_of it it.groups.items gs in
+    let span = fits.span in
+    let within = fits.within in
+    let n : length front ≡ it.end = sym (length-map front plain)
+    ∙ ap length (front_view it it.groups.items gs span)
+    ∙ omega (arith, length-take it.end (map plain gs), length-map gs plain) in
+    let up : it.end + (start - it.end) ≡ start = omega arith in
+    ap (λ k. drop k (with_groups it gs)) (sym up) ∙ sym (drop-drop (start - it.end) it.end (with_groups it gs))
+    ∙ ap (drop (start - it.end)) (ap (drop it.end) (list_is it it.groups.items gs)
+    ∙ drop_at front (drop it.end gs) it.end n)
+    ∙ drop-drop (start - it.end) it.end gs ∙ ap (λ k. drop k gs) up
 
 pub next_same : (changes : hb_glyph_info_t → Bool) (start first : ℕ) (gs hs : List hb_glyph_info_t) →
     length gs ≡ length hs → drop start gs ≡ drop start hs → IsNextChanging changes start gs first →
@@ -105,158 +167,6 @@ next_same changes start first gs hs many same next =
       border = subst (λ l. MeetAtBorder l (drop first hs)) front (subst (MeetAtBorder (stretch_of start first gs)) rest
           next.border);
       changing = ap (λ l. list_any changes (take (first_syllable_len l) l)) (sym rest) ∙ next.changing;
-    }
-
--- THE SYLLABLE. What the guarded one comes to, the run is carried on by.
-pub record CarriedOn (meaning : List hb_glyph_info_t → List hb_glyph_info_t) (steps : List hb_glyph_info_t →
-    List Step) (first end : ℕ) (run : CarriedRun) (old new : Buffer) : Type 0 where
-  pub reordered : SyllableReordered meaning steps first end (run_written run old) (run_written run new)
-  pub fits : IsCarried run new.glyphs
-
-pub carried_on : (meaning : List hb_glyph_info_t → List hb_glyph_info_t) (steps : List hb_glyph_info_t → List Step)
-    (run : CarriedRun) (first end : ℕ) (old between : Buffer) → ReorderLaws meaning steps → run.start < run.end →
-    run.end ≡ first → first ≤ end → end ≤ length old.glyphs → IsCarried run old.glyphs →
-    SyllableReordered meaning steps first end (record old { glyphs = guarded_at (first - 2) run.above old.glyphs })
-    between → (let glyph : hb_glyph_info_t = get_or old.glyphs (first - 2) default_glyph in
-    CarriedOn meaning steps first end run old
-    (record between { glyphs = slice_set between.glyphs (first - 2) glyph }))
-carried_on meaning steps run first end old between laws some at order within fits done =
-    let gs = old.glyphs in
-    let p = parts_of_run run gs some fits in
-    let front = p.before ++ p.stale in
-    let rest = p.rest in
-    let k = length front in
-    let i = first - 2 in
-    let e = end - k in
-    let end_is = p.end_is in
-    let two = p.two in
-    let long = length-append p.before p.stale in
-    let n : length gs ≡ k + length rest = ap length p.whole ∙ length-append front rest in
-    let g : hb_glyph_info_t = get_or gs i default_glyph in
-    let guard : hb_glyph_info_t = record g { cluster = run.above } in
-    let guarded = guarded_at i run.above gs in
-    let up : i + 1 ≡ k = omega arith in
-    let kept : take k gs ≡ front = ap (take k) p.whole ∙ take_at front rest k refl in
-    let guards = take i gs ++ guard ∷ [] in
-    let fn : length guards ≡ k = length-append (take i gs) (guard ∷ []) ∙ omega (arith, length-take i gs) in
-    let taken : take k guarded ≡ guards = ap (λ j. take j guarded) (sym up) ∙ take_more_set gs i guard (omega arith) in
-    let behind : drop k guarded ≡ rest = drop-set-lt k gs i guard (omega arith) ∙ ap (drop k) p.whole
-    ∙ drop_at front rest k refl in
-    let whole : guarded ≡ guards ++ rest = sym (take-append-drop k guarded) ∙ ap (λ l. l ++ drop k guarded) taken
-    ∙ ap (λ l. guards ++ l) behind in
-    let xs = order_view gs in
-    let xn : length xs ≡ length gs = length-map gs plain in
-    let view : order_view guarded ≡ xs = order_view-guarded i run.above gs in
-    let led = steps (stretch_of first end xs) in
-    let fit : FitSteps (e - 1) led = subst (λ j. FitSteps j led)
-    (length-stretch first end xs (omega arith) ∙ omega arith) (laws.fits (stretch_of first end xs)) in
-    let over = run_steps old.level (map (widened first end (length gs)) led) in
-    let change = run_steps old.level (map (widened 1 e (length rest)) led) in
-    let place : (a b c : ℕ) → a ≡ first → b ≡ end → c ≡ length gs →
-    run_steps old.level (map (widened a b c) led) ≡ over = λ a b c x y z.
-    ap (λ a. run_steps old.level (map (widened a b c) led)) x
-    ∙ ap (λ b. run_steps old.level (map (widened first b c) led)) y
-    ∙ ap (λ c. run_steps old.level (map (widened first end c) led)) z in
-    let carries = subst (λ f. Carries k (length rest) f change)
-    (place (k + 1) (k + e) (k + length rest) (omega arith) (omega arith) (sym n))
-    (steps_carry old.level k 1 e (length rest) led (omega arith) (omega arith) (omega arith) fit) in
-    let c = run_changed run gs p over change carries in
-    let new = change rest in
-    let last : last_cluster guards ≡ run.above = last_of_end (take i gs) (guard ∷ []) (omega arith) in
-    let noted = p.noted in
-    let ms = between.glyphs in
-    let moved : map carried ms ≡ map carried (guards ++ new) = done.moved
-    ∙ ap (λ j. map carried (run_steps old.level (map (widened first end j)
-    (steps (stretch_of first end (order_view guarded)))) guarded)) (length-set gs i guard)
-    ∙ ap (λ ys. map carried (run_steps old.level (map (widened first end (length gs)) (steps (stretch_of first end ys)))
-    guarded)) view
-    ∙ ap (λ l. map carried (over l)) whole
-    ∙ ap (map carried) (c.guarded guards fn (λ some. omega arith)) in
-    let ordered : order_view ms ≡ with_stretch first end meaning xs = done.order
-    ∙ ap (with_stretch first end meaning) view in
-    let mn : length ms ≡ k + length new = sym (length-map ms carried) ∙ ap length moved
-    ∙ length-map (guards ++ new) carried ∙ length-append guards new ∙ omega arith in
-    let tail = drop k ms in
-    let front_plain : map plain (take k ms) ≡ map plain guards = sym (take-map plain k ms) ∙ ap (take k) ordered
-    ∙ take_front first end k meaning xs (omega arith) (omega arith)
-    ∙ ap (take k) (sym view) ∙ take-map plain k guarded ∙ ap (map plain) taken in
-    let front_carried : map carried (take k ms) ≡ map carried guards = sym (take-map carried k ms) ∙ ap (take k) moved
-    ∙ take-map carried k (guards ++ new) ∙ ap (map carried) (take_at guards new k fn) in
-    let same_front : take k ms ≡ guards = both_views (take k ms) guards front_plain front_carried in
-    let same_tail : map carried tail ≡ map carried new = sym (drop-map carried k ms) ∙ ap (drop k) moved
-    ∙ drop-map carried k (guards ++ new) ∙ ap (map carried) (drop_at guards new k fn) in
-    let tn : length tail ≡ length new = omega (arith, length-drop k ms) in
-    let first_is : first_cluster tail ≡ first_cluster new = same_first tail new same_tail in
-    let hs = slice_set ms i g in
-    let back : take k hs ≡ front = ap (λ j. take j hs) (sym up) ∙ take_more_set ms i g (omega arith)
-    ∙ ap (λ l. l ++ g ∷ []) (sym (take-take i k ms (omega arith)) ∙ ap (take i) same_front
-    ∙ take_at (take i gs) (guard ∷ []) i (omega (arith, length-take i gs)))
-    ∙ sym (take_more gs i default_glyph (omega arith)) ∙ ap (λ j. take j gs) up ∙ kept in
-    let parts : hs ≡ front ++ tail = sym (take-append-drop k hs) ∙ ap (λ l. l ++ drop k hs) back
-    ∙ ap (λ l. front ++ l) (drop-set-lt k ms i g (omega arith)) in
-    let falls = c.falls in
-    let left = c.some in
-    let after = run_kept run gs p tail (omega arith) (omega arith) in
-    let meant = with_carried run gs in
-    let seen_meant : order_view meant ≡ xs = order_view-carried run gs (omega arith) in
-    let fits_after : IsCarried run hs = subst (IsCarried run) (sym parts) after.fits in
-    let plain_guard : map plain guards ≡ map plain front = sym (ap (map plain) taken) ∙ sym (take-map plain k guarded)
-    ∙ ap (take k) view ∙ take-map plain k gs ∙ ap (map plain) kept in
-    record {
-      reordered = record {
-        others = ap (λ (b : Buffer). record b { glyphs = with_carried run hs }) done.others;
-        order = order_view-carried run hs (omega arith) ∙ ap (map plain) parts ∙ map-append plain front tail
-            ∙ ap (λ l. l ++ map plain tail) (sym plain_guard ∙ sym (ap (map plain) same_front))
-            ∙ sym (map-append plain (take k ms) tail) ∙ ap (map plain) (take-append-drop k ms)
-            ∙ ordered ∙ ap (with_stretch first end meaning) (sym seen_meant);
-        moved = ap (map carried) (ap (with_carried run) parts ∙ after.written)
-            ∙ map-append carried (p.before ++ map (in_cluster (first_cluster tail)) p.stale) tail
-            ∙ ap (λ l. map carried (p.before ++ map (in_cluster (first_cluster tail)) p.stale) ++ l) same_tail
-            ∙ ap (λ m. map carried (p.before ++ map (in_cluster m) p.stale) ++ map carried new) first_is
-            ∙ sym (map-append carried (p.before ++ map (in_cluster (first_cluster new)) p.stale) new)
-            ∙ ap (map carried) (sym c.carried)
-            ∙ ap (λ j. map carried (run_steps old.level (map (widened first end j) led) meant))
-            (sym (sym (length-map meant plain) ∙ ap length seen_meant ∙ xn))
-            ∙ ap (λ ys. map carried (run_steps old.level (map (widened first end (length meant))
-            (steps (stretch_of first end ys))) meant)) (sym seen_meant);
-      };
-      fits = fits_after;
-    }
-  where
-    same_first : (gs hs : List hb_glyph_info_t) → map carried gs ≡ map carried hs →
-        first_cluster gs ≡ first_cluster hs
-    same_first gs hs same = sym (own gs) ∙ ap first_cluster same ∙ own hs
-      where
-        own : (gs : List hb_glyph_info_t) → first_cluster (map carried gs) ≡ first_cluster gs
-        own [] = refl
-        own (g ∷ gs) = refl
-
-    take_front : (s e k : ℕ) (f : List hb_glyph_info_t → List hb_glyph_info_t) (xs : List hb_glyph_info_t) → k ≤ s →
-        s ≤ length xs → take k (with_stretch s e f xs) ≡ take k xs
-    take_front s e k f xs less within =
-        take-append-le k (take s xs) (f (stretch_of s e xs) ++ drop e xs) (omega (arith, length-take s xs))
-        ∙ take-take k s xs less
-
--- WITHOUT A RUN
-pub carried_none : (run : CarriedRun) (gs : List hb_glyph_info_t) → run.start ≡ run.end → with_carried run gs ≡ gs
-carried_none run gs none = none_carried run (map (in_cluster (carried_cluster run gs))) gs none refl
-
-pub written_none : (run : CarriedRun) (b : Buffer) → run.start ≡ run.end → run_written run b ≡ b
-written_none run b none =
-    ap (λ (gs : List hb_glyph_info_t). record b { glyphs = gs })
-    (carried_none run b.glyphs none)
-
-pub none_fits : (run : CarriedRun) (gs : List hb_glyph_info_t) → run.start ≡ run.end → run.end ≤ length gs →
-    IsCarried run gs
-none_fits run gs none within =
-    let zero_long : run.end - run.start ≡ 0 = omega arith in
-    record {
-      in_order = omega arith;
-      in_range = within;
-      two = λ some. absurd (omega arith);
-      least = ap (λ n. none_below (carried_cluster run gs) (take n (drop run.start gs))) zero_long;
-      apart = λ some. absurd (omega arith);
-      noted = λ some. absurd (omega arith);
     }
 
 -- it keeps the length
@@ -281,39 +191,6 @@ abbrev pub Suffices : Meaning → (Option Script → List hb_glyph_info_t → Li
 Suffices meaning steps link = (s e : ℕ) (b c : Buffer) →
     SyllableReordered (meaning b.script) (steps b.script) s e b c → link s e b c
 
-length_carried : (run : CarriedRun) (gs : List hb_glyph_info_t) → run.start ≤ run.end →
-    length (with_carried run gs) ≡ length gs
-length_carried run gs order =
-    sym (length-map (with_carried run gs) plain) ∙ ap length (order_view-carried run gs order) ∙ length-map gs plain
-
--- with the guard, nothing that the order reads is another one
-pub record GuardedStands (old now : Buffer) : Type 0 where
-  pub view : order_view now.glyphs ≡ order_view old.glyphs
-  pub same_length : length now.glyphs ≡ length old.glyphs
-  pub positions : now.positions ≡ old.positions
-
-pub guarded_stands : (first : ℕ) (it after : Carrying) (old now : Buffer) → CarryingFits first it old.glyphs →
-    Guarded first it old after now → GuardedStands old now
-guarded_stands first it after old now fits g =
-    let between = g.between in
-    let order = g.fits.fits.in_order in
-    let view : order_view now.glyphs ≡ order_view between.glyphs = elim (eq-or-lt_of_le order) [
-      | inl none ↦ ap (λ (b : Buffer). order_view b.glyphs) (g.none none)
-      | inr some ↦ ap (λ (b : Buffer). order_view b.glyphs) (g.guard some)
-          ∙ order_view-guarded (first - 2) after.run.above between.glyphs
-    ] in
-    let positions : now.positions ≡ between.positions = elim (eq-or-lt_of_le order) [
-      | inl none ↦ ap (λ (b : Buffer). b.positions) (g.none none)
-      | inr some ↦ ap (λ (b : Buffer). b.positions) (g.guard some)
-    ] in
-    let all = view ∙ sym (order_view-carried after.run between.glyphs order)
-    ∙ ap (λ (b : Buffer). order_view b.glyphs) g.same ∙ order_view-carried it.run old.glyphs fits.fits.in_order in
-    record {
-      view = all;
-      same_length = sym (length-map now.glyphs plain) ∙ ap length all ∙ length-map old.glyphs plain;
-      positions = positions ∙ ap (λ (b : Buffer). b.positions) g.same;
-    }
-
 pub numbers_by_view : (s e : ℕ) (gs hs : List hb_glyph_info_t) → order_view gs ≡ order_view hs →
     glyph_numbers (stretch_of s e gs) ≡ glyph_numbers (stretch_of s e hs)
 numbers_by_view s e gs hs same =
@@ -321,79 +198,319 @@ numbers_by_view s e gs hs same =
     map-stretch number s e gs ∙ ap (stretch_of s e) (sym (numbers-view gs) ∙ ap glyph_numbers same ∙ numbers-view hs)
     ∙ sym (map-stretch number s e hs)
 
-pub behind_carried_run : (meaning : Meaning) (steps : Option Script → List hb_glyph_info_t → List Step) (link : Link) →
-    Leads meaning steps link → Suffices meaning steps link →
-    ((script : Option Script) → ReorderLaws (meaning script) (steps script)) → (first end : ℕ)
-    (it mid after : Carrying) (old now reordered new : Buffer) → first ≤ end → end ≤ length old.glyphs →
-    CarryingFits first it old.glyphs → Guarded first it old mid now → link first end now reordered →
-    Settled first mid reordered after new → ReorderedBehind link first end it old after new
-behind_carried_run meaning steps link leads suffices laws first end it mid after old now reordered new order within fits
-    g linked settled =
+
+-- THE SYLLABLE. Nothing that the order reads is another one while groups are shown
+pub record GuardedStands (old now : Buffer) : Type 0 where
+  pub view : order_view now.glyphs ≡ order_view old.glyphs
+  pub same_length : length now.glyphs ≡ length old.glyphs
+  pub positions : now.positions ≡ old.positions
+
+pub guarded_stands : (first end count : ℕ) (it after : CarriedGroups) (old now : Buffer) → AreCarried it old.glyphs →
+    GroupsGuarded first end it old.glyphs after count now.glyphs → now ≡ record old { glyphs = now.glyphs } →
+    GuardedStands old now
+guarded_stands first end count it after old now fits g others =
     let between = g.between in
-    let many : length between.glyphs ≡ length old.glyphs =
-    sym (length_carried mid.run between.glyphs g.fits.fits.in_order)
-    ∙ ap (λ (b : Buffer). length b.glyphs) g.same ∙ length_carried it.run old.glyphs fits.fits.in_order in
-    elim (eq-or-lt_of_le g.fits.fits.in_order) [
-      | inl none ↦
-          let is = settled.begun none in
-          let alone : link first end between reordered =
-          subst (λ b. link first end b reordered) (g.none none) linked in
-          let wrote : run_written after.run new ≡ reordered = ap (run_written after.run) is
-          ∙ ap (λ (gs : List hb_glyph_info_t). record reordered { glyphs = gs }) (settled.same none) in
+    let before = g.before in
+    let view : order_view now.glyphs ≡ order_view between = elim (eq-or-lt_of_le {n = 0} {m = count} (omega arith)) [
+      | inl none ↦ ap order_view (g.none (sym none)).2
+      | inr some ↦ (g.some some).view
+    ] in
+    let all = view ∙ sym (order_view-groups before between g.fits.span)
+    ∙ ap order_view g.same ∙ order_view-groups it old.glyphs fits.span in
+    record {
+      view = all;
+      same_length = sym (length-map now.glyphs plain) ∙ ap length all ∙ length-map old.glyphs plain;
+      positions = ap (λ (b : Buffer). b.positions) others;
+    }
+
+same_clusters : (xs ys : List hb_glyph_info_t) → map carried xs ≡ map carried ys →
+    map (λ (g : hb_glyph_info_t). g.cluster) xs ≡ map (λ (g : hb_glyph_info_t). g.cluster) ys
+same_clusters xs ys same = sym (own xs) ∙ ap (map (λ (g : hb_glyph_info_t). g.cluster)) same ∙ own ys
+  where
+    own : (xs : List hb_glyph_info_t) → map (λ (g : hb_glyph_info_t). g.cluster) (map carried xs)
+        ≡ map (λ (g : hb_glyph_info_t). g.cluster) xs
+    own [] = refl
+    own (x ∷ xs) = ap (λ l. x.cluster ∷ l) (own xs)
+
+take_front : (s e k : ℕ) (f : List hb_glyph_info_t → List hb_glyph_info_t) (xs : List hb_glyph_info_t) → k ≤ s →
+    s ≤ length xs → take k (with_stretch s e f xs) ≡ take k xs
+take_front s e k f xs less within =
+    take-append-le k (take s xs) (f (stretch_of s e xs) ++ drop e xs) (omega (arith, length-take s xs))
+    ∙ take-take k s xs less
+
+-- with groups shown
+pub record ShownReordered (meaning : List hb_glyph_info_t → List hb_glyph_info_t) (steps : List hb_glyph_info_t →
+    List Step) (first end count : ℕ) (before after : CarriedGroups) (old reordered : Buffer)
+    (between : List hb_glyph_info_t) : Type 0 where
+  pub can : CanSettle after count reordered.glyphs
+  pub made : (final : CarriedGroups) (new : Buffer) → GroupsSettled after count reordered.glyphs final new.glyphs →
+      new ≡ record reordered { glyphs = new.glyphs } → SyllableReordered meaning steps first end
+      (record old { glyphs = with_groups before between }) (groups_written final new)
+
+pub shown_reordered : (meaning : List hb_glyph_info_t → List hb_glyph_info_t) (steps : List hb_glyph_info_t →
+    List Step) (first end count : ℕ) (before after : CarriedGroups) (old reordered : Buffer)
+    (between hs : List hb_glyph_info_t) → ReorderLaws meaning steps → first ≤ end → end ≤ length between →
+    AreCarried before between → before.end ≡ first → 0 < count → count ≤ length before.groups.items →
+    AreShown count before between after hs →
+    ((first_of (last_groups count before) < least (clusters (stretch_of first end between)))
+    ⊎ ((count ≡ length before.groups.items) × EndsAbove (first_of before.groups.items)
+    (take before.start between))) →
+    SyllableReordered meaning steps first end (record old { glyphs = hs }) reordered →
+    ShownReordered meaning steps first end count before after old reordered between
+shown_reordered meaning steps first end count before after old reordered between hs laws order within fits at some many
+    is stops done =
+    let items = before.groups.items in
+    let X = reordered.glyphs in
+    let xs = order_view between in
+    let xn : length xs ≡ length between = length-map between plain in
+    let place = first - count in
+    let low = place - 1 in
+    let span = fits.span in
+    let room = is.room in
+    let hn : length hs ≡ length between = sym (length-map hs plain) ∙ ap length is.view ∙ xn in
+    let led = steps (stretch_of first end xs) in
+    let fit : FitSteps (end - first) led = subst (λ j. FitSteps j led)
+    (length-stretch first end xs (omega arith)) (laws.fits (stretch_of first end xs)) in
+    let over = run_steps old.level (map (widened first end (length between)) led) in
+    let sb = steps_behind old.level first end count led before after between hs order within fit fits at some many is
+    stops in
+    let Y = over hs in
+    let moved : map carried X ≡ map carried Y = done.moved
+    ∙ ap (λ j. map carried (run_steps old.level (map (widened first end j) (steps (stretch_of first end
+    (order_view hs)))) hs)) hn
+    ∙ ap (λ ys. map carried (run_steps old.level (map (widened first end (length between))
+    (steps (stretch_of first end ys))) hs)) is.view in
+    let W = with_stretch first end meaning xs in
+    let ordered : order_view X ≡ W = done.order ∙ ap (with_stretch first end meaning) is.view in
+    let Xn : length X ≡ length between = sym (length-map X carried) ∙ ap length moved ∙ length-map Y carried
+    ∙ sb.same_length in
+    let after_start : after.start ≡ before.start = ap (λ (a : CarriedGroups). a.start) is.same in
+    let after_end : after.end ≡ first = ap (λ (a : CarriedGroups). a.end) is.same ∙ at in
+    let after_items : after.groups.items ≡ items = ap (λ (a : CarriedGroups). a.groups.items) is.same in
+    -- what stands before those that were shown
+    let y_front : take place Y ≡ take place hs = subst (λ f. take (f - count) Y ≡ take (f - count) hs) at sb.front in
+    let hs_low : take low hs ≡ take low between =
+    subst (λ f. take (f - count - 1) hs ≡ take (f - count - 1) between) at is.front in
+    let y_low : take low Y ≡ take low between = sym (take-take low place Y (omega arith)) ∙ ap (take low) y_front
+    ∙ take-take low place hs (omega arith) ∙ hs_low in
+    let x_low : take low X ≡ take low between = both_views (take low X) (take low between)
+    (sym (take-map plain low X) ∙ ap (take low) ordered ∙ take_front first end low meaning xs (omega arith) (omega arith)
+    ∙ take-map plain low between)
+    (sym (take-map carried low X) ∙ ap (take low) moved ∙ take-map carried low Y ∙ ap (map carried) y_low) in
+    let kept : after.kept.items ≡ stretch_of low first between =
+    subst (λ f. after.kept.items ≡ stretch_of (f - count - 1) f between) at is.kept in
+    let Z = take first between ++ drop first X in
+    let up : low + (first - low) ≡ first = omega arith in
+    let z_is : taken_back count after X ≡ Z =
+    ap (λ f. take (f - count - 1) X ++ (after.kept.items ++ drop f X)) after_end
+    ∙ ap (λ l. l ++ (after.kept.items ++ drop first X)) x_low
+    ∙ ap (λ l. take low between ++ (l ++ drop first X)) kept
+    ∙ sym (append_assoc (take low between) (stretch_of low first between) (drop first X))
+    ∙ ap (λ l. l ++ drop first X) (sym (take-add low (first - low) between) ∙ ap (λ k. take k between) up) in
+    let tn : length (take first between) ≡ first = omega (arith, length-take first between) in
+    let A = drop before.start (take first between) in
+    let an : length A ≡ first - before.start = length-drop before.start (take first between)
+    ∙ ap (λ k. k - before.start) tn in
+    let z_drop : drop before.start Z ≡ A ++ drop first X =
+    drop-append-le before.start (take first between) (drop first X) (omega arith) in
+    let b_drop : drop before.start between ≡ A ++ drop first between =
+    ap (drop before.start) (sym (take-append-drop first between))
+    ∙ drop-append-le before.start (take first between) (drop first between) (omega arith) in
+    let z_behind : drop first Z ≡ drop first X = drop_at (take first between) (drop first X) first tn in
+    let z_start : take before.start Z ≡ take before.start between =
+    take-append-le before.start (take first between) (drop first X) (omega arith)
+    ∙ take-take before.start first between (omega arith) in
+    let F = fallen_groups count before Y in
+    let size : before.end - count ≡ place = ap (λ f. f - count) at in
+    let last = last_groups count before in
+    let read : fallen_groups count after X ≡ F =
+    ap (λ l. take (length l - count) l ++ read_back (stretch_of (after.end - count) after.end X)
+    (drop (length l - count) l)) after_items
+    ∙ ap (λ f. take (length items - count) items ++ read_back (stretch_of (f - count) f X) last)
+    (after_end ∙ sym at)
+    ∙ ap (λ l. take (length items - count) items ++ l) (read_clusters (stretch_of (before.end - count) before.end X)
+    (stretch_of (before.end - count) before.end Y) last (same_clusters (stretch_of (before.end - count) before.end X)
+    (stretch_of (before.end - count) before.end Y)
+    (map-stretch carried (before.end - count) before.end X
+    ∙ ap (stretch_of (before.end - count) before.end) moved
+    ∙ sym (map-stretch carried (before.end - count) before.end Y)))) in
+    let f_len : len_of F ≡ len_of items = fallen_len count before Y many (omega arith) (omega (arith, sb.same_length)) in
+    let C = front_of before F between in
+    let c_span : before.start + len_of F ≡ before.end = omega arith in
+    let c_view : map plain C ≡ take first xs = front_view before F between c_span
+    ∙ ap (λ k. take k (map plain between)) at in
+    let meant = with_groups before between in
+    let meant_view : order_view meant ≡ xs = order_view-groups before between span in
+    let meant_n : length meant ≡ length between = length_groups before between span in
+    record {
+      can = record {
+        within = omega (arith, ap length after_items);
+        in_range = omega arith;
+        kept = λ _. ap length kept ∙ length-stretch low first between (omega arith)
+            ∙ ap (λ f. f - (f - count - 1)) (sym after_end);
+        none = λ none. absurd (omega arith);
+        fits = λ _. record {
+          span = omega (arith, ap len_of after_items);
+          within = omega (arith, ap length z_is, length-append (take first between) (drop first X), length-drop first X);
+          least = subst (λ l. LeastIn after.groups.items (drop after.start l)) (sym z_is)
+              (subst (λ k. LeastIn after.groups.items (drop k Z)) (sym after_start)
+              (subst (λ l. LeastIn l (drop before.start Z)) (sym after_items)
+              (subst (LeastIn items) (sym z_drop) (least_other items A (drop first between) (drop first X) (omega arith)
+              (subst (LeastIn items) b_drop fits.least)))));
+        };
+      };
+      made = λ final new settled others.
+          let fin = with_groups final new.glyphs in
+          let fin_is : fin ≡ C ++ drop first X = settled.same some
+          ∙ ap (λ l. with_list after l (taken_back count after X)) read
+          ∙ ap (with_list after F) z_is
+          ∙ ap (λ k. take k Z ++ (grouped F (drop k Z) ++ drop after.end Z)) after_start
+          ∙ ap (λ k. take before.start Z ++ (grouped F (drop before.start Z) ++ drop k Z)) after_end
+          ∙ ap (λ l. l ++ (grouped F (drop before.start Z) ++ drop first Z)) z_start
+          ∙ ap (λ l. take before.start between ++ (l ++ drop first Z)) (ap (grouped F) z_drop
+          ∙ grouped_front F A (drop first X) (omega arith)
+          ∙ sym (ap (grouped F) b_drop ∙ grouped_front F A (drop first between) (omega arith)))
+          ∙ ap (λ l. take before.start between ++ (grouped F (drop before.start between) ++ l)) z_behind
+          ∙ sym (append_assoc (take before.start between) (grouped F (drop before.start between)) (drop first X)) in
+          let over_is : over meant ≡ C ++ drop first Y = sb.meant_is
+          ∙ sym (append_assoc (take before.start between) (grouped F (drop before.start between)) (drop before.end Y))
+          ∙ ap (λ k. C ++ drop k Y) at in
           record {
-            linked = subst (λ b. link first end b (run_written after.run new)) (sym (written_none mid.run between none)
-                ∙ g.same) (subst (link first end between) (sym wrote) alone);
-            fits = record {
-              fits = subst (λ b. IsCarried after.run b.glyphs) (sym is) (settled.fits none);
-              ends = settled.ends none;
+            others = ap (λ (b : Buffer). but_places (record b { glyphs = fin })) others
+                ∙ ap (λ (b : Buffer). record b { glyphs = fin }) done.others;
+            order = ap (map plain) fin_is ∙ map-append plain C (drop first X)
+                ∙ ap (λ l. l ++ map plain (drop first X)) (c_view
+                ∙ sym (take_front first end first meaning xs (omega arith) (omega arith)))
+                ∙ ap (λ l. take first W ++ l) (sym (drop-map plain first X) ∙ ap (drop first) ordered)
+                ∙ take-append-drop first W ∙ ap (with_stretch first end meaning) (sym meant_view);
+            moved = ap (map carried) fin_is ∙ map-append carried C (drop first X)
+                ∙ ap (λ l. map carried C ++ l) (sym (drop-map carried first X) ∙ ap (drop first) moved
+                ∙ drop-map carried first Y)
+                ∙ sym (map-append carried C (drop first Y))
+                ∙ ap (map carried) (sym over_is)
+                ∙ ap (λ j. map carried (run_steps old.level (map (widened first end j) led) meant)) (sym meant_n)
+                ∙ ap (λ ys. map carried (run_steps old.level (map (widened first end (length meant))
+                (steps (stretch_of first end ys))) meant)) (sym meant_view);
+          };
+    }
+  where
+    fallen_len : (count : ℕ) (before : CarriedGroups) (Y : List hb_glyph_info_t) → count ≤ length before.groups.items →
+        count ≤ before.end → before.end ≤ length Y →
+        len_of (fallen_groups count before Y) ≡ len_of before.groups.items
+    fallen_len count before Y many room within =
+        let items = before.groups.items in
+        let i = length items - count in
+        let S = stretch_of (before.end - count) before.end Y in
+        let sn : length S ≡ length (drop i items) = length-stretch (before.end - count) before.end Y within
+        ∙ omega (arith, length-drop i items) in
+        len_of-append (take i items) (read_back S (drop i items))
+        ∙ ap (λ n. len_of (take i items) + n) (len_of-read S (drop i items) sn)
+        ∙ sym (len_of-append (take i items) (drop i items)) ∙ ap len_of (take-append-drop i items)
+
+-- either way
+pub record BehindGroups (link : Link) (first end : ℕ) (it after : CarriedGroups) (count : ℕ)
+    (old reordered : Buffer) : Type 0 where
+  pub can : CanSettle after count reordered.glyphs
+  pub linked : (final : CarriedGroups) (new : Buffer) → GroupsSettled after count reordered.glyphs final new.glyphs →
+      new ≡ record reordered { glyphs = new.glyphs } → link first end (groups_written it old) (groups_written final new)
+  pub ends : after.end ≡ first
+
+pub behind_guarded : (meaning : Meaning) (steps : Option Script → List hb_glyph_info_t → List Step) (link : Link) →
+    Leads meaning steps link → Suffices meaning steps link →
+    ((script : Option Script) → ReorderLaws (meaning script) (steps script)) → (first end count : ℕ)
+    (it after : CarriedGroups) (old now reordered : Buffer) → first ≤ end → end ≤ length old.glyphs →
+    AreCarried it old.glyphs → GroupsGuarded first end it old.glyphs after count now.glyphs →
+    now ≡ record old { glyphs = now.glyphs } → link first end now reordered →
+    BehindGroups link first end it after count old reordered
+behind_guarded meaning steps link leads suffices laws first end count it after old now reordered order within fits g
+    others linked =
+    let before = g.before in
+    let between = g.between in
+    let stands = guarded_stands first end count it after old now fits g others in
+    let bn : length between ≡ length old.glyphs = sym (length_groups before between g.fits.span)
+    ∙ ap length g.same ∙ length_groups it old.glyphs fits.span in
+    let meant_is : groups_written it old ≡ record old { glyphs = with_groups before between } =
+    ap (λ (gs : List hb_glyph_info_t). record old { glyphs = gs }) (sym g.same) in
+    let hs = now.glyphs in
+    let done = leads first end (record old { glyphs = hs }) reordered
+    (subst (λ b. link first end b reordered) others linked) in
+    elim (eq-or-lt_of_le {n = 0} {m = count} (omega arith)) [
+      | inl none ↦
+          let all = g.none (sym none) in
+          let span = g.fits.span in
+          let empty : len_of before.groups.items ≡ 0 = ap len_of all.1 in
+          let start_end : before.start ≡ before.end = omega arith in
+          let now_is : record old { glyphs = with_groups before between } ≡ now =
+          ap (λ (gs : List hb_glyph_info_t). record old { glyphs = gs })
+          (none_written before between all.1 start_end ∙ sym all.2) ∙ sym others in
+          let Xn : length reordered.glyphs ≡ length now.glyphs = length_reordered (meaning old.script) (steps old.script)
+          first end (record old { glyphs = hs }) reordered (laws old.script) order
+          (let same = stands.same_length in omega arith) done in
+          let same = stands.same_length in
+          let at = g.at in
+          let ends : after.end ≡ first = ap (λ (a : CarriedGroups). a.end) all.0 ∙ g.at in
+          let none_after : after.groups.items ≡ [] = ap (λ (a : CarriedGroups). a.groups.items) all.0 ∙ all.1 in
+          let start_after : after.start ≡ after.end = ap (λ (a : CarriedGroups). a.start) all.0 ∙ start_end
+          ∙ ap (λ (a : CarriedGroups). a.end) (sym all.0) in
+          record {
+            can = record {
+              within = omega arith;
+              in_range = omega arith;
+              kept = λ some. absurd (omega arith);
+              none = λ _. none_carried after reordered.glyphs none_after start_after (omega arith);
+              fits = λ some. absurd (omega arith);
             };
+            linked = λ final new settled rest.
+                let still = settled.still (sym none) in
+                let left : groups_written final new ≡ reordered =
+                ap (λ (b : Buffer). record b { glyphs = with_groups final new.glyphs }) rest
+                ∙ ap (λ (gs : List hb_glyph_info_t). record reordered { glyphs = gs })
+                (ap (λ (a : CarriedGroups). with_groups a new.glyphs) still
+                ∙ none_written after new.glyphs none_after start_after ∙ settled.none (sym none)) in
+                subst (λ b. link first end b (groups_written final new)) (sym (meant_is ∙ now_is))
+                (subst (link first end now) (sym left) linked);
+            ends = ends;
           }
       | inr some ↦
-          let guarded : Buffer = record between { glyphs = guarded_at (first - 2) mid.run.above between.glyphs } in
-          let guarded_linked : link first end guarded reordered =
-          subst (λ b. link first end b reordered) (g.guard some) linked in
-          let on = carried_on (meaning between.script) (steps between.script) mid.run first end between reordered
-          (laws between.script) some (g.at some) order (omega arith) g.fits.fits
-          (leads first end guarded reordered guarded_linked) in
-          let is : new ≡ record reordered {
-            glyphs = slice_set reordered.glyphs (first - 2) (get_or between.glyphs (first - 2) default_glyph);
-          } = settled.taken_back some
-          ∙ ap (λ (glyph : hb_glyph_info_t). record reordered {
-            glyphs = slice_set reordered.glyphs (first - 2) glyph;
-          }) (g.kept some) in
-          let run_is = settled.kept some in
-          let done = suffices first end (run_written mid.run between) _ on.reordered in
+          let is = g.some some in
+          let all = g.stops some in
+          let shown = shown_reordered (meaning old.script) (steps old.script) first end count before after old reordered
+          between hs (laws old.script) order (omega arith) g.fits g.at some g.within is all.1 done in
           record {
-            linked = subst (λ b. link first end b (run_written after.run new)) g.same
-                (subst (λ run. link first end (run_written mid.run between) (run_written run new)) (sym run_is)
-                (subst (λ b. link first end (run_written mid.run between) (run_written mid.run b)) (sym is) done));
-            fits = record {
-              fits = subst (λ run. IsCarried run new.glyphs) (sym run_is)
-                  (subst (λ b. IsCarried mid.run b.glyphs) (sym is) on.fits);
-              ends = (let ends = g.fits.ends in omega (arith, ap (λ (run : CarriedRun). run.end) run_is));
-            };
+            can = shown.can;
+            linked = λ final new settled rest. subst (λ b. link first end b (groups_written final new)) (sym meant_is)
+                (suffices first end (record old { glyphs = with_groups before between }) (groups_written final new)
+                (shown.made final new settled rest));
+            ends = ap (λ (a : CarriedGroups). a.end) is.same ∙ g.at;
           }
     ]
 
--- WHAT THE WALK STILL HAS TO DO, if the run were written
+-- WHAT THE WALK STILL HAS TO DO, if the groups were written
 pub record ToCarry (takes : List ℕ → Type 0) (link : Link) (old : Buffer) (it : Carrying) (now : Buffer)
     (start : ℕ) : Type 0 where
   pub fits : CarryingFits start it now.glyphs
-  pub to : ToLink takes link old (run_written it.run now) start
+  pub to : ToLink takes link old (groups_written it.groups now) start
 
-pub to_carry_all : (takes : List ℕ → Type 0) (link : Link) (old : Buffer) (it : Carrying) →
-    it.run.start ≡ 0 → it.run.end ≡ 0 → TakesText takes old.glyphs → ToCarry takes link old it old 0
-to_carry_all takes link old it start_is end_is all =
-    let none : it.run.start ≡ it.run.end = omega arith in
+-- without groups
+pub written_none : (it : CarriedGroups) (b : Buffer) → it.groups.items ≡ [] → it.start ≡ it.end →
+    groups_written it b ≡ b
+written_none it b none same = ap (λ (gs : List hb_glyph_info_t). record b { glyphs = gs })
+    (none_written it b.glyphs none same)
+
+pub to_carry_all : (takes : List ℕ → Type 0) (link : Link) (old : Buffer) (it : Carrying) → it.groups.start ≡ 0 →
+    it.groups.end ≡ 0 → it.groups.groups.items ≡ [] → TakesText takes old.glyphs → ToCarry takes link old it old 0
+to_carry_all takes link old it start_is end_is none all =
+    let same : it.groups.start ≡ it.groups.end = omega arith in
     record {
       fits = record {
-        fits = none_fits it.run old.glyphs none (omega arith);
+        fits = none_carried it.groups old.glyphs none same (omega arith);
         ends = omega arith;
+        off = λ _. none;
       };
-      to = subst (λ b. ToLink takes link old b 0) (sym (written_none it.run old none)) (to_link_all takes link old all);
+      to = subst (λ b. ToLink takes link old b 0) (sym (written_none it.groups old none same))
+          (to_link_all takes link old all);
     }
 
--- between two syllables: the buffer is as long, and has no positions, if the text had none
 pub record CarriedStands (it : Carrying) (old now : Buffer) (start : ℕ) : Type 0 where
   pub inside : start ≤ length now.glyphs
   pub positions : now.positions ≡ old.positions
@@ -404,22 +521,22 @@ pub carried_stands : (takes : List ℕ → Type 0) (link : Link) (old : Buffer) 
 carried_stands takes link old it now start state =
     let inside = state.to.inside in
     record {
-      inside = subst (λ n. start ≤ n) (length_carried it.run now.glyphs state.fits.fits.in_order) inside;
+      inside = subst (λ n. start ≤ n) (length_groups it.groups now.glyphs state.fits.fits.span) inside;
       positions = ap (λ (b : Buffer). b.positions) state.to.others;
       fits = λ first further. record {
         fits = state.fits.fits;
         ends = (let ends = state.fits.ends in omega arith);
+        off = state.fits.off;
       };
     }
 
--- where the next syllable is looked for, the run makes no difference
-next_carried : (changes : hb_glyph_info_t → Bool) (run : CarriedRun) (start first : ℕ)
-    (gs read : List hb_glyph_info_t) → read ≡ gs → IsCarried run gs → run.end ≤ start →
-    IsNextChanging changes start read first → IsNextChanging changes start (with_carried run gs) first
-next_carried changes run start first gs read is fits ends found =
-    next_same changes start first read (with_carried run gs)
-    (ap length is ∙ sym (length_carried run gs fits.in_order))
-    (ap (drop start) is ∙ sym (behind_carried run start gs fits.in_order ends fits.in_range)) found
+next_carried : (changes : hb_glyph_info_t → Bool) (it : CarriedGroups) (start first : ℕ)
+    (gs read : List hb_glyph_info_t) → read ≡ gs → AreCarried it gs → it.end ≤ start →
+    IsNextChanging changes start read first → IsNextChanging changes start (with_groups it gs) first
+next_carried changes it start first gs read is fits ends found =
+    next_same changes start first read (with_groups it gs)
+    (ap length is ∙ sym (length_groups it gs fits.span))
+    (ap (drop start) is ∙ sym (behind_groups it start gs fits ends)) found
 
 pub takes_carried : (meaning : Meaning) (takes : List ℕ → Type 0) (changes : hb_glyph_info_t → Bool) (link : Link)
     (old : Buffer) (it : Carrying) (now : Buffer) (read : List hb_glyph_info_t) (start first end : ℕ) →
@@ -428,20 +545,19 @@ pub takes_carried : (meaning : Meaning) (takes : List ℕ → Type 0) (changes :
     end ≡ first + first_syllable_len (drop first now.glyphs) →
     takes (glyph_numbers (stretch_of first end now.glyphs))
 takes_carried meaning takes changes link old it now read start first end is permutes orders stays found state end_is =
-    let run = it.run in
-    let meant = with_carried run now.glyphs in
+    let groups = it.groups in
+    let meant = with_groups groups now.glyphs in
     let ends = state.fits.ends in
     let fits = state.fits.fits in
     let order = found.in_order in
-    let found_meant = next_carried changes run start first now.glyphs read is fits ends found in
-    let to = to_changing meaning takes changes link old (run_written run now) meant start first refl permutes orders
+    let found_meant = next_carried changes groups start first now.glyphs read is fits ends found in
+    let to = to_changing meaning takes changes link old (groups_written groups now) meant start first refl permutes orders
     stays found_meant state.to in
-    let rest : drop first meant ≡ drop first now.glyphs =
-    behind_carried run first now.glyphs fits.in_order (omega arith) fits.in_range in
+    let rest : drop first meant ≡ drop first now.glyphs = behind_groups groups first now.glyphs fits (omega arith) in
     let end_meant : end ≡ first + first_syllable_len (drop first meant) = end_is
     ∙ ap (λ l. first + first_syllable_len l) (sym rest) in
-    subst takes (numbers_by_view first end meant now.glyphs (order_view-carried run now.glyphs fits.in_order))
-    (takes_next takes link old (run_written run now) first end to
+    subst takes (numbers_by_view first end meant now.glyphs (order_view-groups groups now.glyphs fits.span))
+    (takes_next takes link old (groups_written groups now) first end to
     (next_syllable meant first end found_meant.inside end_meant))
 
 -- past the next syllable that may change
@@ -458,40 +574,39 @@ pub carry_next : (meaning : Meaning) (takes : List ℕ → Type 0) (changes : hb
     ReorderedBehind link first end it now after new → CarriedNext takes link old now after new end
 carry_next meaning takes changes link old it now read start first end after new is permutes orders stays found state
     end_is further done =
-    let run = it.run in
-    let meant = with_carried run now.glyphs in
+    let groups = it.groups in
+    let meant = with_groups groups now.glyphs in
     let ends = state.fits.ends in
     let fits = state.fits.fits in
     let order = found.in_order in
     let ends_after = done.fits.ends in
-    let found_meant = next_carried changes run start first now.glyphs read is fits ends found in
-    let rest : drop first meant ≡ drop first now.glyphs =
-    behind_carried run first now.glyphs fits.in_order (omega arith) fits.in_range in
-    let next = past_changing meaning takes changes link old (run_written run now) (run_written after.run new) meant
-    start first end refl permutes orders stays found_meant state.to
+    let found_meant = next_carried changes groups start first now.glyphs read is fits ends found in
+    let rest : drop first meant ≡ drop first now.glyphs = behind_groups groups first now.glyphs fits (omega arith) in
+    let next = past_changing meaning takes changes link old (groups_written groups now) (groups_written after.groups new)
+    meant start first end refl permutes orders stays found_meant state.to
     (end_is ∙ ap (λ l. first + first_syllable_len l) (sym rest)) done.linked in
     record {
-      same_length = sym (length_carried after.run new.glyphs done.fits.fits.in_order) ∙ next.same_length
-          ∙ length_carried run now.glyphs fits.in_order;
+      same_length = sym (length_groups after.groups new.glyphs done.fits.fits.span) ∙ next.same_length
+          ∙ length_groups groups now.glyphs fits.span;
       state = record {
-        fits = record { fits = done.fits.fits; ends = omega arith };
+        fits = record { fits = done.fits.fits; ends = omega arith; off = done.fits.off };
         to = next.to;
       };
     }
 
--- behind the last one the run is written
+-- behind the last one the groups are written
 pub carry_end : (meaning : Meaning) (takes : List ℕ → Type 0) (changes : hb_glyph_info_t → Bool) (link : Link)
     (old : Buffer) (it : Carrying) (now : Buffer) (read : List hb_glyph_info_t) (start : ℕ) (new : Buffer) →
     read ≡ now.glyphs → PermutesNumbers meaning → Orders meaning link → Stays changes link →
     list_any changes (drop start read) ≡ false → ToCarry takes link old it now start →
-    new ≡ but_places (run_written it.run now) → SyllablesLinked link old new
+    new ≡ but_places (groups_written it.groups now) → SyllablesLinked link old new
 carry_end meaning takes changes link old it now read start new is permutes orders stays none state new_is =
-    let run = it.run in
-    let meant = with_carried run now.glyphs in
+    let groups = it.groups in
+    let meant = with_groups groups now.glyphs in
     let fits = state.fits.fits in
-    let rest : drop start meant ≡ drop start read = behind_carried run start now.glyphs fits.in_order state.fits.ends
-    fits.in_range ∙ ap (drop start) (sym is) in
-    let passes = linked_passes meaning takes changes link old (run_written run now) permutes orders stays in
-    linked_end takes link old (run_written run now) new
-    (to_end changes meant (ToLink takes link old (run_written run now)) passes start state.to.inside
+    let rest : drop start meant ≡ drop start read = behind_groups groups start now.glyphs fits state.fits.ends
+    ∙ ap (drop start) (sym is) in
+    let passes = linked_passes meaning takes changes link old (groups_written groups now) permutes orders stays in
+    linked_end takes link old (groups_written groups now) new
+    (to_end changes meant (ToLink takes link old (groups_written groups now)) passes start state.to.inside
     (ap (list_any changes) rest ∙ none) state.to) new_is

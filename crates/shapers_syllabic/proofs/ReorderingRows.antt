@@ -16,7 +16,6 @@ use Rattle.shapers_base.specs.declared.font.GlyphId.{GlyphId}
 use Rattle.shapers_buffer.specs.declared.buffer.refusal.ShaperError.TheVariants.{Memory, TooLong, UnknownSyllable}
 use Rattle.shapers_syllabic.specs.Borders.{MeetAtBorder, SameButSerials, spans_set_up, unnumbered}
 use Rattle.shapers_syllabic.specs.ReorderingLaws.{paused_carried, paused_order}
-use Rattle.shapers_syllabic.specs.ReorderingWalk.{clusters_fall}
 
 -- what is carried along, and what is hidden, field by field
 abbrev full : hb_glyph_info_t
@@ -270,15 +269,3 @@ kinds_all_known = refl
 kind_at_once : map (λ last. first_unknown (Some last) (text ((1, 0, 0x12) ∷ (2, 0, 0x12) ∷ (3, 0, 0x21) ∷ [])))
     (0 ∷ 1 ∷ 2 ∷ []) ≡ Some 0 ∷ Some 0 ∷ None ∷ []
 kind_at_once = refl
-
--- whether clusters fall from the first to the last
-falls : List ℕ → Bool
-falls cs = clusters_fall (map (λ c. record default_glyph { cluster = c }) cs)
-
-row_falls : map falls ((3 ∷ 2 ∷ []) ∷ (3 ∷ 4 ∷ 1 ∷ []) ∷ []) ≡ true ∷ true ∷ []
-unfolding falls
-row_falls = refl
-
-row_no_fall : map falls ([] ∷ (3 ∷ []) ∷ (3 ∷ 3 ∷ []) ∷ (3 ∷ 1 ∷ 5 ∷ []) ∷ []) ≡ false ∷ false ∷ false ∷ false ∷ []
-unfolding falls
-row_no_fall = refl

@@ -1,15 +1,16 @@
 //! Reordering a text syllable by syllable.
-ghost use Rattle.std.specs.Prelude.{◌≡◌, ◌<◌, ◌≤◌, ℕ, [], OnOk, false, drop, get_or, length};
+ghost use Rattle.std.specs.Prelude.{◌≡◌, ◌<◌, ◌≤◌, ℕ, [], OnOk, false, true, drop, get_or, length};
 ghost use Rattle.std.specs.List.{position};
 ghost use Rattle.shapers_buffer.specs.Clusters.{stretch_of};
 ghost use Rattle.shapers_buffer.specs.Glyph.{default_glyph};
 ghost use Rattle.shapers_syllabic.specs.Borders.{MeetAtBorder};
 ghost use Rattle.shapers_syllabic.specs.Reordering.{RefusesIf, SyllablesLinked, TakesText, TextOrdered, glyph_numbers};
-ghost use Rattle.shapers_clusters.specs.CarriedRuns.{IsCarried, with_carried};
-ghost use Rattle.shapers_syllabic.specs.ReorderingWalk.{CarryingFits, Guarded, NextChanging, ReorderedBehind, Settled, clusters_fall, run_written};
+ghost use Rattle.shapers_clusters.specs.CarriedGroups.{AreCarried, GroupsGuarded};
+ghost use Rattle.shapers_syllabic.specs.ReorderingWalk.{CanSettle, CarryingFits, GroupsSettled, NextChanging, ReorderedBehind, groups_written};
 
-use shapers_base::buffer::{ShaperError, hb_buffer_t, hb_glyph_info_t};
-use shapers_clusters::carried_runs::CarriedRun;
+use shapers_base::buffer::{GlyphWalk, ShaperError, hb_buffer_t, hb_glyph_info_t};
+use shapers_clusters::carried_groups::CarriedGroups;
+use std::alloc::Global;
 
 /// Which glyphs may change their syllable.
 pub trait MayChange {
@@ -119,85 +120,110 @@ pub fn reorder_syllables<R: ReorderBySteps>(
         (SyllablesLinked (R.relation order.now) buffer.old buffer.new) }
     ensures refusal { RefusesIf (R.may_refuse order.now) result }
 {
-    if clusters_fall(buffer.glyphs()) {
-        reorder_carrying(order, buffer)
-    } else {
-        reorder_in_turn(order, buffer)
-    }
-}
-
-// Whether the last cluster is below the first one. Where they never fall, no merge floods what
-// stands before its syllable.
-#[inline]
-fn clusters_fall(glyphs: &[hb_glyph_info_t]) -> bool
-    ensures { result ≡ clusters_fall glyphs.now }
-{
-    !glyphs.is_empty() && glyphs[glyphs.len() - 1].cluster < glyphs[0].cluster
-}
-
-// Reorders the syllables one after another.
-#[inline]
-fn reorder_in_turn<R: ReorderBySteps>(
-    order: &R,
-    buffer: &mut hb_buffer_t,
-) -> Result<(), ShaperError>
-    requires without_positions { buffer.old.positions ≡ [] }
-    requires takes { TakesText (R.takes order.now) buffer.old.glyphs }
-    ensures ordered { OnOk result
-        (TextOrdered (R.meaning order.now buffer.old.script) buffer.old buffer.new) }
-    ensures linked { OnOk result
-        (SyllablesLinked (R.relation order.now) buffer.old buffer.new) }
-    ensures refusal { RefusesIf (R.may_refuse order.now) result }
-{
-    let mut start = 0;
-    while let Some(first) = next_changing(order, buffer.glyphs(), start) {
-        let end = buffer.next_syllable(first);
-        order.reorder(buffer, first, end)?;
-        start = end;
-    }
-    buffer.clear_places();
-    Ok(())
-}
-
-// The same in a text whose clusters fall: what merges flood before their syllables is carried along
-// and written once.
-#[inline(never)]
-fn reorder_carrying<R: ReorderBySteps>(
-    order: &R,
-    buffer: &mut hb_buffer_t,
-) -> Result<(), ShaperError>
-    requires without_positions { buffer.old.positions ≡ [] }
-    requires takes { TakesText (R.takes order.now) buffer.old.glyphs }
-    ensures ordered { OnOk result
-        (TextOrdered (R.meaning order.now buffer.old.script) buffer.old buffer.new) }
-    ensures linked { OnOk result
-        (SyllablesLinked (R.relation order.now) buffer.old buffer.new) }
-    ensures refusal { RefusesIf (R.may_refuse order.now) result }
-{
-    let mut carrying = Carrying {
-        run: CarriedRun::NONE,
-        glyph: hb_glyph_info_t::DEFAULT,
-    };
+    let mut carrying = Carrying::new(buffer.alloc());
     let mut start = 0;
     while let Some(first) = next_changing(order, buffer.glyphs(), start) {
         let after = buffer.next_syllable(first);
         reorder_behind(order, &mut carrying, buffer, first, after)?;
         start = after;
     }
-    write(carrying.run, buffer);
+    carrying.write(buffer);
     buffer.clear_places();
     Ok(())
 }
 
-// What the walk carries along: the run that merges flooded, if there is one, and the glyph whose
-// cluster they may change or that stands for a guard.
-#[derive(Clone, Copy)]
+// What the walk carries along, from the first syllable on that floods what stands before it: groups
+// of glyphs that aren't written yet. The rest is of one syllable.
+#[derive(Drop)]
 struct Carrying {
-    run: CarriedRun,
-    glyph: hb_glyph_info_t,
+    groups: CarriedGroups,
+    is_on: bool,
+    settles: bool,
+    count: usize,
+    first: usize,
+    end: usize,
 }
 
-// Reorders a syllable, while floods to the left stop at the last glyph of the run but one.
+impl GlyphWalk for Carrying {
+    ghost use Rattle.shapers_syllabic.specs.ReorderingWalk.{CanWalk, Walked};
+
+    ghost can_walk = { λ w gs. CanWalk w gs };
+
+    ghost walks = { λ v w gs hs. Walked v gs w hs };
+
+    // Before a syllable and behind it.
+    #[inline]
+    fn walk(&mut self, glyphs: &mut [hb_glyph_info_t]) {
+        if self.settles {
+            self.groups.settle(glyphs, self.count);
+        } else {
+            self.count = self.groups.guard(glyphs, self.first, self.end);
+        }
+    }
+}
+
+impl Carrying {
+    // Nothing so far.
+    #[inline]
+    fn new(alloc: Global) -> Self
+        ensures start { result.groups.start ≡ 0 }
+        ensures end { result.groups.end ≡ 0 }
+        ensures none { result.groups.groups.items ≡ [] }
+        ensures off { result.is_on ≡ false }
+    {
+        Carrying {
+            groups: CarriedGroups::new(alloc),
+            is_on: false,
+            settles: false,
+            count: 0,
+            first: 0,
+            end: 0,
+        }
+    }
+
+    // Before a syllable.
+    #[inline]
+    fn guard(&mut self, buffer: &mut hb_buffer_t, first: usize, end: usize)
+        requires in_order { first ≤ end }
+        requires in_range { end ≤ length buffer.old.glyphs }
+        requires fits { AreCarried self.old.groups buffer.old.glyphs }
+        requires further { self.old.groups.end ≤ first }
+        ensures guarded { GroupsGuarded first end self.old.groups buffer.old.glyphs
+            self.new.groups self.new.count buffer.new.glyphs }
+        ensures on { self.new.is_on ≡ self.old.is_on }
+        ensures others { buffer.new ≡ record buffer.old { glyphs = buffer.new.glyphs } }
+    {
+        self.first = first;
+        self.end = end;
+        self.settles = false;
+        buffer.walk(self);
+    }
+
+    // Behind it.
+    #[inline]
+    fn settle(&mut self, buffer: &mut hb_buffer_t)
+        requires fits { CanSettle self.old.groups self.old.count buffer.old.glyphs }
+        ensures settled { GroupsSettled self.old.groups self.old.count buffer.old.glyphs
+            self.new.groups buffer.new.glyphs }
+        ensures on { self.new.is_on ≡ self.old.is_on }
+        ensures others { buffer.new ≡ record buffer.old { glyphs = buffer.new.glyphs } }
+    {
+        self.settles = true;
+        buffer.walk(self);
+    }
+
+    // Writes what is carried.
+    #[inline]
+    fn write(&mut self, buffer: &mut hb_buffer_t)
+        requires { AreCarried self.old.groups buffer.old.glyphs }
+        ensures { buffer.new ≡ groups_written self.old.groups buffer.old }
+    {
+        let len = buffer.len();
+        self.guard(buffer, len, len);
+    }
+}
+
+// Reorders a syllable, while one glyph stands for each group that it could flood.
 #[inline]
 fn reorder_behind<R: ReorderBySteps>(
     order: &R,
@@ -215,87 +241,71 @@ fn reorder_behind<R: ReorderBySteps>(
         carrying.old buffer.old carrying.new buffer.new) }
     ensures refusal { RefusesIf (R.may_refuse order.now) result }
 {
-    guard(carrying, buffer, first);
+    if carrying.is_on {
+        reorder_guarded(order, carrying, buffer, first, end)
+    } else {
+        reorder_watched(order, carrying, buffer, first, end)
+    }
+}
+
+// As long as no syllable floods what stands before it.
+#[inline]
+fn reorder_watched<R: ReorderBySteps>(
+    order: &R,
+    carrying: &mut Carrying,
+    buffer: &mut hb_buffer_t,
+    first: usize,
+    end: usize,
+) -> Result<(), ShaperError>
+    requires off { carrying.old.is_on ≡ false }
+    requires in_order { first ≤ end }
+    requires in_range { end ≤ length buffer.old.glyphs }
+    requires without_positions { buffer.old.positions ≡ [] }
+    requires takes { R.takes order.now (glyph_numbers (stretch_of first end buffer.old.glyphs)) }
+    requires fits { CarryingFits first carrying.old buffer.old.glyphs }
+    ensures behind { OnOk result (ReorderedBehind (R.relation order.now) first end
+        carrying.old buffer.old carrying.new buffer.new) }
+    ensures refusal { RefusesIf (R.may_refuse order.now) result }
+{
+    let cluster = cluster_before(buffer.glyphs(), first);
     order.reorder(buffer, first, end)?;
-    settle(carrying, buffer, first);
+    carrying.is_on = cluster_before(buffer.glyphs(), first) != cluster;
     Ok(())
 }
 
-// Carries the run up to a syllable, with another cluster in its last place but one, or writes it.
+// The cluster of the glyph before a place.
 #[inline]
-fn guard(carrying: &mut Carrying, buffer: &mut hb_buffer_t, first: usize)
-    requires in_range { first ≤ length buffer.old.glyphs }
-    requires fits { CarryingFits first carrying.old buffer.old.glyphs }
-    ensures { Guarded first carrying.old buffer.old carrying.new buffer.new }
-{
-    if let Some(run) = carrying.run.reaching(buffer.glyphs(), first) {
-        let glyph = buffer.get(first - 2);
-        buffer.set(
-            first - 2,
-            hb_glyph_info_t {
-                cluster: run.above,
-                ..glyph
-            },
-        );
-        carrying.run = run;
-        carrying.glyph = glyph;
-        return;
-    }
-    write(carrying.run, buffer);
-    carrying.run = CarriedRun::NONE;
-    carrying.glyph = glyph_before(buffer.glyphs(), first);
-}
-
-// The glyph before a place.
-#[inline]
-fn glyph_before(glyphs: &[hb_glyph_info_t], place: usize) -> hb_glyph_info_t
-    requires { place ≤ length glyphs.now }
-{
-    if place == 0 {
-        hb_glyph_info_t::DEFAULT
+fn cluster_before(glyphs: &[hb_glyph_info_t], place: usize) -> u32 {
+    if place == 0 || place > glyphs.len() {
+        0
     } else {
-        glyphs[place - 1]
+        glyphs[place - 1].cluster
     }
 }
 
-// Takes the guard away; or a run begins, where merges flooded what stands before the syllable.
-#[inline]
-fn settle(carrying: &mut Carrying, buffer: &mut hb_buffer_t, first: usize)
-    requires in_range { first ≤ length buffer.old.glyphs }
-    requires in_order { carrying.old.run.start ≤ carrying.old.run.end }
-    requires two { carrying.old.run.start < carrying.old.run.end → 1 < first }
-    ensures { Settled first carrying.old buffer.old carrying.new buffer.new }
-{
-    if carrying.run.is_none() {
-        carrying.run = begun(buffer.glyphs(), first, carrying.glyph.cluster);
-    } else {
-        buffer.set(first - 2, carrying.glyph);
-    }
-}
-
-// The run that ends before a place, if the cluster of the glyph there fell from this one.
-#[inline]
-fn begun(glyphs: &[hb_glyph_info_t], place: usize, cluster: u32) -> CarriedRun
-    requires in_range { place ≤ length glyphs.now }
-    ensures same { with_carried result glyphs.now ≡ glyphs.now }
-    ensures fits { IsCarried result glyphs.now }
-    ensures at { result.end ≤ place }
-{
-    if place == 0 {
-        CarriedRun::NONE
-    } else {
-        CarriedRun::fallen(glyphs, place, cluster)
-    }
-}
-
-// Puts the glyphs of a run into its cluster.
+// From the first one on that does.
 #[inline(never)]
-fn write(run: CarriedRun, buffer: &mut hb_buffer_t)
-    requires { IsCarried run buffer.old.glyphs }
-    ensures { buffer.new ≡ run_written run buffer.old }
+fn reorder_guarded<R: ReorderBySteps>(
+    order: &R,
+    carrying: &mut Carrying,
+    buffer: &mut hb_buffer_t,
+    first: usize,
+    end: usize,
+) -> Result<(), ShaperError>
+    requires on { carrying.old.is_on ≡ true }
+    requires in_order { first ≤ end }
+    requires in_range { end ≤ length buffer.old.glyphs }
+    requires without_positions { buffer.old.positions ≡ [] }
+    requires takes { R.takes order.now (glyph_numbers (stretch_of first end buffer.old.glyphs)) }
+    requires fits { CarryingFits first carrying.old buffer.old.glyphs }
+    ensures behind { OnOk result (ReorderedBehind (R.relation order.now) first end
+        carrying.old buffer.old carrying.new buffer.new) }
+    ensures refusal { RefusesIf (R.may_refuse order.now) result }
 {
-    let cluster = run.cluster(buffer.glyphs());
-    buffer.change_each(run.start, run.end, &cluster);
+    carrying.guard(buffer, first, end);
+    order.reorder(buffer, first, end)?;
+    carrying.settle(buffer);
+    Ok(())
 }
 
 // Where the next syllable starts that may change, of those from `start` on.

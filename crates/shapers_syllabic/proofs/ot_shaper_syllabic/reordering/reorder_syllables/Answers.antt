@@ -3,12 +3,13 @@ use Rattle.std.proofs.Common.{◌∙◌, ap, arith, refl}
 use Rattle.shapers_buffer.specs.Buffer.{but_places}
 use Rattle.shapers_syllabic.proofs.CarriedSyllables.{carried_stands, carry_end, carry_next, takes_carried, to_carry_all}
 use Rattle.shapers_syllabic.proofs.LinkedSyllables.{text_ordered}
-use Rattle.shapers_syllabic.proofs.ot_shaper_syllabic.reordering.reorder_carrying.Goals as goal
+use Rattle.shapers_syllabic.proofs.ot_shaper_syllabic.reordering.reorder_syllables.Goals as goal
 
 pub loop-first-init : goal.loop-first-init
 loop-first-init g c =
     let order = c.args.order.now in
-    to_carry_all (g.R.Reorder.takes order) (g.R.Reorder.relation order) c.args.buffer.now _ refl refl c.requires.takes
+    to_carry_all (g.R.Reorder.takes order) (g.R.Reorder.relation order) c.args.buffer.now c.new-carrying.result
+    c.new-carrying.ensures.start c.new-carrying.ensures.end c.new-carrying.ensures.none c.requires.takes
 
 pub reorder_behind-requires-clause-takes : goal.reorder_behind-requires-clause-takes
 reorder_behind-requires-clause-takes g c =
