@@ -1,5 +1,5 @@
 -- One syllable more that may change, behind those that stay; the chain, and the text order from it.
-use Rattle.std.proofs.Common.{◌∙◌, ap, arith, refl}
+use Rattle.std.proofs.Common.{◌∙◌, ap, arith, length}
 use Rattle.shapers_buffer.specs.Buffer.{but_places}
 use Rattle.shapers_syllabic.proofs.CarriedSyllables.{carried_stands, carry_end, carry_next, takes_carried, to_carry_all}
 use Rattle.shapers_syllabic.proofs.LinkedSyllables.{text_ordered}
@@ -10,6 +10,13 @@ loop-first-init g c =
     let order = c.args.order.now in
     to_carry_all (g.R.Reorder.takes order) (g.R.Reorder.relation order) c.args.buffer.now c.new-carrying.result
     c.new-carrying.ensures.start c.new-carrying.ensures.end c.new-carrying.ensures.none c.requires.takes
+
+pub next_changing-requires : goal.next_changing-requires
+next_changing-requires g c =
+    let order = c.args.order.now in
+    let stands = carried_stands (g.R.Reorder.takes order) (g.R.Reorder.relation order) c.args.buffer.now
+    c.loop-first.carrying c.loop-first.buffer c.loop-first.start c.loop-first.invariant in
+    omega (arith, stands.inside, ap length c.glyphs.ensures)
 
 pub reorder_behind-requires-clause-takes : goal.reorder_behind-requires-clause-takes
 reorder_behind-requires-clause-takes g c =

@@ -1,0 +1,51 @@
+-- What is shown, the order reads; and what is carried on behind it.
+use Rattle.std.proofs.Common.{◌∙◌, ◌≡◌, arith, subst, sym, true}
+use Rattle.shapers_syllabic.proofs.CarriedSyllables.{behind_guarded, guarded_stands, numbers_by_view}
+use Rattle.shapers_syllabic.proofs.ot_shaper_syllabic.reordering.reorder_guarded.Goals as goal
+
+pub reorder-requires-clause-in_range : goal.reorder-requires-clause-in_range
+reorder-requires-clause-in_range g c =
+    let stands = guarded_stands c.args.first c.args.end c.guard.new.self.count c.args.carrying.now.groups
+    c.guard.new.self.groups c.args.buffer.now c.guard.new.buffer c.requires.fits.fits c.guard.ensures.guarded
+    c.guard.ensures.others in
+    omega (arith, stands.same_length, c.requires.in_range)
+
+pub reorder-requires-clause-takes : goal.reorder-requires-clause-takes
+reorder-requires-clause-takes g c =
+    let stands = guarded_stands c.args.first c.args.end c.guard.new.self.count c.args.carrying.now.groups
+    c.guard.new.self.groups c.args.buffer.now c.guard.new.buffer c.requires.fits.fits c.guard.ensures.guarded
+    c.guard.ensures.others in
+    subst (g.R.Reorder.takes c.args.order.now) (sym (numbers_by_view c.args.first c.args.end c.guard.new.buffer.glyphs
+    c.args.buffer.now.glyphs stands.view)) c.requires.takes
+
+pub settle-requires : goal.settle-requires
+settle-requires g c =
+    let order = c.args.order.now in
+    record {
+      fits = (behind_guarded (g.R.Reorder.meaning order) (g.R.ReorderBySteps.steps order) (g.R.Reorder.relation order)
+    (g.met.R.ReorderBySteps.leads order) (g.met.R.ReorderBySteps.suffices order) (g.met.R.ReorderBySteps.laws order)
+    c.args.first c.args.end c.guard.new.self.count c.args.carrying.now.groups c.guard.new.self.groups c.args.buffer.now
+    c.guard.new.buffer c.reorder.new.buffer c.requires.in_order c.requires.in_range c.requires.fits.fits
+    c.guard.ensures.guarded c.guard.ensures.others c.in_ok-reorder.ensures.related).can;
+    }
+
+pub returns-clause-behind : goal.returns-clause-behind
+returns-clause-behind g c =
+    let order = c.args.order.now in
+    let behind = (behind_guarded (g.R.Reorder.meaning order) (g.R.ReorderBySteps.steps order) (g.R.Reorder.relation order)
+    (g.met.R.ReorderBySteps.leads order) (g.met.R.ReorderBySteps.suffices order) (g.met.R.ReorderBySteps.laws order)
+    c.args.first c.args.end c.guard.new.self.count c.args.carrying.now.groups c.guard.new.self.groups c.args.buffer.now
+    c.guard.new.buffer c.reorder.new.buffer c.requires.in_order c.requires.in_range c.requires.fits.fits
+    c.guard.ensures.guarded c.guard.ensures.others c.in_ok-reorder.ensures.related) in
+    let settled = c.settle.ensures.settled in
+    let end = settled.end in
+    let at = behind.ends in
+    let on : c.settle.new.self.is_on ≡ true = c.settle.ensures.on ∙ c.guard.ensures.on ∙ c.requires.on in
+    record {
+      linked = behind.linked c.settle.new.self.groups c.settle.new.buffer settled c.settle.ensures.others;
+      fits = record {
+        fits = settled.fits;
+        ends = omega arith;
+        off = λ off. absurd (cc);
+      };
+    }
