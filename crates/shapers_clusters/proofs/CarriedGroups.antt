@@ -67,8 +67,10 @@ back_group c m P G g low some none = elim (cases_Bool (g.cluster == c)) [
       | inl same ↦ rw same (eqb-true g.cluster m same)
       | inr other ↦ rw other refl
     ]
+
     differ : (g.cluster == c) ≡ false → g.cluster ≢ c
     differ other is = grind (arith, nat_tests)
+
     last_put : (k : ℕ) (G : List hb_glyph_info_t) → 0 < length G → last_cluster (map (in_cluster k) G) ≡ k
     last_put k G some = last_stays k (map (in_cluster k) G) (omega (arith, length-map G (in_cluster k)))
         (all_in_cluster k G)

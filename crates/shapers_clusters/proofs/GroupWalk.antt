@@ -152,9 +152,10 @@ pub least-read : (gs : List hb_glyph_info_t) (groups : List Group) (hs : List hb
 least-read [] groups hs many all = all
 least-read (g ∷ gs) [] hs many all = absurd (omega arith)
 least-read (g ∷ gs) (group ∷ groups) hs many all =
-    let low : min group.cluster g.cluster ≤ group.cluster = omega arith in
-    ((all.0.0, none_lower (min group.cluster g.cluster) group.cluster (take group.len hs) low all.0.1),
-    least-read gs groups (drop group.len hs) (omega arith) all.1)
+    let low : min group.cluster g.cluster ≤ group.cluster = omega arith in (
+      (all.0.0, none_lower (min group.cluster g.cluster) group.cluster (take group.len hs) low all.0.1),
+      least-read gs groups (drop group.len hs) (omega arith) all.1,
+    )
 
 -- THE LAST groups
 pub last_split : (xs : List Group) → 0 < length xs →
@@ -208,16 +209,22 @@ joined_same xs two same =
         ∙ ap (λ c. map f (take one.len hs) ++ map (in_cluster c) (take other.len (drop one.len hs))) is
         ∙ ap (λ l. map f (take one.len hs) ++ l)
         (sym (append-nil (map (in_cluster other.cluster) (take other.len (drop one.len hs)))))
+
     pair_least : (one other : Group) (hs : List hb_glyph_info_t) → one.cluster ≡ other.cluster →
         LeastIn (one ∷ other ∷ []) hs → LeastIn ((record one { len = one.len + other.len }) ∷ []) hs
     pair_least one other hs is all =
         let some = all.0.0 in
         let a = all.0.1 in
         let b : none_below one.cluster (take other.len (drop one.len hs)) ≡ true =
-        ap (λ c. none_below c (take other.len (drop one.len hs))) is ∙ all.1.0.1 in
-        ((omega arith, ap (none_below one.cluster) (take-add one.len other.len hs)
-        ∙ list_all-append (λ g. nat_le one.cluster g.cluster) (take one.len hs) (take other.len (drop one.len hs))
-        ∙ rw (a, b) refl), tt)
+        ap (λ c. none_below c (take other.len (drop one.len hs))) is ∙ all.1.0.1 in (
+          (
+            omega arith,
+            ap (none_below one.cluster) (take-add one.len other.len hs)
+                ∙ list_all-append (λ g. nat_le one.cluster g.cluster) (take one.len hs) (take other.len (drop one.len hs))
+                ∙ rw (a, b) refl,
+          ),
+          tt,
+        )
 
 pub two_lens : (xs : List Group) → 1 < length xs → (get_or xs (length xs - 2) no_group).len
     + (get_or xs (length xs - 1) no_group).len ≤ len_of xs

@@ -68,9 +68,10 @@ stand_cut (group ∷ groups) [] gs rest stood within all = absurd (cc)
 stand_cut (group ∷ groups) (g ∷ reps) gs rest stood within all =
     let (one, more) = heads g.cluster group.cluster (map (λ (g : hb_glyph_info_t). g.cluster) reps)
     (map (λ (group : Group). group.cluster) groups) stood in
-    let some = all.0.0 in
-    ((omega (arith, length-take group.len gs), ap (λ c. none_below c (take group.len gs)) one ∙ all.0.1),
-    stand_cut groups reps (drop group.len gs) rest more (omega (arith, length-drop group.len gs)) all.1)
+    let some = all.0.0 in (
+      (omega (arith, length-take group.len gs), ap (λ c. none_below c (take group.len gs)) one ∙ all.0.1),
+      stand_cut groups reps (drop group.len gs) rest more (omega (arith, length-drop group.len gs)) all.1,
+    )
 
 shown_as : (groups : List Group) (gs : List hb_glyph_info_t) → length groups ≤ length gs →
     StandAs groups (take (length groups) (shown groups gs))
@@ -321,6 +322,7 @@ steps_behind level first end count steps before after between hs order within fi
     long [] gs few = refl
     long (group ∷ groups) [] few = absurd (omega arith)
     long (group ∷ groups) (g ∷ gs) few = omega (arith, long groups gs (omega arith))
+
     first_of_reps : (reps rest : List hb_glyph_info_t) (groups : List Group) → StandAs groups reps → 0 < length reps →
         first_cluster (reps ++ rest) ≡ first_of groups
     first_of_reps [] rest groups stood more = absurd (omega arith)

@@ -4,6 +4,7 @@ pub mod Borders
 mod BorderRows
 pub mod Bounds
 pub mod CarriedGroups
+mod CarriedGroupRows
 pub mod CarriedGlyphs
 mod CarriedRunRows
 pub mod CarriedRuns

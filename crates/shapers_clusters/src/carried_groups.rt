@@ -79,12 +79,7 @@ impl CarriedGroups {
 
     // The same, but 0 where that is not to be, and then all is as before.
     #[inline]
-    fn try_guard(
-        &mut self,
-        glyphs: &mut [hb_glyph_info_t],
-        first: usize,
-        end: usize,
-    ) -> usize
+    fn try_guard(&mut self, glyphs: &mut [hb_glyph_info_t], first: usize, end: usize) -> usize
         requires fits { AreCarried self.old glyphs.old }
         requires further { self.old.end ≤ first }
         requires in_order { first ≤ end }
@@ -136,7 +131,12 @@ impl CarriedGroups {
         let place = self.end - count;
         let index = self.group_count() - count;
         self.read_from(&glyphs[place..self.end], index);
-        put_back(self.kept.as_slice(), glyphs, place.saturating_sub(1), self.end);
+        put_back(
+            self.kept.as_slice(),
+            glyphs,
+            place.saturating_sub(1),
+            self.end,
+        );
         self.join(glyphs);
     }
 

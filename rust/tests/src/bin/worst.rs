@@ -1,7 +1,8 @@
 //! `worst`: the reorderings on the texts that cost them most, in nanoseconds per glyph at 10^5 and
 //! 10^6 glyphs. A text repeats a unit of categories, in one syllable or in one a unit, and its
-//! clusters rise, fall, or fall with neighbours in pairs. A line has the least and the greatest of
-//! these six, each the least of some passes; where they grow with the text, it takes its square.
+//! clusters rise, fall, fall with neighbours in pairs, or rise and fall behind a long run of one
+//! cluster. A line has the least and the greatest of these eight, each the least of some passes;
+//! where they grow with the text, it takes its square.
 //!
 //!     cargo run --release -p sengadlit-tests --bin worst
 
@@ -116,10 +117,17 @@ enum Clusters {
     Rising,
     Falling,
     FallingInPairs,
+    /// Half of the text in one, and behind it stretches that fall to this and then below it.
+    BehindRun,
 }
 
 impl Clusters {
-    const ALL: [Self; 3] = [Self::Rising, Self::Falling, Self::FallingInPairs];
+    const ALL: [Self; 4] = [
+        Self::Rising,
+        Self::Falling,
+        Self::FallingInPairs,
+        Self::BehindRun,
+    ];
 
     /// The cluster of a glyph, of so many.
     fn of(self, place: usize, length: usize) -> u32 {
@@ -127,6 +135,16 @@ impl Clusters {
             Self::Rising => place,
             Self::Falling => length - place,
             Self::FallingInPairs => length - place.div_ceil(2),
+            Self::BehindRun => {
+                let behind = place.saturating_sub(length / 2);
+                let low = length - behind / 6;
+                match behind % 6 {
+                    0 if behind == 0 => length,
+                    0..=2 => 2 * length,
+                    3 | 4 => low,
+                    _ => low - 1,
+                }
+            }
         };
         u32::try_from(cluster).expect("a text is shorter")
     }

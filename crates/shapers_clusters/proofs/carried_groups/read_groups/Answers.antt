@@ -1,5 +1,5 @@
 -- One more is read.
-use Rattle.std.proofs.Common.{◌∙◌, ap, arith, slice_set}
+use Rattle.std.proofs.Common.{arith}
 use Rattle.shapers_clusters.proofs.GroupWalk.{read_next}
 use Rattle.shapers_clusters.proofs.carried_groups.read_groups.Goals as goal
 

@@ -1,5 +1,5 @@
 -- One more is shown.
-use Rattle.std.proofs.Common.{◌∙◌, ap, arith, slice_set}
+use Rattle.std.proofs.Common.{arith}
 use Rattle.shapers_clusters.proofs.GroupWalk.{show_next}
 use Rattle.shapers_clusters.proofs.carried_groups.show_groups.Goals as goal
 

@@ -1,5 +1,5 @@
 -- One more is written.
-use Rattle.std.proofs.Common.{◌∙◌, ◌≤◌, ◌+◌, ◌++◌, ◌∷◌, ap, arith, drop, get_or, length, subst, sym, take}
+use Rattle.std.proofs.Common.{◌∙◌, ◌≤◌, ◌+◌, ◌++◌, ◌∷◌, ap, drop, get_or, length, subst, sym, take}
 use Rattle.shapers_clusters.specs.CarriedGroups.{grouped, len_of, no_group}
 use Rattle.shapers_clusters.specs.declared.carried_groups.Group.{Group}
 use Rattle.shapers_clusters.proofs.GroupWalk.{next_at, written_next}

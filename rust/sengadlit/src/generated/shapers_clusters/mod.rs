@@ -3,5 +3,6 @@
 //! The laws of clusters and glyph flags: what merges and moves do to any list of glyphs. Each
 //! function here does nothing, and its contract is the law.
 
+pub mod carried_groups;
 pub mod carried_runs;
 pub mod into_cluster;

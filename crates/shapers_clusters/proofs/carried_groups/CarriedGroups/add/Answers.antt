@@ -1,7 +1,6 @@
 -- The glyph is a group of its own.
 use Rattle.std.proofs.Common.{◌∙◌, ◌+◌, get_or, refl}
 use Rattle.shapers_buffer.specs.Glyph.{default_glyph}
-use Rattle.shapers_clusters.specs.CarriedGroups.{StillSame}
 use Rattle.shapers_clusters.proofs.GroupWalk.{added}
 use Rattle.shapers_clusters.proofs.carried_groups.CarriedGroups.add.Goals as goal
 

@@ -1,5 +1,5 @@
 -- Two groups in one cluster are as one.
-use Rattle.std.proofs.Common.{◌∙◌, ◌-◌, ◌≡◌, ap, arith, get_or, length, subst, sym}
+use Rattle.std.proofs.Common.{◌∙◌, ◌-◌, ap, arith, get_or, subst, sym}
 use Rattle.shapers_clusters.specs.CarriedGroups.{no_group}
 use Rattle.shapers_clusters.specs.declared.carried_groups.Group.{Group}
 use Rattle.shapers_clusters.proofs.GroupWalk.{Joined, joined_same, joined_still}

@@ -1,5 +1,5 @@
 -- The last two are at the end of the list.
-use Rattle.std.proofs.Common.{◌∙◌, ◌-◌, ap, arith, get_or}
+use Rattle.std.proofs.Common.{◌-◌, ap, arith, get_or}
 use Rattle.shapers_clusters.specs.CarriedGroups.{no_group}
 use Rattle.shapers_clusters.specs.declared.carried_groups.Group.{Group}
 use Rattle.shapers_clusters.proofs.GroupWalk.{joined_list, two_lens}

@@ -1,5 +1,5 @@
 -- The groups are read, and what was kept is back.
-use Rattle.std.proofs.Common.{◌∙◌, ◌+◌, ◌++◌, ◌-◌, ◌<◌, ◌≡◌, ap, arith, drop, length, length-drop, length-take, refl, subst, sym, take}
+use Rattle.std.proofs.Common.{◌∙◌, ◌+◌, ◌++◌, ◌-◌, ◌≡◌, ap, arith, drop, length, length-drop, length-take, subst, sym, take}
 use Rattle.shapers_buffer.specs.Clusters.{stretch_of}
 use Rattle.shapers_clusters.specs.CarriedGroups.{AreCarried, fallen_groups, read_back, taken_back, with_list}
 use Rattle.shapers_clusters.proofs.GroupWalk.{many_lens, read_fits, settled, taken_is}

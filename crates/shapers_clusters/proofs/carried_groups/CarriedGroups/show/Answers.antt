@@ -1,5 +1,5 @@
 -- What is shown, and what was there.
-use Rattle.std.proofs.Common.{◌∙◌, ◌+◌, ◌++◌, ◌-◌, ◌≡◌, ap, arith, drop, length, refl, sym, take}
+use Rattle.std.proofs.Common.{◌∙◌, ◌+◌, ◌++◌, ◌-◌, ap, arith, drop, refl, sym, take}
 use Rattle.shapers_clusters.specs.CarriedGroups.{first_of, put_before}
 use Rattle.shapers_clusters.specs.declared.carried_groups.Group.{Group}
 use Rattle.shapers_clusters.proofs.GroupWalk.{are_shown, first_get, many_lens}

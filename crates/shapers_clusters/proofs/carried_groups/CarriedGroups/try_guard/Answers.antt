@@ -1,7 +1,6 @@
 -- What is shown stands behind what isn't flooded.
-use Rattle.std.proofs.Common.{◌∙◌, ◌-◌, ◌<◌, ◌≡◌, ap, arith, drop, inl, inr, length, refl, sym, true}
+use Rattle.std.proofs.Common.{◌≡◌, arith, inl, inr, true}
 use Rattle.std.proofs.Math.Nat.{eq-or-lt_of_le}
-use Rattle.shapers_clusters.specs.CarriedGroups.{first_of}
 use Rattle.shapers_clusters.proofs.carried_groups.CarriedGroups.try_guard.Goals as goal
 
 pub returns-in-Ok-clause-some : goal.returns-in-Ok-clause-some
@@ -18,10 +17,12 @@ returns-in-Ok-clause-some c some =
       none = λ none. absurd (omega arith);
       within = c.count_from-count.ensures.within;
       some = λ _. c.in-Ok.ensures.shown;
-      stops = λ _. (omega (arith, c.if-first-end.false, c.requires.in_order),
-          elim (eq-or-lt_of_le c.count_from-count.ensures.within) [
-            | inl all ↦ inr (all, (c.is_apart.ensures apart).above)
-            | inr less ↦ (let stops = c.count_from-count.ensures.stops less in
-                inl (omega (arith, stops, c.least_cluster.ensures)))
-          ]);
+      stops = λ _. (
+        omega (arith, c.if-first-end.false, c.requires.in_order),
+        elim (eq-or-lt_of_le c.count_from-count.ensures.within) [
+          | inl all ↦ inr (all, (c.is_apart.ensures apart).above)
+          | inr less ↦ (let stops = c.count_from-count.ensures.stops less in
+              inl (omega (arith, stops, c.least_cluster.ensures)))
+        ],
+      );
     }

@@ -1,7 +1,6 @@
 -- The last one stands behind the others.
-use Rattle.std.proofs.Common.{◌∙◌, ◌+◌, ◌++◌, ◌-◌, ◌∷◌, ◌≡◌, [], ap, arith, drop, get_or, length, refl, sym, take}
-use Rattle.shapers_clusters.specs.CarriedGroups.{StillSame, grouped, len_of, no_group}
-use Rattle.shapers_clusters.specs.declared.carried_groups.CarriedGroups.{CarriedGroups}
+use Rattle.std.proofs.Common.{◌∙◌, ◌-◌, ◌≡◌, ap, arith, get_or, length, refl, take}
+use Rattle.shapers_clusters.specs.CarriedGroups.{len_of, no_group}
 use Rattle.shapers_clusters.specs.declared.carried_groups.Group.{Group}
 use Rattle.shapers_clusters.proofs.GroupWalk.{before_last, written_by}
 use Rattle.shapers_clusters.proofs.carried_groups.CarriedGroups.write_before.Goals as goal

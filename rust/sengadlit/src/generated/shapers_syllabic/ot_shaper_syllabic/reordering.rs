@@ -2,8 +2,9 @@
 
 //! Reordering a text syllable by syllable.
 
-use crate::generated::shapers_base::buffer::{Buffer, GlyphInfo, ShaperError};
-use crate::generated::shapers_clusters::carried_runs::CarriedRun;
+use crate::generated::shapers_base::buffer::{Buffer, GlyphInfo, GlyphWalk, ShaperError};
+use crate::generated::shapers_clusters::carried_groups::CarriedGroups;
+use crate::support::alloc::Global;
 
 /// Which glyphs may change their syllable.
 pub trait MayChange {
@@ -100,61 +101,80 @@ pub fn reorder_syllables<R: ReorderBySteps>(
     order: &R,
     buffer: &mut Buffer,
 ) -> Result<(), ShaperError> {
-    if clusters_fall(buffer.glyphs()) {
-        reorder_carrying(order, buffer)
-    } else {
-        reorder_in_turn(order, buffer)
-    }
-}
-
-// Whether the last cluster is below the first one. Where they never fall, no merge floods what
-// stands before its syllable.
-#[inline]
-fn clusters_fall(glyphs: &[GlyphInfo]) -> bool {
-    !glyphs.is_empty() && glyphs[glyphs.len() - 1].cluster < glyphs[0].cluster
-}
-
-// Reorders the syllables one after another.
-#[inline]
-fn reorder_in_turn<R: ReorderBySteps>(order: &R, buffer: &mut Buffer) -> Result<(), ShaperError> {
-    let mut start = 0;
-    while let Some(first) = next_changing(order, buffer.glyphs(), start) {
-        let end = buffer.next_syllable(first);
-        order.reorder(buffer, first, end)?;
-        start = end;
-    }
-    buffer.clear_places();
-    Ok(())
-}
-
-// The same in a text whose clusters fall: what merges flood before their syllables is carried along
-// and written once.
-#[inline(never)]
-fn reorder_carrying<R: ReorderBySteps>(order: &R, buffer: &mut Buffer) -> Result<(), ShaperError> {
-    let mut carrying = Carrying {
-        run: CarriedRun::NONE,
-        glyph: GlyphInfo::DEFAULT,
-    };
+    let mut carrying = Carrying::new(buffer.alloc());
     let mut start = 0;
     while let Some(first) = next_changing(order, buffer.glyphs(), start) {
         let after = buffer.next_syllable(first);
         reorder_behind(order, &mut carrying, buffer, first, after)?;
         start = after;
     }
-    write(carrying.run, buffer);
+    carrying.write(buffer);
     buffer.clear_places();
     Ok(())
 }
 
-// What the walk carries along: the run that merges flooded, if there is one, and the glyph whose
-// cluster they may change or that stands for a guard.
-#[derive(Clone, Copy)]
+// What the walk carries along, from the first syllable on that floods what stands before it: groups
+// of glyphs that aren't written yet. The rest is of one syllable.
 struct Carrying {
-    run: CarriedRun,
-    glyph: GlyphInfo,
+    groups: CarriedGroups,
+    is_on: bool,
+    settles: bool,
+    count: usize,
+    first: usize,
+    end: usize,
 }
 
-// Reorders a syllable, while floods to the left stop at the last glyph of the run but one.
+impl GlyphWalk for Carrying {
+    // Before a syllable and behind it.
+    #[inline]
+    fn walk(&mut self, glyphs: &mut [GlyphInfo]) {
+        if self.settles {
+            self.groups.settle(glyphs, self.count);
+        } else {
+            self.count = self.groups.guard(glyphs, self.first, self.end);
+        }
+    }
+}
+
+impl Carrying {
+    // Nothing so far.
+    #[inline]
+    fn new(alloc: Global) -> Self {
+        Carrying {
+            groups: CarriedGroups::new(alloc),
+            is_on: false,
+            settles: false,
+            count: 0,
+            first: 0,
+            end: 0,
+        }
+    }
+
+    // Before a syllable.
+    #[inline]
+    fn guard(&mut self, buffer: &mut Buffer, first: usize, end: usize) {
+        self.first = first;
+        self.end = end;
+        self.settles = false;
+        buffer.walk(self);
+    }
+
+    // Behind it.
+    #[inline]
+    fn settle(&mut self, buffer: &mut Buffer) {
+        self.settles = true;
+        buffer.walk(self);
+    }
+
+    // Writes what is carried.
+    #[inline]
+    fn write(&mut self, buffer: &mut Buffer) {
+        let len = buffer.len();
+        self.guard(buffer, len, len);
+    }
+}
+
+// Reorders a syllable, while one glyph stands for each group that it could flood.
 #[inline]
 fn reorder_behind<R: ReorderBySteps>(
     order: &R,
@@ -163,68 +183,51 @@ fn reorder_behind<R: ReorderBySteps>(
     first: usize,
     end: usize,
 ) -> Result<(), ShaperError> {
-    guard(carrying, buffer, first);
+    if carrying.is_on {
+        reorder_guarded(order, carrying, buffer, first, end)
+    } else {
+        reorder_watched(order, carrying, buffer, first, end)
+    }
+}
+
+// As long as no syllable floods what stands before it.
+#[inline]
+fn reorder_watched<R: ReorderBySteps>(
+    order: &R,
+    carrying: &mut Carrying,
+    buffer: &mut Buffer,
+    first: usize,
+    end: usize,
+) -> Result<(), ShaperError> {
+    let cluster = cluster_before(buffer.glyphs(), first);
     order.reorder(buffer, first, end)?;
-    settle(carrying, buffer, first);
+    carrying.is_on = cluster_before(buffer.glyphs(), first) != cluster;
     Ok(())
 }
 
-// Carries the run up to a syllable, with another cluster in its last place but one, or writes it.
+// The cluster of the glyph before a place.
 #[inline]
-fn guard(carrying: &mut Carrying, buffer: &mut Buffer, first: usize) {
-    if let Some(run) = carrying.run.reaching(buffer.glyphs(), first) {
-        let glyph = buffer.get(first - 2);
-        buffer.set(
-            first - 2,
-            GlyphInfo {
-                cluster: run.above,
-                ..glyph
-            },
-        );
-        carrying.run = run;
-        carrying.glyph = glyph;
-        return;
-    }
-    write(carrying.run, buffer);
-    carrying.run = CarriedRun::NONE;
-    carrying.glyph = glyph_before(buffer.glyphs(), first);
-}
-
-// The glyph before a place.
-#[inline]
-fn glyph_before(glyphs: &[GlyphInfo], place: usize) -> GlyphInfo {
-    if place == 0 {
-        GlyphInfo::DEFAULT
+fn cluster_before(glyphs: &[GlyphInfo], place: usize) -> u32 {
+    if place == 0 || place > glyphs.len() {
+        0
     } else {
-        glyphs[place - 1]
+        glyphs[place - 1].cluster
     }
 }
 
-// Takes the guard away; or a run begins, where merges flooded what stands before the syllable.
-#[inline]
-fn settle(carrying: &mut Carrying, buffer: &mut Buffer, first: usize) {
-    if carrying.run.is_none() {
-        carrying.run = begun(buffer.glyphs(), first, carrying.glyph.cluster);
-    } else {
-        buffer.set(first - 2, carrying.glyph);
-    }
-}
-
-// The run that ends before a place, if the cluster of the glyph there fell from this one.
-#[inline]
-fn begun(glyphs: &[GlyphInfo], place: usize, cluster: u32) -> CarriedRun {
-    if place == 0 {
-        CarriedRun::NONE
-    } else {
-        CarriedRun::fallen(glyphs, place, cluster)
-    }
-}
-
-// Puts the glyphs of a run into its cluster.
+// From the first one on that does.
 #[inline(never)]
-fn write(run: CarriedRun, buffer: &mut Buffer) {
-    let cluster = run.cluster(buffer.glyphs());
-    buffer.change_each(run.start, run.end, &cluster);
+fn reorder_guarded<R: ReorderBySteps>(
+    order: &R,
+    carrying: &mut Carrying,
+    buffer: &mut Buffer,
+    first: usize,
+    end: usize,
+) -> Result<(), ShaperError> {
+    carrying.guard(buffer, first, end);
+    order.reorder(buffer, first, end)?;
+    carrying.settle(buffer);
+    Ok(())
 }
 
 // Where the next syllable starts that may change, of those from `start` on.
