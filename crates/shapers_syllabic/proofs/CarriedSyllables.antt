@@ -6,7 +6,6 @@ use Rattle.std.proofs.lemmas.List.{drop-append-le, drop-drop, drop-map, drop_at,
 use Rattle.std.proofs.Math.Nat.{eq-or-lt_of_le}
 use Rattle.std.proofs.lemmas.Bool.{cases_Bool}
 use Rattle.shapers_buffer.specs.declared.buffer.glyph.hb_glyph_info_t.{hb_glyph_info_t}
-use Rattle.shapers_buffer.specs.declared.buffer.level.BufferClusterLevel.{BufferClusterLevel}
 use Rattle.shapers_buffer.specs.declared.buffer.tag.Script.{Script}
 use Rattle.shapers_buffer.specs.Buffer.{Buffer, but_places}
 use Rattle.shapers_buffer.specs.ClusterRuns.{none_below}
@@ -98,10 +97,11 @@ least_other (group ∷ groups) xs ys zs within all =
     let same : take group.len (xs ++ ys) ≡ take group.len (xs ++ zs) = take-append-le group.len xs ys (omega arith)
     ∙ sym (take-append-le group.len xs zs (omega arith)) in
     let more : LeastIn groups (drop group.len xs ++ ys) =
-    subst (LeastIn groups) (drop-append-le group.len xs ys (omega arith)) all.1 in
-    ((all.0.0, ap (none_below group.cluster) (sym same) ∙ all.0.1),
-    subst (LeastIn groups) (sym (drop-append-le group.len xs zs (omega arith)))
-    (least_other groups (drop group.len xs) ys zs (omega (arith, length-drop group.len xs)) more))
+    subst (LeastIn groups) (drop-append-le group.len xs ys (omega arith)) all.1 in (
+      (all.0.0, ap (none_below group.cluster) (sym same) ∙ all.0.1),
+      subst (LeastIn groups) (sym (drop-append-le group.len xs zs (omega arith)))
+          (least_other groups (drop group.len xs) ys zs (omega (arith, length-drop group.len xs)) more),
+    )
 
 -- the first part in the clusters of groups
 abbrev front_of : CarriedGroups → List Group → List hb_glyph_info_t → List hb_glyph_info_t
@@ -197,7 +197,6 @@ numbers_by_view s e gs hs same =
     let number : hb_glyph_info_t → ℕ = λ g. g.glyph_id in
     map-stretch number s e gs ∙ ap (stretch_of s e) (sym (numbers-view gs) ∙ ap glyph_numbers same ∙ numbers-view hs)
     ∙ sym (map-stretch number s e hs)
-
 
 -- THE SYLLABLE. Nothing that the order reads is another one while groups are shown
 pub record GuardedStands (old now : Buffer) : Type 0 where

@@ -1,5 +1,5 @@
 -- Reordering syllable by syllable, computed on small texts.
-use Rattle.std.specs.Prelude.{◌+◌, ◌*◌, ◌≤◌, ◌⊎◌, Err, ◌≡◌, ℕ, List, [], ◌∷◌, length, map, reverse, Option, Some, None, pos, Bool, true, false, ◌==◌, if◌then◌else◌, refl}
+use Rattle.std.specs.Prelude.{◌+◌, ◌*◌, ◌≤◌, ◌⊎◌, Err, ◌≡◌, ℕ, List, [], ◌∷◌, length, map, reverse, Option, Some, None, pos, true, false, ◌==◌, if◌then◌else◌, refl}
 use Rattle.std.proofs.Common.{inl, inr, arith, ap, slice_index}
 use Rattle.std.specs.List.{flat_map, range_with_len}
 use Rattle.shapers_buffer.specs.declared.buffer.glyph.hb_glyph_info_t.{hb_glyph_info_t}

@@ -1,10 +1,9 @@
 -- Words of the code's walk over syllables: a run of glyphs that isn't written yet.
-use Rattle.std.specs.Prelude.{ℕ, ◌-◌, ◌<◌, ◌≡◌, ◌≤◌, nat_lt, Bool, false, true, List, [], drop, get_or, length, take, Option, MatchBool, MatchOption}
+use Rattle.std.specs.Prelude.{ℕ, ◌-◌, ◌<◌, ◌≡◌, ◌≤◌, Bool, false, true, List, [], drop, length, take, Option, MatchBool, MatchOption}
 use Rattle.std.specs.List.{list_any}
 use Rattle.shapers_buffer.specs.declared.buffer.glyph.hb_glyph_info_t.{hb_glyph_info_t}
 use Rattle.shapers_buffer.specs.Buffer.{Buffer}
 use Rattle.shapers_buffer.specs.Clusters.{stretch_of}
-use Rattle.shapers_buffer.specs.Glyph.{default_glyph}
 use Rattle.shapers_buffer.specs.Syllables.{first_syllable_len}
 use Rattle.shapers_clusters.specs.CarriedGroups.{AreCarried, GroupsGuarded, fallen_groups, taken_back, with_groups, with_list}
 use Rattle.shapers_clusters.specs.declared.carried_groups.CarriedGroups.{CarriedGroups}

@@ -23,10 +23,10 @@ settle-requires g c =
     let order = c.args.order.now in
     record {
       fits = (behind_guarded (g.R.Reorder.meaning order) (g.R.ReorderBySteps.steps order) (g.R.Reorder.relation order)
-    (g.met.R.ReorderBySteps.leads order) (g.met.R.ReorderBySteps.suffices order) (g.met.R.ReorderBySteps.laws order)
-    c.args.first c.args.end c.guard.new.self.count c.args.carrying.now.groups c.guard.new.self.groups c.args.buffer.now
-    c.guard.new.buffer c.reorder.new.buffer c.requires.in_order c.requires.in_range c.requires.fits.fits
-    c.guard.ensures.guarded c.guard.ensures.others c.in_ok-reorder.ensures.related).can;
+          (g.met.R.ReorderBySteps.leads order) (g.met.R.ReorderBySteps.suffices order) (g.met.R.ReorderBySteps.laws order)
+          c.args.first c.args.end c.guard.new.self.count c.args.carrying.now.groups c.guard.new.self.groups c.args.buffer.now
+          c.guard.new.buffer c.reorder.new.buffer c.requires.in_order c.requires.in_range c.requires.fits.fits
+          c.guard.ensures.guarded c.guard.ensures.others c.in_ok-reorder.ensures.related).can;
     }
 
 pub returns-clause-behind : goal.returns-clause-behind
