@@ -84,9 +84,9 @@ before_fallen s c gs within above some =
     subst (λ k. c < k) last (above (omega arith))
 
 pub fallen_fits : (run : CarriedRun) (c : ℕ) (gs : List hb_glyph_info_t) → run.start + 1 < run.end →
-    run.end ≤ length gs → list_all (has_cluster c) (stretch_of run.start run.end gs) ≡ true → c < run.above →
+    run.end ≤ length gs → list_all (has_cluster c) (stretch_of run.start run.end gs) ≡ true →
     (0 < run.start → c < (get_or gs (run.start - 1) default_glyph).cluster) → IsCarried run gs
-fallen_fits run c gs two within all noted above =
+fallen_fits run c gs two within all above =
     let is = last_of_stretch run.start run.end c gs (omega arith) within all in
     record {
       in_order = omega arith;
@@ -96,15 +96,14 @@ fallen_fits run c gs two within all noted above =
           ∙ none_of_cluster c c (stretch_of run.start run.end gs) (omega arith) all;
       apart = λ some. subst (λ k. EndsAbove k (take run.start gs)) (sym is)
           (before_fallen run.start c gs (omega arith) above);
-      noted = λ some. omega arith;
     }
 
 -- IT GETS LONGER
 pub reaches : (run longer : CarriedRun) (place : ℕ) (gs : List hb_glyph_info_t) → longer.start ≡ run.start →
-    longer.end ≡ place → longer.above ≡ run.above → run.start < run.end → run.end ≤ place → place ≤ length gs →
+    longer.end ≡ place → run.start < run.end → run.end ≤ place → place ≤ length gs →
     list_all (has_cluster (carried_cluster run gs)) (stretch_of run.end place gs) ≡ true → IsCarried run gs →
     ReachesPlace run place gs longer
-reaches run longer place gs start_is end_is above_is some further within all fits =
+reaches run longer place gs start_is end_is some further within all fits =
     let c = carried_cluster run gs in
     let is : carried_cluster longer gs ≡ c = ap (λ e. (get_or gs (e - 1) default_glyph).cluster) end_is
     ∙ elim (eq-or-lt_of_le {n = run.end} {m = place} further) [
@@ -113,7 +112,6 @@ reaches run longer place gs start_is end_is above_is some further within all fit
     ] in
     let none = reaching_least run.start run.end c place gs (omega arith) further fits.least all in
     let apart = fits.apart some in
-    let noted = fits.noted some in
     let two = fits.two some in
     record {
       some = omega arith;
@@ -131,7 +129,6 @@ reaches run longer place gs start_is end_is above_is some further within all fit
             ∙ ap (λ e. none_below c (stretch_of run.start e gs)) end_is ∙ none;
         apart = λ more. subst (λ k. EndsAbove k (take longer.start gs)) (sym is)
             (subst (λ s. EndsAbove c (take s gs)) (sym start_is) apart);
-        noted = λ more. omega arith;
       };
     }
 
@@ -157,7 +154,6 @@ pub record RunParts (run : CarriedRun) (gs : List hb_glyph_info_t) : Type 0 wher
   pub two : 0 < length stale
   pub least : none_below (first_cluster rest) stale ≡ true
   pub apart : EndsAbove (first_cluster rest) before
-  pub noted : first_cluster rest < run.above
 
 pub parts_of_run : (run : CarriedRun) (gs : List hb_glyph_info_t) → run.start < run.end → IsCarried run gs →
     RunParts run gs
@@ -190,7 +186,6 @@ parts_of_run run gs some fits =
           (sym (list_all-append (λ g. nat_le (carried_cluster run gs) g.cluster) (stretch_of s k gs)
           (stretch_of k run.end gs)) ∙ parts)).0;
       apart = subst (λ c. EndsAbove c (take s gs)) (sym first) (fits.apart some);
-      noted = (let noted = fits.noted some in omega arith);
     }
 
 -- the same with another rest, which opens with a cluster that isn't above
@@ -250,7 +245,6 @@ run_kept run gs p rest some fell =
     let start_is = p.start_is in
     let end_is = p.end_is in
     let two = p.two in
-    let noted = p.noted in
     let long = length-append p.before p.stale in
     let an = length-append front rest in
     let is : carried_cluster run all ≡ first_cluster rest = carried_at run front rest end_is in
@@ -279,7 +273,6 @@ run_kept run gs p rest some fell =
             (subst (EndsAbove (first_cluster rest)) (sym (ap (take run.start) (append_assoc p.before p.stale rest)
             ∙ take_at p.before (p.stale ++ rest) run.start start_is))
             (λ more. let up = p.apart more in omega arith));
-        noted = λ more. omega arith;
       };
     }
 

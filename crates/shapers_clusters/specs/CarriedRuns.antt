@@ -21,38 +21,37 @@ abbrev pub with_carried : CarriedRun → List hb_glyph_info_t → List hb_glyph_
 with_carried run gs = with_stretch run.start run.end (map (in_cluster (carried_cluster run gs))) gs
 
 -- The run lies among these glyphs. If it isn't empty it has two or more, none with a cluster below
--- its own; and since clusters only fall, it never gets that of the glyph before it, nor the one
--- that is noted.
+-- its own; and since clusters only fall, it never gets that of the glyph before it.
 pub record IsCarried (run : CarriedRun) (gs : List hb_glyph_info_t) : Type 0 where
   pub in_order : run.start ≤ run.end
   pub in_range : run.end ≤ length gs
   pub two : run.start < run.end → run.start + 1 < run.end
   pub least : none_below (carried_cluster run gs) (stretch_of run.start run.end gs) ≡ true
   pub apart : run.start < run.end → EndsAbove (carried_cluster run gs) (take run.start gs)
-  pub noted : run.start < run.end → carried_cluster run gs < run.above
 
 -- no run
 abbrev pub empty_run : CarriedRun
-empty_run = record { start = 0; end = 0; above = 0 }
+empty_run = record { start = 0; end = 0 }
 
--- all glyphs before a place that stand together in one cluster, as a run that fell from `above`
-abbrev pub run_before : ℕ → ℕ → List hb_glyph_info_t → CarriedRun
-run_before place above gs =
+-- all glyphs before a place that stand together in one cluster, as a run
+abbrev pub run_before : ℕ → List hb_glyph_info_t → CarriedRun
+run_before place gs =
     let c = (get_or gs (place - 1) default_glyph).cluster in
     let start = place - suffix_len (has_cluster c) (take place gs) in
-    record { start = start; end = place; above = above }
+    record { start = start; end = place }
 
--- whether they fell, are two or more, and stand behind a glyph above them, or behind none
-abbrev pub is_flooded : CarriedRun → List hb_glyph_info_t → Bool
-is_flooded run gs =
+-- whether they fell from `above`, are two or more, and stand behind a glyph above them, or behind
+-- none
+abbrev pub is_flooded : ℕ → CarriedRun → List hb_glyph_info_t → Bool
+is_flooded above run gs =
     let c = carried_cluster run gs in
-    nat_lt c run.above && nat_lt (run.start + 1) run.end
+    nat_lt c above && nat_lt (run.start + 1) run.end
     && (run.start == 0 || nat_lt c (get_or gs (run.start - 1) default_glyph).cluster)
 
 -- the run before a place whose cluster fell from `above`, if it is one that is carried
 abbrev pub fallen_run : ℕ → ℕ → List hb_glyph_info_t → CarriedRun
 fallen_run place above gs =
-    let run = run_before place above gs in if is_flooded run gs then run else empty_run
+    let run = run_before place gs in if is_flooded above run gs then run else empty_run
 
 -- The run up to a place: there is one exactly where it isn't empty, ends before the place or there,
 -- and all glyphs between are in its cluster.

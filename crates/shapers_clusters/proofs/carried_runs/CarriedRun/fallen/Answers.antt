@@ -14,7 +14,7 @@ returns-then-glyphs-start-clause-same c =
     let start = place - c.len_at_end.result in
     let within = c.requires.in_range in
     let two = c.if-start-place.true in
-    fallen_same (record { start = start; end = place; above = c.args.above }) cluster gs (omega arith) within
+    fallen_same (record { start = start; end = place }) cluster gs (omega arith) within
     (ended place cluster gs start within (omega (arith, c.len_at_end.ensures.len)))
 
 pub returns-then-glyphs-start-clause-fits : goal.returns-then-glyphs-start-clause-fits
@@ -29,6 +29,5 @@ returns-then-glyphs-start-clause-fits c =
       | then-start-eq0 w ↦ absurd (omega (arith, w.if-start-eq0.true, some))
       | else-start-eq0 w ↦ grind (arith, nat_tests, w.value-is, c.if-glyphs-start.true)
     ] in
-    fallen_fits (record { start = start; end = place; above = c.args.above }) cluster gs c.if-start-place.true within
-    (ended place cluster gs start within (omega (arith, c.len_at_end.ensures.len)))
-    (omega (arith, c.if-cluster-above.false)) higher
+    fallen_fits (record { start = start; end = place }) cluster gs c.if-start-place.true within
+    (ended place cluster gs start within (omega (arith, c.len_at_end.ensures.len))) higher

@@ -15,5 +15,5 @@ returns-then-are_in-clause-reaches c =
     let all : list_all (has_cluster (carried_cluster run gs)) (stretch_of run.end place gs) ≡ true =
     sym c.are_in.ensures ∙ c.if-are_in.true in
     let order = c.requires.fits.in_order in
-    reaches run _ place gs refl refl refl (grind (arith, nat_tests, order, c.is_none.ensures, c.if-is_none.false))
+    reaches run _ place gs refl refl (grind (arith, nat_tests, order, c.is_none.ensures, c.if-is_none.false))
     (omega (arith, c.if-place-self.false)) c.requires.in_range all c.requires.fits
