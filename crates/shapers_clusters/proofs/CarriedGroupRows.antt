@@ -2,7 +2,7 @@
 use Rattle.std.proofs.Common.{ℕ, ◌≡◌, List, [], ◌∷◌, map, refl}
 use Rattle.shapers_buffer.specs.declared.buffer.glyph.hb_glyph_info_t.{hb_glyph_info_t}
 use Rattle.shapers_buffer.specs.Glyph.{clusters}
-use Rattle.shapers_clusters.specs.CarriedGroups.{first_of, grouped, joined_end, len_of, put_before, read_back, shown, spread}
+use Rattle.shapers_clusters.specs.CarriedGroups.{first_group_cluster, grouped, joined_end, len_of, put_before, read_back, shown_groups, spread_groups}
 use Rattle.shapers_clusters.specs.ClusterMerges.{of_cluster}
 use Rattle.shapers_clusters.specs.declared.carried_groups.Group.{Group}
 
@@ -13,7 +13,7 @@ groups : List (ℕ × ℕ) → List Group
 groups gs = map (λ g. record { len = g.0; cluster = g.1 }) gs
 
 -- two groups, of two and three glyphs, and a glyph behind them
-spread_two : clusters (spread (glyphs (9 ∷ 9 ∷ []) ∷ glyphs (9 ∷ 8 ∷ 9 ∷ []) ∷ []) (glyphs (3 ∷ 5 ∷ 7 ∷ [])))
+spread_two : clusters (spread_groups (glyphs (9 ∷ 9 ∷ []) ∷ glyphs (9 ∷ 8 ∷ 9 ∷ []) ∷ []) (glyphs (3 ∷ 5 ∷ 7 ∷ [])))
     ≡ 3 ∷ 3 ∷ 5 ∷ 5 ∷ 5 ∷ 7 ∷ []
 unfolding glyphs
 spread_two = refl
@@ -27,11 +27,11 @@ len_of_two : len_of (groups ((2, 3) ∷ (3, 5) ∷ [])) ≡ 5
 unfolding groups
 len_of_two = refl
 
-first_of_two : first_of (groups ((2, 3) ∷ (3, 5) ∷ [])) ≡ 3
+first_of_two : first_group_cluster (groups ((2, 3) ∷ (3, 5) ∷ [])) ≡ 3
 unfolding groups
 first_of_two = refl
 
-shown_two : clusters (shown (groups ((2, 3) ∷ (3, 5) ∷ [])) (glyphs (9 ∷ 9 ∷ 7 ∷ []))) ≡ 3 ∷ 5 ∷ 7 ∷ []
+shown_two : clusters (shown_groups (groups ((2, 3) ∷ (3, 5) ∷ [])) (glyphs (9 ∷ 9 ∷ 7 ∷ []))) ≡ 3 ∷ 5 ∷ 7 ∷ []
 unfolding glyphs groups
 shown_two = refl
 

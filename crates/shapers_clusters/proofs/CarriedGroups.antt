@@ -15,12 +15,12 @@ use Rattle.shapers_buffer.proofs.ClusterLemmas.{flood_merged, length-stretch, me
 use Rattle.shapers_buffer.proofs.OneCluster.{all_in_cluster, first_of_front, last_of_end, last_stays, length-flooded}
 use Rattle.shapers_buffer.proofs.RunLemmas.{ended_all, none_lower, puts_twice}
 use Rattle.shapers_clusters.specs.CarriedRuns.{EndsAbove}
-use Rattle.shapers_clusters.specs.CarriedGroups.{StandFor, StopsAt, all_of, spread}
+use Rattle.shapers_clusters.specs.CarriedGroups.{StandFor, StopsBefore, groups_len, spread_groups}
 use Rattle.shapers_clusters.specs.Cuts.{EndWithin}
 use Rattle.shapers_clusters.specs.Flags.{FallsTo}
 use Rattle.shapers_clusters.specs.Steps.{Step, run_step, run_steps, FitsStep, FitSteps, shifted, widened}
 use Rattle.shapers_clusters.proofs.Appended.{assembled, flooded-same, two_sides}
-use Rattle.shapers_clusters.proofs.CarriedRuns.{Change, back_stays, back_within, first_of_fallen, first_taken, flooded_back, starts_behind}
+use Rattle.shapers_clusters.proofs.CarriedRuns.{Change, back_stays, back_within, first_of_fallen, first_taken, flooded_back}
 use Rattle.shapers_clusters.proofs.ClusterMerges.{least-among, least-le}
 use Rattle.shapers_clusters.proofs.Falls.{all_append, all_over, all_reverse, all_weaker, flooded-hit, merge-falls}
 use Rattle.shapers_clusters.proofs.Halves.{Each, drop-past, each-drop, each-pick, each-reverse, each-take, shifted-twice, take-past}
@@ -80,15 +80,15 @@ and_none true = refl
 and_none false = refl
 
 spread_one : (G : List hb_glyph_info_t) (Gs : List (List hb_glyph_info_t)) (xs ys : List hb_glyph_info_t) →
-    length xs ≡ 1 → spread (G ∷ Gs) (xs ++ ys) ≡ map (in_cluster (first_cluster xs)) G ++ spread Gs ys
+    length xs ≡ 1 → spread_groups (G ∷ Gs) (xs ++ ys) ≡ map (in_cluster (first_cluster xs)) G ++ spread_groups Gs ys
 spread_one G Gs [] ys one = absurd (omega arith)
 spread_one G Gs (x ∷ []) ys one = refl
 spread_one G Gs (x ∷ (y ∷ xs)) ys one = absurd (omega arith)
 
 -- over all groups: before them it goes on where all is in its cluster
 pub back_spread : (c m : ℕ) (Gs : List (List hb_glyph_info_t)) (P ys : List hb_glyph_info_t) → m ≤ c →
-    StandFor Gs ys → flooded_back c m (P ++ spread Gs ys)
-    ≡ (if list_all (has_cluster c) ys then flooded_back c m P else P) ++ spread Gs (flooded_back c m ys)
+    StandFor Gs ys → flooded_back c m (P ++ spread_groups Gs ys)
+    ≡ (if list_all (has_cluster c) ys then flooded_back c m P else P) ++ spread_groups Gs (flooded_back c m ys)
 back_spread c m [] P ys low stand = elim (cases_Bool (list_all (has_cluster c) ys)) [
   | inl all ↦ ended_all c m P ys all ∙ ap (λ l. flooded_back c m P ++ l) (sym (ended_all c m [] ys all))
       ∙ ap (λ b. (if b then flooded_back c m P else P) ++ flooded_back c m ys) (sym all)
@@ -99,9 +99,9 @@ back_spread c m (G ∷ Gs) P [] low stand = absurd stand
 back_spread c m (G ∷ Gs) P (g ∷ ys) low stand =
     let put = map (in_cluster g.cluster) G in
     let go : Bool → List hb_glyph_info_t → List hb_glyph_info_t = λ b p. if b then flooded_back c m p else p in
-    let on : flooded_back c m (P ++ spread (G ∷ Gs) (g ∷ ys))
-    ≡ go (list_all (has_cluster c) ys) (P ++ put) ++ spread Gs (flooded_back c m ys) =
-    ap (flooded_back c m) (sym (append_assoc P put (spread Gs ys)))
+    let on : flooded_back c m (P ++ spread_groups (G ∷ Gs) (g ∷ ys))
+    ≡ go (list_all (has_cluster c) ys) (P ++ put) ++ spread_groups Gs (flooded_back c m ys) =
+    ap (flooded_back c m) (sym (append_assoc P put (spread_groups Gs ys)))
     ∙ back_spread c m Gs (P ++ put) ys low stand.1 in
     elim (cases_Bool (list_all (has_cluster c) ys)) [
       | inl all ↦
@@ -117,20 +117,20 @@ back_spread c m (G ∷ Gs) P (g ∷ ys) low stand =
           ap (λ b. (g.cluster == c) && b) all ∙ and-true (g.cluster == c) in
           let parts : flooded_back c m (g ∷ ys) ≡ one ++ flooded_back c m ys = ended_all c m (g ∷ []) ys all
           ∙ ap (λ l. one ++ l) (sym (ended_all c m [] ys all)) in
-          on ∙ ap (λ b. go b (P ++ put) ++ spread Gs (flooded_back c m ys)) all
-          ∙ ap (λ l. l ++ spread Gs (flooded_back c m ys)) (back_group c m P G g low stand.0.0 stand.0.1)
-          ∙ append_assoc (go (g.cluster == c) P) first (spread Gs (flooded_back c m ys))
+          on ∙ ap (λ b. go b (P ++ put) ++ spread_groups Gs (flooded_back c m ys)) all
+          ∙ ap (λ l. l ++ spread_groups Gs (flooded_back c m ys)) (back_group c m P G g low stand.0.0 stand.0.1)
+          ∙ append_assoc (go (g.cluster == c) P) first (spread_groups Gs (flooded_back c m ys))
           ∙ ap (λ l. go (g.cluster == c) P ++ l) (sym (spread_one G Gs one (flooded_back c m ys) n))
-          ∙ ap (λ l. go (g.cluster == c) P ++ spread (G ∷ Gs) l) (sym parts)
-          ∙ ap (λ b. go b P ++ spread (G ∷ Gs) (flooded_back c m (g ∷ ys))) (sym both)
+          ∙ ap (λ l. go (g.cluster == c) P ++ spread_groups (G ∷ Gs) l) (sym parts)
+          ∙ ap (λ b. go b P ++ spread_groups (G ∷ Gs) (flooded_back c m (g ∷ ys))) (sym both)
       | inr other ↦
           let both : list_all (has_cluster c) (g ∷ ys) ≡ false =
           ap (λ b. (g.cluster == c) && b) other ∙ and_none (g.cluster == c) in
           let parts : flooded_back c m (g ∷ ys) ≡ g ∷ flooded_back c m ys = back_within c m (g ∷ []) ys other in
-          on ∙ ap (λ b. go b (P ++ put) ++ spread Gs (flooded_back c m ys)) other
-          ∙ append_assoc P put (spread Gs (flooded_back c m ys))
-          ∙ ap (λ l. P ++ spread (G ∷ Gs) l) (sym parts)
-          ∙ ap (λ b. go b P ++ spread (G ∷ Gs) (flooded_back c m (g ∷ ys))) (sym both)
+          on ∙ ap (λ b. go b (P ++ put) ++ spread_groups Gs (flooded_back c m ys)) other
+          ∙ append_assoc P put (spread_groups Gs (flooded_back c m ys))
+          ∙ ap (λ l. P ++ spread_groups (G ∷ Gs) l) (sym parts)
+          ∙ ap (λ b. go b P ++ spread_groups (G ∷ Gs) (flooded_back c m (g ∷ ys))) (sym both)
     ]
 
 -- PLACES behind the groups
@@ -141,12 +141,12 @@ as_many_stand (G ∷ Gs) [] stand = absurd stand
 as_many_stand (G ∷ Gs) (g ∷ ys) stand = omega (arith, as_many_stand Gs ys stand.1)
 
 pub spread_append : (Gs : List (List hb_glyph_info_t)) (xs ys : List hb_glyph_info_t) → length Gs ≤ length xs →
-    spread Gs (xs ++ ys) ≡ spread Gs xs ++ ys
+    spread_groups Gs (xs ++ ys) ≡ spread_groups Gs xs ++ ys
 spread_append [] xs ys many = refl
 spread_append (G ∷ Gs) [] ys many = absurd (omega arith)
 spread_append (G ∷ Gs) (x ∷ xs) ys many =
     ap (λ l. map (in_cluster x.cluster) G ++ l) (spread_append Gs xs ys (omega arith))
-    ∙ sym (append_assoc (map (in_cluster x.cluster) G) (spread Gs xs) ys)
+    ∙ sym (append_assoc (map (in_cluster x.cluster) G) (spread_groups Gs xs) ys)
 
 stand_front : (Gs : List (List hb_glyph_info_t)) (xs ys : List hb_glyph_info_t) → length Gs ≤ length xs →
     StandFor Gs (xs ++ ys) → StandFor Gs xs
@@ -161,37 +161,39 @@ stand_with (G ∷ Gs) [] ys stand = absurd stand
 stand_with (G ∷ Gs) (x ∷ xs) ys stand = (stand.0, stand_with Gs xs ys stand.1)
 
 pub length-spread : (Gs : List (List hb_glyph_info_t)) (ys : List hb_glyph_info_t) → length Gs ≡ length ys →
-    length (spread Gs ys) ≡ all_of Gs
+    length (spread_groups Gs ys) ≡ groups_len Gs
 length-spread [] [] many = refl
 length-spread [] (y ∷ ys) many = absurd (omega arith)
 length-spread (G ∷ Gs) [] many = absurd (omega arith)
-length-spread (G ∷ Gs) (y ∷ ys) many =
-    length-append (map (in_cluster y.cluster) G) (spread Gs ys)
+length-spread (G ∷ Gs) (y ∷ ys) many = length-append (map (in_cluster y.cluster) G) (spread_groups Gs ys)
     ∙ omega (arith, length-map G (in_cluster y.cluster), length-spread Gs ys (omega arith))
 
 -- a list by those that stand for groups, and the rest
 pub record Placed (P : List hb_glyph_info_t) (Gs : List (List hb_glyph_info_t)) (ys : List hb_glyph_info_t)
     (k j i : ℕ) : Type 0 where
-  pub front : take (k + i) (P ++ spread Gs ys) ≡ P ++ spread Gs (take (j + i) ys)
-  pub rest : drop (k + i) (P ++ spread Gs ys) ≡ drop (j + i) ys
-  pub long : length (P ++ spread Gs ys) ≡ k + (length ys - j)
+  pub front : take (k + i) (P ++ spread_groups Gs ys) ≡ P ++ spread_groups Gs (take (j + i) ys)
+  pub rest : drop (k + i) (P ++ spread_groups Gs ys) ≡ drop (j + i) ys
+  pub long : length (P ++ spread_groups Gs ys) ≡ k + (length ys - j)
 
-pub placed : (P : List hb_glyph_info_t) (Gs : List (List hb_glyph_info_t)) (ys : List hb_glyph_info_t) (k j i : ℕ) →
-    length P + all_of Gs ≡ k → length Gs ≡ j → j ≤ length ys → Placed P Gs ys k j i
-placed P Gs ys k j i kn jn many =
+pub put_in_place : (P : List hb_glyph_info_t) (Gs : List (List hb_glyph_info_t)) (ys : List hb_glyph_info_t)
+    (k j i : ℕ) →
+    length P + groups_len Gs ≡ k → length Gs ≡ j → j ≤ length ys → Placed P Gs ys k j i
+put_in_place P Gs ys k j i kn jn many =
     let reps = take j ys in
     let behind = drop j ys in
     let rn : length reps ≡ j = omega (arith, length-take j ys) in
     let whole : ys ≡ reps ++ behind = sym (take-append-drop j ys) in
-    let front = P ++ spread Gs reps in
-    let fn : length front ≡ k = length-append P (spread Gs reps) ∙ omega (arith, length-spread Gs reps (omega arith)) in
-    let all : P ++ spread Gs ys ≡ front ++ behind = ap (λ l. P ++ spread Gs l) whole
-    ∙ ap (λ l. P ++ l) (spread_append Gs reps behind (omega arith)) ∙ sym (append_assoc P (spread Gs reps) behind) in
+    let front = P ++ spread_groups Gs reps in
+    let fn : length front ≡ k = length-append P (spread_groups Gs reps) ∙ omega
+    (arith, length-spread Gs reps (omega arith)) in
+    let all : P ++ spread_groups Gs ys ≡ front ++ behind = ap (λ l. P ++ spread_groups Gs l) whole
+    ∙ ap (λ l. P ++ l) (spread_append Gs reps behind (omega arith)) ∙ sym
+    (append_assoc P (spread_groups Gs reps) behind) in
     record {
       front = ap (take (k + i)) all ∙ take-past k i front behind fn
-          ∙ append_assoc P (spread Gs reps) (take i behind)
+          ∙ append_assoc P (spread_groups Gs reps) (take i behind)
           ∙ ap (λ l. P ++ l) (sym (spread_append Gs reps (take i behind) (omega arith)))
-          ∙ ap (λ l. P ++ spread Gs l) (sym (take-past j i reps behind rn) ∙ ap (take (j + i)) (sym whole));
+          ∙ ap (λ l. P ++ spread_groups Gs l) (sym (take-past j i reps behind rn) ∙ ap (take (j + i)) (sym whole));
       rest = ap (drop (k + i)) all ∙ drop-past k i front behind fn
           ∙ sym (ap (drop (j + i)) whole ∙ drop-past j i reps behind rn);
       long = ap length all ∙ length-append front behind ∙ omega (arith, length-drop j ys);
@@ -227,12 +229,12 @@ pub record Spread (Gs : List (List hb_glyph_info_t)) (P ys all new : List hb_gly
   pub stand : StandFor Gs new
   pub falls : first_cluster new ≤ first_cluster ys
   pub lower : AllZip NotAbove (take (length Gs) ys) (take (length Gs) new)
-  pub is : StopsAt P ys new → all ≡ P ++ spread Gs new
+  pub is : StopsBefore P ys new → all ≡ P ++ spread_groups Gs new
 
 abbrev pub Spreads : ℕ → ℕ → ℕ → Change → Change → Type 0
 Spreads k j n over change = (P : List hb_glyph_info_t) (Gs : List (List hb_glyph_info_t)) (ys : List hb_glyph_info_t) →
-    length P + all_of Gs ≡ k → length Gs ≡ j → length ys ≡ j + n → StandFor Gs ys →
-    Spread Gs P ys (over (P ++ spread Gs ys)) (change ys)
+    length P + groups_len Gs ≡ k → length Gs ≡ j → length ys ≡ j + n → StandFor Gs ys →
+    Spread Gs P ys (over (P ++ spread_groups Gs ys)) (change ys)
 
 stand_fallen : (Gs : List (List hb_glyph_info_t)) (ys zs : List hb_glyph_info_t) → AllZip FallsTo ys zs →
     StandFor Gs ys → StandFor Gs zs
@@ -244,7 +246,7 @@ stand_fallen (G ∷ Gs) (y ∷ ys) (z ∷ zs) falls stand =
 
 -- where the flood runs over all that stand for groups, it stops there
 stops : (c m : ℕ) (P ys zs : List hb_glyph_info_t) → 0 < length ys → (list_all (has_cluster c) ys ≡ true →
-    StopsAt P ys (map (in_cluster m) ys ++ zs)) →
+    StopsBefore P ys (map (in_cluster m) ys ++ zs)) →
     (if list_all (has_cluster c) ys then flooded_back c m P else P) ≡ P
 stops c m P ys zs some until = elim (cases_Bool (list_all (has_cluster c) ys)) [
   | inl all ↦
@@ -265,9 +267,10 @@ pub merge_spreads : (level : BufferClusterLevel) (k j s e n : ℕ) → 0 < j →
     Spreads k j n (merge level (k + s) (k + e)) (merge level (j + s) (j + e))
 merge_spreads level k j s e n some within P Gs ys kn jn yn stand =
     let i : (k + e) - (k + s) ≡ (j + e) - (j + s) = omega arith in
-    let all = P ++ spread Gs ys in
+    let all = P ++ spread_groups Gs ys in
     let falls = merge-falls level (j + s) (j + e) ys (omega arith) in
-    let R : List hb_glyph_info_t → List hb_glyph_info_t → Type 0 = λ x y. StopsAt P ys y → x ≡ P ++ spread Gs y in
+    let R : List hb_glyph_info_t → List hb_glyph_info_t → Type 0 = λ x y. StopsBefore P ys y → x ≡ P ++ spread_groups
+    Gs y in
     record {
       same_length = length-merge level (j + s) (j + e) ys (omega arith);
       stand = stand_fallen Gs ys (merge level (j + s) (j + e) ys) falls stand;
@@ -293,8 +296,8 @@ merge_spreads level k j s e n some within P Gs ys kn jn yn stand =
             length-flooded c m (reverse t),
             length-reverse t,
           ) in
-          let at = placed P Gs ys k j s kn jn (omega arith) in
-          let end = placed P Gs ys k j e kn jn (omega arith) in
+          let at = put_in_place P Gs ys k j s kn jn (omega arith) in
+          let end = put_in_place P Gs ys k j e kn jn (omega arith) in
           let middle : stretch_of (k + s) (k + e) all ≡ mid = ap (λ d. take d (drop (k + s) all)) i
           ∙ ap (take ((j + e) - (j + s))) at.rest in
           let stand_t : StandFor Gs t = stand_front Gs t (drop (j + s) ys) (omega arith)
@@ -303,13 +306,13 @@ merge_spreads level k j s e n some within P Gs ys kn jn yn stand =
           let stays = stops c m P t tail (omega arith) (λ full.
           let own : back ≡ map (in_cluster m) t = ended_all c m [] t full in
           let from : first_cluster t ≡ first_cluster ys = first_taken (j + s) ys (omega arith) in
-          subst (λ l. StopsAt P t (l ++ tail)) own (subst (λ f. EndsAbove f P ⊎ (first_cluster (back ++ tail) ≡ f))
+          subst (λ l. StopsBefore P t (l ++ tail)) own (subst (λ f. EndsAbove f P ⊎ (first_cluster (back ++ tail) ≡ f))
           (sym from) until)) in
           ap (λ x. assembled x (stretch_of (k + s) (k + e) all) (drop (k + e) all)) at.front
-          ∙ ap (λ x. assembled (P ++ spread Gs t) x (drop (k + e) all)) middle
-          ∙ ap (λ x. assembled (P ++ spread Gs t) mid x) end.rest
-          ∙ ap (λ l. l ++ tail) (back_spread c m Gs P t low stand_t ∙ ap (λ p. p ++ spread Gs back) stays)
-          ∙ append_assoc P (spread Gs back) tail
+          ∙ ap (λ x. assembled (P ++ spread_groups Gs t) x (drop (k + e) all)) middle
+          ∙ ap (λ x. assembled (P ++ spread_groups Gs t) mid x) end.rest
+          ∙ ap (λ l. l ++ tail) (back_spread c m Gs P t low stand_t ∙ ap (λ p. p ++ spread_groups Gs back) stays)
+          ∙ append_assoc P (spread_groups Gs back) tail
           ∙ ap (λ l. P ++ l) (sym (spread_append Gs back tail (omega arith))))) until;
     }
 
@@ -330,11 +333,11 @@ spreads_then k j n over change then_over then_change first second P Gs ys kn jn 
       lower = all_over NotAbove NotAbove NotAbove (λ x y z one two. omega arith) (take (length Gs) ys)
           (take (length Gs) mid) (take (length Gs) new) one.lower two.lower;
       is = λ until.
-          let here : StopsAt P ys mid = elim until [
+          let here : StopsBefore P ys mid = elim until [
             | inl above ↦ inl above
             | inr same ↦ inr (omega arith)
           ] in
-          let there : StopsAt P mid new = elim until [
+          let there : StopsBefore P mid new = elim until [
             | inl above ↦ inl (λ some. let up = above some in omega arith)
             | inr same ↦ inr (omega arith)
           ] in
@@ -365,11 +368,11 @@ pick_spreads : (k j s e n : ℕ) (step : Step) → 0 < j → s ≤ e → e ≤ n
     Spreads k j n (pick (widened (k + s) (k + e) (k + n) step).places)
     (pick (widened (j + s) (j + e) (j + n) step).places)
 pick_spreads k j s e n step some order within fits P Gs ys kn jn yn stand =
-    let all = P ++ spread Gs ys in
+    let all = P ++ spread_groups Gs ys in
     let i : (k + e) - (k + s) ≡ e - s = omega arith in
     let l : (j + e) - (j + s) ≡ e - s = omega arith in
-    let at = placed P Gs ys k j s kn jn (omega arith) in
-    let end = placed P Gs ys k j e kn jn (omega arith) in
+    let at = put_in_place P Gs ys k j s kn jn (omega arith) in
+    let end = put_in_place P Gs ys k j e kn jn (omega arith) in
     let long = at.long in
     let an : length all ≡ k + n = omega arith in
     let t = take (j + s) ys in
@@ -403,10 +406,10 @@ pick_spreads k j s e n step some order within fits P Gs ys kn jn yn stand =
       is = λ until. ap (λ d. pick (widened (k + s) (k + e) d step).places all) (sym an)
           ∙ pick-widened (k + s) (k + e) step all (omega arith) (omega arith) within_k
           ∙ ap (λ x. x ++ (pick step.places (stretch_of (k + s) (k + e) all) ++ drop (k + e) all)) at.front
-          ∙ ap (λ x. (P ++ spread Gs t) ++ (pick step.places x ++ drop (k + e) all)) middle
-          ∙ ap (λ x. (P ++ spread Gs t) ++ (pick step.places mid ++ x)) end.rest
-          ∙ append_assoc P (spread Gs t) tail
-          ∙ ap (λ x. P ++ x) (sym (spread_append Gs t tail (omega arith)) ∙ ap (spread Gs) (sym own));
+          ∙ ap (λ x. (P ++ spread_groups Gs t) ++ (pick step.places x ++ drop (k + e) all)) middle
+          ∙ ap (λ x. (P ++ spread_groups Gs t) ++ (pick step.places mid ++ x)) end.rest
+          ∙ append_assoc P (spread_groups Gs t) tail
+          ∙ ap (λ x. P ++ x) (sym (spread_append Gs t tail (omega arith)) ∙ ap (spread_groups Gs) (sym own));
     }
 
 step_spreads : (level : BufferClusterLevel) (k j s e n : ℕ) (step : Step) → 0 < j → s ≤ e → e ≤ n →

@@ -8,7 +8,7 @@ use Rattle.shapers_buffer.specs.declared.buffer.glyph.hb_glyph_info_t.{hb_glyph_
 use Rattle.shapers_buffer.specs.ClusterRuns.{none_below}
 use Rattle.shapers_buffer.specs.Clusters.{in_cluster, last_cluster, stretch_of, with_stretch}
 use Rattle.shapers_buffer.specs.Glyph.{default_glyph, plain}
-use Rattle.shapers_clusters.specs.CarriedGroups.{AreCarried, AreShown, LeastIn, StillSame, first_of, grouped, joined_end, len_of, no_group, put_before, read_back, shown, taken_back, with_groups, with_list}
+use Rattle.shapers_clusters.specs.CarriedGroups.{AreCarried, AreShown, LeastIn, StillSame, first_group_cluster, grouped, joined_end, len_of, no_group, put_before, read_back, shown_groups, taken_back, with_groups, with_list}
 use Rattle.shapers_clusters.specs.declared.carried_groups.CarriedGroups.{CarriedGroups}
 use Rattle.shapers_clusters.specs.declared.carried_groups.Group.{Group}
 use Rattle.std.proofs.Math.Seq.{map-set_same}
@@ -17,7 +17,7 @@ use Rattle.shapers_buffer.proofs.OneCluster.{last_of_end}
 use Rattle.shapers_buffer.proofs.RunLemmas.{none_lower}
 use Rattle.shapers_clusters.specs.CarriedRuns.{EndsAbove}
 use Rattle.shapers_clusters.proofs.Falls.{in_cluster-same}
-use Rattle.shapers_clusters.proofs.Halves.{drop-past, take-past}
+use Rattle.shapers_clusters.proofs.Halves.{drop-past}
 
 -- LISTS of groups
 pub next_at : {X : Type 0} (xs : List X) (i : ℕ) (d : X) → i < length xs →
@@ -115,9 +115,9 @@ written_next g groups place gs hs within is =
 
 -- SHOWING one more, and reading one
 pub show_next : (groups : List Group) (gs : List hb_glyph_info_t) (i : ℕ) → i < length groups →
-    length groups ≤ length gs → (let g : hb_glyph_info_t = get_or (shown (take i groups) gs) i default_glyph in
-    slice_set (shown (take i groups) gs) i (record g { cluster = (get_or groups i no_group).cluster })
-    ≡ shown (take (i + 1) groups) gs)
+    length groups ≤ length gs → (let g : hb_glyph_info_t = get_or (shown_groups (take i groups) gs) i default_glyph in
+    slice_set (shown_groups (take i groups) gs) i (record g { cluster = (get_or groups i no_group).cluster })
+    ≡ shown_groups (take (i + 1) groups) gs)
 show_next [] gs i inside many = absurd (omega arith)
 show_next (group ∷ groups) [] i inside many = absurd (omega arith)
 show_next (group ∷ groups) (g ∷ gs) zero inside many = refl
@@ -125,7 +125,7 @@ show_next (group ∷ groups) (g ∷ gs) (suc i) inside many =
     let up : suc i + 1 ≡ suc (i + 1) = omega arith in
     let one : hb_glyph_info_t = record g { cluster = group.cluster } in
     ap (λ l. one ∷ l) (show_next groups gs i (omega arith) (omega arith))
-    ∙ ap (λ k. shown (take k (group ∷ groups)) (g ∷ gs)) (sym up)
+    ∙ ap (λ k. shown_groups (take k (group ∷ groups)) (g ∷ gs)) (sym up)
 
 pub read_next : (gs : List hb_glyph_info_t) (groups : List Group) (i : ℕ) → i < length gs →
     length gs ≡ length groups → (let group : Group = get_or (read_back (take i gs) groups) i no_group in
@@ -173,14 +173,14 @@ two_split xs two =
     ∙ ap (λ l. l ++ other ∷ []) (ap (λ k. take k xs) (sym up) ∙ take_more xs (length xs - 2) no_group (omega arith))
     ∙ append_assoc (take (length xs - 2) xs) (one ∷ []) (other ∷ [])
 
-pub record Joined (xs ys : List Group) : Type 0 where
+pub record EndJoined (xs ys : List Group) : Type 0 where
   pub len : len_of ys ≡ len_of xs
   pub many : length ys + 1 ≡ length xs
   pub same : (gs : List hb_glyph_info_t) → grouped ys gs ≡ grouped xs gs
   pub least : (gs : List hb_glyph_info_t) → LeastIn xs gs → LeastIn ys gs
 
 pub joined_same : (xs : List Group) → 1 < length xs → (get_or xs (length xs - 2) no_group).cluster
-    ≡ (get_or xs (length xs - 1) no_group).cluster → Joined xs (joined_end xs)
+    ≡ (get_or xs (length xs - 1) no_group).cluster → EndJoined xs (joined_end xs)
 joined_same xs two same =
     let front = take (length xs - 2) xs in
     let one : Group = get_or xs (length xs - 2) no_group in
@@ -315,11 +315,11 @@ written_before it after front last gs hs are now start_is end_is is fits =
     }
 
 -- ADDED: the glyph behind the groups
-pub added : (it after : CarriedGroups) (gs : List hb_glyph_info_t) (g : hb_glyph_info_t) →
+pub group_added : (it after : CarriedGroups) (gs : List hb_glyph_info_t) (g : hb_glyph_info_t) →
     g ≡ get_or gs it.end default_glyph → it.end < length gs → after.start ≡ it.start → after.end ≡ it.end + 1 →
     after.groups.items ≡ it.groups.items ++ (record { len = 1; cluster = g.cluster }) ∷ [] → AreCarried it gs →
     StillSame it gs after gs
-added it after gs g g_is inside start_is end_is are fits =
+group_added it after gs g g_is inside start_is end_is are fits =
     let span = fits.span in
     let items = it.groups.items in
     let one : Group = record { len = 1; cluster = g.cluster } in
@@ -387,7 +387,7 @@ many_lens [] gs all = omega arith
 many_lens (x ∷ xs) gs all = (let some = all.0.0 in omega (arith, many_lens xs (drop x.len gs) all.1))
 
 pub shown_append : (groups : List Group) (xs ys : List hb_glyph_info_t) → length groups ≤ length xs →
-    shown groups (xs ++ ys) ≡ shown groups xs ++ ys
+    shown_groups groups (xs ++ ys) ≡ shown_groups groups xs ++ ys
 shown_append [] xs ys many = refl
 shown_append (group ∷ groups) [] ys many = absurd (omega arith)
 shown_append (group ∷ groups) (x ∷ xs) ys many =
@@ -395,7 +395,7 @@ shown_append (group ∷ groups) (x ∷ xs) ys many =
     ap (λ l. one ∷ l) (shown_append groups xs ys (omega arith))
 
 pub shown_view : (groups : List Group) (xs : List hb_glyph_info_t) → length groups ≤ length xs →
-    map plain (shown groups xs) ≡ map plain xs
+    map plain (shown_groups groups xs) ≡ map plain xs
 shown_view [] xs many = refl
 shown_view (group ∷ groups) [] many = absurd (omega arith)
 shown_view (group ∷ groups) (x ∷ xs) many = ap (λ l. plain x ∷ l) (shown_view groups xs (omega arith))
@@ -432,25 +432,24 @@ puts_before (suc p) c gs within =
 pub are_shown : (count : ℕ) (it after : CarriedGroups) (gs hs : List hb_glyph_info_t) (index place : ℕ) → 0 < count →
     count ≤ length it.groups.items → index ≡ length it.groups.items - count → place ≡ it.end - count →
     after ≡ record it { kept = after.kept } → after.kept.items ≡ stretch_of (place - 1) it.end gs →
-    hs ≡ put_before place (first_of it.groups.items + 1)
-    (with_stretch place it.end (shown (drop index it.groups.items)) gs) → AreCarried it gs →
+    hs ≡ put_before place (first_group_cluster it.groups.items + 1)
+    (with_stretch place it.end (shown_groups (drop index it.groups.items)) gs) → AreCarried it gs →
     AreShown count it gs after hs
 are_shown count it after gs hs index place some many index_is place_is same kept is fits =
     let items = it.groups.items in
     let end = it.end in
-    let c = first_of items in
+    let c = first_group_cluster items in
     let G = drop index items in
     let Gn : length G ≡ count = omega (arith, length-drop index items) in
     let lens = many_lens items (drop it.start gs) fits.least in
     let span = fits.span in
     let within = fits.within in
     let room : count ≤ end = omega arith in
-    let mid = with_stretch place end (shown G) gs in
+    let mid = with_stretch place end (shown_groups G) gs in
     let stretch = stretch_of place end gs in
     let sn : length stretch ≡ count = length-stretch place end gs within ∙ omega arith in
-    let view : map plain mid ≡ map plain gs =
-    map-append plain (take place gs) (shown G stretch ++ drop end gs)
-    ∙ ap (λ l. map plain (take place gs) ++ l) (map-append plain (shown G stretch) (drop end gs)
+    let view : map plain mid ≡ map plain gs = map-append plain (take place gs) (shown_groups G stretch ++ drop end gs)
+    ∙ ap (λ l. map plain (take place gs) ++ l) (map-append plain (shown_groups G stretch) (drop end gs)
     ∙ ap (λ l. l ++ map plain (drop end gs)) (shown_view G stretch (omega arith))
     ∙ sym (map-append plain stretch (drop end gs)))
     ∙ sym (map-append plain (take place gs) (stretch ++ drop end gs))
@@ -461,19 +460,19 @@ are_shown count it after gs hs index place some many index_is place_is same kept
     let whole : stretch ++ drop end gs ≡ drop place gs =
     sym (drop_at (take place gs) (stretch ++ drop end gs) place tn)
     ∙ ap (drop place) (three_parts place end gs (omega arith)) in
-    let rest : drop place hs ≡ shown G (drop place gs) = ap (drop place) is ∙ put.rest
-    ∙ drop_at (take place gs) (shown G stretch ++ drop end gs) place tn
-    ∙ sym (shown_append G stretch (drop end gs) (omega arith)) ∙ ap (shown G) whole in
+    let rest : drop place hs ≡ shown_groups G (drop place gs) = ap (drop place) is ∙ put.rest
+    ∙ drop_at (take place gs) (shown_groups G stretch ++ drop end gs) place tn
+    ∙ sym (shown_append G stretch (drop end gs) (omega arith)) ∙ ap (shown_groups G) whole in
     let low : take (place - 1) mid ≡ take (place - 1) gs =
-    take-append-le (place - 1) (take place gs) (shown G stretch ++ drop end gs) (omega arith)
+    take-append-le (place - 1) (take place gs) (shown_groups G stretch ++ drop end gs) (omega arith)
     ∙ take-take (place - 1) place gs (omega arith) in
     let shift : (P : ℕ → Type 0) → P place → P (end - count) = λ P. subst P place_is in
     record {
       same = same;
       kept = shift (λ k. after.kept.items ≡ stretch_of (k - 1) end gs) kept;
       room = room;
-      rest = shift (λ k. drop k hs ≡ shown (drop (length items - count) items) (drop k gs))
-          (rest ∙ ap (λ i. shown (drop i items) (drop place gs)) index_is);
+      rest = shift (λ k. drop k hs ≡ shown_groups (drop (length items - count) items) (drop k gs))
+          (rest ∙ ap (λ i. shown_groups (drop i items) (drop place gs)) index_is);
       front = shift (λ k. take (k - 1) hs ≡ take (k - 1) gs) (ap (take (place - 1)) is ∙ put.front ∙ low);
       above = shift (λ k. EndsAbove c (take k hs)) (subst (λ l. EndsAbove c (take place l)) (sym is) put.above);
       view = ap (map plain) is ∙ put.view ∙ view;
@@ -500,8 +499,7 @@ only_kept it after gs groups_is start_is end_is fits =
 -- without groups nothing is to be written
 pub none_written : (it : CarriedGroups) (gs : List hb_glyph_info_t) → it.groups.items ≡ [] → it.start ≡ it.end →
     with_groups it gs ≡ gs
-none_written it gs none same =
-    ap (λ l. take it.start gs ++ (grouped l (drop it.start gs) ++ drop it.end gs)) none
+none_written it gs none same = ap (λ l. take it.start gs ++ (grouped l (drop it.start gs) ++ drop it.end gs)) none
     ∙ ap (λ k. take it.start gs ++ drop k gs) (sym same) ∙ take-append-drop it.start gs
 
 pub none_carried : (it : CarriedGroups) (gs : List hb_glyph_info_t) → it.groups.items ≡ [] → it.start ≡ it.end →
@@ -512,7 +510,7 @@ none_carried it gs none same within = record {
   least = subst (λ l. LeastIn l (drop it.start gs)) (sym none) tt;
 }
 
-pub first_get : (xs : List Group) → first_of xs ≡ (get_or xs 0 no_group).cluster
+pub first_get : (xs : List Group) → first_group_cluster xs ≡ (get_or xs 0 no_group).cluster
 first_get [] = refl
 first_get (x ∷ xs) = refl
 
@@ -520,21 +518,21 @@ pub first_set : (xs : List Group) (y : Group) → 0 < length xs → take 1 (slic
 first_set [] y some = absurd (omega arith)
 first_set (x ∷ xs) y some = refl
 
-pub joined_still : (it after : CarriedGroups) (gs : List hb_glyph_info_t) → Joined it.groups.items after.groups.items →
+pub joined_still : (it after : CarriedGroups) (gs : List hb_glyph_info_t) → EndJoined it.groups.items
+    after.groups.items →
     after.start ≡ it.start → after.end ≡ it.end → AreCarried it gs → StillSame it gs after gs
-joined_still it after gs joined start_is end_is fits =
-    record {
-      same = ap (λ k. take k gs ++ (grouped after.groups.items (drop k gs) ++ drop after.end gs)) start_is
-          ∙ ap (λ k. take it.start gs ++ (grouped after.groups.items (drop it.start gs) ++ drop k gs)) end_is
-          ∙ ap (λ l. take it.start gs ++ (l ++ drop it.end gs)) (joined.same (drop it.start gs));
-      fits = record {
-        span = omega (arith, joined.len, fits.span);
-        within = (let within = fits.within in omega arith);
-        least = subst (λ k. LeastIn after.groups.items (drop k gs)) (sym start_is)
-            (joined.least (drop it.start gs) fits.least);
-      };
-      same_length = refl;
-    }
+joined_still it after gs joined start_is end_is fits = record {
+  same = ap (λ k. take k gs ++ (grouped after.groups.items (drop k gs) ++ drop after.end gs)) start_is
+      ∙ ap (λ k. take it.start gs ++ (grouped after.groups.items (drop it.start gs) ++ drop k gs)) end_is
+      ∙ ap (λ l. take it.start gs ++ (l ++ drop it.end gs)) (joined.same (drop it.start gs));
+  fits = record {
+    span = omega (arith, joined.len, fits.span);
+    within = (let within = fits.within in omega arith);
+    least = subst (λ k. LeastIn after.groups.items (drop k gs)) (sym start_is)
+        (joined.least (drop it.start gs) fits.least);
+  };
+  same_length = refl;
+}
 
 pub written_by : (it after : CarriedGroups) (gs hs : List hb_glyph_info_t) (n : ℕ) (xs : List Group) (last : Group) →
     0 < length it.groups.items → n ≡ length it.groups.items → xs ≡ it.groups.items →
@@ -561,9 +559,10 @@ taken_is count it gs hs low end kept low_is end_is kept_is is =
     ∙ ap (λ k. take (it.end - count - 1) gs ++ (kept ++ drop k gs)) end_is
     ∙ ap (λ l. take (it.end - count - 1) gs ++ (l ++ drop it.end gs)) kept_is
 
-pub settled : (it after : CarriedGroups) (groups : List Group) (gs : List hb_glyph_info_t) → after.start ≡ it.start →
+pub groups_settled : (it after : CarriedGroups) (groups : List Group) (gs : List hb_glyph_info_t)
+    → after.start ≡ it.start →
     after.end ≡ it.end → after.groups.items ≡ groups → with_groups after gs ≡ with_list it groups gs
-settled it after groups gs start_is end_is are =
+groups_settled it after groups gs start_is end_is are =
     ap (λ k. take k gs ++ (grouped after.groups.items (drop k gs) ++ drop after.end gs)) start_is
     ∙ ap (λ k. take it.start gs ++ (grouped after.groups.items (drop it.start gs) ++ drop k gs)) end_is
     ∙ ap (λ l. take it.start gs ++ (grouped l (drop it.start gs) ++ drop it.end gs)) are

@@ -1,17 +1,16 @@
 -- Steps behind groups that are shown: what they make of the glyphs with these groups in their clusters.
-use Rattle.std.proofs.Common.{ℕ, zero, suc, ◌+◌, ◌-◌, ◌<◌, ◌≤◌, ◌≡◌, ◌⊎◌, inl, inr, min, List, [], ◌∷◌, ◌++◌, map, length, take, drop, refl, sym, ◌∙◌, ap, subst, arith, append_assoc, length-append, length-take, length-drop}
+use Rattle.std.proofs.Common.{ℕ, ◌+◌, ◌-◌, ◌<◌, ◌≤◌, ◌≡◌, ◌⊎◌, inl, inr, min, List, [], ◌∷◌, ◌++◌, map, length, take, drop, refl, sym, ◌∙◌, ap, subst, arith, append_assoc, length-append, length-take, length-drop}
 use Rattle.std.specs.Prelude.{true}
 use Rattle.std.specs.List.{AllZip}
 use Rattle.std.proofs.lemmas.Bool.Decides.{nat_tests}
-use Rattle.std.proofs.lemmas.List.{append-nil, drop-drop, drop_at, length-map, map-append, take-append-drop, take_at}
+use Rattle.std.proofs.lemmas.List.{append-nil, drop-drop, drop_at, length-map, take-append-drop, take_at}
 use Rattle.shapers_buffer.specs.declared.buffer.glyph.hb_glyph_info_t.{hb_glyph_info_t}
 use Rattle.shapers_buffer.specs.declared.buffer.level.BufferClusterLevel.{BufferClusterLevel}
 use Rattle.shapers_buffer.specs.ClusterRuns.{none_below}
 use Rattle.shapers_buffer.specs.Clusters.{first_cluster, in_cluster, least, stretch_of}
 use Rattle.shapers_buffer.specs.Glyph.{clusters, plain}
-use Rattle.shapers_buffer.proofs.ClusterLemmas.{length-stretch}
 use Rattle.shapers_clusters.specs.CarriedRuns.{EndsAbove}
-use Rattle.shapers_clusters.specs.CarriedGroups.{AreCarried, AreShown, LeastIn, StandFor, StopsAt, all_of, fallen_groups, first_of, grouped, last_groups, len_of, read_back, shown, spread, with_groups}
+use Rattle.shapers_clusters.specs.CarriedGroups.{AreCarried, AreShown, LeastIn, StandFor, StopsBefore, groups_len, fallen_groups, first_group_cluster, grouped, last_groups, len_of, read_back, shown_groups, spread_groups, with_groups}
 use Rattle.shapers_clusters.specs.declared.carried_groups.CarriedGroups.{CarriedGroups}
 use Rattle.shapers_clusters.specs.declared.carried_groups.Group.{Group}
 use Rattle.shapers_clusters.specs.Steps.{FitSteps, Step, run_steps, widened}
@@ -29,7 +28,7 @@ length-cut_up [] gs = refl
 length-cut_up (group ∷ groups) gs = omega (arith, length-cut_up groups (drop group.len gs))
 
 all_of-cut_up : (groups : List Group) (gs : List hb_glyph_info_t) → len_of groups ≤ length gs →
-    all_of (cut_up groups gs) ≡ len_of groups
+    groups_len (cut_up groups gs) ≡ len_of groups
 all_of-cut_up [] gs within = refl
 all_of-cut_up (group ∷ groups) gs within = omega (
   arith,
@@ -49,7 +48,7 @@ heads x y xs ys same = (ap (λ l. first_or x l) same, ap (drop 1) same)
     first_or d (x ∷ xs) = x
 
 spread_cut : (groups : List Group) (reps gs rest : List hb_glyph_info_t) → StandAs groups reps →
-    spread (cut_up groups gs) (reps ++ rest) ≡ grouped groups gs ++ rest
+    spread_groups (cut_up groups gs) (reps ++ rest) ≡ grouped groups gs ++ rest
 spread_cut [] [] gs rest stood = refl
 spread_cut [] (g ∷ reps) gs rest stood = absurd (cc)
 spread_cut (group ∷ groups) [] gs rest stood = absurd (cc)
@@ -57,7 +56,8 @@ spread_cut (group ∷ groups) (g ∷ reps) gs rest stood =
     let (one, more) = heads g.cluster group.cluster (map (λ (g : hb_glyph_info_t). g.cluster) reps)
     (map (λ (group : Group). group.cluster) groups) stood in
     let put = map (in_cluster group.cluster) (take group.len gs) in
-    ap (λ c. map (in_cluster c) (take group.len gs) ++ spread (cut_up groups (drop group.len gs)) (reps ++ rest)) one
+    ap (λ c. map (in_cluster c) (take group.len gs) ++ spread_groups (cut_up groups (drop group.len gs))
+    (reps ++ rest)) one
     ∙ ap (λ l. put ++ l) (spread_cut groups reps (drop group.len gs) rest more)
     ∙ sym (append_assoc put (grouped groups (drop group.len gs)) rest)
 
@@ -74,13 +74,13 @@ stand_cut (group ∷ groups) (g ∷ reps) gs rest stood within all =
     )
 
 shown_as : (groups : List Group) (gs : List hb_glyph_info_t) → length groups ≤ length gs →
-    StandAs groups (take (length groups) (shown groups gs))
+    StandAs groups (take (length groups) (shown_groups groups gs))
 shown_as [] gs many = refl
 shown_as (group ∷ groups) [] many = absurd (omega arith)
 shown_as (group ∷ groups) (g ∷ gs) many = ap (λ l. group.cluster ∷ l) (shown_as groups gs (omega arith))
 
 shown_rest : (groups : List Group) (gs : List hb_glyph_info_t) → length groups ≤ length gs →
-    drop (length groups) (shown groups gs) ≡ drop (length groups) gs
+    drop (length groups) (shown_groups groups gs) ≡ drop (length groups) gs
 shown_rest [] gs many = refl
 shown_rest (group ∷ groups) [] many = absurd (omega arith)
 shown_rest (group ∷ groups) (g ∷ gs) many = shown_rest groups gs (omega arith)
@@ -89,16 +89,16 @@ shown_rest (group ∷ groups) (g ∷ gs) many = shown_rest groups gs (omega arit
 abbrev alone : List hb_glyph_info_t → List (List hb_glyph_info_t)
 alone gs = map (λ (g : hb_glyph_info_t). g ∷ []) gs
 
-all_of-alone : (gs : List hb_glyph_info_t) → all_of (alone gs) ≡ length gs
+all_of-alone : (gs : List hb_glyph_info_t) → groups_len (alone gs) ≡ length gs
 all_of-alone [] = refl
 all_of-alone (g ∷ gs) = omega (arith, all_of-alone gs)
 
-own_cluster : (g : hb_glyph_info_t) → in_cluster g.cluster g ≡ g
-own_cluster g = in_cluster-same g
+in_own_cluster : (g : hb_glyph_info_t) → in_cluster g.cluster g ≡ g
+in_own_cluster g = in_cluster-same g
 
-spread_alone : (gs rest : List hb_glyph_info_t) → spread (alone gs) (gs ++ rest) ≡ gs ++ rest
+spread_alone : (gs rest : List hb_glyph_info_t) → spread_groups (alone gs) (gs ++ rest) ≡ gs ++ rest
 spread_alone [] rest = refl
-spread_alone (g ∷ gs) rest = ap (λ x. x ∷ spread (alone gs) (gs ++ rest)) (own_cluster g)
+spread_alone (g ∷ gs) rest = ap (λ x. x ∷ spread_groups (alone gs) (gs ++ rest)) (in_own_cluster g)
     ∙ ap (λ l. g ∷ l) (spread_alone gs rest)
 
 stand_alone : (gs rest : List hb_glyph_info_t) → StandFor (alone gs) (gs ++ rest)
@@ -110,12 +110,12 @@ stand_alone (g ∷ gs) rest = ((omega arith, own g), stand_alone gs rest)
 
 -- what they are read as
 clusters_alone : (gs xs : List hb_glyph_info_t) → length gs ≡ length xs →
-    map (λ (g : hb_glyph_info_t). g.cluster) (spread (alone gs) xs) ≡ map (λ (g : hb_glyph_info_t). g.cluster) xs
+    map (λ (g : hb_glyph_info_t). g.cluster) (spread_groups (alone gs) xs) ≡ map (λ (g : hb_glyph_info_t). g.cluster) xs
 clusters_alone [] [] many = refl
 clusters_alone [] (x ∷ xs) many = absurd (omega arith)
 clusters_alone (g ∷ gs) [] many = absurd (omega arith)
 clusters_alone (g ∷ gs) (x ∷ xs) many =
-    ap (λ c. c ∷ map (λ (g : hb_glyph_info_t). g.cluster) (spread (alone gs) xs)) (cluster_put x.cluster g)
+    ap (λ c. c ∷ map (λ (g : hb_glyph_info_t). g.cluster) (spread_groups (alone gs) xs)) (cluster_put x.cluster g)
     ∙ ap (λ l. x.cluster ∷ l) (clusters_alone gs xs (omega arith))
 
 pub read_clusters : (xs ys : List hb_glyph_info_t) (groups : List Group) →
@@ -132,7 +132,7 @@ read_clusters (x ∷ xs) (y ∷ ys) (group ∷ groups) same =
     ∙ ap (λ l. (record group { cluster = min group.cluster y.cluster }) ∷ l) (read_clusters xs ys groups more)
 
 spread_read : (groups : List Group) (reps new gs : List hb_glyph_info_t) → StandAs groups reps →
-    AllZip NotAbove reps new → grouped (read_back new groups) gs ≡ spread (cut_up groups gs) new
+    AllZip NotAbove reps new → grouped (read_back new groups) gs ≡ spread_groups (cut_up groups gs) new
 spread_read [] [] [] gs stood lower = refl
 spread_read [] [] (n ∷ new) gs stood lower = absurd lower
 spread_read [] (g ∷ reps) new gs stood lower = absurd (cc)
@@ -159,8 +159,8 @@ pub steps_behind : (level : BufferClusterLevel) (first end count : ℕ) (steps :
     (before after : CarriedGroups) (between hs : List hb_glyph_info_t) → first ≤ end → end ≤ length between →
     FitSteps (end - first) steps → AreCarried before between → before.end ≡ first → 0 < count →
     count ≤ length before.groups.items → AreShown count before between after hs →
-    ((first_of (last_groups count before) < least (clusters (stretch_of first end between)))
-    ⊎ ((count ≡ length before.groups.items) × EndsAbove (first_of before.groups.items)
+    ((first_group_cluster (last_groups count before) < least (clusters (stretch_of first end between)))
+    ⊎ ((count ≡ length before.groups.items) × EndsAbove (first_group_cluster before.groups.items)
     (take before.start between))) → (let over = run_steps level (map (widened first end (length between)) steps) in
     StepsBehind before count between hs (over (with_groups before between)) (over hs))
 steps_behind level first end count steps before after between hs order within fit fits at some many is stops =
@@ -187,16 +187,18 @@ steps_behind level first end count steps before after between hs order within fi
     -- those that are shown
     let tail = drop place between in
     let tail_n : length tail ≡ count + m = length-drop place between ∙ omega arith in
-    let reps = take count (shown last tail) in
-    let shown_n : length (shown last tail) ≡ length tail = long last tail (omega arith) in
-    let reps_n : length reps ≡ count = omega (arith, length-take count (shown last tail)) in
-    let behind : drop count (shown last tail) ≡ rest = ap (λ k. drop k (shown last tail)) (sym ln)
+    let reps = take count (shown_groups last tail) in
+    let shown_n : length (shown_groups last tail) ≡ length tail = long last tail (omega arith) in
+    let reps_n : length reps ≡ count = omega (arith, length-take count (shown_groups last tail)) in
+    let behind : drop count (shown_groups last tail) ≡ rest = ap (λ k. drop k (shown_groups last tail)) (sym ln)
     ∙ shown_rest last tail (omega arith) ∙ ap (λ k. drop k tail) ln ∙ drop-drop count place between
     ∙ ap (λ k. drop k between) (up ∙ at) in
     let ys = reps ++ rest in
-    let ys_is : ys ≡ shown last tail = ap (λ l. reps ++ l) (sym behind) ∙ take-append-drop count (shown last tail) in
+    let ys_is : ys ≡ shown_groups last tail = ap (λ l. reps ++ l) (sym behind) ∙ take-append-drop count
+    (shown_groups last tail) in
     let yn : length ys ≡ count + m = length-append reps rest ∙ omega arith in
-    let stood : StandAs last reps = ap (λ k. map (λ (g : hb_glyph_info_t). g.cluster) (take k (shown last tail))) (sym ln)
+    let stood : StandAs last reps = ap (λ k. map (λ (g : hb_glyph_info_t). g.cluster)
+    (take k (shown_groups last tail))) (sym ln)
     ∙ shown_as last tail (omega arith) in
     let low_front = take place hs in
     let hn : length hs ≡ length between = sym (length-map hs plain) ∙ ap length is.view ∙ length-map between plain in
@@ -206,7 +208,7 @@ steps_behind level first end count steps before after between hs order within fi
     let P = take before.start between ++ grouped front D in
     let Gs = cut_up last B in
     let gn : length Gs ≡ count = length-cut_up last B ∙ ln in
-    let pn : length P + all_of Gs ≡ first = omega (
+    let pn : length P + groups_len Gs ≡ first = omega (
       arith,
       length-append (take before.start between) (grouped front D),
       length-take before.start between,
@@ -214,7 +216,7 @@ steps_behind level first end count steps before after between hs order within fi
       all_of-cut_up last B (omega arith),
       fits.within,
     ) in
-    let meant : P ++ spread Gs ys ≡ with_groups before between =
+    let meant : P ++ spread_groups Gs ys ≡ with_groups before between =
     ap (λ l. P ++ l) (spread_cut last reps B rest stood)
     ∙ append_assoc (take before.start between) (grouped front D) (grouped last B ++ rest)
     ∙ ap (λ l. take before.start between ++ l) (sym (append_assoc (grouped front D) (grouped last B) rest)
@@ -242,8 +244,8 @@ steps_behind level first end count steps before after between hs order within fi
     (omega (arith, all_of-alone reps)) (length-map reps (λ g. g ∷ []) ∙ reps_n) yn (stand_alone reps rest) in
     let new = change ys in
     -- they stop there
-    let first_is : first_cluster ys ≡ first_of last = first_of_reps reps rest last stood (omega arith) in
-    let until : StopsAt P ys new × StopsAt low_front ys new = elim stops [
+    let first_is : first_cluster ys ≡ first_group_cluster last = first_of_reps reps rest last stood (omega arith) in
+    let until : StopsBefore P ys new × StopsBefore low_front ys new = elim stops [
       | inl below ↦
           let mid : stretch_of (count + 0) (count + e) ys ≡ stretch_of first end between =
           ap (λ k. take ((count + e) - k) (drop k ys)) c_same
@@ -263,7 +265,7 @@ steps_behind level first end count steps before after between hs order within fi
           let start_P : P ≡ take before.start between =
           ap (λ l. take before.start between ++ grouped l D) none ∙ append-nil (take before.start between) in
           let all : last ≡ items = ap (λ k. drop k items) gone in
-          let c_is : first_of items ≡ first_cluster ys = sym (first_is ∙ ap first_of all) in (
+          let c_is : first_group_cluster items ≡ first_cluster ys = sym (first_is ∙ ap first_group_cluster all) in (
             inl (subst (λ l. EndsAbove (first_cluster ys) l) (sym start_P)
                 (subst (λ c. EndsAbove c (take before.start between)) c_is above.1)),
             inl (subst (λ c. EndsAbove c low_front) c_is is.above),
@@ -271,26 +273,26 @@ steps_behind level first end count steps before after between hs order within fi
     ] in
     let new_n = one.same_length in
     let Y = over hs in
-    let y_is : Y ≡ low_front ++ spread (alone reps) new = ap over (sym hs_is ∙ ap (λ l. low_front ++ l)
+    let y_is : Y ≡ low_front ++ spread_groups (alone reps) new = ap over (sym hs_is ∙ ap (λ l. low_front ++ l)
     (sym (spread_alone reps rest))) ∙ two.is until.1 in
     let reps_new = take count new in
     let rn : length reps_new ≡ count = omega (arith, length-take count new) in
     let an : length (alone reps) ≡ count = length-map reps (λ g. g ∷ []) ∙ reps_n in
     let new_is : new ≡ reps_new ++ drop count new = sym (take-append-drop count new) in
-    let parts : Y ≡ low_front ++ (spread (alone reps) reps_new ++ drop count new) = y_is
-    ∙ ap (λ l. low_front ++ spread (alone reps) l) new_is
+    let parts : Y ≡ low_front ++ (spread_groups (alone reps) reps_new ++ drop count new) = y_is
+    ∙ ap (λ l. low_front ++ spread_groups (alone reps) l) new_is
     ∙ ap (λ l. low_front ++ l) (spread_append (alone reps) reps_new (drop count new) (omega arith)) in
-    let sn : length (spread (alone reps) reps_new) ≡ count =
+    let sn : length (spread_groups (alone reps) reps_new) ≡ count =
     length-spread (alone reps) reps_new (omega arith) ∙ all_of-alone reps ∙ reps_n in
-    let from : drop place Y ≡ spread (alone reps) reps_new ++ drop count new = ap (drop place) parts
-    ∙ drop_at low_front (spread (alone reps) reps_new ++ drop count new) place front_n in
+    let from : drop place Y ≡ spread_groups (alone reps) reps_new ++ drop count new = ap (drop place) parts
+    ∙ drop_at low_front (spread_groups (alone reps) reps_new ++ drop count new) place front_n in
     let size : before.end - place ≡ count = omega arith in
     let S = stretch_of place before.end Y in
-    let s_is : S ≡ spread (alone reps) reps_new = ap (λ k. take k (drop place Y)) size ∙ ap (take count) from
-    ∙ take_at (spread (alone reps) reps_new) (drop count new) count sn in
+    let s_is : S ≡ spread_groups (alone reps) reps_new = ap (λ k. take k (drop place Y)) size ∙ ap (take count) from
+    ∙ take_at (spread_groups (alone reps) reps_new) (drop count new) count sn in
     let after_is : drop before.end Y ≡ drop count new = ap (λ k. drop k Y) (sym up)
     ∙ sym (drop-drop count place Y) ∙ ap (drop count) from
-    ∙ drop_at (spread (alone reps) reps_new) (drop count new) count sn in
+    ∙ drop_at (spread_groups (alone reps) reps_new) (drop count new) count sn in
     let read : read_back S last ≡ read_back reps_new last =
     read_clusters S reps_new last (ap (map (λ (g : hb_glyph_info_t). g.cluster)) s_is
     ∙ clusters_alone reps reps_new (omega arith)) in
@@ -298,33 +300,34 @@ steps_behind level first end count steps before after between hs order within fi
     subst (λ l. AllZip NotAbove l reps_new) (ap (λ k. take k ys) gn ∙ take_at reps rest count reps_n)
     (subst (λ k. AllZip NotAbove (take (length Gs) ys) (take k new)) gn one.lower) in
     let F = fallen_groups count before Y in
-    let made : grouped F D ≡ grouped front D ++ spread Gs reps_new = grouped-append front (read_back S last) D
+    let made : grouped F D ≡ grouped front D ++ spread_groups Gs reps_new = grouped-append front (read_back S last) D
     ∙ ap (λ l. grouped front D ++ grouped l B) read
     ∙ ap (λ l. grouped front D ++ l) (spread_read last reps reps_new B stood lower) in
     record {
-      same_length = ap length parts ∙ length-append low_front (spread (alone reps) reps_new ++ drop count new)
+      same_length = ap length parts ∙ length-append low_front (spread_groups (alone reps) reps_new ++ drop count new)
           ∙ omega (
             arith,
-            length-append (spread (alone reps) reps_new) (drop count new),
+            length-append (spread_groups (alone reps) reps_new) (drop count new),
             length-drop count new,
           );
-      front = ap (take place) parts ∙ take_at low_front (spread (alone reps) reps_new ++ drop count new) place front_n;
+      front = ap (take place) parts ∙ take_at low_front (spread_groups (alone reps) reps_new ++ drop count new) place
+          front_n;
       meant_is = ap over (sym meant) ∙ one.is until.0
-          ∙ ap (λ l. P ++ spread Gs l) new_is
+          ∙ ap (λ l. P ++ spread_groups Gs l) new_is
           ∙ ap (λ l. P ++ l) (spread_append Gs reps_new (drop count new) (omega arith))
-          ∙ append_assoc (take before.start between) (grouped front D) (spread Gs reps_new ++ drop count new)
-          ∙ ap (λ l. take before.start between ++ l) (sym (append_assoc (grouped front D) (spread Gs reps_new)
+          ∙ append_assoc (take before.start between) (grouped front D) (spread_groups Gs reps_new ++ drop count new)
+          ∙ ap (λ l. take before.start between ++ l) (sym (append_assoc (grouped front D) (spread_groups Gs reps_new)
           (drop count new)) ∙ ap (λ l. l ++ drop count new) (sym made) ∙ ap (λ l. grouped F D ++ l) (sym after_is));
     }
   where
     long : (groups : List Group) (gs : List hb_glyph_info_t) → length groups ≤ length gs →
-        length (shown groups gs) ≡ length gs
+        length (shown_groups groups gs) ≡ length gs
     long [] gs few = refl
     long (group ∷ groups) [] few = absurd (omega arith)
     long (group ∷ groups) (g ∷ gs) few = omega (arith, long groups gs (omega arith))
 
     first_of_reps : (reps rest : List hb_glyph_info_t) (groups : List Group) → StandAs groups reps → 0 < length reps →
-        first_cluster (reps ++ rest) ≡ first_of groups
+        first_cluster (reps ++ rest) ≡ first_group_cluster groups
     first_of_reps [] rest groups stood more = absurd (omega arith)
     first_of_reps (g ∷ reps) rest [] stood more = absurd (cc)
     first_of_reps (g ∷ reps) rest (group ∷ groups) stood more =

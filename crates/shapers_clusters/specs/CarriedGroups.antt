@@ -9,15 +9,15 @@ use Rattle.shapers_clusters.specs.declared.carried_groups.CarriedGroups.{Carried
 use Rattle.shapers_clusters.specs.declared.carried_groups.Group.{Group}
 
 -- how many glyphs the groups have
-abbrev pub all_of : List (List hb_glyph_info_t) → ℕ
-all_of [] = 0
-all_of (group ∷ groups) = length group + all_of groups
+abbrev pub groups_len : List (List hb_glyph_info_t) → ℕ
+groups_len [] = 0
+groups_len (group ∷ groups) = length group + groups_len groups
 
 -- the list with a group in place of each of its first glyphs, in the cluster of that glyph
-abbrev pub spread : List (List hb_glyph_info_t) → List hb_glyph_info_t → List hb_glyph_info_t
-spread [] gs = gs
-spread (group ∷ groups) [] = []
-spread (group ∷ groups) (g ∷ gs) = map (in_cluster g.cluster) group ++ spread groups gs
+abbrev pub spread_groups : List (List hb_glyph_info_t) → List hb_glyph_info_t → List hb_glyph_info_t
+spread_groups [] gs = gs
+spread_groups (group ∷ groups) [] = []
+spread_groups (group ∷ groups) (g ∷ gs) = map (in_cluster g.cluster) group ++ spread_groups groups gs
 
 -- each of the first glyphs of the list stands for a group, which isn't empty, and in which no glyph
 -- has a cluster below its own
@@ -29,8 +29,8 @@ StandFor (group ∷ groups) (g ∷ gs) =
 
 -- No merge of the list reaches what stands before it: that ends in a cluster above the first one,
 -- or the first one is still the same.
-abbrev pub StopsAt : List hb_glyph_info_t → List hb_glyph_info_t → List hb_glyph_info_t → Type 0
-StopsAt before gs new =
+abbrev pub StopsBefore : List hb_glyph_info_t → List hb_glyph_info_t → List hb_glyph_info_t → Type 0
+StopsBefore before gs new =
     EndsAbove (first_cluster gs) before ⊎ (first_cluster new ≡ first_cluster gs)
 
 -- how many glyphs these groups have
@@ -72,10 +72,10 @@ pub record StillSame (it : CarriedGroups) (gs : List hb_glyph_info_t) (after : C
   pub same_length : length hs ≡ length gs
 
 -- glyphs in the clusters of groups, one for each
-abbrev pub shown : List Group → List hb_glyph_info_t → List hb_glyph_info_t
-shown [] gs = gs
-shown (group ∷ groups) [] = []
-shown (group ∷ groups) (g ∷ gs) = record g { cluster = group.cluster } ∷ shown groups gs
+abbrev pub shown_groups : List Group → List hb_glyph_info_t → List hb_glyph_info_t
+shown_groups [] gs = gs
+shown_groups (group ∷ groups) [] = []
+shown_groups (group ∷ groups) (g ∷ gs) = record g { cluster = group.cluster } ∷ shown_groups groups gs
 
 -- groups in the clusters of glyphs, if those are lower
 abbrev pub read_back : List hb_glyph_info_t → List Group → List Group
@@ -85,9 +85,9 @@ read_back (g ∷ gs) (group ∷ groups) =
     record group { cluster = min group.cluster g.cluster } ∷ read_back gs groups
 
 -- the cluster of the first group
-abbrev pub first_of : List Group → ℕ
-first_of [] = 0
-first_of (group ∷ groups) = group.cluster
+abbrev pub first_group_cluster : List Group → ℕ
+first_group_cluster [] = 0
+first_group_cluster (group ∷ groups) = group.cluster
 
 -- the last groups, so many
 abbrev pub last_groups : ℕ → CarriedGroups → List Group
@@ -95,9 +95,9 @@ last_groups count it = drop (length it.groups.items - count) it.groups.items
 
 -- What stands before the groups ends in a cluster above that of the first one; and there is one
 -- above that.
-pub record IsApart (it : CarriedGroups) (gs : List hb_glyph_info_t) : Type 0 where
-  pub room : first_of it.groups.items + 1 < 2 ^ 32
-  pub above : EndsAbove (first_of it.groups.items) (take it.start gs)
+pub record GroupsApart (it : CarriedGroups) (gs : List hb_glyph_info_t) : Type 0 where
+  pub room : first_group_cluster it.groups.items + 1 < 2 ^ 32
+  pub above : EndsAbove (first_group_cluster it.groups.items) (take it.start gs)
 
 -- One glyph stands for each of the last groups, with their glyphs' place before it, and one of
 -- another cluster before them; what stood there is kept.
@@ -106,9 +106,9 @@ pub record AreShown (count : ℕ) (it : CarriedGroups) (gs : List hb_glyph_info_
   pub same : after ≡ record it { kept = after.kept }
   pub kept : after.kept.items ≡ stretch_of (it.end - count - 1) it.end gs
   pub room : count ≤ it.end
-  pub rest : drop (it.end - count) hs ≡ shown (last_groups count it) (drop (it.end - count) gs)
+  pub rest : drop (it.end - count) hs ≡ shown_groups (last_groups count it) (drop (it.end - count) gs)
   pub front : take (it.end - count - 1) hs ≡ take (it.end - count - 1) gs
-  pub above : EndsAbove (first_of it.groups.items) (take (it.end - count) hs)
+  pub above : EndsAbove (first_group_cluster it.groups.items) (take (it.end - count) hs)
   pub view : order_view hs ≡ order_view gs
 
 -- Before merges from first to end: groups are shown that stand before first, behind one that is
@@ -124,8 +124,8 @@ pub record GroupsGuarded (first end : ℕ) (it : CarriedGroups) (gs : List hb_gl
   pub within : count ≤ length before.groups.items
   pub some : 0 < count → AreShown count before between after hs
   pub stops : 0 < count → (first < end) ×
-      ((first_of (last_groups count before) < least (clusters (stretch_of first end between)))
-      ⊎ ((count ≡ length before.groups.items) × EndsAbove (first_of before.groups.items)
+      ((first_group_cluster (last_groups count before) < least (clusters (stretch_of first end between)))
+      ⊎ ((count ≡ length before.groups.items) × EndsAbove (first_group_cluster before.groups.items)
       (take before.start between)))
 
 -- the list with what was kept in its place

@@ -1,8 +1,8 @@
 //! Runs of glyphs in front of a place where merges go on, each in one cluster, which are written
 //! once.
-ghost use Rattle.std.specs.Prelude.{◌≡◌, ◌<◌, ◌≤◌, ◌+◌, ◌-◌, ◌^◌, ◌++◌, ◌∷◌, [], OnOk, OnErr, IsOk, drop, get_or, length, map, take, true};
+ghost use Rattle.std.specs.Prelude.{◌≡◌, ◌<◌, ◌≤◌, ◌+◌, ◌-◌, ◌^◌, ◌++◌, [], OnOk, OnErr, drop, get_or, length, map, take, true};
 ghost use Rattle.shapers_buffer.specs.Clusters.{in_cluster, with_stretch};
-ghost use Rattle.shapers_clusters.specs.CarriedGroups.{AreCarried, AreShown, GroupsGuarded, IsApart, StillSame, fallen_groups, first_of, grouped, joined_end, len_of, no_group, put_before, read_back, shown, taken_back, with_groups, with_list};
+ghost use Rattle.shapers_clusters.specs.CarriedGroups.{AreCarried, AreShown, GroupsGuarded, GroupsApart, StillSame, fallen_groups, first_group_cluster, grouped, joined_end, len_of, no_group, put_before, read_back, shown_groups, taken_back, with_groups, with_list};
 
 use crate::into_cluster::IntoCluster;
 use shapers_buffer::buffer::{change_each_in, hb_glyph_info_t, least_cluster};
@@ -219,7 +219,7 @@ impl CarriedGroups {
     fn is_apart(&self, glyphs: &[hb_glyph_info_t]) -> bool
         requires some { 0 < length self.now.groups.items }
         requires in_range { self.now.start ≤ length glyphs.now }
-        ensures { result ≡ true → IsApart self.now glyphs.now }
+        ensures { result ≡ true → GroupsApart self.now glyphs.now }
     {
         let cluster = self.group(0).cluster;
         cluster < u32::MAX && (self.start == 0 || glyphs[self.start - 1].cluster > cluster)
@@ -232,7 +232,7 @@ impl CarriedGroups {
         ensures some { 0 < result }
         ensures within { result ≤ length self.now.groups.items }
         ensures stops { result < length self.now.groups.items →
-            first_of (drop (length self.now.groups.items - result) self.now.groups.items) < least }
+            first_group_cluster (drop (length self.now.groups.items - result) self.now.groups.items) < least }
     {
         let mut index = self.group_count() - 1;
         while index > 0 && self.group(index).cluster >= least {
@@ -248,7 +248,7 @@ impl CarriedGroups {
         requires some { 0 < count }
         requires within { count ≤ length self.old.groups.items }
         requires fits { AreCarried self.old glyphs.old }
-        requires apart { IsApart self.old glyphs.old }
+        requires apart { GroupsApart self.old glyphs.old }
         ensures shown { OnOk result (AreShown count self.old glyphs.old self.new glyphs.new) }
         ensures err { OnErr result (glyphs.new ≡ glyphs.old) }
         ensures groups { self.new.groups ≡ self.old.groups }
@@ -271,7 +271,7 @@ impl CarriedGroups {
         requires in_range { self.now.end ≤ length glyphs.old }
         requires room { place + (length self.now.groups.items - index) ≡ self.now.end }
         ensures { let groups = drop index self.now.groups.items in
-            glyphs.new ≡ with_stretch place self.now.end (shown groups) glyphs.old }
+            glyphs.new ≡ with_stretch place self.now.end (shown_groups groups) glyphs.old }
     {
         show_groups(self.groups_from(index), &mut glyphs[place..self.end]);
     }
@@ -400,7 +400,7 @@ fn put_before(glyphs: &mut [hb_glyph_info_t], place: usize, cluster: u32)
 #[inline]
 fn show_groups(groups: &[Group], glyphs: &mut [hb_glyph_info_t])
     requires { length groups.now ≤ length glyphs.old }
-    ensures { glyphs.new ≡ shown groups.now glyphs.old }
+    ensures { glyphs.new ≡ shown_groups groups.now glyphs.old }
 {
     for i in 0..groups.len() {
         glyphs[i].cluster = groups[i].cluster;

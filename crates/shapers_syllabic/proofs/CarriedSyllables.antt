@@ -13,7 +13,7 @@ use Rattle.shapers_buffer.specs.Clusters.{in_cluster, least, stretch_of, with_st
 use Rattle.shapers_buffer.specs.Glyph.{clusters, order_view, plain, without_flags}
 use Rattle.shapers_buffer.specs.Syllables.{first_syllable_len}
 use Rattle.shapers_buffer.proofs.ClusterLemmas.{length-stretch, map-stretch}
-use Rattle.shapers_clusters.specs.CarriedGroups.{AreCarried, AreShown, GroupsGuarded, LeastIn, fallen_groups, first_of, grouped, last_groups, len_of, read_back, taken_back, with_groups, with_list}
+use Rattle.shapers_clusters.specs.CarriedGroups.{AreCarried, AreShown, GroupsGuarded, LeastIn, fallen_groups, first_group_cluster, grouped, last_groups, len_of, read_back, taken_back, with_groups, with_list}
 use Rattle.shapers_clusters.specs.CarriedRuns.{EndsAbove}
 use Rattle.shapers_clusters.specs.declared.carried_groups.CarriedGroups.{CarriedGroups}
 use Rattle.shapers_clusters.specs.declared.carried_groups.Group.{Group}
@@ -46,8 +46,7 @@ rebuilt_is g =
 
 both_views : (gs hs : List hb_glyph_info_t) → map plain gs ≡ map plain hs → map carried gs ≡ map carried hs →
     gs ≡ hs
-both_views gs hs same also =
-    sym (all gs) ∙ ap (λ l. zip_with rebuilt l (map carried gs)) same
+both_views gs hs same also = sym (all gs) ∙ ap (λ l. zip_with rebuilt l (map carried gs)) same
     ∙ ap (λ l. zip_with rebuilt (map plain hs) l) also ∙ all hs
   where
     all : (gs : List hb_glyph_info_t) → zip_with rebuilt (map plain gs) (map carried gs) ≡ gs
@@ -109,8 +108,7 @@ front_of it groups gs = take it.start gs ++ grouped groups (drop it.start gs)
 
 front_view : (it : CarriedGroups) (groups : List Group) (gs : List hb_glyph_info_t) →
     it.start + len_of groups ≡ it.end → map plain (front_of it groups gs) ≡ take it.end (map plain gs)
-front_view it groups gs span =
-    map-append plain (take it.start gs) (grouped groups (drop it.start gs))
+front_view it groups gs span = map-append plain (take it.start gs) (grouped groups (drop it.start gs))
     ∙ ap (λ l. map plain (take it.start gs) ++ l) (plain-grouped groups (drop it.start gs))
     ∙ sym (map-append plain (take it.start gs) (take (len_of groups) (drop it.start gs)))
     ∙ ap (map plain) (sym (take-add it.start (len_of groups) gs) ∙ ap (λ k. take k gs) span)
@@ -122,8 +120,7 @@ list_is it groups gs = sym (append_assoc (take it.start gs) (grouped groups (dro
 
 pub order_view-groups : (it : CarriedGroups) (gs : List hb_glyph_info_t) →
     it.start + len_of it.groups.items ≡ it.end → order_view (with_groups it gs) ≡ order_view gs
-order_view-groups it gs span =
-    ap (map plain) (list_is it it.groups.items gs)
+order_view-groups it gs span = ap (map plain) (list_is it it.groups.items gs)
     ∙ map-append plain (front_of it it.groups.items gs) (drop it.end gs)
     ∙ ap (λ l. l ++ map plain (drop it.end gs)) (front_view it it.groups.items gs span)
     ∙ ap (λ l. take it.end (map plain gs) ++ l) (sym (drop-map plain it.end gs))
@@ -251,8 +248,8 @@ pub shown_reordered : (meaning : List hb_glyph_info_t → List hb_glyph_info_t) 
     (between hs : List hb_glyph_info_t) → ReorderLaws meaning steps → first ≤ end → end ≤ length between →
     AreCarried before between → before.end ≡ first → 0 < count → count ≤ length before.groups.items →
     AreShown count before between after hs →
-    ((first_of (last_groups count before) < least (clusters (stretch_of first end between)))
-    ⊎ ((count ≡ length before.groups.items) × EndsAbove (first_of before.groups.items)
+    ((first_group_cluster (last_groups count before) < least (clusters (stretch_of first end between)))
+    ⊎ ((count ≡ length before.groups.items) × EndsAbove (first_group_cluster before.groups.items)
     (take before.start between))) →
     SyllableReordered meaning steps first end (record old { glyphs = hs }) reordered →
     ShownReordered meaning steps first end count before after old reordered between
@@ -358,9 +355,9 @@ shown_reordered meaning steps first end count before after old reordered between
               (subst (LeastIn items) b_drop fits.least)))));
         };
       };
-      made = λ final new settled others.
+      made = λ final new groups_settled others.
           let fin = with_groups final new.glyphs in
-          let fin_is : fin ≡ C ++ drop first X = settled.same some
+          let fin_is : fin ≡ C ++ drop first X = groups_settled.same some
           ∙ ap (λ l. with_list after l (taken_back count after X)) read
           ∙ ap (with_list after F) z_is
           ∙ ap (λ k. take k Z ++ (grouped F (drop k Z) ++ drop after.end Z)) after_start
@@ -459,13 +456,13 @@ behind_guarded meaning steps link leads suffices laws first end count it after o
               none = λ _. none_carried after reordered.glyphs none_after start_after (omega arith);
               fits = λ some. absurd (omega arith);
             };
-            linked = λ final new settled rest.
-                let still = settled.still (sym none) in
+            linked = λ final new groups_settled rest.
+                let still = groups_settled.still (sym none) in
                 let left : groups_written final new ≡ reordered =
                 ap (λ (b : Buffer). record b { glyphs = with_groups final new.glyphs }) rest
                 ∙ ap (λ (gs : List hb_glyph_info_t). record reordered { glyphs = gs })
                 (ap (λ (a : CarriedGroups). with_groups a new.glyphs) still
-                ∙ none_written after new.glyphs none_after start_after ∙ settled.none (sym none)) in
+                ∙ none_written after new.glyphs none_after start_after ∙ groups_settled.none (sym none)) in
                 subst (λ b. link first end b (groups_written final new)) (sym (meant_is ∙ now_is))
                 (subst (link first end now) (sym left) linked);
             ends = ends;
@@ -473,13 +470,15 @@ behind_guarded meaning steps link leads suffices laws first end count it after o
       | inr some ↦
           let is = g.some some in
           let all = g.stops some in
-          let shown = shown_reordered (meaning old.script) (steps old.script) first end count before after old reordered
+          let shown_groups = shown_reordered (meaning old.script) (steps old.script) first end count before after old
+          reordered
           between hs (laws old.script) order (omega arith) g.fits g.at some g.within is all.1 done in
           record {
-            can = shown.can;
-            linked = λ final new settled rest. subst (λ b. link first end b (groups_written final new)) (sym meant_is)
+            can = shown_groups.can;
+            linked = λ final new groups_settled rest. subst (λ b. link first end b (groups_written final new))
+                (sym meant_is)
                 (suffices first end (record old { glyphs = with_groups before between }) (groups_written final new)
-                (shown.made final new settled rest));
+                (shown_groups.made final new groups_settled rest));
             ends = ap (λ (a : CarriedGroups). a.end) is.same ∙ g.at;
           }
     ]

@@ -70,7 +70,7 @@ abbrev pub CanWalk : Carrying → List hb_glyph_info_t → Type 0
 CanWalk w gs =
     MatchBool w.settles (CanSettle w.groups w.count gs) (CanGuard w.first w.end w.groups gs)
 
-pub record Walked (v : Carrying) (gs : List hb_glyph_info_t) (w : Carrying) (hs : List
+pub record GroupsWalked (v : Carrying) (gs : List hb_glyph_info_t) (w : Carrying) (hs : List
     hb_glyph_info_t) : Type 0 where
   pub on : w.is_on ≡ v.is_on
   pub made : MatchBool v.settles (GroupsSettled v.groups v.count gs w.groups hs)

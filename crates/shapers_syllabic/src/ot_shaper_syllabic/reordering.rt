@@ -145,11 +145,11 @@ struct Carrying {
 }
 
 impl GlyphWalk for Carrying {
-    ghost use Rattle.shapers_syllabic.specs.ReorderingWalk.{CanWalk, Walked};
+    ghost use Rattle.shapers_syllabic.specs.ReorderingWalk.{CanWalk, GroupsWalked};
 
     ghost can_walk = { λ w gs. CanWalk w gs };
 
-    ghost walks = { λ v w gs hs. Walked v gs w hs };
+    ghost walks = { λ v w gs hs. GroupsWalked v gs w hs };
 
     // Before a syllable and behind it.
     #[inline]

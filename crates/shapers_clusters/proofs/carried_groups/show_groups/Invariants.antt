@@ -1,7 +1,7 @@
 -- The groups so far are shown.
 use Rattle.std.proofs.Common.{◌≡◌, take}
-use Rattle.shapers_clusters.specs.CarriedGroups.{shown}
+use Rattle.shapers_clusters.specs.CarriedGroups.{shown_groups}
 use Rattle.shapers_clusters.proofs.carried_groups.show_groups.Given as goal
 
 abbrev pub invariant-loop-i : goal.invariant-loop-i
-invariant-loop-i l = l.glyphs ≡ shown (take l.i l.groups) l.initial.glyphs
+invariant-loop-i l = l.glyphs ≡ shown_groups (take l.i l.groups) l.initial.glyphs

@@ -2,7 +2,7 @@
 use Rattle.std.proofs.Common.{◌∙◌, ◌-◌, ap, arith, get_or, subst, sym}
 use Rattle.shapers_clusters.specs.CarriedGroups.{no_group}
 use Rattle.shapers_clusters.specs.declared.carried_groups.Group.{Group}
-use Rattle.shapers_clusters.proofs.GroupWalk.{Joined, joined_same, joined_still}
+use Rattle.shapers_clusters.proofs.GroupWalk.{EndJoined, joined_same, joined_still}
 use Rattle.shapers_clusters.proofs.carried_groups.CarriedGroups.join.Goals as goal
 
 pub loop-self-preserved : goal.loop-self-preserved
@@ -17,7 +17,7 @@ loop-self-preserved c =
     let joined = joined_same items (omega arith)
     (omega (arith, one, other, c.if-before-last.false, c.if-before-last-2.false)) in
     let same = joined_still it c.join_last.new.self c.loop-self.glyphs
-    (subst (Joined items) (sym c.join_last.ensures.groups) joined) c.join_last.ensures.start c.join_last.ensures.end
+    (subst (EndJoined items) (sym c.join_last.ensures.groups) joined) c.join_last.ensures.start c.join_last.ensures.end
     c.loop-self.invariant.fits in
     record {
       same = same.same ∙ c.loop-self.invariant.same;

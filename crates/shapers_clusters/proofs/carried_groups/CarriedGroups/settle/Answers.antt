@@ -2,7 +2,7 @@
 use Rattle.std.proofs.Common.{◌∙◌, ◌+◌, ◌++◌, ◌-◌, ◌≡◌, ap, arith, drop, length, length-drop, length-take, subst, sym, take}
 use Rattle.shapers_buffer.specs.Clusters.{stretch_of}
 use Rattle.shapers_clusters.specs.CarriedGroups.{AreCarried, fallen_groups, read_back, taken_back, with_list}
-use Rattle.shapers_clusters.proofs.GroupWalk.{many_lens, read_fits, settled, taken_is}
+use Rattle.shapers_clusters.proofs.GroupWalk.{many_lens, read_fits, groups_settled, taken_is}
 use Rattle.shapers_clusters.proofs.carried_groups.CarriedGroups.settle.Goals as goal
 
 pub overflow_sub-place : goal.overflow_sub-place
@@ -66,6 +66,7 @@ returns-clause-same c some =
     let groups = c.read_from.ensures.groups ∙ ap (λ n. take (n - c.args.count) it.groups.items
     ++ read_back (stretch_of (it.end - c.args.count) it.end gs) (drop (n - c.args.count) it.groups.items))
     c.group_count.ensures in
-    c.join.ensures.same ∙ settled it c.read_from.new.self (fallen_groups c.args.count it gs) c.put_back.new.glyphs
+    c.join.ensures.same ∙ groups_settled it c.read_from.new.self (fallen_groups c.args.count it gs)
+    c.put_back.new.glyphs
     c.read_from.ensures.start c.read_from.ensures.end groups
     ∙ ap (λ l. with_list it (fallen_groups c.args.count it gs) l) back

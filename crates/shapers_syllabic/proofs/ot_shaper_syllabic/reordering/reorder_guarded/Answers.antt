@@ -37,14 +37,14 @@ returns-clause-behind g c =
     c.args.first c.args.end c.guard.new.self.count c.args.carrying.now.groups c.guard.new.self.groups c.args.buffer.now
     c.guard.new.buffer c.reorder.new.buffer c.requires.in_order c.requires.in_range c.requires.fits.fits
     c.guard.ensures.guarded c.guard.ensures.others c.in_ok-reorder.ensures.related) in
-    let settled = c.settle.ensures.settled in
-    let end = settled.end in
+    let groups_settled = c.settle.ensures.settled in
+    let end = groups_settled.end in
     let at = behind.ends in
     let on : c.settle.new.self.is_on ≡ true = c.settle.ensures.on ∙ c.guard.ensures.on ∙ c.requires.on in
     record {
-      linked = behind.linked c.settle.new.self.groups c.settle.new.buffer settled c.settle.ensures.others;
+      linked = behind.linked c.settle.new.self.groups c.settle.new.buffer groups_settled c.settle.ensures.others;
       fits = record {
-        fits = settled.fits;
+        fits = groups_settled.fits;
         ends = omega arith;
         off = λ off. absurd (cc);
       };
