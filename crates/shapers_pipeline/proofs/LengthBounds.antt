@@ -1,7 +1,6 @@
 -- Bounds that are computed up to the greatest number.
 use Rattle.std.proofs.Common.{◌≡◌, ◌∙◌, ℕ, zero, suc, ◌+◌, ◌*◌, ◌≤◌, ◌<◌, ◌⊎◌, List, [], ◌∷◌, drop, get_or, length, min, sym, ap, arith, inl, inr}
 use Rattle.std.specs.Prelude.{Option}
-use Rattle.std.proofs.Math.Seq.{drop-cons}
 use Rattle.std.proofs.Math.Nat.{le-mul_of_pos_right, le_of_lt, le_trans, min-eq_left, min-eq_right}
 use Rattle.std.proofs.lemmas.Bool.{cases_lt}
 use Rattle.std.specs.Option.{option_map_or}
@@ -9,6 +8,7 @@ use Rattle.rustybuzz_shapers.specs.Lengths.{pause_growth}
 use Rattle.rustybuzz_shapers.specs.declared.shaper.hb_ot_shaper_t.{hb_ot_shaper_t}
 use Rattle.shapers_plan.specs.declared.ot_map.lookups.Stage.{Stage}
 use Rattle.shapers_plan.specs.declared.ot_map.lookups.StageLookup.{StageLookup}
+use Rattle.shapers_clusters.proofs.GroupWalk.{next_at}
 use Rattle.shapers_pipeline.specs.Lengths.{looked_up_bound, prepared_bound, preprocess_growth, shaped_bound, stage_bound, stages_bound}
 use Rattle.shapers_pipeline.specs.Lookups.{lookups_of_stage}
 
@@ -62,17 +62,12 @@ stages_cut m growth list (s ∷ ss) n =
 abbrev greatest : ℕ
 greatest = 18446744073709551615
 
-next_place : {X : Type 0} (xs : List X) (i : ℕ) (d : X) → i < length xs → drop i xs ≡ get_or xs i d ∷ drop (i + 1) xs
-next_place xs i d within =
-    let one : suc i ≡ i + 1 = omega arith in
-    drop-cons xs i d within ∙ ap (λ k. get_or xs i d ∷ drop k xs) one
-
 pub looked_up_next : (growth : StageLookup → ℕ) (xs : List StageLookup) (i n : ℕ) (d : StageLookup) → i < length xs →
     min (looked_up_bound growth (drop i xs) n) 18446744073709551615
     ≡ min (looked_up_bound growth (drop (i + 1) xs) (min (n * growth (get_or xs i d)) 18446744073709551615))
     18446744073709551615
 looked_up_next growth xs i n d within =
-    ap (λ ys. min (looked_up_bound growth ys n) greatest) (next_place xs i d within)
+    ap (λ ys. min (looked_up_bound growth ys n) greatest) (next_at xs i d within)
     ∙ sym (looked_up_cut greatest growth (drop (i + 1) xs) (n * growth (get_or xs i d)))
 
 pub stages_next : (growth : StageLookup → ℕ) (list : List StageLookup) (ss : List Stage) (i n : ℕ) (d : Stage) →
@@ -83,7 +78,7 @@ pub stages_next : (growth : StageLookup → ℕ) (list : List StageLookup) (ss :
 stages_next growth list ss i n d within =
     let s = get_or ss i d in
     let rest = drop (i + 1) ss in
-    ap (λ ys. min (stages_bound growth list ys n) greatest) (next_place ss i d within)
+    ap (λ ys. min (stages_bound growth list ys n) greatest) (next_at ss i d within)
     ∙ sym (stages_cut greatest growth list rest (stage_bound growth list n s))
     ∙ ap (λ k. min (stages_bound growth list rest k) greatest)
     (sym (cut_first greatest (looked_up_bound growth (lookups_of_stage s list) n)

@@ -3,7 +3,6 @@ use Rattle.std.proofs.Common.{◌≡◌, ◌∙◌, ℕ, suc, ◌+◌, ◌*◌, 
 use Rattle.std.specs.Prelude.{IfErr, IsOk, Option, None, Some, Result, Err, if◌then◌else◌, option_map}
 use Rattle.std.specs.Option.{option_map_or}
 use Rattle.std.specs.Result.{IsErrAnd}
-use Rattle.std.proofs.Math.Seq.{drop-cons}
 use Rattle.std.proofs.Math.Nat.{le-mul_of_pos_right, le_refl, le_trans, mul-le-mul_right}
 use Rattle.std.proofs.lemmas.Bool.{false≢true}
 use Rattle.std.proofs.lemmas.Result.{err_from_is_err_and}
@@ -34,6 +33,7 @@ use Rattle.rustybuzz_shapers.specs.Pauses.{PauseKeeps, RefusesPause, RefusesReor
 use Rattle.rustybuzz_shapers.specs.declared.shaper.checked.CallError.{CallError}
 use Rattle.rustybuzz_shapers.specs.declared.shaper.checked.CallError.TheVariants as call
 use Rattle.rustybuzz_shapers.specs.declared.shaper.hb_ot_shaper_t.{hb_ot_shaper_t}
+use Rattle.shapers_clusters.proofs.GroupWalk.{next_at}
 use Rattle.shapers_pipeline.specs.ClusterLaws.{LookupsKeep}
 use Rattle.shapers_pipeline.specs.Lengths.{FinishGrows, LookupsGrow, PreparationGrows, ShapingGrows, StagesGrow, looked_up_bound, prepared_bound, shaped_bound, stage_bound, stages_bound}
 use Rattle.shapers_pipeline.specs.Lookups.{StoppedIn, looked_up, lookups_of_stage, text_noted}
@@ -175,36 +175,31 @@ pub passed_error : (x : CallError) → x ≡ call.Refused TooLong →
     (let r : Result (Unit {0}) CallError = Err x in r ≡ Err (call.Refused TooLong))
 passed_error x is = ap (λ (y : CallError). let r : Result (Unit {0}) CallError = Err y in r) is
 
-next_place : {X : Type 0} (xs : List X) (i : ℕ) (d : X) → i < length xs → drop i xs ≡ get_or xs i d ∷ drop (i + 1) xs
-next_place xs i d within =
-    let one : suc i ≡ i + 1 = omega arith in
-    drop-cons xs i d within ∙ ap (λ k. get_or xs i d ∷ drop k xs) one
-
 -- what the lookups that are left make of a text, by the next one
 pub looked_next : (f : StageLookup → Buffer → Buffer) (list : List StageLookup) (i : ℕ) (d : StageLookup)
     (old new : Buffer) → i < length list → new ≡ f (get_or list i d) old →
     looked_up f (drop (i + 1) list) new ≡ looked_up f (drop i list) old
 looked_next f list i d old new within is =
-    ap (looked_up f (drop (i + 1) list)) is ∙ sym (ap (λ xs. looked_up f xs old) (next_place list i d within))
+    ap (looked_up f (drop (i + 1) list)) is ∙ sym (ap (λ xs. looked_up f xs old) (next_at list i d within))
 
 pub looked_stopped : (f : StageLookup → Buffer → Buffer) (list : List StageLookup) (i : ℕ) (d : StageLookup)
     (old mid new : Buffer) → i < length list → mid ≡ f (get_or list i d) old →
     StoppedIn f (drop (i + 1) list) mid new → StoppedIn f (drop i list) old new
 looked_stopped f list i d old mid new within is stopped =
-    subst (λ xs. StoppedIn f xs old new) (sym (next_place list i d within))
+    subst (λ xs. StoppedIn f xs old new) (sym (next_at list i d within))
     (inr (subst (λ b. StoppedIn f (drop (i + 1) list) b new) is stopped))
 
 -- and the stages that are left
 pub run_next : (r : Substitution) (ss : List Stage) (i : ℕ) (d : Stage) (old mid new : Buffer) → i < length ss →
     StageRun r (get_or ss i d) old mid → StagesRun r (drop (i + 1) ss) mid new → StagesRun r (drop i ss) old new
 run_next r ss i d old mid new within one rest =
-    subst (λ xs. StagesRun r xs old new) (sym (next_place ss i d within)) (mid, (one, rest))
+    subst (λ xs. StagesRun r xs old new) (sym (next_at ss i d within)) (mid, (one, rest))
 
 pub stopped_next : (r : Substitution) (ss : List Stage) (i : ℕ) (d : Stage) (old mid new : Buffer) → i < length ss →
     StageRun r (get_or ss i d) old mid → StagesStopped r (drop (i + 1) ss) mid new →
     StagesStopped r (drop i ss) old new
 stopped_next r ss i d old mid new within one rest =
-    subst (λ xs. StagesStopped r xs old new) (sym (next_place ss i d within)) (inr (mid, (one, rest)))
+    subst (λ xs. StagesStopped r xs old new) (sym (next_at ss i d within)) (inr (mid, (one, rest)))
 
 -- where the lookups that are left fit, the next one does
 pub lookup_fits : (growth : StageLookup → ℕ) → ((lookup : StageLookup) → 0 < growth lookup) →
@@ -213,7 +208,7 @@ pub lookup_fits : (growth : StageLookup → ℕ) → ((lookup : StageLookup) →
 lookup_fits growth some list i n limit d within fits =
     let x = get_or list i d in
     le_trans (looked_up_least growth some (drop (i + 1) list) (n * growth x))
-    (subst (λ xs. looked_up_bound growth xs n ≤ limit) (next_place list i d within) fits)
+    (subst (λ xs. looked_up_bound growth xs n ≤ limit) (next_at list i d within) fits)
 
 -- and the rest do behind it
 pub lookup_step : (f : StageLookup → Buffer → Buffer) (growth : StageLookup → ℕ) → LookupsKeep f →
@@ -228,7 +223,7 @@ lookup_step f growth keeps grows list i total d old new within none is fits =
     subst (λ b. length b.glyphs ≤ length old.glyphs * growth x) (sym is) (grows x old none).few in (
       ap (λ b. b.max_len) is ∙ ap (λ b. b.max_len) (keeps x old none).others,
       le_trans (looked_up_more growth rest (length new.glyphs) (length old.glyphs * growth x) few)
-          (subst (λ xs. looked_up_bound growth xs (length old.glyphs) ≤ total) (next_place list i d within) fits),
+          (subst (λ xs. looked_up_bound growth xs (length old.glyphs) ≤ total) (next_at list i d within) fits),
     )
 
 -- so of stages
@@ -238,7 +233,7 @@ pub stage_fits : (growth : StageLookup → ℕ) → ((lookup : StageLookup) → 
 stage_fits growth some list ss i n limit d within fits =
     let s = get_or ss i d in
     le_trans (stages_least growth some list (drop (i + 1) ss) (stage_bound growth list n s))
-    (subst (λ xs. stages_bound growth list xs n ≤ limit) (next_place ss i d within) fits)
+    (subst (λ xs. stages_bound growth list xs n ≤ limit) (next_at ss i d within) fits)
 
 pub stage_step : (growth : StageLookup → ℕ) (list : List StageLookup) (ss : List Stage) (i n m total : ℕ) (d : Stage) →
     i < length ss → m ≤ stage_bound growth list n (get_or ss i d) → stages_bound growth list (drop i ss) n ≤ total →
@@ -246,7 +241,7 @@ pub stage_step : (growth : StageLookup → ℕ) (list : List StageLookup) (ss : 
 stage_step growth list ss i n m total d within few fits =
     let s = get_or ss i d in
     le_trans (stages_more growth list (drop (i + 1) ss) m (stage_bound growth list n s) few)
-    (subst (λ xs. stages_bound growth list xs n ≤ total) (next_place ss i d within) fits)
+    (subst (λ xs. stages_bound growth list xs n ≤ total) (next_at ss i d within) fits)
 
 pub room_for_stages : (growth : StageLookup → ℕ) (shaper : Option hb_ot_shaper_t) (list lists : List StageLookup)
     (ss ts : List Stage) (n m limit own : ℕ) → lists ≡ list → ts ≡ ss → m ≤ prepared_bound shaper n → own ≡ limit →

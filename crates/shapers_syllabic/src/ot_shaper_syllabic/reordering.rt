@@ -6,7 +6,7 @@ ghost use Rattle.shapers_buffer.specs.Glyph.{default_glyph};
 ghost use Rattle.shapers_syllabic.specs.Borders.{MeetAtBorder};
 ghost use Rattle.shapers_syllabic.specs.Reordering.{RefusesIf, SyllablesLinked, TakesText, TextOrdered, glyph_numbers};
 ghost use Rattle.shapers_clusters.specs.CarriedGroups.{AreCarried, GroupsGuarded};
-ghost use Rattle.shapers_syllabic.specs.ReorderingWalk.{CanSettle, CarryingFits, GroupsSettled, NextChanging, ReorderedBehind, groups_written};
+ghost use Rattle.shapers_syllabic.specs.ReorderingWalk.{CanSettle, CarryingFits, GroupsSettled, NextChanging, ReorderedBehind, clusters_fall, floods_again, groups_written};
 
 use shapers_base::buffer::{GlyphWalk, ShaperError, hb_buffer_t, hb_glyph_info_t};
 use shapers_clusters::carried_groups::CarriedGroups;
@@ -109,6 +109,83 @@ pub trait ReorderBySteps: Reorder {
 /// order does, and then nothing is said of the buffer.
 #[inline]
 pub fn reorder_syllables<R: ReorderBySteps>(
+    order: &R,
+    buffer: &mut hb_buffer_t,
+) -> Result<(), ShaperError>
+    requires without_positions { buffer.old.positions ≡ [] }
+    requires takes { TakesText (R.takes order.now) buffer.old.glyphs }
+    ensures ordered { OnOk result
+        (TextOrdered (R.meaning order.now buffer.old.script) buffer.old buffer.new) }
+    ensures linked { OnOk result
+        (SyllablesLinked (R.relation order.now) buffer.old buffer.new) }
+    ensures refusal { RefusesIf (R.may_refuse order.now) result }
+{
+    if floods_again(buffer.glyphs()) {
+        reorder_carrying(order, buffer)
+    } else {
+        reorder_in_turn(order, buffer)
+    }
+}
+
+// In a text of so many glyphs a look at each cluster would cost more than floods that come again.
+const FEW: usize = 256;
+
+// Whether merges may flood again and again what stands before their syllables: where clusters never
+// fall, they flood nothing there. In a text of few glyphs only its ends are looked at.
+#[inline]
+fn floods_again(glyphs: &[hb_glyph_info_t]) -> bool
+    ensures { result ≡ floods_again glyphs.now }
+{
+    if glyphs.len() > FEW {
+        clusters_fall(glyphs)
+    } else {
+        !glyphs.is_empty() && glyphs[glyphs.len() - 1].cluster < glyphs[0].cluster
+    }
+}
+
+// Whether a glyph has a cluster below that of the one before it.
+#[inline(never)]
+fn clusters_fall(glyphs: &[hb_glyph_info_t]) -> bool
+    ensures { result ≡ clusters_fall glyphs.now }
+{
+    let mut before = 0;
+    for glyph in glyphs {
+        if glyph.cluster < before {
+            return true;
+        }
+        before = glyph.cluster;
+    }
+    false
+}
+
+// Reorders the syllables one after another.
+#[inline]
+fn reorder_in_turn<R: ReorderBySteps>(
+    order: &R,
+    buffer: &mut hb_buffer_t,
+) -> Result<(), ShaperError>
+    requires without_positions { buffer.old.positions ≡ [] }
+    requires takes { TakesText (R.takes order.now) buffer.old.glyphs }
+    ensures ordered { OnOk result
+        (TextOrdered (R.meaning order.now buffer.old.script) buffer.old buffer.new) }
+    ensures linked { OnOk result
+        (SyllablesLinked (R.relation order.now) buffer.old buffer.new) }
+    ensures refusal { RefusesIf (R.may_refuse order.now) result }
+{
+    let mut start = 0;
+    while let Some(first) = next_changing(order, buffer.glyphs(), start) {
+        let end = buffer.next_syllable(first);
+        order.reorder(buffer, first, end)?;
+        start = end;
+    }
+    buffer.clear_places();
+    Ok(())
+}
+
+// The same in a text whose clusters fall: what merges flood before their syllables is carried along
+// and written once.
+#[inline(never)]
+fn reorder_carrying<R: ReorderBySteps>(
     order: &R,
     buffer: &mut hb_buffer_t,
 ) -> Result<(), ShaperError>

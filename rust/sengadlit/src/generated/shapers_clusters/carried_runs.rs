@@ -14,17 +14,11 @@ pub struct CarriedRun {
     pub start: usize,
     /// The place behind them.
     pub end: usize,
-    /// A cluster above theirs.
-    pub above: u32,
 }
 
 impl CarriedRun {
     /// No glyphs.
-    pub const NONE: Self = CarriedRun {
-        start: 0,
-        end: 0,
-        above: 0,
-    };
+    pub const NONE: Self = CarriedRun { start: 0, end: 0 };
 
     /// The run that ends before a place behind which merges were made, if the cluster of the glyph
     /// before that fell with them: all that were flooded with it, and are two or more, unless they
@@ -54,11 +48,7 @@ impl CarriedRun {
         }
         let start = place - len_at_end(&glyphs[..place], cluster);
         if start + 1 < place && (start == 0 || glyphs[start - 1].cluster > cluster) {
-            CarriedRun {
-                start,
-                end: place,
-                above,
-            }
+            CarriedRun { start, end: place }
         } else {
             CarriedRun::NONE
         }

@@ -101,6 +101,57 @@ pub fn reorder_syllables<R: ReorderBySteps>(
     order: &R,
     buffer: &mut Buffer,
 ) -> Result<(), ShaperError> {
+    if floods_again(buffer.glyphs()) {
+        reorder_carrying(order, buffer)
+    } else {
+        reorder_in_turn(order, buffer)
+    }
+}
+
+// In a text of so many glyphs a look at each cluster would cost more than floods that come again.
+const FEW: usize = 256;
+
+// Whether merges may flood again and again what stands before their syllables: where clusters never
+// fall, they flood nothing there. In a text of few glyphs only its ends are looked at.
+#[inline]
+fn floods_again(glyphs: &[GlyphInfo]) -> bool {
+    if glyphs.len() > FEW {
+        clusters_fall(glyphs)
+    } else {
+        !glyphs.is_empty() && glyphs[glyphs.len() - 1].cluster < glyphs[0].cluster
+    }
+}
+
+// Whether a glyph has a cluster below that of the one before it.
+#[inline(never)]
+fn clusters_fall(glyphs: &[GlyphInfo]) -> bool {
+    let mut before = 0;
+    for glyph in glyphs {
+        if glyph.cluster < before {
+            return true;
+        }
+        before = glyph.cluster;
+    }
+    false
+}
+
+// Reorders the syllables one after another.
+#[inline]
+fn reorder_in_turn<R: ReorderBySteps>(order: &R, buffer: &mut Buffer) -> Result<(), ShaperError> {
+    let mut start = 0;
+    while let Some(first) = next_changing(order, buffer.glyphs(), start) {
+        let end = buffer.next_syllable(first);
+        order.reorder(buffer, first, end)?;
+        start = end;
+    }
+    buffer.clear_places();
+    Ok(())
+}
+
+// The same in a text whose clusters fall: what merges flood before their syllables is carried along
+// and written once.
+#[inline(never)]
+fn reorder_carrying<R: ReorderBySteps>(order: &R, buffer: &mut Buffer) -> Result<(), ShaperError> {
     let mut carrying = Carrying::new(buffer.alloc());
     let mut start = 0;
     while let Some(first) = next_changing(order, buffer.glyphs(), start) {

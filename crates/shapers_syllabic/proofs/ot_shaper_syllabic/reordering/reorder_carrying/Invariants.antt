@@ -1,6 +1,6 @@
 use Rattle.std.proofs.Common.{◌-◌, length}
 use Rattle.shapers_syllabic.proofs.CarriedSyllables.{ToCarry}
-use Rattle.shapers_syllabic.proofs.ot_shaper_syllabic.reordering.reorder_syllables.Given as goal
+use Rattle.shapers_syllabic.proofs.ot_shaper_syllabic.reordering.reorder_carrying.Given as goal
 
 abbrev pub invariant-loop-first : goal.invariant-loop-first
 invariant-loop-first g l = ToCarry (g.R.Reorder.takes l.order) (g.R.Reorder.relation l.order) l.fn.buffer l.carrying

@@ -3,7 +3,7 @@ use Rattle.std.proofs.Common.{◌∙◌, ap, arith, length}
 use Rattle.shapers_buffer.specs.Buffer.{but_places}
 use Rattle.shapers_syllabic.proofs.CarriedSyllables.{carried_stands, carry_end, carry_next, takes_carried, to_carry_all}
 use Rattle.shapers_syllabic.proofs.LinkedSyllables.{text_ordered}
-use Rattle.shapers_syllabic.proofs.ot_shaper_syllabic.reordering.reorder_syllables.Goals as goal
+use Rattle.shapers_syllabic.proofs.ot_shaper_syllabic.reordering.reorder_carrying.Goals as goal
 
 pub loop-first-init : goal.loop-first-init
 loop-first-init g c =
