@@ -14,7 +14,6 @@ use Rattle.shapers_clusters.proofs.Halves.{along-append, steps_alone}
 use Rattle.shapers_clusters.proofs.ClusterMerges.{clusters-of_clusters}
 use Rattle.shapers_clusters.proofs.Moves.{all-joined_steps, clusters-run_steps}
 use Rattle.shapers_clusters.proofs.Widened.{all_fit-widened}
-use Rattle.shapers_buffer.specs.Glyph.{clusters}
 use Rattle.shapers_clusters.proofs.Spread.{length-stretch, stretch-at}
 use Rattle.std.proofs.lemmas.List.Elements.{All-contains_itself}
 
@@ -24,8 +23,7 @@ pub same_stretch : (s e : ℕ) (xs ys : List ℕ) → e ≤ length xs → e ≤ 
 same_stretch s e xs ys a b same =
     let n = length-stretch s e xs a in
     ext_get_or 0 (stretch_of s e xs) (stretch_of s e ys) (n ∙ sym (length-stretch s e ys b)) (λ i l.
-    stretch-at s e xs i (omega arith) ∙ same (s + i) (omega arith) (omega arith)
-    ∙ sym (stretch-at s e ys i (omega arith)))
+    search (arith, stretch-at))
 
 -- its own steps
 steps_own : (level : BufferClusterLevel) (s e : ℕ) (steps : List Step) (cs : List ℕ) → s ≤ e → e ≤ length cs
@@ -36,46 +34,40 @@ steps_own level s e steps cs h l f apart =
     let b = stretch_of s e cs in
     let c = drop e cs in
     let n = length cs in
-    let an : length a ≡ s = length-take-le s cs (omega arith) in
-    let bn : length b ≡ e - s = length-stretch s e cs l in
+    let an = length-take-le s cs (omega arith) in
+    let bn = length-stretch s e cs l in
     let cn : length c ≡ n - e = length-drop e cs in
     let ga = map of_cluster a in
     let gb = map of_cluster b in
     let gc = map of_cluster c in
-    let ca = clusters-of_clusters a in
     let cb = clusters-of_clusters b in
-    let ccs = clusters-of_clusters c in
-    let none_before : ShareNone gb ga = λ i j il jl same. (
-    let i2 : i < length b = omega (arith, length-map b of_cluster) in
+    let none_before : ShareNone gb ga = λ i j il jl same. (let i2 : i < length b =
+    omega (arith, length-map b of_cluster) in
     let j2 : j < length a = omega (arith, length-map a of_cluster) in
-    let eq : get_or b i 0 ≡ get_or a j 0 = ap (λ xs. get_or xs i 0) (sym cb) ∙ same ∙ ap (λ xs. get_or xs j 0) ca in
-    apart (s + i) j (omega arith) (omega arith) (omega arith) (inl (omega arith))
-    (sym (stretch-at s e cs i (omega arith)) ∙ eq ∙ get_or-take s cs j 0 (omega arith))) in
-    let none_behind : ShareNone gb gc = λ i j il jl same. (
-    let i2 : i < length b = omega (arith, length-map b of_cluster) in
+    let eq = ap (λ xs. get_or xs i 0) (sym cb) ∙ same ∙ ap (λ xs. get_or xs j 0) (clusters-of_clusters a) in
+    apart (s + i) j (omega arith) (omega arith) (omega arith) (inl (omega arith)) (sym
+    (stretch-at s e cs i (omega arith))
+    ∙ eq ∙ get_or-take s cs j 0 (omega arith))) in
+    let none_behind : ShareNone gb gc = λ i j il jl same. (let i2 : i < length b =
+    omega (arith, length-map b of_cluster) in
     let j2 : j < length c = omega (arith, length-map c of_cluster) in
-    let eq : get_or b i 0 ≡ get_or c j 0 = ap (λ xs. get_or xs i 0) (sym cb) ∙ same ∙ ap (λ xs. get_or xs j 0) ccs in
-    apart (s + i) (e + j) (omega arith) (omega arith) (omega arith) (inr (omega arith))
-    (sym (stretch-at s e cs i (omega arith)) ∙ eq ∙ get_or-drop e cs j 0)) in
-    let alone = steps_alone level s e n steps ga gb gc h (length-map a of_cluster ∙ an) (length-map b of_cluster ∙ bn)
-    (omega (arith, length-map c of_cluster)) f none_before none_behind in
-    let parts : List ℕ → List ℕ → List ℕ → List ℕ = λ x y z. x ++ (joined_steps level steps y ++ z) in
-    let whole : clusters (ga ++ (gb ++ gc)) ≡ cs =
-    map-append (λ g. g.cluster) ga (gb ++ gc)
-    ∙ ap (λ xs. clusters ga ++ xs) (map-append (λ g. g.cluster) gb gc)
-    ∙ ap (λ x. x ++ (clusters gb ++ clusters gc)) ca
-    ∙ ap (λ y. a ++ (y ++ clusters gc)) cb
-    ∙ ap (λ z. a ++ (b ++ z)) ccs
-    ∙ three_parts s e cs h in
-    ap (joined_steps level (map (widened s e n) steps)) (sym whole)
-    ∙ sym (clusters-run_steps level (map (widened s e n) steps) (ga ++ (gb ++ gc)))
-    ∙ ap clusters alone
-    ∙ map-append (λ g. g.cluster) ga (run_steps level steps gb ++ gc)
-    ∙ ap (λ xs. clusters ga ++ xs) (map-append (λ g. g.cluster) (run_steps level steps gb) gc
-    ∙ ap (λ xs. xs ++ clusters gc) (clusters-run_steps level steps gb))
-    ∙ ap (λ x. parts x (clusters gb) (clusters gc)) ca
-    ∙ ap (λ y. parts a y (clusters gc)) cb
-    ∙ ap (parts a b) ccs
+    let eq = ap (λ xs. get_or xs i 0) (sym cb) ∙ same ∙ ap (λ xs. get_or xs j 0) (clusters-of_clusters c) in
+    apart (s + i) (e + j) (omega arith) (omega arith) (omega arith) (inr (omega arith)) (sym (stretch-at s e cs i
+    (omega arith)) ∙ eq ∙ get_or-drop e cs j 0)) in
+    cc (
+      map-append (λ g. g.cluster) ga (gb ++ gc),
+      map-append (λ g. g.cluster) gb gc,
+      clusters-of_clusters a,
+      clusters-of_clusters b,
+      clusters-of_clusters c,
+      three_parts s e cs h,
+      clusters-run_steps level (map (widened s e n) steps) (ga ++ (gb ++ gc)),
+      steps_alone level s e n steps ga gb gc h (length-map a of_cluster ∙ an) (length-map b of_cluster ∙ bn)
+          (omega (arith, length-map c of_cluster)) f none_before none_behind,
+      map-append (λ g. g.cluster) ga (run_steps level steps gb ++ gc),
+      map-append (λ g. g.cluster) (run_steps level steps gb) gc,
+      clusters-run_steps level steps gb,
+    )
 
 -- what they make of the stretch
 own_long : (level : BufferClusterLevel) (s e : ℕ) (steps : List Step) (cs : List ℕ) → e ≤ length cs
@@ -89,23 +81,17 @@ pub stretch_own : (level : BufferClusterLevel) (s e : ℕ) (steps : List Step) (
     → stretch_of s e (joined_steps level (map (widened s e (length cs)) steps) cs)
     ≡ joined_steps level steps (stretch_of s e cs)
 stretch_own level s e steps cs h l f apart =
-    let made = joined_steps level steps (stretch_of s e cs) in
-    ap (stretch_of s e) (steps_own level s e steps cs h l f apart)
-    ∙ ap (take (e - s)) (drop_at (take s cs) (made ++ drop e cs) s (length-take-le s cs (omega arith)))
-    ∙ take_at made (drop e cs) (e - s) (own_long level s e steps cs l f)
+    search (arith, steps_own, drop_at, length-take-le, take_at, own_long)
 
 -- and that its clusters stay its own
 inside_parts : (a m c : List ℕ) (s e i : ℕ) → length a ≡ s → length m ≡ e - s → s ≤ i → i < e
     → get_or (a ++ (m ++ c)) i 0 ≡ get_or m (i - s) 0
-inside_parts a m c s e i an mn h l = get_or-append_right a (m ++ c) s i 0 an h
-    ∙ get_or_append_left m c 0 (i - s) (omega arith)
+inside_parts a m c s e i an mn h l = search (arith, get_or-append_right, get_or_append_left)
 
 behind_parts : (a m c : List ℕ) (s e j : ℕ) → length a ≡ s → length m ≡ e - s → s ≤ e → e ≤ j
     → get_or (a ++ (m ++ c)) j 0 ≡ get_or c (j - e) 0
 behind_parts a m c s e j an mn h l =
-    let same : j - s - (e - s) ≡ j - e = omega arith in
-    get_or-append_right a (m ++ c) s j 0 an (omega arith) ∙ get_or-append_right m c (e - s) (j - s) 0 mn (omega arith)
-    ∙ ap (λ k. get_or c k 0) same
+    search (arith, get_or-append_right)
 
 pub apart_own : (level : BufferClusterLevel) (s e : ℕ) (steps : List Step) (cs : List ℕ) → s ≤ e → e ≤ length cs
     → FitSteps (e - s) steps → StandsApart s e cs
@@ -117,24 +103,23 @@ apart_own level s e steps cs h l f apart i j x y jl out same =
     let made = joined_steps level steps b in
     let js = joined_steps level (map (widened s e (length cs)) steps) cs in
     let is = steps_own level s e steps cs h l f apart in
-    let an : length a ≡ s = length-take-le s cs (omega arith) in
-    let bn : length b ≡ e - s = length-stretch s e cs l in
-    let mn : length made ≡ e - s = own_long level s e steps cs l f in
-    let old = all-joined_steps (Contains b) level (e - s) steps b bn f (All-contains_itself b) in
-    let here : get_or js i 0 ≡ get_or made (i - s) 0 = ap (λ xs. get_or xs i 0) is
-    ∙ inside_parts a made c s e i an mn x y in
-    let (k, inside, found) = old.1 (i - s) 0 (omega arith) in
-    let from : get_or js i 0 ≡ get_or cs (s + k) 0 =
-    here ∙ sym (get_or_default b k 0 (get_or made (i - s) 0) inside ∙ found)
-    ∙ stretch-at s e cs k (omega arith) in
-    let jn : length js ≡ length cs = ap length is ∙ length-append a (made ++ c)
-    ∙ omega (arith, length-append made c, length-drop e cs) in
-    let there : get_or js j 0 ≡ get_or cs j 0 = ap (λ xs. get_or xs j 0) is ∙ elim out [
+    let an = length-take-le s cs (omega arith) in
+    let bn = length-stretch s e cs l in
+    let mn = own_long level s e steps cs l f in
+    let (k, inside, found) =
+    (all-joined_steps (Contains b) level (e - s) steps b bn f (All-contains_itself b)).1 (i - s) 0 (omega arith) in
+    let from =
+    (ap (λ xs. get_or xs i 0) is ∙ inside_parts a made c s e i an mn x y)
+    ∙ sym (get_or_default b k 0 (get_or made (i - s) 0) inside ∙ found) ∙ stretch-at s e cs k (omega arith) in
+    let jn : length js ≡ length cs =
+    ap length is ∙ length-append a (made ++ c) ∙ omega (arith, length-append made c, length-drop e cs) in
+    apart (s + k) j (omega arith) (omega arith) (omega arith) out (sym from ∙ same ∙ ap (λ xs. get_or xs j 0) is
+    ∙ elim out [
       | inl before ↦ get_or_append_left a (made ++ c) 0 j (omega arith) ∙ get_or-take s cs j 0 before
-      | inr behind ↦ behind_parts a made c s e j an mn h behind ∙ get_or-drop e cs (j - e) 0
-          ∙ (let at : e + (j - e) ≡ j = omega arith in ap (λ k. get_or cs k 0) at)
-    ] in
-    apart (s + k) j (omega arith) (omega arith) (omega arith) out (sym from ∙ same ∙ there)
+      | inr behind ↦
+          behind_parts a made c s e j an mn h behind ∙ get_or-drop e cs (j - e) 0 ∙ (let at : e + (j - e) ≡ j = omega arith
+          in ap (λ k. get_or cs k 0) at)
+    ])
 
 -- in a whole text
 pub alone_in_text : (level : BufferClusterLevel) (before behind : List (ℕ × List Step)) (piece : ℕ × List Step)
@@ -152,36 +137,26 @@ alone_in_text level before behind piece cs l f g h apart =
     let own = map (widened s e n) piece.1 in
     let first = steps_along n 0 before in
     let later = steps_along n e behind in
-    let start : 0 + s ≡ s = omega arith in
-    let run : List Step → List ℕ → List ℕ = joined_steps level in
-    let parts : steps_along n 0 (before ++ piece ∷ behind) ≡ first ++ (own ++ later) =
-    along-append n 0 before (piece ∷ behind) ∙ ap (λ k. first ++ steps_along n k (piece ∷ behind)) start in
+    let run = joined_steps level in
     let ms = run first cs in
     let bs = run own ms in
-    let js = run later bs in
-    let is : run (steps_along n 0 (before ++ piece ∷ behind)) cs ≡ js =
-    ap (λ steps. run steps cs) parts
-    ∙ fold-append (λ cs step. joined_step level step cs) cs first (own ++ later)
-    ∙ fold-append (λ cs step. joined_step level step cs) ms own later in
-    let one = leaves_elsewhere s e level n first cs refl (omega arith)
-    (along_elsewhere s e n 0 before (omega arith) (omega arith) f (inl (omega arith))) in
+    let one = leaves_elsewhere s e level n first cs refl (omega arith) (along_elsewhere s e n 0 before (omega arith)
+    (omega arith) f (inl (omega arith))) in
     let an = one.same_length in
-    let size : piece.0 ≡ e - s = omega arith in
-    let fit : FitSteps (e - s) piece.1 = subst (λ k. FitSteps k piece.1) size g in
-    let own_is : map (widened s e (length ms)) piece.1 ≡ own = ap (λ k. map (widened s e k) piece.1) an in
-    let made : stretch_of s e bs ≡ run piece.1 (stretch_of s e ms) =
-    subst (λ steps. stretch_of s e (run steps ms) ≡ run piece.1 (stretch_of s e ms)) own_is
-    (stretch_own level s e piece.1 ms (omega arith) (omega arith) fit (one.apart apart)) in
-    let stays : StandsApart s e bs =
-    subst (λ steps. StandsApart s e (run steps ms)) own_is
-    (apart_own level s e piece.1 ms (omega arith) (omega arith) fit (one.apart apart)) in
-    let bn : length bs ≡ n =
-    (all-joined_steps (λ _. Unit {0}) level n own ms an
-    (all_fit-widened s e n piece.1 (omega arith) (omega arith) fit) (λ _ _ _. tt)).0 in
-    let last = leaves_elsewhere s e level n later bs bn (omega arith)
-    (along_elsewhere s e n e behind (omega arith) (omega arith) h (inr (omega arith))) in
-    let jn = last.same_length in
-    ap (stretch_of s e) is
-    ∙ same_stretch s e js bs (omega arith) (omega arith) (last.own stays)
-    ∙ made
-    ∙ ap (run piece.1) (same_stretch s e ms cs (omega arith) (omega arith) (one.own apart))
+    let fit = subst (λ k. FitSteps k piece.1) (omega arith) g in
+    let stays = subst (λ steps. StandsApart s e (run steps ms))
+    (ap (λ k. map (widened s e k) piece.1) an) (apart_own level s e
+    piece.1 ms (omega arith) (omega arith) fit (one.apart apart)) in
+    let bn = (all-joined_steps (λ _. Unit {0}) level n own ms an (all_fit-widened s e n piece.1 (omega
+    arith) (omega arith) fit) (λ _ _ _. tt)).0 in
+    let last = leaves_elsewhere s e level n later bs bn (omega arith) (along_elsewhere s e n e behind (omega arith)
+    (omega arith) h (inr (omega arith))) in
+    search (
+      arith,
+      along-append n 0 before (piece ∷ behind),
+      fold-append (λ cs step. joined_step level step cs) cs first (own ++ later),
+      fold-append (λ cs step. joined_step level step cs) ms own later,
+      same_stretch s e (run later bs) bs (omega arith) (omega arith) (last.own stays),
+      stretch_own level s e piece.1 ms (omega arith) (omega arith) fit (one.apart apart),
+      same_stretch s e ms cs (omega arith) (omega arith) (one.own apart),
+    )

@@ -1,15 +1,14 @@
 -- Default glyphs at the end of a list stay as they are while stretches before them merge.
-use Rattle.std.proofs.Common.{ℕ, zero, suc, ◌-◌, ◌<◌, ◌≤◌, ◌≡◌, ◌≢◌, ◌&&◌, Bool, true, false, not, nat_lt, if◌then◌else◌, inl, inr, List, [], ◌∷◌, ◌++◌, map, length, get_or, reverse, take, drop, replicate, refl, sym, ◌∙◌, ap, subst, arith, append_assoc, length-take, length-drop}
+use Rattle.std.proofs.Common.{ℕ, zero, suc, ◌-◌, ◌<◌, ◌≤◌, ◌≡◌, ◌≢◌, ◌&&◌, Bool, true, false, not, nat_lt, if◌then◌else◌, List, [], ◌∷◌, ◌++◌, map, length, get_or, reverse, replicate, refl, sym, ◌∙◌, ap, subst, arith, append_assoc, length-take, length-drop}
 use Rattle.std.specs.List.{AllByRecursion}
 use Rattle.std.proofs.lemmas.List.{length-map, get_or-reverse, take-append-le, drop-append-le}
-use Rattle.std.proofs.lemmas.Bool.{cases_eq}
 use Rattle.std.proofs.lemmas.Bool.Decides.{nat_tests}
 use Rattle.shapers_buffer.specs.declared.buffer.glyph.hb_glyph_info_t.{hb_glyph_info_t}
 use Rattle.shapers_buffer.specs.declared.buffer.level.BufferClusterLevel.{BufferClusterLevel}
 use Rattle.shapers_buffer.specs.Glyph.{clusters, default_glyph}
-use Rattle.shapers_buffer.specs.Clusters.{least, first_cluster, last_cluster, in_cluster, flooded, merge, merge_all, merges, stretch_of}
+use Rattle.shapers_buffer.specs.Clusters.{least, first_cluster, last_cluster, in_cluster, flooded, merge, merge_all, merges}
 use Rattle.shapers_buffer.proofs.MappedLists.{map-reverse}
-use Rattle.shapers_clusters.proofs.ClusterMerges.{opening_run, opening-at, opening-clusters, least-le}
+use Rattle.shapers_clusters.proofs.ClusterMerges.{opening-at, opening-clusters, least-le}
 use Rattle.shapers_clusters.proofs.Merging.{length-merge}
 use Rattle.shapers_buffer.proofs.ClusterLemmas.{flood_merged, merge_is}
 
@@ -23,22 +22,11 @@ flooded-away c m zero [] ne = refl
 flooded-away c m (suc n) [] ne = grind (arith, nat_tests)
 flooded-away c m n (g ∷ gs) ne = grind (arith, nat_tests, flooded-away c m n gs ne)
 
--- a flood with what is least leaves default glyphs, of cluster 0, alone
-flooded-defaults : (c m n : ℕ) (gs : List hb_glyph_info_t) → m ≤ c → flooded c m (gs ++ replicate n default_glyph)
-    ≡ flooded c m gs ++ replicate n default_glyph
-flooded-defaults c m n gs h = elim (cases_eq c m) [
-  | inl e ↦ let P : ℕ → Type 0 = λ m. flooded c m (gs ++ replicate n default_glyph) ≡ flooded c m gs
-      ++ replicate n default_glyph in
-      subst P e (flooded-same c (gs ++ replicate n default_glyph)
-      ∙ ap (λ l. l ++ replicate n default_glyph) (sym (flooded-same c gs)))
-  | inr d ↦ flooded-away c m n gs (λ z. d (omega arith))
-]
-
 -- the least cluster is at most the last one
 pub least-last : (gs : List hb_glyph_info_t) → 0 < length gs → least (clusters gs) ≤ last_cluster gs
 least-last gs h =
-    let e : last_cluster gs ≡ get_or (reverse (clusters gs)) 0 0 = opening-clusters (reverse gs)
-    ∙ ap opening_run (map-reverse (λ g. g.cluster) gs) ∙ opening-at (reverse (clusters gs)) in
+    let e : last_cluster gs ≡ get_or (reverse (clusters gs)) 0 0 =
+    search (arith, opening-clusters, map-reverse, opening-at) in
     let n : length (clusters gs) ≡ length gs = length-map gs (λ g. g.cluster) in
     let f = get_or-reverse (clusters gs) 0 0 (omega arith) in
     let l = least-le (clusters gs) (length (clusters gs) - 1 - 0) (omega arith) in
@@ -50,31 +38,20 @@ assembled front middle rest = let m =
     least (clusters middle) in reverse (flooded (first_cluster middle) m (reverse front))
     ++ (map (in_cluster m) middle ++ flooded (last_cluster middle) m rest)
 
-assembled-appended : (front middle rest : List hb_glyph_info_t) (n : ℕ) → 0 < length middle
-    → assembled front middle (rest ++ replicate n default_glyph) ≡ assembled front middle rest
-    ++ replicate n default_glyph
-assembled-appended front middle rest n h =
-    let m = least (clusters middle) in
-    let a = reverse (flooded (first_cluster middle) m (reverse front)) in
-    let b = map (in_cluster m) middle in
-    ap (λ l. a ++ (b ++ l)) (flooded-defaults (last_cluster middle) m n rest (least-last middle h))
-    ∙ ap (λ l. a ++ l) (sym (append_assoc b (flooded (last_cluster middle) m rest) (replicate n default_glyph)))
-    ∙ sym (append_assoc a (b ++ flooded (last_cluster middle) m rest) (replicate n default_glyph))
-
 merged-appended : (s e n : ℕ) (gs : List hb_glyph_info_t) → 1 < e - s → e ≤ length gs
     → flood_merged s e (gs ++ replicate n default_glyph) ≡ flood_merged s e gs ++ replicate n default_glyph
 merged-appended s e n gs h l =
-    let r = replicate n default_glyph in
-    let front : take s (gs ++ r) ≡ take s gs = take-append-le s gs r (omega arith) in
-    let behind : drop s (gs ++ r) ≡ drop s gs ++ r = drop-append-le s gs r (omega arith) in
-    let middle : stretch_of s e (gs ++ r) ≡ stretch_of s e gs = ap (take (e - s)) behind
-    ∙ take-append-le (e - s) (drop s gs) r (omega (arith, length-drop s gs)) in
-    let rest : drop e (gs ++ r) ≡ drop e gs ++ r = drop-append-le e gs r l in
-    ap (λ x. assembled x (stretch_of s e (gs ++ r)) (drop e (gs ++ r))) front
-    ∙ ap (λ x. assembled (take s gs) x (drop e (gs ++ r))) middle
-    ∙ ap (λ x. assembled (take s gs) (stretch_of s e gs) x) rest
-    ∙ assembled-appended (take s gs) (stretch_of s e gs) (drop e gs) n
-    (omega (arith, length-take (e - s) (drop s gs), length-drop s gs))
+    search (
+      arith,
+      take-append-le,
+      drop-append-le,
+      length-drop,
+      flooded-same,
+      flooded-away,
+      least-last,
+      append_assoc,
+      length-take,
+    )
 
 pub two_sides : (n : ℕ) (a : Bool) {X : Type 0} (R : X → X → Type 0) (x y v w : X) → R y w → (1 < n → R x v)
     → R (if a && not (nat_lt n 2) then x else y) (if a && not (nat_lt n 2) then v else w)
@@ -96,6 +73,9 @@ pub merge_all-appended : (level : BufferClusterLevel) (n : ℕ) (sts : List (ℕ
     ≡ merge_all level sts gs ++ replicate n default_glyph
 merge_all-appended level n [] gs h = refl
 merge_all-appended level n (st ∷ sts) gs h =
-    ap (merge_all level sts) (merge-appended level st.0 st.1 n gs h.0)
-    ∙ merge_all-appended level n sts (merge level st.0 st.1 gs) (let P : ℕ
-    → Type 0 = λ k. AllByRecursion (λ st. st.1 ≤ k) sts in subst P (sym (length-merge level st.0 st.1 gs h.0)) h.1)
+    search (
+      arith,
+      merge-appended,
+      merge_all-appended level n sts (merge level st.0 st.1 gs)
+          (subst (λ k. AllByRecursion (λ st. st.1 ≤ k) sts) (sym (length-merge level st.0 st.1 gs h.0)) h.1),
+    )

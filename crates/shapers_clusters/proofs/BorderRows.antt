@@ -45,11 +45,11 @@ row_flag = refl
 -- flag 2 in the cluster that ends at the border leaves it bare, where clusters rise and where they fall
 row_rising : IsBare (glyph 0 2 ∷ glyph 1 0 ∷ glyph 1 8 ∷ glyph 2 2 ∷ []) 1
 unfolding glyph
-row_rising = record { clear = record { differ = λ e. absurd (omega arith); unflagged = refl }; joinable = refl }
+row_rising = search arith
 
 row_falling : IsBare (glyph 2 2 ∷ glyph 1 0 ∷ glyph 0 2 ∷ []) 1
 unfolding glyph
-row_falling = record { clear = record { differ = λ e. absurd (omega arith); unflagged = refl }; joinable = refl }
+row_falling = search arith
 
 -- no border is bare inside a cluster, before a glyph with flag 2, before a cluster with a later
 -- one, or where the greater cluster has flag 1 or 4
@@ -71,15 +71,15 @@ row_lesser bare = false≢true (sym bare.joinable)
 
 row_unsafe : IsBare (glyph 0 0 ∷ glyph 1 1 ∷ []) 1 → ⊥
 unfolding glyph
-row_unsafe bare = false≢true (sym bare.clear.unflagged)
+row_unsafe bare = search (arith, false≢true)
 
 row_joined : IsBare (glyph 0 0 ∷ glyph 1 4 ∷ []) 1 → ⊥
 unfolding glyph
-row_joined bare = false≢true (sym bare.clear.unflagged)
+row_joined bare = search (arith, false≢true)
 
 row_greater : IsBare (glyph 1 1 ∷ glyph 0 0 ∷ []) 1 → ⊥
 unfolding glyph
-row_greater bare = false≢true (sym bare.clear.unflagged)
+row_greater bare = search (arith, false≢true)
 
 -- R behind U, each a cluster of its own: its flag of concatenation is on its own place alone
 row_called : map (λ g. g.mask)

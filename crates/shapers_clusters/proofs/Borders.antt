@@ -1,16 +1,16 @@
 -- A call that forbids a concatenation leaves a flag on the glyph at that place.
-use Rattle.std.proofs.Common.{◌≡◌, ℕ, ◌<◌, ◌≤◌, Bool, true, false, eqb, leb, ltb, ◌&&◌, List, [], ◌∷◌, length, get_or, refl, sym, ap, arith, inl, inr}
+use Rattle.std.proofs.Common.{◌≡◌, ℕ, ◌<◌, Bool, true, false, leb, ltb, ◌&&◌, List, [], ◌∷◌, length, get_or, refl, arith, inl, inr}
 use Rattle.std.specs.Int.Bits.{bit_or}
 use Rattle.std.specs.List.{AllByRecursion, list_any}
-use Rattle.std.proofs.lemmas.Bool.{leb-true, ltb-true, and_parts, and_from, or_cases, or_from, or_parts, eq-eqb, both_ways, false_from_ne_true, false≢true}
+use Rattle.std.proofs.lemmas.Bool.{leb-true, ltb-true, and_from, or_cases, or_from, or_parts, eq-eqb, both_ways, false_from_ne_true, false≢true}
 use Rattle.std.proofs.lemmas.List.{get_or-map}
 use Rattle.std.proofs.lemmas.List.Elements.{AllZip-get_or}
 use Rattle.std.proofs.lemmas.List.Folds.{list_any_at}
 use Rattle.std.proofs.lemmas.Nat.Bits.{bit_at_or}
-use Rattle.shapers_buffer.specs.Glyph.{clusters, default_glyph}
-use Rattle.shapers_buffer.specs.GlyphFlags.{FlagCall, UnsafeToBreak, UnsafeToConcat, SafeToInsertTatweel, with_bits, flag_called, flags_called}
+use Rattle.shapers_buffer.specs.Glyph.{default_glyph}
+use Rattle.shapers_buffer.specs.GlyphFlags.{FlagCall, UnsafeToBreak, UnsafeToConcat, SafeToInsertTatweel, flag_called, flags_called}
 use Rattle.shapers_buffer.specs.declared.buffer.glyph.hb_glyph_info_t.{hb_glyph_info_t}
-use Rattle.shapers_clusters.specs.Borders.{forbids_border, IsOpen, is_unsafe_to_concat, BareLaw}
+use Rattle.shapers_clusters.specs.Borders.{forbids_border, IsOpen, BareLaw}
 use Rattle.shapers_clusters.specs.Breaks.{forbids, IsFree}
 use Rattle.shapers_clusters.specs.Flags.{bit_at, InOrder, KeepsBits}
 use Rattle.shapers_clusters.proofs.ClearPlaces.{held_by_calls, clear-places, in-stretch, length-same}
@@ -23,18 +23,14 @@ forbids_concat p _ = false
 
 put-two : (mask : ℕ) → 0 < bit_at 1 (bit_or mask 2)
 put-two mask =
-    let two : bit_at 1 2 ≡ 1 = refl in
-    let below : bit_at 1 mask ≤ 1 = omega arith in
-    omega (arith, bit_at_or mask 2 1, two, below)
+    search (arith, bit_at_or mask 2 1)
 
 -- one call, and any calls
 concat-puts : (tatweel : Bool) (call : FlagCall) (gs : List hb_glyph_info_t) (p : ℕ) → p < length gs
     → forbids_concat p call ≡ true → 0 < bit_at 1 (get_or (flag_called true tatweel call gs) p default_glyph).mask
 concat-puts tatweel (UnsafeToBreak s e) gs p h f = absurd (false≢true f)
 concat-puts tatweel (UnsafeToConcat s e) gs p h f =
-    let (a, b) = and_parts (leb s p) (ltb p e) f in
-    let is = in-stretch (with_bits 2) s e p gs default_glyph (leb-true s p a) (ltb-true p e b) h in
-    omega (arith, ap (λ (g : hb_glyph_info_t). bit_at 1 g.mask) is, put-two (get_or gs p default_glyph).mask)
+    search (arith, in-stretch, leb-true, ltb-true, put-two)
 concat-puts tatweel (SafeToInsertTatweel s e) gs p h f = absurd (false≢true f)
 
 concats-put : (tatweel : Bool) (calls : List FlagCall) (gs : List hb_glyph_info_t) (p : ℕ)
@@ -46,9 +42,8 @@ concats-put tatweel (call ∷ calls) gs p all h f =
     let long = length-same gs once (flag_called-alone true tatweel call gs all.0).same_clusters in
     elim (or_cases (forbids_concat p call) (list_any (forbids_concat p) calls) f) [
       | inl here ↦
-          let rest = flags_called-alone true tatweel calls once all.1 in
           let kept = AllZip-get_or KeepsBits once (flags_called true tatweel calls once) p default_glyph default_glyph
-          rest.none_lost (omega arith) in
+          (flags_called-alone true tatweel calls once all.1).none_lost (omega arith) in
           omega (arith, concat-puts tatweel call gs p h here, kept 1)
       | inr later ↦ concats-put tatweel calls once p all.1 (omega arith) later
     ]
@@ -64,22 +59,21 @@ neither-open : (calls : List FlagCall) (p : ℕ) → IsFree calls p → list_any
     → IsOpen calls p
 neither-open [] p f c = refl
 neither-open (call ∷ calls) p f c =
-    let x = or_parts (forbids p call) (held_by_calls p calls) f in
-    let y = or_parts (forbids_concat p call) (list_any (forbids_concat p) calls) c in
-    or_from (forbids_border p call) (list_any (forbids_border p) calls) (neither-call call p x.0 y.0)
-    (neither-open calls p x.1 y.1)
+    search (
+      arith,
+      or_from,
+      neither-call,
+      neither-open calls p (or_parts (forbids p call) (held_by_calls p calls) f).1
+          (or_parts (forbids_concat p call) (list_any (forbids_concat p) calls) c).1,
+    )
 
 -- so no such call stands at a bare border
 pub bare-borders : BareLaw
 bare-borders tatweel calls gs p all pos within bare =
     let new = flags_called true tatweel calls gs in
     let long = length-same gs new (flags_called-alone true tatweel calls gs all).same_clusters in
-    let here : p < length new = omega arith in
-    let c = get_or (clusters new) p 0 in
-    let own = get_or-map (λ (g : hb_glyph_info_t). g.cluster) new p default_glyph 0 here in
+    let own = get_or-map (λ (g : hb_glyph_info_t). g.cluster) new p default_glyph 0 (omega arith) in
     let none = false_from_ne_true (list_any (forbids_concat p) calls) (λ f.
     let bit = concats-put tatweel calls gs p all within f in
-    let one : bit_at 1 (get_or new p default_glyph).mask ≡ 1 = omega arith in
-    both_ways _ bare.joinable (list_any_at (λ g. eqb g.cluster c && is_unsafe_to_concat g) new p default_glyph here
-    (and_from _ _ (eq-eqb _ _ (sym own)) (eq-eqb _ _ one)))) in
-    neither-open calls p (clear-places true tatweel calls gs p all pos within bare.clear) none
+    search (arith, both_ways, list_any_at, and_from, eq-eqb)) in
+    search (arith, neither-open, clear-places)

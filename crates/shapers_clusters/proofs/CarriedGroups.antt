@@ -9,18 +9,17 @@ use Rattle.shapers_buffer.specs.declared.buffer.glyph.hb_glyph_info_t.{hb_glyph_
 use Rattle.shapers_buffer.specs.declared.buffer.level.BufferClusterLevel.{BufferClusterLevel}
 use Rattle.shapers_buffer.specs.ClusterRuns.{none_below}
 use Rattle.shapers_buffer.specs.Glyph.{clusters}
-use Rattle.shapers_buffer.specs.Clusters.{least, first_cluster, last_cluster, has_cluster, in_cluster, flooded, merge, merge_all, merges, stretch_of}
+use Rattle.shapers_buffer.specs.Clusters.{least, first_cluster, last_cluster, has_cluster, in_cluster, flooded, merge, merge_all, merges, stretch_of, with_stretch}
 use Rattle.shapers_buffer.specs.Places.{pick}
 use Rattle.shapers_buffer.proofs.ClusterLemmas.{flood_merged, length-stretch, merge_is, three_parts}
 use Rattle.shapers_buffer.proofs.OneCluster.{all_in_cluster, first_of_front, last_of_end, last_stays, length-flooded}
 use Rattle.shapers_buffer.proofs.RunLemmas.{ended_all, none_lower, puts_twice}
-use Rattle.shapers_clusters.specs.CarriedRuns.{EndsAbove}
-use Rattle.shapers_clusters.specs.CarriedGroups.{StandFor, StopsBefore, groups_len, spread_groups}
+use Rattle.shapers_clusters.specs.CarriedGroups.{EndsAbove, StandFor, StopsBefore, groups_len, spread_groups}
 use Rattle.shapers_clusters.specs.Cuts.{EndWithin}
 use Rattle.shapers_clusters.specs.Flags.{FallsTo}
 use Rattle.shapers_clusters.specs.Steps.{Step, run_step, run_steps, FitsStep, FitSteps, shifted, widened}
 use Rattle.shapers_clusters.proofs.Appended.{assembled, flooded-same, two_sides}
-use Rattle.shapers_clusters.proofs.CarriedRuns.{Change, back_stays, back_within, first_of_fallen, first_taken, flooded_back}
+use Rattle.shapers_clusters.proofs.FloodsBack.{Change, back_stays, back_within, first_of_fallen, first_taken, flooded_back}
 use Rattle.shapers_clusters.proofs.ClusterMerges.{least-among, least-le}
 use Rattle.shapers_clusters.proofs.Falls.{all_append, all_over, all_reverse, all_weaker, flooded-hit, merge-falls}
 use Rattle.shapers_clusters.proofs.Halves.{Each, drop-past, each-drop, each-pick, each-reverse, each-take, shifted-twice, take-past}
@@ -31,7 +30,7 @@ use Rattle.shapers_clusters.proofs.Widened.{fits-widened, pick-widened}
 first_in : (c : ℕ) (gs : List hb_glyph_info_t) → 0 < length gs → list_all (has_cluster c) gs ≡ true →
     first_cluster gs ≡ c
 first_in c [] some all = absurd (omega arith)
-first_in c (g ∷ gs) some all = eqb-true g.cluster c (and_parts (g.cluster == c) (list_all (has_cluster c) gs) all).0
+first_in c (g ∷ gs) some all = search (arith, eqb-true, and_parts)
 
 least-first : (gs : List hb_glyph_info_t) → 0 < length gs → least (clusters gs) ≤ first_cluster gs
 least-first [] some = absurd (omega arith)
@@ -90,10 +89,8 @@ pub back_spread : (c m : ℕ) (Gs : List (List hb_glyph_info_t)) (P ys : List hb
     StandFor Gs ys → flooded_back c m (P ++ spread_groups Gs ys)
     ≡ (if list_all (has_cluster c) ys then flooded_back c m P else P) ++ spread_groups Gs (flooded_back c m ys)
 back_spread c m [] P ys low stand = elim (cases_Bool (list_all (has_cluster c) ys)) [
-  | inl all ↦ ended_all c m P ys all ∙ ap (λ l. flooded_back c m P ++ l) (sym (ended_all c m [] ys all))
-      ∙ ap (λ b. (if b then flooded_back c m P else P) ++ flooded_back c m ys) (sym all)
-  | inr other ↦ back_within c m P ys other
-      ∙ ap (λ b. (if b then flooded_back c m P else P) ++ flooded_back c m ys) (sym other)
+  | inl all ↦ cc (ended_all c m P ys all, ended_all c m [] ys all)
+  | inr other ↦ search (arith, back_within)
 ]
 back_spread c m (G ∷ Gs) P [] low stand = absurd stand
 back_spread c m (G ∷ Gs) P (g ∷ ys) low stand =
@@ -101,36 +98,25 @@ back_spread c m (G ∷ Gs) P (g ∷ ys) low stand =
     let go : Bool → List hb_glyph_info_t → List hb_glyph_info_t = λ b p. if b then flooded_back c m p else p in
     let on : flooded_back c m (P ++ spread_groups (G ∷ Gs) (g ∷ ys))
     ≡ go (list_all (has_cluster c) ys) (P ++ put) ++ spread_groups Gs (flooded_back c m ys) =
-    ap (flooded_back c m) (sym (append_assoc P put (spread_groups Gs ys)))
-    ∙ back_spread c m Gs (P ++ put) ys low stand.1 in
+    search (arith, append_assoc, back_spread c m Gs (P ++ put) ys low stand.1) in
     elim (cases_Bool (list_all (has_cluster c) ys)) [
       | inl all ↦
           let one = flooded_back c m (g ∷ []) in
-          let n : length one ≡ 1 = omega (
-            arith,
-            length-reverse (flooded c m (reverse (g ∷ []))),
-            length-flooded c m (reverse (g ∷ [])),
-            length-reverse (g ∷ []),
-          ) in
-          let first = map (in_cluster (first_cluster one)) G in
-          let both : list_all (has_cluster c) (g ∷ ys) ≡ (g.cluster == c) =
-          ap (λ b. (g.cluster == c) && b) all ∙ and-true (g.cluster == c) in
-          let parts : flooded_back c m (g ∷ ys) ≡ one ++ flooded_back c m ys = ended_all c m (g ∷ []) ys all
-          ∙ ap (λ l. one ++ l) (sym (ended_all c m [] ys all)) in
-          on ∙ ap (λ b. go b (P ++ put) ++ spread_groups Gs (flooded_back c m ys)) all
-          ∙ ap (λ l. l ++ spread_groups Gs (flooded_back c m ys)) (back_group c m P G g low stand.0.0 stand.0.1)
-          ∙ append_assoc (go (g.cluster == c) P) first (spread_groups Gs (flooded_back c m ys))
-          ∙ ap (λ l. go (g.cluster == c) P ++ l) (sym (spread_one G Gs one (flooded_back c m ys) n))
-          ∙ ap (λ l. go (g.cluster == c) P ++ spread_groups (G ∷ Gs) l) (sym parts)
-          ∙ ap (λ b. go b P ++ spread_groups (G ∷ Gs) (flooded_back c m (g ∷ ys))) (sym both)
+          cc (
+            back_group c m P G g low stand.0.0 stand.0.1,
+            append_assoc (go (g.cluster == c) P) (map (in_cluster (first_cluster one)) G)
+                (spread_groups Gs (flooded_back c m ys)),
+            spread_one G Gs one (flooded_back c m ys) (search (arith, length-reverse, length-flooded)),
+            ended_all c m (g ∷ []) ys all,
+            ended_all c m [] ys all,
+            and-true (g.cluster == c),
+          )
       | inr other ↦
-          let both : list_all (has_cluster c) (g ∷ ys) ≡ false =
-          ap (λ b. (g.cluster == c) && b) other ∙ and_none (g.cluster == c) in
-          let parts : flooded_back c m (g ∷ ys) ≡ g ∷ flooded_back c m ys = back_within c m (g ∷ []) ys other in
-          on ∙ ap (λ b. go b (P ++ put) ++ spread_groups Gs (flooded_back c m ys)) other
-          ∙ append_assoc P put (spread_groups Gs (flooded_back c m ys))
-          ∙ ap (λ l. P ++ spread_groups (G ∷ Gs) l) (sym parts)
-          ∙ ap (λ b. go b P ++ spread_groups (G ∷ Gs) (flooded_back c m (g ∷ ys))) (sym both)
+          cc (
+            append_assoc P put (spread_groups Gs (flooded_back c m ys)),
+            back_within c m (g ∷ []) ys other,
+            and_none (g.cluster == c),
+          )
     ]
 
 -- PLACES behind the groups
@@ -145,8 +131,7 @@ pub spread_append : (Gs : List (List hb_glyph_info_t)) (xs ys : List hb_glyph_in
 spread_append [] xs ys many = refl
 spread_append (G ∷ Gs) [] ys many = absurd (omega arith)
 spread_append (G ∷ Gs) (x ∷ xs) ys many =
-    ap (λ l. map (in_cluster x.cluster) G ++ l) (spread_append Gs xs ys (omega arith))
-    ∙ sym (append_assoc (map (in_cluster x.cluster) G) (spread_groups Gs xs) ys)
+    search (arith, append_assoc, spread_append Gs xs ys (omega arith))
 
 stand_front : (Gs : List (List hb_glyph_info_t)) (xs ys : List hb_glyph_info_t) → length Gs ≤ length xs →
     StandFor Gs (xs ++ ys) → StandFor Gs xs
@@ -165,8 +150,7 @@ pub length-spread : (Gs : List (List hb_glyph_info_t)) (ys : List hb_glyph_info_
 length-spread [] [] many = refl
 length-spread [] (y ∷ ys) many = absurd (omega arith)
 length-spread (G ∷ Gs) [] many = absurd (omega arith)
-length-spread (G ∷ Gs) (y ∷ ys) many = length-append (map (in_cluster y.cluster) G) (spread_groups Gs ys)
-    ∙ omega (arith, length-map G (in_cluster y.cluster), length-spread Gs ys (omega arith))
+length-spread (G ∷ Gs) (y ∷ ys) many = search (arith, length-append, length-map, length-spread Gs ys (omega arith))
 
 -- a list by those that stand for groups, and the rest
 pub record Placed (P : List hb_glyph_info_t) (Gs : List (List hb_glyph_info_t)) (ys : List hb_glyph_info_t)
@@ -182,22 +166,22 @@ put_in_place P Gs ys k j i kn jn many =
     let reps = take j ys in
     let behind = drop j ys in
     let rn : length reps ≡ j = omega (arith, length-take j ys) in
-    let whole : ys ≡ reps ++ behind = sym (take-append-drop j ys) in
     let front = P ++ spread_groups Gs reps in
-    let fn : length front ≡ k = length-append P (spread_groups Gs reps) ∙ omega
-    (arith, length-spread Gs reps (omega arith)) in
-    let all : P ++ spread_groups Gs ys ≡ front ++ behind = ap (λ l. P ++ spread_groups Gs l) whole
-    ∙ ap (λ l. P ++ l) (spread_append Gs reps behind (omega arith)) ∙ sym
-    (append_assoc P (spread_groups Gs reps) behind) in
-    record {
-      front = ap (take (k + i)) all ∙ take-past k i front behind fn
-          ∙ append_assoc P (spread_groups Gs reps) (take i behind)
-          ∙ ap (λ l. P ++ l) (sym (spread_append Gs reps (take i behind) (omega arith)))
-          ∙ ap (λ l. P ++ spread_groups Gs l) (sym (take-past j i reps behind rn) ∙ ap (take (j + i)) (sym whole));
-      rest = ap (drop (k + i)) all ∙ drop-past k i front behind fn
-          ∙ sym (ap (drop (j + i)) whole ∙ drop-past j i reps behind rn);
-      long = ap length all ∙ length-append front behind ∙ omega (arith, length-drop j ys);
-    }
+    let fn : length front ≡ k = search (arith, length-append, length-spread) in
+    search (
+      arith,
+      take-append-drop j ys,
+      spread_append Gs reps behind (omega arith),
+      append_assoc P (spread_groups Gs reps) behind,
+      take-past k i front behind fn,
+      append_assoc P (spread_groups Gs reps) (take i behind),
+      spread_append Gs reps (take i behind) (omega arith),
+      take-past j i reps behind rn,
+      drop-past k i front behind fn,
+      drop-past j i reps behind rn,
+      length-append front behind,
+      length-drop j ys,
+    )
 
 zip_drop : {X : Type 0} (R : X → X → Type 0) (n : ℕ) (xs ys : List X) → AllZip R xs ys →
     AllZip R (drop n xs) (drop n ys)
@@ -242,26 +226,14 @@ stand_fallen [] ys zs falls stand = tt
 stand_fallen (G ∷ Gs) [] zs falls stand = absurd stand
 stand_fallen (G ∷ Gs) (y ∷ ys) [] falls stand = absurd falls
 stand_fallen (G ∷ Gs) (y ∷ ys) (z ∷ zs) falls stand =
-    ((stand.0.0, none_lower z.cluster y.cluster G falls.0.0 stand.0.1), stand_fallen Gs ys zs falls.1 stand.1)
+    search (arith, none_lower, stand_fallen Gs ys zs falls.1 stand.1)
 
 -- where the flood runs over all that stand for groups, it stops there
 stops : (c m : ℕ) (P ys zs : List hb_glyph_info_t) → 0 < length ys → (list_all (has_cluster c) ys ≡ true →
     StopsBefore P ys (map (in_cluster m) ys ++ zs)) →
     (if list_all (has_cluster c) ys then flooded_back c m P else P) ≡ P
-stops c m P ys zs some until = elim (cases_Bool (list_all (has_cluster c) ys)) [
-  | inl all ↦
-      let first : first_cluster ys ≡ c = first_in c ys some all in
-      let put = map (in_cluster m) ys in
-      let pn : 0 < length put = omega (arith, length-map ys (in_cluster m)) in
-      ap (λ b. if b then flooded_back c m P else P) all ∙ elim (until all) [
-        | inl above ↦ back_stays c m P (λ more. λ is. let up = above more in omega arith)
-        | inr same ↦
-            let is : m ≡ c = sym (first_in m put pn (all_in_cluster m ys)) ∙ sym (first_of_front put zs pn) ∙ same
-            ∙ first in
-            ap (λ k. flooded_back c k P) is ∙ ap reverse (flooded-same c (reverse P)) ∙ reverse-reverse P
-      ]
-  | inr other ↦ ap (λ b. if b then flooded_back c m P else P) other
-]
+stops c m P ys zs some until =
+    search (arith, back_stays, first_in, length-map, all_in_cluster, first_of_front, flooded-same, reverse-reverse)
 
 pub merge_spreads : (level : BufferClusterLevel) (k j s e n : ℕ) → 0 < j → e ≤ n →
     Spreads k j n (merge level (k + s) (k + e)) (merge level (j + s) (j + e))
@@ -272,145 +244,132 @@ merge_spreads level k j s e n some within P Gs ys kn jn yn stand =
     let R : List hb_glyph_info_t → List hb_glyph_info_t → Type 0 = λ x y. StopsBefore P ys y → x ≡ P ++ spread_groups
     Gs y in
     record {
-      same_length = length-merge level (j + s) (j + e) ys (omega arith);
-      stand = stand_fallen Gs ys (merge level (j + s) (j + e) ys) falls stand;
-      falls = first_of_fallen ys (merge level (j + s) (j + e) ys) falls;
-      lower = zip_take NotAbove (length Gs) ys (merge level (j + s) (j + e) ys)
-          (all_weaker FallsTo NotAbove (λ x y fell. fell.0) ys (merge level (j + s) (j + e) ys) falls);
+      same_length = search (arith, length-merge);
+      stand = search (arith, stand_fallen);
+      falls = search (arith, first_of_fallen);
+      lower = search (arith, zip_take, all_weaker);
       is = λ until. merge_is level (k + s) (k + e) all
           ∙ ap (λ d. if merges level && not (nat_lt d 2) then flood_merged (k + s) (k + e) all else all) i
-          ∙ subst (R (if merges level && not (nat_lt ((j + e) - (j + s)) 2) then flood_merged (k + s) (k + e) all else all))
-          (sym (merge_is level (j + s) (j + e) ys)) (two_sides ((j + e) - (j + s)) (merges level) R
-          (flood_merged (k + s) (k + e) all) all (flood_merged (j + s) (j + e) ys) ys (λ _. refl)
-          (λ two. λ until.
-          let mid = stretch_of (j + s) (j + e) ys in
-          let t = take (j + s) ys in
-          let c = first_cluster mid in
-          let m = least (clusters mid) in
-          let tail = map (in_cluster m) mid ++ flooded (last_cluster mid) m (drop (j + e) ys) in
-          let back = flooded_back c m t in
-          let tn : length t ≡ j + s = omega (arith, length-take (j + s) ys) in
-          let bn : length back ≡ length t = omega (
+          ∙ subst
+          (R (if merges level && not (nat_lt ((j + e) - (j + s)) 2) then flood_merged (k + s) (k + e) all else all))
+          (sym (merge_is level (j + s) (j + e) ys))
+          (two_sides ((j + e) - (j + s)) (merges level) R (flood_merged (k + s) (k + e) all) all (flood_merged (j + s) (j
+          + e) ys) ys (λ _. refl) (λ two. λ until. let mid = stretch_of (j + s) (j + e) ys in let t = take (j + s) ys in
+          let c = first_cluster mid in let m = least (clusters mid) in let tail = map (in_cluster m) mid ++ flooded
+          (last_cluster mid) m (drop (j + e) ys) in let back = flooded_back c m t in let tn : length t ≡ j + s = omega
+          (arith, length-take (j + s) ys) in let bn : length back ≡ length t = omega (
             arith,
-            length-reverse (flooded c m (reverse t)),
+            length-reverse (flooded c m
+                (reverse t)),
             length-flooded c m (reverse t),
             length-reverse t,
-          ) in
-          let at = put_in_place P Gs ys k j s kn jn (omega arith) in
-          let end = put_in_place P Gs ys k j e kn jn (omega arith) in
-          let middle : stretch_of (k + s) (k + e) all ≡ mid = ap (λ d. take d (drop (k + s) all)) i
-          ∙ ap (take ((j + e) - (j + s))) at.rest in
-          let stand_t : StandFor Gs t = stand_front Gs t (drop (j + s) ys) (omega arith)
-          (subst (StandFor Gs) (sym (take-append-drop (j + s) ys)) stand) in
-          let low : m ≤ c = least-first mid (omega (arith, length-stretch (j + s) (j + e) ys (omega arith))) in
-          let stays = stops c m P t tail (omega arith) (λ full.
-          let own : back ≡ map (in_cluster m) t = ended_all c m [] t full in
-          let from : first_cluster t ≡ first_cluster ys = first_taken (j + s) ys (omega arith) in
-          subst (λ l. StopsBefore P t (l ++ tail)) own (subst (λ f. EndsAbove f P ⊎ (first_cluster (back ++ tail) ≡ f))
-          (sym from) until)) in
-          ap (λ x. assembled x (stretch_of (k + s) (k + e) all) (drop (k + e) all)) at.front
-          ∙ ap (λ x. assembled (P ++ spread_groups Gs t) x (drop (k + e) all)) middle
-          ∙ ap (λ x. assembled (P ++ spread_groups Gs t) mid x) end.rest
-          ∙ ap (λ l. l ++ tail) (back_spread c m Gs P t low stand_t ∙ ap (λ p. p ++ spread_groups Gs back) stays)
-          ∙ append_assoc P (spread_groups Gs back) tail
-          ∙ ap (λ l. P ++ l) (sym (spread_append Gs back tail (omega arith))))) until;
+          ) in let at = put_in_place P Gs ys k j s kn jn
+          (omega arith) in ap (λ x. assembled x (stretch_of (k + s) (k + e) all) (drop (k + e) all)) at.front ∙ ap (λ x.
+          assembled (P ++ spread_groups Gs t) x (drop (k + e) all)) (ap (λ d. take d (drop (k + s) all)) i ∙ ap (take ((j
+          + e) - (j + s))) at.rest) ∙ ap (λ x. assembled (P ++ spread_groups Gs t) mid x) (put_in_place P Gs ys k j e kn
+          jn (omega arith)).rest ∙ ap (λ l. l ++ tail) (back_spread c m Gs P t (least-first mid (omega (
+            arith,
+            length-stretch (j + s) (j + e) ys (omega arith),
+          ))) (stand_front Gs t (drop (j + s) ys) (omega arith) (subst
+          (StandFor Gs) (sym (take-append-drop (j + s) ys)) stand)) ∙ ap (λ p. p ++ spread_groups Gs back) (stops c m P t
+          tail (omega arith) (λ full. let own : back ≡ map (in_cluster m) t = ended_all c m [] t full in let from :
+          first_cluster t ≡ first_cluster ys = first_taken (j + s) ys (omega arith) in subst (λ l. StopsBefore P t (l ++
+          tail)) own (subst (λ f. EndsAbove f P ⊎ (first_cluster (back ++ tail) ≡ f)) (sym from) until)))) ∙ append_assoc
+          P (spread_groups Gs back) tail ∙ ap (λ l. P ++ l) (sym (spread_append Gs back tail (omega arith))))) until;
     }
 
 -- one change after another
-spreads_then : (k j n : ℕ) (over change then_over then_change : Change) → Spreads k j n over change →
+pub spreads_then : (k j n : ℕ) (over change then_over then_change : Change) → Spreads k j n over change →
     Spreads k j n then_over then_change → Spreads k j n (λ gs. then_over (over gs)) (λ gs. then_change (change gs))
 spreads_then k j n over change then_over then_change first second P Gs ys kn jn yn stand =
     let one = first P Gs ys kn jn yn stand in
     let mid = change ys in
-    let new = then_change mid in
-    let fell = one.falls in
     let two = second P Gs mid kn jn (one.same_length ∙ yn) one.stand in
     let lower = two.falls in
     record {
-      same_length = two.same_length ∙ one.same_length;
+      same_length = search arith;
       stand = two.stand;
       falls = omega arith;
-      lower = all_over NotAbove NotAbove NotAbove (λ x y z one two. omega arith) (take (length Gs) ys)
-          (take (length Gs) mid) (take (length Gs) new) one.lower two.lower;
+      lower = search (arith, all_over);
       is = λ until.
-          let here : StopsBefore P ys mid = elim until [
-            | inl above ↦ inl above
+          let there : StopsBefore P mid
+          (then_change mid) = elim until [
+            | inl above ↦ inl (λ some. omega
+                arith)
             | inr same ↦ inr (omega arith)
           ] in
-          let there : StopsBefore P mid new = elim until [
-            | inl above ↦ inl (λ some. let up = above some in omega arith)
-            | inr same ↦ inr (omega arith)
-          ] in
-          ap then_over (one.is here) ∙ two.is there;
+          cc (one.is (elim until [ inl above ↦ inl above | inr same ↦ inr (omega arith) ]), two.is there);
     }
 
-spreads_nothing : (k j n : ℕ) → Spreads k j n (λ gs. gs) (λ gs. gs)
-spreads_nothing k j n P Gs ys kn jn yn stand = record {
-  same_length = refl;
-  stand = stand;
-  falls = omega arith;
-  lower = not_above (take (length Gs) ys);
-  is = λ until. refl;
-}
+pub spreads_nothing : (k j n : ℕ) → Spreads k j n (λ gs. gs) (λ gs. gs)
+spreads_nothing k j n P Gs ys kn jn yn stand = search (arith, not_above)
 
 -- stretches that merge behind those that stand for groups
-merge_all_spreads : (level : BufferClusterLevel) (k j n : ℕ) (sts : List (ℕ × ℕ)) → 0 < j → EndWithin n sts →
+pub merge_all_spreads : (level : BufferClusterLevel) (k j n : ℕ) (sts : List (ℕ × ℕ)) → 0 < j → EndWithin n sts →
     Spreads k j n (merge_all level (shifted k sts)) (merge_all level (shifted j sts))
 merge_all_spreads level k j n [] some within = spreads_nothing k j n
 merge_all_spreads level k j n (st ∷ sts) some within =
     spreads_then k j n (merge level (k + st.0) (k + st.1)) (merge level (j + st.0) (j + st.1))
     (merge_all level (shifted k sts)) (merge_all level (shifted j sts))
-    (merge_spreads level k j st.0 st.1 n some within.0)
+    (search (arith, merge_spreads))
     (merge_all_spreads level k j n sts some within.1)
 
+-- a stretch behind them that changes, and stays as long
+pub stretch_spreads : (k j s e n : ℕ) (f : Change) → 0 < j → s ≤ e → e ≤ n →
+    ((xs : List hb_glyph_info_t) → length xs ≡ e - s → length (f xs) ≡ e - s) →
+    Spreads k j n (with_stretch (k + s) (k + e) f) (with_stretch (j + s) (j + e) f)
+stretch_spreads k j s e n f some order within long P Gs ys kn jn yn stand =
+    let all = P ++ spread_groups Gs ys in
+    let at = put_in_place P Gs ys k j s kn jn (omega arith) in
+    let t = take (j + s) ys in
+    let mid = stretch_of (j + s) (j + e) ys in
+    let rest = drop (j + e) ys in
+    let tail = f mid ++ rest in
+    let tn : length t ≡ j + s = omega (arith, length-take (j + s) ys) in
+    let mn : length (f mid) ≡ e - s = long mid (length-stretch (j + s) (j + e) ys (omega arith) ∙ omega arith) in
+    let first : first_cluster (t ++ tail) ≡ first_cluster ys =
+    first_of_front t tail (omega arith) ∙ first_taken (j + s) ys (omega arith) in
+    let front : take (length Gs) (t ++ tail) ≡ take (length Gs) ys =
+    take-append-le (length Gs) t tail (omega arith) ∙ take-take (length Gs) (j + s) ys (omega arith) in
+    let middle : stretch_of (k + s) (k + e) all ≡ mid = ap (λ d. take d (drop (k + s) all)) (omega arith)
+    ∙ ap (take ((j + e) - (j + s))) at.rest in
+    record {
+      same_length = omega (arith, length-append t tail, length-append (f mid) rest, length-drop (j + e) ys);
+      stand = stand_with Gs t tail
+          (stand_front Gs t (drop (j + s) ys) (omega arith) (subst (StandFor Gs) (sym (take-append-drop (j + s) ys))
+          stand));
+      falls = omega (arith, first);
+      lower = subst (AllZip NotAbove (take (length Gs) ys)) (sym front) (not_above (take (length Gs) ys));
+      is = λ until. cc (
+        at.front,
+        middle,
+        (put_in_place P Gs ys k j e kn jn (omega arith)).rest,
+        append_assoc P (spread_groups Gs t) tail,
+        spread_append Gs t tail (omega arith),
+      );
+    }
+
 -- glyphs that move behind them
+pick_stretch : (a s e n : ℕ) (step : Step) (xs : List hb_glyph_info_t) → s ≤ e → e ≤ n → FitsStep (e - s) step →
+    length xs ≡ a + n → pick (widened (a + s) (a + e) (a + n) step).places xs
+    ≡ with_stretch (a + s) (a + e) (pick step.places) xs
+pick_stretch a s e n step xs order within fits xn =
+    cc (pick-widened (a + s) (a + e) step xs (omega arith) (omega arith) (subst (λ d. AllByRecursion (λ p. p < d)
+    step.places) (sym (omega arith)) fits.within))
+
 pick_spreads : (k j s e n : ℕ) (step : Step) → 0 < j → s ≤ e → e ≤ n → FitsStep (e - s) step →
     Spreads k j n (pick (widened (k + s) (k + e) (k + n) step).places)
     (pick (widened (j + s) (j + e) (j + n) step).places)
 pick_spreads k j s e n step some order within fits P Gs ys kn jn yn stand =
-    let all = P ++ spread_groups Gs ys in
-    let i : (k + e) - (k + s) ≡ e - s = omega arith in
-    let l : (j + e) - (j + s) ≡ e - s = omega arith in
     let at = put_in_place P Gs ys k j s kn jn (omega arith) in
-    let end = put_in_place P Gs ys k j e kn jn (omega arith) in
-    let long = at.long in
-    let an : length all ≡ k + n = omega arith in
-    let t = take (j + s) ys in
-    let mid = stretch_of (j + s) (j + e) ys in
-    let tail = pick step.places mid ++ drop (j + e) ys in
-    let tn : length t ≡ j + s = omega (arith, length-take (j + s) ys) in
-    let within_j : AllByRecursion (λ p. p < (j + e) - (j + s)) step.places =
-    subst (λ d. AllByRecursion (λ p. p < d) step.places) (sym l) fits.within in
-    let within_k : AllByRecursion (λ p. p < (k + e) - (k + s)) step.places =
-    subst (λ d. AllByRecursion (λ p. p < d) step.places) (sym i) fits.within in
-    let own : pick (widened (j + s) (j + e) (j + n) step).places ys ≡ t ++ tail =
-    ap (λ d. pick (widened (j + s) (j + e) d step).places ys) (sym yn)
-    ∙ pick-widened (j + s) (j + e) step ys (omega arith) (omega arith) within_j in
-    let wide = fits-widened (j + s) (j + e) (j + n) step (omega arith) (omega arith)
-    (subst (λ d. FitsStep d step) (sym l) fits) in
-    let stand_t : StandFor Gs t = stand_front Gs t (drop (j + s) ys) (omega arith)
-    (subst (StandFor Gs) (sym (take-append-drop (j + s) ys)) stand) in
-    let first : first_cluster (pick (widened (j + s) (j + e) (j + n) step).places ys) ≡ first_cluster ys =
-    ap first_cluster own ∙ first_of_front t tail (omega arith) ∙ first_taken (j + s) ys (omega arith) in
-    let middle : stretch_of (k + s) (k + e) all ≡ mid = ap (λ d. take d (drop (k + s) all)) i
-    ∙ ap (λ d. take d (drop (k + s) all)) (sym l) ∙ ap (take ((j + e) - (j + s))) at.rest in
-    record {
-      same_length = length-pick (widened (j + s) (j + e) (j + n) step).places ys
-          (subst (λ d. AllByRecursion (λ p. p < d) (widened (j + s) (j + e) (j + n) step).places) (sym yn) wide.within)
-          ∙ wide.as_many ∙ sym yn;
-      stand = subst (StandFor Gs) (sym own) (stand_with Gs t tail stand_t);
-      falls = omega (arith, first);
-      lower = subst (λ l. AllZip NotAbove (take (length Gs) ys) l) (sym (ap (take (length Gs)) own
-          ∙ take-append-le (length Gs) t tail (omega arith) ∙ take-take (length Gs) (j + s) ys (omega arith)))
-          (not_above (take (length Gs) ys));
-      is = λ until. ap (λ d. pick (widened (k + s) (k + e) d step).places all) (sym an)
-          ∙ pick-widened (k + s) (k + e) step all (omega arith) (omega arith) within_k
-          ∙ ap (λ x. x ++ (pick step.places (stretch_of (k + s) (k + e) all) ++ drop (k + e) all)) at.front
-          ∙ ap (λ x. (P ++ spread_groups Gs t) ++ (pick step.places x ++ drop (k + e) all)) middle
-          ∙ ap (λ x. (P ++ spread_groups Gs t) ++ (pick step.places mid ++ x)) end.rest
-          ∙ append_assoc P (spread_groups Gs t) tail
-          ∙ ap (λ x. P ++ x) (sym (spread_append Gs t tail (omega arith)) ∙ ap (spread_groups Gs) (sym own));
-    }
+    search (
+      arith,
+      pick_stretch k s e n step (P ++ spread_groups Gs ys) order within fits (omega arith),
+      pick_stretch j s e n step ys order within fits yn,
+      stretch_spreads k j s e n (pick step.places) some order within
+          (λ xs xn. length-pick step.places xs (subst (λ d. AllByRecursion (λ p. p < d) step.places) (sym xn)
+          fits.within) ∙ fits.as_many) P Gs ys kn jn yn stand,
+    )
 
 step_spreads : (level : BufferClusterLevel) (k j s e n : ℕ) (step : Step) → 0 < j → s ≤ e → e ≤ n →
     FitsStep (e - s) step → Spreads k j n (run_step level (widened (k + s) (k + e) (k + n) step))
@@ -419,9 +378,12 @@ step_spreads level k j s e n step some order within fits =
     let wide = fits-widened s e n step order within fits in
     let merging : (sts : List (ℕ × ℕ)) → EndWithin n (shifted s sts) →
     Spreads k j n (merge_all level (shifted (k + s) sts)) (merge_all level (shifted (j + s) sts)) = λ sts ends.
-    subst (λ ts. Spreads k j n (merge_all level ts) (merge_all level (shifted (j + s) sts))) (shifted-twice k s sts)
-    (subst (λ ts. Spreads k j n (merge_all level (shifted k (shifted s sts))) (merge_all level ts))
-    (shifted-twice j s sts) (merge_all_spreads level k j n (shifted s sts) some ends)) in
+    search (
+      arith,
+      shifted-twice k s sts,
+      shifted-twice j s sts,
+      merge_all_spreads level k j n (shifted s sts) some ends,
+    ) in
     let move = pick (widened (j + s) (j + e) (j + n) step).places in
     let move_over = pick (widened (k + s) (k + e) (k + n) step).places in
     spreads_then k j n (λ gs. move_over (merge_all level (shifted (k + s) step.merged_first) gs))
@@ -429,7 +391,7 @@ step_spreads level k j s e n step some order within fits =
     (merge_all level (shifted (k + s) step.merged_then)) (merge_all level (shifted (j + s) step.merged_then))
     (spreads_then k j n (merge_all level (shifted (k + s) step.merged_first))
     (merge_all level (shifted (j + s) step.merged_first)) move_over move
-    (merging step.merged_first wide.first_within) (pick_spreads k j s e n step some order within fits))
+    (merging step.merged_first wide.first_within) (search (arith, pick_spreads)))
     (merging step.merged_then wide.then_within)
 
 -- steps over a stretch behind them
@@ -442,7 +404,7 @@ steps_spread level k j s e n (step ∷ steps) some order within fits =
     (run_step level (widened (j + s) (j + e) (j + n) step))
     (run_steps level (map (widened (k + s) (k + e) (k + n)) steps))
     (run_steps level (map (widened (j + s) (j + e) (j + n)) steps))
-    (step_spreads level k j s e n step some order within fits.0)
+    (search (arith, step_spreads))
     (steps_spread level k j s e n steps some order within fits.1)
 
 -- BELOW ALL CLUSTERS of the stretch that the steps change no glyph changes
@@ -454,27 +416,19 @@ From low gs = Each (λ c. low ≤ c) gs
 
 stay_there : (low : ℕ) (gs : List hb_glyph_info_t) → AllZip (StaysOnSide low) gs gs
 stay_there low [] = tt
-stay_there low (g ∷ gs) = (((λ _. refl), (λ high. high)), stay_there low gs)
+stay_there low (g ∷ gs) = search (arith, stay_there low gs)
 
 pub cluster_put : (m : ℕ) (g : hb_glyph_info_t) → (in_cluster m g).cluster ≡ m
-cluster_put m g = elim (cases_Bool (g.cluster == m)) [
-  | inl same ↦ rw same (eqb-true g.cluster m same)
-  | inr other ↦ rw other refl
-]
+cluster_put m g = search (arith, eqb-true, refl)
 
 put_on_side : (low m : ℕ) (g : hb_glyph_info_t) → low ≤ m → low ≤ g.cluster → StaysOnSide low g (in_cluster m g)
-put_on_side low m g high from = let is = cluster_put m g in ((λ less. absurd (omega arith)), (λ _. omega arith))
+put_on_side low m g high from = search arith
 
 flood_on_side : (low c m : ℕ) (gs : List hb_glyph_info_t) → low ≤ c → low ≤ m →
     AllZip (StaysOnSide low) gs (flooded c m gs)
 flood_on_side low c m [] from to = tt
-flood_on_side low c m (g ∷ gs) from to = elim (cases_Bool (g.cluster == c)) [
-  | inl same ↦
-      let is : g.cluster ≡ c = eqb-true g.cluster c same in
-      subst (λ l. AllZip (StaysOnSide low) (g ∷ gs) l) (sym (flooded-hit c m g gs is))
-      (put_on_side low m g to (omega arith), flood_on_side low c m gs from to)
-  | inr other ↦ rw other (stay_there low (g ∷ gs))
-]
+flood_on_side low c m (g ∷ gs) from to =
+    search (arith, flooded-hit, eqb-true, put_on_side, stay_there, flood_on_side low c m gs from to)
 
 put_all_on_side : (low m : ℕ) (gs : List hb_glyph_info_t) → low ≤ m → From low gs →
     AllZip (StaysOnSide low) gs (map (in_cluster m) gs)
@@ -498,10 +452,6 @@ from_first : (low : ℕ) (gs : List hb_glyph_info_t) → 0 < length gs → From 
 from_first low [] some from = absurd (omega arith)
 from_first low (g ∷ gs) some from = from.0
 
-from_last : (low : ℕ) (gs : List hb_glyph_info_t) → 0 < length gs → From low gs → low ≤ last_cluster gs
-from_last low gs some from = from_first low (reverse gs) (omega (arith, length-reverse gs))
-    (each-reverse (λ c. low ≤ c) gs from)
-
 merge_on_side : (level : BufferClusterLevel) (low s e : ℕ) (gs : List hb_glyph_info_t) → e ≤ length gs →
     (1 < e - s → From low (stretch_of s e gs)) → AllZip (StaysOnSide low) gs (merge level s e gs)
 merge_on_side level low s e gs within from =
@@ -511,19 +461,20 @@ merge_on_side level low s e gs within from =
     let c = first_cluster mid in
     let d = last_cluster mid in
     let m = least (clusters mid) in
-    let some : 0 < length mid = omega (arith, length-stretch s e gs within) in
+    let some : 0 < length mid = search (arith, length-stretch) in
     let high = from two in
     let to = from_least low mid some high in
     let t = take s gs in
-    let front : AllZip R t (reverse (flooded c m (reverse t))) =
-    subst (λ l. AllZip R l (reverse (flooded c m (reverse t)))) (reverse-reverse t)
-    (all_reverse R (reverse t) (flooded c m (reverse t)) (flood_on_side low c m (reverse t)
-    (from_first low mid some high) to)) in
-    subst (λ l. AllZip R l (flood_merged s e gs)) (three_parts s e gs (omega arith))
-    (all_append R t (reverse (flooded c m (reverse t))) (mid ++ drop e gs)
-    (map (in_cluster m) mid ++ flooded d m (drop e gs)) front
-    (all_append R mid (map (in_cluster m) mid) (drop e gs) (flooded d m (drop e gs))
-    (put_all_on_side low m mid to high) (flood_on_side low d m (drop e gs) (from_last low mid some high) to))))
+    search (
+      arith,
+      three_parts s e gs (omega arith),
+      all_append R t (reverse (flooded c m (reverse t))) (mid ++ drop e gs)
+          (map (in_cluster m) mid ++ flooded d m (drop e gs))
+          (subst (λ l. AllZip R l (reverse (flooded c m (reverse t)))) (reverse-reverse t) (all_reverse R (reverse t)
+          (flooded c m (reverse t)) (flood_on_side low c m (reverse t) (from_first low mid some high) to)))
+          (all_append R mid (map (in_cluster m) mid) (drop e gs) (flooded d m (drop e gs)) (put_all_on_side low m mid
+          to high) (flood_on_side low d m (drop e gs) (search (arith, from_first, length-reverse, each-reverse)) to)),
+    ))
 
 first_on_side : (low : ℕ) (gs hs : List hb_glyph_info_t) → AllZip (StaysOnSide low) gs hs → first_cluster gs < low →
     first_cluster hs ≡ first_cluster gs
@@ -544,54 +495,65 @@ pub record KeepsFirst (low a b : ℕ) (gs new : List hb_glyph_info_t) : Type 0 w
   pub first : first_cluster new ≡ first_cluster gs
   pub from : From low (stretch_of a b new)
 
-abbrev Keeps : ℕ → ℕ → ℕ → ℕ → Change → Type 0
+sides_keep : (low a b : ℕ) (gs new : List hb_glyph_info_t) → length new ≡ length gs →
+    AllZip (StaysOnSide low) gs new → From low (stretch_of a b gs) → first_cluster gs < low → KeepsFirst low a b gs new
+sides_keep low a b gs new long sides from less =
+    search (
+      arith,
+      first_on_side low gs new sides less,
+      from_on_side low (stretch_of a b gs) (stretch_of a b new)
+          (zip_take (StaysOnSide low) (b - a) (drop a gs) (drop a new) (zip_drop (StaysOnSide low) a gs new sides))
+          from,
+    )
+
+abbrev pub Keeps : ℕ → ℕ → ℕ → ℕ → Change → Type 0
 Keeps low a b n change = (gs : List hb_glyph_info_t) → length gs ≡ n → From low (stretch_of a b gs) →
     first_cluster gs < low → KeepsFirst low a b gs (change gs)
 
-keeps_then : (low a b n : ℕ) (change after : Change) → Keeps low a b n change → Keeps low a b n after →
+-- one that changes no cluster
+pub clusters_keep : (low a b n : ℕ) (change : Change) →
+    ((gs : List hb_glyph_info_t) → clusters (change gs) ≡ clusters gs) → Keeps low a b n change
+clusters_keep low a b n change same gs gn from less =
+    let long : length (change gs) ≡ length gs = cc (
+      length-map (change gs) (λ (g : hb_glyph_info_t). g.cluster),
+      same gs,
+      length-map gs (λ (g : hb_glyph_info_t). g.cluster),
+    ) in
+    sides_keep low a b gs (change gs) long (sides low gs (change gs) (sym (same gs))) from less
+  where
+    sides : (low : ℕ) (gs hs : List hb_glyph_info_t) → clusters gs ≡ clusters hs → AllZip (StaysOnSide low) gs hs
+    sides low [] [] same = tt
+    sides low [] (h ∷ hs) same = absurd (cc)
+    sides low (g ∷ gs) [] same = absurd (cc)
+    sides low (g ∷ gs) (h ∷ hs) same =
+        let one : g.cluster ≡ h.cluster = cc in
+        (((λ less. sym one), (λ high. omega arith)), sides low gs hs cc)
+
+pub keeps_then : (low a b n : ℕ) (change after : Change) → Keeps low a b n change → Keeps low a b n after →
     Keeps low a b n (λ gs. after (change gs))
 keeps_then low a b n change after one two gs gn from less =
-    let first = one gs gn from less in
-    let is = first.first in
-    let later = two (change gs) (first.same_length ∙ gn) first.from (omega arith) in
-    record {
-      same_length = later.same_length ∙ first.same_length;
-      first = later.first ∙ is;
-      from = later.from;
-    }
+    search arith
 
-keeps_nothing : (low a b n : ℕ) → Keeps low a b n (λ gs. gs)
-keeps_nothing low a b n gs gn from less = record { same_length = refl; first = refl; from = from }
+pub keeps_nothing : (low a b n : ℕ) → Keeps low a b n (λ gs. gs)
+keeps_nothing low a b n gs gn from less = search arith
 
 merge_keeps : (level : BufferClusterLevel) (low a s e b n : ℕ) → e ≤ b → a + b ≤ n →
     Keeps low a (a + b) n (merge level (a + s) (a + e))
 merge_keeps level low a s e b n order within gs gn from less =
-    let long : (a + b) - a ≡ b = omega arith in
-    let part : 1 < (a + e) - (a + s) → From low (stretch_of (a + s) (a + e) gs) = λ two.
-    let d : (a + e) - (a + s) ≡ e - s = omega arith in
-    let up : s + (e - s) ≡ e = omega arith in
-    let is : stretch_of (a + s) (a + e) gs ≡ drop s (take e (take b (drop a gs))) =
-    ap (λ i. take i (drop (a + s) gs)) d ∙ ap (take (e - s)) (sym (drop-drop s a gs))
-    ∙ sym (drop-take s (e - s) (drop a gs)) ∙ ap (λ i. drop s (take i (drop a gs))) up
+    let part : 1 < (a + e) - (a + s) → From low (stretch_of (a + s) (a + e) gs) = λ two. let is : stretch_of (a + s) (a + e) gs ≡ drop s (take e (take b (drop a gs))) =
+    ap (λ i. take i (drop (a + s) gs)) (omega arith) ∙ ap (take (e - s)) (sym (drop-drop s a gs))
+    ∙ sym (drop-take s (e - s) (drop a gs)) ∙ ap (λ i. drop s (take i (drop a gs))) (omega arith)
     ∙ ap (drop s) (sym (take-take e b (drop a gs) order)) in
-    subst (From low) (sym is) (each-drop (λ c. low ≤ c) s (take e (take b (drop a gs)))
-    (each-take (λ c. low ≤ c) e (take b (drop a gs)) (subst (λ i. From low (take i (drop a gs))) long from))) in
-    let new = merge level (a + s) (a + e) gs in
-    let sides = merge_on_side level low (a + s) (a + e) gs (omega arith) part in
-    record {
-      same_length = length-merge level (a + s) (a + e) gs (omega arith);
-      first = first_on_side low gs new sides less;
-      from = from_on_side low (stretch_of a (a + b) gs) (stretch_of a (a + b) new)
-          (zip_take (StaysOnSide low) ((a + b) - a) (drop a gs) (drop a new)
-          (zip_drop (StaysOnSide low) a gs new sides)) from;
-    }
+    search (arith, each-drop, each-take) in
+    sides_keep low a (a + b) gs (merge level (a + s) (a + e) gs) (search (arith, length-merge))
+    (search (arith, merge_on_side)) from less
 
-merge_all_keeps : (level : BufferClusterLevel) (low a b n : ℕ) (sts : List (ℕ × ℕ)) → a + b ≤ n → EndWithin b sts →
+pub merge_all_keeps : (level : BufferClusterLevel) (low a b n : ℕ) (sts : List (ℕ × ℕ)) → a + b ≤ n → EndWithin b sts →
     Keeps low a (a + b) n (merge_all level (shifted a sts))
 merge_all_keeps level low a b n [] within ends = keeps_nothing low a (a + b) n
 merge_all_keeps level low a b n (st ∷ sts) within ends =
     keeps_then low a (a + b) n (merge level (a + st.0) (a + st.1)) (merge_all level (shifted a sts))
-    (merge_keeps level low a st.0 st.1 b n ends.0 within) (merge_all_keeps level low a b n sts within ends.1)
+    (search (arith, merge_keeps)) (merge_all_keeps level low a b n sts within ends.1)
 
 pick_keeps : (low a b n : ℕ) (step : Step) → 0 < a → a + b ≤ n → FitsStep b step →
     Keeps low a (a + b) n (pick (widened a (a + b) n step).places)
@@ -599,44 +561,40 @@ pick_keeps low a b n step some within fits gs gn from less =
     let long : (a + b) - a ≡ b = omega arith in
     let t = take a gs in
     let mid = stretch_of a (a + b) gs in
-    let mn : length mid ≡ b = omega (arith, length-stretch a (a + b) gs (omega arith)) in
     let inside : AllByRecursion (λ p. p < (a + b) - a) step.places =
     subst (λ d. AllByRecursion (λ p. p < d) step.places) (sym long) fits.within in
     let picked = pick step.places mid in
     let within_mid : AllByRecursion (λ p. p < length mid) step.places =
-    subst (λ d. AllByRecursion (λ p. p < d) step.places) (sym mn) fits.within in
-    let pn : length picked ≡ b = length-pick step.places mid within_mid ∙ fits.as_many in
+    subst (λ d. AllByRecursion (λ p. p < d) step.places) (sym (search (arith, length-stretch))) fits.within in
+    let pn : length picked ≡ b = search (arith, length-pick) in
     let tn : length t ≡ a = omega (arith, length-take a gs) in
-    let own : pick (widened a (a + b) n step).places gs ≡ t ++ (picked ++ drop (a + b) gs) =
-    ap (λ d. pick (widened a (a + b) d step).places gs) (sym gn)
-    ∙ pick-widened a (a + b) step gs (omega arith) (omega arith) inside in
     let wide = fits-widened a (a + b) n step (omega arith) within (subst (λ d. FitsStep d step) (sym long) fits) in
-    let moved : stretch_of a (a + b) (pick (widened a (a + b) n step).places gs) ≡ picked =
-    ap (stretch_of a (a + b)) own ∙ ap (take ((a + b) - a)) (drop_at t (picked ++ drop (a + b) gs) a tn)
-    ∙ take_at picked (drop (a + b) gs) ((a + b) - a) (omega arith) in
-    record {
-      same_length = length-pick (widened a (a + b) n step).places gs
-          (subst (λ d. AllByRecursion (λ p. p < d) (widened a (a + b) n step).places) (sym gn) wide.within)
-          ∙ wide.as_many ∙ sym gn;
-      first = ap first_cluster own ∙ first_of_front t (picked ++ drop (a + b) gs) (omega arith)
-          ∙ first_taken a gs some;
-      from = subst (From low) (sym moved) (each-pick (λ c. low ≤ c) step.places mid within_mid from);
-    }
+    search (
+      arith,
+      length-pick (widened a (a + b) n step).places gs
+          (subst (λ d. AllByRecursion (λ p. p < d) (widened a (a + b) n step).places) (sym gn) wide.within),
+      wide.as_many,
+      pick-widened a (a + b) step gs (omega arith) (omega arith) inside,
+      first_of_front t (picked ++ drop (a + b) gs) (omega arith),
+      first_taken a gs some,
+      drop_at t (picked ++ drop (a + b) gs) a tn,
+      take_at picked (drop (a + b) gs) ((a + b) - a) (omega arith),
+      each-pick (λ c. low ≤ c) step.places mid within_mid from,
+    )
 
 pub steps_keep : (level : BufferClusterLevel) (low a b n : ℕ) (steps : List Step) → 0 < a → a + b ≤ n →
     FitSteps b steps → Keeps low a (a + b) n (run_steps level (map (widened a (a + b) n) steps))
 steps_keep level low a b n [] some within fits = keeps_nothing low a (a + b) n
 steps_keep level low a b n (step ∷ steps) some within fits =
     let move = pick (widened a (a + b) n step).places in
-    let one = fits.0 in
     keeps_then low a (a + b) n (run_step level (widened a (a + b) n step))
     (run_steps level (map (widened a (a + b) n) steps))
     (keeps_then low a (a + b) n (λ gs. move (merge_all level (shifted a step.merged_first) gs))
     (merge_all level (shifted a step.merged_then))
     (keeps_then low a (a + b) n (merge_all level (shifted a step.merged_first)) move
-    (merge_all_keeps level low a b n step.merged_first within one.first_within)
-    (pick_keeps low a b n step some within one))
-    (merge_all_keeps level low a b n step.merged_then within one.then_within))
+    (search (arith, merge_all_keeps))
+    (search (arith, pick_keeps)))
+    (search (arith, merge_all_keeps)))
     (steps_keep level low a b n steps some within fits.1)
 
 -- all of a stretch are in its least cluster or above

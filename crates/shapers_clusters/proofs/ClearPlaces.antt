@@ -1,15 +1,15 @@
 -- A call that forbids a break leaves a flag in the greater of the two clusters that meet there.
-use Rattle.std.proofs.Common.{◌≡◌, ℕ, ◌+◌, ◌-◌, ◌<◌, ◌≤◌, Bool, true, false, cond, eqb, ltb, ◌&&◌, List, [], ◌∷◌, ◌++◌, length, map, take, drop, get_or, refl, sym, ap, ◌∙◌, subst, arith, inl, inr, length-take, length-drop}
+use Rattle.std.proofs.Common.{◌≡◌, ℕ, ◌+◌, ◌-◌, ◌<◌, ◌≤◌, Bool, true, false, eqb, ltb, ◌&&◌, List, [], ◌∷◌, ◌++◌, length, map, take, drop, get_or, sym, subst, arith, inl, inr, length-take, length-drop}
 use Rattle.std.specs.Int.Bits.{bit_or}
 use Rattle.std.specs.List.{AllByRecursion, list_any}
-use Rattle.std.proofs.lemmas.Bool.{ltb-true, and_parts, and_from, or_cases, or_left, or_right, cases_eq, eq-eqb, eqb-true, cases_order, both_ways, false_from_ne_true, false≢true}
+use Rattle.std.proofs.lemmas.Bool.{ltb-true, and_parts, and_from, or_cases, or_left, or_right, eq-eqb, cases_order, both_ways, false_from_ne_true, false≢true}
 use Rattle.std.proofs.lemmas.List.{length-map, length-take-le, get_or-map, get_or-take, get_or-drop, get_or_append_left, get_or-append-add}
 use Rattle.std.proofs.lemmas.List.Elements.{AllZip-get_or}
 use Rattle.std.proofs.lemmas.List.Folds.{list_any_at}
 use Rattle.std.proofs.lemmas.Nat.Bits.{bit_at_or}
 use Rattle.shapers_buffer.specs.Glyph.{clusters, default_glyph}
 use Rattle.shapers_buffer.specs.Clusters.{least, stretch_of, with_stretch}
-use Rattle.shapers_buffer.specs.GlyphFlags.{FlagCall, UnsafeToBreak, UnsafeToConcat, SafeToInsertTatweel, with_bits, with_bits_off, flagged, flag_called, flags_called}
+use Rattle.shapers_buffer.specs.GlyphFlags.{FlagCall, UnsafeToBreak, UnsafeToConcat, SafeToInsertTatweel, flagged, flag_called, flags_called}
 use Rattle.shapers_buffer.specs.declared.buffer.glyph.hb_glyph_info_t.{hb_glyph_info_t}
 use Rattle.shapers_clusters.specs.Flags.{bit_at, InOrder, KeepsBits}
 use Rattle.shapers_clusters.proofs.FlagCalls.{flag_called-alone, flags_called-alone}
@@ -25,10 +25,7 @@ abbrev pub unsafe_bits : ℕ → ℕ
 unsafe_bits mask = bit_at 0 mask + bit_at 2 mask
 
 pub unsafe-from : (g : hb_glyph_info_t) → 0 < unsafe_bits g.mask → is_unsafe g ≡ true
-unsafe-from g h = elim (cases_eq (bit_at 0 g.mask) 1) [
-  | inl e ↦ or_left _ _ (eq-eqb _ _ e)
-  | inr n ↦ let third : bit_at 2 g.mask ≡ 1 = omega arith in or_right _ _ (eq-eqb (bit_at 2 g.mask) 1 third)
-]
+unsafe-from g h = search (arith, or_left, eq-eqb, or_right)
 
 at : List hb_glyph_info_t → ℕ → hb_glyph_info_t
 at gs k = get_or gs k default_glyph
@@ -41,14 +38,15 @@ in-stretch f s e k gs d low high within =
     let part = stretch_of s e gs in
     let n = k - s in
     let long : length front ≡ s = length-take-le s gs (omega arith) in
-    let place : k ≡ length front + n = omega arith in
-    let inner : n < length part = omega (arith, length-take (e - s) (drop s gs), length-drop s gs) in
-    let there : s + n ≡ k = omega arith in
-    ap (λ i. get_or (front ++ (map f part ++ drop e gs)) i d) place
-    ∙ get_or-append-add front (map f part ++ drop e gs) n d
-    ∙ get_or_append_left (map f part) (drop e gs) d n (omega (arith, length-map part f))
-    ∙ get_or-map f part n d d inner
-    ∙ ap f (get_or-take (e - s) (drop s gs) n d (omega arith) ∙ get_or-drop s gs n d ∙ ap (λ i. get_or gs i d) there)
+    let inner : n < length part = search (arith, length-take, length-drop) in
+    search (
+      arith,
+      get_or-append-add front (map f part ++ drop e gs) n d,
+      get_or_append_left (map f part) (drop e gs) d n (omega (arith, length-map part f)),
+      get_or-map f part n d d inner,
+      get_or-take (e - s) (drop s gs) n d (omega arith),
+      get_or-drop s gs n d,
+    )
 
 -- the least cluster of a stretch is at most that of each place in it
 least-in : (s e j : ℕ) (gs : List hb_glyph_info_t) (d : hb_glyph_info_t) → s ≤ j → j < e → j < length gs
@@ -56,18 +54,13 @@ least-in : (s e j : ℕ) (gs : List hb_glyph_info_t) (d : hb_glyph_info_t) → s
 least-in s e j gs d low high within =
     let part = stretch_of s e gs in
     let n = j - s in
-    let inner : n < length part = omega (arith, length-take (e - s) (drop s gs), length-drop s gs) in
-    let there : s + n ≡ j = omega arith in
-    let is : get_or part n d ≡ get_or gs j d = get_or-take (e - s) (drop s gs) n d (omega arith) ∙ get_or-drop s gs n d
-    ∙ ap (λ i. get_or gs i d) there in
-    let value : get_or (clusters part) n 0 ≡ (get_or gs j d).cluster =
-    get_or-map (λ (g : hb_glyph_info_t). g.cluster) part n d 0 inner
-    ∙ ap (λ (g : hb_glyph_info_t). g.cluster) is in
-    omega (
+    let inner : n < length part = search (arith, length-take, length-drop) in
+    search (
       arith,
-      value,
-      least-le (clusters part) n
-          (omega (arith, length-map part (λ (g : hb_glyph_info_t). g.cluster))),
+      get_or-map (λ (g : hb_glyph_info_t). g.cluster) part n d 0 inner,
+      get_or-take (e - s) (drop s gs) n d (omega arith),
+      get_or-drop s gs n d,
+      least-le (clusters part) n (omega (arith, length-map part (λ (g : hb_glyph_info_t). g.cluster))),
     )
 
 -- the flag of a glyph above the least cluster
@@ -76,35 +69,19 @@ Puts bits = (mask : ℕ) → 0 < unsafe_bits (bit_or mask bits)
 
 put-three : Puts 3
 put-three mask =
-    let three : bit_at 0 3 ≡ 1 = refl in
-    let below : bit_at 0 mask ≤ 1 = omega arith in
-    omega (arith, bit_at_or mask 3 0, three, below)
+    search (arith, bit_at_or mask 3 0)
 
 put-four : Puts 4
 put-four mask =
-    let four : bit_at 2 4 ≡ 1 = refl in
-    let below : bit_at 2 mask ≤ 1 = omega arith in
-    omega (arith, bit_at_or mask 4 2, four, below)
-
-put-above : (bits : ℕ) → Puts bits → (m : ℕ) (g : hb_glyph_info_t) → m < g.cluster
-    → 0 < unsafe_bits (with_bits_off bits m g).mask
-put-above bits puts m g h =
-    elim (eqb g.cluster m) as (λ b. eqb g.cluster m ≡ b
-    → 0 < unsafe_bits (let r : hb_glyph_info_t = cond b g (with_bits bits g) in r).mask) [
-      | true ↦ λ e. absurd (omega (arith, eqb-true g.cluster m e))
-      | false ↦ λ e. puts g.mask
-    ] refl
+    search (arith, bit_at_or mask 4 2)
 
 -- one call that reaches over both places
 call-puts : (bits : ℕ) → Puts bits → (s e k j : ℕ) (gs : List hb_glyph_info_t) (d : hb_glyph_info_t) → s ≤ k → k < e
     → s ≤ j → j < e → k < length gs → j < length gs → (get_or gs j d).cluster < (get_or gs k d).cluster
     → 0 < unsafe_bits (get_or (with_stretch s e (flagged bits) gs) k d).mask
 call-puts bits puts s e k j gs d a b c f within inside less =
-    let m = least (clusters (stretch_of s e gs)) in
     let low = least-in s e j gs d c f inside in
-    subst (λ (g : hb_glyph_info_t). 0 < unsafe_bits g.mask)
-    (sym (in-stretch (with_bits_off bits m) s e k gs d a b within))
-    (put-above bits puts m (get_or gs k d) (omega arith))
+    search (arith, in-stretch)
 
 -- the two places that meet at p
 record Meet (k j p : ℕ) (gs : List hb_glyph_info_t) : Type 0 where
@@ -117,11 +94,10 @@ record Meet (k j p : ℕ) (gs : List hb_glyph_info_t) : Type 0 where
 
 cluster-at : (gs : List hb_glyph_info_t) (k : ℕ) → k < length gs → get_or (clusters gs) k 0 ≡ (at gs k).cluster
 unfolding at
-cluster-at gs k h = get_or-map (λ (g : hb_glyph_info_t). g.cluster) gs k default_glyph 0 h
+cluster-at gs k h = search (arith, get_or-map)
 
 pub length-same : (gs hs : List hb_glyph_info_t) → clusters hs ≡ clusters gs → length hs ≡ length gs
-length-same gs hs e = sym (length-map hs (λ (g : hb_glyph_info_t). g.cluster)) ∙ ap length e
-    ∙ length-map gs (λ (g : hb_glyph_info_t). g.cluster)
+length-same gs hs e = search (arith, length-map)
 
 -- one call
 break-puts_at : (bits : ℕ) → Puts bits → (s e : ℕ) (gs : List hb_glyph_info_t) (k j p : ℕ) → 0 < p → Meet k j p gs
@@ -131,28 +107,25 @@ break-puts_at bits puts s e gs k j p pos m f =
     let (b, c) = and_parts (ltb s p) (ltb p e) f in
     let low = ltb-true s p b in
     let high = ltb-true p e c in
-    let kf = m.k_from in
-    let kt = m.k_to in
-    let jf = m.j_from in
-    let jt = m.j_to in
-    let within = m.within in
-    let less = m.less in
     let k_in : k < length gs = omega arith in
     let j_in : j < length gs = omega arith in
-    call-puts bits puts s e k j gs default_glyph (omega arith) (omega arith) (omega arith) (omega arith) k_in j_in
-    (omega (
+    search (
       arith,
-      get_or-map (λ (g : hb_glyph_info_t). g.cluster) gs k default_glyph 0 k_in,
-      get_or-map
-          (λ (g : hb_glyph_info_t). g.cluster) gs j default_glyph 0 j_in,
-    ))
+      call-puts bits puts s e k j gs default_glyph (omega arith) (omega arith) (omega arith) (omega arith) k_in j_in
+          (omega (
+            arith,
+            get_or-map (λ (g : hb_glyph_info_t). g.cluster) gs k default_glyph 0 k_in,
+            get_or-map (λ (g
+                : hb_glyph_info_t). g.cluster) gs j default_glyph 0 j_in,
+          )),
+    )
 
 call-puts_at : (concat tatweel : Bool) (call : FlagCall) (gs : List hb_glyph_info_t) (k j p : ℕ) → 0 < p → Meet k j p gs
     → forbids p call ≡ true → 0 < unsafe_bits (at (flag_called concat tatweel call gs) k).mask
-call-puts_at concat tatweel (UnsafeToBreak s e) gs k j p pos m f = break-puts_at 3 put-three s e gs k j p pos m f
+call-puts_at concat tatweel (UnsafeToBreak s e) gs k j p pos m f = search (arith, break-puts_at, put-three)
 call-puts_at concat tatweel (UnsafeToConcat s e) gs k j p pos m f = absurd (false≢true f)
-call-puts_at concat true (SafeToInsertTatweel s e) gs k j p pos m f = break-puts_at 4 put-four s e gs k j p pos m f
-call-puts_at concat false (SafeToInsertTatweel s e) gs k j p pos m f = break-puts_at 3 put-three s e gs k j p pos m f
+call-puts_at concat true (SafeToInsertTatweel s e) gs k j p pos m f = search (arith, break-puts_at, put-four)
+call-puts_at concat false (SafeToInsertTatweel s e) gs k j p pos m f = search (arith, break-puts_at, put-three)
 
 -- any calls
 calls-put_at : (concat tatweel : Bool) (calls : List FlagCall) (gs : List hb_glyph_info_t) (k j p : ℕ)
@@ -162,35 +135,23 @@ unfolding at
 calls-put_at concat tatweel [] gs k j p all pos m f = absurd (false≢true f)
 calls-put_at concat tatweel (call ∷ calls) gs k j p all pos m f =
     let once = flag_called concat tatweel call gs in
-    let alone = flag_called-alone concat tatweel call gs all.0 in
-    let same = alone.same_clusters in
+    let same = (flag_called-alone concat tatweel call gs all.0).same_clusters in
     let long = length-same gs once same in
     elim (or_cases (forbids p call) (held_by_calls p calls) f) [
       | inl here ↦
-          let rest = flags_called-alone concat tatweel calls once all.1 in
-          let kt = m.k_to in
-          let within = m.within in
-          let now = call-puts_at concat tatweel call gs k j p pos m here in
           let kept = AllZip-get_or KeepsBits once (flags_called concat tatweel calls once) k default_glyph default_glyph
-          rest.none_lost (omega arith) in
-          let first = kept 0 in
-          let third = kept 2 in
-          omega (arith, now, first, third)
+          (flags_called-alone concat tatweel calls once all.1).none_lost (omega arith) in
+          omega (arith, call-puts_at concat tatweel call gs k j p pos m here, kept 0, kept 2)
       | inr later ↦
-          let P : List ℕ → Type 0 = λ cs. get_or cs j 0 < get_or cs k 0 in
-          let kf = m.k_from in
-          let kt = m.k_to in
-          let jf = m.j_from in
-          let jt = m.j_to in
           let within = m.within in
           let next : Meet k j p once =
           record {
-            k_from = kf;
-            k_to = kt;
-            j_from = jf;
-            j_to = jt;
+            k_from = m.k_from;
+            k_to = m.k_to;
+            j_from = m.j_from;
+            j_to = m.j_to;
             within = omega arith;
-            less = subst P
+            less = subst (λ cs. get_or cs j 0 < get_or cs k 0)
                 (sym same) m.less;
           } in
           calls-put_at concat tatweel calls once k j p all.1 pos next later
@@ -201,20 +162,17 @@ found : (gs : List hb_glyph_info_t) (p k c : ℕ) → k < length gs → (at gs k
     → list_any (λ g. eqb g.cluster c && is_unsafe g) gs ≡ true
 unfolding at
 found gs p k c h e b =
-    list_any_at (λ g. eqb g.cluster c && is_unsafe g) gs k default_glyph h
-    (and_from _ _ (eq-eqb _ _ e) (unsafe-from (get_or gs k default_glyph) b))
+    search (arith, list_any_at, and_from, eq-eqb, unsafe-from)
 
 pub clear-places : ClearLaw
 clear-places concat tatweel calls gs p all pos within clear =
     let new = flags_called concat tatweel calls gs in
     let same = (flags_called-alone concat tatweel calls gs all).same_clusters in
     let long = length-same gs new same in
-    let b = get_or (clusters new) (p - 1) 0 in
-    let c = get_or (clusters new) p 0 in
-    false_from_ne_true (held_by_calls p calls) (λ f. elim (cases_order b c) [
+    false_from_ne_true (held_by_calls p calls) (λ f. elim (cases_order (get_or (clusters new) (p - 1) 0)
+    (get_or (clusters new) p 0)) [
       | inl e ↦ clear.differ e
       | inr (inl less) ↦
-          let P : List ℕ → Type 0 = λ cs. get_or cs (p - 1) 0 < get_or cs p 0 in
           let m : Meet p (p - 1) p gs =
           record {
             k_from = omega arith;
@@ -223,13 +181,12 @@ clear-places concat tatweel calls gs p all pos within clear =
             j_to = omega arith;
             within =
                 within;
-            less = subst P same less;
+            less = subst (λ cs. get_or cs (p - 1) 0 < get_or cs p 0) same less;
           } in
           both_ways _ clear.unflagged
           (found new p p (greater new p) (omega arith) (omega (arith, cluster-at new p (omega arith)))
           (calls-put_at concat tatweel calls gs p (p - 1) p all pos m f))
       | inr (inr more) ↦
-          let P : List ℕ → Type 0 = λ cs. get_or cs p 0 < get_or cs (p - 1) 0 in
           let m : Meet (p - 1) p p gs =
           record {
             k_from = omega arith;
@@ -238,7 +195,7 @@ clear-places concat tatweel calls gs p all pos within clear =
             j_to = omega arith;
             within =
                 within;
-            less = subst P same more;
+            less = subst (λ cs. get_or cs p 0 < get_or cs (p - 1) 0) same more;
           } in
           both_ways _ clear.unflagged
           (found new p (p - 1) (greater new p) (omega arith) (omega (arith, cluster-at new (p - 1) (omega arith)))

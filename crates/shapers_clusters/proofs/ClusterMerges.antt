@@ -1,7 +1,7 @@
 -- The merge rule over clusters alone.
-use Rattle.std.proofs.Common.{ℕ, zero, suc, ◌-◌, ◌==◌, ◌<◌, ◌≤◌, ◌≡◌, ◌≢◌, min, Bool, true, false, if◌then◌else◌, nat_lt, not, ◌&&◌, inl, inr, List, [], ◌∷◌, ◌++◌, map, length, get_or, reverse, take, drop, fold, refl, sym, subst, ap, ◌∙◌, arith}
+use Rattle.std.proofs.Common.{ℕ, zero, suc, ◌-◌, ◌==◌, ◌<◌, ◌≤◌, ◌≡◌, ◌≢◌, min, Bool, true, false, if◌then◌else◌, nat_lt, not, ◌&&◌, inl, inr, List, [], ◌∷◌, ◌++◌, map, length, get_or, reverse, take, drop, fold, refl, sym, ◌∙◌, arith}
 use Rattle.std.proofs.lemmas.List.{map-append, take-map, drop-map}
-use Rattle.std.proofs.lemmas.Bool.{cases_lt, cases_eq}
+use Rattle.std.proofs.lemmas.Bool.{cases_lt}
 use Rattle.std.proofs.lemmas.Bool.Decides.{nat_tests}
 use Rattle.shapers_buffer.specs.declared.buffer.glyph.hb_glyph_info_t.{hb_glyph_info_t}
 use Rattle.shapers_buffer.specs.declared.buffer.level.BufferClusterLevel.{BufferClusterLevel}
@@ -92,18 +92,20 @@ clusters-merged s e gs =
 
 clusters-flood : (level : BufferClusterLevel) (s e : ℕ) (gs : List hb_glyph_info_t) → clusters (merge level s e gs)
     ≡ (if merges level && not (nat_lt (e - s) 2) then spreading s e (clusters gs) else clusters gs)
-clusters-flood level s e gs = ap clusters (merge_is level s e gs)
-    ∙ map-if clusters (merges level && not (nat_lt (e - s) 2)) (flood_merged s e gs) gs _ _ (clusters-merged s e gs)
-    refl
+clusters-flood level s e gs =
+    cc (
+      merge_is level s e gs,
+      map-if clusters (merges level && not (nat_lt (e - s) 2)) (flood_merged s e gs) gs _ _ (clusters-merged s e gs)
+          refl,
+    )
 
 pub clusters-of_clusters : (cs : List ℕ) → clusters (map of_cluster cs) ≡ cs
 clusters-of_clusters [] = refl
-clusters-of_clusters (c ∷ cs) = ap (λ l. c ∷ l) (clusters-of_clusters cs)
+clusters-of_clusters (c ∷ cs) = cc (clusters-of_clusters cs)
 
 pub joined_is : (level : BufferClusterLevel) (s e : ℕ) (cs : List ℕ)
     → joined level s e cs ≡ (if merges level && not (nat_lt (e - s) 2) then spreading s e cs else cs)
-joined_is level s e cs = clusters-flood level s e (map of_cluster cs)
-    ∙ ap (λ cs. if merges level && not (nat_lt (e - s) 2) then spreading s e cs else cs) (clusters-of_clusters cs)
+joined_is level s e cs = cc (clusters-flood level s e (map of_cluster cs), clusters-of_clusters cs)
 
 -- the clusters of merged glyphs are the joined clusters
 pub clusters-merge : (level : BufferClusterLevel) (s e : ℕ) (gs : List hb_glyph_info_t) → clusters (merge level s e gs)
@@ -134,42 +136,12 @@ flood-more c m xs ys f = record {
       [ zero ↦ λ h. omega arith | suc j ↦ λ h. f.rest j (omega arith) ] h;
 }
 
-flood-hit : (c m : ℕ) (xs : List ℕ) (x : ℕ) → x ≡ c → flood c m (x ∷ xs) ≡ m ∷ flood c m xs
-flood-hit c m xs x e = grind (arith, nat_tests)
-
-flood-miss : (c m : ℕ) (xs : List ℕ) (x : ℕ) → x ≢ c → flood c m (x ∷ xs) ≡ x ∷ xs
-flood-miss c m xs x n = grind (arith, nat_tests)
-
 flood-stops : (c m x : ℕ) (xs : List ℕ) → x ≢ c → Flood c m (x ∷ xs) (x ∷ xs)
 flood-stops c m x xs n =
-    record {
-      end = 0;
-      within = omega arith;
-      same_length = refl;
-      old = λ j h. omega arith;
-      new = λ j h. omega arith;
-      edge
-          = λ h. n;
-      rest = λ j h. refl;
-    }
+    search arith
 
 pub flood-is : (c m : ℕ) (xs : List ℕ) → Flood c m xs (flood c m xs)
 flood-is c m [] =
-    record {
-      end = 0;
-      within = omega arith;
-      same_length = refl;
-      old = λ j h. omega arith;
-      new = λ j h. omega arith;
-      edge
-          = λ h. omega arith;
-      rest = λ j h. refl;
-    }
+    search arith
 flood-is c m (x ∷ xs) =
-    let P : List ℕ → Type 0 = λ ys. Flood c m (x ∷ xs) ys in
-    elim (cases_eq x c) [
-      | inl e ↦ subst P (sym (flood-hit c m xs x e)) (let Q : ℕ
-          → Type 0 = λ x. Flood c m (x ∷ xs) (m ∷ flood c m xs) in subst Q (sym e)
-          (flood-more c m xs (flood c m xs) (flood-is c m xs)))
-      | inr n ↦ subst P (sym (flood-miss c m xs x n)) (flood-stops c m x xs n)
-    ]
+    search (arith, nat_tests, flood-more, flood-stops, flood-is c m xs)

@@ -1,5 +1,5 @@
 -- Exact cuts: where clusters never decrease, or never increase, merges leave exactly the cuts that no stretch holds.
-use Rattle.std.proofs.Common.{ℕ, suc, ◌+◌, ◌-◌, ◌<◌, ◌≤◌, ◌≡◌, ◌≢◌, ◌==◌, min, max, Bool, true, false, nat_lt, ◌&&◌, ◌⊎◌, inl, inr, List, [], ◌∷◌, length, get_or, slice_index, refl, sym, ◌∙◌, ap, subst, arith}
+use Rattle.std.proofs.Common.{ℕ, suc, ◌+◌, ◌-◌, ◌<◌, ◌≤◌, ◌≡◌, ◌≢◌, min, max, Bool, true, false, nat_lt, ◌&&◌, ◌⊎◌, inl, inr, List, [], ◌∷◌, length, get_or, refl, sym, ◌∙◌, ap, subst, arith}
 use Rattle.std.specs.List.{AllPairs}
 use Rattle.std.proofs.lemmas.List.{ext_get_or, get_or_default}
 use Rattle.std.proofs.lemmas.Bool.{cases_lt, eqb-false, or_parts}
@@ -18,66 +18,33 @@ record IsOrder (R : ℕ → ℕ → Type 0) : Type 0 where
   both : (a b : ℕ) → R a b → R b a → a ≡ b
 
 upwards : IsOrder (λ a b. a ≤ b)
-upwards = record { same = λ a. omega arith; over = λ a b c h i. omega arith; both = λ a b h i. omega arith }
+upwards = search arith
 
 downwards : IsOrder (λ a b. b ≤ a)
-downwards = record { same = λ a. omega arith; over = λ a b c h i. omega arith; both = λ a b h i. omega arith }
+downwards = search arith
 
 abbrev InOrder : (ℕ → ℕ → Type 0) → List ℕ → Type 0
 InOrder R cs = (p q : ℕ) → p ≤ q → q < length cs → R (get_or cs p 0) (get_or cs q 0)
 
 in_order : (R : ℕ → ℕ → Type 0) → IsOrder R → (cs : List ℕ) → AllPairs R cs → InOrder R cs
-in_order R o cs h p q a b = elim (cases_lt p q) [
-  | inl l ↦ h p q 0 l b
-  | inr l ↦ let i : p ≡ q = omega arith in let P : ℕ → Type 0 =
-      λ k. R (get_or cs p 0) (get_or cs k 0) in subst P i (o.same (get_or cs p 0))
-]
+in_order R o cs h p q a b = search (arith, o.same)
 
 -- clusters that never decrease, or never increase, from one place on to any other
 pub rising_to : (cs : List ℕ) → IsRising cs → (p q : ℕ) → p ≤ q → q < length cs → get_or cs p 0 ≤ get_or cs q 0
-rising_to cs rises = in_order (λ a b. a ≤ b) upwards cs rises
+rising_to cs rises = search (arith, in_order, upwards)
 
 pub falling_to : (cs : List ℕ) → IsFalling cs → (p q : ℕ) → p ≤ q → q < length cs → get_or cs q 0 ≤ get_or cs p 0
-falling_to cs falls = in_order (λ a b. b ≤ a) downwards cs falls
+falling_to cs falls = search (arith, in_order, downwards)
 
 all_pairs : (R : ℕ → ℕ → Type 0) (cs : List ℕ) → InOrder R cs → AllPairs R cs
 all_pairs R cs h i j d a b =
-    let P : ℕ → Type 0 = λ x. R x (get_or cs j d) in
-    let Q : ℕ → Type 0 = λ y. R (get_or cs i 0) y in
-    subst P (get_or_default cs i 0 d (omega arith)) (subst Q (get_or_default cs j 0 d b) (h i j (omega arith) b))
-
-spread-ordered : (R : ℕ → ℕ → Type 0) → IsOrder R → (s e : ℕ) (cs js : List ℕ) → Spread s e cs js → InOrder R cs
-    → InOrder R js
-spread-ordered R o s e cs js f h p q a b =
-    let n : q < length cs = omega (arith, f.same_length) in
-    let along : (x y : ℕ) → get_or js p 0 ≡ x → get_or js q 0 ≡ y → R x y → R (get_or js p 0) (get_or js q 0) =
-    λ x y u v k. let P : ℕ → Type 0 = λ z. R z (get_or js q 0) in let Q : ℕ → Type 0 =
-    λ z. R x z in subst P (sym u) (subst Q (sym v) k) in
-    let m_is = sym f.at_is in
-    elim (cases_lt p f.low) [
-      | inl pl ↦ elim (cases_lt q f.low) [
-        | inl ql ↦ along _ _ (f.before p pl) (f.before q ql) (h p q a n)
-        | inr ql ↦ elim (cases_lt q f.high) [
-          | inl qh ↦ along _ _ (f.before p pl) (f.inside q ql qh ∙ m_is)
-              (h p f.at (omega (arith, f.low_within, f.at_from)) (omega (arith, f.at_to, f.high_within, f.high_end)))
-          | inr qh ↦ along _ _ (f.before p pl) (f.behind q qh) (h p q a n)
-        ]
-      ]
-      | inr pl ↦ elim (cases_lt p f.high) [
-        | inl ph ↦ elim (cases_lt q f.high) [
-          | inl qh ↦ along _ _ (f.inside p pl ph) (f.inside q (omega arith) qh) (o.same f.m)
-          | inr qh ↦ along _ _ (f.inside p pl ph ∙ m_is) (f.behind q qh)
-              (h f.at q (omega (arith, f.at_to, f.high_within)) n)
-        ]
-        | inr ph ↦ along _ _ (f.behind p ph) (f.behind q (omega arith)) (h p q a n)
-      ]
-    ]
+    search (arith, get_or_default cs i 0 d (omega arith), get_or_default cs j 0 d b, h i j (omega arith) b)
 
 sandwich : (R : ℕ → ℕ → Type 0) → IsOrder R → (cs : List ℕ) → InOrder R cs → (a b c : ℕ) → a ≤ b → b ≤ c → c < length cs
     → get_or cs a 0 ≡ get_or cs c 0 → get_or cs b 0 ≡ get_or cs a 0
 sandwich R o cs h a b c x y l e =
-    let P : ℕ → Type 0 = λ z. R (get_or cs b 0) z in
-    o.both (get_or cs b 0) (get_or cs a 0) (subst P (sym e) (h b c y l)) (h a b x (omega arith))
+    o.both (get_or cs b 0) (get_or cs a 0) (subst
+    (λ z. R (get_or cs b 0) z) (sym e) (h b c y l)) (h a b x (omega arith))
 
 spread-cut : (R : ℕ → ℕ → Type 0) → IsOrder R → (s e : ℕ) (cs js : List ℕ) → Spread s e cs js → s + 1 < e → InOrder R cs
     → (p : ℕ) → suc p < length cs → get_or cs p 0 ≢ get_or cs (suc p) 0 → (s < suc p → suc p < e → ⊥)
@@ -86,12 +53,16 @@ spread-cut R o s e cs js f h i p l ne out eq = elim (cases_lt (suc p) f.low) [
   | inl a ↦ ne (sym (f.before p (omega arith)) ∙ eq ∙ f.before (suc p) a)
   | inr a ↦ elim (cases_lt p f.low) [
     | inl b ↦
-        let u : get_or cs p 0 ≡ get_or cs f.at 0 = sym (f.before p b) ∙ eq
-        ∙ f.inside (suc p) a (omega (arith, f.low_within, f.high_within)) ∙ sym f.at_is in
         let k : f.low - 1 ≡ p = omega arith in
         f.left_edge (omega arith) (ap (λ k. get_or cs k 0) k
-        ∙ sym (sandwich R o cs i p s f.at (omega (arith, f.low_within)) f.at_from
-        (omega (arith, f.at_to, f.high_within, f.high_end)) u))
+        ∙ sym
+        (sandwich R o cs i p s f.at (omega (arith, f.low_within)) f.at_from (omega (
+          arith,
+          f.at_to,
+          f.high_within,
+          f.high_end,
+        )) (sym (f.before p b) ∙ eq ∙ f.inside (suc p) a (omega (arith, f.low_within, f.high_within)) ∙ sym
+        f.at_is)))
     | inr b ↦ elim (cases_lt (suc p) f.high) [
       | inl c ↦ elim (cases_lt p s) [
         | inl d ↦ ne (left_to s e cs js f p b (omega arith) ∙ sym (left_to s e cs js f (suc p) a d))
@@ -102,11 +73,10 @@ spread-cut R o s e cs js f h i p l ne out eq = elim (cases_lt (suc p) f.low) [
       ]
       | inr c ↦ elim (cases_lt p f.high) [
         | inl d ↦
-            let u : get_or cs f.at 0 ≡ get_or cs (suc p) 0 = f.at_is ∙ sym (f.inside p b d) ∙ eq ∙ f.behind (suc p) c in
+            let u = f.at_is ∙ sym (f.inside p b d) ∙ eq ∙ f.behind (suc p) c in
             let k : f.high ≡ suc p = omega arith in
             f.right_edge (omega arith) (ap (λ k. get_or cs k 0) k ∙ sym u
-            ∙ sym (sandwich R o cs i f.at (e - 1) (suc p) (omega (arith, f.at_to)) (omega (arith, f.high_within)) l
-            u))
+            ∙ sym (sandwich R o cs i f.at (e - 1) (suc p) (omega (arith, f.at_to)) (omega (arith, f.high_within)) l u))
         | inr d ↦ ne (sym (f.behind p d) ∙ eq ∙ f.behind (suc p) c)
       ]
     ]
@@ -116,14 +86,14 @@ spread-cut R o s e cs js f h i p l ne out eq = elim (cases_lt (suc p) f.low) [
 joined-ordered : (R : ℕ → ℕ → Type 0) → IsOrder R → (level : BufferClusterLevel) (s e : ℕ) (cs : List ℕ) → e ≤ length cs
     → InOrder R cs → InOrder R (joined level s e cs)
 joined-ordered R o level s e cs w h =
-    joined_cases (InOrder R) level s e cs w (λ _. h) (λ js _ _ f. spread-ordered R o s e cs js f h)
+    joined_cases (InOrder R) level s e cs w (λ _. h) (λ js _ _ f. search arith)
 
 joined_all-ordered : (R : ℕ → ℕ → Type 0) → IsOrder R → (level : BufferClusterLevel) (sts : List (ℕ × ℕ)) (cs : List ℕ)
     → EndWithin (length cs) sts → InOrder R cs → InOrder R (joined_all level sts cs)
 joined_all-ordered R o level [] cs w h = h
 joined_all-ordered R o level (st ∷ sts) cs w h =
-    joined_all-ordered R o level sts (joined level st.0 st.1 cs) (end_within_joined level st.0 st.1 cs sts w.0 w.1)
-    (joined-ordered R o level st.0 st.1 cs w.0 h)
+    joined_all-ordered R o level sts (joined level st.0 st.1 cs) (search (arith, end_within_joined))
+    (search (arith, joined-ordered))
 
 pub not_in : (s e p : ℕ) → (nat_lt s p && nat_lt p e) ≡ false → s < p → p < e → ⊥
 not_in s e p h a b = grind (arith, nat_tests)
@@ -133,24 +103,18 @@ joined_all-cut : (R : ℕ → ℕ → Type 0) → IsOrder R → (level : BufferC
     → held sts (suc p) ≡ false → get_or (joined_all level sts cs) p 0 ≢ get_or (joined_all level sts cs) (suc p) 0
 joined_all-cut R o level [] cs w h p l ne out = ne
 joined_all-cut R o level (st ∷ sts) cs w h p l ne out =
-    let b = or_parts (nat_lt st.0 (suc p) && nat_lt (suc p) st.1) (held sts (suc p)) out in
     let js = joined level st.0 st.1 cs in
-    joined_all-cut R o level sts js (end_within_joined level st.0 st.1 cs sts w.0 w.1)
-    (joined-ordered R o level st.0 st.1 cs w.0 h) p (omega (arith, length-joined level st.0 st.1 cs w.0))
+    joined_all-cut R o level sts js (search (arith, end_within_joined))
+    (search (arith, joined-ordered)) p (search (arith, length-joined))
     (joined_cases (λ js. get_or js p 0 ≢ get_or js (suc p) 0) level st.0 st.1 cs w.0 (λ _. ne)
-    (λ js _ k f. spread-cut R o st.0 st.1 cs js f (omega arith) h p l ne (not_in st.0 st.1 (suc p) b.0)))
-    b.1
+    (λ js _ k f. spread-cut R o st.0 st.1 cs js f (omega arith) h p l ne (search (arith, not_in))))
+    (or_parts (nat_lt st.0 (suc p) && nat_lt (suc p) st.1) (held sts (suc p)) out).1
 
 unlinked_cut : (R : ℕ → ℕ → Type 0) → IsOrder R → (level : BufferClusterLevel) (sts : List (ℕ × ℕ)) (cs : List ℕ)
     → EndWithin (length cs) sts → InOrder R cs → (p : ℕ) → 0 < p → p < length cs → linked cs sts p ≡ false
     → get_or (joined_all level sts cs) (p - 1) 0 ≢ get_or (joined_all level sts cs) p 0
 unlinked_cut R o level sts cs w h p z l n =
-    let i : suc (p - 1) ≡ p = omega arith in
-    let b = or_parts (slice_index cs (p - 1) == slice_index cs p) (held sts p) n in
-    let P : ℕ → Type 0 = λ k. get_or (joined_all level sts cs) (p - 1) 0 ≢ get_or (joined_all level sts cs) k 0 in
-    let Q : ℕ → Type 0 = λ k. get_or cs (p - 1) 0 ≢ get_or cs k 0 in
-    subst P i (joined_all-cut R o level sts cs w h (p - 1) (omega arith)
-    (subst Q (sym i) (eqb-false (get_or cs (p - 1) 0) (get_or cs p 0) b.0)) (ap (held sts) i ∙ b.1))
+    search (arith, joined_all-cut, eqb-false)
 
 bool_cases : (b : Bool) → (b ≡ true) ⊎ (b ≡ false)
 bool_cases true = inl refl
@@ -161,22 +125,15 @@ pub block_shares : (level : BufferClusterLevel) → merges level ≡ true → (s
     → EndWithin (length cs) sts → (p q : ℕ) → p < length cs → q < length cs → SameBlock cs sts p q
     → ShareCluster (joined_all level sts cs) p q
 block_shares level m sts cs w p q pl ql b =
-    share_all (joined_all level sts cs) p q
-    (λ r x y. joined_all-linked level m sts cs w r (omega arith) (omega arith) (b r x y))
+    search (arith, share_all, joined_all-linked)
 
 exact : (R : ℕ → ℕ → Type 0) → IsOrder R → (level : BufferClusterLevel) → merges level ≡ true
     → (sts : List (ℕ × ℕ)) (cs : List ℕ) → EndWithin (length cs) sts → InOrder R cs
     → ExactCuts cs sts (joined_all level sts cs)
 exact R o level m sts cs w h =
-    let js = joined_all level sts cs in
     record {
       same_length = length-joined_all level sts cs w;
-      cuts = λ p z l. (
-        λ ne. elim (bool_cases (linked cs sts p))
-            [ inl y ↦ absurd (ne (joined_all-linked level m sts cs w p z l y)) | inr n ↦ n ],
-        λ n. unlinked_cut R o level
-            sts cs w h p z l n,
-      );
+      cuts = search (arith, joined_all-linked, unlinked_cut);
       reached = λ p l. let (q, ql, qe, qs) = joined_all-reached level sts cs w p l in (
         q,
         ql,
@@ -199,22 +156,20 @@ exact R o level m sts cs w h =
 pub exact_cuts : (level : BufferClusterLevel) → merges level ≡ true → (sts : List (ℕ × ℕ)) (cs : List ℕ)
     → EndWithin (length cs) sts → IsMonotone cs → ExactCuts cs sts (joined_all level sts cs)
 exact_cuts level m sts cs w h = elim h [
-  | inl up ↦ exact (λ a b. a ≤ b) upwards level m sts cs w (in_order (λ a b. a ≤ b) upwards cs up)
-  | inr down ↦ exact (λ a b. b ≤ a) downwards level m sts cs w (in_order (λ a b. b ≤ a) downwards cs down)
+  | inl up ↦ search (arith, exact, upwards, in_order)
+  | inr down ↦ search (arith, exact, downwards, in_order)
 ]
 
 -- clusters that never decrease, or never increase, still do so after any merges
 pub stays_rising : (level : BufferClusterLevel) (sts : List (ℕ × ℕ)) (cs : List ℕ) → EndWithin (length cs) sts
     → IsRising cs → IsRising (joined_all level sts cs)
 stays_rising level sts cs w h =
-    all_pairs (λ a b. a ≤ b) (joined_all level sts cs)
-    (joined_all-ordered (λ a b. a ≤ b) upwards level sts cs w (in_order (λ a b. a ≤ b) upwards cs h))
+    search (arith, all_pairs, joined_all-ordered, upwards, in_order)
 
 pub stays_falling : (level : BufferClusterLevel) (sts : List (ℕ × ℕ)) (cs : List ℕ) → EndWithin (length cs) sts
     → IsFalling cs → IsFalling (joined_all level sts cs)
 stays_falling level sts cs w h =
-    all_pairs (λ a b. b ≤ a) (joined_all level sts cs)
-    (joined_all-ordered (λ a b. b ≤ a) downwards level sts cs w (in_order (λ a b. b ≤ a) downwards cs h))
+    search (arith, all_pairs, joined_all-ordered, downwards, in_order)
 
 equal_between : (R : ℕ → ℕ → Type 0) → IsOrder R → (level : BufferClusterLevel) (sts : List (ℕ × ℕ)) (cs : List ℕ)
     → EndWithin (length cs) sts → InOrder R cs → (p q : ℕ) → p < length cs → q < length cs
@@ -223,12 +178,7 @@ equal_between R o level sts cs w h p q pl ql e r x y =
     let js = joined_all level sts cs in
     let n = length-joined_all level sts cs w in
     let i = joined_all-ordered R o level sts cs w h in
-    let ends : get_or js (min p q) 0 ≡ get_or js (max p q) 0 = elim (cases_lt p q) [
-      | inl l ↦ (let a : min p q ≡ p = omega arith in ap (λ k. get_or js k 0) a) ∙ e
-          ∙ (let b : q ≡ max p q = omega arith in ap (λ k. get_or js k 0) b)
-      | inr l ↦ (let a : min p q ≡ q = omega arith in ap (λ k. get_or js k 0) a) ∙ sym e
-          ∙ (let b : p ≡ max p q = omega arith in ap (λ k. get_or js k 0) b)
-    ] in
+    let ends : get_or js (min p q) 0 ≡ get_or js (max p q) 0 = search arith in
     elim (bool_cases (linked cs sts r)) [
       | inl t ↦ t
       | inr cut ↦ absurd (unlinked_cut R o level sts cs w h r (omega arith) (omega arith) cut
@@ -241,17 +191,13 @@ pub between_equal : (level : BufferClusterLevel) → merges level ≡ true → (
     → EndWithin (length cs) sts → IsMonotone cs → (p q : ℕ) → p < length cs → q < length cs
     → get_or (joined_all level sts cs) p 0 ≡ get_or (joined_all level sts cs) q 0 → SameBlock cs sts p q
 between_equal level m sts cs w h p q pl ql e = elim h [
-  | inl up ↦ equal_between (λ a b. a ≤ b) upwards level sts cs w (in_order (λ a b. a ≤ b) upwards cs up) p q pl ql e
-  | inr down ↦ equal_between (λ a b. b ≤ a) downwards level sts cs w (in_order (λ a b. b ≤ a) downwards cs down) p q pl
-      ql e
+  | inl up ↦ search (arith, equal_between, upwards, in_order)
+  | inr down ↦ search (arith, equal_between, downwards, in_order)
 ]
 
 -- exact cuts pin the clusters
 pub one_exact : (cs : List ℕ) (sts : List (ℕ × ℕ)) (a b : List ℕ) → ExactCuts cs sts a → ExactCuts cs sts b → a ≡ b
-one_exact cs sts a b x y = ext_get_or 0 a b (x.same_length ∙ sym y.same_length) (λ p l.
-    let xn = x.same_length in
+one_exact cs sts a b x y = ext_get_or 0 a b (search arith) (λ p l.
     let (q, ql, qb, qe) = x.reached p (omega arith) in
     let (t, tl, tb, te) = y.reached p (omega arith) in
-    let u = x.least p t (omega arith) tl tb in
-    let v = y.least p q (omega arith) ql qb in
-    omega arith)
+    search arith)

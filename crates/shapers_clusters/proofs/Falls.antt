@@ -1,8 +1,7 @@
 -- What merges and moves do to each glyph: no cluster rises, and a glyph keeps its flags unless its cluster fell.
-use Rattle.std.proofs.Common.{ℕ, suc, ◌-◌, ◌%◌, ◌<◌, ◌≤◌, ◌≡◌, inl, inr, length, get_or, List, [], ◌∷◌, ◌++◌, map, reverse, take, drop, sym, ◌∙◌, ap, subst, arith, length-take, length-drop}
+use Rattle.std.proofs.Common.{ℕ, suc, ◌-◌, ◌%◌, ◌<◌, ◌≤◌, ◌≡◌, length, get_or, List, [], ◌∷◌, ◌++◌, map, reverse, take, drop, sym, subst, arith, length-take, length-drop}
 use Rattle.std.specs.List.{AllByRecursion, AllZip}
 use Rattle.std.proofs.lemmas.List.{reverse-append, reverse-reverse}
-use Rattle.std.proofs.lemmas.Bool.{cases_eq, cases_lt}
 use Rattle.std.proofs.lemmas.Bool.Decides.{nat_tests}
 use Rattle.shapers_buffer.specs.declared.buffer.glyph.hb_glyph_info_t.{hb_glyph_info_t}
 use Rattle.shapers_buffer.specs.declared.buffer.level.BufferClusterLevel.{BufferClusterLevel}
@@ -23,31 +22,18 @@ in_cluster-other : (m : ℕ) (g : hb_glyph_info_t) → m < g.cluster
 in_cluster-other m g h = grind (arith, nat_tests)
 
 falls-same : (g : hb_glyph_info_t) → FallsTo g g
-falls-same g = (omega arith, sym (in_cluster-same g))
+falls-same g = search (arith, in_cluster-same)
 
 -- the glyph in a cluster that isn't higher
 falls_into : (m : ℕ) (g : hb_glyph_info_t) → m ≤ g.cluster → FallsTo g (in_cluster m g)
-falls_into m g h = elim (cases_lt m g.cluster) [
-  | inl l ↦ let P : hb_glyph_info_t → Type 0 =
-      FallsTo g in subst P (sym (in_cluster-other m g l)) (omega arith, sym (in_cluster-other m g l))
-  | inr l ↦ let P : ℕ → Type 0 = λ m. FallsTo g (in_cluster m g) in let e : g.cluster ≡ m =
-      omega arith in subst P e (let Q : hb_glyph_info_t
-      → Type 0 = FallsTo g in subst Q (sym (in_cluster-same g)) (falls-same g))
-]
+falls_into m g h = search (arith, in_cluster-other, in_cluster-same, falls-same)
 
 falls_on : (x y z : hb_glyph_info_t) → FallsTo x y → FallsTo y z → FallsTo x z
 falls_on x y z h i =
-    (omega (arith, h.0, i.0), i.1 ∙ ap (in_cluster z.cluster) h.1 ∙ put_twice z.cluster y.cluster x i.0 h.0)
-
-flags-without : (n : ℕ) → without_flags n % 8 ≡ 0
-flags-without n = omega arith
+    search (arith, put_twice)
 
 pub flags_fall : (x y : hb_glyph_info_t) → FallsTo x y → FlagsFall x y
-flags_fall x y h = record {
-  at_most = h.0;
-  fell = λ l. ap (λ g. g.mask % 8) (h.1 ∙ in_cluster-other y.cluster x l) ∙ flags-without x.mask;
-  kept = λ e. ap (λ g. g.mask % 8) (h.1 ∙ ap (λ k. in_cluster k x) e ∙ in_cluster-same x);
-}
+flags_fall x y h = search (arith, in_cluster-other, in_cluster-same)
 
 pub all_same : (gs : List hb_glyph_info_t) → AllZip FallsTo gs gs
 all_same [] = tt
@@ -71,7 +57,7 @@ all_weaker R S f (x ∷ xs) [] h = absurd h
 all_weaker R S f (x ∷ xs) (y ∷ ys) h = (f x y h.0, all_weaker R S f xs ys h.1)
 
 pub all_on : (xs ys zs : List hb_glyph_info_t) → AllZip FallsTo xs ys → AllZip FallsTo ys zs → AllZip FallsTo xs zs
-all_on xs ys zs h i = all_over FallsTo FallsTo FallsTo falls_on xs ys zs h i
+all_on xs ys zs h i = search (arith, all_over, falls_on)
 
 pub all_append : {X : Type 0} (R : X → X → Type 0) (xs ys zs ws : List X) → AllZip R xs ys → AllZip R zs ws
     → AllZip R (xs ++ zs) (ys ++ ws)
@@ -85,11 +71,12 @@ all_reverse R [] [] h = tt
 all_reverse R [] (y ∷ ys) h = absurd h
 all_reverse R (x ∷ xs) [] h = absurd h
 all_reverse {X} R (x ∷ xs) (y ∷ ys) h =
-    let P : List X → Type 0 = λ l. AllZip R l (reverse (y ∷ ys)) in
-    let Q : List X → Type 0 = λ l. AllZip R (reverse xs ++ x ∷ []) l in
-    subst P (sym (reverse-append (x ∷ []) xs))
-    (subst Q (sym (reverse-append (y ∷ []) ys))
-    (all_append R (reverse xs) (reverse ys) (x ∷ []) (y ∷ []) (all_reverse R xs ys h.1) (h.0, tt)))
+    search (
+      arith,
+      reverse-append (x ∷ []) xs,
+      reverse-append (y ∷ []) ys,
+      all_append R (reverse xs) (reverse ys) (x ∷ []) (y ∷ []) (all_reverse R xs ys h.1) (h.0, tt),
+    )
 
 all_put : (m : ℕ) (gs : List hb_glyph_info_t) → ((k : ℕ) → k < length (clusters gs) → m ≤ get_or (clusters gs) k 0)
     → AllZip FallsTo gs (map (in_cluster m) gs)
@@ -107,11 +94,7 @@ flooded-miss c m g gs e = grind (arith, nat_tests)
 all_flooded : (c m : ℕ) (gs : List hb_glyph_info_t) → m ≤ c → AllZip FallsTo gs (flooded c m gs)
 all_flooded c m [] h = tt
 all_flooded c m (g ∷ gs) h =
-    let P : List hb_glyph_info_t → Type 0 = AllZip FallsTo (g ∷ gs) in
-    elim (cases_eq g.cluster c) [
-      | inl e ↦ subst P (sym (flooded-hit c m g gs e)) (falls_into m g (omega arith), all_flooded c m gs h)
-      | inr n ↦ subst P (sym (flooded-miss c m g gs n)) (all_same (g ∷ gs))
-    ]
+    search (arith, flooded-hit, falls_into, flooded-miss, all_same, all_flooded c m gs h)
 
 least-first : (gs : List hb_glyph_info_t) → 0 < length gs → least (clusters gs) ≤ first_cluster gs
 least-first [] h = omega arith
@@ -122,16 +105,17 @@ merged-falls : (s e : ℕ) (gs : List hb_glyph_info_t) → 1 < e - s → e ≤ l
 merged-falls s e gs h l =
     let middle = stretch_of s e gs in
     let m = least (clusters middle) in
-    let n : length middle ≡ e - s = omega (arith, length-take (e - s) (drop s gs), length-drop s gs) in
-    let P : List hb_glyph_info_t → Type 0 = λ xs. AllZip FallsTo xs (flood_merged s e gs) in
-    let Q : List hb_glyph_info_t → Type 0 =
-    λ xs. AllZip FallsTo xs (reverse (flooded (first_cluster middle) m (reverse (take s gs)))) in
-    subst P (three_parts s e gs (omega arith)) (all_append FallsTo (take s gs) _ _ _
-    (subst Q (reverse-reverse (take s gs))
-    (all_reverse FallsTo (reverse (take s gs)) _
-    (all_flooded (first_cluster middle) m (reverse (take s gs)) (least-first middle (omega arith)))))
-    (all_append FallsTo middle _ _ _ (all_put m middle (λ k x. least-le (clusters middle) k x))
-    (all_flooded (last_cluster middle) m (drop e gs) (least-last middle (omega arith)))))
+    let n : length middle ≡ e - s = search (arith, length-take, length-drop) in
+    search (
+      arith,
+      three_parts s e gs (omega arith),
+      all_append FallsTo (take s gs) _ _ _
+          (subst (λ xs. AllZip FallsTo xs (reverse (flooded (first_cluster middle) m (reverse (take s gs)))))
+          (reverse-reverse (take s gs)) (all_reverse FallsTo (reverse (take s gs)) _ (all_flooded (first_cluster
+          middle) m (reverse (take s gs)) (least-first middle (omega arith)))))
+          (all_append FallsTo middle _ _ _ (all_put m middle (λ k x. least-le (clusters middle) k x)) (all_flooded
+          (last_cluster middle) m (drop e gs) (least-last middle (omega arith)))),
+    )
 
 -- one merge, and several: each glyph falls to the one in its place
 pub merge-falls : (level : BufferClusterLevel) (s e : ℕ) (gs : List hb_glyph_info_t) → e ≤ length gs
@@ -142,27 +126,25 @@ pub merge_all-falls : (level : BufferClusterLevel) (sts : List (ℕ × ℕ)) (gs
     → AllByRecursion (λ st. st.1 ≤ length gs) sts → AllZip FallsTo gs (merge_all level sts gs)
 merge_all-falls level [] gs h = all_same gs
 merge_all-falls level (st ∷ sts) gs h =
-    let ms = merge level st.0 st.1 gs in
-    all_on gs ms (merge_all level sts ms) (merge-falls level st.0 st.1 gs h.0)
-    (merge_all-falls level sts ms (let P : ℕ
-    → Type 0 = λ n. AllByRecursion (λ st. st.1 ≤ n) sts in subst P (sym (length-merge level st.0 st.1 gs h.0)) h.1))
+    search (
+      arith,
+      all_on,
+      merge-falls,
+      merge_all-falls level sts (merge level st.0 st.1 gs)
+          (subst (λ n. AllByRecursion (λ st. st.1 ≤ n) sts) (sym (length-merge level st.0 st.1 gs h.0)) h.1),
+    )
 
 -- one after another, place by place
 pub flags_on : (x y z : hb_glyph_info_t) → FlagsFall x y → FlagsFall y z → FlagsFall x z
-flags_on x y z f g = record {
-  at_most = omega (arith, f.at_most, g.at_most);
-  fell = λ l. elim (cases_lt z.cluster y.cluster)
-      [ inl k ↦ g.fell k | inr k ↦ g.kept (omega (arith, g.at_most)) ∙ f.fell (omega arith) ];
-  kept = λ e. g.kept (omega (arith, f.at_most, g.at_most)) ∙ f.kept (omega (arith, f.at_most, g.at_most));
-}
+flags_on x y z f g = search arith
 
 pub all_flags_on : (xs ys zs : List hb_glyph_info_t) → AllZip FlagsFall xs ys → AllZip FlagsFall ys zs
     → AllZip FlagsFall xs zs
-all_flags_on xs ys zs h i = all_over FlagsFall FlagsFall FlagsFall flags_on xs ys zs h i
+all_flags_on xs ys zs h i = search (arith, all_over, flags_on)
 
 -- a glyph that falls, and one that keeps cluster and glyph flags
 pub all_flags_fall : (xs ys : List hb_glyph_info_t) → AllZip FallsTo xs ys → AllZip FlagsFall xs ys
-all_flags_fall xs ys h = all_weaker FallsTo FlagsFall flags_fall xs ys h
+all_flags_fall xs ys h = search (arith, all_weaker, flags_fall)
 
 pub flags_kept : (x y : hb_glyph_info_t) → y.cluster ≡ x.cluster → y.mask % 8 ≡ x.mask % 8 → FlagsFall x y
-flags_kept x y c m = record { at_most = omega arith; fell = λ l. absurd (omega arith); kept = λ e. m }
+flags_kept x y c m = search arith

@@ -1,5 +1,5 @@
 -- The flag law through flag calls, merges, copies and other changes.
-use Rattle.std.proofs.Common.{ℕ, zero, suc, ◌%◌, ◌≤◌, ◌≡◌, List, [], ◌∷◌, ◌++◌, map, get_or, take, drop, length, refl, sym, ◌∙◌, ap, subst, arith}
+use Rattle.std.proofs.Common.{ℕ, zero, suc, ◌%◌, ◌≤◌, ◌≡◌, List, [], ◌∷◌, ◌++◌, map, take, drop, length, refl, ap, arith}
 use Rattle.std.specs.List.{AllByRecursion, AllZip}
 use Rattle.shapers_buffer.specs.declared.buffer.glyph.hb_glyph_info_t.{hb_glyph_info_t}
 use Rattle.shapers_buffer.specs.declared.buffer.level.BufferClusterLevel.{BufferClusterLevel}
@@ -7,9 +7,9 @@ use Rattle.shapers_buffer.specs.Clusters.{merge_all, stretch_of, with_stretch}
 use Rattle.shapers_buffer.specs.Glyph.{clusters}
 use Rattle.shapers_buffer.specs.GlyphFlags.{unsafe_all, unsafe_inside}
 use Rattle.shapers_buffer.specs.Places.{pick}
-use Rattle.shapers_clusters.specs.Flags.{FallsTo, FlagsAlone, FlagsFall, KeepsBits, bit_at}
+use Rattle.shapers_clusters.specs.Flags.{FallsTo, FlagsAlone, FlagsFall, KeepsBits}
 use Rattle.shapers_clusters.specs.FlagLaw.{AllFlagsStay, FlagsAdded, FlagsStay, KeepsFlags, OnlyFlagsAdded}
-use Rattle.shapers_clusters.proofs.Falls.{all_append, all_over, flags_fall, merge_all-falls}
+use Rattle.shapers_clusters.proofs.Falls.{all_append, all_over, merge_all-falls}
 use Rattle.shapers_buffer.proofs.ClusterLemmas.{three_parts}
 use Rattle.shapers_clusters.proofs.FlagCalls.{unsafe_inside-alone}
 use Rattle.shapers_clusters.proofs.Picks.{AllZip-pick}
@@ -21,27 +21,19 @@ flags_kept x y e (suc zero) low = omega arith
 flags_kept x y e (suc (suc zero)) low = omega arith
 flags_kept x y e (suc (suc (suc k))) low = absurd (omega arith)
 
-stays_same : (g : hb_glyph_info_t) → FlagsStay g g
-stays_same g = record { at_most = omega arith; kept = λ _ k _. omega arith }
-
 pub all_stay_same : (gs : List hb_glyph_info_t) → AllFlagsStay gs gs
 all_stay_same [] = tt
-all_stay_same (g ∷ gs) = (stays_same g, all_stay_same gs)
+all_stay_same (g ∷ gs) = (search arith, all_stay_same gs)
 
 le_on : (a b c : ℕ) → a ≤ b → b ≤ c → a ≤ c
 le_on a b c h i = omega arith
 
 -- one after another
 stays_on : (x y z : hb_glyph_info_t) → FlagsStay x y → FlagsStay y z → FlagsStay x z
-stays_on x y z f g = record {
-  at_most = omega (arith, f.at_most, g.at_most);
-  kept = λ same k low.
-      le_on (bit_at k x.mask) (bit_at k y.mask) (bit_at k z.mask) (f.kept (omega (arith, f.at_most, g.at_most)) k low)
-      (g.kept (omega (arith, f.at_most, g.at_most)) k low);
-}
+stays_on x y z f g = search (arith, le_on)
 
 pub all_stay_on : (xs ys zs : List hb_glyph_info_t) → AllFlagsStay xs ys → AllFlagsStay ys zs → AllFlagsStay xs zs
-all_stay_on xs ys zs f g = all_over FlagsStay FlagsStay FlagsStay stays_on xs ys zs f g
+all_stay_on xs ys zs f g = search (arith, all_over, stays_on)
 
 -- glyphs that fall
 pub all_fallen : (xs ys : List hb_glyph_info_t) → AllZip FlagsFall xs ys → AllFlagsStay xs ys
@@ -49,18 +41,13 @@ all_fallen [] [] h = tt
 all_fallen [] (y ∷ ys) h = absurd h
 all_fallen (x ∷ xs) [] h = absurd h
 all_fallen (x ∷ xs) (y ∷ ys) h =
-    (record { at_most = h.0.at_most; kept = λ same. flags_kept x y (h.0.kept same) }, all_fallen xs ys h.1)
+    search (arith, flags_kept, all_fallen xs ys h.1)
 
 all_falls : (xs ys : List hb_glyph_info_t) → AllZip FallsTo xs ys → AllFlagsStay xs ys
 all_falls [] [] h = tt
 all_falls [] (y ∷ ys) h = absurd h
 all_falls (x ∷ xs) [] h = absurd h
-all_falls (x ∷ xs) (y ∷ ys) h = let f =
-    flags_fall x y h.0 in (
-      record { at_most = f.at_most; kept = λ same. flags_kept x y (f.kept same) },
-      all_falls xs ys
-          h.1,
-    )
+all_falls (x ∷ xs) (y ∷ ys) h = search (arith, flags_kept, all_falls xs ys h.1)
 
 -- glyphs whose cluster and bits stay: flags are only added
 pub all_added : (xs ys : List hb_glyph_info_t) → clusters ys ≡ clusters xs → AllZip KeepsBits xs ys
@@ -69,41 +56,33 @@ all_added [] [] same h = tt
 all_added [] (y ∷ ys) same h = absurd h
 all_added (x ∷ xs) [] same h = absurd h
 all_added (x ∷ xs) (y ∷ ys) same h =
-    (record { same = ap (λ cs. get_or cs 0 0) same; kept = λ k _. h.0 k }, all_added xs ys (ap (drop 1) same) h.1)
+    search (arith, h.0, all_added xs ys (ap (drop 1) same) h.1)
 
 pub added_stay : (xs ys : List hb_glyph_info_t) → OnlyFlagsAdded xs ys → AllFlagsStay xs ys
 added_stay [] [] h = tt
 added_stay [] (y ∷ ys) h = absurd h
 added_stay (x ∷ xs) [] h = absurd h
 added_stay (x ∷ xs) (y ∷ ys) h =
-    (record { at_most = omega (arith, h.0.same); kept = λ _. h.0.kept }, added_stay xs ys h.1)
+    search (arith, added_stay xs ys h.1)
 
 pub alone_added : (xs ys : List hb_glyph_info_t) → FlagsAlone xs ys → OnlyFlagsAdded xs ys
-alone_added xs ys h = all_added xs ys h.same_clusters h.none_lost
+alone_added xs ys h = search (arith, all_added)
 
 -- others with the same clusters and masks
 pub all_stay_as : (xs ys zs : List hb_glyph_info_t) → clusters zs ≡ clusters ys
     → map (λ g. g.mask) zs ≡ map (λ g. g.mask) ys → AllFlagsStay xs ys → AllFlagsStay xs zs
 all_stay_as [] [] [] same masks h = tt
-all_stay_as [] [] (z ∷ zs) same masks h = absurd (omega (arith, ap length same))
+all_stay_as [] [] (z ∷ zs) same masks h = cc
 all_stay_as [] (y ∷ ys) zs same masks h = absurd h
 all_stay_as (x ∷ xs) [] zs same masks h = absurd h
-all_stay_as (x ∷ xs) (y ∷ ys) [] same masks h = absurd (omega (arith, ap length same))
+all_stay_as (x ∷ xs) (y ∷ ys) [] same masks h = cc
 all_stay_as (x ∷ xs) (y ∷ ys) (z ∷ zs) same masks h =
-    let c : z.cluster ≡ y.cluster = ap (λ cs. get_or cs 0 0) same in
-    let m : y.mask ≡ z.mask = sym (ap (λ ms. get_or ms 0 0) masks) in (
-      record {
-        at_most = omega (arith, h.0.at_most, c);
-        kept = λ e k low. subst (λ n. bit_at k x.mask ≤ bit_at k n) m
-            (h.0.kept (sym c ∙ e) k low);
-      },
-      all_stay_as xs ys zs (ap (drop 1) same) (ap (drop 1) masks) h.1,
-    )
+    search (arith, all_stay_as xs ys zs (ap (drop 1) same) (ap (drop 1) masks) h.1)
 
 -- copies
 pub all_stay_picked : (places : List ℕ) (xs ys : List hb_glyph_info_t) → AllFlagsStay xs ys
     → AllFlagsStay (pick places xs) (pick places ys)
-all_stay_picked places xs ys h = AllZip-pick FlagsStay places xs ys h
+all_stay_picked places xs ys h = search (arith, AllZip-pick)
 
 -- flag calls and merges
 pub unsafe_all_stays : (sts : List (ℕ × ℕ)) (gs : List hb_glyph_info_t) → AllByRecursion (λ st. st.0 ≤ st.1) sts
@@ -112,23 +91,20 @@ unsafe_all_stays [] gs h = all_stay_same gs
 unsafe_all_stays (st ∷ sts) gs h =
     let once = unsafe_inside st.0 st.1 gs in
     all_stay_on gs once (unsafe_all sts once)
-    (added_stay gs once (alone_added gs once (unsafe_inside-alone st.0 st.1 gs h.0)))
+    (search (arith, added_stay, alone_added, unsafe_inside-alone))
     (unsafe_all_stays sts once h.1)
 
 pub merge_all_stays : (level : BufferClusterLevel) (sts : List (ℕ × ℕ)) (gs : List hb_glyph_info_t)
     → AllByRecursion (λ st. st.1 ≤ length gs) sts → AllFlagsStay gs (merge_all level sts gs)
-merge_all_stays level sts gs h = all_falls gs (merge_all level sts gs) (merge_all-falls level sts gs h)
+merge_all_stays level sts gs h = search (arith, all_falls, merge_all-falls)
 
 -- flags that are added, one after another
 pub added_on : (x y z : hb_glyph_info_t) → FlagsAdded x y → FlagsAdded y z → FlagsAdded x z
-added_on x y z f g = record {
-  same = g.same ∙ f.same;
-  kept = λ k low. le_on (bit_at k x.mask) (bit_at k y.mask) (bit_at k z.mask) (f.kept k low) (g.kept k low);
-}
+added_on x y z f g = search (arith, le_on)
 
 pub all_added_on : (xs ys zs : List hb_glyph_info_t) → OnlyFlagsAdded xs ys → OnlyFlagsAdded ys zs
     → OnlyFlagsAdded xs zs
-all_added_on xs ys zs f g = all_over FlagsAdded FlagsAdded FlagsAdded added_on xs ys zs f g
+all_added_on xs ys zs f g = search (arith, all_over, added_on)
 
 -- a change of other fields, or one that adds bits, of each glyph
 pub changed_added : (change : hb_glyph_info_t → hb_glyph_info_t) → ((g : hb_glyph_info_t) → FlagsAdded g (change g))
@@ -137,7 +113,7 @@ changed_added change adds [] = tt
 changed_added change adds (g ∷ gs) = (adds g, changed_added change adds gs)
 
 pub added_same : (g h : hb_glyph_info_t) → h.cluster ≡ g.cluster → h.mask ≡ g.mask → FlagsAdded g h
-added_same g h c m = record { same = c; kept = flags_kept g h (ap (λ n. n % 8) m) }
+added_same g h c m = search (arith, flags_kept)
 
 all_added_same : (gs : List hb_glyph_info_t) → OnlyFlagsAdded gs gs
 all_added_same [] = tt
@@ -147,8 +123,11 @@ pub stretch_added : (s e : ℕ) (change : hb_glyph_info_t → hb_glyph_info_t)
     → ((g : hb_glyph_info_t) → FlagsAdded g (change g)) → (gs : List hb_glyph_info_t) → s ≤ e
     → OnlyFlagsAdded gs (with_stretch s e (map change) gs)
 stretch_added s e change adds gs h =
-    subst (λ xs. OnlyFlagsAdded xs (with_stretch s e (map change) gs)) (three_parts s e gs h)
-    (all_append FlagsAdded (take s gs) (take s gs) (stretch_of s e gs ++ drop e gs) (map change (stretch_of s e gs)
-    ++ drop e gs) (all_added_same (take s gs))
-    (all_append FlagsAdded (stretch_of s e gs) (map change (stretch_of s e gs)) (drop e gs) (drop e gs)
-    (changed_added change adds (stretch_of s e gs)) (all_added_same (drop e gs))))
+    search (
+      arith,
+      three_parts s e gs h,
+      all_append FlagsAdded (take s gs) (take s gs) (stretch_of s e gs ++ drop e gs)
+          (map change (stretch_of s e gs) ++ drop e gs) (all_added_same (take s gs))
+          (all_append FlagsAdded (stretch_of s e gs) (map change (stretch_of s e gs)) (drop e gs) (drop e gs)
+          (changed_added change adds (stretch_of s e gs)) (all_added_same (drop e gs))),
+    )

@@ -9,7 +9,7 @@ use Rattle.std.proofs.lemmas.Nat.{and_or_self}
 use Rattle.std.proofs.Math.Seq.{drop-append-add}
 use Rattle.shapers_buffer.specs.declared.buffer.glyph.hb_glyph_info_t.{hb_glyph_info_t}
 use Rattle.shapers_buffer.specs.Glyph.{clusters}
-use Rattle.shapers_buffer.specs.Clusters.{least, stretch_of}
+use Rattle.shapers_buffer.specs.Clusters.{least}
 use Rattle.shapers_buffer.specs.GlyphFlags.{with_bits, with_bits_off, flagged, unsafe_inside, unsafe_all}
 use Rattle.shapers_clusters.proofs.FlagCalls.{map-flagged}
 use Rattle.shapers_clusters.proofs.ClusterMerges.{least-le, least-among}
@@ -18,20 +18,15 @@ use Rattle.shapers_buffer.proofs.ClusterLemmas.{three_parts}
 -- a stretch of one place, or none, has no flags
 flagged_few : (bits : ℕ) (gs : List hb_glyph_info_t) → length gs ≤ 1 → flagged bits gs ≡ gs
 flagged_few bits [] few = refl
-flagged_few bits (g ∷ []) few = ap (λ b. cond b g (with_bits bits g) ∷ []) (eq-eqb g.cluster g.cluster refl)
+flagged_few bits (g ∷ []) few = search (arith, eq-eqb)
 flagged_few bits (g ∷ h ∷ gs) few = absurd (omega arith)
 
 pub unsafe_few : (s e : ℕ) (gs : List hb_glyph_info_t) → s ≤ e → e - s ≤ 1 → unsafe_inside s e gs ≡ gs
 unsafe_few s e gs h few =
-    ap (λ xs. take s gs ++ (xs ++ drop e gs))
-    (flagged_few 3 (stretch_of s e gs) (omega (arith, length-take (e - s) (drop s gs)))) ∙ three_parts s e gs h
+    search (arith, flagged_few, length-take, three_parts)
 
 pub unsafe_nothing : (s : ℕ) (gs : List hb_glyph_info_t) → unsafe_inside s s gs ≡ gs
-unsafe_nothing s gs = unsafe_few s s gs (omega arith) (omega arith)
-
--- a longer stretch from the same place has the flags of the shorter
-flag_twice : (mask : ℕ) → bit_or (bit_or mask 3) 3 ≡ bit_or mask 3
-flag_twice mask = omega (arith, or_add_and (bit_or mask 3) 3, and_or_self 3 mask)
+unsafe_nothing s gs = search (arith, unsafe_few)
 
 off_twice : (low high : ℕ) (g : hb_glyph_info_t) → low ≤ high → high ≤ g.cluster
     → with_bits_off 3 low (with_bits_off 3 high g) ≡ with_bits_off 3 low g
@@ -42,7 +37,8 @@ off_twice low high g below within =
       | false ↦ λ e. elim (eqb g.cluster low) as (λ c. eqb g.cluster low ≡ c
           → cond c (with_bits 3 g) (with_bits 3 (with_bits 3 g)) ≡ cond c g (with_bits 3 g)) [
             | true ↦ λ d. absurd (omega (arith, eqb-false g.cluster high e, eqb-true g.cluster low d))
-            | false ↦ λ d. ap (λ n. let h : hb_glyph_info_t = record g { mask = n } in h) (flag_twice g.mask)
+            | false ↦ λ d. ap (λ n. (record g { mask = n })) (
+                omega (arith, or_add_and (bit_or g.mask 3) 3, and_or_self 3 g.mask))
           ] refl
     ] refl
 
@@ -50,73 +46,46 @@ all_off_twice : (low high : ℕ) (gs : List hb_glyph_info_t) → low ≤ high �
     → map (with_bits_off 3 low) (map (with_bits_off 3 high) gs) ≡ map (with_bits_off 3 low) gs
 all_off_twice low high [] below all = refl
 all_off_twice low high (g ∷ gs) below all =
-    ap (λ x. x ∷ map (with_bits_off 3 low) (map (with_bits_off 3 high) gs)) (off_twice low high g below all.0)
-    ∙ ap (λ xs. with_bits_off 3 low g ∷ xs) (all_off_twice low high gs below all.1)
+    search (arith, off_twice, all_off_twice low high gs below all.1)
 
 least_of_front : (xs ys : List ℕ) → 0 < length xs → least (xs ++ ys) ≤ least xs
 least_of_front xs ys some =
     let (k, inside, at) = least-among xs some in
-    omega (arith, least-le (xs ++ ys) k (omega (arith, length-append xs ys)), get_or_append_left xs ys 0 k inside)
+    search (arith, least-le, length-append, get_or_append_left)
 
 pub flagged_twice : (xs ys : List hb_glyph_info_t) → flagged 3 (flagged 3 xs ++ ys) ≡ flagged 3 (xs ++ ys)
 flagged_twice [] ys = refl
 flagged_twice (x ∷ xs) ys =
     let front = x ∷ xs in
     let high = least (clusters front) in
-    let same : clusters (flagged 3 front ++ ys) ≡ clusters (front ++ ys) =
-    map-append (λ g. g.cluster) (flagged 3 front) ys
-    ∙ ap (λ cs. cs ++ clusters ys) (map-flagged (λ g. g.cluster) 3 (λ g. refl) front)
-    ∙ sym (map-append (λ g. g.cluster) front ys) in
     let low = least (clusters (front ++ ys)) in
-    let below : low ≤ high =
-    omega (
-      arith,
-      ap least (map-append (λ g. g.cluster) front ys),
-      least_of_front (clusters front) (clusters ys)
-          (omega arith),
-    ) in
     let P : hb_glyph_info_t → Type 0 = λ g. high ≤ g.cluster in
-    let within : AllByRecursion P front =
-    recursion_from_All P front
-    (All-from_get_or P front x
-    (λ k inside. omega (
-      arith,
-      least-le (clusters front) k (omega (arith, length-map front (λ g. g.cluster))),
-      get_or-map (λ g. g.cluster) front k x 0 inside,
-    ))) in
-    ap (λ cs. map (with_bits_off 3 (least cs)) (flagged 3 front ++ ys)) same
-    ∙ map-append (with_bits_off 3 low) (flagged 3 front) ys
-    ∙ ap (λ zs. zs ++ map (with_bits_off 3 low) ys) (all_off_twice low high front below within)
-    ∙ sym (map-append (with_bits_off 3 low) front ys)
+    cc (
+      map-append (λ g. g.cluster) (flagged 3 front) ys,
+      map-flagged (λ g. g.cluster) 3 (λ g. refl) front,
+      map-append (λ g. g.cluster) front ys,
+      map-append (with_bits_off 3 low) (flagged 3 front) ys,
+      all_off_twice low high front
+          (search (
+            arith,
+            map-append (λ g. g.cluster) front ys,
+            least_of_front (clusters front) (clusters ys) (omega
+                arith),
+          ))
+          (recursion_from_All P front (All-from_get_or P front x (λ k inside. omega (
+            arith,
+            least-le (clusters front)
+                k (omega (arith, length-map front (λ g. g.cluster))),
+            get_or-map (λ g. g.cluster) front k x 0 inside,
+          )))),
+      map-append (with_bits_off 3 low) front ys,
+    )
 
 pub unsafe_parts : (s e : ℕ) (before middle after : List hb_glyph_info_t) → s ≡ length before
     → e ≡ length before + length middle → unsafe_inside s e (before ++ (middle ++ after))
     ≡ before ++ (flagged 3 middle ++ after)
 unsafe_parts s e before middle after at_s at_e =
-    let whole = before ++ (middle ++ after) in
-    let front : take s whole ≡ before = take_at before (middle ++ after) s (sym at_s) in
-    let inner : drop s whole ≡ middle ++ after = drop_at before (middle ++ after) s (sym at_s) in
-    let long : length middle ≡ e - s = omega arith in
-    let part : stretch_of s e whole ≡ middle = ap (take (e - s)) inner ∙ take_at middle after (e - s) long in
-    let rest : drop e whole ≡ after = ap (λ n. drop n whole) at_e
-    ∙ drop-append-add before (middle ++ after) (length middle) ∙ drop_at middle after (length middle) refl in
-    ap (λ xs. xs ++ (flagged 3 (stretch_of s e whole) ++ drop e whole)) front
-    ∙ ap (λ xs. before ++ (flagged 3 xs ++ drop e whole)) part
-    ∙ ap (λ xs. before ++ (flagged 3 middle ++ xs)) rest
-
-unsafe_longer_parts : (s e n : ℕ) (before first second after : List hb_glyph_info_t) → s ≡ length before
-    → e ≡ length before + length first → n ≡ length before + (length first + length second)
-    → unsafe_inside s n (unsafe_inside s e (before ++ (first ++ (second ++ after))))
-    ≡ unsafe_inside s n (before ++ (first ++ (second ++ after)))
-unsafe_longer_parts s e n before first second after at_s at_e at_n =
-    let flags = length-map first (with_bits_off 3 (least (clusters first))) in
-    ap (unsafe_inside s n) (unsafe_parts s e before first (second ++ after) at_s at_e
-    ∙ ap (λ xs. before ++ xs) (sym (append_assoc (flagged 3 first) second after)))
-    ∙ unsafe_parts s n before (flagged 3 first ++ second) after at_s
-    (omega (arith, length-append (flagged 3 first) second))
-    ∙ ap (λ xs. before ++ (xs ++ after)) (flagged_twice first second)
-    ∙ sym (unsafe_parts s n before (first ++ second) after at_s (omega (arith, length-append first second)))
-    ∙ ap (λ xs. unsafe_inside s n (before ++ xs)) (append_assoc first second after)
+    search (arith, take_at, drop_at, drop-append-add)
 
 pub unsafe_longer : (s e n : ℕ) (gs : List hb_glyph_info_t) → s ≤ e → e ≤ n → n ≤ length gs
     → unsafe_inside s n (unsafe_inside s e gs) ≡ unsafe_inside s n gs
@@ -127,17 +96,30 @@ unsafe_longer s e n gs low high within =
     let after = drop n gs in
     let at_e : s + (e - s) ≡ e = omega arith in
     let at_n : e + (n - e) ≡ n = omega arith in
-    let behind : drop s gs ≡ first ++ drop e gs = sym (take-append-drop (e - s) (drop s gs))
-    ∙ ap (λ xs. first ++ xs) (drop-drop (e - s) s gs ∙ ap (λ k. drop k gs) at_e) in
-    let rest : drop e gs ≡ second ++ after = sym (take-append-drop (n - e) (drop e gs))
-    ∙ ap (λ xs. second ++ xs) (drop-drop (n - e) e gs ∙ ap (λ k. drop k gs) at_n) in
-    let whole : gs ≡ before ++ (first ++ (second ++ after)) = sym (take-append-drop s gs)
-    ∙ ap (λ xs. before ++ xs) (behind ∙ ap (λ xs. first ++ xs) rest) in
+    let rest : drop e gs ≡ second ++ after = cc (take-append-drop (n - e) (drop e gs), drop-drop (n - e) e gs) in
+    let whole : gs ≡ before ++ (first ++ (second ++ after)) =
+    sym (take-append-drop s gs)
+    ∙ ap (λ xs. before ++ xs)
+    (cc (take-append-drop (e - s) (drop s gs), drop-drop (e - s) s gs) ∙ ap (λ xs. first ++ xs) rest) in
     let a : length before ≡ s = length-take-le s gs (omega arith) in
     let b : length first ≡ e - s = length-take-le (e - s) (drop s gs) (omega (arith, length-drop s gs)) in
     let c : length second ≡ n - e = length-take-le (n - e) (drop e gs) (omega (arith, length-drop e gs)) in
     ap (λ xs. unsafe_inside s n (unsafe_inside s e xs)) whole
-    ∙ unsafe_longer_parts s e n before first second after (sym a) (omega arith) (omega arith)
+    ∙ (let flags = length-map first (with_bits_off 3 (least (clusters first))) in cc (
+      unsafe_parts s e before first
+          (second ++ after) (sym a) (omega arith),
+      append_assoc (flagged 3 first) second after,
+      unsafe_parts s n before
+          (flagged 3 first ++ second) after (sym a) (omega (arith, length-append (flagged 3 first) second)),
+      flagged_twice
+          first second,
+      unsafe_parts s n before (first ++ second) after (sym a) (omega (
+        arith,
+        length-append first
+            second,
+      )),
+      append_assoc first second after,
+    ))
     ∙ ap (unsafe_inside s n) (sym whole)
 
 -- several stretches, in two lists

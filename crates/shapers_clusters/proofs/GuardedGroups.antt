@@ -1,21 +1,21 @@
--- Steps behind groups that are shown: what they make of the glyphs with these groups in their clusters.
-use Rattle.std.proofs.Common.{ℕ, ◌+◌, ◌-◌, ◌<◌, ◌≤◌, ◌≡◌, ◌⊎◌, inl, inr, min, List, [], ◌∷◌, ◌++◌, map, length, take, drop, refl, sym, ◌∙◌, ap, subst, arith, append_assoc, length-append, length-take, length-drop}
+-- Changes behind groups that are shown: what they make of the glyphs with these groups in their clusters.
+use Rattle.std.proofs.Common.{ℕ, ◌+◌, ◌-◌, ◌<◌, ◌≤◌, ◌≡◌, ◌⊎◌, inl, inr, List, [], ◌∷◌, ◌++◌, map, length, take, drop, refl, sym, ◌∙◌, ap, subst, arith, append_assoc, length-append, length-take, length-drop}
 use Rattle.std.specs.Prelude.{true}
 use Rattle.std.specs.List.{AllZip}
 use Rattle.std.proofs.lemmas.Bool.Decides.{nat_tests}
-use Rattle.std.proofs.lemmas.List.{append-nil, drop-drop, drop_at, length-map, take-append-drop, take_at}
+use Rattle.std.proofs.lemmas.List.{append-nil, drop-drop, drop_at, length-map, take-append-drop, take-take, take_at}
 use Rattle.shapers_buffer.specs.declared.buffer.glyph.hb_glyph_info_t.{hb_glyph_info_t}
 use Rattle.shapers_buffer.specs.declared.buffer.level.BufferClusterLevel.{BufferClusterLevel}
 use Rattle.shapers_buffer.specs.ClusterRuns.{none_below}
 use Rattle.shapers_buffer.specs.Clusters.{first_cluster, in_cluster, least, stretch_of}
 use Rattle.shapers_buffer.specs.Glyph.{clusters, plain}
-use Rattle.shapers_clusters.specs.CarriedRuns.{EndsAbove}
-use Rattle.shapers_clusters.specs.CarriedGroups.{AreCarried, AreShown, LeastIn, StandFor, StopsBefore, groups_len, fallen_groups, first_group_cluster, grouped, last_groups, len_of, read_back, shown_groups, spread_groups, with_groups}
+use Rattle.shapers_clusters.specs.CarriedGroups.{AreCarried, AreShown, EndsAbove, LeastIn, StandFor, StopsBefore, groups_len, fallen_groups, first_group_cluster, grouped, last_groups, len_of, read_back, shown_groups, spread_groups, with_groups}
 use Rattle.shapers_clusters.specs.declared.carried_groups.CarriedGroups.{CarriedGroups}
 use Rattle.shapers_clusters.specs.declared.carried_groups.Group.{Group}
 use Rattle.shapers_clusters.specs.Steps.{FitSteps, Step, run_steps, widened}
-use Rattle.shapers_clusters.proofs.CarriedGroups.{From, NotAbove, Spreads, cluster_put, from_of_least, length-spread, spread_append, steps_keep, steps_spread}
+use Rattle.shapers_clusters.proofs.CarriedGroups.{From, Keeps, NotAbove, Spreads, cluster_put, from_of_least, length-spread, spread_append, steps_keep, steps_spread}
 use Rattle.shapers_clusters.proofs.Falls.{in_cluster-same}
+use Rattle.shapers_clusters.proofs.FloodsBack.{Change}
 use Rattle.shapers_clusters.proofs.GroupWalk.{grouped-append, least_behind, length-grouped, len_of-append}
 
 -- the glyphs of these groups, which open the list
@@ -25,16 +25,13 @@ cut_up (group ∷ groups) gs = take group.len gs ∷ cut_up groups (drop group.l
 
 length-cut_up : (groups : List Group) (gs : List hb_glyph_info_t) → length (cut_up groups gs) ≡ length groups
 length-cut_up [] gs = refl
-length-cut_up (group ∷ groups) gs = omega (arith, length-cut_up groups (drop group.len gs))
+length-cut_up (group ∷ groups) gs = cc (length-cut_up groups (drop group.len gs))
 
 all_of-cut_up : (groups : List Group) (gs : List hb_glyph_info_t) → len_of groups ≤ length gs →
     groups_len (cut_up groups gs) ≡ len_of groups
 all_of-cut_up [] gs within = refl
-all_of-cut_up (group ∷ groups) gs within = omega (
-  arith,
-  length-take group.len gs,
-  all_of-cut_up groups (drop group.len gs) (omega (arith, length-drop group.len gs)),
-)
+all_of-cut_up (group ∷ groups) gs within =
+    search (arith, length-take, all_of-cut_up groups (drop group.len gs) (omega (arith, length-drop group.len gs)))
 
 -- glyphs in the clusters of groups
 abbrev StandAs : List Group → List hb_glyph_info_t → Type 0
@@ -53,23 +50,20 @@ spread_cut [] [] gs rest stood = refl
 spread_cut [] (g ∷ reps) gs rest stood = absurd (cc)
 spread_cut (group ∷ groups) [] gs rest stood = absurd (cc)
 spread_cut (group ∷ groups) (g ∷ reps) gs rest stood =
-    let (one, more) = heads g.cluster group.cluster (map (λ (g : hb_glyph_info_t). g.cluster) reps)
-    (map (λ (group : Group). group.cluster) groups) stood in
-    let put = map (in_cluster group.cluster) (take group.len gs) in
-    ap (λ c. map (in_cluster c) (take group.len gs) ++ spread_groups (cut_up groups (drop group.len gs))
-    (reps ++ rest)) one
-    ∙ ap (λ l. put ++ l) (spread_cut groups reps (drop group.len gs) rest more)
-    ∙ sym (append_assoc put (grouped groups (drop group.len gs)) rest)
+    let (one, more) = heads g.cluster group.cluster (map (λ (g : hb_glyph_info_t). g.cluster) reps) (map (λ (group :
+    Group). group.cluster) groups) stood in
+    search (arith, append_assoc, spread_cut groups reps (drop group.len gs) rest more)
 
 stand_cut : (groups : List Group) (reps gs rest : List hb_glyph_info_t) → StandAs groups reps →
     len_of groups ≤ length gs → LeastIn groups gs → StandFor (cut_up groups gs) (reps ++ rest)
 stand_cut [] reps gs rest stood within all = tt
 stand_cut (group ∷ groups) [] gs rest stood within all = absurd (cc)
 stand_cut (group ∷ groups) (g ∷ reps) gs rest stood within all =
-    let (one, more) = heads g.cluster group.cluster (map (λ (g : hb_glyph_info_t). g.cluster) reps)
-    (map (λ (group : Group). group.cluster) groups) stood in
-    let some = all.0.0 in (
-      (omega (arith, length-take group.len gs), ap (λ c. none_below c (take group.len gs)) one ∙ all.0.1),
+    let (one, more) = heads g.cluster group.cluster (map (λ (g : hb_glyph_info_t). g.cluster) reps) (map (λ (group :
+    Group). group.cluster) groups) stood in
+    search (
+      arith,
+      length-take,
       stand_cut groups reps (drop group.len gs) rest more (omega (arith, length-drop group.len gs)) all.1,
     )
 
@@ -77,7 +71,7 @@ shown_as : (groups : List Group) (gs : List hb_glyph_info_t) → length groups �
     StandAs groups (take (length groups) (shown_groups groups gs))
 shown_as [] gs many = refl
 shown_as (group ∷ groups) [] many = absurd (omega arith)
-shown_as (group ∷ groups) (g ∷ gs) many = ap (λ l. group.cluster ∷ l) (shown_as groups gs (omega arith))
+shown_as (group ∷ groups) (g ∷ gs) many = cc (shown_as groups gs (omega arith))
 
 shown_rest : (groups : List Group) (gs : List hb_glyph_info_t) → length groups ≤ length gs →
     drop (length groups) (shown_groups groups gs) ≡ drop (length groups) gs
@@ -98,8 +92,7 @@ in_own_cluster g = in_cluster-same g
 
 spread_alone : (gs rest : List hb_glyph_info_t) → spread_groups (alone gs) (gs ++ rest) ≡ gs ++ rest
 spread_alone [] rest = refl
-spread_alone (g ∷ gs) rest = ap (λ x. x ∷ spread_groups (alone gs) (gs ++ rest)) (in_own_cluster g)
-    ∙ ap (λ l. g ∷ l) (spread_alone gs rest)
+spread_alone (g ∷ gs) rest = cc (in_own_cluster g, spread_alone gs rest)
 
 stand_alone : (gs rest : List hb_glyph_info_t) → StandFor (alone gs) (gs ++ rest)
 stand_alone [] rest = tt
@@ -115,8 +108,7 @@ clusters_alone [] [] many = refl
 clusters_alone [] (x ∷ xs) many = absurd (omega arith)
 clusters_alone (g ∷ gs) [] many = absurd (omega arith)
 clusters_alone (g ∷ gs) (x ∷ xs) many =
-    ap (λ c. c ∷ map (λ (g : hb_glyph_info_t). g.cluster) (spread_groups (alone gs) xs)) (cluster_put x.cluster g)
-    ∙ ap (λ l. x.cluster ∷ l) (clusters_alone gs xs (omega arith))
+    search (arith, cluster_put, clusters_alone gs xs (omega arith))
 
 pub read_clusters : (xs ys : List hb_glyph_info_t) (groups : List Group) →
     map (λ (g : hb_glyph_info_t). g.cluster) xs ≡ map (λ (g : hb_glyph_info_t). g.cluster) ys →
@@ -126,10 +118,9 @@ read_clusters [] (y ∷ ys) groups same = absurd (cc)
 read_clusters (x ∷ xs) [] groups same = absurd (cc)
 read_clusters (x ∷ xs) (y ∷ ys) [] same = refl
 read_clusters (x ∷ xs) (y ∷ ys) (group ∷ groups) same =
-    let (one, more) = heads x.cluster y.cluster (map (λ (g : hb_glyph_info_t). g.cluster) xs)
-    (map (λ (g : hb_glyph_info_t). g.cluster) ys) same in
-    ap (λ c. (record group { cluster = min group.cluster c }) ∷ read_back xs groups) one
-    ∙ ap (λ l. (record group { cluster = min group.cluster y.cluster }) ∷ l) (read_clusters xs ys groups more)
+    let (one, more) = heads x.cluster y.cluster (map (λ (g : hb_glyph_info_t). g.cluster) xs) (map (λ (g :
+    hb_glyph_info_t). g.cluster) ys) same in
+    cc (read_clusters xs ys groups more)
 
 spread_read : (groups : List Group) (reps new gs : List hb_glyph_info_t) → StandAs groups reps →
     AllZip NotAbove reps new → grouped (read_back new groups) gs ≡ spread_groups (cut_up groups gs) new
@@ -139,31 +130,58 @@ spread_read [] (g ∷ reps) new gs stood lower = absurd (cc)
 spread_read (group ∷ groups) [] new gs stood lower = absurd (cc)
 spread_read (group ∷ groups) (g ∷ reps) [] gs stood lower = absurd lower
 spread_read (group ∷ groups) (g ∷ reps) (n ∷ new) gs stood lower =
-    let (one, more) = heads g.cluster group.cluster (map (λ (g : hb_glyph_info_t). g.cluster) reps)
-    (map (λ (group : Group). group.cluster) groups) stood in
-    let fell = lower.0 in
-    let is : min group.cluster n.cluster ≡ n.cluster = omega arith in
-    ap (λ c. map (in_cluster c) (take group.len gs) ++ grouped (read_back new groups) (drop group.len gs)) is
-    ∙ ap (λ l. map (in_cluster n.cluster) (take group.len gs) ++ l)
-    (spread_read groups reps new (drop group.len gs) more lower.1)
+    let (one, more) = heads g.cluster group.cluster (map (λ (g : hb_glyph_info_t). g.cluster) reps) (map (λ (group :
+    Group). group.cluster) groups) stood in
+    search (arith, spread_read groups reps new (drop group.len gs) more lower.1)
 
--- THE STEPS. What they make of the glyphs with the groups in their clusters, by what they make of those that are
--- shown.
-pub record StepsBehind (before : CarriedGroups) (count : ℕ) (between hs meant new : List hb_glyph_info_t) : Type 0 where
+-- the glyphs before a place, those of groups in their clusters
+abbrev pub groups_in_front : CarriedGroups → List Group → List hb_glyph_info_t → List hb_glyph_info_t
+groups_in_front it groups gs = take it.start gs ++ grouped groups (drop it.start gs)
+
+-- A CHANGE of n glyphs, which merges none before place first or from place end on: the same of fewer glyphs, where
+-- only `count` stand before that place, each for a group.
+pub record ChangesBehind (first end n count : ℕ) (over : Change) : Type 0 where
+  pub change : Change
+  pub spreads : Spreads first count (n - first) over change
+  pub keeps : (low : ℕ) → Keeps low count (count + (end - first)) (count + (n - first)) change
+
+-- steps over a stretch are one
+pub steps_behind : (level : BufferClusterLevel) (first end n count : ℕ) (steps : List Step) → first ≤ end → end ≤ n →
+    0 < count → FitSteps (end - first) steps →
+    ChangesBehind first end n count (run_steps level (map (widened first end n) steps))
+steps_behind level first end n count steps order within some fit =
+    let e = end - first in
+    let m = n - first in
+    let placed : (a b c x y z : ℕ) → a ≡ x → b ≡ y → c ≡ z →
+    run_steps level (map (widened a b c) steps) ≡ run_steps level (map (widened x y z) steps) =
+    λ a b c x y z p q r. cc in
+    let change = run_steps level (map (widened count (count + e) (count + m)) steps) in
+    record {
+      change = change;
+      spreads = subst (λ f. Spreads first count m f change)
+          (placed (first + 0) (first + e) (first + m) first end n (omega arith) (omega arith) (omega arith))
+          (subst (Spreads first count m (run_steps level (map (widened (first + 0) (first + e) (first + m)) steps)))
+          (placed (count + 0) (count + e) (count + m) count (count + e) (count + m) (omega arith) refl refl)
+          (steps_spread level first count 0 e m steps some (omega arith) (omega arith)
+          (subst (λ k. FitSteps k steps) (omega arith) fit)));
+      keeps = λ low. steps_keep level low count e (count + m) steps some (omega arith) fit;
+    }
+
+-- What it makes of the glyphs with the groups in their clusters, by what it makes of those that are shown.
+pub record ChangedBehind (before : CarriedGroups) (count : ℕ) (between meant new : List hb_glyph_info_t) : Type 0 where
   pub same_length : length new ≡ length between
-  pub front : take (before.end - count) new ≡ take (before.end - count) hs
-  pub meant_is : meant ≡ take before.start between
-      ++ (grouped (fallen_groups count before new) (drop before.start between) ++ drop before.end new)
+  pub front : take (before.end - count - 1) new ≡ take (before.end - count - 1) between
+  pub meant_is : meant ≡ groups_in_front before (fallen_groups count before new) between ++ drop before.end new
 
-pub steps_behind : (level : BufferClusterLevel) (first end count : ℕ) (steps : List Step)
-    (before after : CarriedGroups) (between hs : List hb_glyph_info_t) → first ≤ end → end ≤ length between →
-    FitSteps (end - first) steps → AreCarried before between → before.end ≡ first → 0 < count →
+pub changed_behind : (first end count : ℕ) (over : Change) (before after : CarriedGroups)
+    (between hs : List hb_glyph_info_t) → first ≤ end → end ≤ length between →
+    ChangesBehind first end (length between) count over → AreCarried before between → before.end ≡ first → 0 < count →
     count ≤ length before.groups.items → AreShown count before between after hs →
     ((first_group_cluster (last_groups count before) < least (clusters (stretch_of first end between)))
     ⊎ ((count ≡ length before.groups.items) × EndsAbove (first_group_cluster before.groups.items)
-    (take before.start between))) → (let over = run_steps level (map (widened first end (length between)) steps) in
-    StepsBehind before count between hs (over (with_groups before between)) (over hs))
-steps_behind level first end count steps before after between hs order within fit fits at some many is stops =
+    (take before.start between))) →
+    ChangedBehind before count between (over (with_groups before between)) (over hs)
+changed_behind first end count over before after between hs order within changes fits at some many is stops =
     let items = before.groups.items in
     let n = length items in
     let front = take (n - count) items in
@@ -190,20 +208,16 @@ steps_behind level first end count steps before after between hs order within fi
     let reps = take count (shown_groups last tail) in
     let shown_n : length (shown_groups last tail) ≡ length tail = long last tail (omega arith) in
     let reps_n : length reps ≡ count = omega (arith, length-take count (shown_groups last tail)) in
-    let behind : drop count (shown_groups last tail) ≡ rest = ap (λ k. drop k (shown_groups last tail)) (sym ln)
-    ∙ shown_rest last tail (omega arith) ∙ ap (λ k. drop k tail) ln ∙ drop-drop count place between
-    ∙ ap (λ k. drop k between) (up ∙ at) in
+    let behind : drop count (shown_groups last tail) ≡ rest =
+    cc (shown_rest last tail (omega arith), drop-drop count place between) in
     let ys = reps ++ rest in
-    let ys_is : ys ≡ shown_groups last tail = ap (λ l. reps ++ l) (sym behind) ∙ take-append-drop count
-    (shown_groups last tail) in
+    let ys_is : ys ≡ shown_groups last tail = cc (take-append-drop count (shown_groups last tail)) in
     let yn : length ys ≡ count + m = length-append reps rest ∙ omega arith in
-    let stood : StandAs last reps = ap (λ k. map (λ (g : hb_glyph_info_t). g.cluster)
-    (take k (shown_groups last tail))) (sym ln)
-    ∙ shown_as last tail (omega arith) in
+    let stood : StandAs last reps = cc (shown_as last tail (omega arith)) in
     let low_front = take place hs in
     let hn : length hs ≡ length between = sym (length-map hs plain) ∙ ap length is.view ∙ length-map between plain in
     let front_n : length low_front ≡ place = omega (arith, length-take place hs) in
-    let hs_is : low_front ++ ys ≡ hs = ap (λ l. low_front ++ l) (ys_is ∙ sym is.rest) ∙ take-append-drop place hs in
+    let hs_is : low_front ++ ys ≡ hs = cc (is.rest, take-append-drop place hs) in
     -- the groups
     let P = take before.start between ++ grouped front D in
     let Gs = cut_up last B in
@@ -217,28 +231,17 @@ steps_behind level first end count steps before after between hs order within fi
       fits.within,
     ) in
     let meant : P ++ spread_groups Gs ys ≡ with_groups before between =
-    ap (λ l. P ++ l) (spread_cut last reps B rest stood)
-    ∙ append_assoc (take before.start between) (grouped front D) (grouped last B ++ rest)
-    ∙ ap (λ l. take before.start between ++ l) (sym (append_assoc (grouped front D) (grouped last B) rest)
-    ∙ ap (λ l. l ++ rest) (sym (ap (λ l. grouped l D) whole ∙ grouped-append front last D))
-    ∙ ap (λ k. grouped items D ++ drop k between) (sym at)) in
+    cc (
+      spread_cut last reps B rest stood,
+      append_assoc (take before.start between) (grouped front D) (grouped last B ++ rest),
+      append_assoc (grouped front D) (grouped last B) rest,
+      grouped-append front last D,
+    ) in
     let stand : StandFor Gs ys = stand_cut last reps B rest stood (omega arith)
     (least_behind front last D (subst (λ l. LeastIn l D) whole fits.least)) in
-    let over = run_steps level (map (widened first end (length between)) steps) in
-    let change = run_steps level (map (widened (count + 0) (count + e) (count + m)) steps) in
-    let placed_over : (a b c : ℕ) → a ≡ first → b ≡ end → c ≡ length between →
-    run_steps level (map (widened a b c) steps) ≡ over = λ a b c x y z.
-    ap (λ a. run_steps level (map (widened a b c) steps)) x
-    ∙ ap (λ b. run_steps level (map (widened first b c) steps)) y
-    ∙ ap (λ c. run_steps level (map (widened first end c) steps)) z in
-    let e_is : e - 0 ≡ e = omega arith in
-    let c_same : count + 0 ≡ count = omega arith in
-    let c_end : count + 0 + e ≡ count + e = omega arith in
+    let change = changes.change in
     let c_long : (count + e) - count ≡ e = omega arith in
-    let spreads = subst (λ f. Spreads first count m f change)
-    (placed_over (first + 0) (first + e) (first + m) (omega arith) (omega arith) (omega arith))
-    (steps_spread level first count 0 e m steps some (omega arith) (omega arith)
-    (subst (λ k. FitSteps k steps) (sym e_is) fit)) in
+    let spreads = changes.spreads in
     let one = spreads P Gs ys pn gn yn stand in
     let two = spreads low_front (alone reps) ys
     (omega (arith, all_of-alone reps)) (length-map reps (λ g. g ∷ []) ∙ reps_n) yn (stand_alone reps rest) in
@@ -247,17 +250,12 @@ steps_behind level first end count steps before after between hs order within fi
     let first_is : first_cluster ys ≡ first_group_cluster last = first_of_reps reps rest last stood (omega arith) in
     let until : StopsBefore P ys new × StopsBefore low_front ys new = elim stops [
       | inl below ↦
-          let mid : stretch_of (count + 0) (count + e) ys ≡ stretch_of first end between =
-          ap (λ k. take ((count + e) - k) (drop k ys)) c_same
-          ∙ ap (λ k. take k (drop count ys)) c_long
-          ∙ ap (take e) (drop_at reps rest count reps_n) in
+          let mid : stretch_of count (count + e) ys ≡ stretch_of first end between =
+          ap (λ k. take k (drop count ys)) c_long ∙ ap (take e) (drop_at reps rest count reps_n) in
           let low = least (clusters (stretch_of first end between)) in
-          let keeps = steps_keep level low (count + 0) e (count + m) steps (omega arith) (omega arith) fit ys yn
-          (subst (From low) (sym (ap (λ k. stretch_of (count + 0) k ys) c_end ∙ mid))
-          (from_of_least (stretch_of first end between))) (omega arith) in
-          let same : first_cluster new ≡ first_cluster ys =
-          ap (λ k. first_cluster (run_steps level (map (widened (count + 0) k (count + m)) steps) ys)) (sym c_end)
-          ∙ keeps.first in
+          let keeps = changes.keeps low ys yn (subst (From low) (sym mid) (from_of_least (stretch_of first end between)))
+          (omega arith) in
+          let same = keeps.first in
           (inr same, inr same)
       | inr above ↦
           let gone : n - count ≡ 0 = omega (arith, above.0) in
@@ -273,26 +271,23 @@ steps_behind level first end count steps before after between hs order within fi
     ] in
     let new_n = one.same_length in
     let Y = over hs in
-    let y_is : Y ≡ low_front ++ spread_groups (alone reps) new = ap over (sym hs_is ∙ ap (λ l. low_front ++ l)
-    (sym (spread_alone reps rest))) ∙ two.is until.1 in
+    let y_is : Y ≡ low_front ++ spread_groups (alone reps) new = cc (spread_alone reps rest, two.is until.1) in
     let reps_new = take count new in
     let rn : length reps_new ≡ count = omega (arith, length-take count new) in
     let an : length (alone reps) ≡ count = length-map reps (λ g. g ∷ []) ∙ reps_n in
     let new_is : new ≡ reps_new ++ drop count new = sym (take-append-drop count new) in
-    let parts : Y ≡ low_front ++ (spread_groups (alone reps) reps_new ++ drop count new) = y_is
-    ∙ ap (λ l. low_front ++ spread_groups (alone reps) l) new_is
-    ∙ ap (λ l. low_front ++ l) (spread_append (alone reps) reps_new (drop count new) (omega arith)) in
+    let parts : Y ≡ low_front ++ (spread_groups (alone reps) reps_new ++ drop count new) =
+    cc (spread_append (alone reps) reps_new (drop count new) (omega arith)) in
     let sn : length (spread_groups (alone reps) reps_new) ≡ count =
     length-spread (alone reps) reps_new (omega arith) ∙ all_of-alone reps ∙ reps_n in
-    let from : drop place Y ≡ spread_groups (alone reps) reps_new ++ drop count new = ap (drop place) parts
-    ∙ drop_at low_front (spread_groups (alone reps) reps_new ++ drop count new) place front_n in
+    let from : drop place Y ≡ spread_groups (alone reps) reps_new ++ drop count new =
+    cc (drop_at low_front (spread_groups (alone reps) reps_new ++ drop count new) place front_n) in
     let size : before.end - place ≡ count = omega arith in
     let S = stretch_of place before.end Y in
-    let s_is : S ≡ spread_groups (alone reps) reps_new = ap (λ k. take k (drop place Y)) size ∙ ap (take count) from
-    ∙ take_at (spread_groups (alone reps) reps_new) (drop count new) count sn in
-    let after_is : drop before.end Y ≡ drop count new = ap (λ k. drop k Y) (sym up)
-    ∙ sym (drop-drop count place Y) ∙ ap (drop count) from
-    ∙ drop_at (spread_groups (alone reps) reps_new) (drop count new) count sn in
+    let s_is : S ≡ spread_groups (alone reps) reps_new =
+    cc (take_at (spread_groups (alone reps) reps_new) (drop count new) count sn) in
+    let after_is : drop before.end Y ≡ drop count new =
+    cc (drop-drop count place Y, drop_at (spread_groups (alone reps) reps_new) (drop count new) count sn) in
     let read : read_back S last ≡ read_back reps_new last =
     read_clusters S reps_new last (ap (map (λ (g : hb_glyph_info_t). g.cluster)) s_is
     ∙ clusters_alone reps reps_new (omega arith)) in
@@ -300,9 +295,8 @@ steps_behind level first end count steps before after between hs order within fi
     subst (λ l. AllZip NotAbove l reps_new) (ap (λ k. take k ys) gn ∙ take_at reps rest count reps_n)
     (subst (λ k. AllZip NotAbove (take (length Gs) ys) (take k new)) gn one.lower) in
     let F = fallen_groups count before Y in
-    let made : grouped F D ≡ grouped front D ++ spread_groups Gs reps_new = grouped-append front (read_back S last) D
-    ∙ ap (λ l. grouped front D ++ grouped l B) read
-    ∙ ap (λ l. grouped front D ++ l) (spread_read last reps reps_new B stood lower) in
+    let made : grouped F D ≡ grouped front D ++ spread_groups Gs reps_new =
+    cc (grouped-append front (read_back S last) D, spread_read last reps reps_new B stood lower) in
     record {
       same_length = ap length parts ∙ length-append low_front (spread_groups (alone reps) reps_new ++ drop count new)
           ∙ omega (
@@ -310,14 +304,20 @@ steps_behind level first end count steps before after between hs order within fi
             length-append (spread_groups (alone reps) reps_new) (drop count new),
             length-drop count new,
           );
-      front = ap (take place) parts ∙ take_at low_front (spread_groups (alone reps) reps_new ++ drop count new) place
-          front_n;
-      meant_is = ap over (sym meant) ∙ one.is until.0
-          ∙ ap (λ l. P ++ spread_groups Gs l) new_is
-          ∙ ap (λ l. P ++ l) (spread_append Gs reps_new (drop count new) (omega arith))
-          ∙ append_assoc (take before.start between) (grouped front D) (spread_groups Gs reps_new ++ drop count new)
-          ∙ ap (λ l. take before.start between ++ l) (sym (append_assoc (grouped front D) (spread_groups Gs reps_new)
-          (drop count new)) ∙ ap (λ l. l ++ drop count new) (sym made) ∙ ap (λ l. grouped F D ++ l) (sym after_is));
+      front = sym (take-take (place - 1) place Y (omega arith))
+          ∙ ap (take (place - 1)) (ap (take place) parts
+          ∙ take_at low_front (spread_groups (alone reps) reps_new ++ drop count new) place front_n)
+          ∙ take-take (place - 1) place hs (omega arith) ∙ is.front;
+      meant_is = cc (
+        meant,
+        one.is until.0,
+        new_is,
+        spread_append Gs reps_new (drop count new) (omega arith),
+        append_assoc P (spread_groups Gs reps_new) (drop count new),
+        append_assoc (take before.start between) (grouped front D) (spread_groups Gs reps_new),
+        made,
+        after_is,
+      );
     }
   where
     long : (groups : List Group) (gs : List hb_glyph_info_t) → length groups ≤ length gs →

@@ -1,14 +1,13 @@
 -- Glyphs whose clusters occur nowhere else in the text merge and move as they would alone.
-use Rattle.std.proofs.Common.{ℕ, zero, suc, ◌+◌, ◌-◌, ◌<◌, ◌≤◌, ◌≡◌, ◌≢◌, ◌&&◌, not, nat_lt, if◌then◌else◌, inl, inr, List, [], ◌∷◌, ◌++◌, map, length, get_or, slice_index, reverse, take, drop, refl, sym, ◌∙◌, ap, subst, arith, append_assoc, length-take, length-drop}
+use Rattle.std.proofs.Common.{ℕ, zero, suc, ◌+◌, ◌-◌, ◌<◌, ◌≤◌, ◌≡◌, ◌≢◌, ◌&&◌, not, nat_lt, if◌then◌else◌, List, [], ◌∷◌, ◌++◌, map, length, get_or, slice_index, reverse, take, drop, refl, sym, ◌∙◌, ap, subst, arith, append_assoc, length-take, length-drop}
 use Rattle.std.specs.List.{All, AllByRecursion, Contains, sum_by, range_with_len}
 use Rattle.std.proofs.lemmas.List.{append-nil, map-append, length-map, length-reverse, reverse-append, reverse-reverse, take_at, drop_at, drop-drop, take-take, drop-take, take-append-drop, get_or_default, take-append-le, drop-append-le}
 use Rattle.std.proofs.lemmas.List.Sums.{sum_by-cons, fold-append}
 use Rattle.std.proofs.lemmas.List.Elements.{All-head, All-tail, All-nil, All-cons, All-from_get_or, All-contains_itself}
-use Rattle.std.proofs.lemmas.Bool.{cases_eq}
 use Rattle.shapers_buffer.specs.declared.buffer.glyph.hb_glyph_info_t.{hb_glyph_info_t}
 use Rattle.shapers_buffer.specs.declared.buffer.level.BufferClusterLevel.{BufferClusterLevel}
 use Rattle.shapers_buffer.specs.Glyph.{clusters}
-use Rattle.shapers_buffer.specs.Clusters.{least, first_cluster, last_cluster, in_cluster, flooded, merge, merge_all, merges, stretch_of}
+use Rattle.shapers_buffer.specs.Clusters.{least, first_cluster, last_cluster, flooded, merge, merge_all, merges}
 use Rattle.shapers_clusters.proofs.Merging.{length-merge, length-merge_all}
 use Rattle.shapers_clusters.specs.Cuts.{EndWithin, ShareNone}
 use Rattle.shapers_buffer.specs.Places.{pick}
@@ -32,11 +31,7 @@ flooded-stops c m (g ∷ gs) h = flooded-miss c m g gs h.0
 flooded-front : (c m : ℕ) (gs hs : List hb_glyph_info_t) → Each (λ k. k ≡ c → ⊥) hs
     → flooded c m (gs ++ hs) ≡ flooded c m gs ++ hs
 flooded-front c m [] hs h = flooded-stops c m hs h
-flooded-front c m (g ∷ gs) hs h = elim (cases_eq g.cluster c) [
-  | inl e ↦ flooded-hit c m g (gs ++ hs) e ∙ ap (λ l. in_cluster m g ∷ l) (flooded-front c m gs hs h)
-      ∙ sym (ap (λ l. l ++ hs) (flooded-hit c m g gs e))
-  | inr n ↦ flooded-miss c m g (gs ++ hs) n ∙ sym (ap (λ l. l ++ hs) (flooded-miss c m g gs n))
-]
+flooded-front c m (g ∷ gs) hs h = search (arith, flooded-hit, flooded-miss, flooded-front c m gs hs h)
 
 pub each-append : (P : ℕ → Type 0) (gs hs : List hb_glyph_info_t) → Each P gs → Each P hs → Each P (gs ++ hs)
 each-append P [] hs h i = i
@@ -44,9 +39,8 @@ each-append P (g ∷ gs) hs h i = (h.0, each-append P gs hs h.1 i)
 
 pub each-reverse : (P : ℕ → Type 0) (gs : List hb_glyph_info_t) → Each P gs → Each P (reverse gs)
 each-reverse P [] h = tt
-each-reverse P (g ∷ gs) h = let Q : List hb_glyph_info_t → Type 0 =
-    Each P in subst Q (sym (reverse-append (g ∷ []) gs))
-    (each-append P (reverse gs) (g ∷ []) (each-reverse P gs h.1) (h.0, tt))
+each-reverse P (g ∷ gs) h =
+    search (arith, reverse-append (g ∷ []) gs, each-append P (reverse gs) (g ∷ []) (each-reverse P gs h.1) (h.0, tt))
 
 pub each-take : (P : ℕ → Type 0) (n : ℕ) (gs : List hb_glyph_info_t) → Each P gs → Each P (take n gs)
 each-take P zero gs h = tt
@@ -66,34 +60,20 @@ each-first P (g ∷ gs) l h = h.0
 each-other : (P : ℕ → Type 0) (c : ℕ) → P c → (gs : List hb_glyph_info_t) → Each (λ k. P k → ⊥) gs
     → Each (λ k. k ≡ c → ⊥) gs
 each-other P c p [] h = tt
-each-other P c p (g ∷ gs) h = ((λ e. h.0 (subst P (sym e) p)), each-other P c p gs h.1)
+each-other P c p (g ∷ gs) h = search (arith, h.0, each-other P c p gs h.1)
 
 assembled-behind : (P : ℕ → Type 0) (front middle rest hs : List hb_glyph_info_t) → 0 < length middle → Each P middle
     → Each (λ k. P k → ⊥) hs → assembled front middle (rest ++ hs) ≡ assembled front middle rest ++ hs
 assembled-behind P front middle rest hs l p h =
     let m = least (clusters middle) in
-    let a = reverse (flooded (first_cluster middle) m (reverse front)) in
-    let b = map (in_cluster m) middle in
-    let last : P (last_cluster middle) =
-    each-first P (reverse middle) (omega (arith, length-reverse middle)) (each-reverse P middle p) in
-    ap (λ l. a ++ (b ++ l))
-    (flooded-front (last_cluster middle) m rest hs (each-other P (last_cluster middle) last hs h))
-    ∙ ap (λ l. a ++ l) (sym (append_assoc b (flooded (last_cluster middle) m rest) hs))
-    ∙ sym (append_assoc a (b ++ flooded (last_cluster middle) m rest) hs)
+    let last : P (last_cluster middle) = each-first P (reverse middle) (omega (arith, length-reverse middle))
+    (each-reverse P middle p) in
+    search (arith, flooded-front, each-other, append_assoc)
 
 assembled-before : (P : ℕ → Type 0) (hs front middle rest : List hb_glyph_info_t) → 0 < length middle → Each P middle
     → Each (λ k. P k → ⊥) hs → assembled (hs ++ front) middle rest ≡ hs ++ assembled front middle rest
 assembled-before P hs front middle rest l p h =
-    let m = least (clusters middle) in
-    let c = first_cluster middle in
-    let tail = map (in_cluster m) middle ++ flooded (last_cluster middle) m rest in
-    let first : P (first_cluster middle) = each-first P middle l p in
-    ap (λ l. reverse (flooded c m l) ++ tail) (reverse-append hs front)
-    ∙ ap (λ l. reverse l ++ tail)
-    (flooded-front c m (reverse front) (reverse hs) (each-reverse (λ k. k ≡ c → ⊥) hs (each-other P c first hs h)))
-    ∙ ap (λ l. l ++ tail) (reverse-append (flooded c m (reverse front)) (reverse hs)
-    ∙ ap (λ l. l ++ reverse (flooded c m (reverse front))) (reverse-reverse hs))
-    ∙ append_assoc hs (reverse (flooded c m (reverse front))) tail
+    search (arith, reverse-append, flooded-front, each-reverse, each-other, reverse-reverse, append_assoc)
 
 -- a merge of glyphs whose clusters don't occur behind them, or not before them
 merge-behind : (P : ℕ → Type 0) (level : BufferClusterLevel) (s e : ℕ) (gs hs : List hb_glyph_info_t) → e ≤ length gs
@@ -101,75 +81,70 @@ merge-behind : (P : ℕ → Type 0) (level : BufferClusterLevel) (s e : ℕ) (gs
 merge-behind P level s e gs hs l p h =
     merge_is level s e (gs ++ hs)
     ∙ two_sides (e - s) (merges level) (λ x y. x ≡ y ++ hs) (flood_merged s e (gs ++ hs)) (gs ++ hs)
-    (flood_merged s e gs) gs refl (λ two.
-    let front : take s (gs ++ hs) ≡ take s gs = take-append-le s gs hs (omega arith) in
-    let middle : stretch_of s e (gs ++ hs) ≡ stretch_of s e gs =
-    ap (take (e - s)) (drop-append-le s gs hs (omega arith))
-    ∙ take-append-le (e - s) (drop s gs) hs (omega (arith, length-drop s gs)) in
-    let rest : drop e (gs ++ hs) ≡ drop e gs ++ hs = drop-append-le e gs hs l in
-    ap (λ x. assembled x (stretch_of s e (gs ++ hs)) (drop e (gs ++ hs))) front
-    ∙ ap (λ x. assembled (take s gs) x (drop e (gs ++ hs))) middle
-    ∙ ap (λ x. assembled (take s gs) (stretch_of s e gs) x) rest
-    ∙ assembled-behind P (take s gs) (stretch_of s e gs) (drop e gs) hs
-    (omega (arith, length-take (e - s) (drop s gs), length-drop s gs))
-    (each-take P (e - s) (drop s gs) (each-drop P s gs p)) h)
+    (flood_merged s e gs) gs refl
+    (λ two. search (
+      arith,
+      take-append-le,
+      drop-append-le,
+      length-drop,
+      assembled-behind,
+      length-take,
+      each-take,
+      each-drop,
+    ))
     ∙ ap (λ l. l ++ hs) (sym (merge_is level s e gs))
 
 pub take-past : {X : Type 0} (a k : ℕ) (xs ys : List X) → length xs ≡ a → take (a + k) (xs ++ ys) ≡ xs ++ take k ys
 take-past a k xs ys e =
-    let first : take a (xs ++ ys) ≡ xs = take_at xs ys a e in
-    let rest : drop a (xs ++ ys) ≡ ys = drop_at xs ys a e in
     sym (take-append-drop a (take (a + k) (xs ++ ys)))
-    ∙ ap (λ l. l ++ drop a (take (a + k) (xs ++ ys))) (take-take a (a + k) (xs ++ ys) (omega arith) ∙ first)
-    ∙ ap (λ l. xs ++ l) (drop-take a k (xs ++ ys) ∙ ap (take k) rest)
+    ∙ ap (λ l. l ++ drop a (take (a + k) (xs ++ ys)))
+    (take-take a (a + k) (xs ++ ys) (omega arith) ∙ take_at xs ys a e)
+    ∙ ap (λ l. xs ++ l) (drop-take a k (xs ++ ys) ∙ ap (take k) (drop_at xs ys a e))
 
 pub drop-past : {X : Type 0} (a k : ℕ) (xs ys : List X) → length xs ≡ a → drop (a + k) (xs ++ ys) ≡ drop k ys
-drop-past a k xs ys e = sym (drop-drop k a (xs ++ ys)) ∙ ap (drop k) (drop_at xs ys a e)
+drop-past a k xs ys e = cc (drop-drop k a (xs ++ ys), drop_at xs ys a e)
 
 merge-before : (P : ℕ → Type 0) (level : BufferClusterLevel) (a s e : ℕ) (hs gs rest : List hb_glyph_info_t)
     → length hs ≡ a → e ≤ length gs → Each P gs → Each (λ k. P k → ⊥) hs
     → merge level (a + s) (a + e) (hs ++ (gs ++ rest)) ≡ hs ++ merge level s e (gs ++ rest)
 merge-before P level a s e hs gs rest n l p h =
-    let i : (a + e) - (a + s) ≡ e - s = omega arith in
     let ts = gs ++ rest in
     let ws = hs ++ (gs ++ rest) in
     merge_is level (a + s) (a + e) ws
-    ∙ ap (λ k. if merges level && not (nat_lt k 2) then flood_merged (a + s) (a + e) ws else ws) i
+    ∙ ap (λ k. if merges level && not (nat_lt k 2) then flood_merged (a + s) (a + e) ws else ws) (omega arith)
     ∙ two_sides (e - s) (merges level) (λ x y. x ≡ hs ++ y) (flood_merged (a + s) (a + e) ws) ws (flood_merged s e ts)
-    ts refl (λ two.
-    let front : take (a + s) ws ≡ hs ++ take s ts = take-past a s hs ts n in
-    let middle : stretch_of (a + s) (a + e) ws ≡ stretch_of s e ts = ap (λ k. take k (drop (a + s) ws)) i
-    ∙ ap (take (e - s)) (drop-past a s hs ts n) in
-    let behind : drop (a + e) ws ≡ drop e ts = drop-past a e hs ts n in
-    let inside : stretch_of s e ts ≡ stretch_of s e gs = ap (take (e - s)) (drop-append-le s gs rest (omega arith))
-    ∙ take-append-le (e - s) (drop s gs) rest (omega (arith, length-drop s gs)) in
-    let Q : List hb_glyph_info_t → Type 0 = Each P in
-    ap (λ x. assembled x (stretch_of (a + s) (a + e) ws) (drop (a + e) ws)) front
-    ∙ ap (λ x. assembled (hs ++ take s ts) x (drop (a + e) ws)) middle
-    ∙ ap (λ x. assembled (hs ++ take s ts) (stretch_of s e ts) x) behind
-    ∙ assembled-before P hs (take s ts) (stretch_of s e ts) (drop e ts)
-    (omega (arith, ap length inside, length-take (e - s) (drop s gs), length-drop s gs))
-    (subst Q (sym inside) (each-take P (e - s) (drop s gs) (each-drop P s gs p))) h)
+    ts refl
+    (λ two. search (
+      arith,
+      take-past,
+      drop-past,
+      assembled-before,
+      drop-append-le,
+      take-append-le,
+      length-drop,
+      length-take,
+      each-take,
+      each-drop,
+    ))
     ∙ ap (λ l. hs ++ l) (sym (merge_is level s e ts))
 
 each_of : (P : ℕ → Type 0) (gs : List hb_glyph_info_t) → All P (clusters gs) → Each P gs
 each_of P [] h = tt
-each_of P (g ∷ gs) h = (All-head P g.cluster (clusters gs) h, each_of P gs (All-tail P g.cluster (clusters gs) h))
+each_of P (g ∷ gs) h = search (arith, All-head, each_of P gs (All-tail P g.cluster (clusters gs) h))
 
 all_of : (P : ℕ → Type 0) (gs : List hb_glyph_info_t) → Each P gs → All P (clusters gs)
 all_of P [] h = All-nil P
-all_of P (g ∷ gs) h = All-cons P g.cluster (clusters gs) h.0 (all_of P gs h.1)
+all_of P (g ∷ gs) h = search (arith, All-cons, all_of P gs h.1)
 
 ends : (sts : List (ℕ × ℕ)) (gs : List hb_glyph_info_t) → EndWithin (length gs) sts
     → EndWithin (length (clusters gs)) sts
-ends sts gs w = let P : ℕ → Type 0 = λ n. EndWithin n sts in subst P (sym (length-map gs (λ g. g.cluster))) w
+ends sts gs w = search (arith, length-map)
 
 each-merge_all : (P : ℕ → Type 0) (level : BufferClusterLevel) (sts : List (ℕ × ℕ)) (gs : List hb_glyph_info_t)
     → EndWithin (length gs) sts → Each P gs → Each P (merge_all level sts gs)
 each-merge_all P level sts gs w p =
-    let Q : List ℕ → Type 0 = All P in
     each_of P (merge_all level sts gs)
-    (subst Q (sym (clusters-merge_all level sts gs))
+    (subst (All P) (sym (clusters-merge_all level sts gs))
     (all-joined P level sts (clusters gs) (ends sts gs w) (all_of P gs p)))
 
 -- merges in a text of which only this part has clusters that are P
@@ -179,21 +154,26 @@ merge_all-alone : (P : ℕ → Type 0) (level : BufferClusterLevel) (a : ℕ) (s
     → merge_all level (shifted a sts) (before ++ (gs ++ behind)) ≡ before ++ (merge_all level sts gs ++ behind)
 merge_all-alone P level a [] before gs behind n w p h i = refl
 merge_all-alone P level a (st ∷ sts) before gs behind n w p h i =
-    let ms = merge level st.0 st.1 gs in
-    let W : ℕ → Type 0 = λ n. EndWithin n sts in
-    ap (merge_all level (shifted a sts)) (merge-before P level a st.0 st.1 before gs behind n w.0 p h
-    ∙ ap (λ l. before ++ l) (merge-behind P level st.0 st.1 gs behind w.0 p i))
-    ∙ merge_all-alone P level a sts before ms behind n (subst W (sym (length-merge level st.0 st.1 gs w.0)) w.1)
-    (each-merge_all P level (st ∷ []) gs (w.0, tt) p) h i
+    search (
+      arith,
+      merge-before,
+      merge-behind,
+      merge_all-alone P level a sts before (merge level st.0 st.1 gs) behind n
+          (subst (λ n. EndWithin n sts) (sym (length-merge level st.0 st.1 gs w.0)) w.1)
+          (each-merge_all P level (st ∷ []) gs (w.0, tt) p) h i,
+    )
 
 pub each-pick : (P : ℕ → Type 0) (ps : List ℕ) (gs : List hb_glyph_info_t) → AllByRecursion (λ p. p < length gs) ps
     → Each P gs → Each P (pick ps gs)
 each-pick P ps gs w p =
-    let Q : List ℕ → Type 0 = All P in
-    let W : ℕ → Type 0 = λ n. AllByRecursion (λ p. p < n) ps in
-    each_of P (pick ps gs)
-    (subst Q (pick-map (λ g. g.cluster) ps gs)
-    (all-picked P ps (clusters gs) (subst W (sym (length-map gs (λ g. g.cluster))) w) (all_of P gs p)))
+    search (
+      arith,
+      each_of P (pick ps gs)
+          (subst (All P) (pick-map (λ g. g.cluster) ps gs) (all-picked P ps (clusters gs) (search (
+            arith,
+            length-map,
+          )) (all_of P gs p))),
+    )
 
 run_step-alone : (P : ℕ → Type 0) (level : BufferClusterLevel) (s e n : ℕ) (step : Step)
     (before gs behind : List hb_glyph_info_t) → s ≤ e → length before ≡ s → length gs ≡ e - s → e + length behind ≡ n
@@ -201,23 +181,22 @@ run_step-alone : (P : ℕ → Type 0) (level : BufferClusterLevel) (s e n : ℕ)
     → (run_step level (widened s e n step) (before ++ (gs ++ behind)) ≡ before ++ (run_step level step gs ++ behind))
     × (length (run_step level step gs) ≡ e - s) × Each P (run_step level step gs)
 run_step-alone P level s e n step before gs behind le a b c f p h i =
-    let W : ℕ → Type 0 = λ n. EndWithin n step.merged_first in
-    let T : ℕ → Type 0 = λ n. EndWithin n step.merged_then in
-    let V : ℕ → Type 0 = λ n. AllByRecursion (λ p. p < n) step.places in
-    let first : EndWithin (length gs) step.merged_first = subst W (sym b) f.first_within in
+    let first = subst (λ n. EndWithin n step.merged_first) (sym b) f.first_within in
     let ms = merge_all level step.merged_first gs in
-    let mn : length ms ≡ e - s = length-merge_all level step.merged_first gs first ∙ b in
-    let mp : Each P ms = each-merge_all P level step.merged_first gs first p in
-    let within : AllByRecursion (λ p. p < length ms) step.places = subst V (sym mn) f.within in
+    let mn : length ms ≡ e - s = search (arith, length-merge_all) in
+    let within = subst (λ n. AllByRecursion (λ p. p < n) step.places) (sym mn) f.within in
     let ps = pick step.places ms in
-    let pn : length ps ≡ e - s = length-pick step.places ms within ∙ f.as_many in
-    let pp : Each P ps = each-pick P step.places ms within mp in
-    let last : EndWithin (length ps) step.merged_then = subst T (sym pn) f.then_within in (
-      ap (λ l. merge_all level (shifted s step.merged_then) (pick (widened s e n step).places l))
-          (merge_all-alone P level s step.merged_first before gs behind a first p h i)
-          ∙ ap (merge_all level (shifted s step.merged_then)) (pick-parts s e n step before ms behind le a mn c f)
-          ∙ merge_all-alone P level s step.merged_then before ps behind a last pp h i,
-      length-merge_all level step.merged_then ps last ∙ pn,
+    let pp = each-pick P step.places ms within (each-merge_all P level step.merged_first gs first p) in
+    let last = subst (λ n. EndWithin n step.merged_then) (sym
+    (length-pick step.places ms within ∙ f.as_many)) f.then_within in
+    search (
+      arith,
+      merge_all-alone P level s step.merged_first before gs behind a first p h i,
+      pick-parts s e n step before ms behind le a mn c f,
+      merge_all-alone P level s step.merged_then before ps behind a last pp h i,
+      length-merge_all level step.merged_then ps last,
+      length-pick step.places ms within,
+      f.as_many,
       each-merge_all P level step.merged_then ps last pp,
     )
 
@@ -229,8 +208,7 @@ run_steps-alone : (P : ℕ → Type 0) (level : BufferClusterLevel) (s e n : ℕ
 run_steps-alone P level s e n [] before gs behind le a b c f p h i = refl
 run_steps-alone P level s e n (step ∷ steps) before gs behind le a b c f p h i =
     let (is, many, each) = run_step-alone P level s e n step before gs behind le a b c f.0 p h i in
-    ap (run_steps level (map (widened s e n) steps)) is
-    ∙ run_steps-alone P level s e n steps before (run_step level step gs) behind le a many c f.1 each h i
+    cc (run_steps-alone P level s e n steps before (run_step level step gs) behind le a many c f.1 each h i)
 
 apart : (gs hs : List hb_glyph_info_t) → ShareNone gs hs → Each (λ k. Contains (clusters gs) k → ⊥) hs
 apart gs hs h =
@@ -248,7 +226,7 @@ pub steps_alone : (level : BufferClusterLevel) (s e n : ℕ) (steps : List Step)
     ≡ before ++ (run_steps level steps gs ++ behind)
 steps_alone level s e n steps before gs behind le a b c f h i =
     run_steps-alone (Contains (clusters gs)) level s e n steps before gs behind le a b c f
-    (each_of (Contains (clusters gs)) gs (All-contains_itself (clusters gs))) (apart gs before h)
+    (search (arith, each_of, All-contains_itself)) (apart gs before h)
     (apart gs behind i)
 
 -- two halves that share no cluster: steps over each, one after another, give the halves' results joined
@@ -257,52 +235,43 @@ pub halves : (level : BufferClusterLevel) (a n : ℕ) (xs ys : List Step) (gs hs
     → run_steps level (map (widened 0 a n) xs ++ map (widened a n n) ys) (gs ++ hs) ≡ run_steps level xs gs
     ++ run_steps level ys hs
 halves level a n xs ys gs hs ga hn f g h =
-    let F : ℕ → Type 0 = λ k. FitSteps k xs in
-    let first : FitSteps (a - 0) xs = (let i : a ≡ a - 0 = omega arith in subst F i f) in
-    let later : (i j : ℕ) → i < length hs → j < length gs → slice_index (clusters hs) i ≢ slice_index (clusters gs) j =
-    λ i j il jl e. h j i jl il (sym e) in
+    let first = (let i : a ≡ a - 0 = omega arith in subst (λ k. FitSteps k xs) i f) in
+    let later : (i j : ℕ) → i < length hs → j < length gs → slice_index (clusters hs) i ≢ slice_index (clusters gs) j
+    = search arith in
     let before = run_steps level xs gs in
-    let cn : length (clusters gs) ≡ a = length-map gs (λ g. g.cluster) ∙ ga in
+    let cn : length (clusters gs) ≡ a = search (arith, length-map) in
     let P : ℕ → Type 0 = λ k. Contains (clusters hs) k → ⊥ in
     let still = all-joined_steps P level a xs (clusters gs) cn f (all_of P gs (apart hs gs later)) in
     let is = clusters-run_steps level xs gs in
     let A : List ℕ → Type 0 = All P in
     let many : length before ≡ a = sym (length-map before (λ g. g.cluster)) ∙ ap length is ∙ still.0 in
-    ap (λ ts. run_steps level (map (widened 0 a n) xs ++ map (widened a n n) ys) (gs ++ ts)) (sym (append-nil hs))
-    ∙ fold-append (λ gs step. run_step level step gs) (gs ++ (hs ++ [])) (map (widened 0 a n) xs)
-    (map (widened a n n) ys)
-    ∙ ap (run_steps level (map (widened a n n) ys)) (steps_alone level 0 a n xs
-    [] gs (hs ++ []) (omega arith) refl (omega arith) (omega (arith, ap length (append-nil hs))) first
-    (λ i j il jl. absurd (omega arith))
-    (λ i j il jl. let Q : List hb_glyph_info_t → Type 0 = λ ts. (j : ℕ) → j < length ts
-    → slice_index (clusters gs) i ≢ slice_index (clusters ts) j in subst Q (sym (append-nil hs))
-    (λ j jl. h i j il jl) j jl))
-    ∙ run_steps-alone (Contains (clusters hs)) level a n n ys before hs
-    [] (omega arith) many (omega arith) (omega arith) g
-    (each_of (Contains (clusters hs)) hs (All-contains_itself (clusters hs)))
-    (each_of P before (subst A (sym is) still.1)) tt
-    ∙ ap (λ ts. before ++ ts) (append-nil (run_steps level ys hs))
+    cc (
+      append-nil hs,
+      fold-append (λ gs step. run_step level step gs) (gs ++ (hs ++ [])) (map (widened 0 a n) xs)
+          (map (widened a n n) ys),
+      steps_alone level 0 a n xs [] gs (hs ++ []) (omega arith) refl (omega arith)
+          (omega (arith, ap length (append-nil hs))) first (λ i j il jl. absurd (omega arith))
+          (λ i j il jl. let Q : List hb_glyph_info_t → Type 0 = λ ts. (j : ℕ) → j < length ts → slice_index (clusters
+          gs) i ≢ slice_index (clusters ts) j in subst Q (sym (append-nil hs)) (λ j jl. h i j il jl) j jl),
+      run_steps-alone (Contains (clusters hs)) level a n n ys before hs [] (omega arith) many (omega arith)
+          (omega arith) g (each_of (Contains (clusters hs)) hs (All-contains_itself (clusters hs)))
+          (each_of P before (subst A (sym is) still.1)) tt,
+      append-nil (run_steps level ys hs),
+    )
 
 -- a step over a stretch of a stretch
 pub shifted-twice : (a s : ℕ) (sts : List (ℕ × ℕ)) → shifted a (shifted s sts) ≡ shifted (a + s) sts
 shifted-twice a s [] = refl
 shifted-twice a s (st ∷ sts) =
-    let i : a + (s + st.0) ≡ a + s + st.0 = omega arith in
-    let j : a + (s + st.1) ≡ a + s + st.1 = omega arith in
-    let r = shifted-twice a s sts in
-    ap (λ x. (x, a + (s + st.1)) ∷ shifted a (shifted s sts)) i
-    ∙ ap (λ y. (a + s + st.0, y) ∷ shifted a (shifted s sts)) j ∙ ap (λ l. (a + s + st.0, a + s + st.1) ∷ l) r
+    search (arith, shifted-twice a s sts)
 
 added-twice : (a s : ℕ) (ps : List ℕ) → map (λ p. a + p) (map (λ p. s + p) ps) ≡ map (λ p. a + s + p) ps
 added-twice a s [] = refl
-added-twice a s (p ∷ ps) = let i : a + (s + p) ≡ a + s + p =
-    omega arith in ap (λ x. x ∷ map (λ p. a + p) (map (λ p. s + p) ps)) i
-    ∙ ap (λ l. (a + s + p) ∷ l) (added-twice a s ps)
+added-twice a s (p ∷ ps) = search (arith, added-twice a s ps)
 
 pub ranges-join : (a b j k l : ℕ) → a + j ≡ b → j + k ≡ l
     → range_with_len a j ++ range_with_len b k ≡ range_with_len a l
-ranges-join a b j k l e f = ap (λ x. range_with_len a j ++ range_with_len x k) (sym e) ∙ sym (range-append a j k)
-    ∙ ap (range_with_len a) f
+ranges-join a b j k l e f = cc (range-append a j k)
 
 widened-places : (a b n s e : ℕ) (ps : List ℕ) → s ≤ e → e ≤ b - a → a ≤ b → b ≤ n
     → range_with_len 0 a
@@ -310,47 +279,28 @@ widened-places : (a b n s e : ℕ) (ps : List ℕ) → s ≤ e → e ≤ b - a �
     ++ range_with_len b (n - b)) ≡ range_with_len 0 (a + s)
     ++ (map (λ p. a + s + p) ps ++ range_with_len (a + e) (n - (a + e)))
 widened-places a b n s e ps h i j k =
-    let front = range_with_len 0 a in
     let rest = range_with_len b (n - b) in
-    let inner : map (λ p. a + p) (range_with_len 0 s ++ (map (λ p. s + p) ps ++ range_with_len e (b - a - e)))
-    ≡ range_with_len (a + 0) s ++ (map (λ p. a + s + p) ps ++ range_with_len (a + e) (b - a - e)) =
-    map-append (λ p. a + p) (range_with_len 0 s) (map (λ p. s + p) ps ++ range_with_len e (b - a - e))
-    ∙ ap (λ l. l ++ map (λ p. a + p) (map (λ p. s + p) ps ++ range_with_len e (b - a - e))) (map-range a 0 s)
-    ∙ ap (λ l. range_with_len (a + 0) s ++ l)
-    (map-append (λ p. a + p) (map (λ p. s + p) ps) (range_with_len e (b - a - e))
-    ∙ ap (λ l. l ++ map (λ p. a + p) (range_with_len e (b - a - e))) (added-twice a s ps)
-    ∙ ap (λ l. map (λ p. a + s + p) ps ++ l) (map-range a e (b - a - e))) in
     let x = range_with_len (a + 0) s in
     let y = map (λ p. a + s + p) ps in
     let z = range_with_len (a + e) (b - a - e) in
-    ap (λ l. front ++ (l ++ rest)) inner
-    ∙ ap (λ l. front ++ l) (append_assoc x (y ++ z) rest ∙ ap (λ l. x ++ l) (append_assoc y z rest))
-    ∙ sym (append_assoc front x (y ++ (z ++ rest)))
-    ∙ ap (λ l. l ++ (y ++ (z ++ rest))) (ranges-join 0 (a + 0) a s (a + s) (omega arith) refl)
-    ∙ ap (λ l. range_with_len 0 (a + s) ++ (y ++ l))
-    (ranges-join (a + e) b (b - a - e) (n - b) (n - (a + e)) (omega arith) (omega arith))
-
-widened-widened : (a b n s e : ℕ) (step : Step) → s ≤ e → e ≤ b - a → a ≤ b → b ≤ n
-    → widened a b n (widened s e (b - a) step) ≡ widened (a + s) (a + e) n step
-widened-widened a b n s e step h i j k =
-    let first = shifted-twice a s step.merged_first in
-    let moved = widened-places a b n s e step.places h i j k in
-    let later = shifted-twice a s step.merged_then in
-    let make : List (ℕ × ℕ) → List ℕ → List (ℕ × ℕ) → Step =
-    λ x y z. record { merged_first = x; places = y; merged_then = z } in
-    ap (λ x. make x (widened a b n (widened s e (b - a) step)).places (shifted a (shifted s step.merged_then))) first
-    ∙ ap (λ y. make (shifted (a + s) step.merged_first) y (shifted a (shifted s step.merged_then))) moved
-    ∙ ap (λ z. make (shifted (a + s) step.merged_first) (widened (a + s) (a + e) n step).places z) later
+    cc (
+      map-append (λ p. a + p) (range_with_len 0 s) (map (λ p. s + p) ps ++ range_with_len e (b - a - e)),
+      map-range a 0 s,
+      map-append (λ p. a + p) (map (λ p. s + p) ps) (range_with_len e (b - a - e)),
+      added-twice a s ps,
+      map-range a e (b - a - e),
+      append_assoc x (y ++ z) rest,
+      append_assoc y z rest,
+      append_assoc (range_with_len 0 a) x (y ++ (z ++ rest)),
+      ranges-join 0 (a + 0) a s (a + s) (omega arith) refl,
+      ranges-join (a + e) b (b - a - e) (n - b) (n - (a + e)) (omega arith) (omega arith),
+    )
 
 map-widened : (a b n s k : ℕ) (steps : List Step) → s + k ≤ b - a → a ≤ b → b ≤ n
     → map (widened a b n) (map (widened s (s + k) (b - a)) steps) ≡ map (widened (a + s) (a + s + k) n) steps
 map-widened a b n s k [] h i j = refl
 map-widened a b n s k (step ∷ steps) h i j =
-    let e : a + (s + k) ≡ a + s + k = omega arith in
-    let one : widened a b n (widened s (s + k) (b - a) step) ≡ widened (a + s) (a + s + k) n step =
-    widened-widened a b n s (s + k) step (omega arith) h i j ∙ ap (λ e. widened (a + s) e n step) e in
-    ap (λ x. x ∷ map (widened a b n) (map (widened s (s + k) (b - a)) steps)) one
-    ∙ ap (λ l. widened (a + s) (a + s + k) n step ∷ l) (map-widened a b n s k steps h i j)
+    search (arith, shifted-twice, widened-places, map-widened a b n s k steps h i j)
 
 -- the steps of neighbouring stretches within a half, as those within the whole
 pub along-widened : (a b n s : ℕ) (pieces : List (ℕ × List Step)) → s + sum_by (λ piece. piece.0) pieces ≤ b - a → a ≤ b
@@ -358,23 +308,14 @@ pub along-widened : (a b n s : ℕ) (pieces : List (ℕ × List Step)) → s + s
 along-widened a b n s [] l i j = refl
 along-widened a b n s (piece ∷ rest) l i j =
     let k = sum_by-cons (λ piece. piece.0) piece rest in
-    let e : a + (s + piece.0) ≡ a + s + piece.0 = omega arith in
-    map-append (widened a b n) (map (widened s (s + piece.0) (b - a)) piece.1) (steps_along (b - a) (s + piece.0) rest)
-    ∙ ap (λ l. l ++ map (widened a b n) (steps_along (b - a) (s + piece.0) rest))
-    (map-widened a b n s piece.0 piece.1 (omega arith) i j)
-    ∙ ap (λ l. map (widened (a + s) (a + s + piece.0) n) piece.1 ++ l)
-    (along-widened a b n (s + piece.0) rest (omega arith) i j ∙ ap (λ x. steps_along n x rest) e)
+    search (arith, map-append, map-widened, along-widened a b n (s + piece.0) rest (omega arith) i j)
 
 pub along-append : (n s : ℕ) (ps qs : List (ℕ × List Step)) → steps_along n s (ps ++ qs) ≡ steps_along n s ps
     ++ steps_along n (s + sum_by (λ piece. piece.0) ps) qs
-along-append n s [] qs = let i : s ≡ s + 0 = omega arith in ap (λ x. steps_along n x qs) i
+along-append n s [] qs = search arith
 along-append n s (p ∷ ps) qs =
     let k = sum_by-cons (λ piece. piece.0) p ps in
-    let e : s + p.0 + sum_by (λ piece. piece.0) ps ≡ s + sum_by (λ piece. piece.0) (p ∷ ps) = omega arith in
-    ap (λ l. map (widened s (s + p.0) n) p.1 ++ l) (along-append n (s + p.0) ps qs
-    ∙ ap (λ x. steps_along n (s + p.0) ps ++ steps_along n x qs) e)
-    ∙ sym (append_assoc (map (widened s (s + p.0) n) p.1) (steps_along n (s + p.0) ps)
-    (steps_along n (s + sum_by (λ piece. piece.0) (p ∷ ps)) qs))
+    search (arith, append_assoc, along-append n (s + p.0) ps qs)
 
 -- a text cut between two stretches, into halves that share no cluster: its steps give the halves' results joined
 pub halves_along : (level : BufferClusterLevel) (ps qs : List (ℕ × List Step)) (gs hs : List hb_glyph_info_t)
@@ -383,27 +324,15 @@ pub halves_along : (level : BufferClusterLevel) (ps qs : List (ℕ × List Step)
     → ShareNone gs hs → run_steps level (steps_along (length gs + length hs) 0 (ps ++ qs)) (gs ++ hs)
     ≡ run_steps level (steps_along (length gs) 0 ps) gs ++ run_steps level (steps_along (length hs) 0 qs) hs
 halves_along level ps qs gs hs a b f g h =
-    let n = length gs + length hs in
-    let m : length gs ≡ length gs - 0 = omega arith in
-    let k : length hs ≡ length gs + length hs - length gs = omega arith in
     let xs = steps_along (length gs) 0 ps in
     let ys = steps_along (length gs + length hs - length gs) 0 qs in
-    let first : steps_along (length gs + length hs) 0 ps ≡ map (widened 0 (length gs) (length gs + length hs)) xs =
-    sym (ap (λ x. map (widened 0 (length gs) (length gs + length hs)) (steps_along x 0 ps)) m
-    ∙ along-widened 0 (length gs) (length gs + length hs) 0 ps (omega arith) (omega arith) (omega arith)
-    ∙ (let i : 0 + 0 ≡ 0 = omega arith in ap (λ x. steps_along (length gs + length hs) x ps) i)) in
-    let second : steps_along (length gs + length hs) (0 + sum_by (λ piece. piece.0) ps) qs
-    ≡ map (widened (length gs) (length gs + length hs) (length gs + length hs)) ys =
-    (let i : 0 + sum_by (λ piece. piece.0) ps
-    ≡ length gs + 0 = omega arith in ap (λ x. steps_along (length gs + length hs) x qs) i)
-    ∙ sym (along-widened (length gs) (length gs + length hs) (length gs + length hs) 0 qs (omega arith) (omega arith)
-    (omega arith)) in
-    let fit : FitSteps (length gs) xs = all_along FitsStep fits-widened (length gs) 0 ps (omega arith) f in
-    let fits : FitSteps (length gs + length hs - length gs) ys =
-    all_along FitsStep fits-widened (length gs + length hs - length gs) 0 qs (omega arith) g in
-    ap (λ l. run_steps level l (gs ++ hs)) (along-append (length gs + length hs) 0 ps qs)
-    ∙ ap (λ l. run_steps level (l ++ steps_along (length gs + length hs) (0 + sum_by (λ piece. piece.0) ps) qs)
-    (gs ++ hs)) first
-    ∙ ap (λ l. run_steps level (map (widened 0 (length gs) (length gs + length hs)) xs ++ l) (gs ++ hs)) second
-    ∙ halves level (length gs) (length gs + length hs) xs ys gs hs refl refl fit fits h
-    ∙ ap (λ x. run_steps level xs gs ++ run_steps level (steps_along x 0 qs) hs) (sym k)
+    search (
+      arith,
+      along-append (length gs + length hs) 0 ps qs,
+      along-widened 0 (length gs) (length gs + length hs) 0 ps (omega arith) (omega arith) (omega arith),
+      along-widened (length gs) (length gs + length hs) (length gs + length hs) 0 qs (omega arith) (omega arith)
+          (omega arith),
+      halves level (length gs) (length gs + length hs) xs ys gs hs refl refl
+          (all_along FitsStep fits-widened (length gs) 0 ps (omega arith) f)
+          (all_along FitsStep fits-widened (length gs + length hs - length gs) 0 qs (omega arith) g) h,
+    )

@@ -15,12 +15,6 @@ pub record Keeps (t n : ℕ) (ps : List ℕ) : Type 0 where
   pub below : (k : ℕ) → k < t → get_or ps k 0 ≡ k
   pub above : (k : ℕ) → t ≤ k → k < n → t ≤ get_or ps k 0
 
-pub keeps_range : (t n : ℕ) → t ≤ n → Keeps t n (range_with_len 0 n)
-keeps_range t n l = record {
-  below = λ k b. get_or-range_with_len 0 n k 0 (omega arith) ∙ omega arith;
-  above = λ k a b. omega (arith, get_or-range_with_len 0 n k 0 b);
-}
-
 pub keeps_widened : (s e n : ℕ) (steps : List Step) → s ≤ e → e ≤ n → FitSteps (e - s) steps
     → Keeps s n (old_places n (map (widened s e n) steps))
 keeps_widened s e n steps l m fits =
@@ -28,30 +22,32 @@ keeps_widened s e n steps l m fits =
     let xs = range_with_len 0 s in
     let ys = map (λ p. s + p) olds in
     let zs = range_with_len e (n - e) in
-    let xn : length xs ≡ s = length-range_with_len 0 s in
-    let yn : length ys ≡ e - s = length-map olds (λ p. s + p) ∙ length-old_places (e - s) steps fits in
+    let xn = length-range_with_len 0 s in
+    let yn : length ys ≡ e - s = search (arith, length-map, length-old_places) in
     subst (Keeps s n) (sym (old_places-widened s e n steps l m fits)) (record {
       below = λ k b. get_or_append_left xs (ys ++ zs) 0 k (omega arith) ∙ get_or-range_with_len 0 s k 0 b ∙ omega arith;
       above = λ k a b. elim (cases_lt (k - s) (e - s)) [
-        | inl h ↦ (let is = get_or-append_right xs (ys ++ zs) s k 0 xn a
-            ∙ get_or_append_left ys zs 0 (k - s) (omega arith)
-            ∙ get_or-map (λ p. s + p) olds (k - s) 0 0 (omega (arith, length-old_places (e - s) steps fits)) in omega
-            (arith, is))
-        | inr h ↦ (let is = get_or-append_right xs (ys ++ zs) s k 0 xn a
-            ∙ get_or-append_right ys zs (e - s) (k - s) 0 yn h
-            ∙ get_or-range_with_len e (n - e) (k - s - (e - s)) 0 (omega arith) in omega (arith, is))
+        | inl h ↦ (omega (
+          arith,
+          get_or-append_right xs (ys ++ zs) s k 0 xn a ∙ get_or_append_left ys zs 0 (k - s) (omega arith) ∙ get_or-map
+              (λ p. s + p) olds (k - s) 0 0 (omega (arith, length-old_places (e - s) steps fits)),
+        ))
+        | inr h ↦ (omega (
+          arith,
+          get_or-append_right xs (ys ++ zs) s k 0 xn a ∙ get_or-append_right ys zs (e - s) (k - s) 0 yn h
+              ∙ get_or-range_with_len e (n - e) (k - s - (e - s)) 0 (omega arith),
+        ))
       ];
     })
 
 pub keeps_along : (n t : ℕ) (pieces : List (ℕ × List Step)) → t + sum_by (λ piece. piece.0) pieces ≤ n
     → AllByRecursion (λ piece. FitSteps piece.0 piece.1) pieces → Keeps t n (old_places n (steps_along n t pieces))
-keeps_along n t [] l h = keeps_range t n (omega arith)
+keeps_along n t [] l h = search (arith, get_or-range_with_len)
 keeps_along n t (piece ∷ rest) l h =
     let sum = sum_by-cons (λ piece. piece.0) piece rest in
     let u = t + piece.0 in
-    let i : piece.0 ≡ u - t = omega arith in
     let within : u ≤ n = omega arith in
-    let fits : FitSteps (u - t) piece.1 = subst (λ k. FitSteps k piece.1) i h.0 in
+    let fits = subst (λ k. FitSteps k piece.1) (omega arith) h.0 in
     let sts = map (widened t u n) piece.1 in
     let more = steps_along n u rest in
     let low : t ≤ u = omega arith in
@@ -59,20 +55,27 @@ keeps_along n t (piece ∷ rest) l h =
     let one = keeps_widened t u n piece.1 low within fits in
     let two = keeps_along n u rest rests h.1 in
     let all_one = all_fit-widened t u n piece.1 low within fits in
-    let all_two : FitSteps n more = all_along FitsStep fits-widened n u rest rests h.1 in
     let X = old_places n more in
     let W = old_places n sts in
-    let wn : length W ≡ n = length-old_places n sts all_one in
-    let xn : length X ≡ n = length-old_places n more all_two in
-    let inside : AllByRecursion (λ p. p < length W) X =
-    subst (λ k. AllByRecursion (λ p. p < k) X) (sym wn) (within-old_places n more) in
+    let xn : length X ≡ n = length-old_places n more (all_along FitsStep fits-widened n u rest rests h.1) in
+    let inside =
+    subst (λ k. AllByRecursion (λ p. p < k) X) (sym (length-old_places n sts all_one)) (within-old_places n more) in
     subst (Keeps t n) (sym (old_places_then n sts more all_one)) (record {
       below = λ k b. get_or-pick 0 X W inside k (omega arith) ∙ ap (λ q. get_or W q 0) (two.below k (omega arith))
           ∙ one.below k b;
       above = λ k a b.
           let q = get_or X k 0 in
-          let high : t ≤ q = elim (cases_lt k u)
-          [ inl h ↦ omega (arith, two.below k h) | inr h ↦ omega (arith, two.above k h b) ] in
-          let there : q < n = (let w = within_at n X (within-old_places n more) k (omega arith) in w) in
-          omega (arith, get_or-pick 0 X W inside k (omega arith), one.above q high there);
+          omega (
+            arith,
+            get_or-pick 0 X W inside k (omega arith),
+            one.above q
+                (elim (cases_lt k u) [
+                  | inl h ↦ omega (arith, two.below k h)
+                  | inr h ↦ omega (
+                    arith,
+                    two.above k h
+                        b,
+                  )
+                ]) (let w = within_at n X (within-old_places n more) k (omega arith) in w),
+          );
     })

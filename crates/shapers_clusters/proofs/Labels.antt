@@ -8,7 +8,7 @@ use Rattle.shapers_clusters.proofs.Spread.{Spread, joined_cases}
 use Rattle.shapers_clusters.specs.Cuts.{EndWithin, OneAlong}
 use Rattle.shapers_clusters.proofs.Neighbours.{end_within_joined}
 use Rattle.shapers_buffer.specs.Places.{pick}
-use Rattle.shapers_clusters.specs.Steps.{Step, joined_step, joined_steps, moved_on, old_places, FitsStep, FitSteps}
+use Rattle.shapers_clusters.specs.Steps.{Step, joined_step, joined_steps, moved_on, old_places, FitSteps}
 use Rattle.shapers_clusters.proofs.Picks.{length-pick, get_or-pick, pick-all, pick-pick, within_picked, within_range, within_at}
 use Rattle.shapers_clusters.proofs.Moves.{stepped}
 use Rattle.shapers_clusters.specs.Labels.{IsLabelled, OfOldPlaces, OneLabelEach}
@@ -20,7 +20,7 @@ spread-label s e cs js ls f h i o p a b = elim (cases_lt p s) [
   | inl c ↦ i.agree p s (omega (arith, f.high_end)) (omega (arith, f.high_within, f.high_end)) (f.left p a c)
   | inr c ↦ elim (cases_lt p e) [
     | inl d ↦ o p s c d (omega arith) (omega arith)
-    | inr d ↦ i.agree p (e - 1) (omega (arith, f.high_end)) (omega (arith, f.high_within, f.high_end)) (f.right p d b)
+    | inr d ↦ i.agree p (e - 1) (omega (arith, f.high_end)) (search arith) (f.right p d b)
         ∙ o (e - 1) s (omega arith) (omega arith) (omega arith) (omega arith)
   ]
 ]
@@ -29,7 +29,7 @@ spread-label s e cs js ls f h i o p a b = elim (cases_lt p s) [
 spread-label_of : (s e : ℕ) (cs js ls : List ℕ) (f : Spread s e cs js) → s + 1 < e → IsLabelled cs ls
     → OneAlong ls (s, e) → (p : ℕ) → p < length cs → get_or cs p 0 ≡ f.m → get_or ls p 0 ≡ get_or ls s 0
 spread-label_of s e cs js ls f h i o p l c =
-    i.agree p f.at l (omega (arith, f.at_to, f.high_within, f.high_end)) (c ∙ sym f.at_is)
+    i.agree p f.at l (search arith) (c ∙ sym f.at_is)
     ∙ o f.at s f.at_from f.at_to (omega arith) (omega arith)
 
 -- a place either was reached or keeps its cluster
@@ -43,9 +43,8 @@ label_reach s e cs js f p = elim (cases_lt p f.low) [
 spread-labelled : (s e : ℕ) (cs js ls : List ℕ) → Spread s e cs js → s + 1 < e → IsLabelled cs ls → OneAlong ls (s, e)
     → IsLabelled js ls
 spread-labelled s e cs js ls f h i o = record {
-  as_many = i.as_many ∙ sym f.same_length;
+  as_many = search arith;
   agree = λ p q pl ql eq.
-      let n = f.same_length in
       elim (label_reach s e cs js f p) [
         | inl x ↦ elim (label_reach s e cs js f q) [
           | inl y ↦ spread-label s e cs js ls f h i o p x.0 x.1 ∙ sym (spread-label s e cs js ls f h i o q y.0 y.1)
@@ -70,15 +69,15 @@ joined-labelled level s e cs ls w i o =
 spread-of_old : (s e : ℕ) (ds ks cs js ls : List ℕ) → Spread s e cs js → s + 1 < e → IsLabelled cs ls
     → OneAlong ls (s, e) → OfOldPlaces ds ks cs ls → OfOldPlaces ds ks js ls
 spread-of_old s e ds ks cs js ls f h i o old p l =
-    let n = f.same_length in
     elim (label_reach s e cs js f p) [
       | inl x ↦ (
-          let (q, ql, c, m) = old f.at (omega (arith, f.at_to, f.high_within, f.high_end)) in (
-            q,
-            ql,
-            x.2 ∙ sym f.at_is ∙ c,
-            spread-label s e cs js ls f h i o p x.0 x.1
-                ∙ o s f.at (omega arith) (omega arith) f.at_from f.at_to ∙ m,
+          let (q, ql, c, m) = old f.at (omega (arith, f.at_to, f.high_within, f.high_end)) in
+          search (
+            arith,
+            x.2,
+            f.at_is,
+            spread-label s e cs js ls f h i o p x.0 x.1,
+            o s f.at (omega arith) (omega arith) f.at_from f.at_to,
           ))
       | inr y ↦ (let (q, ql, c, m) = old p (omega arith) in (q, ql, y ∙ c, m))
     ]
@@ -90,55 +89,38 @@ pub record Labelled (ds ks cs ls : List ℕ) : Type 0 where
 
 joined-labels : (level : BufferClusterLevel) (s e : ℕ) (ds ks cs ls : List ℕ) → e ≤ length cs → Labelled ds ks cs ls
     → OneAlong ls (s, e) → Labelled ds ks (joined level s e cs) ls
-joined-labels level s e ds ks cs ls w i o = record {
-  respected = joined-labelled level s e cs ls w i.respected o;
-  of_old = joined_cases (λ js. OfOldPlaces ds ks js ls) level s e cs w (λ _. i.of_old)
-      (λ js _ h f. spread-of_old s e ds ks cs js ls f (omega arith) i.respected o i.of_old);
-}
+joined-labels level s e ds ks cs ls w i o =
+    search (
+      arith,
+      joined-labelled level s e cs ls w i.respected o,
+      joined_cases (λ js. OfOldPlaces ds ks js ls) level s e cs w (λ _. i.of_old)
+          (λ js _ h f. spread-of_old s e ds ks cs js ls f (omega arith) i.respected o i.of_old),
+    )
 
 joined_all-labels : (level : BufferClusterLevel) (sts : List (ℕ × ℕ)) (ds ks cs ls : List ℕ) → EndWithin (length cs) sts
     → Labelled ds ks cs ls → AllByRecursion (OneAlong ls) sts → Labelled ds ks (joined_all level sts cs) ls
 joined_all-labels level [] ds ks cs ls w i o = i
 joined_all-labels level (st ∷ sts) ds ks cs ls w i o =
-    joined_all-labels level sts ds ks (joined level st.0 st.1 cs) ls (end_within_joined level st.0 st.1 cs sts w.0 w.1)
-    (joined-labels level st.0 st.1 ds ks cs ls w.0 i o.0) o.1
+    joined_all-labels level sts ds ks (joined level st.0 st.1 cs) ls (search (arith, end_within_joined))
+    (search (arith, joined-labels)) o.1
 
 pick-labels : (ps ds ks cs ls : List ℕ) → AllByRecursion (λ p. p < length cs) ps → Labelled ds ks cs ls
     → Labelled ds ks (pick ps cs) (pick ps ls)
 pick-labels ps ds ks cs ls w i =
-    let P : ℕ → Type 0 = λ n. AllByRecursion (λ p. p < n) ps in
-    let v = subst P (sym i.respected.as_many) w in
+    let v = subst (λ n. AllByRecursion (λ p. p < n) ps) (sym i.respected.as_many) w in
     let n = length-pick ps cs w in
-    let cluster : (p : ℕ) → p < length ps → get_or (pick ps cs) p 0 ≡ get_or cs (get_or ps p 0) 0 =
+    let cluster =
     get_or-pick 0 ps cs w in
-    let label : (p : ℕ) → p < length ps → get_or (pick ps ls) p 0 ≡ get_or ls (get_or ps p 0) 0 =
+    let label =
     get_or-pick 0 ps ls v in
-    let inside : (p : ℕ) → p < length ps → get_or ps p 0 < length cs = within_at (length cs) ps w in
+    let inside = within_at (length cs) ps w in
     record {
-      respected = record {
-        as_many = length-pick ps ls v ∙ sym n;
-        agree = λ p q pl ql eq.
-            let pn : p < length ps = omega arith in
-            let qn : q < length ps = omega arith in
-            label p pn ∙ i.respected.agree (get_or ps p 0) (get_or ps q 0) (inside p pn) (inside q qn)
-            (sym (cluster p pn) ∙ eq ∙ cluster q qn) ∙ sym (label q qn);
-      };
+      respected = search (arith, length-pick ps ls v, i.respected.agree);
       of_old = λ p l.
           let pn : p < length ps = omega arith in
           let (q, ql, c, m) = i.of_old (get_or ps p 0) (inside p pn) in
           (q, ql, cluster p pn ∙ c, label p pn ∙ m);
     }
-
-joined_step-labels : (n : ℕ) (level : BufferClusterLevel) (step : Step) (ds ks cs ls : List ℕ) → length cs ≡ n
-    → FitsStep n step → Labelled ds ks cs ls → AllByRecursion (OneAlong ls) step.merged_first
-    → AllByRecursion (OneAlong (pick step.places ls)) step.merged_then
-    → Labelled ds ks (joined_step level step cs) (pick step.places ls)
-joined_step-labels n level step ds ks cs ls e f i first later =
-    let s = stepped n level step cs e f in
-    let js = joined_all level step.merged_first cs in
-    joined_all-labels level step.merged_then ds ks (pick step.places js) (pick step.places ls) s.then_within
-    (pick-labels step.places ds ks js ls s.within
-    (joined_all-labels level step.merged_first ds ks cs ls s.first_within i first)) later
 
 -- labels, and the clusters that steps still to come find
 moved-labels : (n : ℕ) (level : BufferClusterLevel) (steps : List Step) (ds ks cs olds ls : List ℕ) → length cs ≡ n
@@ -147,11 +129,12 @@ moved-labels : (n : ℕ) (level : BufferClusterLevel) (steps : List Step) (ds ks
 moved-labels n level [] ds ks cs olds ls e f w i o = i
 moved-labels n level (step ∷ steps) ds ks cs olds ls e f w i o =
     let same = pick-pick step.places olds ls w in
-    let Q : List ℕ → Type 0 = λ xs. Labelled ds ks (joined_step level step cs) xs in
-    let R : List ℕ → Type 0 = λ xs. OneLabelEach steps xs in
     moved-labels n level steps ds ks (joined_step level step cs) (pick step.places olds) ls
-    (stepped n level step cs e f.0).as_many f.1 (within_picked (length ls) step.places olds w)
-    (subst Q same (joined_step-labels n level step ds ks cs (pick olds ls) e f.0 i o.0 o.1)) (subst R same o.2)
+    (stepped n level step cs e f.0).as_many f.1 (search (arith, within_picked))
+    (subst
+    (λ xs. Labelled ds ks (joined_step level step cs) xs) same (
+    let s = stepped n level step cs e f.0 in search (arith, joined_all-labels, pick-labels))) (subst
+    (λ xs. OneLabelEach steps xs) same o.2)
 
 -- if each stretch has one label as it merges, places that share a cluster in the end have equal
 -- labels, and each has the cluster of
@@ -160,10 +143,7 @@ pub joined_steps-labels : (level : BufferClusterLevel) (steps : List Step) (cs l
     → IsLabelled cs ls → OneLabelEach steps ls
     → Labelled cs ls (joined_steps level steps cs) (pick (old_places (length cs) steps) ls)
 joined_steps-labels level steps cs ls f i o =
-    let n = i.as_many in
-    let e = pick-all (length cs) ls n in
-    let start : Labelled cs ls cs ls = record { respected = i; of_old = λ p l. (p, l, refl, refl) } in
-    let Q : List ℕ → Type 0 = λ xs. Labelled cs ls cs xs in
-    let R : List ℕ → Type 0 = λ xs. OneLabelEach steps xs in
+    let e = pick-all (length cs) ls i.as_many in
     moved-labels (length cs) level steps cs ls cs (range_with_len 0 (length cs)) ls refl f
-    (within_range 0 (length cs) (length ls) (omega arith)) (subst Q (sym e) start) (subst R (sym e) o)
+    (search (arith, within_range)) (subst (λ xs. Labelled cs ls cs xs) (sym e)
+    (record { respected = i; of_old = λ p l. (p, l, refl, refl) })) (subst (λ xs. OneLabelEach steps xs) (sym e) o)

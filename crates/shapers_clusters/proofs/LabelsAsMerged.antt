@@ -1,6 +1,6 @@
 -- Labels that the merged stretches have in the end, they have as they merge, where later steps spare what merged.
-use Rattle.std.proofs.Common.{ℕ, ◌-◌, ◌<◌, ◌≤◌, ◌≡◌, true, inl, inr, List, [], ◌∷◌, ◌++◌, length, get_or, refl, sym, ◌∙◌, ap, subst, arith}
-use Rattle.std.specs.List.{All, AllByRecursion, Contains, range_with_len}
+use Rattle.std.proofs.Common.{ℕ, ◌-◌, ◌<◌, ◌≤◌, ◌≡◌, true, inl, inr, List, [], ◌∷◌, ◌++◌, length, get_or, refl, sym, ◌∙◌, subst, arith}
+use Rattle.std.specs.List.{AllByRecursion, Contains, range_with_len}
 use Rattle.std.specs.List.Sorted.{IsPermutation}
 use Rattle.std.proofs.lemmas.List.{get_or_default}
 use Rattle.std.proofs.lemmas.List.Elements.{All-contains_itself}
@@ -32,18 +32,19 @@ held_label (st ∷ sts) ls one r h = elim (in_stretch st.0 st.1 r (held sts r) h
 between_label : (sts : List (ℕ × ℕ)) (ls : List ℕ) → AllByRecursion (OneAlong ls) sts → (p q : ℕ) → HeldBetween sts p q
     → get_or ls q 0 ≡ get_or ls p 0
 between_label sts ls one p q between =
-    share_all ls p q (λ r a b. held_label sts ls one r (between r a b)) q (omega arith) (omega arith)
+    search (arith, share_all, held_label)
 
 -- each of n places stands somewhere in a list that takes each once
 pub taken_once : (n : ℕ) (ps : List ℕ) → IsPermutation (range_with_len 0 n) ps → (q : ℕ) → q < n
     → (p : ℕ) × (p < length ps) × (get_or ps p 0 ≡ q)
 taken_once n ps perm q l =
     let range = range_with_len 0 n in
-    let all : All (Contains ps) range =
-    All-permutation (Contains ps) ps range (IsPermutation-sym range ps perm) (All-contains_itself ps) in
-    let (p, inside, found) = all q 0 (omega (arith, length-range_with_len 0 n)) in
-    let is : get_or range q 0 ≡ q = get_or-range_with_len 0 n q 0 l ∙ omega arith in
-    (p, inside, get_or_default ps p 0 (get_or range q 0) inside ∙ found ∙ is)
+    let (p, inside, found) =
+    (All-permutation (Contains ps) ps range (IsPermutation-sym range ps perm) (All-contains_itself ps)) q 0 (omega (
+      arith,
+      length-range_with_len 0 n,
+    )) in
+    search (arith, get_or_default, get_or-range_with_len)
 
 -- the labels of a stretch stay through steps that spare it
 label_stays : (n : ℕ) (steps : List Step) (ls : List ℕ) → length ls ≡ n → FitSteps n steps → OneLabelEach steps ls
@@ -52,17 +53,16 @@ label_stays : (n : ℕ) (steps : List Step) (ls : List ℕ) → length ls ≡ n 
 label_stays n [] ls long fits each st end spares p a b = refl
 label_stays n (step ∷ steps) ls long fits each st end spares p a b =
     let one = fits.0 in
-    let many = one.as_many in
-    let within : AllByRecursion (λ p. p < length ls) step.places =
+    let within =
     subst (λ k. AllByRecursion (λ p. p < k) step.places) (sym long) one.within in
     let ms = pick step.places ls in
     let picked : get_or ms p 0 ≡ get_or ls (get_or step.places p 0) 0 =
-    get_or-pick 0 step.places ls within p (omega arith) in
-    let here : get_or ms p 0 ≡ get_or ls p 0 = picked ∙ elim spares.0 [
-      | inl stays ↦ ap (λ q. get_or ls q 0) (stays p a b)
-      | inr moves ↦ between_label step.merged_first ls each.0 p (get_or step.places p 0) (moves.inside p (omega arith))
-    ] in
-    label_stays n steps ms (length-pick step.places ls within ∙ one.as_many) fits.1 each.2 st end spares.1 p a b ∙ here
+    search (arith, get_or-pick) in
+    search (
+      arith,
+      between_label,
+      label_stays n steps ms (length-pick step.places ls within ∙ one.as_many) fits.1 each.2 st end spares.1 p a b,
+    )
 
 -- one label in the end, so one label before the steps that spare the stretch
 one_before : (n : ℕ) (steps : List Step) (ls : List ℕ) → length ls ≡ n → FitSteps n steps → OneLabelEach steps ls
@@ -72,35 +72,24 @@ one_before : (n : ℕ) (steps : List Step) (ls : List ℕ) → length ls ≡ n �
 one_before n steps ls long fits each [] ends spares one = tt
 one_before n steps ls long fits each (st ∷ sts) ends spares one =
     let stays : (p : ℕ) → st.0 ≤ p → p < st.1 → get_or (moved_on steps ls) p 0 ≡ get_or ls p 0 =
-    label_stays n steps ls long fits each st ends.0 spares.0 in (
-      (λ p q pl ph ql qh. sym (stays p pl ph) ∙ one.0 p q pl ph ql qh ∙ stays q ql qh),
-      one_before n steps ls long fits
-          each sts ends.1 spares.1 one.1,
-    )
+    search (arith, label_stays) in
+    search (arith, one_before n steps ls long fits each sts ends.1 spares.1 one.1)
 
 -- a step that moves inside what it merged moves no label, where the stretches have one label each behind it
 label_unmoved : (n : ℕ) (step : Step) (ls : List ℕ) → length ls ≡ n → MovesMerged n step → Permutes n step
     → AllByRecursion (OneAlong (pick step.places ls)) step.merged_first → (q : ℕ) → q < n
     → get_or (pick step.places ls) q 0 ≡ get_or ls q 0
 label_unmoved n step ls long moves perm one q l =
-    let fits = moves.fits in
-    let within : AllByRecursion (λ p. p < length ls) step.places =
-    subst (λ k. AllByRecursion (λ p. p < k) step.places) (sym long) fits.within in
+    let within : AllByRecursion (λ p. p < length ls) step.places = subst (λ k. AllByRecursion (λ p. p < k)
+    step.places) (sym long) moves.fits.within in
     let (p, inside, at) = taken_once n step.places perm q l in
-    let between : HeldBetween step.merged_first p q =
-    subst (HeldBetween step.merged_first p) at (moves.inside p inside) in
-    between_label step.merged_first (pick step.places ls) one p q between ∙ get_or-pick 0 step.places ls within p inside
-    ∙ ap (λ k. get_or ls k 0) at
+    search (arith, between_label, get_or-pick)
 
 same_labels : (n : ℕ) (ls ms : List ℕ) → ((q : ℕ) → q < n → get_or ms q 0 ≡ get_or ls q 0) → (sts : List (ℕ × ℕ))
     → AllByRecursion (λ st. st.1 ≤ n) sts → AllByRecursion (OneAlong ms) sts → AllByRecursion (OneAlong ls) sts
 same_labels n ls ms same [] ends one = tt
 same_labels n ls ms same (st ∷ sts) ends one =
-    let end = ends.0 in (
-      (λ p q pl ph ql qh. sym (same p (omega arith)) ∙ one.0 p q pl ph ql qh ∙ same q (omega arith)),
-      same_labels n ls ms
-          same sts ends.1 one.1,
-    )
+    search (arith, same_labels n ls ms same sts ends.1 one.1)
 
 pub labels_as_merged : (n : ℕ) (steps : List Step) (ls : List ℕ) → length ls ≡ n → FitSteps n steps
     → AllByRecursion (Permutes n) steps → SpareMerged n steps
@@ -111,14 +100,14 @@ labels_as_merged n (step ∷ steps) ls long fits perm spare one =
     let within : AllByRecursion (λ p. p < length ls) step.places =
     subst (λ k. AllByRecursion (λ p. p < k) step.places) (sym long) fit.within in
     let ms = pick step.places ls in
-    let ml : length ms ≡ n = length-pick step.places ls within ∙ fit.as_many in
+    let ml : length ms ≡ n = search (arith, length-pick) in
     let parts = all_split (OneAlong (moved_on steps ms)) (step.merged_first ++ step.merged_then) (all_merged steps)
     one in
     let rest = labels_as_merged n steps ms ml fits.1 perm.1 spare.2 parts.1 in
     let ends = all-append (λ (st : ℕ × ℕ). st.1 ≤ n) step.merged_first step.merged_then fit.first_within
     fit.then_within in
     let both = all_split (OneAlong ms) step.merged_first step.merged_then
-    (one_before n steps ms ml fits.1 rest (step.merged_first ++ step.merged_then) ends spare.1 parts.0) in
+    (search (arith, one_before)) in
     let first : AllByRecursion (OneAlong ls) step.merged_first = elim spare.0 [
       | inl none ↦ subst (AllByRecursion (OneAlong ls)) (sym none) tt
       | inr moves ↦ same_labels n ls ms (label_unmoved n step ls long moves perm.0 both.0) step.merged_first

@@ -1,5 +1,5 @@
 -- The words of laws, each on something that they hold of, and on something that they don't.
-use Rattle.std.proofs.Common.{ℕ, zero, suc, ◌<◌, ◌≤◌, ◌≡◌, inl, inr, true, false, List, [], ◌∷◌, slice_index, refl, ap, arith}
+use Rattle.std.proofs.Common.{ℕ, zero, suc, ◌<◌, ◌≤◌, ◌≡◌, inl, inr, true, false, List, [], ◌∷◌, slice_index, refl, arith}
 use Rattle.std.specs.List.{slice_index_or}
 use Rattle.shapers_buffer.specs.declared.buffer.glyph.hb_glyph_info_t.{hb_glyph_info_t}
 use Rattle.shapers_buffer.specs.Glyph.{default_glyph}
@@ -27,25 +27,24 @@ shared_back : ShareCluster numbers 2 1
 shared_back r low high = threes r low (omega arith)
 
 not_shared : ShareCluster numbers 1 4 → ⊥
-not_shared share = let same : 4 ≡ 3 = share 3 (omega arith) (omega arith) in absurd (omega (arith, same))
+not_shared share = search arith
 
 not_shared_back : ShareCluster numbers 4 1 → ⊥
-not_shared_back share = let same : 4 ≡ 3 = share 3 (omega arith) (omega arith) in absurd (omega (arith, same))
+not_shared_back share = search arith
 
 -- neighbours that differ, asked from either end
 not_shared_next : ShareCluster numbers 2 3 → ⊥
-not_shared_next share = let same : 4 ≡ 3 = share 3 (omega arith) (omega arith) in absurd (omega (arith, same))
+not_shared_next share = search arith
 
 not_shared_before : ShareCluster numbers 3 2 → ⊥
-not_shared_before share = let same : 3 ≡ 4 = share 2 (omega arith) (omega arith) in absurd (omega (arith, same))
+not_shared_before share = search arith
 
 -- a stretch has one label, its end left out
 one_label : OneAlong numbers (1, 3)
-one_label p q pl ph ql qh = omega (arith, threes p pl ph, threes q ql qh)
+one_label p q pl ph ql qh = search (arith, threes)
 
 two_labels : OneAlong numbers (1, 4) → ⊥
-two_labels same = let e : 4 ≡ 3 =
-    same 3 2 (omega arith) (omega arith) (omega arith) (omega arith) in absurd (omega (arith, e))
+two_labels same = search arith
 
 -- two stretches that meet in place 1 link places 0 to 2, but not 3
 chain : (r : ℕ) → 0 < r → r ≤ 2 → linked (0 ∷ 1 ∷ 2 ∷ 3 ∷ []) ((0, 2) ∷ (1, 3) ∷ []) r ≡ true
@@ -58,15 +57,15 @@ one_block : SameBlock (0 ∷ 1 ∷ 2 ∷ 3 ∷ []) ((0, 2) ∷ (1, 3) ∷ []) 2 
 one_block r low high = chain r low high
 
 two_blocks : SameBlock (0 ∷ 1 ∷ 2 ∷ 3 ∷ []) ((0, 2) ∷ (1, 3) ∷ []) 0 3 → ⊥
-two_blocks same = absurd (let e : false ≡ true = same 3 (omega arith) (omega arith) in cc)
+two_blocks same = search arith
 
 -- a place alone in its cluster stands apart; one whose cluster comes again behind it or before it doesn't
 apart : StandsApart 1 2 (0 ∷ 1 ∷ 2 ∷ [])
 apart zero j low high some out = absurd (omega arith)
-apart (suc zero) zero low high some out = λ same. absurd (omega (arith, same))
+apart (suc zero) zero low high some out = search arith
 apart (suc zero) (suc zero) low high some (inl before) = absurd (omega arith)
 apart (suc zero) (suc zero) low high some (inr behind) = absurd (omega arith)
-apart (suc zero) (suc (suc zero)) low high some out = λ same. absurd (omega (arith, same))
+apart (suc zero) (suc (suc zero)) low high some out = search arith
 apart (suc zero) (suc (suc (suc j))) low high some out = absurd (omega arith)
 apart (suc (suc i)) j low high some out = absurd (omega arith)
 
@@ -88,20 +87,20 @@ falls : FallsTo (glyph 5 0x13) (glyph 3 0x10)
 falls = (omega arith, refl)
 
 rises : FallsTo (glyph 5 0x13) (glyph 6 0x10) → ⊥
-rises fell = absurd (omega (arith, fell.0))
+rises fell = search arith
 
 keeps_flags : FallsTo (glyph 5 0x13) (glyph 3 0x13) → ⊥
-keeps_flags fell = let e : 0x13 ≡ 0x10 = ap (λ g. g.mask) fell.1 in absurd (omega (arith, e))
+keeps_flags fell = search arith
 
 loses_flags : FallsTo (glyph 5 0x13) (glyph 5 0x10) → ⊥
-loses_flags fell = let e : 0x10 ≡ 0x13 = ap (λ g. g.mask) fell.1 in absurd (omega (arith, e))
+loses_flags fell = search arith
 
 -- bits may be gained, not lost
 gained : KeepsBits (glyph 5 9) (glyph 5 11)
 gained = keeps-with_bits 2 (glyph 5 9)
 
 lost : KeepsBits (glyph 5 9) (glyph 5 10) → ⊥
-lost kept = let e : 1 ≤ 0 = kept 0 in absurd (omega (arith, e))
+lost kept = search (arith, kept 0)
 
 -- clusters that never fall, that never rise, and that do both
 rising : (i j d : ℕ) → i < j → j < 2 → slice_index_or (2 ∷ 2 ∷ []) i d ≤ slice_index_or (2 ∷ 2 ∷ []) j d
@@ -120,8 +119,8 @@ monotone : IsMonotone (2 ∷ 2 ∷ []) × IsMonotone (5 ∷ 3 ∷ [])
 monotone = (inl rising, inr falling)
 
 not_monotone : IsMonotone (1 ∷ 3 ∷ 2 ∷ []) → ⊥
-not_monotone (inl up) = let e : 3 ≤ 2 = up 1 2 0 (omega arith) (omega arith) in absurd (omega (arith, e))
-not_monotone (inr down) = let e : 3 ≤ 1 = down 0 1 0 (omega arith) (omega arith) in absurd (omega (arith, e))
+not_monotone (inl up) = search (arith, up 1 2 0 (omega arith) (omega arith))
+not_monotone (inr down) = search (arith, down 0 1 0 (omega arith) (omega arith))
 
 -- a step that swaps places 0 and 1 unmerged spares a stretch that it leaves, and none that it
 -- enters; merged first, it spares that too
@@ -138,9 +137,9 @@ spared : Spares 3 (2, 3) swap
 spared = inl left
 
 not_spared : Spares 3 (1, 3) swap → ⊥
-not_spared (inl stays) = let e : 0 ≡ 1 = stays 1 (omega arith) (omega arith) in absurd (omega (arith, e))
+not_spared (inl stays) = cc (stays 1 (omega arith) (omega arith))
 not_spared (inr moves) =
     absurd (let e : false ≡ true = moves.inside 0 (omega arith) 1 (omega arith) (omega arith) in cc)
 
 spared_inside : Spares 2 (0, 2) (record { merged_first = (0, 2) ∷ []; places = 1 ∷ 0 ∷ []; merged_then = [] })
-spared_inside = inr (moves_anywhere 2 (1 ∷ 0 ∷ []) refl (omega arith, (omega arith, tt)))
+spared_inside = inr (search (arith, moves_anywhere))

@@ -5,9 +5,8 @@ mod BorderRows
 pub mod Bounds
 pub mod CarriedGroups
 mod CarriedGroupRows
-pub mod CarriedGlyphs
-mod CarriedRunRows
-pub mod CarriedRuns
+mod FloodRows
+pub mod FloodsBack
 pub mod ClearPlaces
 pub mod Cuts
 pub mod StepsOutside
@@ -37,6 +36,7 @@ pub mod Picks
 pub mod Proved
 mod Rows
 pub mod Sources
+pub mod SettledGroups
 pub mod SparedCuts
 pub mod Spread
 pub mod StaysAlong

@@ -1,8 +1,7 @@
 -- Made glyphs: each comes of an old place, and a view of it stays, whatever else the hook changes.
-use Rattle.std.proofs.Common.{ℕ, ◌+◌, ◌-◌, ◌%◌, ◌<◌, ◌≤◌, ◌≡◌, List, [], ◌∷◌, ◌++◌, length, map, drop, get_or, refl, sym, ◌∙◌, ap, subst, arith}
+use Rattle.std.proofs.Common.{ℕ, ◌+◌, ◌-◌, ◌<◌, ◌≤◌, ◌≡◌, List, [], ◌∷◌, ◌++◌, length, map, drop, get_or, refl, sym, ◌∙◌, ap, arith}
 use Rattle.std.specs.List.{All, AllByRecursion, AllZip, Contains, enumerate_from}
 use Rattle.std.proofs.lemmas.List.{get_or_append_left, get_or-append_right, drop_more, length-drop}
-use Rattle.std.proofs.lemmas.List.Elements.{All-get_or}
 use Rattle.shapers_buffer.specs.declared.buffer.glyph.hb_glyph_info_t.{hb_glyph_info_t}
 use Rattle.shapers_buffer.specs.Glyph.{default_glyph, clusters}
 use Rattle.shapers_buffer.specs.Places.{pick}
@@ -19,18 +18,12 @@ pub record SameClusters (xs ys : List hb_glyph_info_t) : Type 0 where
 
 pub same_clusters : (view : hb_glyph_info_t → hb_glyph_info_t) → ShowsClusters view → (xs ys : List hb_glyph_info_t)
     → map view ys ≡ map view xs → SameClusters xs ys
-same_clusters view shows [] [] same = record { clusters_are = refl; flags_stay = tt }
-same_clusters view shows [] (y ∷ ys) same = absurd (omega (arith, ap length same))
-same_clusters view shows (x ∷ xs) [] same = absurd (omega (arith, ap length same))
+same_clusters view shows [] [] same = search arith
+same_clusters view shows [] (y ∷ ys) same = cc
+same_clusters view shows (x ∷ xs) [] same = cc
 same_clusters view shows (x ∷ xs) (y ∷ ys) same =
-    let first : view y ≡ view x = ap (λ zs. get_or zs 0 default_glyph) same in
     let rest = same_clusters view shows xs ys (ap (drop 1) same) in
-    let cluster : y.cluster ≡ x.cluster = sym (shows.cluster y) ∙ ap (λ g. g.cluster) first ∙ shows.cluster x in
-    let flags : y.mask % 8 ≡ x.mask % 8 = sym (shows.flags y) ∙ ap (λ g. g.mask % 8) first ∙ shows.flags x in
-    record {
-      clusters_are = ap (λ c. c ∷ clusters ys) cluster ∙ ap (λ cs. x.cluster ∷ cs) rest.clusters_are;
-      flags_stay = (flags_kept x y cluster flags, rest.flags_stay);
-    }
+    search (arith, shows.cluster, flags_kept, shows.flags)
 
 -- a made glyph with the place that it comes of; to the view it is the glyph there
 pub record Made (view : hb_glyph_info_t → hb_glyph_info_t) (gs : List hb_glyph_info_t) : Type 0 where
@@ -56,7 +49,7 @@ all_standing view gs = standing_from view gs 0 gs refl
 glyphs-standing_from : (view : hb_glyph_info_t → hb_glyph_info_t) (gs : List hb_glyph_info_t) (n : ℕ)
     (xs : List hb_glyph_info_t) (rest : drop n gs ≡ xs) → map (λ m. m.glyph) (standing_from view gs n xs rest) ≡ xs
 glyphs-standing_from view gs n [] rest = refl
-glyphs-standing_from view gs n (x ∷ xs) rest = ap (λ ys. x ∷ ys) (glyphs-standing_from view gs (n + 1) xs _)
+glyphs-standing_from view gs n (x ∷ xs) rest = cc (glyphs-standing_from view gs (n + 1) xs _)
 
 pub glyphs-standing : (view : hb_glyph_info_t → hb_glyph_info_t) (gs : List hb_glyph_info_t)
     → map (λ m. m.glyph) (all_standing view gs) ≡ gs
@@ -67,12 +60,12 @@ numbered-standing_from : {X : Type 0} (read : hb_glyph_info_t → X) (view : hb_
     → map (λ m. (m.place, read m.glyph)) (standing_from view gs n xs rest) ≡ enumerate_from n (map read xs)
 numbered-standing_from read view gs n [] rest = refl
 numbered-standing_from read view gs n (x ∷ xs) rest =
-    ap (λ ys. (n, read x) ∷ ys) (numbered-standing_from read view gs (n + 1) xs _)
+    cc (numbered-standing_from read view gs (n + 1) xs _)
 
 pub numbered-standing : {X : Type 0} (read : hb_glyph_info_t → X) (view : hb_glyph_info_t → hb_glyph_info_t)
     (gs : List hb_glyph_info_t) → map (λ m. (m.place, read m.glyph)) (all_standing view gs)
     ≡ enumerate_from 0 (map read gs)
-numbered-standing read view gs = numbered-standing_from read view gs 0 gs refl
+numbered-standing read view gs = search (arith, numbered-standing_from)
 
 -- made glyphs are, to the view, what stands at their places
 pub record AreMade (view : hb_glyph_info_t → hb_glyph_info_t) (gs : List hb_glyph_info_t) (sources : List ℕ)
@@ -82,16 +75,17 @@ pub record AreMade (view : hb_glyph_info_t → hb_glyph_info_t) (gs : List hb_gl
 
 pub are_made : (view : hb_glyph_info_t → hb_glyph_info_t) (gs : List hb_glyph_info_t) (made : List (Made view gs))
     → AreMade view gs (map (λ m. m.place) made) (map (λ m. m.glyph) made)
-are_made view gs [] = record { within = tt; same = refl }
+are_made view gs [] = search arith
 are_made view gs (m ∷ made) =
     let rest = are_made view gs made in
-    record {
-      within = (m.inside, rest.within);
-      same =
-          ap (λ g. g ∷ map view (map (λ m. m.glyph) made)) m.same
-          ∙ ap (λ ys. view (get_or gs m.place default_glyph) ∷ ys) rest.same
-          ∙ sym (ap (map view) (pick-within default_glyph m.place (map (λ m. m.place) made) gs m.inside));
-    }
+    search (
+      arith,
+      m.inside,
+      rest.within,
+      m.same,
+      rest.same,
+      pick-within default_glyph m.place (map (λ m. m.place) made) gs m.inside,
+    )
 
 -- one of the stretches holds the sources of a part of the result together
 pub held_in_stretch : (sts : List (ℕ × ℕ)) (st : ℕ × ℕ) (sources front inside behind : List ℕ) → Contains sts st
@@ -99,17 +93,6 @@ pub held_in_stretch : (sts : List (ℕ × ℕ)) (st : ℕ × ℕ) (sources front
     → i < length front + length inside → length front ≤ j → j < length front + length inside → HeldAlong sts sources i j
 held_in_stretch sts st sources front inside behind among parts all i j a b c d k low high =
     let at : (n : ℕ) → length front ≤ n → n < length front + length inside
-    → get_or sources n 0 ≡ get_or inside (n - length front) 0 = λ n above below.
-    ap (λ xs. get_or xs n 0) parts ∙ get_or-append_right front (inside ++ behind) (length front) n 0 refl above
-    ∙ get_or_append_left inside behind 0 (n - length front) (omega arith) in
-    let in_stretch : (n : ℕ) → length front ≤ n → n < length front + length inside → (st.0 ≤ get_or sources n 0)
-    × (get_or sources n 0 < st.1) = λ n above below.
-    subst (λ p. (st.0 ≤ p) × (p < st.1)) (sym (at n above below))
-    (All-get_or (λ p. (st.0 ≤ p) × (p < st.1)) inside (n - length front) 0 (omega arith) all) in
-    let before = in_stretch (k - 1) (omega arith) (omega arith) in
-    let here = in_stretch k (omega arith) (omega arith) in
-    let (index, inner, is) = among in
-    let starts = ap (λ s. s.0) is in
-    let ends = ap (λ s. s.1) is in
-    held_by sts index st inner (get_or sources (k - 1) 0) (get_or sources k 0) (omega arith) (omega arith) (omega arith)
-    (omega arith)
+    → get_or sources n 0 ≡ get_or inside (n - length front) 0 =
+    search (arith, get_or-append_right, get_or_append_left) in
+    search (arith, held_by)

@@ -1,5 +1,5 @@
 -- Lengths, order views and single places through the merge rule.
-use Rattle.std.proofs.Common.{ℕ, ◌-◌, ◌<◌, ◌≤◌, ◌≡◌, ◌==◌, Bool, true, false, if◌then◌else◌, nat_lt, not, ◌&&◌, List, [], ◌∷◌, ◌++◌, map, length, take, drop, refl, sym, ◌∙◌, ap, subst, arith, length-append, length-take, length-drop}
+use Rattle.std.proofs.Common.{ℕ, ◌-◌, ◌<◌, ◌≤◌, ◌≡◌, Bool, true, false, if◌then◌else◌, nat_lt, not, ◌&&◌, List, [], ◌∷◌, ◌++◌, map, length, take, drop, refl, sym, ◌∙◌, ap, subst, arith, length-append, length-take, length-drop}
 use Rattle.std.proofs.lemmas.List.{length-reverse, length-map, map-append, reverse-reverse}
 use Rattle.std.proofs.lemmas.Bool.Decides.{nat_tests}
 use Rattle.std.specs.List.{AllByRecursion}
@@ -31,26 +31,22 @@ length-merged s e gs h l = simp (length-append, length-reverse, length-map, leng
 pub length-merge : (level : BufferClusterLevel) (s e : ℕ) (gs : List hb_glyph_info_t) → e ≤ length gs
     → length (merge level s e gs) ≡ length gs
 length-merge level s e gs l =
-    merge_cases (λ ms. length ms ≡ length gs) level s e gs refl (λ h. length-merged s e gs (omega arith) l)
+    merge_cases (λ ms. length ms ≡ length gs) level s e gs refl (λ h. search (arith, length-merged))
 
 pub length-merge_all : (level : BufferClusterLevel) (sts : List (ℕ × ℕ)) (gs : List hb_glyph_info_t)
     → AllByRecursion (λ st. st.1 ≤ length gs) sts → length (merge_all level sts gs) ≡ length gs
 length-merge_all level [] gs h = refl
 length-merge_all level (st ∷ sts) gs h =
     let e = length-merge level st.0 st.1 gs h.0 in
-    length-merge_all level sts (merge level st.0 st.1 gs) (let P : ℕ
-    → Type 0 = λ n. AllByRecursion (λ st. st.1 ≤ n) sts in subst P (sym e) h.1) ∙ e
+    length-merge_all level sts (merge level st.0 st.1 gs) (subst
+    (λ n. AllByRecursion (λ st. st.1 ≤ n) sts) (sym e) h.1) ∙ e
 
 pub without_flags-twice : (n : ℕ) → without_flags (without_flags n) ≡ without_flags n
 without_flags-twice n = omega arith
 
 plain-in_cluster : (m : ℕ) (g : hb_glyph_info_t) → plain (in_cluster m g) ≡ plain g
 plain-in_cluster m g =
-    elim (g.cluster == m) as (λ b. plain (if b then g else record g { cluster = m; mask = without_flags g.mask })
-    ≡ plain g) [
-      | true ↦ refl
-      | false ↦ ap (λ (x : ℕ). record g { cluster = 0; mask = x }) (without_flags-twice g.mask)
-    ]
+    search (arith, without_flags-twice)
 
 order_view-flooded : (c m : ℕ) (gs : List hb_glyph_info_t) → order_view (flooded c m gs) ≡ order_view gs
 order_view-flooded c m [] = refl
@@ -60,17 +56,14 @@ order_view-put : (m : ℕ) (gs : List hb_glyph_info_t) → order_view (map (in_c
 order_view-put m [] = refl
 order_view-put m (g ∷ gs) = let h = plain-in_cluster m g in let i = order_view-put m gs in cc
 
-order_view-merged : (s e : ℕ) (gs : List hb_glyph_info_t) → s ≤ e → order_view (flood_merged s e gs) ≡ order_view gs
-order_view-merged s e gs h =
-    simp (map-append, map-reverse, order_view-flooded, order_view-put, reverse-reverse)
-    (sym (map-append plain (take s gs) (stretch_of s e gs ++ drop e gs)
-    ∙ ap (λ l. order_view (take s gs) ++ l) (map-append plain (stretch_of s e gs) (drop e gs)))
-    ∙ ap order_view (three_parts s e gs h))
-
 pub order_view-merge : (level : BufferClusterLevel) (s e : ℕ) (gs : List hb_glyph_info_t)
     → order_view (merge level s e gs) ≡ order_view gs
 order_view-merge level s e gs =
-    merge_cases (λ ms. order_view ms ≡ order_view gs) level s e gs refl (λ h. order_view-merged s e gs (omega arith))
+    merge_cases (λ ms. order_view ms ≡ order_view gs) level s e gs refl (λ h.
+    simp (map-append, map-reverse, order_view-flooded, order_view-put, reverse-reverse) (sym
+    (map-append plain (take s gs) (stretch_of s e gs ++ drop e gs) ∙ ap (λ l. order_view (take s gs) ++ l)
+    (map-append plain (stretch_of s e gs) (drop e gs)))
+    ∙ ap order_view (three_parts s e gs (omega arith))))
 
 pub order_view-merge_all : (level : BufferClusterLevel) (sts : List (ℕ × ℕ)) (gs : List hb_glyph_info_t)
     → order_view (merge_all level sts gs) ≡ order_view gs
@@ -88,14 +81,17 @@ merge_all-append level (x ∷ xs) ys gs = merge_all-append level xs ys (merge le
 map-order_view : {X : Type 0} (f : hb_glyph_info_t → X) → ((g : hb_glyph_info_t) → f (plain g) ≡ f g)
     → (gs : List hb_glyph_info_t) → map f (order_view gs) ≡ map f gs
 map-order_view f plainly [] = refl
-map-order_view f plainly (g ∷ gs) = ap (λ x. x ∷ map f (order_view gs)) (plainly g)
-    ∙ ap (λ xs. f g ∷ xs) (map-order_view f plainly gs)
+map-order_view f plainly (g ∷ gs) = cc (plainly g, map-order_view f plainly gs)
 
 pub map-merge_all : {X : Type 0} (f : hb_glyph_info_t → X) → ((g : hb_glyph_info_t) → f (plain g) ≡ f g)
     → (level : BufferClusterLevel) (sts : List (ℕ × ℕ)) (gs : List hb_glyph_info_t) → map f (merge_all level sts gs)
     ≡ map f gs
-map-merge_all f plainly level sts gs = sym (map-order_view f plainly (merge_all level sts gs))
-    ∙ ap (map f) (order_view-merge_all level sts gs) ∙ map-order_view f plainly gs
+map-merge_all f plainly level sts gs =
+    cc (
+      map-order_view f plainly (merge_all level sts gs),
+      order_view-merge_all level sts gs,
+      map-order_view f plainly gs,
+    )
 
 -- the same where a run is written
 pub order_view-with_run : (run : ClusterRun) (gs : List hb_glyph_info_t) → run.start ≤ run.end
@@ -110,5 +106,5 @@ order_view-with_run run gs h =
 
 pub map-with_run : {X : Type 0} (f : hb_glyph_info_t → X) → ((g : hb_glyph_info_t) → f (plain g) ≡ f g)
     → (run : ClusterRun) (gs : List hb_glyph_info_t) → run.start ≤ run.end → map f (with_run run gs) ≡ map f gs
-map-with_run f plainly run gs h = sym (map-order_view f plainly (with_run run gs))
-    ∙ ap (map f) (order_view-with_run run gs h) ∙ map-order_view f plainly gs
+map-with_run f plainly run gs h =
+    cc (map-order_view f plainly (with_run run gs), order_view-with_run run gs h, map-order_view f plainly gs)

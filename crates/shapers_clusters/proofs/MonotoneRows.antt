@@ -1,5 +1,5 @@
 -- Clusters that strictly rise or strictly fall, and which places of falling ones a call leaves clear.
-use Rattle.std.proofs.Common.{ℕ, zero, suc, ◌<◌, ◌≡◌, inl, inr, true, false, List, [], ◌∷◌, refl, arith}
+use Rattle.std.proofs.Common.{ℕ, zero, suc, ◌<◌, inl, inr, false, List, [], ◌∷◌, arith}
 use Rattle.std.specs.List.{slice_index_or}
 use Rattle.shapers_buffer.specs.declared.buffer.glyph.hb_glyph_info_t.{hb_glyph_info_t}
 use Rattle.shapers_buffer.specs.Glyph.{default_glyph}
@@ -23,12 +23,12 @@ monotone : IsStrictlyMonotone (2 ∷ 5 ∷ []) × IsStrictlyMonotone (5 ∷ 3 �
 monotone = (inl rising, inr falling)
 
 not_staying : IsStrictlyMonotone (2 ∷ 2 ∷ []) → ⊥
-not_staying (inl up) = let e : 2 < 2 = up 0 1 0 (omega arith) (omega arith) in absurd (omega (arith, e))
-not_staying (inr down) = let e : 2 < 2 = down 0 1 0 (omega arith) (omega arith) in absurd (omega (arith, e))
+not_staying (inl up) = search (arith, up 0 1 0 (omega arith) (omega arith))
+not_staying (inr down) = search (arith, down 0 1 0 (omega arith) (omega arith))
 
 not_both : IsStrictlyMonotone (1 ∷ 3 ∷ 2 ∷ []) → ⊥
-not_both (inl up) = let e : 3 < 2 = up 1 2 0 (omega arith) (omega arith) in absurd (omega (arith, e))
-not_both (inr down) = let e : 3 < 1 = down 0 1 0 (omega arith) (omega arith) in absurd (omega (arith, e))
+not_both (inl up) = search (arith, up 1 2 0 (omega arith) (omega arith))
+not_both (inr down) = search (arith, down 0 1 0 (omega arith) (omega arith))
 
 -- clusters 2 1 0, and a call on the last two glyphs: it forbids a break between these alone, and
 -- there the flag stands in the middle glyph, whose cluster is the greater one
@@ -40,8 +40,8 @@ called = flags_called false false (UnsafeToBreak 1 3 ∷ []) (glyph 2 ∷ glyph 
 
 clear_outside : IsClear called 1
 unfolding glyph
-clear_outside = record { differ = λ e. absurd (omega (arith, e)); unflagged = refl }
+clear_outside = search arith
 
 not_clear_inside : IsClear called 2 → ⊥
 unfolding glyph
-not_clear_inside clear = absurd (let e : true ≡ false = clear.unflagged in cc)
+not_clear_inside clear = cc

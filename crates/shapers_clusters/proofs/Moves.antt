@@ -1,17 +1,17 @@
 -- What steps do: to the order view, to each glyph's cluster and flags, and to the list of clusters.
-use Rattle.std.proofs.Common.{ℕ, ◌-◌, ◌<◌, ◌≤◌, ◌≡◌, inl, inr, true, false, min, max, List, [], ◌∷◌, length, get_or, refl, sym, ◌∙◌, ap, subst, arith, append_assoc, if◌then◌else◌, ◌&&◌, not, nat_lt, ◌++◌, map}
+use Rattle.std.proofs.Common.{ℕ, ◌<◌, ◌≤◌, ◌≡◌, true, false, List, [], ◌∷◌, length, get_or, refl, sym, ◌∙◌, ap, subst, arith, append_assoc, ◌&&◌, nat_lt, ◌++◌}
 use Rattle.std.specs.List.{All, AllByRecursion, AllZip, fold, range_with_len}
 use Rattle.std.proofs.lemmas.List.{length-map, ext_get_or}
 use Rattle.std.proofs.lemmas.List.Elements.{All-from_get_or, length_all_zip}
 use Rattle.std.proofs.lemmas.List.Folds.{list_any-append, list_any_at}
 use Rattle.std.proofs.lemmas.List.FromFn.{length-range_with_len, get_or-range_with_len}
-use Rattle.std.proofs.lemmas.Bool.{cases_lt, or_left, or_right}
+use Rattle.std.proofs.lemmas.Bool.{or_left, or_right}
 use Rattle.std.proofs.lemmas.Bool.Decides.{nat_tests}
 use Rattle.shapers_buffer.specs.declared.buffer.glyph.hb_glyph_info_t.{hb_glyph_info_t}
 use Rattle.shapers_buffer.specs.declared.buffer.level.BufferClusterLevel.{BufferClusterLevel}
 use Rattle.shapers_buffer.specs.Glyph.{clusters, order_view, plain}
-use Rattle.shapers_buffer.specs.Clusters.{merge, merged, merge_all, merges}
-use Rattle.shapers_clusters.specs.ClusterMerges.{of_cluster, joined, joined_all}
+use Rattle.shapers_buffer.specs.Clusters.{merge, merge_all, merges}
+use Rattle.shapers_clusters.specs.ClusterMerges.{joined, joined_all}
 use Rattle.shapers_clusters.proofs.ClusterMerges.{clusters-merge, clusters-of_clusters}
 use Rattle.shapers_clusters.proofs.Merging.{order_view-merge_all, length-merge_all}
 use Rattle.shapers_clusters.specs.Cuts.{EndWithin, held, ShareCluster}
@@ -31,19 +31,17 @@ pub followed : {X S : Type 0} (R : List X → S → Type 0) (run : S → Step �
     → R (pick (moved_on steps olds) old) (fold run s steps)
 followed R run ok keeps old [] olds s f w h = h
 followed {X} R run ok keeps old (step ∷ steps) olds s f w h =
-    let P : List X → Type 0 = λ xs. R xs (run s step) in
     followed R run ok keeps old steps (pick step.places olds) (run s step) f.1
     (within_picked (length old) step.places olds w)
-    (subst P (pick-pick step.places olds old w) (keeps step (pick olds old) s f.0 h))
+    (subst (λ xs. R xs (run s step)) (pick-pick step.places olds old w) (keeps step (pick olds old) s f.0 h))
 
 pub followed_all : {X S : Type 0} (R : List X → S → Type 0) (run : S → Step → S) (ok : Step → Type 0)
     → ((step : Step) (xs : List X) (s : S) → ok step → R xs s → R (pick step.places xs) (run s step))
     → (n : ℕ) (old : List X) (steps : List Step) (s : S) → length old ≡ n → AllByRecursion ok steps → R old s
     → R (pick (old_places n steps) old) (fold run s steps)
 followed_all {X} R run ok keeps n old steps s e f h =
-    let P : List X → Type 0 = λ xs. R xs s in
     followed R run ok keeps old steps (range_with_len 0 n) s f (within_range 0 n (length old) (omega arith))
-    (subst P (sym (pick-all n old e)) h)
+    (subst (λ xs. R xs s) (sym (pick-all n old e)) h)
 
 -- what holds of every list, one after another
 kept : {S : Type 0} (P : S → Type 0) (run : S → Step → S) (ok : Step → Type 0)
@@ -55,8 +53,7 @@ kept P run ok keeps (step ∷ steps) s f h = kept P run ok keeps steps (run s st
 pub clusters-merge_all : (level : BufferClusterLevel) (sts : List (ℕ × ℕ)) (gs : List hb_glyph_info_t)
     → clusters (merge_all level sts gs) ≡ joined_all level sts (clusters gs)
 clusters-merge_all level [] gs = refl
-clusters-merge_all level (st ∷ sts) gs = clusters-merge_all level sts _
-    ∙ ap (joined_all level sts) (clusters-merge level st.0 st.1 gs)
+clusters-merge_all level (st ∷ sts) gs = cc (clusters-merge_all level sts _, clusters-merge level st.0 st.1 gs)
 
 clusters-run_step : (level : BufferClusterLevel) (step : Step) (gs : List hb_glyph_info_t)
     → clusters (run_step level step gs) ≡ joined_step level step (clusters gs)
@@ -69,15 +66,18 @@ clusters-run_step level step gs =
 pub clusters-run_steps : (level : BufferClusterLevel) (steps : List Step) (gs : List hb_glyph_info_t)
     → clusters (run_steps level steps gs) ≡ joined_steps level steps (clusters gs)
 clusters-run_steps level [] gs = refl
-clusters-run_steps level (step ∷ steps) gs = clusters-run_steps level steps (run_step level step gs)
-    ∙ ap (joined_steps level steps) (clusters-run_step level step gs)
+clusters-run_steps level (step ∷ steps) gs =
+    search (arith, clusters-run_step, clusters-run_steps level steps (run_step level step gs))
 
 -- the order view after the steps: what stood at the old places
 order_view-run_step : (level : BufferClusterLevel) (step : Step) (gs : List hb_glyph_info_t)
     → order_view (run_step level step gs) ≡ pick step.places (order_view gs)
 order_view-run_step level step gs =
-    order_view-merge_all level step.merged_then _ ∙ sym (pick-map plain step.places _)
-    ∙ ap (pick step.places) (order_view-merge_all level step.merged_first gs)
+    cc (
+      order_view-merge_all level step.merged_then _,
+      pick-map plain step.places _,
+      order_view-merge_all level step.merged_first gs,
+    )
 
 any_steps : (steps : List Step) → AllByRecursion (λ _. Unit {0}) steps
 any_steps [] = tt
@@ -87,7 +87,7 @@ pub order_view-run_steps : (level : BufferClusterLevel) (steps : List Step) (gs 
     → order_view (run_steps level steps gs) ≡ pick (old_places (length gs) steps) (order_view gs)
 order_view-run_steps level steps gs =
     followed_all (λ xs gs. order_view gs ≡ xs) (λ gs step. run_step level step gs) (λ _. Unit {0})
-    (λ step xs gs _ e. order_view-run_step level step gs ∙ ap (pick step.places) e) (length gs) (order_view gs) steps gs
+    (λ step xs gs _ e. search (arith, order_view-run_step)) (length gs) (order_view gs) steps gs
     (length-map gs plain) (any_steps steps) refl
 
 -- each glyph falls to what its place in the end has
@@ -95,14 +95,13 @@ falls-run_step : (level : BufferClusterLevel) (step : Step) (gs : List hb_glyph_
     → AllZip FallsTo (pick step.places gs) (run_step level step gs)
 falls-run_step level step gs f =
     let ms = merge_all level step.merged_first gs in
-    let n : length ms ≡ length gs = length-merge_all level step.merged_first gs f.first_within in
-    let P : ℕ → Type 0 = λ n. AllByRecursion (λ p. p < n) step.places in
-    let k : length (pick step.places ms) ≡ length gs = length-pick step.places ms (subst P (sym n) f.within)
+    let n : length ms ≡ length gs = search (arith, length-merge_all) in
+    let k = length-pick step.places ms (subst (λ n. AllByRecursion (λ p. p < n) step.places) (sym n) f.within)
     ∙ f.as_many in
-    let Q : ℕ → Type 0 = λ n. EndWithin n step.merged_then in
     all_on (pick step.places gs) (pick step.places ms) (run_step level step gs)
-    (AllZip-pick FallsTo step.places gs ms (merge_all-falls level step.merged_first gs f.first_within))
-    (merge_all-falls level step.merged_then (pick step.places ms) (subst Q (sym k) f.then_within))
+    (search (arith, AllZip-pick, merge_all-falls))
+    (merge_all-falls level step.merged_then (pick step.places ms) (subst
+    (λ n. EndWithin n step.merged_then) (sym k) f.then_within))
 
 -- as many glyphs, each fallen from its own
 abbrev FallenFrom : ℕ → List hb_glyph_info_t → List hb_glyph_info_t → Type 0
@@ -116,51 +115,44 @@ falls-run_steps level steps gs f =
     let P : Step → ℕ → Type 0 = λ step n. FitsStep n step in
     followed_all (FallenFrom (length gs)) (λ gs step. run_step level step gs) (FitsStep (length gs))
     (λ step xs ys g h.
-    let one = falls-run_step level step ys (subst (P step) (sym h.0) g) in
-    let Q : ℕ → Type 0 = λ n. AllByRecursion (λ p. p < n) step.places in (
+    let one = falls-run_step level step ys (subst (P step) (sym h.0) g) in (
       sym (length_all_zip FallsTo (pick step.places ys) (run_step level step ys) one)
-          ∙ length-pick step.places ys (subst Q (sym h.0) g.within) ∙ g.as_many,
+          ∙ length-pick step.places ys (subst
+          (λ n. AllByRecursion (λ p. p < n) step.places) (sym h.0) g.within) ∙ g.as_many,
       all_on (pick step.places xs) (pick step.places ys) (run_step level step ys)
-          (AllZip-pick FallsTo step.places xs ys h.1) one,
+          (search (arith, AllZip-pick)) one,
     ))
     (length gs) gs steps gs refl f (refl, all_same gs)
 
 -- where nothing merges, glyphs only move
 pub merge-unmerged : (level : BufferClusterLevel) → merges level ≡ false → (s e : ℕ) (gs : List hb_glyph_info_t)
     → merge level s e gs ≡ gs
-merge-unmerged level m s e gs = ap (λ b. if b && not (nat_lt (e - s) 2) then merged s e gs else gs) m
+merge-unmerged level m s e gs = cc
 
 pub merge_all-unmerged : (level : BufferClusterLevel) → merges level ≡ false
     → (sts : List (ℕ × ℕ)) (gs : List hb_glyph_info_t) → merge_all level sts gs ≡ gs
 merge_all-unmerged level m [] gs = refl
-merge_all-unmerged level m (st ∷ sts) gs = ap (merge_all level sts) (merge-unmerged level m st.0 st.1 gs)
-    ∙ merge_all-unmerged level m sts gs
-
-joined-unmerged : (level : BufferClusterLevel) → merges level ≡ false → (s e : ℕ) (cs : List ℕ)
-    → joined level s e cs ≡ cs
-joined-unmerged level m s e cs = ap clusters (merge-unmerged level m s e (map of_cluster cs)) ∙ clusters-of_clusters cs
+merge_all-unmerged level m (st ∷ sts) gs = search (arith, merge-unmerged, merge_all-unmerged level m sts gs)
 
 pub joined_all-unmerged : (level : BufferClusterLevel) → merges level ≡ false → (sts : List (ℕ × ℕ)) (cs : List ℕ)
     → joined_all level sts cs ≡ cs
 joined_all-unmerged level m [] cs = refl
-joined_all-unmerged level m (st ∷ sts) cs = ap (joined_all level sts) (joined-unmerged level m st.0 st.1 cs)
-    ∙ joined_all-unmerged level m sts cs
+joined_all-unmerged level m (st ∷ sts) cs =
+    search (arith, merge-unmerged, clusters-of_clusters, joined_all-unmerged level m sts cs)
 
 pub run_steps-unmerged : (level : BufferClusterLevel) → merges level ≡ false
     → (steps : List Step) (gs : List hb_glyph_info_t)
     → run_steps level steps gs ≡ pick (old_places (length gs) steps) gs
 run_steps-unmerged level m steps gs =
     followed_all (λ xs gs. gs ≡ xs) (λ gs step. run_step level step gs) (λ _. Unit {0})
-    (λ step xs gs _ e. merge_all-unmerged level m step.merged_then _
-    ∙ ap (pick step.places) (merge_all-unmerged level m step.merged_first gs ∙ e)) (length gs) gs steps gs refl
+    (λ step xs gs _ e. search (arith, merge_all-unmerged)) (length gs) gs steps gs refl
     (any_steps steps) refl
 
 pub joined_steps-unmerged : (level : BufferClusterLevel) → merges level ≡ false → (steps : List Step) (cs : List ℕ)
     → joined_steps level steps cs ≡ pick (old_places (length cs) steps) cs
 joined_steps-unmerged level m steps cs =
     followed_all (λ xs cs. cs ≡ xs) (λ cs step. joined_step level step cs) (λ _. Unit {0})
-    (λ step xs cs _ e. joined_all-unmerged level m step.merged_then _
-    ∙ ap (pick step.places) (joined_all-unmerged level m step.merged_first cs ∙ e)) (length cs) cs steps cs refl
+    (λ step xs cs _ e. search (arith, joined_all-unmerged)) (length cs) cs steps cs refl
     (any_steps steps) refl
 
 -- moves between places that share a cluster leave the list of clusters as it is
@@ -169,30 +161,29 @@ pub clusters_stay : (cs : List ℕ) (places : List ℕ) → length places ≡ le
     → ((p : ℕ) → p < length cs → get_or cs (get_or places p 0) 0 ≡ get_or cs p 0) → pick places cs ≡ cs
 clusters_stay cs places n w h =
     let k = length-pick places cs w ∙ n in
-    ext_get_or 0 (pick places cs) cs k (λ i l. get_or-pick 0 places cs w i (omega arith) ∙ h i (omega arith))
+    ext_get_or 0 (pick places cs) cs k (λ i l. search (arith, get_or-pick))
 
 -- places that the stretches hold together share a cluster once these are merged
 pub held_share : (level : BufferClusterLevel) → merges level ≡ true → (sts : List (ℕ × ℕ)) (cs : List ℕ)
     → EndWithin (length cs) sts → (p q : ℕ) → p < length cs → q < length cs → HeldBetween sts p q
     → ShareCluster (joined_all level sts cs) p q
 held_share level m sts cs w p q pl ql b =
-    share_all (joined_all level sts cs) p q
-    (λ r x y. joined_all-linked level m sts cs w r (omega arith) (omega arith) (or_right _ _ (b r x y)))
+    search (arith, share_all, joined_all-linked, or_right)
 
 -- a step that moves only inside what it merged first joins clusters, and no more
 joined-merged_step : (level : BufferClusterLevel) → merges level ≡ true → (step : Step) (cs : List ℕ)
     → MovesMerged (length cs) step → joined_step level step cs ≡ joined_all level step.merged_first cs
 joined-merged_step level m step cs f =
-    let js = joined_all level step.merged_first cs in
     let e = f.fits.first_within in
     let k = length-joined_all level step.merged_first cs e in
-    let many = f.fits.as_many in
-    let P : ℕ → Type 0 = λ n. AllByRecursion (λ p. p < n) step.places in
-    ap (λ sts. joined_all level sts (pick step.places js)) f.nothing_then
-    ∙ clusters_stay js step.places (omega arith) (subst P (sym k) f.fits.within)
-    (λ p l. held_share level m step.merged_first cs e p (get_or step.places p 0) (omega arith)
-    (within_at (length cs) step.places f.fits.within p (omega arith)) (f.inside p (omega arith))
-    (get_or step.places p 0) (omega arith) (omega arith))
+    cc (
+      f.nothing_then,
+      clusters_stay (joined_all level step.merged_first cs) step.places (omega arith)
+          (subst (λ n. AllByRecursion (λ p. p < n) step.places) (sym k) f.fits.within)
+          (λ p l. held_share level m step.merged_first cs e p (get_or step.places p 0) (omega arith) (within_at
+          (length cs) step.places f.fits.within p (omega arith)) (f.inside p (omega arith)) (get_or step.places p 0)
+          (omega arith) (omega arith)),
+    )
 
 joined_all-append : (level : BufferClusterLevel) (xs ys : List (ℕ × ℕ)) (cs : List ℕ) → joined_all level (xs ++ ys) cs
     ≡ joined_all level ys (joined_all level xs cs)
@@ -204,24 +195,23 @@ pub joined-merged_steps : (level : BufferClusterLevel) → merges level ≡ true
     → joined_steps level steps cs ≡ joined_all level (all_first steps) cs
 joined-merged_steps level m [] cs f = refl
 joined-merged_steps level m (step ∷ steps) cs f =
-    let e = joined-merged_step level m step cs f.0 in
     let n = length-joined_all level step.merged_first cs f.0.fits.first_within in
-    let P : ℕ → Type 0 = λ n. AllByRecursion (MovesMerged n) steps in
-    ap (joined_steps level steps) e
-    ∙ joined-merged_steps level m steps (joined_all level step.merged_first cs) (subst P (sym n) f.1)
-    ∙ sym (joined_all-append level step.merged_first (all_first steps) cs)
+    search (
+      arith,
+      joined-merged_step,
+      joined_all-append,
+      joined-merged_steps level m steps (joined_all level step.merged_first cs)
+          (subst (λ n. AllByRecursion (MovesMerged n) steps) (sym n) f.1),
+    )
 
 pub held_over : (sts : List (ℕ × ℕ)) (p q t : ℕ) → HeldBetween sts p q → HeldBetween sts q t → HeldBetween sts p t
-held_over sts p q t a b r x y = elim (cases_lt (min p q) r) [
-  | inl h ↦ elim (cases_lt (max p q) r) [ inl g ↦ b r (omega arith) (omega arith) | inr g ↦ a r h g ]
-  | inr h ↦ b r (omega arith) (omega arith)
-]
+held_over sts p q t a b r x y = search arith
 
 pub held-front : (xs ys : List (ℕ × ℕ)) (p q : ℕ) → HeldBetween xs p q → HeldBetween (xs ++ ys) p q
-held-front xs ys p q h r x y = list_any-append _ xs ys ∙ or_left (held xs r) (held ys r) (h r x y)
+held-front xs ys p q h r x y = search (arith, list_any-append, or_left)
 
 pub held-rest : (xs ys : List (ℕ × ℕ)) (p q : ℕ) → HeldBetween ys p q → HeldBetween (xs ++ ys) p q
-held-rest xs ys p q h r x y = list_any-append _ xs ys ∙ or_right (held xs r) (held ys r) (h r x y)
+held-rest xs ys p q h r x y = search (arith, list_any-append, or_right)
 
 lt_both : (a b r : ℕ) → a < r → r < b → (nat_lt a r && nat_lt r b) ≡ true
 lt_both a b r h i = grind (arith, nat_tests)
@@ -230,8 +220,7 @@ lt_both a b r h i = grind (arith, nat_tests)
 pub held_by : (sts : List (ℕ × ℕ)) (k : ℕ) (d : ℕ × ℕ) → k < length sts → (p q : ℕ) → (get_or sts k d).0 ≤ p
     → p < (get_or sts k d).1 → (get_or sts k d).0 ≤ q → q < (get_or sts k d).1 → HeldBetween sts p q
 held_by sts k d l p q a b c e r x y =
-    list_any_at (λ st. nat_lt st.0 r && nat_lt r st.1) sts k d l
-    (lt_both (get_or sts k d).0 (get_or sts k d).1 r (omega arith) (omega arith))
+    search (arith, list_any_at, lt_both)
 
 -- all neighbours within a stretch are held; so they are in each of the stretches
 abbrev pub HeldIn : List (ℕ × ℕ) → ℕ × ℕ → Type 0
@@ -241,53 +230,41 @@ more_held : (st : ℕ × ℕ) (sts xs : List (ℕ × ℕ)) → AllByRecursion (H
     → AllByRecursion (HeldIn (st ∷ sts)) xs
 more_held st sts [] h = tt
 more_held st sts (x ∷ xs) h =
-    (λ i a b. or_right (nat_lt st.0 i && nat_lt i st.1) (held sts i) (h.0 i a b), more_held st sts xs h.1)
+    search (arith, or_right, more_held st sts xs h.1)
 
 pub all_held : (sts : List (ℕ × ℕ)) → AllByRecursion (HeldIn sts) sts
 all_held [] = tt
-all_held (st ∷ sts) = (
-  λ i a b. or_left (nat_lt st.0 i && nat_lt i st.1) (held sts i) (lt_both st.0 st.1 i a b),
-  more_held st sts sts
-      (all_held sts),
-)
+all_held (st ∷ sts) = search (arith, or_left, lt_both, more_held, all_held sts)
 
 -- a step that merges all its places first may move as it likes
 pub moves_anywhere : (n : ℕ) (places : List ℕ) → length places ≡ n → AllByRecursion (λ p. p < n) places
     → MovesMerged n (record { merged_first = (0, n) ∷ []; places = places; merged_then = [] })
-moves_anywhere n places e w = record {
-  fits = record { as_many = e; within = w; first_within = (omega arith, tt); then_within = tt };
-  inside = λ p l. held_by ((0, n) ∷ []) 0 (0, n) (omega arith) p (get_or places p 0) (omega arith) (omega arith)
-      (omega arith) (within_at n places w p l);
-  nothing_then = refl;
-}
+moves_anywhere n places e w = search (arith, held_by, within_at)
 
 -- the merged stretches lead from each place to the old place of what stands there
 held_moved : (n : ℕ) (steps : List Step) (before : List (ℕ × ℕ)) (olds : List ℕ) → length olds ≡ n
     → AllByRecursion (MovesMerged n) steps → ((p : ℕ) → p < n → HeldBetween before p (get_or olds p 0)) → (p : ℕ)
     → p < n → HeldBetween (before ++ all_first steps) p (get_or (moved_on steps olds) p 0)
-held_moved n [] before olds e f h p l = held-front before [] p (get_or olds p 0) (h p l)
+held_moved n [] before olds e f h p l = search (arith, held-front)
 held_moved n (step ∷ steps) before olds e f h p l =
-    let P : ℕ → Type 0 = λ n. AllByRecursion (λ p. p < n) step.places in
-    let within = subst P (sym e) f.0.fits.within in
-    let k : length (pick step.places olds) ≡ n = length-pick step.places olds within ∙ f.0.fits.as_many in
-    let many = f.0.fits.as_many in
-    let Q : List (ℕ × ℕ) → Type 0 = λ sts. HeldBetween sts p (get_or (moved_on steps (pick step.places olds)) p 0) in
-    subst Q (append_assoc before step.merged_first (all_first steps))
-    (held_moved n steps (before ++ step.merged_first) (pick step.places olds) k f.1
-    (λ p l.
-    let R : ℕ → Type 0 = λ t. HeldBetween (before ++ step.merged_first) p t in
-    subst R (sym (get_or-pick 0 step.places olds within p (omega arith)))
-    (held_over (before ++ step.merged_first) p (get_or step.places p 0) (get_or olds (get_or step.places p 0) 0)
-    (held-rest before step.merged_first p (get_or step.places p 0) (f.0.inside p (omega arith)))
-    (held-front before step.merged_first (get_or step.places p 0) (get_or olds (get_or step.places p 0) 0)
-    (h (get_or step.places p 0) (within_at n step.places f.0.fits.within p (omega arith))))))
-    p l)
+    let within = subst (λ n. AllByRecursion (λ p. p < n) step.places) (sym e) f.0.fits.within in
+    search (
+      arith,
+      append_assoc before step.merged_first (all_first steps),
+      held_moved n steps (before ++ step.merged_first) (pick step.places olds) (search (arith, length-pick)) f.1
+          (λ p l. subst (λ t. HeldBetween (before ++ step.merged_first) p t) (sym (get_or-pick 0 step.places olds
+          within p (omega arith))) (held_over (before ++ step.merged_first) p (get_or step.places p 0) (get_or olds
+          (get_or step.places p 0) 0) (held-rest before step.merged_first p (get_or step.places p 0) (f.0.inside p
+          (omega arith))) (held-front before step.merged_first (get_or step.places p 0) (get_or olds (get_or
+          step.places p 0) 0) (h (get_or step.places p 0) (within_at n step.places f.0.fits.within p (omega
+          arith)))))) p l,
+    )
 
 held-old_places : (n : ℕ) (steps : List Step) → AllByRecursion (MovesMerged n) steps → (p : ℕ) → p < n
     → HeldBetween (all_first steps) p (get_or (old_places n steps) p 0)
 held-old_places n steps f p l = held_moved n steps [] (range_with_len 0 n) (length-range_with_len 0 n) f
-    (λ p l r x y. let e : get_or (range_with_len 0 n) p 0 ≡ p = get_or-range_with_len 0 n p 0 l
-    ∙ omega arith in absurd (omega arith)) p l
+    (λ p l r x y. let e : get_or (range_with_len 0 n) p 0 ≡ p =
+    search (arith, get_or-range_with_len) in absurd (omega arith)) p l
 
 -- the old places are as many as there are places, and are places
 pub within-old_places : (n : ℕ) (steps : List Step) → AllByRecursion (λ p. p < n) (old_places n steps)
@@ -297,8 +274,7 @@ within-old_places n steps = kept (λ ps. AllByRecursion (λ p. p < n) ps) (λ ps
 
 pub length-old_places : (n : ℕ) (steps : List Step) → FitSteps n steps → length (old_places n steps) ≡ n
 length-old_places n steps f = kept (λ ps. length ps ≡ n) (λ ps step. pick step.places ps) (FitsStep n)
-    (λ step ps g e. let P : ℕ
-    → Type 0 = λ n. AllByRecursion (λ p. p < n) step.places in length-pick step.places ps (subst P (sym e) g.within)
+    (λ step ps g e. length-pick step.places ps (subst (λ n. AllByRecursion (λ p. p < n) step.places) (sym e) g.within)
     ∙ g.as_many) steps (range_with_len 0 n) f (length-range_with_len 0 n)
 
 -- the old places after more steps are those of the further steps, picked of those before
@@ -311,8 +287,7 @@ moved_by_old_places n steps places long =
 pub old_places_then : (n : ℕ) (steps more : List Step) → FitSteps n steps → old_places n (steps ++ more)
     ≡ pick (old_places n more) (old_places n steps)
 old_places_then n steps more fits =
-    fold-append (λ places step. pick step.places places) (range_with_len 0 n) steps more
-    ∙ moved_by_old_places n more (old_places n steps) (length-old_places n steps fits)
+    search (arith, fold-append, moved_by_old_places, length-old_places)
 
 pub merged_fits : (n : ℕ) (steps : List Step) → AllByRecursion (MovesMerged n) steps → FitSteps n steps
 merged_fits n [] f = tt
@@ -326,21 +301,15 @@ pub end_within-all_first : (n : ℕ) (steps : List Step) → AllByRecursion (Mov
     → EndWithin n (all_first steps)
 end_within-all_first n [] f = tt
 end_within-all_first n (step ∷ steps) f =
-    end_within-append n step.merged_first (all_first steps) f.0.fits.first_within (end_within-all_first n steps f.1)
+    search (arith, end_within-append, end_within-all_first n steps f.1)
 
 -- the cluster law: all places between a place and the old place of what stands there share one cluster
 pub share-moved : (level : BufferClusterLevel) → merges level ≡ true → (steps : List Step) (cs : List ℕ)
     → AllByRecursion (MovesMerged (length cs)) steps → (p : ℕ) → p < length cs
     → ShareCluster (joined_steps level steps cs) p (get_or (old_places (length cs) steps) p 0)
 share-moved level m steps cs f p l =
-    let n = length cs in
-    let P : List ℕ → Type 0 = λ js. ShareCluster js p (get_or (old_places (length cs) steps) p 0) in
     let k = length-old_places (length cs) steps (merged_fits (length cs) steps f) in
-    subst P (sym (joined-merged_steps level m steps cs f))
-    (held_share level m (all_first steps) cs (end_within-all_first (length cs) steps f) p
-    (get_or (old_places (length cs) steps) p 0) l
-    (within_at (length cs) (old_places (length cs) steps) (within-old_places (length cs) steps) p (omega arith))
-    (held-old_places (length cs) steps f p l))
+    search (arith, joined-merged_steps, held_share, end_within-all_first, within_at, within-old_places, held-old_places)
 
 -- what holds of all clusters still does
 pub all-joined : (P : ℕ → Type 0) (level : BufferClusterLevel) (sts : List (ℕ × ℕ)) (cs : List ℕ)
@@ -355,7 +324,7 @@ pub all-picked : (P : ℕ → Type 0) (ps cs : List ℕ) → AllByRecursion (λ 
 all-picked P ps cs w h = All-from_get_or P (pick ps cs) 0 (λ i l.
     let n = length-pick ps cs w in
     subst P (sym (get_or-pick 0 ps cs w i (omega arith)))
-    (h (get_or ps i 0) 0 (within_at (length cs) ps w i (omega arith))))
+    (h (get_or ps i 0) 0 (search (arith, within_at))))
 
 -- a step of n places over as many clusters
 pub record Stepped (n : ℕ) (level : BufferClusterLevel) (step : Step) (cs : List ℕ) : Type 0 where
@@ -368,21 +337,17 @@ pub stepped : (n : ℕ) (level : BufferClusterLevel) (step : Step) (cs : List �
     → Stepped n level step cs
 stepped n level step cs e f =
     let js = joined_all level step.merged_first cs in
-    let E : ℕ → Type 0 = λ n. EndWithin n step.merged_first in
-    let Q : ℕ → Type 0 = λ n. AllByRecursion (λ p. p < n) step.places in
-    let T : ℕ → Type 0 = λ n. EndWithin n step.merged_then in
-    let first : EndWithin (length cs) step.merged_first = subst E (sym e) f.first_within in
-    let jn : length js ≡ n = length-joined_all level step.merged_first cs first ∙ e in
-    let within = subst Q (sym jn) f.within in
-    let k : length (pick step.places js) ≡ n = length-pick step.places js within ∙ f.as_many in
-    let last = subst T (sym k) f.then_within in
-    record {
-      first_within = first;
-      within = within;
-      then_within = last;
-      as_many = length-joined_all level
-          step.merged_then (pick step.places js) last ∙ k;
-    }
+    let within = subst (λ n. AllByRecursion (λ p. p < n) step.places) (sym
+    (search (arith, length-joined_all))) f.within in
+    let last = subst (λ n. EndWithin n step.merged_then) (sym
+    (length-pick step.places js within ∙ f.as_many)) f.then_within in
+    search (
+      arith,
+      length-pick step.places js within,
+      f.as_many,
+      f.then_within,
+      length-joined_all level step.merged_then (pick step.places js) last,
+    )
 
 pub all-joined_steps : (P : ℕ → Type 0) (level : BufferClusterLevel) (n : ℕ) (steps : List Step) (cs : List ℕ)
     → length cs ≡ n → FitSteps n steps → All P cs → (length (joined_steps level steps cs) ≡ n)
@@ -391,9 +356,5 @@ all-joined_steps P level n steps cs e f h =
     kept (λ cs. (length cs ≡ n) × All P cs) (λ cs step. joined_step level step cs) (FitsStep n)
     (λ step cs g h.
     let s = stepped n level step cs h.0 g in
-    let js = joined_all level step.merged_first cs in (
-      s.as_many,
-      all-joined P level step.merged_then (pick step.places js) s.then_within
-          (all-picked P step.places js s.within (all-joined P level step.merged_first cs s.first_within h.1)),
-    ))
+    search (arith, all-joined, all-picked))
     steps cs f (e, h)

@@ -3,16 +3,16 @@
 use Rattle.std.proofs.Common.{◌≡◌, ℕ, ◌+◌, ◌-◌, ◌<◌, ◌≤◌, ◌≢◌, Bool, true, false, cond, eqb, ltb, ◌&&◌, min, max, suc, List, [], ◌∷◌, ◌++◌, length, map, take, drop, get_or, refl, sym, ap, ◌∙◌, subst, arith, inl, inr, length-take, length-drop}
 use Rattle.std.specs.Int.Bits.{bit_or}
 use Rattle.std.specs.List.{AllByRecursion, AllPairs}
-use Rattle.std.proofs.lemmas.Bool.{eq-eqb, eqb-false, ne_eqb, lt-ltb, and_from, and_left, and_right, or_from, or_parts, cases_lt, cases_eq, cases_order, both_ways}
+use Rattle.std.proofs.lemmas.Bool.{eq-eqb, eqb-false, ne_eqb, lt-ltb, and_from, and_left, and_right, or_from, or_parts, cases_lt, cases_eq, both_ways}
 use Rattle.std.proofs.lemmas.List.{length-map, length-take-le, get_or-map, get_or-take, get_or-drop, get_or_append_left, get_or-append-add}
 use Rattle.std.proofs.lemmas.List.Elements.{All-from_recursion, All-from_get_or, All-get_or}
 use Rattle.std.proofs.lemmas.List.Folds.{list_any_none}
 use Rattle.std.proofs.lemmas.Nat.Bits.{bit_at_or}
 use Rattle.shapers_buffer.specs.Glyph.{clusters, default_glyph}
 use Rattle.shapers_buffer.specs.Clusters.{least, stretch_of, with_stretch}
-use Rattle.shapers_buffer.specs.GlyphFlags.{FlagCall, UnsafeToBreak, UnsafeToConcat, SafeToInsertTatweel, with_bits, with_bits_off, flagged, unsafe_to_concat_in, flag_called, flags_called}
+use Rattle.shapers_buffer.specs.GlyphFlags.{FlagCall, UnsafeToBreak, UnsafeToConcat, SafeToInsertTatweel, with_bits_off, flagged, unsafe_to_concat_in, flag_called, flags_called}
 use Rattle.shapers_buffer.specs.declared.buffer.glyph.hb_glyph_info_t.{hb_glyph_info_t}
-use Rattle.shapers_clusters.specs.Flags.{bit_at, InOrder}
+use Rattle.shapers_clusters.specs.Flags.{InOrder}
 use Rattle.shapers_clusters.proofs.FlagCalls.{flag_called-alone, flags_called-alone}
 use Rattle.shapers_clusters.proofs.ClusterMerges.{least-le, least-among}
 use Rattle.shapers_clusters.specs.Breaks.{forbids, IsClear, IsFree, IsStrictlyMonotone, is_unsafe, greater, NeedlessLaw}
@@ -21,24 +21,17 @@ use Rattle.shapers_clusters.proofs.ClearPlaces.{held_by_calls, unsafe_bits, in-s
 -- glyphs without either bit
 pub none-unsafe : (g : hb_glyph_info_t) → is_unsafe g ≡ false → unsafe_bits g.mask ≡ 0
 none-unsafe g e =
-    let both = or_parts (eqb (bit_at 0 g.mask) 1) (eqb (bit_at 2 g.mask) 1) e in
-    let x : bit_at 0 g.mask ≡ 0 = elim (cases_eq (bit_at 0 g.mask) 1)
-    [ inl one ↦ absurd (eqb-false _ _ both.0 one) | inr n ↦ omega arith ] in
-    let y : bit_at 2 g.mask ≡ 0 = elim (cases_eq (bit_at 2 g.mask) 1)
-    [ inl one ↦ absurd (eqb-false _ _ both.1 one) | inr n ↦ omega arith ] in
-    omega (arith, x, y)
+    search (arith, eqb-false)
 
 pub unsafe-none : (g : hb_glyph_info_t) → unsafe_bits g.mask ≡ 0 → is_unsafe g ≡ false
 unsafe-none g e =
-    or_from _ _ (ne_eqb (bit_at 0 g.mask) 1 (λ one. absurd (omega (arith, one, e))))
-    (ne_eqb (bit_at 2 g.mask) 1 (λ one. absurd (omega (arith, one, e))))
+    search (arith, or_from, ne_eqb)
 
 -- a place outside a stretch
 before-stretch : (f : hb_glyph_info_t → hb_glyph_info_t) (s e k : ℕ) (gs : List hb_glyph_info_t) (d : hb_glyph_info_t)
     → k < s → k < length gs → get_or (with_stretch s e (map f) gs) k d ≡ get_or gs k d
 before-stretch f s e k gs d h within =
-    get_or_append_left (take s gs) (map f (stretch_of s e gs) ++ drop e gs) d k (omega (arith, length-take s gs))
-    ∙ get_or-take s gs k d h
+    search (arith, get_or_append_left, length-take, get_or-take)
 
 behind-stretch : (f : hb_glyph_info_t → hb_glyph_info_t) (s e k : ℕ) (gs : List hb_glyph_info_t) (d : hb_glyph_info_t)
     → s ≤ e → e ≤ k → k < length gs → get_or (with_stretch s e (map f) gs) k d ≡ get_or gs k d
@@ -46,41 +39,29 @@ behind-stretch f s e k gs d order h within =
     let front = take s gs in
     let part = map f (stretch_of s e gs) in
     let a : length front ≡ s = length-take-le s gs (omega arith) in
-    let b : length part ≡ e - s = length-map (stretch_of s e gs) f
-    ∙ length-take-le (e - s) (drop s gs) (omega (arith, length-drop s gs)) in
-    let first : k ≡ length front + (k - s) = omega arith in
-    let second : k - s ≡ length part + (k - e) = omega arith in
-    let there : e + (k - e) ≡ k = omega arith in
-    ap (λ i. get_or (front ++ (part ++ drop e gs)) i d) first
-    ∙ get_or-append-add front (part ++ drop e gs) (k - s) d
-    ∙ ap (λ i. get_or (part ++ drop e gs) i d) second
-    ∙ get_or-append-add part (drop e gs) (k - e) d
-    ∙ get_or-drop e gs (k - e) d
-    ∙ ap (λ i. get_or gs i d) there
+    let b : length part ≡ e - s = search (arith, length-map, length-take-le, length-drop) in
+    search (
+      arith,
+      get_or-append-add front (part ++ drop e gs) (k - s) d,
+      get_or-append-add part (drop e gs) (k - e) d,
+      get_or-drop e gs (k - e) d,
+    )
 
 -- the clusters of a stretch
 cluster-at : (gs : List hb_glyph_info_t) (k : ℕ) (d : hb_glyph_info_t) → k < length gs
     → get_or (clusters gs) k 0 ≡ (get_or gs k d).cluster
-cluster-at gs k d h = get_or-map (λ (g : hb_glyph_info_t). g.cluster) gs k d 0 h
+cluster-at gs k d h = search (arith, get_or-map)
 
 length-part : (s e : ℕ) (gs : List hb_glyph_info_t) → length (clusters (stretch_of s e gs))
     ≡ min (e - s) (length gs - s)
 length-part s e gs =
-    omega (
-      arith,
-      length-map (stretch_of s e gs) (λ (g : hb_glyph_info_t). g.cluster),
-      length-take (e - s) (drop s gs),
-      length-drop s gs,
-    )
+    search (arith, length-map, length-take, length-drop)
 
 cluster-in : (s e k : ℕ) (gs : List hb_glyph_info_t) (d : hb_glyph_info_t) → k < length (clusters (stretch_of s e gs))
     → get_or (clusters (stretch_of s e gs)) k 0 ≡ (get_or gs (s + k) d).cluster
 cluster-in s e k gs d inside =
-    let part = stretch_of s e gs in
     let long = length-part s e gs in
-    get_or-map (λ (g : hb_glyph_info_t). g.cluster) part k d 0
-    (omega (arith, length-map part (λ (g : hb_glyph_info_t). g.cluster)))
-    ∙ ap (λ (g : hb_glyph_info_t). g.cluster) (get_or-take (e - s) (drop s gs) k d (omega arith) ∙ get_or-drop s gs k d)
+    search (arith, get_or-map, length-map, get_or-take, get_or-drop)
 
 -- where clusters rise the first glyph of a stretch has its least cluster, where they fall the last
 least-first : (s e : ℕ) (gs : List hb_glyph_info_t) (d : hb_glyph_info_t) → AllPairs (λ a b. a < b) (clusters gs)
@@ -92,21 +73,9 @@ least-first s e gs d rises h within =
     let (k, inside, is) = least-among cs some in
     let at_k = cluster-in s e k gs d inside in
     let none : s + 0 ≡ s = omega arith in
-    let at_s : get_or cs 0 0 ≡ (get_or gs s d).cluster = cluster-in s e 0 gs d some
-    ∙ ap (λ i. (get_or gs i d).cluster) none in
+    let at_s : get_or cs 0 0 ≡ (get_or gs s d).cluster = search (arith, cluster-in) in
     let low = least-le cs 0 some in
-    elim (cases_lt 0 k) [
-      | inl more ↦ absurd
-          (omega (
-            arith,
-            rises s (s + k) 0 (omega arith)
-                (omega (arith, length-map gs (λ (g : hb_glyph_info_t). g.cluster))),
-            cluster-at gs s d within,
-            cluster-at gs
-                (s + k) d (omega arith),
-          ))
-      | inr first ↦ let z : k ≡ 0 = omega arith in sym (sym at_s ∙ ap (λ i. get_or cs i 0) (sym z) ∙ is)
-    ]
+    search (arith, length-map, cluster-at)
 
 least-last : (s e : ℕ) (gs : List hb_glyph_info_t) (d : hb_glyph_info_t) → AllPairs (λ a b. b < a) (clusters gs) → s < e
     → e ≤ length gs → least (clusters (stretch_of s e gs)) ≡ (get_or gs (e - 1) d).cluster
@@ -114,20 +83,17 @@ least-last s e gs d falls h within =
     let cs = clusters (stretch_of s e gs) in
     let long = length-part s e gs in
     let n = e - 1 - s in
-    let some : 0 < length cs = omega arith in
     let last_in : n < length cs = omega arith in
-    let (k, inside, is) = least-among cs some in
+    let (k, inside, is) = least-among cs (omega arith) in
     let at_k = cluster-in s e k gs d inside in
-    let there : s + n ≡ e - 1 = omega arith in
     let at_n : get_or cs n 0 ≡ (get_or gs (e - 1) d).cluster = cluster-in s e n gs d last_in
-    ∙ ap (λ i. (get_or gs i d).cluster) there in
+    ∙ ap (λ i. (get_or gs i d).cluster) (omega arith) in
     let low = least-le cs n last_in in
     elim (cases_lt k n) [
       | inl less ↦ absurd
           (omega (
             arith,
-            falls (s + k) (e - 1) 0 (omega arith)
-                (omega (arith, length-map gs (λ (g : hb_glyph_info_t). g.cluster))),
+            falls (s + k) (e - 1) 0 (omega arith) (omega (arith, length-map gs (λ (g : hb_glyph_info_t). g.cluster))),
             cluster-at gs (e - 1) d (omega arith),
             cluster-at gs (s + k) d (omega arith),
           ))
@@ -141,10 +107,10 @@ data Tops (p k : ℕ) (cs : List ℕ) : Type 0 where
 
 -- the flag of the glyph at that place through a call that forbids no break at p
 off-least : (bits m : ℕ) (g : hb_glyph_info_t) → m ≡ g.cluster → with_bits_off bits m g ≡ g
-off-least bits m g e = ap (λ b. let r : hb_glyph_info_t = cond b g (with_bits bits g) in r) (eq-eqb g.cluster m (sym e))
+off-least bits m g e = search (arith, eq-eqb)
 
 not-both : (s e p : ℕ) → (ltb s p && ltb p e) ≡ false → s < p → p < e → ⊥
-not-both s e p free low high = both_ways _ free (and_from (ltb s p) (ltb p e) (lt-ltb s p low) (lt-ltb p e high))
+not-both s e p free low high = search (arith, both_ways, and_from, lt-ltb)
 
 has-least : (s e p k : ℕ) (gs : List hb_glyph_info_t) (d : hb_glyph_info_t) → s ≤ k → k < e → 0 < p → p < length gs
     → Tops p k (clusters gs) → (ltb s p && ltb p e) ≡ false → least (clusters (stretch_of s e gs))
@@ -169,46 +135,35 @@ break-spares : (bits s e p k : ℕ) (gs : List hb_glyph_info_t) (d : hb_glyph_in
     ≡ get_or gs k d
 break-spares bits s e p k gs d order top pos within free =
     let m = least (clusters (stretch_of s e gs)) in
-    let k_in = top-within p k gs within top in
     elim (cases_lt k s) [
-      | inl less ↦ before-stretch (with_bits_off bits m) s e k gs d less k_in
+      | inl less ↦ search (arith, before-stretch)
       | inr from ↦ elim (cases_lt k e) [
-        | inr past ↦ behind-stretch (with_bits_off bits m) s e k gs d order past k_in
+        | inr past ↦ search (arith, behind-stretch)
         | inl inner ↦
-            in-stretch (with_bits_off bits m) s e k gs d from inner k_in
-            ∙ off-least bits m (get_or gs k d) (has-least s e p k gs d from inner pos within top free)
+            in-stretch (with_bits_off bits m) s e k gs d from inner (top-within p k gs within top)
+            ∙ off-least bits m (get_or gs k d) (search (arith, has-least))
       ]
     ]
 
 bit-two : (mask : ℕ) → unsafe_bits (bit_or mask 2) ≡ unsafe_bits mask
 bit-two mask =
-    let none : bit_at 0 2 ≡ 0 = refl in
-    let zero : bit_at 2 2 ≡ 0 = refl in
-    omega (arith, bit_at_or mask 2 0, bit_at_or mask 2 2, none, zero)
+    search (arith, bit_at_or mask 2 0, bit_at_or mask 2 2)
 
 concat-spares : (asked : Bool) (s e p : ℕ) (gs : List hb_glyph_info_t) (d : hb_glyph_info_t) → s ≤ e → p < length gs
     → unsafe_bits (get_or (unsafe_to_concat_in asked s e gs) p d).mask ≡ unsafe_bits (get_or gs p d).mask
 concat-spares false s e p gs d order within = refl
 concat-spares true s e p gs d order within =
-    let bit = λ (g : hb_glyph_info_t). unsafe_bits g.mask in
-    elim (cases_lt p s) [
-      | inl less ↦ ap bit (before-stretch (with_bits 2) s e p gs d less within)
-      | inr from ↦ elim (cases_lt p e) [
-        | inr past ↦ ap bit (behind-stretch (with_bits 2) s e p gs d order past within)
-        | inl inner ↦ ap bit (in-stretch (with_bits 2) s e p gs d from inner within) ∙ bit-two (get_or gs p d).mask
-      ]
-    ]
+    search (arith, before-stretch, behind-stretch, in-stretch, bit-two)
 
 call-spares : (concat tatweel : Bool) (call : FlagCall) (p k : ℕ) (gs : List hb_glyph_info_t) (d : hb_glyph_info_t)
     → InOrder call → Tops p k (clusters gs) → 0 < p → p < length gs → forbids p call ≡ false
     → unsafe_bits (get_or (flag_called concat tatweel call gs) k d).mask ≡ unsafe_bits (get_or gs k d).mask
 call-spares concat tatweel (UnsafeToBreak s e) p k gs d order top pos within free =
-    ap (λ (g : hb_glyph_info_t). unsafe_bits g.mask) (break-spares 3 s e p k gs d order top pos within free)
+    cc (break-spares 3 s e p k gs d order top pos within free)
 call-spares concat tatweel (UnsafeToConcat s e) p k gs d order top pos within free =
-    concat-spares concat s e k gs d order (top-within p k gs within top)
+    search (arith, concat-spares, top-within)
 call-spares concat tatweel (SafeToInsertTatweel s e) p k gs d order top pos within free =
-    ap (λ (g : hb_glyph_info_t). unsafe_bits g.mask)
-    (break-spares (cond tatweel 4 3) s e p k gs d order top pos within free)
+    cc (break-spares (cond tatweel 4 3) s e p k gs d order top pos within free)
 
 calls-spare : (concat tatweel : Bool) (calls : List FlagCall) (p k : ℕ) (gs : List hb_glyph_info_t)
     (d : hb_glyph_info_t) → AllByRecursion InOrder calls → Tops p k (clusters gs) → 0 < p → p < length gs
@@ -220,22 +175,14 @@ calls-spare concat tatweel (call ∷ calls) p k gs d all top pos within free =
     let same = (flag_called-alone concat tatweel call gs all.0).same_clusters in
     let long = length-same gs once same in
     let both = or_parts (forbids p call) (held_by_calls p calls) free in
-    let P : List ℕ → Type 0 = λ cs. Tops p k cs in
-    calls-spare concat tatweel calls p k once d all.1 (subst P (sym same) top) pos (omega arith) both.1
+    calls-spare concat tatweel calls p k once d all.1 (subst
+    (λ cs. Tops p k cs) (sym same) top) pos (omega arith) both.1
     ∙ call-spares concat tatweel call p k gs d all.0 top pos within both.0
 
 apart : (k p : ℕ) (cs : List ℕ) → IsStrictlyMonotone cs → k < length cs → p < length cs → k ≢ p
     → get_or cs k 0 ≡ get_or cs p 0 → ⊥
-apart k p cs (inl rises) h i n e = elim (cases_order k p) [
-  | inl same ↦ n same
-  | inr (inl less) ↦ absurd (omega (arith, rises k p 0 less i))
-  | inr (inr more) ↦ absurd (omega (arith, rises p k 0 more h))
-]
-apart k p cs (inr falls) h i n e = elim (cases_order k p) [
-  | inl same ↦ n same
-  | inr (inl less) ↦ absurd (omega (arith, falls k p 0 less i))
-  | inr (inr more) ↦ absurd (omega (arith, falls p k 0 more h))
-]
+apart k p cs (inl rises) h i n e = search arith
+apart k p cs (inr falls) h i n e = search arith
 
 -- so a free place is clear: the place with the greater cluster has no flag, and no other has that cluster
 clear-at : (concat tatweel : Bool) (calls : List FlagCall) (gs : List hb_glyph_info_t) (p k : ℕ)
@@ -248,31 +195,27 @@ clear-at concat tatweel calls gs p top all one_way unflagged pos within free top
     let same = (flags_called-alone concat tatweel calls gs all).same_clusters in
     let long = length-same gs new same in
     let cs = clusters gs in
-    let many : length cs ≡ length gs = length-map gs (λ (g : hb_glyph_info_t). g.cluster) in
+    let many : length cs ≡ length gs = search (arith, length-map) in
     let top_in = top-within p top gs within tops in
-    let P : List ℕ → Type 0 = λ xs. get_or xs (p - 1) 0 ≢ get_or xs p 0 in
-    let is_top : greater new p ≡ get_or cs top 0 = ap (λ xs. max (get_or xs (p - 1) 0) (get_or xs p 0)) same
-    ∙ greatest in
     let test = λ (g : hb_glyph_info_t). eqb g.cluster (greater new p) && is_unsafe g in
     let Q : hb_glyph_info_t → Type 0 = λ g. test g ≡ false in
     let R : hb_glyph_info_t → Type 0 = λ g. is_unsafe g ≡ false in
-    let bit : unsafe_bits (get_or new top default_glyph).mask ≡ 0 =
-    calls-spare concat tatweel calls p top gs default_glyph all tops pos within free
-    ∙ none-unsafe (get_or gs top default_glyph)
-    (All-get_or R gs top default_glyph top_in (All-from_recursion R gs unflagged)) in
     let each : (k : ℕ) → k < length new → Q (get_or new k default_glyph) = λ k inside.
-    let own : (get_or new k default_glyph).cluster ≡ get_or cs k 0 =
-    sym (get_or-map (λ (g : hb_glyph_info_t). g.cluster) new k default_glyph 0 inside)
-    ∙ ap (λ xs. get_or xs k 0) same in
     elim (cases_eq k top) [
       | inl e ↦ and_right _ _
-          (unsafe-none (get_or new k default_glyph) (ap (λ i. unsafe_bits (get_or new i default_glyph).mask) e ∙ bit))
+          (unsafe-none (get_or new k default_glyph) (ap (λ i. unsafe_bits (get_or new i default_glyph).mask) e
+          ∙ calls-spare concat tatweel calls p top gs default_glyph all tops pos within free
+          ∙ none-unsafe (get_or gs top default_glyph)
+          (All-get_or R gs top default_glyph top_in (All-from_recursion R gs unflagged))))
       | inr n ↦ and_left _ _
           (ne_eqb (get_or new k default_glyph).cluster (greater new p)
-          (λ e. apart k top cs one_way (omega arith) (omega arith) n (sym own ∙ e ∙ is_top)))
+          (λ e. apart k top cs one_way (omega arith) (omega arith) n (sym
+          (sym (get_or-map (λ (g : hb_glyph_info_t). g.cluster) new k default_glyph 0 inside) ∙ ap (λ xs. get_or xs k
+          0) same)
+          ∙ e ∙ cc)))
     ] in
     record {
-      differ = subst P (sym same)
+      differ = subst (λ xs. get_or xs (p - 1) 0 ≢ get_or xs p 0) (sym same)
           (λ e. apart (p - 1) p cs one_way (omega arith) (omega arith) (λ f. absurd (omega arith)) e);
       unflagged =
           list_any_none test new (All-from_get_or Q new default_glyph each);

@@ -1,5 +1,5 @@
 -- What merges do to any clusters: none rises, neighbours that share one still do, and so do the places of a stretch.
-use Rattle.std.proofs.Common.{ℕ, zero, suc, ◌+◌, ◌-◌, ◌<◌, ◌≤◌, ◌≡◌, ◌==◌, min, max, Bool, true, false, ◌||◌, nat_lt, ◌&&◌, ◌⊎◌, inl, inr, List, [], ◌∷◌, length, get_or, slice_index, refl, sym, ◌∙◌, ap, subst, arith}
+use Rattle.std.proofs.Common.{ℕ, zero, suc, ◌+◌, ◌-◌, ◌<◌, ◌≤◌, ◌≡◌, min, max, Bool, true, false, ◌||◌, nat_lt, ◌&&◌, ◌⊎◌, inl, inr, List, [], ◌∷◌, length, get_or, refl, ◌∙◌, arith}
 use Rattle.std.proofs.lemmas.Bool.{cases_lt, ltb-true, eqb-true}
 use Rattle.shapers_buffer.specs.declared.buffer.level.BufferClusterLevel.{BufferClusterLevel}
 use Rattle.shapers_buffer.specs.Clusters.{merges}
@@ -12,66 +12,20 @@ pub length-joined : (level : BufferClusterLevel) (s e : ℕ) (cs : List ℕ) →
 length-joined level s e cs w =
     joined_cases (λ js. length js ≡ length cs) level s e cs w (λ _. refl) (λ js _ _ f. f.same_length)
 
-spread-falls : (s e : ℕ) (cs js : List ℕ) → Spread s e cs js → s + 1 < e → (p : ℕ) → get_or js p 0 ≤ get_or cs p 0
-spread-falls s e cs js f h p = elim (cases_lt p f.low) [
-  | inl a ↦ omega (arith, f.before p a)
-  | inr a ↦ elim (cases_lt p f.high) [
-    | inl b ↦ elim (cases_lt p s) [
-      | inl c ↦ omega (arith, f.inside p a b, f.left p a c, f.least_is s (omega arith) (omega arith))
-      | inr c ↦ elim (cases_lt p e) [
-        | inl d ↦ omega (arith, f.inside p a b, f.least_is p c d)
-        | inr d ↦ omega (arith, f.inside p a b, f.right p d b, f.least_is (e - 1) (omega arith) (omega arith))
-      ]
-    ]
-    | inr b ↦ omega (arith, f.behind p b)
-  ]
-]
-
--- no cluster rises
-pub joined-falls : (level : BufferClusterLevel) (s e : ℕ) (cs : List ℕ) → e ≤ length cs → (p : ℕ)
-    → get_or (joined level s e cs) p 0 ≤ get_or cs p 0
-joined-falls level s e cs w p =
-    joined_cases (λ js. get_or js p 0 ≤ get_or cs p 0) level s e cs w (λ _. omega arith)
-    (λ js _ h f. spread-falls s e cs js f (omega arith) p)
-
 -- all places of a merged stretch share one cluster
 pub joined-shares : (level : BufferClusterLevel) (s e : ℕ) (cs : List ℕ) → e ≤ length cs → merges level ≡ true
     → (p q : ℕ) → s ≤ p → p < e → s ≤ q → q < e → get_or (joined level s e cs) p 0 ≡ get_or (joined level s e cs) q 0
 joined-shares level s e cs w a p q sp pe sq qe = joined_cases (λ js. get_or js p 0 ≡ get_or js q 0) level s e cs w
-    (λ no. elim no [ inl f ↦ cc | inr n ↦ let i : p ≡ q = omega arith in ap (λ k. get_or cs k 0) i ])
+    (λ no. search arith)
     (λ js _ h f. omega (arith, f.inside p, f.inside q))
 
 pub left_to : (s e : ℕ) (cs js : List ℕ) (f : Spread s e cs js) (p : ℕ) → f.low ≤ p → p ≤ s
     → get_or cs p 0 ≡ get_or cs s 0
-left_to s e cs js f p a b = elim (cases_lt p s)
-    [ inl c ↦ f.left p a c | inr c ↦ let i : p ≡ s = omega arith in ap (λ k. get_or cs k 0) i ]
+left_to s e cs js f p a b = search (arith, f.left)
 
 pub right_from : (s e : ℕ) (cs js : List ℕ) (f : Spread s e cs js) (p : ℕ) → e ≤ suc p → p < f.high
     → get_or cs p 0 ≡ get_or cs (e - 1) 0
-right_from s e cs js f p a b = elim (cases_lt p e)
-    [ inl c ↦ let i : p ≡ e - 1 = omega arith in ap (λ k. get_or cs k 0) i | inr c ↦ f.right p c b ]
-
-spread-neighbours : (s e : ℕ) (cs js : List ℕ) → Spread s e cs js → s + 1 < e → (p : ℕ) → suc p < length cs
-    → get_or cs p 0 ≡ get_or cs (suc p) 0 → get_or js p 0 ≡ get_or js (suc p) 0
-spread-neighbours s e cs js f h p l q = elim (cases_lt (suc p) f.low) [
-  | inl a ↦ f.before p (omega arith) ∙ q ∙ sym (f.before (suc p) a)
-  | inr a ↦ elim (cases_lt p f.low) [
-    | inl b ↦ let i : p ≡ f.low - 1 =
-        omega arith in absurd
-        (f.left_edge (omega arith) (ap (λ k. get_or cs k 0) (sym i) ∙ q
-        ∙ left_to s e cs js f (suc p) a (omega (arith, f.low_within))))
-    | inr b ↦ elim (cases_lt (suc p) f.high) [
-      | inl c ↦ f.inside p b (omega arith) ∙ sym (f.inside (suc p) a c)
-      | inr c ↦ elim (cases_lt p f.high) [
-        | inl d ↦ let i : suc p ≡ f.high =
-            omega arith in absurd
-            (f.right_edge (omega arith) (ap (λ k. get_or cs k 0) (sym i) ∙ sym q
-            ∙ right_from s e cs js f p (omega (arith, f.high_within)) d))
-        | inr d ↦ f.behind p d ∙ q ∙ sym (f.behind (suc p) c)
-      ]
-    ]
-  ]
-]
+right_from s e cs js f p a b = search (arith, f.right)
 
 -- neighbours that share a cluster still do
 pub joined-neighbours : (level : BufferClusterLevel) (s e : ℕ) (cs : List ℕ) → e ≤ length cs → (p : ℕ)
@@ -79,23 +33,7 @@ pub joined-neighbours : (level : BufferClusterLevel) (s e : ℕ) (cs : List ℕ)
     ≡ get_or (joined level s e cs) (suc p) 0
 joined-neighbours level s e cs w p l q =
     joined_cases (λ js. get_or js p 0 ≡ get_or js (suc p) 0) level s e cs w (λ _. q)
-    (λ js _ h f. spread-neighbours s e cs js f (omega arith) p l q)
-
-spread-reached : (s e : ℕ) (cs js : List ℕ) → Spread s e cs js → (p : ℕ) → p < length cs → (q : ℕ) × (q < length cs)
-    × (get_or js p 0 ≡ get_or cs q 0) × ShareCluster js p q
-spread-reached s e cs js f p l = elim (cases_lt p f.low) [
-  | inl a ↦ (p, l, f.before p a, λ r x y. let i : r ≡ p = omega arith in ap (λ k. get_or js k 0) i)
-  | inr a ↦ elim (cases_lt p f.high) [
-    | inl b ↦ (
-      f.at,
-      omega (arith, f.at_to, f.high_within, f.high_end),
-      f.inside p a b ∙ sym f.at_is,
-      λ r x y. f.inside r (omega (arith, f.low_within, f.at_from)) (omega (arith, f.high_within, f.at_to))
-          ∙ sym (f.inside p a b),
-    )
-    | inr b ↦ (p, l, f.behind p b, λ r x y. let i : r ≡ p = omega arith in ap (λ k. get_or js k 0) i)
-  ]
-]
+    (λ js _ h f. search (arith, left_to, right_from))
 
 -- each cluster is the old one of some place, and all places in between share it
 pub joined-reached : (level : BufferClusterLevel) (s e : ℕ) (cs : List ℕ) → e ≤ length cs → (p : ℕ) → p < length cs
@@ -104,37 +42,49 @@ pub joined-reached : (level : BufferClusterLevel) (s e : ℕ) (cs : List ℕ) �
 joined-reached level s e cs w p l =
     joined_cases (λ js. (q : ℕ) × (q < length cs) × (get_or js p 0 ≡ get_or cs q 0) × ShareCluster js p q) level s e cs
     w
-    (λ _. (p, l, refl, λ r x y. let i : r ≡ p = omega arith in ap (λ k. get_or cs k 0) i))
-    (λ js _ h f. spread-reached s e cs js f p l)
+    (λ _. (p, l, refl, search arith))
+    (λ js _ h f.
+    elim (cases_lt p f.low) [
+      | inl a ↦ search (arith, f.before p a)
+      | inr a ↦ elim (cases_lt p f.high) [
+        | inl b ↦
+            search (arith, f.inside)
+        | inr b ↦ search (arith, f.behind p b)
+      ]
+    ])
 
 -- after a first merge the stretches still end within the list
 pub end_within_joined : (level : BufferClusterLevel) (s e : ℕ) (cs : List ℕ) (sts : List (ℕ × ℕ)) → e ≤ length cs
     → EndWithin (length cs) sts → EndWithin (length (joined level s e cs)) sts
-end_within_joined level s e cs sts w h = let P : ℕ → Type 0 =
-    λ n. EndWithin n sts in subst P (sym (length-joined level s e cs w)) h
+end_within_joined level s e cs sts w h = search (arith, length-joined)
 
 pub length-joined_all : (level : BufferClusterLevel) (sts : List (ℕ × ℕ)) (cs : List ℕ) → EndWithin (length cs) sts
     → length (joined_all level sts cs) ≡ length cs
 length-joined_all level [] cs h = refl
 length-joined_all level (st ∷ sts) cs h =
-    length-joined_all level sts (joined level st.0 st.1 cs) (end_within_joined level st.0 st.1 cs sts h.0 h.1)
-    ∙ length-joined level st.0 st.1 cs h.0
+    search (
+      arith,
+      length-joined,
+      length-joined_all level sts (joined level st.0 st.1 cs) (end_within_joined level st.0 st.1 cs sts h.0 h.1),
+    )
 
 pub joined_all-falls : (level : BufferClusterLevel) (sts : List (ℕ × ℕ)) (cs : List ℕ) → EndWithin (length cs) sts
     → (p : ℕ) → get_or (joined_all level sts cs) p 0 ≤ get_or cs p 0
 joined_all-falls level [] cs h p = omega arith
 joined_all-falls level (st ∷ sts) cs h p =
-    let a = joined_all-falls level sts (joined level st.0 st.1 cs) (end_within_joined level st.0 st.1 cs sts h.0 h.1)
+    let a = joined_all-falls level sts (joined level st.0 st.1 cs) (search (arith, end_within_joined))
     p in
-    let b = joined-falls level st.0 st.1 cs h.0 p in omega arith
+    let b =
+    joined_cases (λ js. get_or js p 0 ≤ get_or cs p 0) level st.0 st.1 cs h.0 (λ _. omega arith) (λ js _ h f.
+    search arith) in omega arith
 
 pub joined_all-neighbours : (level : BufferClusterLevel) (sts : List (ℕ × ℕ)) (cs : List ℕ) → EndWithin (length cs) sts
     → (p : ℕ) → suc p < length cs → get_or cs p 0 ≡ get_or cs (suc p) 0 → get_or (joined_all level sts cs) p 0
     ≡ get_or (joined_all level sts cs) (suc p) 0
 joined_all-neighbours level [] cs h p l q = q
 joined_all-neighbours level (st ∷ sts) cs h p l q =
-    joined_all-neighbours level sts (joined level st.0 st.1 cs) (end_within_joined level st.0 st.1 cs sts h.0 h.1) p
-    (omega (arith, length-joined level st.0 st.1 cs h.0)) (joined-neighbours level st.0 st.1 cs h.0 p l q)
+    joined_all-neighbours level sts (joined level st.0 st.1 cs) (search (arith, end_within_joined)) p
+    (search (arith, length-joined)) (search (arith, joined-neighbours))
 
 or_cases : (a b : Bool) → (a || b) ≡ true → (a ≡ true) ⊎ (b ≡ true)
 or_cases true b h = inl refl
@@ -159,7 +109,7 @@ joined_all-held level m [] cs h p l q = cc
 joined_all-held level m (st ∷ sts) cs h p l q =
     let js = joined level st.0 st.1 cs in
     let w = end_within_joined level st.0 st.1 cs sts h.0 h.1 in
-    let n : suc p < length js = omega (arith, length-joined level st.0 st.1 cs h.0) in
+    let n : suc p < length js = search (arith, length-joined) in
     elim (in_stretch st.0 st.1 (suc p) (held sts (suc p)) q) [
       | inl i ↦ joined_all-neighbours level sts js w p n
           (joined-shares level st.0 st.1 cs h.0 m p (suc p) (omega arith) (omega arith) (omega arith) (omega arith))
@@ -171,65 +121,48 @@ pub joined_all-linked : (level : BufferClusterLevel) → merges level ≡ true �
     → EndWithin (length cs) sts → (p : ℕ) → 0 < p → p < length cs → linked cs sts p ≡ true
     → get_or (joined_all level sts cs) (p - 1) 0 ≡ get_or (joined_all level sts cs) p 0
 joined_all-linked level m sts cs h p z l q =
-    let i : suc (p - 1) ≡ p = omega arith in
-    let js = joined_all level sts cs in
-    let up : get_or js (p - 1) 0 ≡ get_or js (suc (p - 1)) 0 =
-    elim (or_cases (slice_index cs (p - 1) == slice_index cs p) (held sts p) q) [
-      | inl e ↦ joined_all-neighbours level sts cs h (p - 1) (omega arith)
-          (eqb-true (get_or cs (p - 1) 0) (get_or cs p 0) e ∙ ap (λ k. get_or cs k 0) (sym i))
-      | inr e ↦ joined_all-held level m sts cs h (p - 1) (omega arith) (ap (held sts) i ∙ e)
-    ] in
-    up ∙ ap (λ k. get_or js k 0) i
+    search (arith, joined_all-neighbours, eqb-true, joined_all-held)
 
 share_upto : (cs : List ℕ) (p n : ℕ) → ((r : ℕ) → p < r → r ≤ p + n → get_or cs (r - 1) 0 ≡ get_or cs r 0) → (k : ℕ)
     → k ≤ n → get_or cs (p + k) 0 ≡ get_or cs p 0
-share_upto cs p n h zero l = let i : p + 0 ≡ p = omega arith in ap (λ k. get_or cs k 0) i
+share_upto cs p n h zero l = search arith
 share_upto cs p n h (suc k) l =
-    let i : p + suc k - 1 ≡ p + k = omega arith in
-    sym (h (p + suc k) (omega arith) (omega arith)) ∙ ap (λ k. get_or cs k 0) i ∙ share_upto cs p n h k (omega arith)
+    search (arith, share_upto cs p n h k (omega arith))
 
 -- neighbour by neighbour, all share one cluster
 pub share_all : (cs : List ℕ) (p q : ℕ) → ((r : ℕ) → min p q < r → r ≤ max p q → get_or cs (r - 1) 0 ≡ get_or cs r 0)
     → ShareCluster cs p q
 share_all cs p q h r a b =
-    let low = min p q in
-    let n = max p q - min p q in
-    let up : (k : ℕ) → min p q ≤ k → k ≤ max p q → get_or cs k 0 ≡ get_or cs (min p q) 0 =
-    λ k x y. let i : min p q + (k - min p q) ≡ k = omega arith in ap (λ k. get_or cs k 0) (sym i)
-    ∙ share_upto cs (min p q) (max p q - min p q) (λ r x y. h r x (omega arith)) (k - min p q) (omega arith) in
-    up r a b ∙ sym (up p (omega arith) (omega arith))
+    let up : (k : ℕ) → min p q ≤ k → k ≤ max p q → get_or cs k 0 ≡ get_or cs (min p q) 0 = λ k x y.
+    search (
+      arith,
+      share_upto cs (min p q) (max p q - min p q) (λ r x y. h r x (omega arith)) (k - min p q) (omega arith),
+    ) in
+    search arith
 
 share_over : (cs : List ℕ) (p q t : ℕ) → ShareCluster cs p q → ShareCluster cs q t → ShareCluster cs p t
 share_over cs p q t a b r x y =
-    let e : get_or cs q 0 ≡ get_or cs p 0 = a q (omega arith) (omega arith) in
-    elim (cases_lt r (min p q)) [
-      | inl h ↦ b r (omega arith) (omega arith) ∙ e
-      | inr h ↦ elim (cases_lt (max p q) r) [ inl g ↦ b r (omega arith) (omega arith) ∙ e | inr g ↦ a r h g ]
-    ]
+    search arith
 
 -- places that shared a cluster with all in between still do
 pub joined_all-share : (level : BufferClusterLevel) (sts : List (ℕ × ℕ)) (cs : List ℕ) → EndWithin (length cs) sts
     → (p q : ℕ) → p < length cs → q < length cs → ShareCluster cs p q → ShareCluster (joined_all level sts cs) p q
-joined_all-share level sts cs h p q pl ql c = share_all (joined_all level sts cs) p q (λ r a b.
-    let i : suc (r - 1) ≡ r = omega arith in
-    let js = joined_all level sts cs in
-    joined_all-neighbours level sts cs h (r - 1) (omega arith) (c (r - 1) (omega arith) (omega arith)
-    ∙ sym (c (suc (r - 1)) (omega arith) (omega arith))) ∙ ap (λ k. get_or js k 0) i)
+joined_all-share level sts cs h p q pl ql c = search (arith, share_all, joined_all-neighbours)
 
 -- each cluster is the old one of some place, and all places in between share it
 pub joined_all-reached : (level : BufferClusterLevel) (sts : List (ℕ × ℕ)) (cs : List ℕ) → EndWithin (length cs) sts
     → (p : ℕ) → p < length cs → (q : ℕ) × (q < length cs) × (get_or (joined_all level sts cs) p 0 ≡ get_or cs q 0)
     × ShareCluster (joined_all level sts cs) p q
-joined_all-reached level [] cs h p l = (p, l, refl, λ r x y. let i : r ≡ p = omega arith in ap (λ k. get_or cs k 0) i)
+joined_all-reached level [] cs h p l = (p, l, refl, search arith)
 joined_all-reached level (st ∷ sts) cs h p l =
     let js = joined level st.0 st.1 cs in
-    let w = end_within_joined level st.0 st.1 cs sts h.0 h.1 in
     let n = length-joined level st.0 st.1 cs h.0 in
-    let (q, ql, qe, qs) = joined_all-reached level sts js w p (omega arith) in
+    let (q, ql, qe, qs) = joined_all-reached level sts js
+    (end_within_joined level st.0 st.1 cs sts h.0 h.1) p (omega arith) in
     let (t, tl, te, ts) = joined-reached level st.0 st.1 cs h.0 q (omega arith) in (
       t,
       tl,
       qe ∙ te,
       share_over (joined_all level sts js) p q t qs
-          (joined_all-share level sts js w q t ql (omega arith) ts),
+          (search (arith, joined_all-share)),
     )

@@ -1,5 +1,5 @@
 -- Rows computed: what the definitions give for small lists of clusters.
-use Rattle.std.proofs.Common.{ℕ, true, false, map, ◌%◌, ◌+◌, ◌-◌, ◌≡◌, ◌≤◌, [], ◌∷◌, refl, ap, arith, subst}
+use Rattle.std.proofs.Common.{ℕ, true, false, map, ◌%◌, ◌+◌, ◌≡◌, ◌≤◌, [], ◌∷◌, refl, arith, subst}
 use Rattle.std.specs.List.{AllByRecursion}
 use Rattle.shapers_buffer.specs.declared.buffer.level.BufferClusterLevel.TheVariants.{MonotoneGraphemes, Characters}
 use Rattle.shapers_buffer.specs.declared.buffer.glyph.hb_glyph_info_t.{hb_glyph_info_t}
@@ -129,25 +129,19 @@ rests : (m : ℕ) → without_flags (without_flags m % 8) ≡ without_flags (m %
 rests m = omega arith
 
 masks_hidden : HidesFields (λ g. record g { mask = g.mask % 8; category = 0; auxiliary = 0 })
-masks_hidden = record {
-  shows = record { cluster = λ g. refl; flags = λ g. omega arith };
-  apart = λ g. ap (λ (m : ℕ). record g { cluster = 0; mask = m; category = 0; auxiliary = 0 }) (rests g.mask);
-}
+masks_hidden = search (arith, rests)
 
 classes_hidden : HidesFields (λ g. record g { unicode_props = record { 0 = 0 } })
-classes_hidden = record {
-  shows = record { cluster = λ g. refl; flags = λ g. refl };
-  apart = λ g. ap (λ (m : ℕ). record g { cluster = 0; mask = m; unicode_props = record { 0 = 0 } })
-      (without_flags-twice g.mask);
-}
+classes_hidden = search (arith, without_flags-twice)
 
 -- a hook that merges and swaps the places i + 1 and i + 2 of n: all laws of merged steps hold of it
 swap_moves : MovesMerged 2 swap_two
 unfolding swap_two
-swap_moves = moves_anywhere 2 (1 ∷ 0 ∷ []) refl (omega arith, (omega arith, tt))
+swap_moves = search (arith, moves_anywhere)
 
 swapped_moves : (i n : ℕ) → i + 3 ≤ n → AllByRecursion (MovesMerged n) (widened (i + 1) (i + 3) n swap_two ∷ [])
-swapped_moves i n l =
-    let two : 2 ≡ i + 3 - (i + 1) = omega arith in
-    let P : ℕ → Type 0 = λ k. MovesMerged k swap_two in
-    (moves-widened (i + 1) (i + 3) n swap_two (omega arith) l (subst P two swap_moves), tt)
+swapped_moves i n l = (
+  moves-widened (i + 1) (i + 3) n swap_two (omega arith) l (subst
+      (λ k. MovesMerged k swap_two) (omega arith) swap_moves),
+  tt,
+)

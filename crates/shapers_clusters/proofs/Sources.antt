@@ -1,6 +1,6 @@
 -- Made and dropped glyphs: a result that has, place by place, the clusters of listed old places, its sources.
-use Rattle.std.proofs.Common.{ℕ, ◌-◌, ◌<◌, ◌≡◌, true, List, length, get_or, sym, ◌∙◌, ap, subst, arith}
-use Rattle.std.specs.List.{AllByRecursion, AllZip}
+use Rattle.std.proofs.Common.{ℕ, ◌-◌, ◌<◌, ◌≡◌, true, List, length, get_or, sym, ◌∙◌, subst, arith}
+use Rattle.std.specs.List.{AllByRecursion}
 use Rattle.shapers_buffer.specs.declared.buffer.glyph.hb_glyph_info_t.{hb_glyph_info_t}
 use Rattle.shapers_buffer.specs.declared.buffer.level.BufferClusterLevel.{BufferClusterLevel}
 use Rattle.shapers_buffer.specs.Glyph.{clusters}
@@ -10,11 +10,9 @@ use Rattle.shapers_clusters.specs.Cuts.{EndWithin, ShareCluster, IsMonotone}
 use Rattle.shapers_clusters.proofs.Neighbours.{length-joined_all, share_all}
 use Rattle.shapers_clusters.proofs.Cuts.{exact_cuts, block_shares, between_equal}
 use Rattle.shapers_buffer.specs.Places.{pick}
-use Rattle.shapers_clusters.proofs.Picks.{length-pick, get_or-pick, pick-map, pick-pick, AllZip-pick, within_at}
-use Rattle.shapers_clusters.specs.Flags.{FallsTo}
-use Rattle.shapers_clusters.proofs.Falls.{merge_all-falls}
-use Rattle.shapers_clusters.proofs.Moves.{clusters-merge_all, clusters_stay, held_share}
-use Rattle.shapers_clusters.specs.SourceCuts.{ExactCutsBy, HeldAlong, MovesInsideOf}
+use Rattle.shapers_clusters.proofs.Picks.{length-pick, get_or-pick, pick-map, within_at}
+use Rattle.shapers_clusters.proofs.Moves.{clusters-merge_all, held_share}
+use Rattle.shapers_clusters.specs.SourceCuts.{ExactCutsBy, HeldAlong}
 
 pub exact_cuts_by : (level : BufferClusterLevel) → merges level ≡ true → (sts : List (ℕ × ℕ)) (cs sources : List ℕ)
     → EndWithin (length cs) sts → IsMonotone cs → AllByRecursion (λ p. p < length cs) sources
@@ -23,12 +21,11 @@ exact_cuts_by level m sts cs sources w mono s =
     let js = joined_all level sts cs in
     let n = length-joined_all level sts cs w in
     let x = exact_cuts level m sts cs w mono in
-    let P : ℕ → Type 0 = λ n. AllByRecursion (λ p. p < n) sources in
-    let v = subst P (sym n) s in
+    let v = subst (λ n. AllByRecursion (λ p. p < n) sources) (sym n) s in
     let at : (i : ℕ) → i < length sources → get_or (pick sources js) i 0 ≡ get_or js (get_or sources i 0) 0 =
-    λ i l. get_or-pick 0 sources js v i l in
+    search (arith, get_or-pick) in
     let old : (i : ℕ) → i < length sources → get_or sources i 0 < length cs =
-    λ i l. within_at (length cs) sources s i l in
+    search (arith, within_at) in
     record {
       as_many = length-pick sources js v;
       cuts = λ i z l. (
@@ -39,7 +36,7 @@ exact_cuts_by level m sts cs sources w mono s =
             (old (i - 1) (omega arith)) (old i l) (sym (at (i - 1) (omega arith)) ∙ eq ∙ at i l))),
       );
       reached = λ i l. let (q, ql, b, e) = x.reached (get_or sources i 0) (old i l) in (q, ql, b, at i l ∙ e);
-      least = λ i q l ql b. omega (arith, at i l, x.least (get_or sources i 0) q (old i l) ql b);
+      least = search (arith, x.least);
     }
 
 -- places whose sources the merged stretches hold together share one cluster
@@ -48,41 +45,18 @@ pub sources_share : (level : BufferClusterLevel) → merges level ≡ true → (
     → j < length sources → HeldAlong sts sources i j → ShareCluster (pick sources (joined_all level sts cs)) i j
 sources_share level m sts cs sources w s i j il jl h =
     let js = joined_all level sts cs in
-    let jn = length-joined_all level sts cs w in
-    let P : ℕ → Type 0 = λ n. AllByRecursion (λ p. p < n) sources in
-    let sj = subst P (sym jn) s in
+    let sj = subst (λ n. AllByRecursion (λ p. p < n) sources) (sym (length-joined_all level sts cs w)) s in
     share_all (pick sources js) i j (λ r x y.
-    get_or-pick 0 sources js sj (r - 1) (omega arith)
-    ∙ sym (held_share level m sts cs w (get_or sources (r - 1) 0) (get_or sources r 0)
-    (within_at (length cs) sources s (r - 1) (omega arith)) (within_at (length cs) sources s r (omega arith))
-    (h r x y) (get_or sources r 0) (omega arith) (omega arith))
-    ∙ sym (get_or-pick 0 sources js sj r (omega arith)))
-
--- moves inside the merged stretches leave the clusters as they stood
-pub clusters-moved_sources : (level : BufferClusterLevel) → merges level ≡ true
-    → (sts : List (ℕ × ℕ)) (cs standing places : List ℕ) → EndWithin (length cs) sts
-    → AllByRecursion (λ p. p < length cs) standing → length places ≡ length standing
-    → AllByRecursion (λ p. p < length standing) places → MovesInsideOf sts standing places
-    → pick (pick places standing) (joined_all level sts cs) ≡ pick standing (joined_all level sts cs)
-clusters-moved_sources level m sts cs standing places w s n v h =
-    let js = joined_all level sts cs in
-    let jn = length-joined_all level sts cs w in
-    let P : ℕ → Type 0 = λ n. AllByRecursion (λ p. p < n) standing in
-    let sj = subst P (sym jn) s in
-    let Q : ℕ → Type 0 = λ n. AllByRecursion (λ p. p < n) places in
-    let k = length-pick standing js sj in
-    sym (pick-pick places standing js sj) ∙ clusters_stay (pick standing js) places (n ∙ sym k) (subst Q (sym k) v)
-    (λ p l. sources_share level m sts cs standing w s p (get_or places p 0) (omega arith)
-    (within_at (length standing) places v p (omega arith)) (h p (omega arith)) (get_or places p 0) (omega arith)
-    (omega arith))
+    cc (
+      get_or-pick 0 sources js sj (r - 1) (omega arith),
+      held_share level m sts cs w (get_or sources (r - 1) 0) (get_or sources r 0)
+          (within_at (length cs) sources s (r - 1) (omega arith)) (within_at (length cs) sources s r (omega arith))
+          (h r x y) (get_or sources r 0) (omega arith) (omega arith),
+      get_or-pick 0 sources js sj r (omega arith),
+    ))
 
 -- the clusters and the falls of what is picked from merged glyphs
 pub clusters-picked : (level : BufferClusterLevel) (sts : List (ℕ × ℕ)) (sources : List ℕ) (gs : List hb_glyph_info_t)
     → clusters (pick sources (merge_all level sts gs)) ≡ pick sources (joined_all level sts (clusters gs))
-clusters-picked level sts sources gs = sym (pick-map (λ g. g.cluster) sources (merge_all level sts gs))
-    ∙ ap (pick sources) (clusters-merge_all level sts gs)
-
-pub falls-picked : (level : BufferClusterLevel) (sts : List (ℕ × ℕ)) (sources : List ℕ) (gs : List hb_glyph_info_t)
-    → EndWithin (length gs) sts → AllZip FallsTo (pick sources gs) (pick sources (merge_all level sts gs))
-falls-picked level sts sources gs w =
-    AllZip-pick FallsTo sources gs (merge_all level sts gs) (merge_all-falls level sts gs w)
+clusters-picked level sts sources gs =
+    cc (pick-map (λ g. g.cluster) sources (merge_all level sts gs), clusters-merge_all level sts gs)

@@ -1,7 +1,6 @@
 -- What one merge does to clusters, place by place.
-use Rattle.std.proofs.Common.{ℕ, zero, suc, ◌+◌, ◌-◌, ◌<◌, ◌≤◌, ◌≡◌, ◌≢◌, Bool, true, false, if◌then◌else◌, nat_lt, not, ◌&&◌, ◌⊎◌, inl, inr, List, [], ◌∷◌, ◌++◌, map, length, get_or, reverse, take, drop, refl, sym, ◌∙◌, ap, subst, arith, length-append, length-take, length-drop}
+use Rattle.std.proofs.Common.{ℕ, zero, suc, ◌+◌, ◌-◌, ◌<◌, ◌≤◌, ◌≡◌, ◌≢◌, Bool, true, false, if◌then◌else◌, nat_lt, not, ◌&&◌, ◌⊎◌, inl, List, [], ◌∷◌, ◌++◌, map, length, get_or, reverse, take, drop, refl, sym, ◌∙◌, ap, subst, arith, length-append, length-take, length-drop}
 use Rattle.std.proofs.lemmas.List.{length-reverse, length-map, get_or-reverse, get_or_append_left, get_or-append_right, get_or-take, get_or-drop}
-use Rattle.std.proofs.lemmas.Bool.{cases_lt}
 use Rattle.std.proofs.lemmas.Bool.Decides.{nat_tests}
 use Rattle.shapers_buffer.specs.declared.buffer.level.BufferClusterLevel.{BufferClusterLevel}
 use Rattle.shapers_buffer.specs.Clusters.{least, merges, stretch_of}
@@ -36,20 +35,16 @@ first_part a b c p h = get_or_append_left a (b ++ c) 0 p h
 
 pub second_part : (a b c : List ℕ) (p : ℕ) → length a ≤ p → p < length a + length b
     → get_or (a ++ (b ++ c)) p 0 ≡ get_or b (p - length a) 0
-second_part a b c p h l = get_or-append_right a (b ++ c) (length a) p 0 refl h
-    ∙ get_or_append_left b c 0 (p - length a) (omega arith)
+second_part a b c p h l = search (arith, get_or-append_right, get_or_append_left)
 
 third_part : (a b c : List ℕ) (p : ℕ) → length a + length b ≤ p
     → get_or (a ++ (b ++ c)) p 0 ≡ get_or c (p - (length a + length b)) 0
 third_part a b c p h =
-    let i : p - length a - length b ≡ p - (length a + length b) = omega arith in
-    get_or-append_right a (b ++ c) (length a) p 0 refl (omega arith)
-    ∙ get_or-append_right b c (length b) (p - length a) 0 refl (omega arith) ∙ ap (λ k. get_or c k 0) i
+    search (arith, get_or-append_right)
 
 reversed-at : (xs : List ℕ) (n p : ℕ) → length xs ≡ n → p < n → get_or (reverse xs) p 0 ≡ get_or xs (n - 1 - p) 0
 reversed-at xs n p e h =
-    let i : length xs - 1 - p ≡ n - 1 - p = omega arith in
-    get_or-reverse xs p 0 (omega arith) ∙ ap (λ k. get_or xs k 0) i
+    search (arith, get_or-reverse)
 
 -- the flood in front of place s
 record Left (c m s : ℕ) (cs ls : List ℕ) : Type 0 where
@@ -64,26 +59,26 @@ record Left (c m s : ℕ) (cs ls : List ℕ) : Type 0 where
 front_reversed-at : (s : ℕ) (cs : List ℕ) (p : ℕ) → s ≤ length cs → p < s → get_or (reverse (take s cs)) (s - 1 - p) 0
     ≡ get_or cs p 0
 front_reversed-at s cs p l h =
-    let n : length (take s cs) ≡ s = omega (arith, length-take s cs) in
-    let i : s - 1 - (s - 1 - p) ≡ p = omega arith in
-    reversed-at (take s cs) s (s - 1 - p) n (omega arith) ∙ ap (λ k. get_or (take s cs) k 0) i ∙ get_or-take s cs p 0 h
+    search (
+      arith,
+      reversed-at (take s cs) s (s - 1 - p) (omega (arith, length-take s cs)) (omega arith),
+      get_or-take s cs p 0 h,
+    )
 
 left-is : (c m s : ℕ) (cs : List ℕ) → s ≤ length cs → Left c m s cs (reverse (flood c m (reverse (take s cs))))
 left-is c m s cs l =
     let f = flood-is c m (reverse (take s cs)) in
     let ys = flood c m (reverse (take s cs)) in
-    let n : length (reverse (take s cs)) ≡ s = omega (arith, length-take s cs, length-reverse (take s cs)) in
-    let k : length ys ≡ s = f.same_length ∙ n in
+    let k = f.same_length ∙ (search (arith, length-take, length-reverse)) in
     record {
       low = s - f.end;
       within = omega arith;
       same_length = length-reverse ys ∙ k;
       new = λ p a b. reversed-at ys s p k b ∙ f.new (s - 1 - p) (omega (arith, f.within));
-      old = λ p a b. sym (front_reversed-at s cs p l b) ∙ f.old (s - 1 - p) (omega (arith, f.within));
-      rest = λ p a. reversed-at ys s p k (omega arith) ∙ f.rest (s - 1 - p) (omega (arith, f.within))
-          ∙ front_reversed-at s cs p l (omega arith);
-      edge = λ h e. f.edge (omega (arith, f.within)) (let i : s - 1 - (s - f.end - 1)
-          ≡ f.end = omega (arith, f.within) in ap (λ k. get_or (reverse (take s cs)) k 0) (sym i)
+      old = search (arith, front_reversed-at);
+      rest = search (arith, reversed-at, front_reversed-at);
+      edge = λ h e. f.edge (omega (arith, f.within)) (ap (λ k. get_or (reverse (take s cs)) k 0)
+          (sym (omega (arith, f.within)))
           ∙ front_reversed-at s cs (s - f.end - 1) l (omega arith) ∙ e);
     }
 
@@ -99,22 +94,22 @@ record Right (c m e : ℕ) (cs rs : List ℕ) : Type 0 where
   edge : high < length cs → get_or cs high 0 ≢ c
 
 behind-at : (e : ℕ) (cs : List ℕ) (p : ℕ) → e ≤ p → get_or (drop e cs) (p - e) 0 ≡ get_or cs p 0
-behind-at e cs p h = let i : e + (p - e) ≡ p = omega arith in get_or-drop e cs (p - e) 0 ∙ ap (λ k. get_or cs k 0) i
+behind-at e cs p h = search (arith, get_or-drop)
 
 right-is : (c m e : ℕ) (cs : List ℕ) → e ≤ length cs → Right c m e cs (flood c m (drop e cs))
 right-is c m e cs l =
     let f = flood-is c m (drop e cs) in
-    let n : length (drop e cs) ≡ length cs - e = length-drop e cs in
+    let n = length-drop e cs in
     record {
       high = e + f.end;
       within = omega arith;
       end = omega (arith, f.within);
       same_length = f.same_length ∙ n;
       new = λ p a b. f.new (p - e) (omega arith);
-      old = λ p a b. sym (behind-at e cs p a) ∙ f.old (p - e) (omega arith);
-      rest = λ p a. f.rest (p - e) (omega arith) ∙ behind-at e cs p (omega arith);
-      edge = λ h q. f.edge (omega arith) (let i : e + f.end - e
-          ≡ f.end = omega arith in ap (λ k. get_or (drop e cs) k 0) (sym i) ∙ behind-at e cs (e + f.end) (omega arith)
+      old = search (arith, behind-at, f.old);
+      rest = search (arith, f.rest, behind-at);
+      edge = λ h q. f.edge (omega arith) (ap (λ k. get_or (drop e cs) k 0) (sym
+          (omega arith)) ∙ behind-at e cs (e + f.end) (omega arith)
           ∙ q);
     }
 
@@ -124,10 +119,10 @@ map-constant m (x ∷ xs) zero h = refl
 map-constant m (x ∷ xs) (suc p) h = map-constant m xs p (omega arith)
 
 pub stretch-at : (s e : ℕ) (cs : List ℕ) (k : ℕ) → k < e - s → get_or (stretch_of s e cs) k 0 ≡ get_or cs (s + k) 0
-stretch-at s e cs k h = get_or-take (e - s) (drop s cs) k 0 h ∙ get_or-drop s cs k 0
+stretch-at s e cs k h = search (arith, get_or-take, get_or-drop)
 
 pub length-stretch : (s e : ℕ) (cs : List ℕ) → e ≤ length cs → length (stretch_of s e cs) ≡ e - s
-length-stretch s e cs h = omega (arith, length-take (e - s) (drop s cs), length-drop s cs)
+length-stretch s e cs h = search (arith, length-take, length-drop)
 
 spread_from : (m s e : ℕ) (cs middle ls rs : List ℕ) (at : ℕ) → s < e → e ≤ length cs → length middle ≡ e - s → s ≤ at
     → at < e → get_or cs at 0 ≡ m → ((p : ℕ) → s ≤ p → p < e → m ≤ get_or cs p 0) → Left (get_or cs s 0) m s cs ls
@@ -135,9 +130,6 @@ spread_from : (m s e : ℕ) (cs middle ls rs : List ℕ) (at : ℕ) → s < e �
 spread_from m s e cs middle ls rs at h w n at_from at_to at_is least_is l r =
     let b = map (λ (x : ℕ). m) middle in
     let bn : length b ≡ e - s = length-map middle (λ x. m) ∙ n in
-    let js = ls ++ (b ++ rs) in
-    let ln = l.same_length in
-    let rn = r.same_length in
     record {
       low = l.low;
       high = r.high;
@@ -146,20 +138,10 @@ spread_from m s e cs middle ls rs at h w n at_from at_to at_is least_is l r =
       low_within = l.within;
       high_within = r.within;
       high_end = r.end;
-      same_length = length-append ls (b ++ rs) ∙ omega (arith, length-append b rs);
-      inside = λ p a z. elim (cases_lt p s) [
-        | inl k ↦ first_part ls b rs p (omega arith) ∙ l.new p a k
-        | inr k ↦ elim (cases_lt p e) [
-          | inl y ↦ second_part ls b rs p (omega arith) (omega arith)
-              ∙ map-constant m middle (p - length ls) (omega arith)
-          | inr y ↦ third_part ls b rs p (omega arith)
-              ∙ (let i : p - (length ls + length b) ≡ p - e = omega arith in ap (λ k. get_or rs k 0) i ∙ r.new p y z)
-        ]
-      ];
-      before = λ p a. first_part ls b rs p (omega (arith, l.within)) ∙ l.rest p a;
-      behind = λ p a. third_part ls b rs p (omega (arith, r.within))
-          ∙ (let i : p - (length ls + length b) ≡ p - e = omega (arith, r.within) in ap (λ k. get_or rs k 0) i
-          ∙ r.rest p a);
+      same_length = search (arith, length-append);
+      inside = search (arith, first_part, second_part, map-constant, third_part);
+      before = search (arith, first_part, l.rest);
+      behind = search (arith, third_part, r.rest);
       left = l.old;
       right = r.old;
       left_edge = l.edge;
@@ -174,23 +156,22 @@ spread_from m s e cs middle ls rs at h w n at_from at_to at_is least_is l r =
 pub spread : (s e : ℕ) (cs : List ℕ) → 1 < e - s → e ≤ length cs → Spread s e cs (spreading s e cs)
 spread s e cs h w =
     let middle = stretch_of s e cs in
-    let m = least middle in
-    let n : length middle ≡ e - s = length-stretch s e cs w in
+    let n = length-stretch s e cs w in
     let (k, kn, ke) = least-among middle (omega arith) in
-    let first : opening_run middle ≡ get_or cs s 0 = opening-at middle ∙ stretch-at s e cs 0 (omega arith)
-    ∙ (let i : s + 0 ≡ s = omega arith in ap (λ k. get_or cs k 0) i) in
+    let first : opening_run middle ≡ get_or cs s 0 = search (arith, opening-at, stretch-at) in
     let last : opening_run (reverse middle) ≡ get_or cs (e - 1) 0 =
-    opening-at (reverse middle) ∙ reversed-at middle (e - s) 0 n (omega arith)
-    ∙ stretch-at s e cs (e - s - 1 - 0) (omega arith)
-    ∙ (let i : s + (e - s - 1 - 0) ≡ e - 1 = omega arith in ap (λ k. get_or cs k 0) i) in
-    spread_from m s e cs middle _ _ (s + k) (omega arith) w n (omega arith) (omega arith)
-    (sym (stretch-at s e cs k (omega arith)) ∙ ke)
+    search (
+      arith,
+      opening-at (reverse middle),
+      reversed-at middle (e - s) 0 n (omega arith),
+      stretch-at s e cs (e - s - 1 - 0) (omega arith),
+    ) in
+    spread_from (least middle) s e cs middle _ _ (s + k) (omega arith) w n (omega arith) (omega arith)
+    (search (arith, stretch-at))
     (λ p a b. let i : s + (p - s) ≡ p = omega arith in let q = stretch-at s e cs (p - s) (omega arith)
     ∙ ap (λ k. get_or cs k 0) i in let z = least-le middle (p - s) (omega arith) in omega arith)
-    (let P : ℕ → Type 0 = λ c. Left c m s cs (reverse (flood (opening_run middle) m (reverse (take s cs)))) in subst P
-    first (left-is (opening_run middle) m s cs (omega arith)))
-    (let P : ℕ → Type 0 = λ c. Right c m e cs (flood (opening_run (reverse middle)) m (drop e cs)) in subst P last
-    (right-is (opening_run (reverse middle)) m e cs w))
+    (search (arith, left-is))
+    (search (arith, right-is))
 
 two_cases : (n : ℕ) (a : Bool) {X : Type 0} (P : X → Type 0) (x y : X) → ((a ≡ false) ⊎ (n < 2) → P y)
     → (a ≡ true → 1 < n → P x) → P (if a && not (nat_lt n 2) then x else y)

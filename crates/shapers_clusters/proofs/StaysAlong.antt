@@ -1,12 +1,12 @@
 -- What the steps of neighbouring stretches merge stays in one cluster.
-use Rattle.std.proofs.Common.{ℕ, ◌+◌, ◌-◌, ◌<◌, ◌≤◌, ◌≡◌, inl, inr, ◌⊎◌, List, [], ◌∷◌, ◌++◌, map, get_or, ◌∙◌, ap, subst, arith}
+use Rattle.std.proofs.Common.{ℕ, ◌+◌, ◌-◌, ◌<◌, ◌≤◌, ◌≡◌, inl, inr, ◌⊎◌, List, [], ◌∷◌, ◌++◌, map, get_or, ap, arith}
 use Rattle.std.specs.List.{AllByRecursion, sum_by}
 use Rattle.std.proofs.lemmas.List.{map-append}
 use Rattle.std.proofs.lemmas.List.Sums.{sum_by-cons}
 use Rattle.shapers_buffer.proofs.MappedLists.{all-append, all-mapped}
 use Rattle.shapers_clusters.specs.Cuts.{EndWithin}
 use Rattle.shapers_clusters.specs.Steps.{FitSteps, FitsStep, MovesMerged, SpareMerged, Spares, Step, shifted, steps_along, widened}
-use Rattle.shapers_clusters.proofs.Widened.{widened_before, fits-widened, widened_inside, moves-widened}
+use Rattle.shapers_clusters.proofs.Widened.{widened_before, widened_inside, moves-widened}
 
 -- one stretch
 abbrev pub moved_by : ℕ → ℕ × ℕ → ℕ × ℕ
@@ -16,21 +16,20 @@ spares_widened : (s e n : ℕ) (step : Step) → s ≤ e → e ≤ n → FitsSte
     → Spares (e - s) st step → Spares n (moved_by s st) (widened s e n step)
 spares_widened s e n step l m fits st w (inr moves) = inr (moves-widened s e n step l m moves)
 spares_widened s e n step l m fits st w (inl stays) =
-    inl (λ p a b. widened_inside s e n step fits p (omega arith) (omega arith)
-    ∙ ap (λ q. s + q) (stays (p - s) (omega arith) (omega arith)) ∙ omega arith)
+    inl (λ p a b. search (arith, widened_inside))
 
 spares_all : (s e n : ℕ) (steps : List Step) → s ≤ e → e ≤ n → FitSteps (e - s) steps → (st : ℕ × ℕ) → st.1 ≤ e - s
     → AllByRecursion (Spares (e - s) st) steps → AllByRecursion (Spares n (moved_by s st)) (map (widened s e n) steps)
 spares_all s e n [] l m fits st w h = tt
 spares_all s e n (step ∷ steps) l m fits st w h =
-    (spares_widened s e n step l m fits.0 st w h.0, spares_all s e n steps l m fits.1 st w h.1)
+    search (arith, spares_widened, spares_all s e n steps l m fits.1 st w h.1)
 
 spares_each : (s e n : ℕ) (steps : List Step) → s ≤ e → e ≤ n → FitSteps (e - s) steps → (sts : List (ℕ × ℕ))
     → EndWithin (e - s) sts → AllByRecursion (λ st. AllByRecursion (Spares (e - s) st) steps) sts
     → AllByRecursion (λ st. AllByRecursion (Spares n st) (map (widened s e n) steps)) (shifted s sts)
 spares_each s e n steps l m fits [] w h = tt
 spares_each s e n steps l m fits (st ∷ sts) w h =
-    (spares_all s e n steps l m fits st w.0 h.0, spares_each s e n steps l m fits sts w.1 h.1)
+    search (arith, spares_all, spares_each s e n steps l m fits sts w.1 h.1)
 
 -- the steps of a syllable widened, and steps behind it that leave what is before them
 abbrev StayBefore : ℕ → Step → Type 0
@@ -39,14 +38,14 @@ StayBefore t step = (p : ℕ) → p < t → get_or step.places p 0 ≡ p
 all_stay : (n : ℕ) (st : ℕ × ℕ) (t : ℕ) → st.1 ≤ t → (more : List Step) → AllByRecursion (StayBefore t) more
     → AllByRecursion (Spares n st) more
 all_stay n st t l [] h = tt
-all_stay n st t l (step ∷ steps) h = (inl (λ p a b. h.0 p (omega arith)), all_stay n st t l steps h.1)
+all_stay n st t l (step ∷ steps) h = search (arith, all_stay n st t l steps h.1)
 
 too : (n t : ℕ) (steps more : List Step) → AllByRecursion (StayBefore t) more → (sts : List (ℕ × ℕ)) → EndWithin t sts
     → AllByRecursion (λ st. AllByRecursion (Spares n st) steps) sts
     → AllByRecursion (λ st. AllByRecursion (Spares n st) (steps ++ more)) sts
 too n t steps more behind [] w h = tt
 too n t steps more behind (st ∷ sts) w h =
-    (all-append (Spares n st) steps more h.0 (all_stay n st t w.0 more behind), too n t steps more behind sts w.1 h.1)
+    search (arith, all-append, all_stay, too n t steps more behind sts w.1 h.1)
 
 own_widened : (s e n : ℕ) (step : Step) → s ≤ e → e ≤ n → (step.merged_first ≡ []) ⊎ MovesMerged (e - s) step
     → ((widened s e n step).merged_first ≡ []) ⊎ MovesMerged n (widened s e n step)
@@ -59,19 +58,16 @@ spare_widened : (s e n : ℕ) (steps more : List Step) → s ≤ e → e ≤ n �
 spare_widened s e n [] more l m fits spare behind rest = rest
 spare_widened s e n (step ∷ steps) more l m fits spare behind rest =
     let one = fits.0 in
-    let wide = fits-widened s e n step l m one in
     let sts = step.merged_first ++ step.merged_then in
     let ends = all-append (λ (st : ℕ × ℕ). st.1 ≤ e - s) step.merged_first step.merged_then one.first_within
     one.then_within in
-    let far : EndWithin e (shifted s sts) =
-    all-mapped (λ (st : ℕ × ℕ). st.1 ≤ e - s) (λ (st : ℕ × ℕ). st.1 ≤ e) (moved_by s) sts (λ st w. omega arith)
-    ends in
-    let each = too n e (map (widened s e n) steps) more behind (shifted s sts) far
-    (spares_each s e n steps l m fits.1 sts ends spare.1) in
-    let parts : shifted s sts ≡ shifted s step.merged_first ++ shifted s step.merged_then =
-    map-append (moved_by s) step.merged_first step.merged_then in (
+    search (
+      arith,
       own_widened s e n step l m spare.0,
-      subst (AllByRecursion (λ st. AllByRecursion (Spares n st) (map (widened s e n) steps ++ more))) parts each,
+      map-append (moved_by s) step.merged_first step.merged_then,
+      too n e (map (widened s e n) steps) more behind (shifted s sts)
+          (all-mapped (λ (st : ℕ × ℕ). st.1 ≤ e - s) (λ (st : ℕ × ℕ). st.1 ≤ e) (moved_by s) sts (λ st w. omega
+          arith) ends) (spares_each s e n steps l m fits.1 sts ends spare.1),
       spare_widened s e n steps more l m fits.1 spare.2 behind rest,
     )
 
@@ -79,14 +75,13 @@ spare_widened s e n (step ∷ steps) more l m fits spare behind rest =
 stay_widened : (t s e n : ℕ) (steps : List Step) → t ≤ s → AllByRecursion (StayBefore t) (map (widened s e n) steps)
 stay_widened t s e n [] l = tt
 stay_widened t s e n (step ∷ steps) l =
-    ((λ p a. widened_before s e n step p (omega arith)), stay_widened t s e n steps l)
+    search (arith, widened_before, stay_widened t s e n steps l)
 
 stay_along : (t n s : ℕ) (pieces : List (ℕ × List Step)) → t ≤ s
     → AllByRecursion (StayBefore t) (steps_along n s pieces)
 stay_along t n s [] l = tt
 stay_along t n s (piece ∷ rest) l =
-    all-append (StayBefore t) (map (widened s (s + piece.0) n) piece.1) (steps_along n (s + piece.0) rest)
-    (stay_widened t s (s + piece.0) n piece.1 l) (stay_along t n (s + piece.0) rest (omega arith))
+    search (arith, all-append, stay_widened, stay_along t n (s + piece.0) rest (omega arith))
 
 pub spare_along : (n s : ℕ) (pieces : List (ℕ × List Step)) → s + sum_by (λ piece. piece.0) pieces ≤ n
     → AllByRecursion (λ piece. FitSteps piece.0 piece.1) pieces
@@ -94,8 +89,4 @@ pub spare_along : (n s : ℕ) (pieces : List (ℕ × List Step)) → s + sum_by 
 spare_along n s [] l fits spare = tt
 spare_along n s (piece ∷ rest) l fits spare =
     let sum = sum_by-cons (λ piece. piece.0) piece rest in
-    let e = s + piece.0 in
-    let i : piece.0 ≡ e - s = omega arith in
-    spare_widened s e n piece.1 (steps_along n e rest) (omega arith) (omega arith)
-    (subst (λ k. FitSteps k piece.1) i fits.0) (subst (λ k. SpareMerged k piece.1) i spare.0)
-    (stay_along e n e rest (omega arith)) (spare_along n e rest (omega arith) fits.1 spare.1)
+    search (arith, spare_widened, stay_along, spare_along n (s + piece.0) rest (omega arith) fits.1 spare.1)

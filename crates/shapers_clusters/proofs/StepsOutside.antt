@@ -11,11 +11,11 @@ use Rattle.shapers_buffer.specs.Places.{pick}
 use Rattle.shapers_buffer.proofs.MappedLists.{all-append}
 use Rattle.shapers_clusters.specs.Cuts.{EndWithin, OneAlong, StandsApart}
 use Rattle.shapers_clusters.specs.ClusterMerges.{joined_all}
-use Rattle.shapers_clusters.specs.Labels.{IsLabelled, OneLabelEach}
+use Rattle.shapers_clusters.specs.Labels.{OneLabelEach}
 use Rattle.shapers_clusters.specs.Steps.{FitSteps, FitsStep, Step, joined_step, joined_steps, moved_on, old_places, shifted, steps_along, widened}
 use Rattle.shapers_clusters.proofs.Labels.{Labelled, joined_steps-labels}
 use Rattle.shapers_clusters.proofs.Moves.{all-joined_steps, moved_by_old_places, stepped}
-use Rattle.shapers_clusters.proofs.Neighbours.{joined_all-neighbours, length-joined_all}
+use Rattle.shapers_clusters.proofs.Neighbours.{joined_all-neighbours}
 use Rattle.shapers_clusters.proofs.Picks.{get_or-pick, length-pick, within_at}
 use Rattle.shapers_clusters.proofs.Widened.{widened_before, widened_behind, fits-widened, widened_inside}
 
@@ -36,7 +36,7 @@ pub record Elsewhere (s e n : ℕ) (step : Step) : Type 0 where
 
 fits_elsewhere : (s e n : ℕ) (steps : List Step) → AllByRecursion (Elsewhere s e n) steps → FitSteps n steps
 fits_elsewhere s e n [] h = tt
-fits_elsewhere s e n (step ∷ steps) h = (let one = h.0 in (one.fits, fits_elsewhere s e n steps h.1))
+fits_elsewhere s e n (step ∷ steps) h = search (arith, fits_elsewhere s e n steps h.1)
 
 -- neighbours in it that share a cluster still do; clusters that are its own stay, and stay its own
 pub record Leaves (s e : ℕ) (cs js : List ℕ) : Type 0 where
@@ -63,13 +63,17 @@ marks s e cs = map (mark s e cs) (range_with_len 0 (length cs))
 
 length-marks : (s e : ℕ) (cs : List ℕ) → length (marks s e cs) ≡ length cs
 unfolding marks
-length-marks s e cs = length-map (range_with_len 0 (length cs)) (mark s e cs) ∙ length-range_with_len 0 (length cs)
+length-marks s e cs = search (arith, length-map, length-range_with_len)
 
 mark_at : (s e : ℕ) (cs : List ℕ) (p : ℕ) → p < length cs → get_or (marks s e cs) p 0 ≡ mark s e cs p
 unfolding marks
 mark_at s e cs p l =
-    get_or-map (mark s e cs) (range_with_len 0 (length cs)) p 0 0 (omega (arith, length-range_with_len 0 (length cs)))
-    ∙ ap (mark s e cs) (get_or-range_with_len 0 (length cs) p 0 l ∙ omega arith)
+    search (
+      arith,
+      get_or-map (mark s e cs) (range_with_len 0 (length cs)) p 0 0
+          (omega (arith, length-range_with_len 0 (length cs))),
+      get_or-range_with_len 0 (length cs) p 0 l,
+    )
 
 inside_or_not : (s e p : ℕ) → ((s ≤ p) × (p < e)) ⊎ Outside s e p
 inside_or_not s e p = elim (cases_lt p s) [
@@ -77,30 +81,14 @@ inside_or_not s e p = elim (cases_lt p s) [
   | inr a ↦ elim (cases_lt p e) [ inl b ↦ inl (a, b) | inr b ↦ inr (inr b) ]
 ]
 
-marks_labelled : (s e : ℕ) (cs : List ℕ) → StandsApart s e cs → IsLabelled cs (marks s e cs)
-marks_labelled s e cs apart = record {
-  as_many = length-marks s e cs;
-  agree = λ p q pl ql same. mark_at s e cs p pl ∙ elim (inside_or_not s e p) [
-    | inl a ↦ elim (inside_or_not s e q) [
-      | inl b ↦ mark_inside s e cs p a.0 a.1 ∙ ap suc same ∙ sym (mark_inside s e cs q b.0 b.1)
-      | inr b ↦ absurd (apart p q a.0 a.1 ql b same)
-    ]
-    | inr a ↦ elim (inside_or_not s e q) [
-      | inl b ↦ absurd (apart q p b.0 b.1 pl a (sym same))
-      | inr b ↦ mark_outside s e cs p a ∙ sym (mark_outside s e cs q b)
-    ]
-  ] ∙ sym (mark_at s e cs q ql);
-}
-
 -- stretches beside it have no mark, and no mark moves
 no_mark : (s e : ℕ) (cs : List ℕ) (sts : List (ℕ × ℕ)) → EndWithin (length cs) sts → AllByRecursion (Beside s e) sts
     → AllByRecursion (OneAlong (marks s e cs)) sts
 no_mark s e cs [] ends beside = tt
 no_mark s e cs (st ∷ sts) ends beside =
-    let end = ends.0 in
-    let none : (p : ℕ) → st.0 ≤ p → p < st.1 → get_or (marks s e cs) p 0 ≡ 0 = λ p a b. mark_at s e cs p (omega arith)
-    ∙ mark_outside s e cs p (elim beside.0 [ inl c ↦ inl (omega arith) | inr c ↦ inr (omega arith) ]) in
-    ((λ p q pl ph ql qh. none p pl ph ∙ sym (none q ql qh)), no_mark s e cs sts ends.1 beside.1)
+    let none : (p : ℕ) → st.0 ≤ p → p < st.1 → get_or (marks s e cs) p 0 ≡ 0 =
+    search (arith, mark_at, mark_outside) in
+    search (arith, no_mark s e cs sts ends.1 beside.1)
 
 marks_stay : (s e : ℕ) (cs : List ℕ) (step : Step) → Elsewhere s e (length cs) step → pick step.places (marks s e cs)
     ≡ marks s e cs
@@ -108,65 +96,53 @@ marks_stay s e cs step h =
     let ms = marks s e cs in
     let n = length-marks s e cs in
     let fits = h.fits in
-    let many = fits.as_many in
-    let within : AllByRecursion (λ p. p < length ms) step.places =
-    subst (λ k. AllByRecursion (λ p. p < k) step.places) (sym n) fits.within in
-    let long : length (pick step.places ms) ≡ length ms = length-pick step.places ms within ∙ fits.as_many ∙ sym n in
-    ext_get_or 0 (pick step.places ms) ms long (λ p l.
-    let pl : p < length cs = omega arith in
+    let within = subst (λ k. AllByRecursion (λ p. p < k)
+    step.places) (sym n) fits.within in
+    let long = length-pick step.places ms within ∙ fits.as_many ∙ sym n in
+    cc (ext_get_or 0 (pick step.places ms) ms long (λ p l. let pl : p < length cs = omega arith in
     let q = get_or step.places p 0 in
-    let ql : q < length cs = within_at (length cs) step.places fits.within p (omega arith) in
-    get_or-pick 0 step.places ms within p (omega arith) ∙ elim (inside_or_not s e p) [
+    get_or-pick 0 step.places ms within p (omega arith)
+    ∙ elim (inside_or_not s e p) [
       | inl a ↦ ap (λ k. get_or ms k 0) (h.stays p a.0 a.1)
-      | inr a ↦ mark_at s e cs q ql ∙ mark_outside s e cs q (h.outside p pl a)
-          ∙ sym (mark_at s e cs p pl ∙ mark_outside s e cs p a)
-    ])
+      | inr a ↦ mark_at s e cs q (within_at (length cs)
+          step.places fits.within p (omega arith)) ∙ mark_outside s e cs q (h.outside p pl a) ∙ sym (mark_at s e cs p pl ∙
+          mark_outside s e cs p a)
+    ]))
 
 marked_each : (s e : ℕ) (cs : List ℕ) (steps : List Step) → AllByRecursion (Elsewhere s e (length cs)) steps
     → OneLabelEach steps (marks s e cs)
 marked_each s e cs [] h = tt
 marked_each s e cs (step ∷ steps) h =
-    let one = h.0 in
-    let fits = one.fits in
-    let stay = marks_stay s e cs step one in (
-      no_mark s e cs step.merged_first fits.first_within one.first,
-      subst (λ ls. AllByRecursion (OneAlong ls) step.merged_then) (sym stay)
-          (no_mark s e cs step.merged_then fits.then_within one.last),
-      subst (OneLabelEach steps) (sym stay) (marked_each s e cs steps h.1),
-    )
+    search (arith, no_mark, marks_stay, marked_each s e cs steps h.1)
 
 marks_stay_all : (s e : ℕ) (cs : List ℕ) (steps : List Step) → AllByRecursion (Elsewhere s e (length cs)) steps
     → moved_on steps (marks s e cs) ≡ marks s e cs
 marks_stay_all s e cs [] h = refl
-marks_stay_all s e cs (step ∷ steps) h = ap (moved_on steps) (marks_stay s e cs step h.0)
-    ∙ marks_stay_all s e cs steps h.1
+marks_stay_all s e cs (step ∷ steps) h = search (arith, marks_stay, marks_stay_all s e cs steps h.1)
 
 -- neighbours
 shared_step : (s e : ℕ) (level : BufferClusterLevel) (n : ℕ) (step : Step) (cs : List ℕ) → length cs ≡ n → e ≤ n
     → Elsewhere s e n step → (p : ℕ) → s ≤ p → suc p < e → get_or cs p 0 ≡ get_or cs (suc p) 0
     → get_or (joined_step level step cs) p 0 ≡ get_or (joined_step level step cs) (suc p) 0
 shared_step s e level n step cs long end h p a b same =
-    let fits = h.fits in
-    let many = fits.as_many in
-    let f = stepped n level step cs long fits in
+    let f = stepped n level step cs long h.fits in
     let js = joined_all level step.merged_first cs in
-    let jn = length-joined_all level step.merged_first cs f.first_within in
-    let first = joined_all-neighbours level step.merged_first cs f.first_within p (omega arith) same in
-    let at : (q : ℕ) → s ≤ q → q < e → get_or (pick step.places js) q 0 ≡ get_or js q 0 =
-    λ q c d. get_or-pick 0 step.places js f.within q (omega arith) ∙ ap (λ k. get_or js k 0) (h.stays q c d) in
-    joined_all-neighbours level step.merged_then (pick step.places js) f.then_within p
-    (omega (arith, length-pick step.places js f.within)) (at p a (omega arith) ∙ first
-    ∙ sym (at (suc p) (omega arith) b))
+    let at : (q : ℕ) → s ≤ q → q < e → get_or (pick step.places js) q 0 ≡ get_or js q 0 = λ q c d.
+    cc (get_or-pick 0 step.places js f.within q (omega arith), h.stays q c d) in
+    cc (joined_all-neighbours level step.merged_then (pick step.places js) f.then_within p (omega (
+      arith,
+      length-pick step.places js f.within,
+    )) (at p a (omega arith) ∙ joined_all-neighbours level step.merged_first cs f.first_within p (omega arith) same
+    ∙ sym (at (suc p) (omega arith) b)))
 
 shared_steps : (s e : ℕ) (level : BufferClusterLevel) (n : ℕ) (steps : List Step) (cs : List ℕ) → length cs ≡ n → e ≤ n
     → AllByRecursion (Elsewhere s e n) steps → (p : ℕ) → s ≤ p → suc p < e → get_or cs p 0 ≡ get_or cs (suc p) 0
     → get_or (joined_steps level steps cs) p 0 ≡ get_or (joined_steps level steps cs) (suc p) 0
 shared_steps s e level n [] cs long end h p a b same = same
 shared_steps s e level n (step ∷ steps) cs long end h p a b same =
-    let one = h.0 in
-    let f = stepped n level step cs long one.fits in
+    let f = stepped n level step cs long h.0.fits in
     shared_steps s e level n steps (joined_step level step cs) f.as_many end h.1 p a b
-    (shared_step s e level n step cs long end h.0 p a b same)
+    (search (arith, shared_step))
 
 -- all of it
 leaves_apart : (s e : ℕ) (level : BufferClusterLevel) (steps : List Step) (cs : List ℕ) → e ≤ length cs
@@ -178,13 +154,14 @@ leaves_apart s e level steps cs end h apart =
     let n = length cs in
     let js = joined_steps level steps cs in
     let ms = marks s e cs in
-    let fits = fits_elsewhere s e n steps h in
-    let stay : pick (old_places n steps) ms ≡ ms = sym (moved_by_old_places n steps ms (length-marks s e cs))
-    ∙ marks_stay_all s e cs steps h in
+    let stay : pick (old_places n steps) ms ≡ ms =
+    search (arith, moved_by_old_places, length-marks, marks_stay_all) in
     let done : Labelled cs ms js ms =
     subst (Labelled cs ms js) stay
-    (joined_steps-labels level steps cs ms fits (marks_labelled s e cs apart) (marked_each s e cs steps h)) in
-    let jl : length js ≡ n = sym done.respected.as_many ∙ length-marks s e cs in (
+    (joined_steps-labels level steps cs ms
+    (fits_elsewhere s e n steps h) (
+    search (arith, length-marks, mark_at, mark_inside, mark_outside)) (marked_each s e cs steps h)) in
+    let jl : length js ≡ n = search (arith, length-marks) in (
       jl,
       λ p a b.
           let (q, ql, cluster, label) = done.of_old p (omega arith) in
@@ -203,14 +180,13 @@ leaves_apart s e level steps cs end h apart =
 pub leaves_elsewhere : (s e : ℕ) (level : BufferClusterLevel) (n : ℕ) (steps : List Step) (cs : List ℕ) → length cs ≡ n
     → e ≤ n → AllByRecursion (Elsewhere s e n) steps → Leaves s e cs (joined_steps level steps cs)
 leaves_elsewhere s e level n steps cs long end h =
-    let here : AllByRecursion (Elsewhere s e (length cs)) steps =
-    subst (λ k. AllByRecursion (Elsewhere s e k) steps) (sym long) h in
-    let lone = leaves_apart s e level steps cs (omega arith) here in
+    let lone = leaves_apart s e level steps cs (omega arith)
+    (subst (λ k. AllByRecursion (Elsewhere s e k) steps) (sym long) h) in
     record {
       same_length =
           (all-joined_steps (λ _. Unit {0}) level n steps cs long (fits_elsewhere s e n steps h) (λ _ _ _. tt)).0
           ∙ sym long;
-      shared = λ p a b same. shared_steps s e level n steps cs long end h p a b same;
+      shared = search (arith, shared_steps);
       own = λ apart. (lone apart).1;
       apart = λ apart. (lone apart).2;
     }
@@ -220,28 +196,23 @@ beside_shifted : (s e a b : ℕ) (sts : List (ℕ × ℕ)) → a ≤ b → EndWi
     → AllByRecursion (Beside s e) (shifted a sts)
 beside_shifted s e a b [] l ends out = tt
 beside_shifted s e a b (st ∷ sts) l ends out =
-    let end = ends.0 in
-    (elim out [ inl c ↦ inl (omega arith) | inr c ↦ inr (omega arith) ], beside_shifted s e a b sts l ends.1 out)
+    search (arith, beside_shifted s e a b sts l ends.1 out)
 
 widened_elsewhere : (s e a b n : ℕ) (step : Step) → a ≤ b → b ≤ n → e ≤ n → FitsStep (b - a) step → (b ≤ s) ⊎ (e ≤ a)
     → Elsewhere s e n (widened a b n step)
 widened_elsewhere s e a b n step l m end fits out = record {
   fits = fits-widened a b n step l m fits;
-  first = beside_shifted s e a b step.merged_first l fits.first_within out;
-  last = beside_shifted s e a b step.merged_then l fits.then_within out;
-  stays = λ p x y. elim out [
-    | inl c ↦ widened_behind a b n step l fits p (omega arith) (omega arith)
-    | inr c ↦ widened_before a b n step p (omega arith)
-  ];
+  first = search (arith, beside_shifted);
+  last = search (arith, beside_shifted);
+  stays = search (arith, widened_behind, widened_before);
   outside = λ p pn x. elim (cases_lt p a) [
-    | inl c ↦ subst (Outside s e) (sym (widened_before a b n step p c)) x
+    | inl c ↦ search (arith, widened_before)
     | inr c ↦ elim (cases_lt p b) [
       | inl d ↦ (
           let at = widened_inside a b n step fits p c d in
-          let many = fits.as_many in
           let within = within_at (b - a) step.places fits.within (p - a) (omega arith) in
           elim out [ inl f ↦ inl (omega arith) | inr f ↦ inr (omega arith) ])
-      | inr d ↦ subst (Outside s e) (sym (widened_behind a b n step l fits p d pn)) x
+      | inr d ↦ search (arith, widened_behind)
     ]
   ];
 }
@@ -250,7 +221,7 @@ all_elsewhere : (s e a b n : ℕ) (steps : List Step) → a ≤ b → b ≤ n �
     → AllByRecursion (Elsewhere s e n) (map (widened a b n) steps)
 all_elsewhere s e a b n [] l m end fits out = tt
 all_elsewhere s e a b n (step ∷ steps) l m end fits out =
-    (widened_elsewhere s e a b n step l m end fits.0 out, all_elsewhere s e a b n steps l m end fits.1 out)
+    search (arith, widened_elsewhere, all_elsewhere s e a b n steps l m end fits.1 out)
 
 pub along_elsewhere : (s e n a : ℕ) (pieces : List (ℕ × List Step)) → a + sum_by (λ piece. piece.0) pieces ≤ n → e ≤ n
     → AllByRecursion (λ piece. FitSteps piece.0 piece.1) pieces → (a + sum_by (λ piece. piece.0) pieces ≤ s) ⊎ (e ≤ a)
@@ -259,9 +230,17 @@ along_elsewhere s e n a [] l end fits out = tt
 along_elsewhere s e n a (piece ∷ rest) l end fits out =
     let sum = sum_by-cons (λ piece. piece.0) piece rest in
     let b = a + piece.0 in
-    let size : piece.0 ≡ a + piece.0 - a = omega arith in
-    all-append (Elsewhere s e n) (map (widened a b n) piece.1) (steps_along n b rest)
-    (all_elsewhere s e a b n piece.1 (omega arith) (omega arith) end (subst (λ k. FitSteps k piece.1) size fits.0)
-    (elim out [ inl c ↦ inl (omega arith) | inr c ↦ inr c ]))
-    (along_elsewhere s e n b rest (omega arith) end fits.1 (elim out
-    [ inl c ↦ inl (omega arith) | inr c ↦ inr (omega arith) ]))
+    search (
+      arith,
+      all-append (Elsewhere s e n) (map (widened a b n) piece.1) (steps_along n b rest)
+          (all_elsewhere s e a b n piece.1 (omega arith) (omega arith) end (search arith) (elim out [
+            | inl c ↦ inl
+                (omega arith)
+            | inr c ↦ inr c
+          ]))
+          (along_elsewhere s e n b rest (omega arith) end fits.1 (elim out [
+            | inl c ↦ inl (omega arith)
+            | inr c ↦
+                inr (omega arith)
+          ])),
+    )

@@ -1,5 +1,5 @@
 -- The smallest steps: nothing moves, or two neighbours merge and change places.
-use Rattle.std.proofs.Common.{ℕ, ◌+◌, ◌<◌, ◌≡◌, ◌≢◌, ◌==◌, inl, inr, true, List, [], ◌∷◌, length, get_or, set, refl, sym, ◌∙◌, ap, subst, zero-add, arith, get_or-set_same, get_or-set_other, length-set, if◌then◌else◌}
+use Rattle.std.proofs.Common.{ℕ, ◌+◌, ◌<◌, ◌≡◌, ◌≢◌, ◌==◌, inl, inr, List, length, get_or, set, refl, sym, ◌∙◌, ap, subst, zero-add, arith, get_or-set_same, get_or-set_other, length-set, if◌then◌else◌}
 use Rattle.std.specs.Prelude.{swap}
 use Rattle.std.specs.List.{AllByRecursion, range_with_len}
 use Rattle.std.proofs.lemmas.List.{same_lists, map-set, get_or-map, length-map}
@@ -11,12 +11,11 @@ use Rattle.std.proofs.lemmas.Bool.Decides.{nat_tests}
 use Rattle.shapers_buffer.specs.declared.buffer.glyph.hb_glyph_info_t.{hb_glyph_info_t}
 use Rattle.shapers_buffer.specs.declared.buffer.level.BufferClusterLevel.{BufferClusterLevel}
 use Rattle.shapers_buffer.specs.Clusters.{merge}
-use Rattle.shapers_buffer.specs.Glyph.{plain, order_view, default_glyph}
+use Rattle.shapers_buffer.specs.Glyph.{order_view}
 use Rattle.shapers_clusters.proofs.Merging.{length-merge, order_view-merge}
-use Rattle.shapers_clusters.specs.Cuts.{held}
 use Rattle.shapers_clusters.proofs.Picks.{length-pick, get_or-pick, pick-all, within_range}
 use Rattle.shapers_buffer.specs.Places.{pick}
-use Rattle.shapers_clusters.specs.Steps.{run_step, HeldBetween, MovesMerged, still_step, swap_step}
+use Rattle.shapers_clusters.specs.Steps.{run_step, MovesMerged, still_step, swap_step}
 
 -- where what stands at place k comes from
 abbrev turned : ℕ → ℕ → ℕ
@@ -40,50 +39,46 @@ swap_at xs i k d h =
     let a = get_or xs (i + 1) d in
     let b = get_or xs i d in
     let first : i < length xs = omega arith in
-    let long : i + 1 < length (set xs i a) = omega (arith, length-set xs i a) in
-    ap (λ ys. get_or ys k d) (sym (swap_is xs i (i + 1) d first h)) ∙ elim (cases_eq k (i + 1)) [
-      | inl e ↦ ap (λ m. get_or (set (set xs i a) (i + 1) b) m d) e ∙ get_or-set_same (set xs i a) (i + 1) b d long
-          ∙ sym (ap (λ m. get_or xs m d) (turned-second i k e))
-      | inr n ↦ get_or-set_other (set xs i a) (i + 1) k b d n ∙ elim (cases_eq k i) [
-        | inl e ↦ ap (λ m. get_or (set xs i a) m d) e ∙ get_or-set_same xs i a d first
-            ∙ sym (ap (λ m. get_or xs m d) (turned-first i k e))
-        | inr m ↦ get_or-set_other xs i k a d m ∙ sym (ap (λ m. get_or xs m d) (turned-other i k m n))
-      ]
+    ap (λ ys. get_or ys k d) (sym (swap_is xs i (i + 1) d first h))
+    ∙ elim (cases_eq k (i + 1)) [
+      | inl e ↦ ap (λ m. get_or (set (set xs i a) (i + 1) b) m d) e ∙ get_or-set_same (set xs i a) (i + 1) b d (omega
+          (arith, length-set xs i a)) ∙ sym (ap (λ m. get_or xs m d) (turned-second i k e))
+      | inr n ↦ get_or-set_other (set
+          xs i a) (i + 1) k b d n ∙ elim (cases_eq k i) [
+            | inl e ↦ ap (λ m. get_or (set xs i a) m d) e ∙ get_or-set_same
+                xs i a d first ∙ sym (ap (λ m. get_or xs m d) (turned-first i k e))
+            | inr m ↦ get_or-set_other xs i k a d m ∙ sym
+                (ap (λ m. get_or xs m d) (turned-other i k m n))
+          ]
     ]
 
 swapped_length : (n i : ℕ) → length (swap (range_with_len 0 n) i (i + 1)) ≡ n
-swapped_length n i = length-swap (range_with_len 0 n) i (i + 1) ∙ length-range_with_len 0 n
+swapped_length n i = search (arith, length-swap, length-range_with_len)
 
 swapped_at : (n i k d : ℕ) → i + 1 < n → k < n → get_or (swap (range_with_len 0 n) i (i + 1)) k d ≡ turned i k
 swapped_at n i k d h l =
-    let room : i + 1 < length (range_with_len 0 n) = omega (arith, length-range_with_len 0 n) in
-    swap_at (range_with_len 0 n) i k d room ∙ get_or-range_with_len 0 n (turned i k) d (turned_within n i k h l)
-    ∙ zero-add (turned i k)
+    search (arith, swap_at, length-range_with_len, get_or-range_with_len, turned_within, zero-add)
 
 swapped_within : (n i : ℕ) → i + 1 < n → AllByRecursion (λ p. p < n) (swap (range_with_len 0 n) i (i + 1))
 swapped_within n i h =
-    let P : ℕ → Type 0 = λ p. p < n in
-    recursion_from_All P (swap (range_with_len 0 n) i (i + 1)) (λ k d l. let m : k
-    < n = omega (arith, swapped_length n i) in subst P (sym (swapped_at n i k d h m)) (turned_within n i k h m))
+    search (arith, recursion_from_All, swapped_at, swapped_length, turned_within)
 
 pick-swap : {X : Type 0} (n : ℕ) (xs : List X) (i : ℕ) → length xs ≡ n → i + 1 < n
     → pick (swap (range_with_len 0 n) i (i + 1)) xs ≡ swap xs i (i + 1)
 pick-swap n xs i e h =
     let places = swap (range_with_len 0 n) i (i + 1) in
-    let P : ℕ → Type 0 = λ m. AllByRecursion (λ p. p < m) places in
-    let within = subst P (sym e) (swapped_within n i h) in
+    let within = subst (λ m. AllByRecursion (λ p. p < m) places) (sym e) (swapped_within n i h) in
     let long = length-pick places xs within ∙ swapped_length n i in
     let room : i + 1 < length xs = omega arith in
-    same_lists (pick places xs) (swap xs i (i + 1)) (long ∙ sym (length-swap xs i (i + 1) ∙ e)) (λ k d l.
+    same_lists (pick places xs) (swap xs i (i + 1)) (search (arith, length-swap)) (λ k d l.
     let m : k < n = omega arith in
-    let p : k < length places = omega (arith, swapped_length n i) in
-    get_or-pick d places xs within k p ∙ ap (λ q. get_or xs q d) (swapped_at n i k 0 h m) ∙ sym (swap_at xs i k d room))
+    search (arith, get_or-pick, swapped_length, swapped_at, swap_at))
 
 -- a swap step merges the two and swaps them
 pub run-swap_step : (level : BufferClusterLevel) (gs : List hb_glyph_info_t) (i : ℕ) → i + 1 < length gs
     → run_step level (swap_step (length gs) i) gs ≡ swap (merge level i (i + 2) gs) i (i + 1)
 run-swap_step level gs i h =
-    pick-swap (length gs) (merge level i (i + 2) gs) i (length-merge level i (i + 2) gs (omega arith)) h
+    pick-swap (length gs) (merge level i (i + 2) gs) i (search (arith, length-merge)) h
 
 -- a still step leaves the glyphs as they are
 pub run-still_step : (level : BufferClusterLevel) (gs : List hb_glyph_info_t)
@@ -94,65 +89,21 @@ run-still_step level gs = pick-all (length gs) gs refl
 order_view-swap : (ms : List hb_glyph_info_t) (i : ℕ) → i + 1 < length ms → order_view (swap ms i (i + 1))
     ≡ swap (order_view ms) i (i + 1)
 order_view-swap ms i h =
-    let d = default_glyph in
-    let a = get_or ms (i + 1) d in
-    let b = get_or ms i d in
-    let long : i + 1 < length (order_view ms) = omega (arith, length-map ms plain) in
-    ap order_view (sym (swap_is ms i (i + 1) d (omega arith) h))
-    ∙ map-set plain (set ms i a) (i + 1) b
-    ∙ ap (λ xs. set xs (i + 1) (plain b)) (map-set plain ms i a)
-    ∙ ap (λ x. set (set (order_view ms) i x) (i + 1) (plain b)) (sym (get_or-map plain ms (i + 1) d (plain d) h))
-    ∙ ap (λ x. set (set (order_view ms) i (get_or (order_view ms) (i + 1) (plain d))) (i + 1) x)
-    (sym (get_or-map plain ms i d (plain d) (omega arith)))
-    ∙ swap_is (order_view ms) i (i + 1) (plain d) (omega arith) long
+    search (arith, swap_is, map-set, set, get_or-map, length-map)
 
 pub order_view-swap_step : (level : BufferClusterLevel) (gs : List hb_glyph_info_t) (i : ℕ) → i + 1 < length gs
     → order_view (run_step level (swap_step (length gs) i) gs) ≡ swap (order_view gs) i (i + 1)
 order_view-swap_step level gs i within =
-    let long : i + 1 < length (merge level i (i + 2) gs) =
-    omega (arith, length-merge level i (i + 2) gs (omega arith)) in
-    ap order_view (run-swap_step level gs i within) ∙ order_view-swap (merge level i (i + 2) gs) i long
-    ∙ ap (λ xs. swap xs i (i + 1)) (order_view-merge level i (i + 2) gs)
-
-held_inside : (i r : ℕ) → i < r → r < i + 2 → held ((i, i + 2) ∷ []) r ≡ true
-held_inside i r a b = grind (arith, nat_tests)
-
-swap_inside : (n i p : ℕ) → i + 1 < n → p < n → HeldBetween ((i, i + 2) ∷ []) p (turned i p)
-swap_inside n i p h l = elim (cases_eq p i) [
-  | inl e ↦ λ r a b. held_inside i r (omega (arith, turned-first i p e)) (omega (arith, turned-first i p e))
-  | inr m ↦ elim (cases_eq p (i + 1)) [
-    | inl e ↦ λ r a b. held_inside i r (omega (arith, turned-second i p e)) (omega (arith, turned-second i p e))
-    | inr q ↦ λ r a b. absurd (omega (arith, turned-other i p m q))
-  ]
-]
+    cc (
+      run-swap_step level gs i within,
+      order_view-swap (merge level i (i + 2) gs) i (search (arith, length-merge)),
+      order_view-merge level i (i + 2) gs,
+    )
 
 -- both move only inside what they merged
 pub swap_moves_merged : (n i : ℕ) → i + 1 < n → MovesMerged n (swap_step n i)
-swap_moves_merged n i h = record {
-  fits = record {
-    as_many = swapped_length n i;
-    within = swapped_within n i h;
-    first_within = (omega arith, tt);
-    then_within = tt;
-  };
-  inside = λ p l.
-      let m : p < n = omega (arith, swapped_length n i) in
-      let P : ℕ → Type 0 = HeldBetween ((i, i + 2) ∷ []) p in
-      subst P (sym (swapped_at n i p 0 h m)) (swap_inside n i p h m);
-  nothing_then = refl;
-}
+swap_moves_merged n i h =
+    search (arith, swapped_length, swapped_within, swapped_at, nat_tests, turned-first, turned-second, turned-other)
 
 pub still_moves_merged : (n : ℕ) → MovesMerged n (still_step n)
-still_moves_merged n = record {
-  fits = record {
-    as_many = length-range_with_len 0 n;
-    within = within_range 0 n n (omega arith);
-    first_within = tt;
-    then_within = tt;
-  };
-  inside = λ p l.
-      let m : p < n = omega (arith, length-range_with_len 0 n) in
-      let P : ℕ → Type 0 = HeldBetween [] p in
-      subst P (sym (get_or-range_with_len 0 n p 0 m ∙ zero-add p)) (λ r a b. absurd (omega arith));
-  nothing_then = refl;
-}
+still_moves_merged n = search (arith, length-range_with_len, within_range, get_or-range_with_len, zero-add)

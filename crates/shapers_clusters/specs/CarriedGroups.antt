@@ -2,11 +2,14 @@
 use Rattle.std.specs.Prelude.{ℕ, zero, suc, ◌+◌, ◌-◌, ◌^◌, ◌≡◌, ◌<◌, ◌≤◌, ◌⊎◌, List, [], ◌∷◌, ◌++◌, drop, get_or, length, map, min, slice_set, take, true}
 use Rattle.shapers_buffer.specs.declared.buffer.glyph.hb_glyph_info_t.{hb_glyph_info_t}
 use Rattle.shapers_buffer.specs.ClusterRuns.{none_below}
-use Rattle.shapers_buffer.specs.Clusters.{first_cluster, in_cluster, least, stretch_of}
+use Rattle.shapers_buffer.specs.Clusters.{first_cluster, in_cluster, last_cluster, least, stretch_of}
 use Rattle.shapers_buffer.specs.Glyph.{clusters, default_glyph, order_view}
-use Rattle.shapers_clusters.specs.CarriedRuns.{EndsAbove}
 use Rattle.shapers_clusters.specs.declared.carried_groups.CarriedGroups.{CarriedGroups}
 use Rattle.shapers_clusters.specs.declared.carried_groups.Group.{Group}
+
+-- the last of these glyphs, if there is one, has a cluster above c
+abbrev pub EndsAbove : ℕ → List hb_glyph_info_t → Type 0
+EndsAbove c gs = 0 < length gs → c < last_cluster gs
 
 -- how many glyphs the groups have
 abbrev pub groups_len : List (List hb_glyph_info_t) → ℕ
@@ -17,7 +20,8 @@ groups_len (group ∷ groups) = length group + groups_len groups
 abbrev pub spread_groups : List (List hb_glyph_info_t) → List hb_glyph_info_t → List hb_glyph_info_t
 spread_groups [] gs = gs
 spread_groups (group ∷ groups) [] = []
-spread_groups (group ∷ groups) (g ∷ gs) = map (in_cluster g.cluster) group ++ spread_groups groups gs
+spread_groups (group ∷ groups) (g ∷ gs) =
+    map (in_cluster g.cluster) group ++ spread_groups groups gs
 
 -- each of the first glyphs of the list stands for a group, which isn't empty, and in which no glyph
 -- has a cluster below its own
@@ -75,7 +79,8 @@ pub record StillSame (it : CarriedGroups) (gs : List hb_glyph_info_t) (after : C
 abbrev pub shown_groups : List Group → List hb_glyph_info_t → List hb_glyph_info_t
 shown_groups [] gs = gs
 shown_groups (group ∷ groups) [] = []
-shown_groups (group ∷ groups) (g ∷ gs) = record g { cluster = group.cluster } ∷ shown_groups groups gs
+shown_groups (group ∷ groups) (g ∷ gs) =
+    record g { cluster = group.cluster } ∷ shown_groups groups gs
 
 -- groups in the clusters of glyphs, if those are lower
 abbrev pub read_back : List hb_glyph_info_t → List Group → List Group
@@ -106,7 +111,8 @@ pub record AreShown (count : ℕ) (it : CarriedGroups) (gs : List hb_glyph_info_
   pub same : after ≡ record it { kept = after.kept }
   pub kept : after.kept.items ≡ stretch_of (it.end - count - 1) it.end gs
   pub room : count ≤ it.end
-  pub rest : drop (it.end - count) hs ≡ shown_groups (last_groups count it) (drop (it.end - count) gs)
+  pub rest : drop (it.end - count) hs
+      ≡ shown_groups (last_groups count it) (drop (it.end - count) gs)
   pub front : take (it.end - count - 1) hs ≡ take (it.end - count - 1) gs
   pub above : EndsAbove (first_group_cluster it.groups.items) (take (it.end - count) hs)
   pub view : order_view hs ≡ order_view gs
@@ -124,7 +130,8 @@ pub record GroupsGuarded (first end : ℕ) (it : CarriedGroups) (gs : List hb_gl
   pub within : count ≤ length before.groups.items
   pub some : 0 < count → AreShown count before between after hs
   pub stops : 0 < count → (first < end) ×
-      ((first_group_cluster (last_groups count before) < least (clusters (stretch_of first end between)))
+      ((first_group_cluster (last_groups count before)
+      < least (clusters (stretch_of first end between)))
       ⊎ ((count ≡ length before.groups.items) × EndsAbove (first_group_cluster before.groups.items)
       (take before.start between)))
 
@@ -136,6 +143,24 @@ taken_back count it gs = take (it.end - count - 1) gs ++ (it.kept.items ++ drop 
 abbrev pub fallen_groups : ℕ → CarriedGroups → List hb_glyph_info_t → List Group
 fallen_groups count it gs = take (length it.groups.items - count) it.groups.items
     ++ read_back (stretch_of (it.end - count) it.end gs) (last_groups count it)
+
+-- Behind merges: what was kept comes back, and the groups come into the clusters of those that
+-- stood for them.
+pub record CanSettle (it : CarriedGroups) (count : ℕ) (gs : List hb_glyph_info_t) : Type 0 where
+  pub within : count ≤ length it.groups.items
+  pub in_range : it.end ≤ length gs
+  pub kept : 0 < count → length it.kept.items ≡ it.end - (it.end - count - 1)
+  pub none : count ≡ 0 → AreCarried it gs
+  pub fits : 0 < count → AreCarried it (taken_back count it gs)
+
+pub record GroupsSettled (it : CarriedGroups) (count : ℕ) (gs : List hb_glyph_info_t) (after :
+    CarriedGroups) (hs : List hb_glyph_info_t) : Type 0 where
+  pub none : count ≡ 0 → hs ≡ gs
+  pub still : count ≡ 0 → after ≡ it
+  pub same : 0 < count → with_groups after hs
+      ≡ with_list it (fallen_groups count it gs) (taken_back count it gs)
+  pub fits : AreCarried after hs
+  pub end : after.end ≡ it.end
 
 -- the list with another cluster in the place before this one
 abbrev pub put_before : ℕ → ℕ → List hb_glyph_info_t → List hb_glyph_info_t

@@ -2,7 +2,7 @@ pub mod ClusterMerges
 pub mod Cuts
 pub mod Steps
 pub mod CarriedGroups
-pub mod CarriedRuns
+pub mod Floods
 pub mod Flags
 pub mod FlagLaw
 pub mod Labels

@@ -63,7 +63,6 @@ impl CarriedGroups {
     #[inline]
     pub fn guard(&mut self, glyphs: &mut [hb_glyph_info_t], first: usize, end: usize) -> usize
         requires fits { AreCarried self.old glyphs.old }
-        requires further { self.old.end ≤ first }
         requires in_order { first ≤ end }
         requires in_range { end ≤ length glyphs.old }
         ensures { GroupsGuarded first end self.old glyphs.old self.new result glyphs.new }
@@ -81,16 +80,14 @@ impl CarriedGroups {
     #[inline]
     fn try_guard(&mut self, glyphs: &mut [hb_glyph_info_t], first: usize, end: usize) -> usize
         requires fits { AreCarried self.old glyphs.old }
-        requires further { self.old.end ≤ first }
         requires in_order { first ≤ end }
         requires in_range { end ≤ length glyphs.old }
         ensures none { result ≡ 0 → StillSame self.old glyphs.old self.new glyphs.new }
-        ensures within { result ≡ 0 → self.new.end ≤ first }
         ensures some { 0 < result →
             GroupsGuarded first end self.old glyphs.old self.new result glyphs.new }
         ensures same_length { length glyphs.new ≡ length glyphs.old }
     {
-        if first == end {
+        if first == end || first < self.end {
             return 0;
         }
         if !self.reach(glyphs, first) {

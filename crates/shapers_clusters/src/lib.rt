@@ -7,7 +7,7 @@ ghost use Rattle.shapers_clusters.specs.Breaks.{ClearLaw, NeedlessLaw};
 ghost use Rattle.shapers_clusters.specs.Laws.{ViewLaw, FlagCallsLaw, MergeLaw, ExactCutsLaw, StepsLaw, PermutedLaw, ClustersLaw, MergedStepsLaw, SparedStepsLaw, ClustersReorderedLaw, SeenStepsLaw, ReorderedLaw, WidenedLaw, AlongLaw, HalvesLaw, AloneLaw, MadeLaw, MovedSourcesLaw};
 
 pub mod carried_groups;
-pub mod carried_runs;
+pub mod floods;
 pub mod into_cluster;
 
 /// Merges leave the order view; the three flag calls change nothing but glyph flags.

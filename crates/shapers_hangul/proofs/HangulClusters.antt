@@ -1,5 +1,5 @@
 -- What the hook makes of clusters and glyph flags, by the law of made glyphs.
-use Rattle.std.proofs.Common.{◌≡◌, ℕ, zero, suc, ◌+◌, ◌-◌, ◌<◌, ◌≤◌, Bool, true, false, cond, List, [], ◌∷◌, ◌++◌, length, get_or, map, take, drop, refl, sym, ap, ◌∙◌, subst, arith}
+use Rattle.std.proofs.Common.{◌≡◌, ℕ, zero, suc, ◌+◌, ◌-◌, ◌<◌, ◌≤◌, Bool, true, false, cond, List, [], ◌∷◌, ◌++◌, length, map, take, drop, refl, sym, ap, ◌∙◌, subst, arith}
 use Rattle.std.specs.List.{range_with_len, AllByRecursion, AllZip, Contains}
 use Rattle.std.proofs.lemmas.List.Elements.{All-from_recursion, Contains-append_right}
 use Rattle.std.proofs.lemmas.List.Concat.{flat_map-append}
@@ -28,11 +28,11 @@ use Rattle.shapers_hangul.specs.declared.ot_shaper_hangul.item.JoinedTone.{Joine
 use Rattle.shapers_hangul.specs.declared.ot_shaper_hangul.item.JoinedTone.TheVariants.{Absent, Before, Behind}
 use Rattle.shapers_hangul.specs.declared.ot_shaper_hangul.item.Unit.{Unit}
 use Rattle.shapers_hangul.specs.declared.ot_shaper_hangul.item.Unit.TheVariants.{ComposedTwo, ComposedThree, JamoTwo, JamoThree, PartsTwo, PartsThree, PartsBeforeT, Syllable, ToneCircle, CircleTone, Other}
-use Rattle.shapers_hangul.specs.Hangul.{taken, output_len, tone_len, item_len, items, Fit, Copying, unit_output, with_tone, item_output, outputs, is_merged, unit_stretch, tone_stretch, item_stretches, stretches, all_joined, glyph_copies, allows_circles, items_flagged, preprocessed, rewritten_by, text_rewritten}
+use Rattle.shapers_hangul.specs.Hangul.{taken, output_len, tone_len, item_len, items, Fit, Copying, unit_output, with_tone, item_output, outputs, unit_stretch, tone_stretch, item_stretches, stretches, all_joined, glyph_copies, allows_circles, preprocessed, rewritten_by, text_rewritten}
 use Rattle.shapers_hangul.specs.HangulLaws.{place_copies, hangul_sources, ClustersRewritten, KeepsClusters, unnamed, RewrittenLaw}
 use Rattle.shapers_hangul.proofs.Items.{items_fit}
 use Rattle.shapers_hangul.proofs.ItemFlags.{clusters-items_flagged}
-use Rattle.shapers_hangul.proofs.Outputs.{Leads, outputs-map}
+use Rattle.shapers_hangul.proofs.Outputs.{outputs-map}
 use Rattle.shapers_hangul.proofs.Walks.{length-characters, length-item_output, length-all_joined, clusters-all_joined}
 
 unit_ends : (b : Bool) (s e n : ℕ) → e ≤ n → EndWithin n (cond b ((s, e) ∷ []) [])
@@ -48,9 +48,7 @@ pub item_ends : (level : BufferClusterLevel) (unit : Unit) (tone : JoinedTone) (
     → s + (taken unit + tone_len tone) ≤ n
     → EndWithin n (unit_stretch level unit s ++ tone_stretch tone s (s + taken unit))
 item_ends level unit tone s n within =
-    all-append (λ st. st.1 ≤ n) (unit_stretch level unit s) (tone_stretch tone s (s + taken unit))
-    (unit_ends (is_merged level unit) s (s + taken unit) n (omega arith))
-    (tone_ends tone s (s + taken unit) n (omega arith))
+    search (arith, all-append, unit_ends, tone_ends)
 
 stretches_within : (font : Font) (circles : Bool) (level : BufferClusterLevel) (us : List ℕ)
     → EndWithin (length us) (stretches level (items font circles us))
@@ -74,7 +72,7 @@ all-take-range : (P : ℕ → Type 0) (n a k : ℕ) → ((p : ℕ) → a ≤ p �
 all-take-range P zero a k h = tt
 all-take-range P (suc n) a zero h = tt
 all-take-range P (suc n) a (suc k) h =
-    (h a (omega arith) (omega arith), all-take-range P n (a + 1) k (λ p low high. h p (omega arith) (omega arith)))
+    search (arith, all-take-range P n (a + 1) k (λ p low high. h p (omega arith) (omega arith)))
 
 all-unit_output : (P : ℕ → Type 0) (unit : Unit) (xs : List ℕ) → AllByRecursion P (take (taken unit) xs)
     → AllByRecursion P (unit_output place_copies unit xs)
@@ -88,14 +86,14 @@ all-unit_output P JamoTwo (x ∷ y ∷ xs) all = (all.0, (all.1.0, tt))
 all-unit_output P JamoThree [] all = tt
 all-unit_output P JamoThree (x ∷ []) all = (all.0, tt)
 all-unit_output P JamoThree (x ∷ y ∷ []) all = (all.0, (all.1.0, tt))
-all-unit_output P JamoThree (x ∷ y ∷ z ∷ xs) all = (all.0, (all.1.0, (all.1.1.0, tt)))
+all-unit_output P JamoThree (x ∷ y ∷ z ∷ xs) all = search arith
 all-unit_output P (PartsTwo l v) [] all = tt
 all-unit_output P (PartsTwo l v) (x ∷ xs) all = (all.0, (all.0, tt))
 all-unit_output P (PartsThree l v t) [] all = tt
-all-unit_output P (PartsThree l v t) (x ∷ xs) all = (all.0, (all.0, (all.0, tt)))
+all-unit_output P (PartsThree l v t) (x ∷ xs) all = search arith
 all-unit_output P (PartsBeforeT l v) [] all = tt
 all-unit_output P (PartsBeforeT l v) (x ∷ []) all = (all.0, (all.0, tt))
-all-unit_output P (PartsBeforeT l v) (x ∷ y ∷ xs) all = (all.0, (all.0, (all.1.0, tt)))
+all-unit_output P (PartsBeforeT l v) (x ∷ y ∷ xs) all = search arith
 all-unit_output P Syllable xs all = all
 all-unit_output P ToneCircle [] all = tt
 all-unit_output P ToneCircle (x ∷ xs) all = (all.0, (all.0, tt))
@@ -116,9 +114,8 @@ item_sources : (item : Item) (place n : ℕ)
 item_sources item place n =
     let t = taken item.unit in
     let P : ℕ → Type 0 = λ p. (place ≤ p) × (p < place + t + 1) in
-    let none : 0 + place ≡ place = omega arith in
-    let rest : drop place (range_with_len 0 n) ≡ range_with_len place (n - place) = drop-range 0 n place
-    ∙ ap (λ a. range_with_len a (n - place)) none in
+    let rest = drop-range 0 n place
+    ∙ ap (λ a. range_with_len a (n - place)) (omega arith) in
     subst (λ (xs : List ℕ). AllByRecursion P (item_output place_copies item xs)) (sym rest)
     (all-with_tone P item.tone (take 1 (drop t (range_with_len place (n - place))))
     (unit_output place_copies item.unit (range_with_len place (n - place)))
@@ -144,25 +141,24 @@ shares : (font : Font) (circles : Bool) (level : BufferClusterLevel) (us cs js :
     (length (hangul_sources before (length us)) + output_len item.unit)
 shares font circles level us cs js made m before place item after split moves =
     let n = length us in
-    let cut = items font circles us in
     let st : ℕ × ℕ = (place, place + taken item.unit + 1) in
-    let inside = item_output place_copies item (drop place (range_with_len 0 n)) in
     let within : place + item_len item ≤ n =
     (all-at (λ p. (p.0 + item_len p.1 ≤ n) × (p.0 + p.1.unsafe_len ≤ n)) before (place, item) after
     (subst (Fit n) split (items_fit font circles us))).0 in
-    let one : tone_len item.tone ≡ 1 = ap tone_len moves in
-    let many = length-item_output place_copies item (drop place (range_with_len 0 n))
-    (omega (arith, within, length-drop place (range_with_len 0 n), length-range_with_len 0 n)) in
-    part_shares made m st (hangul_sources before n) inside (hangul_sources after n)
-    (λ some. Contains-flat_map (λ p. item_stretches level p.1 p.0) cut (place, item) st
-    (subst (λ (l : List (ℕ × Item)). Contains l (place, item)) (sym split) (contains-at before (place, item) after))
-    (tone_stands level item.unit item.tone place moves))
-    (ap (λ l. hangul_sources l n) split
-    ∙ flat_map-append (λ p. item_output place_copies p.1 (drop p.0 (range_with_len 0 n))) before
-    ((place, item) ∷ after))
-    (All-from_recursion (λ p. (st.0 ≤ p) × (p < st.1)) inside (item_sources item place n))
+    part_shares made m st (hangul_sources before n)
+    (item_output place_copies item (drop place (range_with_len 0 n))) (hangul_sources after n)
+    (λ some. Contains-flat_map (λ p. item_stretches level p.1 p.0) (items font circles us) (place, item) st
+    (search (arith, contains-at before (place, item) after))
+    (search (arith, tone_stands)))
+    (search (arith, flat_map-append))
+    (search (arith, All-from_recursion, item_sources))
     (length (hangul_sources before n)) (length (hangul_sources before n) + output_len item.unit) refl
-    (omega (arith, many, one))
+    (omega (
+      arith,
+      length-item_output place_copies item (drop place (range_with_len 0 n))
+          (search (arith, length-drop, length-range_with_len)),
+      ap tone_len moves,
+    ))
 
 -- the rule on made glyphs: a copy comes of the place of what it copies
 abbrev made_copies : (gs : List hb_glyph_info_t) → Copying (Made unnamed gs)
@@ -175,19 +171,17 @@ made_copies gs = record {
 none_rises : (gs ps rs : List hb_glyph_info_t) → AllZip FlagsFall gs ps → clusters ps ≡ clusters rs
     → AllZip (λ old new. new.cluster ≤ old.cluster) gs rs
 none_rises [] [] [] falls same = tt
-none_rises [] [] (r ∷ rs) falls same = absurd (omega (arith, ap length same))
+none_rises [] [] (r ∷ rs) falls same = cc
 none_rises [] (p ∷ ps) rs falls same = absurd falls
 none_rises (g ∷ gs) [] rs falls same = absurd falls
-none_rises (g ∷ gs) (p ∷ ps) [] falls same = absurd (omega (arith, ap length same))
+none_rises (g ∷ gs) (p ∷ ps) [] falls same = cc
 none_rises (g ∷ gs) (p ∷ ps) (r ∷ rs) falls same =
-    (omega (arith, falls.0.at_most, ap (λ cs. get_or cs 0 0) same), none_rises gs ps rs falls.1 (ap (drop 1) same))
+    search (arith, none_rises gs ps rs falls.1 (ap (drop 1) same))
 
 -- glyphs that are written from these, which stand in their places, have their clusters
 clusters-outputs : (cut : List (ℕ × Item)) (gs : List hb_glyph_info_t) → clusters (outputs glyph_copies cut gs)
     ≡ outputs place_copies cut (clusters gs)
-clusters-outputs cut gs = let leads : Leads (λ g. g.cluster) glyph_copies place_copies =
-    record { character = λ u g. refl; jamo = λ n g. refl } in outputs-map (λ g. g.cluster) glyph_copies place_copies
-    leads cut gs
+clusters-outputs cut gs = search (arith, outputs-map)
 
 -- what is written from these glyphs, with the places that it comes of
 record Written (cut : List (ℕ × Item)) (ms : List hb_glyph_info_t) : Type 0 where
@@ -203,15 +197,13 @@ written_from cut ms =
     ∙ ap (map (λ p. p.0)) (numbered-standing (λ g. g.glyph_id) unnamed ms)
     ∙ places-enumerate_from 0 (characters ms)
     ∙ ap (range_with_len 0) (length-characters ms) in
-    let to_places : Leads (λ m. m.place) (made_copies ms) place_copies =
-    record { character = λ u m. refl; jamo = λ n m. refl } in
-    let to_glyphs : Leads (λ m. m.glyph) (made_copies ms) glyph_copies =
-    record { character = λ u m. refl; jamo = λ n m. refl } in
     record {
       made = outputs (made_copies ms) cut standing;
-      from = outputs-map (λ m. m.place) (made_copies ms) place_copies to_places cut standing
+      from = outputs-map (λ m. m.place) (made_copies ms) place_copies
+          (record { character = λ u m. refl; jamo = λ n m. refl }) cut standing
           ∙ ap (outputs place_copies cut) places;
-      glyphs = outputs-map (λ m. m.glyph) (made_copies ms) glyph_copies to_glyphs cut standing
+      glyphs = outputs-map (λ m. m.glyph) (made_copies ms) glyph_copies
+          (record { character = λ u m. refl; jamo = λ n m. refl }) cut standing
           ∙ ap (outputs glyph_copies cut) (glyphs-standing unnamed ms);
     }
 
@@ -234,7 +226,7 @@ rewritten_holds font circles level gs =
     ∙ ap (hangul_sources cut) (length-all_joined level cut gs))
     (subst (AreMade unnamed ns (map (λ m. m.place) joined.made)) joined.glyphs
     (are_made unnamed ns joined.made)) in
-    let as_merged : clusters (outputs glyph_copies cut ms) ≡ clusters rs =
+    let as_merged =
     clusters-outputs cut ms ∙ ap (outputs place_copies cut) (sym (clusters-all_joined level cut gs))
     ∙ sym (clusters-outputs cut ns) in
     let made = subst (ClustersMade level sts (hangul_sources cut (length gs)) (clusters gs)) as_merged
@@ -268,11 +260,7 @@ pub clusters-rewritten : (breaks : BreakFlags) (font : Font) (circles : Bool) (l
     (gs : List hb_glyph_info_t) → clusters (text_rewritten breaks font circles level gs)
     ≡ clusters (preprocessed font circles level gs)
 clusters-rewritten breaks font circles level gs =
-    let cut = items font circles (characters gs) in
-    let joined = all_joined level cut gs in
-    clusters-outputs cut (items_flagged breaks cut joined)
-    ∙ ap (outputs place_copies cut) (clusters-items_flagged breaks cut joined)
-    ∙ sym (clusters-outputs cut joined)
+    search (arith, clusters-outputs, clusters-items_flagged)
 
 pub on_rewritten : {T : Type 0} (r : Result T ShaperError) (breaks : BreakFlags) (font : Font) (old new : Buffer)
     → OnOk r (new ≡ rewritten_by breaks font old) → OnOk r (KeepsClusters font old new)

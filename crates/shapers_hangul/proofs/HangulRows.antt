@@ -9,6 +9,8 @@ use Rattle.shapers_base.specs.declared.plan.breaks.BreakFlags.TheVariants.{AsCod
 use Rattle.shapers_buffer.specs.Glyph.{default_glyph}
 use Rattle.shapers_hangul.specs.Hangul.{is_l, is_v, is_t, combines_l, combines_v, combines_t, is_s, is_lv, is_tone, with_v, with_t, lead, vowel, trail, preprocessed, items, items_flagged, stretches, text_rewritten, whole_items}
 use Rattle.shapers_hangul.specs.HangulLaws.{hangul_sources, full, spelled}
+use Rattle.shapers_hangul.specs.declared.ot_shaper_hangul.item.Item.{Item}
+use Rattle.shapers_hangul.specs.RewritingWalk.{cluster_before, flooding_len}
 use Rattle.shapers_hangul.specs.Masks.{jamo_masks}
 use Rattle.shapers_base.specs.Masks.{with_numbered_mask}
 
@@ -433,3 +435,19 @@ full_lv = refl
 
 spelled_apart : spelled (0x25CC ∷ 0x302E ∷ 0xD7A3 ∷ 0x302F ∷ 0x41 ∷ []) ≡ 0x1112 ∷ 0x1175 ∷ 0x11C2 ∷ 0x41 ∷ []
 spelled_apart = refl
+
+-- FLOODS: three syllables, of which the second floods the first one, or none floods
+abbrev numbered : List ℕ → List hb_glyph_info_t
+numbered cs = map (λ c. record default_glyph { cluster = c }) cs
+
+abbrev three : List (ℕ × Item)
+three = items (wide []) true
+    (0x1100 ∷ 0x1161 ∷ 0x11A8 ∷ 0x1100 ∷ 0x1161 ∷ 0x11A8 ∷ 0x1100 ∷ 0x1161 ∷ 0x11A8 ∷ [])
+
+floods : map (λ cs. flooding_len MonotoneGraphemes three (numbered cs))
+    ((5 ∷ 5 ∷ 5 ∷ 5 ∷ 4 ∷ 4 ∷ 4 ∷ 4 ∷ 4 ∷ []) ∷ (5 ∷ 5 ∷ 5 ∷ 4 ∷ 4 ∷ 4 ∷ 4 ∷ 4 ∷ 3 ∷ [])
+    ∷ (5 ∷ 5 ∷ 5 ∷ 4 ∷ 4 ∷ 4 ∷ 3 ∷ 3 ∷ 3 ∷ []) ∷ []) ≡ 2 ∷ 3 ∷ 3 ∷ []
+floods = refl
+
+before_places : map (λ place. cluster_before place (numbered (7 ∷ 8 ∷ []))) (0 ∷ 1 ∷ 2 ∷ []) ≡ 0 ∷ 7 ∷ 8 ∷ []
+before_places = refl

@@ -1,8 +1,7 @@
 -- The rewriting spells the same text: syllable characters by their jamo.
-use Rattle.std.proofs.Common.{◌≡◌, inl, inr, ℕ, zero, suc, ◌+◌, ◌-◌, ◌*◌, ◌/◌, ◌%◌, ◌<◌, ◌≤◌, ◌==◌, ◌&&◌, ◌||◌, not, Bool, true, false, cond, List, [], ◌∷◌, ◌++◌, length, get_or, take, drop, refl, sym, ap, subst, ◌∙◌, ne_eqb, arith}
+use Rattle.std.proofs.Common.{◌≡◌, ℕ, zero, suc, ◌+◌, ◌-◌, ◌*◌, ◌/◌, ◌%◌, ◌<◌, ◌≤◌, ◌==◌, ◌&&◌, ◌||◌, not, Bool, true, false, cond, List, [], ◌∷◌, ◌++◌, length, get_or, take, drop, refl, sym, ap, subst, ◌∙◌, ne_eqb, arith}
 use Rattle.std.specs.List.{AllByRecursion, filter}
 use Rattle.std.proofs.lemmas.Bool.{leb-true, le-leb, eqb-true}
-use Rattle.std.proofs.lemmas.Bool.Decides.{leb_tells}
 use Rattle.std.proofs.lemmas.List.{append-nil, drop_more, take_more, take-append-drop, drop-drop}
 use Rattle.std.proofs.lemmas.List.Concat.{flat_map-append}
 use Rattle.std.proofs.lemmas.List.Elements.{filter-append}
@@ -17,16 +16,13 @@ use Rattle.shapers_base.specs.Font.{Font, has_nominal}
 use Rattle.shapers_base.specs.declared.plan.breaks.BreakFlags.{BreakFlags}
 use Rattle.shapers_hangul.specs.declared.ot_shaper_hangul.item.JoinedTone.TheVariants.{Absent, Before, Behind}
 use Rattle.shapers_hangul.specs.declared.ot_shaper_hangul.item.Unit.{Unit}
-use Rattle.shapers_hangul.specs.declared.ot_shaper_hangul.item.Unit.TheVariants.{ComposedTwo, ComposedThree, JamoTwo, JamoThree, PartsTwo, PartsThree, PartsBeforeT, Syllable, ToneCircle, CircleTone, Other}
-use Rattle.shapers_hangul.specs.Hangul.{is_between, is_l, is_v, is_t, combines_l, combines_v, combines_t, is_s, is_lv, is_tone, with_v, with_t, lead, vowel, trail, has_jamo_of, is_narrow, jamo_two, jamo_three, jamo_parts, syllable_unit, lone_tone, opening_unit, taken, is_syllable, joined_tone, first_item, tone_len, item_len, items_from, items, marked_from, unit_output, with_tone, item_output, outputs, all_joined, glyph_copies, character_copies, preprocessed, allows_circles, items_flagged, rewritten_by, text_rewritten}
+use Rattle.shapers_hangul.specs.declared.ot_shaper_hangul.item.Unit.TheVariants.{ComposedTwo, ComposedThree, JamoThree, PartsBeforeT, Syllable, Other}
+use Rattle.shapers_hangul.specs.Hangul.{is_between, is_l, is_v, is_t, combines_l, combines_v, combines_t, is_s, is_lv, is_tone, with_v, with_t, lead, vowel, trail, has_jamo_of, is_narrow, jamo_two, jamo_three, jamo_parts, syllable_unit, lone_tone, opening_unit, taken, is_syllable, joined_tone, first_item, tone_len, item_len, items_from, items, marked_from, unit_output, with_tone, item_output, outputs, all_joined, glyph_copies, character_copies, preprocessed, rewritten_by, text_rewritten}
 use Rattle.shapers_hangul.specs.HangulLaws.{jamo_of, full, spelled, SpellingLaw, SpellsByUnits, SpellsSame, UnitSpells}
 use Rattle.shapers_hangul.proofs.ItemFlags.{characters-items_flagged}
-use Rattle.shapers_hangul.proofs.Outputs.{Leads, characters-outputs, outputs-map}
+use Rattle.shapers_hangul.proofs.Outputs.{characters-outputs, outputs-map}
 use Rattle.shapers_hangul.proofs.Walks.{characters-all_joined}
 use Rattle.shapers_hangul.proofs.Items.{both, either, taken_some, there, above, unit_within}
-
-true_is_not : true ≡ false → ⊥
-true_is_not e = cc
 
 -- NUMBERS
 third : (n x y k : ℕ) → n ≡ x * 588 + y * 28 + k → x < 19 → y < 21 → k < 28 → n % 28 ≡ k
@@ -40,38 +36,27 @@ second n x y k is a b c = omega (arith, is)
 
 -- ranges
 inside : (a b u : ℕ) → is_between a b u ≡ true → (a ≤ u) × (u ≤ b)
-inside a b u h = let (low, high) = both _ _ h in (leb-true a u low, leb-true u b high)
+inside a b u h = search (arith, leb-true)
 
 is_inside : (a b u : ℕ) → a ≤ u → u ≤ b → is_between a b u ≡ true
-is_inside a b u low high = let l = le-leb a u low in let h = le-leb u b high in rw (l, h) refl
+is_inside a b u low high = search (arith, le-leb, refl)
 
 below : (a b u : ℕ) → u < a → is_between a b u ≡ false
 below a b u h =
-    elim (leb_tells a u) [
-      | inl p ↦ absurd (omega (arith, p.1))
-      | inr p ↦ let l = p.0 in rw l refl
-    ]
+    search (arith, refl)
 
 -- what is full, by the first character
 full_s : (s : ℕ) (us : List ℕ) → is_s s ≡ true → full (s ∷ us) ≡ jamo_of s ++ full us
-full_s s us h = ap (λ b. cond b (jamo_of s) (s ∷ []) ++ full us) h
+full_s s us h = cc
 
 full_other : (u : ℕ) (us : List ℕ) → u < 0xAC00 → full (u ∷ us) ≡ u ∷ full us
-full_other u us h = ap (λ b. cond b (jamo_of u) (u ∷ []) ++ full us) (below 0xAC00 0xD7A3 u h)
+full_other u us h = search (arith, below)
 
 jamo_lv : (s : ℕ) → is_lv s ≡ true → jamo_of s ≡ lead s ∷ vowel s ∷ []
-jamo_lv s h = ap (λ b. lead s ∷ vowel s ∷ cond b [] (trail s ∷ [])) h
+jamo_lv s h = cc
 
 jamo_lvt : (s : ℕ) → is_lv s ≡ false → jamo_of s ≡ lead s ∷ vowel s ∷ trail s ∷ []
-jamo_lvt s h = ap (λ b. lead s ∷ vowel s ∷ cond b [] (trail s ∷ [])) h
-
--- whether a syllable character has no trailing jamo, by the number
-no_trail : (s : ℕ) → is_s s ≡ true → (s - 0xAC00) % 28 ≡ 0 → is_lv s ≡ true
-no_trail s h none = ap (λ b. b && (s - 0xAC00) % 28 == 0) h ∙ ap (λ n. n == 0) none
-
-a_trail : (s : ℕ) → is_s s ≡ true → (k : ℕ) → (s - 0xAC00) % 28 ≡ suc k → is_lv s ≡ false
-a_trail s h k some = ap (λ b. b && (s - 0xAC00) % 28 == 0) h ∙ ap (λ n. n == 0) some
-    ∙ ne_eqb (suc k) 0 (λ e. omega (arith, e))
+jamo_lvt s h = cc
 
 -- L V is spelled as its syllable character
 pub record IsLV (l v : ℕ) : Type 0 where
@@ -84,67 +69,33 @@ pub record IsLV (l v : ℕ) : Type 0 where
 
 is_lv_of : (l v : ℕ) → combines_l l ≡ true → combines_v v ≡ true → IsLV l v
 is_lv_of l v hl hv =
-    let (l0, l1) = inside 0x1100 0x1112 l hl in
-    let (v0, v1) = inside 0x1161 0x1175 v hv in
-    let n = with_v l v - 0xAC00 in
-    let x = l - 0x1100 in
-    let y = v - 0x1161 in
-    let is : n ≡ x * 588 + y * 28 + 0 = omega arith in
-    let s : is_s (with_v l v) ≡ true = is_inside 0xAC00 0xD7A3 (with_v l v) (omega arith) (omega arith) in
-    let lv = no_trail (with_v l v) s (third n x y 0 is (omega arith) (omega arith) (omega arith)) in
-    let a : lead (with_v l v) ≡ l = omega (arith, first n x y 0 is (omega arith) (omega arith) (omega arith)) in
-    let b : vowel (with_v l v) ≡ v = omega (arith, second n x y 0 is (omega arith) (omega arith) (omega arith)) in
-    record { syllable = s; lv = lv; leading = a; vowels = b; low_l = omega arith; low_v = omega arith }
-
-lv_of : (l v : ℕ) → combines_l l ≡ true → combines_v v ≡ true → is_lv (with_v l v) ≡ true
-lv_of l v hl hv = (is_lv_of l v hl hv).lv
+    search (arith, is_inside, third, first, second)
 
 lv_spelled : (l v : ℕ) → combines_l l ≡ true → combines_v v ≡ true → lead (with_v l v) ∷ vowel (with_v l v) ∷ []
     ≡ l ∷ v ∷ []
-lv_spelled l v hl hv = let i = is_lv_of l v hl hv in ap (λ c. c ∷ vowel (with_v l v) ∷ []) i.leading
-    ∙ ap (λ c. l ∷ c ∷ []) i.vowels
+lv_spelled l v hl hv = search arith
 
 lv_apart : (l v : ℕ) (us : List ℕ) → combines_l l ≡ true → combines_v v ≡ true → full (l ∷ v ∷ us) ≡ l ∷ v ∷ full us
-lv_apart l v us hl hv = let i = is_lv_of l v hl hv in full_other l (v ∷ us) i.low_l
-    ∙ ap (λ vs. l ∷ vs) (full_other v us i.low_v)
+lv_apart l v us hl hv = search (arith, full_other)
 
 lv_full : (l v : ℕ) → combines_l l ≡ true → combines_v v ≡ true → full (with_v l v ∷ []) ≡ full (l ∷ v ∷ [])
 lv_full l v hl hv =
     let i = is_lv_of l v hl hv in
-    full_s (with_v l v) [] i.syllable ∙ ap (λ us. us ++ []) (jamo_lv (with_v l v) i.lv ∙ lv_spelled l v hl hv)
-    ∙ sym (lv_apart l v [] hl hv)
+    cc (full_s (with_v l v) [] i.syllable, jamo_lv (with_v l v) i.lv, lv_spelled l v hl hv, lv_apart l v [] hl hv)
 
 -- LV and a combining T
 lvt_full : (s t : ℕ) → is_lv s ≡ true → combines_t t ≡ true → full (with_t s t ∷ []) ≡ lead s ∷ vowel s ∷ t ∷ []
 lvt_full s t hs ht =
-    let (hs0, hs1) = both _ _ hs in
-    let (s0, s1) = inside 0xAC00 0xD7A3 s hs0 in
-    let (t0, t1) = inside 0x11A8 0x11C2 t ht in
-    let none : (s - 0xAC00) % 28 ≡ 0 = eqb-true _ _ hs1 in
-    let n = s - 0xAC00 in
-    let k = t - 0x11A8 in
-    let w : is_s (with_t s t) ≡ true = is_inside 0xAC00 0xD7A3 (with_t s t) (omega arith) (omega (arith, none)) in
-    let same : with_t s t - 0xAC00 ≡ n + suc k = omega arith in
-    let some : (n + suc k) % 28 ≡ suc k = omega (arith, none) in
-    let a : (n + suc k) / 588 ≡ n / 588 = omega (arith, none) in
-    let b : (n + suc k) % 588 / 28 ≡ n % 588 / 28 = omega (arith, none) in
-    let c : 0x11A7 + suc k ≡ t = omega arith in
-    full_s (with_t s t) [] w
-    ∙ ap (λ us. us ++ []) (jamo_lvt (with_t s t) (a_trail (with_t s t) w k (ap (λ m. m % 28) same ∙ some)))
-    ∙ ap (λ m. (0x1100 + m / 588) ∷ (0x1161 + m % 588 / 28) ∷ (0x11A7 + m % 28) ∷ []) same
-    ∙ ap (λ m. (0x1100 + m) ∷ (0x1161 + (n + suc k) % 588 / 28) ∷ (0x11A7 + (n + suc k) % 28) ∷ []) a
-    ∙ ap (λ m. lead s ∷ (0x1161 + m) ∷ (0x11A7 + (n + suc k) % 28) ∷ []) b
-    ∙ ap (λ m. lead s ∷ vowel s ∷ (0x11A7 + m) ∷ []) some
-    ∙ ap (λ m. lead s ∷ vowel s ∷ m ∷ []) c
+    search (arith, full_s, is_inside, eqb-true, jamo_lvt, ne_eqb)
 
 -- the jamo of a syllable character stand below all syllable characters
 low_jamo : (s : ℕ) → is_s s ≡ true → (lead s < 0xAC00) × (vowel s < 0xAC00) × (trail s < 0xAC00)
-low_jamo s h = let (a, b) = inside 0xAC00 0xD7A3 s h in (omega arith, omega arith, omega arith)
+low_jamo s h = search arith
 
 -- UNITS
 marked_same : (n : ℕ) (us : List ℕ) → marked_from character_copies n us ≡ us
 marked_same n [] = refl
-marked_same n (u ∷ us) = ap (λ vs. u ∷ vs) (marked_same (n + 1) us)
+marked_same n (u ∷ us) = cc (marked_same (n + 1) us)
 
 -- what a unit spells at the start of a text
 abbrev SpellsUnit : List ℕ → Unit → Type 0
@@ -155,11 +106,7 @@ two_spells : (font : Font) (us : List ℕ) → is_l (get_or us 0 0) ≡ true →
 two_spells font [] hl hv = absurd cc
 two_spells font (l ∷ []) hl hv = absurd cc
 two_spells font (l ∷ v ∷ us) hl hv =
-    either (SpellsUnit (l ∷ v ∷ us)) ((combines_l l && combines_v v) && has_nominal font (with_v l v))
-    (ComposedTwo (with_v l v)) JamoTwo
-    (λ h. let (cl, cv) = both (combines_l l) (combines_v v) (both _ (has_nominal font (with_v l v)) h).0 in lv_full l v
-    cl cv)
-    (λ _. ap full (marked_same 1 (l ∷ v ∷ [])))
+    search (arith, either, lv_full, marked_same)
 
 three_spells : (font : Font) (us : List ℕ) → is_l (get_or us 0 0) ≡ true → is_v (get_or us 1 0) ≡ true
     → is_t (get_or us 2 0) ≡ true → SpellsUnit us (jamo_three font (get_or us 0 0) (get_or us 1 0) (get_or us 2 0))
@@ -174,7 +121,7 @@ three_spells font (l ∷ v ∷ t ∷ us) hl hv ht =
     let (cl, rest) = both (combines_l l) (combines_v v && combines_t t) (both _ (has_nominal font (with_t s t)) h).0 in
     let (cv, ct) = both (combines_v v) (combines_t t) rest in
     let (t0, t1) = inside 0x11A8 0x11C2 t ct in
-    lvt_full s t (lv_of l v cl cv) ct
+    lvt_full s t ((is_lv_of l v cl cv).lv) ct
     ∙ ap (λ us. us ++ t ∷ []) (lv_spelled l v cl cv)
     ∙ sym (ap (λ us. l ∷ v ∷ us) (full_other t [] (omega arith)))
     ∙ sym (lv_apart l v (t ∷ []) cl cv))
@@ -182,53 +129,28 @@ three_spells font (l ∷ v ∷ t ∷ us) hl hv ht =
 
 parts_spell : (s : ℕ) (us : List ℕ) → is_s s ≡ true → SpellsUnit (s ∷ us) (jamo_parts s)
 parts_spell s us h =
-    let (a, b, c) = low_jamo s h in
-    either (SpellsUnit (s ∷ us)) (is_lv s) (PartsTwo (lead s) (vowel s)) (PartsThree (lead s) (vowel s) (trail s))
-    (λ lv. ap full (marked_same 1 (lead s ∷ vowel s ∷ [])) ∙ full_other (lead s) (vowel s ∷ []) a
-    ∙ ap (λ us. lead s ∷ us) (full_other (vowel s) [] b) ∙ sym (full_s s [] h ∙ ap (λ us. us ++ []) (jamo_lv s lv)))
-    (λ lvt. ap full (marked_same 1 (lead s ∷ vowel s ∷ trail s ∷ [])) ∙ full_other (lead s) (vowel s ∷ trail s ∷ []) a
-    ∙ ap (λ us. lead s ∷ us) (full_other (vowel s) (trail s ∷ []) b
-    ∙ ap (λ us. vowel s ∷ us) (full_other (trail s) [] c))
-    ∙ sym (full_s s [] h ∙ ap (λ us. us ++ []) (jamo_lvt s lvt)))
-
--- an LV before a T
-before_t : (s t : ℕ) (us : List ℕ) → is_s s ≡ true → is_lv s ≡ true → full (lead s ∷ vowel s ∷ t ∷ [])
-    ≡ full (s ∷ t ∷ [])
-before_t s t us h lv =
-    let (a, b, c) = low_jamo s h in
-    full_other (lead s) (vowel s ∷ t ∷ []) a ∙ ap (λ us. lead s ∷ us) (full_other (vowel s) (t ∷ []) b)
-    ∙ sym (full_s s (t ∷ []) h ∙ ap (λ us. us ++ full (t ∷ [])) (jamo_lv s lv))
-
-composed_t : (s t : ℕ) → is_s s ≡ true → is_lv s ≡ true → combines_t t ≡ true
-    → full (with_t s t ∷ []) ≡ full (s ∷ t ∷ [])
-composed_t s t h lv ct =
-    let (t0, t1) = inside 0x11A8 0x11C2 t ct in
-    lvt_full s t lv ct
-    ∙ sym (full_s s (t ∷ []) h ∙ ap (λ us. us ++ full (t ∷ [])) (jamo_lv s lv)
-    ∙ ap (λ us. lead s ∷ vowel s ∷ us) (full_other t [] (omega arith)))
+    search (arith, either, marked_same, full_other, full_s, jamo_lv, jamo_lvt)
 
 syllable_spells : (font : Font) (us : List ℕ) → is_s (get_or us 0 0) ≡ true
     → SpellsUnit us (syllable_unit font (get_or us 0 0) (get_or us 1 0))
 syllable_spells font [] h = absurd cc
 syllable_spells font (s ∷ []) h =
-    let us = s ∷ [] in
-    either (SpellsUnit us) ((is_lv s && combines_t 0) && has_nominal font (with_t s 0)) (ComposedTwo (with_t s 0)) _
-    (λ p. let f = (both (is_lv s) false (both _ (has_nominal font (with_t s 0)) p).0).1 in absurd cc)
-    (λ _. either (SpellsUnit us) (not (has_nominal font s) && has_jamo_of font s) (jamo_parts s) _ (λ _. parts_spell s
-    [] h)
-    (λ _. either (SpellsUnit us) ((is_lv s && is_t 0) && has_jamo_of font s) (PartsBeforeT (lead s) (vowel s)) _
-    (λ p. let f = (both (is_lv s) false (both _ (has_jamo_of font s) p).0).1 in absurd cc)
-    (λ _. either (SpellsUnit us) (has_nominal font s) Syllable Other (λ _. refl) (λ _. refl))))
+    search (arith, either, parts_spell)
 syllable_spells font (s ∷ v ∷ rest) h =
     let us = s ∷ v ∷ rest in
     either (SpellsUnit us) ((is_lv s && combines_t v) && has_nominal font (with_t s v)) (ComposedTwo (with_t s v)) _
-    (λ p. let (lv, ct) = both (is_lv s) (combines_t v) (both _ (has_nominal font (with_t s v)) p).0 in composed_t s v h
-    lv ct)
+    (λ p. let (lv, ct) = both (is_lv s) (combines_t v) (both _ (has_nominal font (with_t s v)) p).0 in
+    search (arith, lvt_full, full_s, jamo_lv, full_other))
     (λ _. either (SpellsUnit us) (not (has_nominal font s) && has_jamo_of font s) (jamo_parts s) _
     (λ _. parts_spell s (v ∷ rest) h)
     (λ _. either (SpellsUnit us) ((is_lv s && is_t v) && has_jamo_of font s) (PartsBeforeT (lead s) (vowel s)) _
-    (λ p. let lv = (both (is_lv s) (is_t v) (both _ (has_jamo_of font s) p).0).0 in ap full
-    (marked_same 1 (lead s ∷ vowel s ∷ v ∷ [])) ∙ before_t s v [] h lv)
+    (λ p. ap full (marked_same 1 (lead s ∷ vowel s ∷ v ∷ []))
+    ∙ (let (a, b, c) = low_jamo s h in cc (
+      full_other (lead s) (vowel s ∷ v ∷ []) a,
+      full_other (vowel s) (v ∷ []) b,
+      full_s s (v ∷ []) h,
+      jamo_lv s ((both (is_lv s) (is_t v) (both _ (has_jamo_of font s) p).0).0),
+    )))
     (λ _. either (SpellsUnit us) (has_nominal font s) Syllable Other (λ _. refl) (λ _. refl))))
 
 -- the unit of a character that is no tone
@@ -248,44 +170,21 @@ untoned_spells font us =
     (jamo_two font u v) (λ ht. three_spells font us hl hv ht) (λ _. two_spells font us hl hv))
     (λ _. either (SpellsUnit us) (is_s u) (syllable_unit font u v) Other (λ h. syllable_spells font us h) (λ _. refl))
 
-unit_spells : (font : Font) (circles : Bool) (us : List ℕ) → is_tone (get_or us 0 0) ≡ false
-    → SpellsUnit us (opening_unit font circles us)
-unit_spells font circles us no_tone =
-    let u = get_or us 0 0 in
-    either (SpellsUnit us) (is_tone u) (lone_tone font circles u) (untoned font u (get_or us 1 0) (get_or us 2 0))
-    (λ p. absurd (true_is_not (sym p ∙ no_tone))) (λ _. untoned_spells font us)
-
 -- ITEMS
 spelled-append : (xs ys : List ℕ) → spelled (xs ++ ys) ≡ spelled xs ++ spelled ys
 spelled-append xs ys =
-    let f = λ (u : ℕ). cond (is_s u) (jamo_of u) (u ∷ []) in
-    let p = λ (u : ℕ). not (is_tone u || u == 0x25CC) in
-    ap (filter p) (flat_map-append f xs ys) ∙ filter-append p (full xs) (full ys)
+    search (arith, flat_map-append, filter-append)
 
 spelled_tone : (w : ℕ) → is_tone w ≡ true → spelled (w ∷ []) ≡ []
 spelled_tone w h =
-    let (low, high) = inside 0x302E 0x302F w h in
-    let p = λ (u : ℕ). not (is_tone u || u == 0x25CC) in
-    ap (filter p) (full_other w [] (omega arith)) ∙ ap (λ b. cond (not (b || w == 0x25CC)) (w ∷ []) []) h
+    search (arith, full_other)
 
 abbrev SpellsApart : List ℕ → Unit → Type 0
 SpellsApart us x = spelled (unit_output character_copies x us) ≡ spelled (take (taken x) us)
 
 lone_spells : (font : Font) (circles : Bool) (u : ℕ) (us : List ℕ) → SpellsApart (u ∷ us) (lone_tone font circles u)
 lone_spells font circles u us =
-    let Q = SpellsApart (u ∷ us) in
-    either Q (circles && has_nominal font 0x25CC) _ _
-    (λ _. either Q (is_narrow font u) CircleTone ToneCircle (λ _. refl) (λ _. spelled-append (u ∷ []) (0x25CC ∷ [])
-    ∙ append-nil (spelled (u ∷ []))))
-    (λ _. refl)
-
-opening_spells : (font : Font) (circles : Bool) (u : ℕ) (us : List ℕ)
-    → SpellsApart (u ∷ us) (opening_unit font circles (u ∷ us))
-opening_spells font circles u us =
-    let p = λ (u : ℕ). not (is_tone u || u == 0x25CC) in
-    either (SpellsApart (u ∷ us)) (is_tone u) (lone_tone font circles u)
-    (untoned font u (get_or us 0 0) (get_or us 1 0)) (λ _. lone_spells font circles u us)
-    (λ _. ap (filter p) (untoned_spells font (u ∷ us)))
+    search (arith, either, spelled-append, append-nil)
 
 -- with its tone
 tone_spells : (font : Font) (x : Unit) (us : List ℕ) → taken x ≤ length us → SpellsApart us x
@@ -296,14 +195,13 @@ tone_spells font x us within same =
     let t = taken x in
     let w = get_or us t 0 in
     let out = unit_output character_copies x us in
-    let none : t ≡ t + 0 = omega arith in
     elim (is_syllable x && is_tone w) as (λ b. is_syllable x && is_tone w ≡ b
     → spelled (with_tone (cond b (cond (is_narrow font w) Behind Before) Absent) (take 1 (drop t us)) out)
     ≡ spelled (take (t + tone_len (cond b (cond (is_narrow font w) Behind Before) Absent)) us)) [
       | true ↦ λ h.
           let is_w = (both (is_syllable x) (is_tone w) h).1 in
           let there = there us t (above is_tone w refl is_w) in
-          let one : take 1 (drop t us) ≡ w ∷ [] = ap (take 1) (drop_more us t 0 there) in
+          let one = ap (take 1) (drop_more us t 0 there) in
           let more = ap spelled (take_more us t 0 there) ∙ spelled-append (take t us) (w ∷ []) in
           elim (is_narrow font w) as (λ b. spelled (with_tone (cond b Behind Before) (take 1 (drop t us)) out)
           ≡ spelled (take (t + tone_len (cond b Behind Before)) us)) [
@@ -318,15 +216,8 @@ tone_spells font x us within same =
                 ∙ ap (λ xs. spelled (take t us) ++ xs) (sym (spelled_tone w is_w))
                 ∙ sym more
           ]
-      | false ↦ λ _. same ∙ ap (λ n. spelled (take n us)) none
+      | false ↦ λ _. same ∙ ap (λ n. spelled (take n us)) (omega arith)
     ] refl
-
-item_spells : (font : Font) (circles : Bool) (u : ℕ) (us : List ℕ)
-    → spelled (item_output character_copies (first_item font circles (u ∷ us)) (u ∷ us))
-    ≡ spelled (take (item_len (first_item font circles (u ∷ us))) (u ∷ us))
-item_spells font circles u us =
-    tone_spells font (opening_unit font circles (u ∷ us)) (u ∷ us) (unit_within font circles (u ∷ us) (omega arith))
-    (opening_spells font circles u us)
 
 -- all items of what is left of a text
 rest_spells : (font : Font) (circles : Bool) (all : List ℕ) (place skip : ℕ) (us : List ℕ) → drop place all ≡ us
@@ -337,31 +228,31 @@ rest_spells font circles all place zero (u ∷ us) is =
     let item = first_item font circles (u ∷ us) in
     let n = item_len item in
     let rest = items_from (first_item font circles) (place + 1) (n - 1) us in
-    let some = taken_some item.unit in
-    let many : n ≡ suc (n - 1) = omega (arith, some) in
-    let next : drop (place + 1) all ≡ us = sym (drop-drop 1 place all) ∙ ap (drop 1) is in
+    let many : n ≡ suc (n - 1) = omega (arith, taken_some item.unit) in
     spelled-append (item_output character_copies item (drop place all)) (outputs character_copies rest all)
     ∙ ap (λ xs. spelled (item_output character_copies item xs) ++ spelled (outputs character_copies rest all)) is
-    ∙ ap (λ xs. xs ++ spelled (outputs character_copies rest all)) (item_spells font circles u us)
-    ∙ ap (λ xs. spelled (take n (u ∷ us)) ++ xs) (rest_spells font circles all (place + 1) (n - 1) us next
-    ∙ sym (ap (λ k. spelled (drop k (u ∷ us))) many))
-    ∙ sym (spelled-append (take n (u ∷ us)) (drop n (u ∷ us)))
-    ∙ ap spelled (take-append-drop n (u ∷ us))
+    ∙ ap (λ xs. xs ++ spelled (outputs character_copies rest all))
+    (tone_spells font (opening_unit font circles (u ∷ us)) (u ∷ us) (search (arith, unit_within)) (either
+    (SpellsApart (u ∷ us)) (is_tone u) (lone_tone font circles u) (untoned font u (get_or us 0 0) (get_or us 1 0)) (λ
+    _. lone_spells font circles u us) (λ _. ap (filter (λ (u : ℕ). not (is_tone u || u == 0x25CC))) (untoned_spells
+    font (u ∷ us)))))
+    ∙ ap (λ xs. spelled (take n (u ∷ us)) ++ xs)
+    (rest_spells font circles all (place + 1) (n - 1) us (sym (drop-drop 1 place all) ∙ ap (drop 1) is) ∙ sym (ap (λ
+    k. spelled (drop k (u ∷ us))) many))
+    ∙ sym (spelled-append (take n (u ∷ us)) (drop n (u ∷ us))) ∙ ap spelled (take-append-drop n (u ∷ us))
 rest_spells font circles all place (suc skip) (u ∷ us) is =
-    rest_spells font circles all (place + 1) skip us (sym (drop-drop 1 place all) ∙ ap (drop 1) is)
+    rest_spells font circles all (place + 1) skip us (cc (drop-drop 1 place all))
 
 pub spells : SpellingLaw
-spells font circles us = record { unit = unit_spells font circles us; whole = rest_spells font circles us 0 0 us refl }
+spells font circles us = search (arith, either, untoned_spells, rest_spells)
 
 -- the whole hook
 pub same_spelled : (font : Font) (circles : Bool) (level : BufferClusterLevel) (gs : List hb_glyph_info_t)
     → spelled (characters (preprocessed font circles level gs)) ≡ spelled (characters gs)
 same_spelled font circles level gs =
     let cut = items font circles (characters gs) in
-    let ms = all_joined level cut gs in
-    let leads : Leads (λ g. g.glyph_id) glyph_copies character_copies =
-    record { character = λ u g. refl; jamo = λ n g. refl } in
-    ap spelled (outputs-map (λ g. g.glyph_id) glyph_copies character_copies leads cut ms
+    ap spelled (outputs-map (λ g. g.glyph_id) glyph_copies character_copies
+    (record { character = λ u g. refl; jamo = λ n g. refl }) cut (all_joined level cut gs)
     ∙ ap (outputs character_copies cut) (characters-all_joined level cut gs))
     ∙ (spells font circles (characters gs)).whole
 
@@ -370,19 +261,12 @@ characters-rewritten : (breaks : BreakFlags) (font : Font) (circles : Bool) (lev
     (gs : List hb_glyph_info_t) → characters (text_rewritten breaks font circles level gs)
     ≡ characters (preprocessed font circles level gs)
 characters-rewritten breaks font circles level gs =
-    let cut = items font circles (characters gs) in
-    let joined = all_joined level cut gs in
-    characters-outputs cut (items_flagged breaks cut joined)
-    ∙ ap (outputs character_copies cut) (characters-items_flagged breaks cut joined)
-    ∙ sym (characters-outputs cut joined)
+    search (arith, characters-outputs, characters-items_flagged)
 
 pub on_spelled : {T : Type 0} (r : Result T ShaperError) (breaks : BreakFlags) (font : Font) (old new : Buffer)
     → OnOk r (new ≡ rewritten_by breaks font old) → OnOk r (SpellsSame old new)
 on_spelled (Ok x) breaks font old new is =
-    let circles = allows_circles old in
-    ap (λ (b : Buffer). spelled (characters b.glyphs)) is
-    ∙ ap spelled (characters-rewritten breaks font circles old.level old.glyphs)
-    ∙ same_spelled font circles old.level old.glyphs
+    search (arith, characters-rewritten, same_spelled)
 on_spelled (Err e) breaks font old new is = tt
 
 -- each unit by itself
@@ -390,28 +274,17 @@ units_spell : (font : Font) (circles : Bool) (all : List ℕ) (place skip : ℕ)
     → AllByRecursion (UnitSpells all) (items_from (first_item font circles) place skip us)
 units_spell font circles all place skip [] is = tt
 units_spell font circles all place zero (u ∷ us) is =
-    let unit = opening_unit font circles (u ∷ us) in
-    let next : drop (place + 1) all ≡ us = sym (drop-drop 1 place all) ∙ ap (drop 1) is in (
+    let unit = opening_unit font circles (u ∷ us) in (
       subst (λ xs. is_tone (get_or xs 0 0) ≡ false → full (unit_output character_copies unit xs)
           ≡ full (take (taken unit) xs)) (sym is) (spells font circles (u ∷ us)).unit,
-      units_spell font circles all (place + 1) (item_len (first_item font circles (u ∷ us)) - 1) us next,
+      units_spell font circles all (place + 1) (item_len (first_item font circles (u ∷ us)) - 1) us
+          (sym (drop-drop 1 place all) ∙ ap (drop 1) is),
     )
 units_spell font circles all place (suc skip) (u ∷ us) is =
-    units_spell font circles all (place + 1) skip us (sym (drop-drop 1 place all) ∙ ap (drop 1) is)
-
-by_units : (breaks : BreakFlags) (font : Font) (b : Buffer) → SpellsByUnits font b (rewritten_by breaks font b)
-by_units breaks font b =
-    let us = characters b.glyphs in
-    let cut = items font (allows_circles b) us in
-    let ms = all_joined b.level cut b.glyphs in
-    record {
-      outputs = characters-rewritten breaks font (allows_circles b) b.level b.glyphs
-          ∙ characters-outputs cut ms
-          ∙ ap (outputs character_copies cut) (characters-all_joined b.level cut b.glyphs);
-      units = units_spell font (allows_circles b) us 0 0 us refl;
-    }
+    units_spell font circles all (place + 1) skip us (cc (drop-drop 1 place all))
 
 pub on_units : {T : Type 0} (r : Result T ShaperError) (breaks : BreakFlags) (font : Font) (old new : Buffer)
     → OnOk r (new ≡ rewritten_by breaks font old) → OnOk r (SpellsByUnits font old new)
-on_units (Ok x) breaks font old new is = subst (SpellsByUnits font old) (sym is) (by_units breaks font old)
+on_units (Ok x) breaks font old new is =
+    search (arith, characters-rewritten, characters-outputs, characters-all_joined, units_spell)
 on_units (Err e) breaks font old new is = tt

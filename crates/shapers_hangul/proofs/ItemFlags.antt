@@ -1,5 +1,5 @@
 -- What the choice flags of a Hangul text once its items are joined: glyph flags alone, and none is lost.
-use Rattle.std.proofs.Common.{◌≡◌, ℕ, ◌≤◌, List, [], ◌∷◌, length, map, refl, sym, ap, ◌∙◌, arith}
+use Rattle.std.proofs.Common.{◌≡◌, ℕ, ◌≤◌, List, [], ◌∷◌, length, map, refl, arith}
 use Rattle.std.specs.List.{AllByRecursion}
 use Rattle.shapers_buffer.specs.declared.buffer.glyph.hb_glyph_info_t.{hb_glyph_info_t}
 use Rattle.shapers_buffer.specs.Glyph.{characters, clusters}
@@ -21,23 +21,22 @@ pub map-items_flagged : {Y : Type 0} (f : hb_glyph_info_t → Y) → ((g : hb_gl
     → (breaks : BreakFlags) (cut : List (ℕ × Item)) (gs : List hb_glyph_info_t)
     → map f (items_flagged breaks cut gs) ≡ map f gs
 map-items_flagged f keeps AsCode cut gs = refl
-map-items_flagged f keeps Sound cut gs = map-unsafe_all f keeps (whole_items cut) gs (whole_in_order cut)
+map-items_flagged f keeps Sound cut gs = search (arith, map-unsafe_all, whole_in_order)
 
 pub characters-items_flagged : (breaks : BreakFlags) (cut : List (ℕ × Item)) (gs : List hb_glyph_info_t)
     → characters (items_flagged breaks cut gs) ≡ characters gs
-characters-items_flagged breaks cut gs = map-items_flagged (λ g. g.glyph_id) (λ g. refl) breaks cut gs
+characters-items_flagged breaks cut gs = search (arith, map-items_flagged)
 
 pub clusters-items_flagged : (breaks : BreakFlags) (cut : List (ℕ × Item)) (gs : List hb_glyph_info_t)
     → clusters (items_flagged breaks cut gs) ≡ clusters gs
-clusters-items_flagged breaks cut gs = map-items_flagged (λ g. g.cluster) (λ g. refl) breaks cut gs
+clusters-items_flagged breaks cut gs = search (arith, map-items_flagged)
 
 pub length-items_flagged : (breaks : BreakFlags) (cut : List (ℕ × Item)) (gs : List hb_glyph_info_t)
     → length (items_flagged breaks cut gs) ≡ length gs
 length-items_flagged breaks cut gs =
-    sym (length-characters (items_flagged breaks cut gs)) ∙ ap length (characters-items_flagged breaks cut gs)
-    ∙ length-characters gs
+    cc (length-characters (items_flagged breaks cut gs), characters-items_flagged breaks cut gs, length-characters gs)
 
 pub items_flagged_stay : (breaks : BreakFlags) (cut : List (ℕ × Item)) (gs : List hb_glyph_info_t)
     → AllFlagsStay gs (items_flagged breaks cut gs)
 items_flagged_stay AsCode cut gs = all_stay_same gs
-items_flagged_stay Sound cut gs = unsafe_all_stays (whole_items cut) gs (whole_in_order cut)
+items_flagged_stay Sound cut gs = search (arith, unsafe_all_stays, whole_in_order)

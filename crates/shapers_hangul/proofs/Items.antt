@@ -1,5 +1,5 @@
 -- Units and items: how far they reach, one after another.
-use Rattle.std.proofs.Common.{◌≡◌, ◌⊎◌, inl, inr, ℕ, zero, suc, ◌+◌, ◌-◌, ◌<◌, ◌≤◌, ◌&&◌, ◌||◌, ◌==◌, not, Bool, true, false, cond, List, [], ◌∷◌, length, get_or, drop, refl, sym, ap, subst, ◌∙◌, arith}
+use Rattle.std.proofs.Common.{◌≡◌, ◌⊎◌, inl, inr, ℕ, zero, suc, ◌+◌, ◌-◌, ◌<◌, ◌≤◌, ◌&&◌, ◌||◌, ◌==◌, not, Bool, true, false, cond, List, [], ◌∷◌, length, get_or, drop, refl, ap, arith}
 use Rattle.std.proofs.lemmas.Bool.Decides.{nat_tests}
 use Rattle.std.proofs.lemmas.List.{drop_all, length-drop, drop-drop}
 use Rattle.shapers_base.specs.Font.{Font, has_nominal}
@@ -8,7 +8,7 @@ use Rattle.shapers_hangul.specs.declared.ot_shaper_hangul.item.JoinedTone.{Joine
 use Rattle.shapers_hangul.specs.declared.ot_shaper_hangul.item.JoinedTone.TheVariants.{Absent, Before, Behind}
 use Rattle.shapers_hangul.specs.declared.ot_shaper_hangul.item.Unit.{Unit}
 use Rattle.shapers_hangul.specs.declared.ot_shaper_hangul.item.Unit.TheVariants.{ComposedTwo, ComposedThree, JamoTwo, JamoThree, PartsTwo, PartsThree, PartsBeforeT, Syllable, ToneCircle, CircleTone, Other}
-use Rattle.shapers_hangul.specs.Hangul.{is_l, is_v, is_t, combines_l, combines_v, combines_t, is_s, is_lv, is_tone, with_v, with_t, lead, vowel, trail, has_jamo_of, is_narrow, jamo_two, jamo_three, jamo_unit, jamo_parts, syllable_unit, lone_tone, lone_unit, first_unit, unsafe_len, taken, is_syllable, is_marked, joined_tone, is_split, first_item, tone_len, item_len, items_from, items, items_at, Fit}
+use Rattle.shapers_hangul.specs.Hangul.{is_l, is_v, is_t, combines_t, is_s, is_lv, is_tone, with_t, is_narrow, syllable_unit, lone_tone, lone_unit, first_unit, taken, is_syllable, is_marked, joined_tone, is_split, first_item, tone_len, item_len, items_from, items, items_at, Fit}
 
 -- both of two tests that pass together; a choice of two units
 pub both : (a b : Bool) → a && b ≡ true → (a ≡ true) × (b ≡ true)
@@ -53,46 +53,19 @@ taken_most Other = omega arith
 abbrev Reaches : ℕ → ℕ → Unit → Type 0
 Reaches v t x = (taken x ≤ 1) ⊎ ((0 < v) × ((taken x ≤ 2) ⊎ (0 < t)))
 
-lone_reaches : (font : Font) (circles : Bool) (u v t : ℕ) → Reaches v t (lone_tone font circles u)
-lone_reaches font circles u v t =
-    let Q = λ (x : Unit). Reaches v t x in
-    either Q (circles && has_nominal font 0x25CC) _ _
-    (λ _. either Q (is_narrow font u) CircleTone ToneCircle (λ _. inl (omega arith)) (λ _. inl (omega arith)))
-    (λ _. inl (omega arith))
-
-two_reaches : (font : Font) (u v t : ℕ) → 0 < v → Reaches v t (jamo_two font u v)
-two_reaches font u v t some =
-    let Q = λ (x : Unit). Reaches v t x in
-    either Q ((combines_l u && combines_v v) && has_nominal font (with_v u v)) (ComposedTwo (with_v u v)) JamoTwo
-    (λ _. inr (some, inl (omega arith))) (λ _. inr (some, inl (omega arith)))
-
-parts_reach : (s v t : ℕ) → Reaches v t (jamo_parts s)
-parts_reach s v t = let Q =
-    λ (x : Unit). Reaches v t x in either Q (is_lv s) (PartsTwo (lead s) (vowel s))
-    (PartsThree (lead s) (vowel s) (trail s)) (λ _. inl (omega arith)) (λ _. inl (omega arith))
-
-syllable_reaches : (font : Font) (s v t : ℕ) → Reaches v t (syllable_unit font s v)
-syllable_reaches font s v t =
-    let Q = λ (x : Unit). Reaches v t x in
-    either Q ((is_lv s && combines_t v) && has_nominal font (with_t s v)) (ComposedTwo (with_t s v)) _
-    (λ h. inr (
-      above combines_t v refl (both (is_lv s) _ (both _ (has_nominal font (with_t s v)) h).0).1,
-      inl
-          (omega arith),
-    ))
-    (λ _. either Q (not (has_nominal font s) && has_jamo_of font s) (jamo_parts s) _ (λ _. parts_reach s v t)
-    (λ _. either Q ((is_lv s && is_t v) && has_jamo_of font s) (PartsBeforeT (lead s) (vowel s)) _
-    (λ h. inr (above is_t v refl (both (is_lv s) _ (both _ (has_jamo_of font s) h).0).1, inl (omega arith)))
-    (λ _. either Q (has_nominal font s) Syllable Other (λ _. inl (omega arith)) (λ _. inl (omega arith)))))
-
 unit_reaches : (font : Font) (circles : Bool) (u v t : ℕ) → Reaches v t (first_unit font circles u v t)
 unit_reaches font circles u v t =
     let Q = λ (x : Unit). Reaches v t x in
-    either Q (is_tone u) (lone_tone font circles u) _ (λ _. lone_reaches font circles u v t)
+    either Q (is_tone u) (lone_tone font circles u) _ (λ _. search (arith, either))
     (λ _. either Q (is_l u && is_v v) _ _
-    (λ h. let some = above is_v v refl (both (is_l u) (is_v v) h).1 in either Q (is_t t) (jamo_three font u v t)
-    (jamo_two font u v) (λ h. inr (some, inr (above is_t t refl h))) (λ _. two_reaches font u v t some))
-    (λ _. either Q (is_s u) (syllable_unit font u v) Other (λ _. syllable_reaches font u v t) (λ _. inl (omega arith))))
+    (λ h. let some = above is_v v refl (both (is_l u) (is_v v) h).1 in search (arith, either))
+    (λ _. either Q (is_s u) (syllable_unit font u v) Other (λ _.
+    either (λ (x : Unit). Reaches v t x) ((is_lv u && combines_t v) && has_nominal font (with_t u v)) (ComposedTwo
+    (with_t u v)) _ (λ h. inr (
+      above combines_t v refl (both (is_lv u) _ (both _ (has_nominal font (with_t u v))
+          h).0).1,
+      inl (omega arith),
+    )) (λ _. search (arith, either))) (λ _. inl (omega arith))))
 
 -- a character that isn't 0 stands within the text
 pub there : (us : List ℕ) (i : ℕ) → 0 < get_or us i 0 → i < length us
@@ -103,14 +76,10 @@ there (u ∷ us) (suc i) some = omega (arith, there us i some)
 pub unit_within : (font : Font) (circles : Bool) (us : List ℕ) → 0 < length us
     → taken (first_unit font circles (get_or us 0 0) (get_or us 1 0) (get_or us 2 0)) ≤ length us
 unit_within font circles us some =
-    let x = first_unit font circles (get_or us 0 0) (get_or us 1 0) (get_or us 2 0) in
     elim (unit_reaches font circles (get_or us 0 0) (get_or us 1 0) (get_or us 2 0)) [
       | inl one ↦ omega arith
       | inr p ↦
-          elim p.1 [
-            | inl two ↦ omega (arith, there us 1 p.0)
-            | inr t ↦ omega (arith, there us 2 t, taken_most x)
-          ]
+          search (arith, there, taken_most)
     ]
 
 tone_within : (font : Font) (x : Unit) (us : List ℕ) → taken x ≤ length us
@@ -129,8 +98,7 @@ tone_within font x us within =
 pub first_item-within : (font : Font) (circles : Bool) (us : List ℕ) → 0 < length us
     → item_len (first_item font circles us) ≤ length us
 first_item-within font circles us some =
-    tone_within font (first_unit font circles (get_or us 0 0) (get_or us 1 0) (get_or us 2 0)) us
-    (unit_within font circles us some)
+    search (arith, tone_within, unit_within)
 
 -- what the cases come to for a character that no jamo and no tone follows
 abbrev item_of : Unit → JoinedTone → ℕ → Item
@@ -152,12 +120,9 @@ never_so false c x y = refl
 combines_no : (v : ℕ) → is_t v ≡ false → combines_t v ≡ false
 combines_no v h = grind (arith, nat_tests)
 
-tone_no_syllable : (u : ℕ) → is_tone u ≡ true → is_s u ≡ false
-tone_no_syllable u h = grind (arith, nat_tests)
-
 turned : {X : Type 0} (a b c : Bool) (x y z : X) → (b ≡ true → a ≡ false)
     → cond b y (cond a x z) ≡ cond a x (cond b y z)
-turned true true c x y z apart = absurd (let h = apart refl in cc)
+turned true true c x y z apart = search arith
 turned true false c x y z apart = refl
 turned false true c x y z apart = refl
 turned false false c x y z apart = refl
@@ -168,75 +133,23 @@ has_or_parts true jamo p = refl
 has_or_parts false true p = refl
 has_or_parts false false p = refl
 
-syllable_lone : (font : Font) (s v : ℕ) → is_t v ≡ false
-    → syllable_unit font s v ≡ cond (has_nominal font s) Syllable (cond (has_jamo_of font s) (jamo_parts s) Other)
-syllable_lone font s v no_t =
-    let has = has_nominal font s in
-    let jamo = has_jamo_of font s in
-    let split = cond ((is_lv s && is_t v) && jamo) (PartsBeforeT (lead s) (vowel s)) (cond has Syllable Other) in
-    ap (λ x. cond ((is_lv s && x) && has_nominal font (with_t s v)) (ComposedTwo (with_t s v))
-    (cond (not has && jamo) (jamo_parts s) split)) (combines_no v no_t)
-    ∙ never_so (is_lv s) (has_nominal font (with_t s v)) (ComposedTwo (with_t s v))
-    (cond (not has && jamo) (jamo_parts s) split)
-    ∙ ap (cond (not has && jamo) (jamo_parts s))
-    (ap (λ x. cond ((is_lv s && x) && jamo) (PartsBeforeT (lead s) (vowel s)) (cond has Syllable Other)) no_t
-    ∙ never_so (is_lv s) jamo (PartsBeforeT (lead s) (vowel s)) (cond has Syllable Other))
-    ∙ has_or_parts has jamo (jamo_parts s)
-
 unit_lone : (font : Font) (circles : Bool) (u v t : ℕ) → is_v v ≡ false → is_t v ≡ false → first_unit font circles u v t
     ≡ lone_unit font circles u
 unit_lone font circles u v t no_v no_t =
-    let tone = lone_tone font circles u in
-    ap (λ x. cond (is_tone u) tone
-    (cond (is_l u && x) (jamo_unit font u v t) (cond (is_s u) (syllable_unit font u v) Other))) no_v
-    ∙ ap (cond (is_tone u) tone) (never (is_l u) (jamo_unit font u v t) (cond (is_s u) (syllable_unit font u v) Other)
-    ∙ ap (λ x. cond (is_s u) x Other) (syllable_lone font u v no_t))
-    ∙ turned (is_s u) (is_tone u) true
-    (cond (has_nominal font u) Syllable (cond (has_jamo_of font u) (jamo_parts u) Other)) tone Other
-    (tone_no_syllable u)
-
-parts_taken : (s : ℕ) → taken (jamo_parts s) ≡ 1
-parts_taken s =
-    either (λ x. taken x ≡ 1) (is_lv s) (PartsTwo (lead s) (vowel s)) (PartsThree (lead s) (vowel s) (trail s))
-    (λ _. refl) (λ _. refl)
+    search (arith, never, combines_no, never_so, has_or_parts, turned, nat_tests)
 
 lone_taken : (font : Font) (circles : Bool) (u : ℕ) → taken (lone_unit font circles u) ≡ 1
 lone_taken font circles u =
-    let Q : Unit → Type 0 = λ x. taken x ≡ 1 in
-    either Q (is_s u) _ _
-    (λ _. either Q (has_nominal font u) Syllable _ (λ _. refl)
-    (λ _. either Q (has_jamo_of font u) (jamo_parts u) Other (λ _. parts_taken u) (λ _. refl)))
-    (λ _. either Q (is_tone u) (lone_tone font circles u) Other
-    (λ _. either Q (circles && has_nominal font 0x25CC) _ Other
-    (λ _. either Q (is_narrow font u) CircleTone ToneCircle (λ _. refl) (λ _. refl)) (λ _. refl)) (λ _. refl))
+    search (arith, either)
 
 pub lone_first : (font : Font) (circles : Bool) (us : List ℕ) (unit : Unit)
     → is_v (get_or us 1 0) || (is_t (get_or us 1 0) || is_tone (get_or us 1 0)) ≡ false
     → unit ≡ lone_unit font circles (get_or us 0 0) → item_of unit Absent 0 ≡ first_item font circles us
 lone_first font circles us unit free is =
-    let a = get_or us 0 0 in
     let b = get_or us 1 0 in
     let (no_v, others) = neither (is_v b) (is_t b || is_tone b) free in
     let (no_t, no_tone) = neither (is_t b) (is_tone b) others in
-    let whole : first_unit font circles a b (get_or us 2 0) ≡ unit =
-    unit_lone font circles a b (get_or us 2 0) no_v no_t ∙ sym is in
-    let one : taken unit ≡ 1 = ap taken is ∙ lone_taken font circles a in
-    let alone : joined_tone font unit (get_or us (taken unit) 0) ≡ Absent =
-    ap (λ n. joined_tone font unit (get_or us n 0)) one
-    ∙ ap (λ x. cond (is_syllable unit && x) (cond (is_narrow font b) Behind Before) Absent) no_tone
-    ∙ never (is_syllable unit) (cond (is_narrow font b) Behind Before) Absent in
-    let rest : unsafe_len font unit Absent a b ≡ 0 =
-    ap (λ x. cond (is_l a && x) (taken unit)
-    (cond (is_marked unit && false) (taken unit) (cond (is_split font a b) 2 0))) no_v
-    ∙ never (is_l a) (taken unit) (cond (is_marked unit && false) (taken unit) (cond (is_split font a b) 2 0))
-    ∙ never (is_marked unit) (taken unit) (cond (is_split font a b) 2 0)
-    ∙ ap (λ x. cond ((is_lv a && x) && cond (combines_t b) (not (has_nominal font (with_t a b)))
-    (not (has_jamo_of font a))) 2 0) no_t
-    ∙ never_so (is_lv a) (cond (combines_t b) (not (has_nominal font (with_t a b))) (not (has_jamo_of font a))) 2 0 in
-    sym (ap (λ x. item_of x (joined_tone font x (get_or us (taken x) 0))
-    (unsafe_len font x (joined_tone font x (get_or us (taken x) 0)) a b)) whole
-    ∙ ap (λ y. item_of unit y (unsafe_len font unit y a b)) alone
-    ∙ ap (item_of unit Absent) rest)
+    search (arith, unit_lone, lone_taken, never, never_so)
 
 -- what an item flags stands within the text, too
 cond_holds : (Q : ℕ → Type 0) (b : Bool) (x y : ℕ) → (b ≡ true → Q x) → (b ≡ false → Q y) → Q (cond b x y)
@@ -248,16 +161,15 @@ first_item-unsafe font circles us some =
     let u = get_or us 0 0 in
     let v = get_or us 1 0 in
     let x = first_unit font circles u v (get_or us 2 0) in
-    let tone = joined_tone font x (get_or us (taken x) 0) in
     let Q : ℕ → Type 0 = λ n. n ≤ length us in
     let within = unit_within font circles us some in
     cond_holds Q (is_l u && is_v v) (taken x) _ (λ _. within)
-    (λ _. cond_holds Q (is_marked x && tone_len tone == 1) (taken x) _ (λ _. within)
+    (λ _. cond_holds Q (is_marked x && tone_len
+    (joined_tone font x (get_or us (taken x) 0)) == 1) (taken x) _ (λ _. within)
     (λ _. cond_holds Q (is_split font u v) 2 0
     (λ h. omega (
       arith,
-      there us 1
-          (above is_t v refl (both (is_lv u) (is_t v) (both (is_lv u && is_t v) _ h).0).1),
+      there us 1 (above is_t v refl (both (is_lv u) (is_t v) (both (is_lv u && is_t v) _ h).0).1),
     )) (λ _. omega arith)))
 
 -- the items from a place on: what the item before took is skipped, and then the first item opens the rest
@@ -265,20 +177,14 @@ skipped : (read : List ℕ → Item) (place skip : ℕ) (us : List ℕ) → item
     ≡ items_from read (place + skip) 0 (drop skip us)
 skipped read place zero [] = refl
 skipped read place (suc skip) [] = refl
-skipped read place zero (u ∷ us) = let same : place ≡ place + 0 =
-    omega arith in ap (λ p. items_from read p 0 (u ∷ us)) same
-skipped read place (suc skip) (u ∷ us) = let same : place + 1 + skip ≡ place + suc skip =
-    omega arith in skipped read (place + 1) skip us ∙ ap (λ p. items_from read p 0 (drop skip us)) same
+skipped read place zero (u ∷ us) = search arith
+skipped read place (suc skip) (u ∷ us) = search (arith, skipped read (place + 1) skip us)
 
 item_next : (read : List ℕ → Item) (place k : ℕ) (us : List ℕ) → 0 < length us → item_len (read us) ≡ suc k
     → items_from read place 0 us ≡ (place, read us) ∷ items_from read (place + suc k) 0 (drop (suc k) us)
 item_next read place k [] some takes = absurd (omega arith)
 item_next read place k (u ∷ us) some takes =
-    let less : item_len (read (u ∷ us)) - 1 ≡ k = omega arith in
-    let same : place + 1 + k ≡ place + suc k = omega arith in
-    ap (λ n. (place, read (u ∷ us)) ∷ items_from read (place + 1) n us) less
-    ∙ ap (λ l. (place, read (u ∷ us)) ∷ l) (skipped read (place + 1) k us
-    ∙ ap (λ p. items_from read p 0 (drop k us)) same)
+    search (arith, skipped)
 
 pub items_at_next : (font : Font) (circles : Bool) (us : List ℕ) (place : ℕ) (item : Item) → place < length us
     → item ≡ first_item font circles (drop place us) → items_at font circles us place ≡ (place, item)
@@ -289,36 +195,25 @@ items_at_next font circles us place item inside is =
     let k = item_len item - 1 in
     let some : 1 ≤ item_len item = omega (arith, taken_some item.unit) in
     let takes : item_len (read rest) ≡ suc k = omega (arith, ap item_len is) in
-    let many : suc k ≡ item_len item = omega arith in
-    item_next read place k rest (omega (arith, length-drop place us)) takes
-    ∙ ap (λ i. (place, i) ∷ items_from read (place + suc k) 0 (drop (suc k) rest)) (sym is)
-    ∙ ap (λ n. (place, item) ∷ items_from read (place + n) 0 (drop n rest)) many
-    ∙ ap (λ l. (place, item) ∷ items_from read (place + item_len item) 0 l) (drop-drop (item_len item) place us)
+    cc (item_next read place k rest (omega (arith, length-drop place us)) takes, drop-drop (item_len item) place us)
 
 pub items_at_end : (font : Font) (circles : Bool) (us : List ℕ) (place : ℕ) → length us ≤ place
     → items_at font circles us place ≡ []
-items_at_end font circles us place past = ap (items_from (first_item font circles) place 0) (drop_all place us past)
+items_at_end font circles us place past = search (arith, drop_all)
 
 -- all items stand within the text, with what they flag
 items_fit_from : (font : Font) (circles : Bool) (place skip : ℕ) (us : List ℕ)
     → Fit (place + length us) (items_from (first_item font circles) place skip us)
 items_fit_from font circles place skip [] = tt
 items_fit_from font circles place zero (u ∷ us) =
-    let read = first_item font circles (u ∷ us) in
-    let same : place + 1 + length us ≡ place + length (u ∷ us) = omega arith in (
-      (
-        omega (arith, first_item-within font circles (u ∷ us) (omega arith)),
-        omega
-            (arith, first_item-unsafe font circles (u ∷ us) (omega arith)),
-      ),
-      subst (λ n. Fit n (items_from (first_item font circles) (place + 1) (item_len read - 1) us)) same
-          (items_fit_from font circles (place + 1) (item_len read - 1) us),
+    search (
+      arith,
+      first_item-within font circles (u ∷ us) (omega arith),
+      first_item-unsafe font circles (u ∷ us) (omega arith),
+      items_fit_from font circles (place + 1) (item_len (first_item font circles (u ∷ us)) - 1) us,
     )
 items_fit_from font circles place (suc skip) (u ∷ us) =
-    let same : place + 1 + length us ≡ place + length (u ∷ us) = omega arith in
-    subst (λ n. Fit n (items_from (first_item font circles) (place + 1) skip us)) same
-    (items_fit_from font circles (place + 1) skip us)
+    search (arith, items_fit_from font circles (place + 1) skip us)
 
 pub items_fit : (font : Font) (circles : Bool) (us : List ℕ) → Fit (length us) (items font circles us)
-items_fit font circles us = let none : 0 + length us ≡ length us =
-    omega arith in subst (λ n. Fit n (items font circles us)) none (items_fit_from font circles 0 0 us)
+items_fit font circles us = search (arith, items_fit_from)

@@ -1,5 +1,6 @@
 -- A text of which every item stays as it is.
-use Rattle.std.proofs.Common.{◌≡◌, ℕ, Bool, true, cond, List, [], ◌∷◌, length, refl, sym, ap, ◌∙◌}
+use Rattle.std.proofs.Common.{arith}
+use Rattle.std.proofs.Common.{◌≡◌, ℕ, Bool, true, List, [], ◌∷◌, length, refl, sym}
 use Rattle.std.specs.List.{AllByRecursion}
 use Rattle.shapers_buffer.specs.declared.buffer.glyph.hb_glyph_info_t.{hb_glyph_info_t}
 use Rattle.shapers_buffer.specs.Buffer.{Buffer}
@@ -17,7 +18,7 @@ use Rattle.shapers_hangul.proofs.Changes.{buffer_changed, length-flagged, none_n
 none_changes : (cut : List (ℕ × Item)) → AllByRecursion (λ p. is_kept p.1 ≡ true) cut → rewritten_items cut ≡ []
 none_changes [] all = refl
 none_changes (p ∷ cut) all =
-    ap (λ k. cond k (rewritten_items cut) (p ∷ rewritten_items cut)) all.0 ∙ none_changes cut all.1
+    cc (all.0, none_changes cut all.1)
 
 each_stays : (cut : List (ℕ × Item)) → rewritten_items cut ≡ [] → AllByRecursion (λ p. is_kept p.1 ≡ true) cut
 each_stays [] none = tt
@@ -28,20 +29,14 @@ pub nothing_listed : (font : Font) (b : Buffer) (circles : Bool) (gs : List hb_g
     → circles ≡ allows_circles b → gs ≡ b.glyphs → KeptBefore font circles gs kept → AllKept font b
     → rewritten_items (items_at font circles (characters gs) kept) ≡ []
 nothing_listed font b circles gs kept same_circles same before all =
-    sym before.listed
-    ∙ ap (λ (xs : List hb_glyph_info_t). rewritten_items (items font circles (characters xs))) same
-    ∙ ap (λ c. rewritten_items (items font c (characters b.glyphs))) same_circles
-    ∙ none_changes (items font (allows_circles b) (characters b.glyphs)) all
+    search (arith, none_changes)
 
 -- and where it lists none, every item stays
 pub all_stay : (font : Font) (b : Buffer) (circles : Bool) (gs : List hb_glyph_info_t) (kept : ℕ)
     → circles ≡ allows_circles b → gs ≡ b.glyphs → KeptBefore font circles gs kept
     → rewritten_items (items_at font circles (characters gs) kept) ≡ [] → AllKept font b
 all_stay font b circles gs kept same_circles same before none =
-    each_stays (items font (allows_circles b) (characters b.glyphs))
-    (ap (λ c. rewritten_items (items font c (characters b.glyphs))) (sym same_circles)
-    ∙ ap (λ (xs : List hb_glyph_info_t). rewritten_items (items font circles (characters xs))) (sym same)
-    ∙ before.listed ∙ none)
+    search (arith, each_stays)
 
 -- the text is then what it was
 unflagged : (breaks : BreakFlags) (gs : List hb_glyph_info_t) → items_flagged breaks [] gs ≡ gs
@@ -50,13 +45,14 @@ unflagged Sound gs = refl
 
 pub unchanged : (breaks : BreakFlags) (font : Font) (b : Buffer) → AllKept font b → b ≡ rewritten_by breaks font b
 unchanged breaks font b all =
-    let none = none_changes (items font (allows_circles b) (characters b.glyphs)) all in
-    let same : b.glyphs ≡ (rewritten_by breaks font b).glyphs =
-    sym (unflagged breaks b.glyphs)
-    ∙ buffer_changed breaks font b (allows_circles b) b.level b.glyphs [] refl refl refl (sym none) in
-    ap (λ (xs : List hb_glyph_info_t). let new : Buffer = record b { glyphs = xs } in new) same
+    search (
+      arith,
+      unflagged breaks b.glyphs,
+      buffer_changed breaks font b (allows_circles b) b.level b.glyphs [] refl refl refl
+          (sym (none_changes (items font (allows_circles b) (characters b.glyphs)) all)),
+    )
 
 pub same_length : (font : Font) (b : Buffer) → AllKept font b
     → length (preprocessed font (allows_circles b) b.level b.glyphs) ≡ length b.glyphs
 same_length font b all =
-    sym (length-flagged AsCode font b) ∙ ap (λ (new : Buffer). length new.glyphs) (sym (unchanged AsCode font b all))
+    cc (length-flagged AsCode font b, unchanged AsCode font b all)

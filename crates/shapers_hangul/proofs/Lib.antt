@@ -1,6 +1,6 @@
 pub mod Changes
 pub mod HangulClusters
-pub mod HangulRuns
+pub mod HangulGroups
 pub mod HangulFlags
 mod HangulRows
 pub mod HangulSpelling

@@ -1,11 +1,11 @@
 -- Outputs through maps, and their lengths.
-use Rattle.std.proofs.Common.{◌≡◌, ℕ, ◌+◌, Bool, List, [], ◌∷◌, ◌++◌, length, map, take, drop, refl, sym, ap, subst, ◌∙◌}
+use Rattle.std.proofs.Common.{arith}
+use Rattle.std.proofs.Common.{◌≡◌, ℕ, ◌+◌, Bool, List, [], ◌∷◌, length, map, refl}
 use Rattle.std.specs.Prelude.{Result}
 use Rattle.shapers_buffer.specs.Glyph.{characters}
 use Rattle.shapers_buffer.specs.Refusals.{RefusesLength}
 use Rattle.shapers_buffer.specs.declared.buffer.refusal.ShaperError.{ShaperError}
 use Rattle.std.proofs.lemmas.List.{map-append, drop-map}
-use Rattle.std.specs.List.{take-map}
 use Rattle.shapers_buffer.specs.declared.buffer.glyph.hb_glyph_info_t.{hb_glyph_info_t}
 use Rattle.shapers_buffer.specs.declared.buffer.level.BufferClusterLevel.{BufferClusterLevel}
 use Rattle.shapers_base.specs.Font.{Font}
@@ -14,7 +14,7 @@ use Rattle.shapers_hangul.specs.declared.ot_shaper_hangul.item.JoinedTone.{Joine
 use Rattle.shapers_hangul.specs.declared.ot_shaper_hangul.item.JoinedTone.TheVariants.{Absent, Before, Behind}
 use Rattle.shapers_hangul.specs.declared.ot_shaper_hangul.item.Unit.{Unit}
 use Rattle.shapers_hangul.specs.declared.ot_shaper_hangul.item.Unit.TheVariants.{ComposedTwo, ComposedThree, JamoTwo, JamoThree, PartsTwo, PartsThree, PartsBeforeT, Syllable, ToneCircle, CircleTone, Other}
-use Rattle.shapers_hangul.specs.Hangul.{taken, items, Copying, marked_from, unit_output, with_tone, item_output, outputs, all_joined, glyph_copies, character_copies, items_at, preprocessed}
+use Rattle.shapers_hangul.specs.Hangul.{items, Copying, marked_from, unit_output, with_tone, item_output, outputs, all_joined, glyph_copies, character_copies, items_at, preprocessed}
 use Rattle.shapers_hangul.specs.RewritingWalk.{KeptBefore}
 use Rattle.shapers_hangul.proofs.Walks.{characters-all_joined, length-characters}
 
@@ -26,46 +26,37 @@ pub record Leads {X Y : Type 0} (f : X → Y) (c : Copying X) (d : Copying Y) : 
 marked-map : {X Y : Type 0} (f : X → Y) (c : Copying X) (d : Copying Y) → Leads f c d → (n : ℕ) (xs : List X)
     → map f (marked_from c n xs) ≡ marked_from d n (map f xs)
 marked-map f c d leads n [] = refl
-marked-map f c d leads n (x ∷ xs) = ap (λ y. y ∷ map f (marked_from c (n + 1) xs)) (leads.jamo n x)
-    ∙ ap (λ ys. d.as_jamo n (f x) ∷ ys) (marked-map f c d leads (n + 1) xs)
+marked-map f c d leads n (x ∷ xs) = cc (leads.jamo n x, marked-map f c d leads (n + 1) xs)
 
 two-map : {X Y : Type 0} (f : X → Y) (c : Copying X) (d : Copying Y) → Leads f c d → (l v : ℕ) (x : X) (ys : List Y)
     → f (c.as_character l x) ∷ f (c.as_character v x) ∷ ys ≡ d.as_character l (f x) ∷ d.as_character v (f x) ∷ ys
-two-map f c d leads l v x ys = ap (λ y. y ∷ f (c.as_character v x) ∷ ys) (leads.character l x)
-    ∙ ap (λ y. d.as_character l (f x) ∷ y ∷ ys) (leads.character v x)
+two-map f c d leads l v x ys = search (arith, leads.character)
 
 unit_output-map : {X Y : Type 0} (f : X → Y) (c : Copying X) (d : Copying Y) → Leads f c d → (unit : Unit) (xs : List X)
     → map f (unit_output c unit xs) ≡ unit_output d unit (map f xs)
 unit_output-map f c d leads (ComposedTwo s) [] = refl
-unit_output-map f c d leads (ComposedTwo s) (x ∷ xs) = ap (λ y. y ∷ []) (leads.character s x)
+unit_output-map f c d leads (ComposedTwo s) (x ∷ xs) = cc (leads.character s x)
 unit_output-map f c d leads (ComposedThree s) [] = refl
-unit_output-map f c d leads (ComposedThree s) (x ∷ xs) = ap (λ y. y ∷ []) (leads.character s x)
-unit_output-map f c d leads JamoTwo xs = marked-map f c d leads 1 (take 2 xs)
-    ∙ ap (marked_from d 1) (sym (take-map f 2 xs))
-unit_output-map f c d leads JamoThree xs = marked-map f c d leads 1 (take 3 xs)
-    ∙ ap (marked_from d 1) (sym (take-map f 3 xs))
+unit_output-map f c d leads (ComposedThree s) (x ∷ xs) = cc (leads.character s x)
+unit_output-map f c d leads JamoTwo xs = search (arith, marked-map)
+unit_output-map f c d leads JamoThree xs = search (arith, marked-map)
 unit_output-map f c d leads (PartsTwo l v) [] = refl
 unit_output-map f c d leads (PartsTwo l v) (x ∷ xs) =
-    marked-map f c d leads 1 (c.as_character l x ∷ c.as_character v x ∷ [])
-    ∙ ap (marked_from d 1) (two-map f c d leads l v x [])
+    search (arith, marked-map, two-map)
 unit_output-map f c d leads (PartsThree l v t) [] = refl
 unit_output-map f c d leads (PartsThree l v t) (x ∷ xs) =
-    marked-map f c d leads 1 (c.as_character l x ∷ c.as_character v x ∷ c.as_character t x ∷ [])
-    ∙ ap (marked_from d 1) (two-map f c d leads l v x (f (c.as_character t x) ∷ [])
-    ∙ ap (λ y. d.as_character l (f x) ∷ d.as_character v (f x) ∷ y ∷ []) (leads.character t x))
+    search (arith, marked-map, two-map, leads.character)
 unit_output-map f c d leads (PartsBeforeT l v) [] = refl
 unit_output-map f c d leads (PartsBeforeT l v) (x ∷ []) =
-    marked-map f c d leads 1 (c.as_character l x ∷ c.as_character v x ∷ [])
-    ∙ ap (marked_from d 1) (two-map f c d leads l v x [])
+    search (arith, marked-map, two-map)
 unit_output-map f c d leads (PartsBeforeT l v) (x ∷ y ∷ xs) =
-    marked-map f c d leads 1 (c.as_character l x ∷ c.as_character v x ∷ y ∷ [])
-    ∙ ap (marked_from d 1) (two-map f c d leads l v x (f y ∷ []))
+    search (arith, marked-map, two-map)
 unit_output-map f c d leads Syllable [] = refl
 unit_output-map f c d leads Syllable (x ∷ xs) = refl
 unit_output-map f c d leads ToneCircle [] = refl
-unit_output-map f c d leads ToneCircle (x ∷ xs) = ap (λ y. f x ∷ y ∷ []) (leads.character 0x25CC x)
+unit_output-map f c d leads ToneCircle (x ∷ xs) = cc (leads.character 0x25CC x)
 unit_output-map f c d leads CircleTone [] = refl
-unit_output-map f c d leads CircleTone (x ∷ xs) = ap (λ y. y ∷ f x ∷ []) (leads.character 0x25CC x)
+unit_output-map f c d leads CircleTone (x ∷ xs) = cc (leads.character 0x25CC x)
 unit_output-map f c d leads Other [] = refl
 unit_output-map f c d leads Other (x ∷ xs) = refl
 
@@ -78,28 +69,19 @@ with_tone-map f Behind ts output = map-append f output ts
 item_output-map : {X Y : Type 0} (f : X → Y) (c : Copying X) (d : Copying Y) → Leads f c d → (item : Item) (xs : List X)
     → map f (item_output c item xs) ≡ item_output d item (map f xs)
 item_output-map f c d leads item xs =
-    let n = taken item.unit in
-    with_tone-map f item.tone (take 1 (drop n xs)) (unit_output c item.unit xs)
-    ∙ ap (λ ts. with_tone item.tone ts (map f (unit_output c item.unit xs))) (sym (take-map f 1 (drop n xs))
-    ∙ ap (take 1) (sym (drop-map f n xs)))
-    ∙ ap (with_tone item.tone (take 1 (drop n (map f xs)))) (unit_output-map f c d leads item.unit xs)
+    search (arith, with_tone-map, drop-map, unit_output-map)
 
 pub outputs-map : {X Y : Type 0} (f : X → Y) (c : Copying X) (d : Copying Y) → Leads f c d
     → (cut : List (ℕ × Item)) (xs : List X) → map f (outputs c cut xs) ≡ outputs d cut (map f xs)
 outputs-map f c d leads [] xs = refl
 outputs-map f c d leads (p ∷ cut) xs =
-    map-append f (item_output c p.1 (drop p.0 xs)) (outputs c cut xs)
-    ∙ ap (λ ys. ys ++ map f (outputs c cut xs)) (item_output-map f c d leads p.1 (drop p.0 xs)
-    ∙ ap (item_output d p.1) (sym (drop-map f p.0 xs)))
-    ∙ ap (λ ys. item_output d p.1 (drop p.0 (map f xs)) ++ ys) (outputs-map f c d leads cut xs)
+    search (arith, map-append, item_output-map, drop-map, outputs-map f c d leads cut xs)
 
 -- the characters of what is made of glyphs are made of theirs
 pub characters-outputs : (cut : List (ℕ × Item)) (gs : List hb_glyph_info_t)
     → characters (outputs glyph_copies cut gs) ≡ outputs character_copies cut (characters gs)
 characters-outputs cut gs =
-    let leads : Leads (λ g. g.glyph_id) glyph_copies character_copies =
-    record { character = λ u g. refl; jamo = λ n g. refl } in
-    outputs-map (λ g. g.glyph_id) glyph_copies character_copies leads cut gs
+    search (arith, outputs-map)
 
 -- flags and merges change no length
 pub length-preprocessed : (font : Font) (circles : Bool) (level : BufferClusterLevel) (gs : List hb_glyph_info_t)
@@ -108,19 +90,18 @@ pub length-preprocessed : (font : Font) (circles : Bool) (level : BufferClusterL
 length-preprocessed font circles level gs =
     let cut = items font circles (characters gs) in
     let ms = all_joined level cut gs in
-    let leads : Leads (λ g. g.glyph_id) glyph_copies character_copies =
-    record { character = λ u g. refl; jamo = λ n g. refl } in
-    sym (length-characters (outputs glyph_copies cut ms))
-    ∙ ap length (outputs-map (λ g. g.glyph_id) glyph_copies character_copies leads cut ms
-    ∙ ap (outputs character_copies cut) (characters-all_joined level cut gs)
-    ∙ sym (outputs-map (λ g. g.glyph_id) glyph_copies character_copies leads cut gs))
-    ∙ length-characters (outputs glyph_copies cut gs)
-
--- the length of the result, by what stays
-pub length-kept : (font : Font) (circles : Bool) (level : BufferClusterLevel) (gs : List hb_glyph_info_t) (place : ℕ)
-    → KeptBefore font circles gs place → length (preprocessed font circles level gs)
-    ≡ place + length (outputs glyph_copies (items_at font circles (characters gs) place) gs)
-length-kept font circles level gs place kept = length-preprocessed font circles level gs ∙ kept.long
+    let leads : Leads (λ g. g.glyph_id) glyph_copies character_copies = record {
+      character = λ u g. refl;
+      jamo = λ n
+          g. refl;
+    } in
+    cc (
+      length-characters (outputs glyph_copies cut ms),
+      outputs-map (λ g. g.glyph_id) glyph_copies character_copies leads cut ms,
+      characters-all_joined level cut gs,
+      outputs-map (λ g. g.glyph_id) glyph_copies character_copies leads cut gs,
+      length-characters (outputs glyph_copies cut gs),
+    )
 
 -- the result and its length, by what was read of the buffer
 pub length_read : (font : Font) (circles : Bool) (level : BufferClusterLevel) (gs : List hb_glyph_info_t) (asked : Bool)
@@ -128,12 +109,10 @@ pub length_read : (font : Font) (circles : Bool) (level : BufferClusterLevel) (g
     → length (preprocessed font circles level gs)
     ≡ place + length (outputs glyph_copies (items_at font asked (characters read) place) read)
 length_read font circles level gs asked read place same_circles same_glyphs kept =
-    ap (λ b. length (preprocessed font b level gs)) (sym same_circles)
-    ∙ ap (λ (xs : List hb_glyph_info_t). length (preprocessed font asked level xs)) (sym same_glyphs)
-    ∙ length-kept font asked level read place kept
+    search (arith, length-preprocessed)
 
 -- a refusal by the length of the result
 pub told_by_text : {T : Type 0} (limit most wanted len : ℕ) (r : Result T ShaperError) → most ≡ limit → wanted ≡ len
     → RefusesLength most len r → RefusesLength limit wanted r
 told_by_text limit most wanted len r same_limit same_length told =
-    subst (λ n. RefusesLength limit n r) (sym same_length) (subst (λ n. RefusesLength n len r) same_limit told)
+    search arith

@@ -225,11 +225,6 @@ kept_stays item kept =
     })
     item.unit item.tone item.unsafe_len kept
 
--- one place has no flags
-pub one_unflagged : (s : ℕ) (item : Item) (gs : List hb_glyph_info_t) → item_len item ≡ 1
-    → unsafe_inside s (s + item_len item) gs ≡ gs
-one_unflagged s item gs one = unsafe_few s (s + item_len item) gs (omega arith) (omega (arith, one))
-
 -- the items from a character on that stays, and the length of what they become
 pub staying_next : (font : Font) (circles : Bool) (gs : List hb_glyph_info_t) (place : ℕ) → place < length gs
     → is_kept (first_item font circles (characters (drop place gs))) ≡ true

@@ -1,13 +1,12 @@
 -- Words of the code's walk over a Hangul text: only the items that change it are listed.
-use Rattle.std.specs.Prelude.{ℕ, ◌+◌, ◌-◌, ◌≤◌, ◌==◌, ◌≡◌, length, Bool, ◌&&◌, ◌||◌, not, List, [], ◌∷◌, ◌++◌, take, drop, get_or, if◌then◌else◌, unwrap_or}
+use Rattle.std.specs.Prelude.{ℕ, ◌+◌, ◌-◌, ◌≤◌, ◌==◌, ◌≡◌, length, Bool, ◌&&◌, ◌||◌, not, List, [], ◌∷◌, ◌++◌, take, drop, get_or, if◌then◌else◌}
 use Rattle.shapers_buffer.specs.declared.buffer.glyph.hb_glyph_info_t.{hb_glyph_info_t}
-use Rattle.shapers_buffer.specs.Glyph.{characters}
+use Rattle.shapers_buffer.specs.declared.buffer.level.BufferClusterLevel.{BufferClusterLevel}
+use Rattle.shapers_buffer.specs.Glyph.{characters, default_glyph}
 use Rattle.shapers_hangul.specs.declared.ot_shaper_hangul.item.Item.{Item}
 use Rattle.shapers_hangul.specs.declared.ot_shaper_hangul.rewriting.Cut.{Cut}
-use Rattle.shapers_clusters.specs.declared.carried_runs.CarriedRun.{CarriedRun}
-use Rattle.shapers_clusters.specs.CarriedRuns.{empty_run, reaching_run}
 use Rattle.shapers_base.specs.Font.{Font, dotted_circle, has_nominal}
-use Rattle.shapers_hangul.specs.Hangul.{glyph_copies, is_kept, is_s, is_t, is_tone, is_v, item_len, item_output, items, items_at, outputs}
+use Rattle.shapers_hangul.specs.Hangul.{glyph_copies, is_kept, is_s, is_t, is_tone, is_v, item_joined, item_len, item_output, items, items_at, outputs}
 
 -- What a look at a character and the next one settles: that a syllable character stays which the
 -- font has and nothing joins, a tone that gets no circle, and any other that nothing joins.
@@ -55,6 +54,15 @@ changed_from place [] gs = drop place gs
 changed_from place (p ∷ cut) gs =
     change_output place p gs ++ changed_from (p.0 + item_len p.1) cut gs
 
--- the run up to a place, if all glyphs before that are in its cluster, else none
-abbrev pub carried_run : CarriedRun → ℕ → List hb_glyph_info_t → CarriedRun
-carried_run run place gs = unwrap_or (reaching_run run place gs) empty_run
+-- the cluster of the glyph before a place, or 0 where there is none
+abbrev pub cluster_before : ℕ → List hb_glyph_info_t → ℕ
+cluster_before place gs = if place == 0 then 0 else (get_or gs (place - 1) default_glyph).cluster
+
+-- how many items there are up to the first that floods what stands before it (the glyph there comes
+-- into another cluster), or all
+abbrev pub flooding_len : BufferClusterLevel → List (ℕ × Item) → List hb_glyph_info_t → ℕ
+flooding_len level [] gs = 0
+flooding_len level (p ∷ cut) gs =
+    let joined = item_joined level p.0 p.1 gs in
+    let stays = cluster_before p.0 joined == cluster_before p.0 gs in
+    if stays then 1 + flooding_len level cut joined else 1

@@ -34,7 +34,7 @@ count_in rule pieces = count_by (is_of_kind rule.broken_kind) pieces
 -- the leading rephas are within the syllable
 pub rephas_within : (repha : Option ℕ) (gs : List hb_glyph_info_t) → rephas_len repha gs ≤ length gs
 rephas_within None gs = omega arith
-rephas_within (Some r) gs = prefix_len-le-length (λ g. g.category == r) gs
+rephas_within (Some r) gs = search (arith, prefix_len-le-length)
 
 -- a syllable, broken or not
 abbrev opened : DottedCircles → Bool → List hb_glyph_info_t → List hb_glyph_info_t
@@ -44,14 +44,11 @@ length-opened : (rule : DottedCircles) (broken : Bool) (gs : List hb_glyph_info_
     ≡ cond broken 1 0 + length gs
 length-opened rule false gs = omega arith
 length-opened rule true gs =
-    let n = rephas_len rule.repha gs in
-    let within = rephas_within rule.repha gs in
-    length-append (take n gs) (circle_in gs rule.circle ∷ drop n gs)
-    ∙ omega (arith, length-take-le n gs within, length-drop n gs)
+    search (arith, length-append, length-take-le, rephas_within, length-drop)
 
 count_more : (rule : DottedCircles) (piece : List hb_glyph_info_t) (pieces : Pieces) → count_in rule (piece ∷ pieces)
     ≡ cond (is_of_kind rule.broken_kind piece) 1 0 + count_in rule pieces
-count_more rule piece pieces = sum_by-cons (λ p. cond (is_of_kind rule.broken_kind p) 1 0) piece pieces
+count_more rule piece pieces = search (arith, sum_by-cons)
 
 length-circled_all : (rule : DottedCircles) (pieces : Pieces) → length (circled_all rule pieces)
     ≡ length (joined pieces) + count_in rule pieces
@@ -75,36 +72,31 @@ none_opened : (rule : DottedCircles) (pieces : Pieces) → count_in rule pieces 
     → circled_all rule pieces ≡ joined pieces
 none_opened rule [] none = refl
 none_opened rule (piece ∷ pieces) none =
-    let parts = none_here (is_of_kind rule.broken_kind piece) (count_in rule pieces) (sym (count_more rule piece pieces)
+    let parts = none_here (is_of_kind rule.broken_kind piece) (count_in rule pieces) (sym
+    (count_more rule piece pieces)
     ∙ none) in
-    ap (λ b. opened rule b piece ++ circled_all rule pieces) parts.0
-    ∙ ap (λ xs. piece ++ xs) (none_opened rule pieces parts.1)
+    cc (parts.0, none_opened rule pieces parts.1)
 
 -- cutting into syllables loses nothing
 joined-with_opening : (g : hb_glyph_info_t) (pieces : Pieces) → joined (with_opening g pieces) ≡ g ∷ joined pieces
 joined-with_opening g [] = refl
 joined-with_opening g ([] ∷ pieces) = refl
 joined-with_opening g ((h ∷ piece) ∷ pieces) =
-    elim (h.syllable == g.syllable) as (λ same. joined (if same then (g ∷ (h ∷ piece)) ∷ pieces else (g ∷ [])
-    ∷ ((h ∷ piece) ∷ pieces)) ≡ g ∷ joined ((h ∷ piece) ∷ pieces)) [ true ↦ refl | false ↦ refl ]
+    search arith
 
 pub joined-syllables : (gs : List hb_glyph_info_t) → flat_map (λ piece. piece) (syllables gs) ≡ gs
 joined-syllables [] = refl
-joined-syllables (g ∷ gs) = joined-with_opening g (syllables gs) ∙ ap (λ xs. g ∷ xs) (joined-syllables gs)
+joined-syllables (g ∷ gs) = search (arith, joined-with_opening, joined-syllables gs)
 
 -- each circle makes the text one glyph longer
 pub length-with_circles : (rule : DottedCircles) (gs : List hb_glyph_info_t) → length (with_circles rule gs)
     ≡ length gs + count_of_kind rule.broken_kind gs
-length-with_circles rule gs = omega (arith, length-circled_all rule (syllables gs), ap length (joined-syllables gs))
+length-with_circles rule gs = search (arith, length-circled_all, joined-syllables)
 
 -- a text with no circle is the text, and only such a text
 pub with_circles-none : (rule : DottedCircles) (gs : List hb_glyph_info_t) → count_of_kind rule.broken_kind gs ≡ 0
     → with_circles rule gs ≡ gs
-with_circles-none rule gs none = none_opened rule (syllables gs) none ∙ joined-syllables gs
-
-pub no_circles : (rule : DottedCircles) (gs : List hb_glyph_info_t) → with_circles rule gs ≡ gs
-    → count_of_kind rule.broken_kind gs ≡ 0
-no_circles rule gs same = omega (arith, length-with_circles rule gs, ap length same)
+with_circles-none rule gs none = search (arith, none_opened, joined-syllables)
 
 -- what circles make of a text, and how many there are, if both leave a first glyph alone
 record Spares (rule : DottedCircles) (g : hb_glyph_info_t) (before after : Pieces) : Type 0 where
@@ -112,40 +104,23 @@ record Spares (rule : DottedCircles) (g : hb_glyph_info_t) (before after : Piece
   count : count_in rule after ≡ count_in rule before
 
 -- a glyph more in front, of another kind
-spares_same : (rule : DottedCircles) (g h : hb_glyph_info_t) (piece : List hb_glyph_info_t) (pieces : Pieces)
-    → (kind_of g.syllable == rule.broken_kind) ≡ false → (kind_of h.syllable == rule.broken_kind) ≡ false
-    → Spares rule g ((h ∷ piece) ∷ pieces) ((g ∷ (h ∷ piece)) ∷ pieces)
-spares_same rule g h piece pieces other others = record {
-  text = rw (other, others) refl;
-  count = count_more rule (g ∷ (h ∷ piece)) pieces ∙ ap (λ b. cond b 1 0 + count_in rule pieces) (other ∙ sym others)
-      ∙ sym (count_more rule (h ∷ piece) pieces);
-}
-
 spares_alone : (rule : DottedCircles) (g : hb_glyph_info_t) (pieces : Pieces) → (kind_of g.syllable == rule.broken_kind)
     ≡ false → Spares rule g pieces ((g ∷ []) ∷ pieces)
-spares_alone rule g pieces other = record {
-  text = rw other refl;
-  count = count_more rule (g ∷ []) pieces ∙ ap (λ b. cond b 1 0 + count_in rule pieces) other ∙ omega arith;
-}
+spares_alone rule g pieces other = search (arith, refl, count_more)
 
 spares_opening : (rule : DottedCircles) (g h : hb_glyph_info_t) (piece : List hb_glyph_info_t) (pieces : Pieces)
     (same : Bool) → (h.syllable == g.syllable) ≡ same → (kind_of g.syllable == rule.broken_kind) ≡ false
     → Spares rule g ((h ∷ piece) ∷ pieces) (if same then (g ∷ (h ∷ piece)) ∷ pieces else (g ∷ [])
     ∷ ((h ∷ piece) ∷ pieces))
 spares_opening rule g h piece pieces true test other =
-    let byte : h.syllable ≡ g.syllable = grind (arith, nat_tests) in
-    spares_same rule g h piece pieces other (ap (λ b. kind_of b == rule.broken_kind) byte ∙ other)
-spares_opening rule g h piece pieces false test other = spares_alone rule g ((h ∷ piece) ∷ pieces) other
+    search (arith, refl, count_more, nat_tests)
+spares_opening rule g h piece pieces false test other = search (arith, spares_alone)
 
 spares : (rule : DottedCircles) (g : hb_glyph_info_t) (pieces : Pieces) → (kind_of g.syllable == rule.broken_kind)
     ≡ false → Spares rule g pieces (with_opening g pieces)
 spares rule g [] other = spares_alone rule g [] other
-spares rule g ([] ∷ pieces) other = record {
-  text = rw other refl;
-  count = count_more rule (g ∷ []) pieces ∙ ap (λ b. cond b 1 0 + count_in rule pieces) other
-      ∙ sym (count_more rule [] pieces);
-}
-spares rule g ((h ∷ piece) ∷ pieces) other = spares_opening rule g h piece pieces (h.syllable == g.syllable) refl other
+spares rule g ([] ∷ pieces) other = search (arith, refl, count_more)
+spares rule g ((h ∷ piece) ∷ pieces) other = search (arith, spares_opening)
 
 -- what stands before the first glyph of the broken kind stays
 record StaysUpTo (rule : DottedCircles) (gs : List hb_glyph_info_t) (n : ℕ) : Type 0 where
@@ -156,18 +131,14 @@ stays_next : (rule : DottedCircles) (g : hb_glyph_info_t) (gs : List hb_glyph_in
     → (kind_of g.syllable == rule.broken_kind) ≡ broken
     → StaysUpTo rule gs (prefix_len (is_of_other_kind rule.broken_kind) gs)
     → StaysUpTo rule (g ∷ gs) (cond (not broken) (1 + prefix_len (is_of_other_kind rule.broken_kind) gs) 0)
-stays_next rule g gs true test stays = record { text = refl; count = refl }
+stays_next rule g gs true test stays = search arith
 stays_next rule g gs false test stays =
-    let n = prefix_len (is_of_other_kind rule.broken_kind) gs in
-    let one : 1 + n ≡ suc n = omega arith in
-    let step = spares rule g (syllables gs) test in
-    subst (StaysUpTo rule (g ∷ gs)) (sym one)
-    (record { text = step.text ∙ ap (λ xs. g ∷ xs) stays.text; count = step.count ∙ stays.count })
+    let step = spares rule g (syllables gs) test in search (arith, step.text, stays.text, step.count, stays.count)
 
 stays_up_to : (rule : DottedCircles) (gs : List hb_glyph_info_t)
     → StaysUpTo rule gs (prefix_len (is_of_other_kind rule.broken_kind) gs)
-stays_up_to rule [] = record { text = refl; count = refl }
-stays_up_to rule (g ∷ gs) = stays_next rule g gs (kind_of g.syllable == rule.broken_kind) refl (stays_up_to rule gs)
+stays_up_to rule [] = search arith
+stays_up_to rule (g ∷ gs) = search (arith, stays_next, stays_up_to rule gs)
 
 -- a text that opens with a broken syllable
 record OpensBroken (rule : DottedCircles) (gs : List hb_glyph_info_t) : Type 0 where
@@ -180,13 +151,7 @@ opens_broken : (rule : DottedCircles) (g : hb_glyph_info_t) (gs : List hb_glyph_
 opens_broken rule g gs test =
     let text = g ∷ gs in
     let n = first_syllable_len text in
-    let rest = syllables (drop n text) in
-    let runs = syllables_are_runs g gs in
-    record {
-      text = ap (circled_all rule) runs ∙ ap (λ b. opened rule b (take n text) ++ circled_all rule rest) test;
-      count = ap (count_in rule) runs ∙ count_more rule (take n text) rest
-          ∙ ap (λ b. cond b 1 0 + count_in rule rest) test ∙ omega arith;
-    }
+    search (arith, syllables_are_runs g gs, count_more rule (take n text) (syllables (drop n text)))
 
 -- where the first broken syllable stands
 pub is_first_broken : (rule : DottedCircles) (gs : List hb_glyph_info_t) (start len : ℕ)
@@ -196,16 +161,14 @@ pub is_first_broken : (rule : DottedCircles) (gs : List hb_glyph_info_t) (start 
 is_first_broken rule gs start len start_is inside len_is some within =
     let g = get_or gs start default_glyph in
     let rest = drop (start + 1) gs in
-    let opening : drop start gs ≡ g ∷ rest = drop_more gs start default_glyph inside in
     let other = is_of_other_kind rule.broken_kind in
     let stop : other (get_or gs (prefix_len other gs) default_glyph) ≡ false =
     prefix_len_stops other gs default_glyph (omega arith) in
-    let fails : other g ≡ false = ap (λ n. other (get_or gs n default_glyph)) start_is ∙ stop in
-    let opens : OpensBroken rule (drop start gs) =
-    subst (OpensBroken rule) (sym opening) (opens_broken rule g rest (not-false _ fails)) in
-    let stays : StaysUpTo rule gs start = subst (StaysUpTo rule gs) (sym start_is) (stays_up_to rule gs) in
+    let opens =
+    subst (OpensBroken rule) (sym (search (arith, drop_more))) (opens_broken rule g rest (not-false _ cc)) in
+    let stays = subst (StaysUpTo rule gs) (sym start_is) (stays_up_to rule gs) in
     let size : start + len - start ≡ first_syllable_len (drop start gs) = omega arith in
-    let behind : drop (start + len) gs ≡ drop (first_syllable_len (drop start gs)) (drop start gs) =
+    let behind =
     ap (λ n. drop (start + n) gs) len_is ∙ sym (drop-drop (first_syllable_len (drop start gs)) start gs) in
     record {
       some = omega arith;
@@ -218,8 +181,7 @@ pub none_broken : (rule : DottedCircles) (gs : List hb_glyph_info_t) (start : �
     → start ≡ prefix_len (is_of_other_kind rule.broken_kind) gs → length gs ≤ start → count_of_kind rule.broken_kind gs
     ≡ 0
 none_broken rule gs start start_is past =
-    let stays : StaysUpTo rule gs start = subst (StaysUpTo rule gs) (sym start_is) (stays_up_to rule gs) in
-    stays.count ∙ ap (count_of_kind rule.broken_kind) (drop_all start gs past)
+    cc ((subst (StaysUpTo rule gs) (sym start_is) (stays_up_to rule gs)).count, drop_all start gs past)
 
 -- marks of joined lists
 unmarked-append : {X : Type 0} (ms ns : List Bool) (xs ys : List X) → length ms ≡ length xs
@@ -228,19 +190,19 @@ unmarked-append [] ns [] ys same = refl
 unmarked-append [] ns (x ∷ xs) ys same = absurd (omega arith)
 unmarked-append (m ∷ ms) ns [] ys same = absurd (omega arith)
 unmarked-append (true ∷ ms) ns (x ∷ xs) ys same = unmarked-append ms ns xs ys (omega arith)
-unmarked-append (false ∷ ms) ns (x ∷ xs) ys same = ap (λ zs. x ∷ zs) (unmarked-append ms ns xs ys (omega arith))
+unmarked-append (false ∷ ms) ns (x ∷ xs) ys same = cc (unmarked-append ms ns xs ys (omega arith))
 
 marked-append : {X : Type 0} (ms ns : List Bool) (xs ys : List X) → length ms ≡ length xs → marked (ms ++ ns) (xs ++ ys)
     ≡ marked ms xs ++ marked ns ys
 marked-append [] ns [] ys same = refl
 marked-append [] ns (x ∷ xs) ys same = absurd (omega arith)
 marked-append (m ∷ ms) ns [] ys same = absurd (omega arith)
-marked-append (true ∷ ms) ns (x ∷ xs) ys same = ap (λ zs. x ∷ zs) (marked-append ms ns xs ys (omega arith))
+marked-append (true ∷ ms) ns (x ∷ xs) ys same = cc (marked-append ms ns xs ys (omega arith))
 marked-append (false ∷ ms) ns (x ∷ xs) ys same = marked-append ms ns xs ys (omega arith)
 
 unmarked-none : (gs : List hb_glyph_info_t) → unmarked (none_marked gs) gs ≡ gs
 unmarked-none [] = refl
-unmarked-none (g ∷ gs) = ap (λ xs. g ∷ xs) (unmarked-none gs)
+unmarked-none (g ∷ gs) = cc (unmarked-none gs)
 
 marked-none : (gs : List hb_glyph_info_t) → marked (none_marked gs) gs ≡ []
 marked-none [] = refl
@@ -248,19 +210,6 @@ marked-none (g ∷ gs) = marked-none gs
 
 length-no_marks : (gs : List hb_glyph_info_t) → length (none_marked gs) ≡ length gs
 length-no_marks gs = length-map gs (λ g. false)
-
--- one mark between two lists
-unmarked-between : (front back : List hb_glyph_info_t) (g : hb_glyph_info_t)
-    → unmarked (none_marked front ++ true ∷ none_marked back) (front ++ g ∷ back) ≡ front ++ back
-unmarked-between front back g =
-    unmarked-append (none_marked front) (true ∷ none_marked back) front (g ∷ back) (length-no_marks front)
-    ∙ cc (unmarked-none front, unmarked-none back)
-
-marked-between : (front back : List hb_glyph_info_t) (g : hb_glyph_info_t)
-    → marked (none_marked front ++ true ∷ none_marked back) (front ++ g ∷ back) ≡ g ∷ []
-marked-between front back g =
-    marked-append (none_marked front) (true ∷ none_marked back) front (g ∷ back) (length-no_marks front)
-    ∙ cc (marked-none front, marked-none back)
 
 -- a syllable without its circle, and its circle
 abbrev marks_of : DottedCircles → Bool → List hb_glyph_info_t → List Bool
@@ -271,29 +220,19 @@ unmarked-syllable : (rule : DottedCircles) (broken : Bool) (gs : List hb_glyph_i
     → unmarked (marks_of rule broken gs) (opened rule broken gs) ≡ gs
 unmarked-syllable rule false gs = unmarked-none gs
 unmarked-syllable rule true gs =
-    let n = rephas_len rule.repha gs in
-    unmarked-between (take n gs) (drop n gs) (circle_in gs rule.circle) ∙ take-append-drop n gs
+    search (arith, unmarked-append, length-no_marks, unmarked-none, take-append-drop)
 
 marked-syllable : (rule : DottedCircles) (broken : Bool) (gs : List hb_glyph_info_t)
     → marked (marks_of rule broken gs) (opened rule broken gs) ≡ (if broken then circle_in gs rule.circle ∷ [] else [])
 marked-syllable rule false gs = marked-none gs
 marked-syllable rule true gs =
-    let n = rephas_len rule.repha gs in
-    marked-between (take n gs) (drop n gs) (circle_in gs rule.circle)
+    search (arith, marked-append, length-no_marks, marked-none)
 
 length-marks_of : (rule : DottedCircles) (broken : Bool) (gs : List hb_glyph_info_t) → length (marks_of rule broken gs)
     ≡ length (opened rule broken gs)
 length-marks_of rule false gs = length-no_marks gs
 length-marks_of rule true gs =
-    let n = rephas_len rule.repha gs in
-    omega (
-      arith,
-      length-append (none_marked (take n gs)) (true ∷ none_marked (drop n gs)),
-      length-append (take n gs)
-          (circle_in gs rule.circle ∷ drop n gs),
-      length-no_marks (take n gs),
-      length-no_marks (drop n gs),
-    )
+    search (arith, length-append, length-no_marks)
 
 abbrev marks_all : DottedCircles → Pieces → List Bool
 marks_all rule pieces = flat_map (marks_in rule) pieces
@@ -302,10 +241,7 @@ unmarked-all : (rule : DottedCircles) (pieces : Pieces) → unmarked (marks_all 
     ≡ joined pieces
 unmarked-all rule [] = refl
 unmarked-all rule (piece ∷ pieces) =
-    let broken = is_of_kind rule.broken_kind piece in
-    unmarked-append (marks_in rule piece) (marks_all rule pieces) (circled_syllable rule piece)
-    (circled_all rule pieces) (length-marks_of rule broken piece)
-    ∙ cc (unmarked-syllable rule broken piece, unmarked-all rule pieces)
+    search (arith, unmarked-append, length-marks_of, unmarked-syllable, unmarked-all rule pieces)
 
 abbrev circles_all : DottedCircles → Pieces → List hb_glyph_info_t
 circles_all rule pieces = map (λ piece. circle_in piece rule.circle) (filter (is_of_kind rule.broken_kind) pieces)
@@ -320,13 +256,10 @@ marked-all : (rule : DottedCircles) (pieces : Pieces) → marked (marks_all rule
     ≡ circles_all rule pieces
 marked-all rule [] = refl
 marked-all rule (piece ∷ pieces) =
-    let broken = is_of_kind rule.broken_kind piece in
-    marked-append (marks_in rule piece) (marks_all rule pieces) (circled_syllable rule piece) (circled_all rule pieces)
-    (length-marks_of rule broken piece)
-    ∙ cc (marked-syllable rule broken piece, marked-all rule pieces, circles_more rule piece pieces broken refl)
+    search (arith, marked-append, length-marks_of, marked-syllable, circles_more, marked-all rule pieces)
 
 pub circles_can_be_erased : CirclesCanBeErased
-circles_can_be_erased rule gs = (unmarked-all rule (syllables gs) ∙ joined-syllables gs, marked-all rule (syllables gs))
+circles_can_be_erased rule gs = search (arith, unmarked-all, joined-syllables, marked-all)
 
 -- what holds of all clusters of a text holds of all with its circles
 abbrev InAll : (ℕ → Type 0) → List hb_glyph_info_t → Type 0
@@ -336,16 +269,12 @@ keeps_opened : (P : ℕ → Type 0) (rule : DottedCircles) (broken : Bool) (g : 
     → InAll P (g ∷ gs) → InAll P (opened rule broken (g ∷ gs))
 keeps_opened P rule false g gs all = all
 keeps_opened P rule true g gs all =
-    let text = g ∷ gs in
-    let n = rephas_len rule.repha text in
-    let Q : hb_glyph_info_t → Type 0 = λ h. P h.cluster in
-    All-append Q (take n text) (circle_in text rule.circle ∷ drop n text) (All-take Q n text all)
-    (All-cons Q (circle_in text rule.circle) (drop n text) (All-head Q g gs all) (All-drop Q n text all))
+    search (arith, All-append, All-take, All-cons, All-head, All-drop)
 
 keeps_syllable : (P : ℕ → Type 0) (rule : DottedCircles) (gs : List hb_glyph_info_t) → InAll P gs
     → InAll P (circled_syllable rule gs)
 keeps_syllable P rule [] all = all
-keeps_syllable P rule (g ∷ gs) all = keeps_opened P rule (kind_of g.syllable == rule.broken_kind) g gs all
+keeps_syllable P rule (g ∷ gs) all = search (arith, keeps_opened)
 
 keeps_all : (P : ℕ → Type 0) (rule : DottedCircles) (pieces : Pieces) → InAll P (joined pieces)
     → InAll P (circled_all rule pieces)
@@ -367,8 +296,8 @@ circles_keep_clusters rule gs =
     let start : InAll P gs =
     All-weaker (Contains gs) Q (λ g among. Contains-map (λ (h : hb_glyph_info_t). h.cluster) gs g among) gs
     (All-contains_itself gs) in
-    let joined_start : InAll P (joined (syllables gs)) = subst (All Q) (sym (joined-syllables gs)) start in
-    All-map P (λ (h : hb_glyph_info_t). h.cluster) (with_circles rule gs) (keeps_all P rule (syllables gs) joined_start)
+    All-map P (λ (h : hb_glyph_info_t). h.cluster) (with_circles rule gs) (keeps_all P rule (syllables gs)
+    (subst (All Q) (sym (joined-syllables gs)) start))
 
 -- so where circles may be wanted, and of what brings no cluster to the text with its circles
 pub no_new_cluster : (circles : Option DottedCircles) (gs new : List hb_glyph_info_t)
@@ -382,7 +311,7 @@ no_new_cluster (Some rule) gs new none =
 
 -- a slice from a place to the end of a list
 pub to_end : {X : Type 0} (xs : List X) (i : ℕ) → take (length xs - i) (drop i xs) ≡ drop i xs
-to_end xs i = take_all (length xs - i) (drop i xs) (omega (arith, length-drop i xs))
+to_end xs i = search (arith, take_all, length-drop)
 
 -- a buffer with these glyphs
 abbrev pub with_glyphs : Buffer → List hb_glyph_info_t → Buffer

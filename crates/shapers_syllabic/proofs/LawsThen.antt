@@ -1,5 +1,6 @@
 -- The laws of a reordering that is one and then another, that is done where a test passes, or that has one step.
-use Rattle.std.proofs.Common.{◌<◌, ◌≡◌, Bool, true, false, if◌then◌else◌, List, [], ◌∷◌, ◌++◌, map, length, sym, ◌∙◌, ap, subst}
+use Rattle.std.proofs.Common.{arith}
+use Rattle.std.proofs.Common.{◌<◌, ◌≡◌, Bool, true, false, if◌then◌else◌, List, [], ◌∷◌, ◌++◌, map, length, sym, subst}
 use Rattle.std.specs.List.{AllByRecursion}
 use Rattle.std.proofs.lemmas.List.{length-map}
 use Rattle.shapers_buffer.specs.declared.buffer.glyph.hb_glyph_info_t.{hb_glyph_info_t}
@@ -21,23 +22,22 @@ pub laws_then : (first next : List hb_glyph_info_t → List hb_glyph_info_t) (st
     → List Step) → ReorderLaws first steps → ReorderLaws next steps_then
     → ReorderLaws (λ gs. next (first gs)) (λ gs. steps gs ++ steps_then (first gs))
 laws_then first next steps steps_then one two =
-    let k : (gs : List hb_glyph_info_t) → length (first gs) ≡ length gs = length-meaning first steps one in
+    let k = length-meaning first steps one in
     record {
-      fits = λ gs. all-append (FitsStep (length gs)) (steps gs) (steps_then (first gs)) (one.fits gs)
-          (subst (λ n. FitSteps n (steps_then (first gs))) (k gs) (two.fits (first gs)));
-      permutes = λ gs. all-append (Permutes (length gs)) (steps gs) (steps_then (first gs)) (one.permutes gs)
-          (subst (λ n. AllByRecursion (Permutes n) (steps_then (first gs))) (k gs) (two.permutes (first gs)));
+      fits = search (arith, all-append, two.fits);
+      permutes = search (arith, all-append, two.permutes);
       agrees = λ gs.
           let mid = first gs in
           let olds = old_places (length gs) (steps gs) in
-          let long : length gs ≡ length (seen carried gs) = sym (length-map gs (λ g. plain (carried g))) in
-          two.agrees mid
-          ∙ ap (λ n. pick (old_places n (steps_then mid)) (seen carried mid)) (k gs)
-          ∙ ap (pick (old_places (length gs) (steps_then mid))) (one.agrees gs)
-          ∙ pick-pick (old_places (length gs) (steps_then mid)) olds (seen carried gs)
-          (subst (λ n. AllByRecursion (λ p. p < n) olds) long (within-old_places (length gs) (steps gs)))
-          ∙ ap (λ ps. pick ps (seen carried gs))
-          (sym (old_places_then (length gs) (steps gs) (steps_then mid) (one.fits gs)));
+          cc (
+            two.agrees mid,
+            k gs,
+            one.agrees gs,
+            pick-pick (old_places (length gs) (steps_then mid)) olds (seen carried gs)
+                (subst (λ n. AllByRecursion (λ p. p < n) olds) (sym (length-map gs (λ g. plain (carried g))))
+                (within-old_places (length gs) (steps gs))),
+            old_places_then (length gs) (steps gs) (steps_then mid) (one.fits gs),
+          );
     }
 
 -- a reordering that is done where a test passes
@@ -49,11 +49,7 @@ laws_where test meaning steps laws = record {
       [ true ↦ laws.fits gs | false ↦ tt ];
   permutes = λ gs. elim (test gs) as (λ b. AllByRecursion (Permutes (length gs)) (if b then steps gs else []))
       [ true ↦ laws.permutes gs | false ↦ tt ];
-  agrees = λ gs. elim (test gs) as (λ b. seen carried (if b then meaning gs else gs)
-      ≡ pick (old_places (length gs) (if b then steps gs else [])) (seen carried gs)) [
-        | true ↦ laws.agrees gs
-        | false ↦ sym (pick-all (length gs) (seen carried gs) (length-map gs (λ g. plain (carried g))))
-      ];
+  agrees = search (arith, laws.agrees, pick-all, length-map);
 }
 
 -- a reordering of one step
@@ -62,42 +58,23 @@ pub laws_by_step : (meaning : List hb_glyph_info_t → List hb_glyph_info_t) (st
     → ((gs : List hb_glyph_info_t) → Permutes (length gs) (step gs))
     → ((gs : List hb_glyph_info_t) → seen carried (meaning gs) ≡ pick (step gs).places (seen carried gs))
     → ReorderLaws meaning (λ gs. step gs ∷ [])
-laws_by_step meaning step fits permutes agrees = record {
-  fits = λ gs. (fits gs, tt);
-  permutes = λ gs. (permutes gs, tt);
-  agrees = λ gs. agrees_by_places (step gs) gs (meaning gs) (fits gs) (agrees gs);
-}
+laws_by_step meaning step fits permutes agrees = search (arith, agrees_by_places)
 
 -- that no serial is read, of one and then another, and where a test passes
 pub reads_then : (first next : List hb_glyph_info_t → List hb_glyph_info_t) (steps steps_then : List hb_glyph_info_t
     → List Step) → ReadsNoSerials first steps → ReadsNoSerials next steps_then
     → ReadsNoSerials (λ gs. next (first gs)) (λ gs. steps gs ++ steps_then (first gs))
-reads_then first next steps steps_then one two = record {
-  meant = λ gs hs same. two.meant (first gs) (first hs) (one.meant gs hs same);
-  led = λ gs hs same. ap (λ sts. sts ++ steps_then (first gs)) (one.led gs hs same)
-      ∙ ap (λ sts. steps hs ++ sts) (two.led (first gs) (first hs) (one.meant gs hs same));
-}
+reads_then first next steps steps_then one two = search (arith, two.meant, one.led, two.led)
 
 pub reads_where : (test : List hb_glyph_info_t → Bool) (meaning : List hb_glyph_info_t → List hb_glyph_info_t)
     (steps : List hb_glyph_info_t → List Step)
     → ((gs hs : List hb_glyph_info_t) → map unnumbered gs ≡ map unnumbered hs → test gs ≡ test hs)
     → ReadsNoSerials meaning steps
     → ReadsNoSerials (λ gs. if test gs then meaning gs else gs) (λ gs. if test gs then steps gs else [])
-reads_where test meaning steps tests reads = record {
-  meant = λ gs hs same.
-      ap (λ b. map unnumbered (if b then meaning gs else gs)) (tests gs hs same)
-      ∙ elim (test hs) as (λ b. map unnumbered (if b then meaning gs else gs)
-      ≡ map unnumbered (if b then meaning hs else hs)) [ true ↦ reads.meant gs hs same | false ↦ same ];
-  led = λ gs hs same.
-      ap (λ b. if b then steps gs else []) (tests gs hs same)
-      ∙ ap (λ sts. if test hs then sts else []) (reads.led gs hs same);
-}
+reads_where test meaning steps tests reads = search (arith, reads.meant, reads.led)
 
 -- that no serial is read, where nothing changes without serials
 pub reads_by_view : (meaning : List hb_glyph_info_t → List hb_glyph_info_t) (steps : List hb_glyph_info_t → List Step)
     → ((gs : List hb_glyph_info_t) → map unnumbered (meaning gs) ≡ meaning (map unnumbered gs))
     → ((gs : List hb_glyph_info_t) → steps (map unnumbered gs) ≡ steps gs) → ReadsNoSerials meaning steps
-reads_by_view meaning steps means leads = record {
-  meant = λ gs hs same. means gs ∙ ap meaning same ∙ sym (means hs);
-  led = λ gs hs same. sym (leads gs) ∙ ap steps same ∙ leads hs;
-}
+reads_by_view meaning steps means leads = search arith

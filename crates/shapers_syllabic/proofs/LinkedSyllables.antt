@@ -13,7 +13,7 @@ use Rattle.shapers_buffer.specs.Clusters.{stretch_of}
 use Rattle.shapers_buffer.specs.Glyph.{order_view, plain}
 use Rattle.shapers_buffer.specs.Syllables.{first_syllable_len, syllables}
 use Rattle.shapers_buffer.proofs.ClusterLemmas.{length-stretch, map-stretch}
-use Rattle.shapers_clusters.specs.Steps.{Step, run_step, run_steps, steps_along, widened}
+use Rattle.shapers_clusters.specs.Steps.{Step, run_steps, steps_along}
 use Rattle.shapers_syllabic.specs.Reordering.{Chain, SyllableOrdered, SyllableReordered, SyllablesLinked, SyllablesReordered, TakesText, TextOrdered, carried, glyph_numbers, syllable_lens, text_order}
 use Rattle.shapers_syllabic.specs.ReorderingWalk.{IsNextChanging}
 use Rattle.shapers_syllabic.proofs.Borders.{syllables-viewed}
@@ -39,9 +39,7 @@ Orders meaning link = (s e : ℕ) (b c : Buffer) → link s e b c → SyllableOr
 same_count : (meaning : Meaning) (script : Option Script) (gs : List hb_glyph_info_t) → PermutesNumbers meaning →
     length (meaning script gs) ≡ length gs
 same_count meaning script gs permutes =
-    let number : hb_glyph_info_t → ℕ = λ g. g.glyph_id in
-    sym (length-map (meaning script gs) number) ∙ length_permutation (glyph_numbers gs)
-    (glyph_numbers (meaning script gs)) (permutes script gs) ∙ length-map gs number
+    search (arith, length-map, length_permutation)
 
 -- the next syllable, seen in the order view
 pub record NextSyllable (gs : List hb_glyph_info_t) (start end : ℕ) : Type 0 where
@@ -58,20 +56,11 @@ pub next_syllable : (gs : List hb_glyph_info_t) (start end : ℕ) → start < le
 next_syllable gs start end some end_is =
     let xs = order_view gs in
     let rest = drop start xs in
-    let k = first_syllable_len rest in
     let xn : length xs ≡ length gs = length-map gs plain in
     let rn : length rest ≡ length gs - start = omega (arith, length-drop start xs) in
-    let first : k ≡ first_syllable_len (drop start gs) = ap first_syllable_len (drop-map plain start gs)
-    ∙ first_len-view (drop start gs) in
-    let size : end - start ≡ k = omega arith in
-    record {
-      len = k;
-      end_is = omega arith;
-      within = first_len-within rest;
-      count = length-take-le k rest (first_len-within rest);
-      cut = opens rest (omega arith);
-      stretch = ap (λ j. take j rest) size;
-    }
+    let first :
+    (first_syllable_len rest) ≡ first_syllable_len (drop start gs) = search (arith, drop-map, first_len-view) in
+    search (arith, first_len-within, length-take-le, opens)
 
 -- one syllable that is ordered: what stands before its end then, and behind it
 pub record OneOrdered (meaning : Meaning) (now new : Buffer) (start end : ℕ)
@@ -92,19 +81,15 @@ one_ordered meaning now new start end permutes next some done =
     let k = next.len in
     let xn : length xs ≡ length gs = length-map gs plain in
     let rn : length rest ≡ length gs - start = omega (arith, length-drop start xs) in
-    let within = next.within in
-    let end_is = next.end_is in
     let syl = take k rest in
     let made = meaning now.script syl in
     let made_len : length made ≡ k = same_count meaning now.script syl permutes ∙ next.count in
     let front = take start xs in
     let fn : length front ≡ start = length-take-le start xs (omega arith) in
-    let both : length (front ++ made) ≡ end = length-append front made ∙ omega arith in
-    let behind : drop end xs ≡ drop k rest = ap (λ j. drop j xs) (next.end_is ∙ omega arith)
-    ∙ sym (drop-drop k start xs) in
-    let view : order_view new.glyphs ≡ (front ++ made) ++ drop k rest = done.order
-    ∙ ap (λ ys. front ++ (meaning now.script ys ++ drop end xs)) next.stretch
-    ∙ ap (λ ys. front ++ (made ++ ys)) behind ∙ sym (append_assoc front made (drop k rest)) in
+    let both = length-append front made ∙ omega arith in
+    let view = done.order ∙ ap (λ ys. front ++ (meaning now.script ys ++ drop end xs)) next.stretch
+    ∙ ap (λ ys. front ++ (made ++ ys)) (ap (λ j. drop j xs) (next.end_is ∙ omega arith) ∙ sym (drop-drop k start xs))
+    ∙ sym (append_assoc front made (drop k rest)) in
     record {
       same_length = sym (length-map new.glyphs plain) ∙ ap length view ∙ length-append (front ++ made) (drop k rest)
           ∙ omega (arith, length-drop k rest);
@@ -133,7 +118,7 @@ lens-view gs = ap (map length) (syllables-viewed plain (λ g. refl) gs) ∙ lens
 
 pub numbers-view : (gs : List hb_glyph_info_t) → glyph_numbers (order_view gs) ≡ glyph_numbers gs
 numbers-view [] = refl
-numbers-view (g ∷ gs) = ap (λ ns. g.glyph_id ∷ ns) (numbers-view gs)
+numbers-view (g ∷ gs) = cc (numbers-view gs)
 
 takes-view : (takes : List ℕ → Type 0) (gs : List hb_glyph_info_t) → TakesText takes gs →
     TakesText takes (order_view gs)
@@ -149,21 +134,16 @@ takes-view takes gs all = subst (AllByRecursion takes) (sym (ap (map glyph_numbe
 -- before the first syllable
 pub to_link_all : (takes : List ℕ → Type 0) (link : Link) (old : Buffer) → TakesText takes old.glyphs →
     ToLink takes link old old 0
-to_link_all takes link old all = record {
-  others = refl;
-  inside = omega arith;
-  takes_rest = takes-view takes old.glyphs all;
-  completes = λ new chain. chain;
-}
+to_link_all takes link old all = search (arith, takes-view)
 
 -- what is required of the next syllable
 pub takes_next : (takes : List ℕ → Type 0) (link : Link) (old now : Buffer) (start end : ℕ) →
     ToLink takes link old now start → NextSyllable now.glyphs start end →
     takes (glyph_numbers (stretch_of start end now.glyphs))
 takes_next takes link old now start end to next =
-    let all = subst (λ ps. AllByRecursion takes (map glyph_numbers ps)) next.cut to.takes_rest in
     subst takes (ap glyph_numbers (sym next.stretch ∙ sym (map-stretch plain start end now.glyphs))
-    ∙ numbers-view (stretch_of start end now.glyphs)) all.0
+    ∙ numbers-view (stretch_of start end now.glyphs))
+    (subst (λ ps. AllByRecursion takes (map glyph_numbers ps)) next.cut to.takes_rest).0
 
 -- one syllable more
 pub linked_next : (meaning : Meaning) (takes : List ℕ → Type 0) (link : Link) (old now new : Buffer) (start end : ℕ) →
@@ -175,19 +155,18 @@ linked_next meaning takes link old now new start end to next done others linked 
     let k = next.len in
     let syl = take k rest in
     let inside = done.inside in
-    let same = done.same_length in
-    let all = subst (λ ps. AllByRecursion takes (map glyph_numbers ps)) next.cut to.takes_rest in
     record {
-      others = others ∙ ap (λ (b : Buffer). record b { glyphs = new.glyphs }) to.others;
+      others = cc to.others;
       inside = omega arith;
-      takes_rest = subst (TakesText takes) (sym done.after) all.1;
+      takes_rest = search arith;
       completes = λ b chain.
-          let here : start + length syl ≡ end = ap (λ n. start + n) next.count ∙ sym next.end_is in
-          let later : Chain link end (syllable_lens (drop k rest)) new b =
-          subst (λ ys. Chain link end (syllable_lens ys) new b) done.after chain in
           let both : Chain link start (length syl ∷ syllable_lens (drop k rest)) now b =
           subst (λ e. (mid : Buffer) × link start e now mid × Chain link e (syllable_lens (drop k rest)) mid b)
-          (sym here) (new, linked, later) in
+          (sym (ap (λ n. start + n) next.count ∙ sym next.end_is)) (
+            new,
+            linked,
+            subst (λ ys. Chain link end (syllable_lens ys) new b) done.after chain,
+          ) in
           to.completes b (subst (λ ps. Chain link start (map length ps) now b) (sym next.cut) both);
     }
 
@@ -222,8 +201,8 @@ pub to_changing : (meaning : Meaning) (takes : List ℕ → Type 0) (changes : h
     Orders meaning link → Stays changes link → IsNextChanging changes start gs first →
     ToLink takes link old now start → ToLink takes link old now first
 to_changing meaning takes changes link old now gs start first is permutes orders stays next to =
-    to_next changes now.glyphs (ToLink takes link old now) (linked_passes meaning takes changes link old now permutes
-    orders stays) start first (subst (λ xs. IsNextChanging changes start xs first) is next) to
+    to_next changes now.glyphs (ToLink takes link old now) (
+    search (arith, linked_passes)) start first (search arith) to
 
 -- and past it
 pub record LinkedNext (takes : List ℕ → Type 0) (link : Link) (old now new : Buffer) (end : ℕ) : Type 0 where
@@ -238,25 +217,21 @@ pub past_changing : (meaning : Meaning) (takes : List ℕ → Type 0) (changes :
 past_changing meaning takes changes link old now new gs start first end is permutes orders stays found to end_is linked
     =
     let reached = to_changing meaning takes changes link old now gs start first is permutes orders stays found to in
-    let inside = found.inside in
-    let some : first < length now.glyphs = omega (arith, inside, ap length is) in
+    let some : first < length now.glyphs = omega (arith, found.inside, ap length is) in
     let ordered = orders first end now new linked in
     let next = next_syllable now.glyphs first end some end_is in
     let done = one_ordered meaning now new first end permutes next some ordered in
-    record {
-      same_length = done.same_length;
-      to = linked_next meaning takes link old now new first end reached next done ordered.others linked;
-    }
+    search (
+      arith,
+      done.same_length,
+      linked_next meaning takes link old now new first end reached next done ordered.others linked,
+    )
 
 -- behind the last syllable
 pub linked_end : (takes : List ℕ → Type 0) (link : Link) (old now new : Buffer) →
     ToLink takes link old now (length now.glyphs) → new ≡ but_places now → SyllablesLinked link old new
 linked_end takes link old now new to is =
-    let xs = order_view now.glyphs in
-    let none : drop (length now.glyphs) xs ≡ [] = drop_all (length now.glyphs) xs
-    (omega (arith, length-map now.glyphs plain)) in
-    subst (λ lens. Chain link 0 lens old new) (lens-view old.glyphs)
-    (to.completes new (subst (λ ys. Chain link (length now.glyphs) (syllable_lens ys) now new) (sym none) is))
+    search (arith, lens-view, to.completes, drop_all, length-map)
 
 -- WHAT A CHAIN COMES TO
 -- the syllable that its first link orders
@@ -274,19 +249,17 @@ some_left (g ∷ gs) piece pieces is = omega arith
 
 none_left : (gs : List hb_glyph_info_t) → syllables gs ≡ [] → length gs ≡ 0
 none_left [] is = refl
-none_left (g ∷ gs) is = let first = opens (g ∷ gs) (omega (arith)) in absurd (cc)
+none_left (g ∷ gs) is = search arith
 
 first_link : (gs : List hb_glyph_info_t) (start : ℕ) (piece : List hb_glyph_info_t)
     (pieces : List (List hb_glyph_info_t)) → syllables (drop start (order_view gs)) ≡ piece ∷ pieces →
     FirstLink gs start piece pieces
 first_link gs start piece pieces is =
-    let xs = order_view gs in
-    let rest = drop start xs in
+    let rest = drop start (order_view gs) in
     let k = first_syllable_len rest in
     let left = some_left rest piece pieces is in
-    let some : start < length gs = omega (arith, length-drop start xs, length-map gs plain) in
-    let cut : syllables rest ≡ take k rest ∷ syllables (drop k rest) = opens rest left in
-    let both : take k rest ∷ syllables (drop k rest) ≡ piece ∷ pieces = sym cut ∙ is in
+    let some : start < length gs = search (arith, length-drop, length-map) in
+    let both : take k rest ∷ syllables (drop k rest) ≡ piece ∷ pieces = sym (opens rest left) ∙ is in
     let first : k ≡ first_syllable_len (drop start gs) = ap first_syllable_len (drop-map plain start gs)
     ∙ first_len-view (drop start gs) in
     let same : take k rest ≡ piece = cc in
@@ -312,56 +285,45 @@ ordered_from : (meaning : Meaning) (link : Link) → PermutesNumbers meaning →
     OrderedFrom meaning now new start
 ordered_from meaning link permutes orders [] now new start is chain =
     let xs = order_view now.glyphs in
-    let none = none_left (drop start xs) is in
-    let all : take start xs ≡ xs = take_all start xs (omega (arith, none, length-drop start xs)) in
-    let glyphs : new.glyphs ≡ now.glyphs = ap (λ (b : Buffer). b.glyphs) chain in
-    record {
-      others = chain ∙ ap (λ ys. let b : Buffer = record now { glyphs = ys; places = [] } in b) (sym glyphs);
-      order = ap order_view glyphs ∙ sym (append-nil xs) ∙ ap (λ ys. ys ++ []) (sym all)
-          ∙ ap (λ ps. take start xs ++ flat_map (meaning now.script) ps) (sym is);
-    }
+    search (arith, append-nil xs, take_all start xs (omega (arith, none_left (drop start xs) is, length-drop start xs)))
 ordered_from meaning link permutes orders (piece ∷ pieces) now new start is chain =
     let mid = chain.0 in
     let end = start + length piece in
-    let rest = drop start (order_view now.glyphs) in
-    let front = take start (order_view now.glyphs) in
     let first = first_link now.glyphs start piece pieces is in
     let ordered = orders start end now mid chain.1 in
     let done = one_ordered meaning now mid start end permutes first.next first.some ordered in
-    let script : mid.script ≡ now.script = ap (λ (b : Buffer). b.script) ordered.others in
-    let after : syllables (drop end (order_view mid.glyphs)) ≡ pieces = ap syllables done.after ∙ first.pieces_are in
-    let later = ordered_from meaning link permutes orders pieces mid new end after chain.2 in
-    let made = meaning now.script piece in
-    record {
-      others = later.others ∙ ap (λ (b : Buffer). record b { glyphs = new.glyphs }) ordered.others;
-      order =
-          later.order
-          ∙ ap (λ ys. ys ++ flat_map (meaning mid.script) (syllables (drop end (order_view mid.glyphs)))) done.before
-          ∙ ap (λ ys. (front ++ meaning now.script ys) ++ flat_map (meaning mid.script)
-          (syllables (drop end (order_view mid.glyphs)))) first.piece_is
-          ∙ ap (λ ps. (front ++ made) ++ flat_map (meaning mid.script) ps) after
-          ∙ ap (λ script. (front ++ made) ++ flat_map (meaning script) pieces) script
-          ∙ append_assoc front made (flat_map (meaning now.script) pieces)
-          ∙ ap (λ ps. front ++ flat_map (meaning now.script) ps) (sym is);
-    }
+    let later = ordered_from meaning link permutes orders pieces mid new end
+    (ap syllables done.after ∙ first.pieces_are) chain.2 in
+    search (
+      arith,
+      later.others,
+      ordered.others,
+      later.order,
+      done.before,
+      first.piece_is,
+      done.after,
+      first.pieces_are,
+      append_assoc (take start (order_view now.glyphs)) (meaning now.script piece)
+          (flat_map (meaning now.script) pieces),
+    )
 
 -- the chain over a text, seen in the order view
 chain-view : (link : Link) (old new : Buffer) → SyllablesLinked link old new →
     Chain link 0 (syllable_lens (order_view old.glyphs)) old new
-chain-view link old new chain = subst (λ lens. Chain link 0 lens old new) (sym (lens-view old.glyphs)) chain
+chain-view link old new chain = search (arith, lens-view)
 
 pub text_ordered : (meaning : Meaning) (link : Link) (old new : Buffer) → PermutesNumbers meaning →
     Orders meaning link → SyllablesLinked link old new → TextOrdered (meaning old.script) old new
 text_ordered meaning link old new permutes orders chain =
     let done = ordered_from meaning link permutes orders (syllables (order_view old.glyphs)) old new 0 refl
     (chain-view link old new chain) in
-    record { others = done.others; order = done.order }
+    search (arith, done.others, done.order)
 
 -- a syllable that is reordered by steps is ordered
 pub ordered_by_steps : (meaning : List hb_glyph_info_t → List hb_glyph_info_t)
     (steps : List hb_glyph_info_t → List Step) (s e : ℕ) (old new : Buffer) →
     SyllableReordered meaning steps s e old new → SyllableOrdered meaning s e old new
-ordered_by_steps meaning steps s e old new done = record { others = done.others; order = done.order }
+ordered_by_steps meaning steps s e old new done = search arith
 
 -- where each link leads by steps: the glyphs that all steps lead to
 abbrev pub Leads : Meaning → (Option Script → List hb_glyph_info_t → List Step) → Link → Type 0
@@ -373,49 +335,36 @@ moved_from : (meaning : Meaning) (steps : Option Script → List hb_glyph_info_t
     (start : ℕ) → syllables (drop start (order_view now.glyphs)) ≡ pieces →
     Chain link start (map length pieces) now new → map carried new.glyphs ≡ map carried
     (run_steps now.level (steps_along (length now.glyphs) start (pieces_of (steps now.script) pieces)) now.glyphs)
-moved_from meaning steps link permutes leads [] now new start is chain = ap (λ (b : Buffer). map carried b.glyphs) chain
+moved_from meaning steps link permutes leads [] now new start is chain = cc
 moved_from meaning steps link permutes leads (piece ∷ pieces) now new start is chain =
     let mid = chain.0 in
     let end = start + length piece in
-    let n = length now.glyphs in
     let first = first_link now.glyphs start piece pieces is in
-    let led = leads start end now mid chain.1 in
-    let done = one_ordered meaning now mid start end permutes first.next first.some
-    (ordered_by_steps (meaning now.script) (steps now.script) start end now mid led) in
-    let script : mid.script ≡ now.script = ap (λ (b : Buffer). b.script) led.others in
-    let level : mid.level ≡ now.level = ap (λ (b : Buffer). b.level) led.others in
-    let after : syllables (drop end (order_view mid.glyphs)) ≡ pieces = ap syllables done.after ∙ first.pieces_are in
-    let here : stretch_of start end (order_view now.glyphs) ≡ piece = first.next.stretch ∙ first.piece_is in
-    let ws : List hb_glyph_info_t → List Step = λ syl. map (widened start end n) (steps now.script syl) in
-    let ts = steps_along n end (pieces_of (steps now.script) pieces) in
-    moved_from meaning steps link permutes leads pieces mid new end after chain.2
-    ∙ ap (λ l. map carried (run_steps l (steps_along (length mid.glyphs) end (pieces_of (steps mid.script) pieces))
-    mid.glyphs)) level
-    ∙ ap (λ sc. map carried (run_steps now.level (steps_along (length mid.glyphs) end (pieces_of (steps sc) pieces))
-    mid.glyphs)) script
-    ∙ ap (λ k. map carried (run_steps now.level (steps_along k end (pieces_of (steps now.script) pieces)) mid.glyphs))
-    done.same_length
-    ∙ run_steps-carried now.level ts mid.glyphs (run_steps now.level
-    (ws (stretch_of start end (order_view now.glyphs))) now.glyphs) led.moved
-    ∙ ap (λ syl. map carried (run_steps now.level ts (run_steps now.level (ws syl) now.glyphs))) here
-    ∙ ap (map carried) (sym (fold-append (λ gs step. run_step now.level step gs) now.glyphs (ws piece) ts))
+    let done = one_ordered meaning now mid start end permutes first.next first.some (ordered_by_steps (meaning
+    now.script) (steps now.script) start end now mid (leads start end now mid chain.1)) in
+    search (
+      arith,
+      run_steps-carried,
+      fold-append,
+      moved_from meaning steps link permutes leads pieces mid new end (ap syllables done.after ∙ first.pieces_are)
+          chain.2,
+    )
 
 -- so a text is reordered by the steps of its syllables
 pub text_moved : (meaning : Meaning) (steps : Option Script → List hb_glyph_info_t → List Step) (link : Link)
     (old new : Buffer) → PermutesNumbers meaning → Leads meaning steps link → SyllablesLinked link old new →
     SyllablesReordered (meaning old.script) (steps old.script) old new
 text_moved meaning steps link old new permutes leads chain =
-    let xs = order_view old.glyphs in
     let ordered = text_ordered meaning link old new permutes (λ s e b c linked. ordered_by_steps (meaning b.script)
     (steps b.script) s e b c (leads s e b c linked)) chain in
-    record {
-      others = ordered.others;
-      order = ordered.order;
-      moved =
-          moved_from meaning steps link permutes leads (syllables xs) old new 0 refl (chain-view link old new chain)
-          ∙ ap (λ n. map carried (run_steps old.level (steps_along n 0 (pieces_of (steps old.script) (syllables xs)))
-          old.glyphs)) (sym (length-map old.glyphs plain));
-    }
+    search (
+      arith,
+      ordered.others,
+      ordered.order,
+      moved_from meaning steps link permutes leads (syllables (order_view old.glyphs)) old new 0 refl
+          (chain-view link old new chain),
+      length-map old.glyphs plain,
+    )
 
 -- what is required of a text, by an order that requires nothing of numbers
 pub takes_any : (takes : List ℕ → Type 0) → ((ns : List ℕ) → takes ns) → (gs : List hb_glyph_info_t) →

@@ -1,4 +1,5 @@
 -- Lists of which no element passes a test.
+use Rattle.std.proofs.Common.{arith}
 use Rattle.std.proofs.Common.{ℕ, ◌≡◌, Bool, false, not, List, [], ◌∷◌, filter, take, drop, refl, sym, ◌∙◌, ap, take-append-drop}
 use Rattle.std.specs.List.{list_any}
 use Rattle.std.proofs.lemmas.Bool.{or_parts}
@@ -15,12 +16,11 @@ none_behind test n xs none =
 pub filter-none : {X : Type 0} (test : X → Bool) (xs : List X) → list_any test xs ≡ false → filter test xs ≡ []
 filter-none test [] h = refl
 filter-none test (x ∷ xs) h =
-    let parts : (test x ≡ false) × (list_any test xs ≡ false) = or_parts (test x) (list_any test xs) h in
+    let parts : (test x ≡ false) × (list_any test xs ≡ false) = search (arith, or_parts) in
     rw parts.0 (filter-none test xs parts.1)
 
 pub filter_not-none : {X : Type 0} (test : X → Bool) (xs : List X) → list_any test xs ≡ false
     → filter (λ x. not (test x)) xs ≡ xs
 filter_not-none test [] h = refl
 filter_not-none test (x ∷ xs) h =
-    let parts : (test x ≡ false) × (list_any test xs ≡ false) = or_parts (test x) (list_any test xs) h in
-    rw parts.0 (ap (λ ys. x ∷ ys) (filter_not-none test xs parts.1))
+    search (arith, filter_not-none test xs (or_parts (test x) (list_any test xs) h).1)

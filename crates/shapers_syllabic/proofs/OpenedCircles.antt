@@ -9,27 +9,23 @@ use Rattle.shapers_syllabic.specs.FirstBroken.{IsLastBroken, IsOpened}
 
 -- stretches of fronts that agree
 front_taken : {X : Type 0} (s n : ℕ) (xs ys : List X) → s ≤ n → take n xs ≡ take n ys → take s xs ≡ take s ys
-front_taken s n xs ys h same = sym (take-take s n xs h) ∙ ap (take s) same ∙ take-take s n ys h
+front_taken s n xs ys h same = cc (take-take s n xs h, take-take s n ys h)
 
 stretch_in : {X : Type 0} (s e : ℕ) (xs : List X) → s ≤ e → stretch_of s e xs ≡ drop s (take e xs)
-stretch_in s e xs h = let up : s + (e - s) ≡ e = omega arith in sym (drop-take s (e - s) xs)
-    ∙ ap (λ n. drop s (take n xs)) up
+stretch_in s e xs h = sym (drop-take s (e - s) xs)
+    ∙ ap (λ n. drop s (take n xs)) (omega arith)
 
 stretch_taken : {X : Type 0} (s e n : ℕ) (xs ys : List X) → s ≤ e → e ≤ n → take n xs ≡ take n ys
     → stretch_of s e xs ≡ stretch_of s e ys
-stretch_taken s e n xs ys h l same = stretch_in s e xs h ∙ ap (drop s) (front_taken e n xs ys l same)
-    ∙ sym (stretch_in s e ys h)
+stretch_taken s e n xs ys h l same = search (arith, stretch_in, front_taken)
 
 -- one element written
 drop_set : {X : Type 0} (i : ℕ) (x : X) (xs : List X) → i < length xs → drop i (slice_set xs i x) ≡ x ∷ drop (suc i) xs
-drop_set i x xs h = ap (drop i) (set_split xs i x h)
-    ∙ drop_at (take i xs) (x ∷ drop (suc i) xs) i (length-take-le i xs (omega arith))
+drop_set i x xs h = search (arith, set_split, drop_at, length-take-le)
 
 take_set : {X : Type 0} (s i : ℕ) (x : X) (xs : List X) → i < length xs → s ≤ i → take s (slice_set xs i x) ≡ take s xs
 take_set s i x xs h l =
-    let same : take i (slice_set xs i x) ≡ take i xs = ap (take i) (set_split xs i x h)
-    ∙ take_at (take i xs) (x ∷ drop (suc i) xs) i (length-take-le i xs (omega arith)) in
-    front_taken s i (slice_set xs i x) xs l same
+    search (arith, front_taken, set_split, take_at, length-take-le)
 
 -- the glyphs before, after the rest of the syllable has moved up, and after its rephas have
 pub record Opening (rule : DottedCircles) (s e p left : ℕ) (gs hs ms : List hb_glyph_info_t) : Type 0 where
@@ -50,13 +46,7 @@ pub record Opening (rule : DottedCircles) (s e p left : ℕ) (gs hs ms : List hb
 pub opening_front : (rule : DottedCircles) (s e p left : ℕ) (gs hs ms : List hb_glyph_info_t)
     → Opening rule s e p left gs hs ms → take s ms ≡ take s gs
 opening_front rule s e p left gs hs ms o =
-    let circle = circle_in (stretch_of s e gs) rule.circle in
-    let i = p + left - 1 in
-    let low : s ≤ p = omega (arith, o.rephas) in
-    let inside : i < length hs = omega (arith, o.some, o.inside, o.within, o.same_length) in
-    front_taken s (s + (left - 1)) ms (slice_set hs i circle) (omega arith) o.then_front
-    ∙ take_set s i circle hs inside (omega (arith, o.some))
-    ∙ front_taken s (p + left) hs gs (omega arith) o.first_front
+    search (arith, front_taken, take_set)
 
 pub opening_behind : (rule : DottedCircles) (s e p left : ℕ) (gs hs ms : List hb_glyph_info_t)
     → Opening rule s e p left gs hs ms → drop (s + left - 1) ms ≡ with_circle rule (stretch_of s e gs)
@@ -67,26 +57,21 @@ opening_behind rule s e p left gs hs ms o =
     let i = p + left - 1 in
     let written = slice_set hs i circle in
     let r = rephas_len rule.repha syllable in
-    let low : s ≤ p = omega (arith, o.rephas) in
-    let inside : i < length hs = omega (arith, o.some, o.inside, o.within, o.same_length) in
-    let place : s + left - 1 ≡ s + (left - 1) = omega (arith, o.some) in
-    let here : p + (left - 1) ≡ i = omega (arith, o.some) in
+    let inside : i < length hs = search arith in
     let next : suc i ≡ p + left = omega (arith, o.some) in
-    let many : p - s ≡ r = omega (arith, o.rephas) in
-    let up : s + r ≡ p = sym o.rephas in
-    let left_over : e - s ≡ r + (e - p) = omega (arith, o.rephas, o.inside) in
     let kept : take p written ≡ take p gs = take_set p i circle hs inside (omega (arith, o.some))
     ∙ front_taken p (p + left) hs gs (omega arith) o.first_front in
     let rephas : stretch_of s p written ≡ take r syllable =
-    stretch_taken s p p written gs low (omega arith) kept ∙ ap (λ n. take n (drop s gs)) many
-    ∙ sym (take-take r (e - s) (drop s gs) (omega arith)) in
+    stretch_taken s p p written gs (omega (arith, o.rephas)) (omega arith) kept
+    ∙ ap (λ n. take n (drop s gs)) (omega (arith, o.rephas)) ∙ sym (take-take r (e - s) (drop s gs) (omega arith)) in
     let others : stretch_of p e gs ≡ drop r syllable =
     ap (λ n. take (e - p) (drop n gs)) o.rephas ∙ ap (take (e - p)) (sym (drop-drop r s gs))
-    ∙ sym (drop-take r (e - p) (drop s gs)) ∙ ap (λ n. drop r (take n (drop s gs))) (sym left_over) in
+    ∙ sym (drop-take r (e - p) (drop s gs))
+    ∙ ap (λ n. drop r (take n (drop s gs))) (sym (omega (arith, o.rephas, o.inside))) in
     let rest : drop (p + (left - 1)) written ≡ circle ∷ (drop r syllable ++ drop (e + left) gs) =
-    ap (λ n. drop n written) here ∙ drop_set i circle hs inside ∙ ap (λ n. circle ∷ drop n hs) next
+    ap (λ n. drop n written) (omega (arith, o.some)) ∙ drop_set i circle hs inside ∙ ap (λ n. circle ∷ drop n hs) next
     ∙ ap (λ l. circle ∷ l) (o.first_behind ∙ ap (λ l. l ++ drop (e + left) gs) others) in
-    ap (λ n. drop n ms) place ∙ o.then_behind ∙ ap (λ l. l ++ drop (p + (left - 1)) written) rephas
+    ap (λ n. drop n ms) (omega (arith, o.some)) ∙ o.then_behind ∙ ap (λ l. l ++ drop (p + (left - 1)) written) rephas
     ∙ ap (λ l. take r syllable ++ l) rest
     ∙ sym (append_assoc (take r syllable) (circle ∷ drop r syllable) (drop (e + left) gs))
 
@@ -105,27 +90,23 @@ pub record Opened (rule : DottedCircles) (read left s e : ℕ) (gs hs ms : List 
 pub is_opened : (rule : DottedCircles) (read left s e : ℕ) (gs hs ms : List hb_glyph_info_t)
     → Opened rule read left s e gs hs ms → IsOpened rule read left s gs ms
 is_opened rule read left s e gs hs ms o =
-    let n : length (take read gs) ≡ read = length-take-le read gs (omega (arith, o.within)) in
+    let n : length (take read gs) ≡ read = search (arith, length-take-le) in
     let inside : e ≤ read = omega (arith, o.broken.within) in
-    let some = o.broken.some in
-    let front : take s (take read gs) ≡ take s gs = take-take s read gs (omega arith) in
-    let same : take read (take read gs) ≡ take read gs = take-take read read gs (omega arith) in
-    let syllable : stretch_of s e (take read gs) ≡ stretch_of s e hs =
-    stretch_taken s e read (take read gs) gs (omega arith) inside same
-    ∙ sym (stretch_taken s e (e + left) hs gs (omega arith) (omega arith) o.first_front) in
-    let behind : drop e (take read gs) ≡ stretch_of e read gs = sym (stretch_in e read gs inside) in
-    let w = with_circles rule (take s gs) in
     let rest = drop (read + left) gs in
-    record {
-      before = omega arith;
-      same_length = o.same_length;
-      front = o.then_front ∙ front_taken s (e + left) hs gs (omega arith) o.first_front;
-      text = ap (λ l. l ++ rest) (o.broken.text
-          ∙ ap (λ l. with_circles rule l ++ (with_circle rule (stretch_of s e (take read gs)) ++ drop e (take read gs)))
-          front ∙ ap (λ l. w ++ (with_circle rule l ++ drop e (take read gs))) syllable
-          ∙ ap (λ l. w ++ (with_circle rule (stretch_of s e hs) ++ l)) behind)
-          ∙ append_assoc w (with_circle rule (stretch_of s e hs) ++ stretch_of e read gs) rest
-          ∙ ap (λ l. w ++ l) (append_assoc (with_circle rule (stretch_of s e hs)) (stretch_of e read gs) rest
-          ∙ ap (λ l. with_circle rule (stretch_of s e hs) ++ l) (sym o.first_behind) ∙ sym o.then_behind);
-      count = o.room ∙ o.broken.count ∙ ap (λ l. suc (count_of_kind rule.broken_kind l)) front;
-    }
+    search (
+      arith,
+      o.same_length,
+      o.then_front,
+      front_taken s (e + left) hs gs (omega arith) o.first_front,
+      o.broken.text,
+      take-take s read gs (omega arith),
+      stretch_taken s e read (take read gs) gs (omega arith) inside (take-take read read gs (omega arith)),
+      stretch_taken s e (e + left) hs gs (omega arith) (omega arith) o.first_front,
+      stretch_in e read gs inside,
+      append_assoc (with_circles rule (take s gs)) (with_circle rule (stretch_of s e hs) ++ stretch_of e read gs) rest,
+      append_assoc (with_circle rule (stretch_of s e hs)) (stretch_of e read gs) rest,
+      o.first_behind,
+      o.then_behind,
+      o.room,
+      o.broken.count,
+    )

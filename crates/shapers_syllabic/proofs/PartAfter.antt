@@ -1,5 +1,5 @@
 -- What a part of a reordering leaves for the next.
-use Rattle.std.proofs.Common.{ℕ, ◌-◌, ◌≤◌, ◌≡◌, List, ◌++◌, length, take, drop, sym, ◌∙◌, ap, arith, length-append, length-take-le, length-drop}
+use Rattle.std.proofs.Common.{ℕ, ◌-◌, ◌≤◌, ◌≡◌, List, ◌++◌, length, take, drop, arith, length-append, length-take-le, length-drop}
 use Rattle.std.proofs.lemmas.List.{length-map}
 use Rattle.shapers_buffer.specs.declared.buffer.glyph.hb_glyph_info_t.{hb_glyph_info_t}
 use Rattle.shapers_buffer.specs.Buffer.{Buffer}
@@ -21,17 +21,14 @@ pub part_after : (meaning : List hb_glyph_info_t → List hb_glyph_info_t) (step
 part_after meaning steps s e old new h l k done =
     let xs = order_view old.glyphs in
     let n : length xs ≡ length old.glyphs = length-map old.glyphs plain in
-    let front : length (take s xs) ≡ s = length-take-le s xs (omega arith) in
-    let parts = changed_parts s e (take s xs) (meaning (stretch_of s e xs)) (drop e xs) (order_view new.glyphs) h front
-    k done.order in
-    record {
-      long = sym (length-map new.glyphs plain) ∙ ap length done.order
-          ∙ omega (
-            arith,
-            length-append (take s xs) (meaning (stretch_of s e xs) ++ drop e xs),
-            length-append
-                (meaning (stretch_of s e xs)) (drop e xs),
-            length-drop e xs,
-          );
-      syllable = parts.stretch;
-    }
+    let front = length-take-le s xs (omega arith) in
+    search (
+      arith,
+      length-map new.glyphs plain,
+      done.order,
+      length-append (take s xs) (meaning (stretch_of s e xs) ++ drop e xs),
+      length-append (meaning (stretch_of s e xs)) (drop e xs),
+      length-drop e xs,
+      (changed_parts s e (take s xs) (meaning (stretch_of s e xs)) (drop e xs) (order_view new.glyphs) h front k
+          done.order).stretch,
+    )

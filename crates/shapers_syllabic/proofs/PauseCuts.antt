@@ -1,5 +1,5 @@
 -- A set-up and a reordering directly after it, cut between two spans.
-use Rattle.std.proofs.Common.{ℕ, ◌≡◌, List, [], ◌∷◌, ◌++◌, map, length, drop, slice_index, refl, sym, ◌∙◌, ap, arith}
+use Rattle.std.proofs.Common.{ℕ, ◌≡◌, List, [], ◌∷◌, ◌++◌, map, length, drop, refl, sym, ◌∙◌, ap, arith}
 use Rattle.std.specs.List.{flat_map}
 use Rattle.std.proofs.lemmas.List.{drop_at, length-map, map-append}
 use Rattle.shapers_buffer.specs.declared.buffer.glyph.hb_glyph_info_t.{hb_glyph_info_t}
@@ -7,7 +7,7 @@ use Rattle.shapers_buffer.specs.declared.buffer.syllables.Span.{Span}
 use Rattle.shapers_buffer.specs.Buffer.{Buffer}
 use Rattle.shapers_buffer.specs.Glyph.{clusters}
 use Rattle.shapers_buffer.specs.GlyphFlags.{flagged}
-use Rattle.shapers_buffer.specs.Syllables.{span_bytes, syllables, with_bytes}
+use Rattle.shapers_buffer.specs.Syllables.{with_bytes}
 use Rattle.shapers_clusters.specs.Cuts.{ShareNone}
 use Rattle.shapers_clusters.proofs.FlagCalls.{map-flagged}
 use Rattle.shapers_syllabic.specs.Borders.{spans_set_up, unnumbered}
@@ -22,44 +22,36 @@ pub clusters-flagged : (pieces : List (List hb_glyph_info_t)) → clusters (flat
     ≡ clusters (flat_map (λ piece. piece) pieces)
 clusters-flagged [] = refl
 clusters-flagged (piece ∷ pieces) =
-    let cluster : hb_glyph_info_t → ℕ = λ g. g.cluster in
-    let rest = flat_map (λ p. p) pieces in
-    map-append cluster (flagged 3 piece) (flat_map (flagged 3) pieces)
-    ∙ ap (λ cs. cs ++ clusters (flat_map (flagged 3) pieces)) (map-flagged cluster 3 (λ g. refl) piece)
-    ∙ ap (λ cs. clusters piece ++ cs) (clusters-flagged pieces)
-    ∙ sym (map-append cluster piece rest)
+    search (arith, map-append, map-flagged, clusters-flagged pieces)
 
 clusters-with_bytes : (gs : List hb_glyph_info_t) (bytes : List ℕ) → clusters (with_bytes gs bytes) ≡ clusters gs
 clusters-with_bytes [] bytes = refl
 clusters-with_bytes (g ∷ gs) [] = refl
-clusters-with_bytes (g ∷ gs) (byte ∷ bytes) = ap (λ cs. g.cluster ∷ cs) (clusters-with_bytes gs bytes)
+clusters-with_bytes (g ∷ gs) (byte ∷ bytes) = cc (clusters-with_bytes gs bytes)
 
 pub clusters-set_up : (spans : List Span) (broken_kind : ℕ) (b : Buffer)
     → clusters (spans_set_up spans broken_kind b).glyphs ≡ clusters b.glyphs
 clusters-set_up spans broken_kind b =
-    let cut = with_bytes b.glyphs (span_bytes 0 spans) in
-    clusters-flagged (syllables cut) ∙ ap clusters (joined-syllables cut)
-    ∙ clusters-with_bytes b.glyphs (span_bytes 0 spans)
+    search (arith, clusters-flagged, joined-syllables, clusters-with_bytes)
 
 pub apart_by : (xs ys gs hs : List hb_glyph_info_t) → clusters xs ≡ clusters gs → clusters ys ≡ clusters hs
     → ShareNone gs hs → ShareNone xs ys
 apart_by xs ys gs hs a b none i j il jl same =
-    let cluster : hb_glyph_info_t → ℕ = λ g. g.cluster in
-    let x : length xs ≡ length gs = sym (length-map xs cluster) ∙ ap length a ∙ length-map gs cluster in
-    let y : length ys ≡ length hs = sym (length-map ys cluster) ∙ ap length b ∙ length-map hs cluster in
-    none i j (omega arith) (omega arith) (ap (λ cs. slice_index cs i) (sym a) ∙ same ∙ ap (λ cs. slice_index cs j) b)
+    let x : length xs ≡ length gs = search (arith, length-map) in
+    let y : length ys ≡ length hs = search (arith, length-map) in
+    none i j (omega arith) (omega arith) (cc)
 
 pub pauses_cut : PausesCutAtSpans
 pauses_cut circles meaning steps spans broken_kind old new laws reads kinds done ss ts gs hs split text first second =
     let cluster : hb_glyph_info_t → ℕ = λ g. g.cluster in
-    let mid = spans_set_up spans broken_kind old in
     let before = (spans_set_up ss broken_kind (record old { glyphs = gs })).glyphs in
-    let half = (spans_set_up ts broken_kind (record old { glyphs = hs })).glyphs in
     let cut = spans_cut spans broken_kind old kinds ss ts gs hs split text first second in
     let behind = cut.behind in
-    let pause = cuts_at_borders circles meaning steps mid new laws done before behind cut.parts cut.border in
-    let serials = serials_dont_count circles meaning steps old.level behind half reads cut.renumbered in
-    let front : clusters before ≡ clusters gs = clusters-set_up ss broken_kind (record old { glyphs = gs }) in
+    let pause = cuts_at_borders circles meaning steps
+    (spans_set_up spans broken_kind old) new laws done before behind cut.parts cut.border in
+    let serials = serials_dont_count circles meaning steps old.level behind
+    ((spans_set_up ts broken_kind (record old { glyphs = hs })).glyphs) reads cut.renumbered in
+    let front = clusters-set_up ss broken_kind (record old { glyphs = gs }) in
     let whole : clusters before ++ clusters behind ≡ clusters gs ++ clusters hs =
     sym (map-append cluster before behind) ∙ sym (ap clusters cut.parts) ∙ clusters-set_up spans broken_kind old
     ∙ ap clusters text ∙ map-append cluster gs hs in

@@ -1,7 +1,7 @@
 -- A text cut at a border of syllables: circles, text order and steps of the halves.
-use Rattle.std.proofs.Common.{ℕ, ◌+◌, ◌<◌, ◌≡◌, if◌then◌else◌, Bool, true, false, List, [], ◌∷◌, ◌++◌, map, length, get_or, slice_index, take, drop, refl, sym, ◌∙◌, ap, subst, arith, length-append}
+use Rattle.std.proofs.Common.{ℕ, ◌+◌, ◌<◌, ◌≡◌, if◌then◌else◌, Bool, true, false, List, [], ◌∷◌, ◌++◌, length, slice_index, take, drop, refl, sym, ◌∙◌, ap, arith, length-append}
 use Rattle.std.specs.Prelude.{Option, None, Some}
-use Rattle.std.specs.List.{Contains, flat_map}
+use Rattle.std.specs.List.{Contains}
 use Rattle.std.proofs.lemmas.List.{get_or_default, length-map, map-append}
 use Rattle.std.proofs.lemmas.List.Concat.{flat_map-append}
 use Rattle.std.proofs.lemmas.List.Elements.{All-append, All-cons, All-drop, All-get_or, All-head, All-take}
@@ -13,7 +13,7 @@ use Rattle.shapers_clusters.specs.Cuts.{ShareNone}
 use Rattle.shapers_clusters.specs.Steps.{FitsStep, Step, run_steps, steps_along}
 use Rattle.shapers_clusters.proofs.Proved.{halves_hold}
 use Rattle.shapers_syllabic.specs.declared.ot_shaper_syllabic.circles.DottedCircles.{DottedCircles}
-use Rattle.shapers_syllabic.specs.Circles.{circle_in, circled, circled_syllable, is_of_kind, rephas_len, with_circle, with_circles}
+use Rattle.shapers_syllabic.specs.Circles.{circle_in, circled, circled_syllable, rephas_len, with_circle, with_circles}
 use Rattle.shapers_syllabic.specs.Reordering.{carried, text_order, text_steps}
 use Rattle.shapers_syllabic.specs.Borders.{MeetAtBorder}
 use Rattle.shapers_syllabic.specs.ReorderingLaws.{ReorderLaws, ReorderingCutsAtBorders}
@@ -25,8 +25,8 @@ use Rattle.shapers_syllabic.proofs.ReorderingWalk.{pieces_of}
 -- a circle keeps the ends of its syllable
 circle_byte : (byte : ℕ) (gs : List hb_glyph_info_t) (circle : hb_glyph_info_t) → OfByte byte gs
     → (circle_in gs circle).syllable ≡ byte
-circle_byte byte [] circle u = let a = u.some in absurd (omega arith)
-circle_byte byte (g ∷ gs) circle u = All-head (λ (h : hb_glyph_info_t). h.syllable ≡ byte) g gs u.all
+circle_byte byte [] circle u = search arith
+circle_byte byte (g ∷ gs) circle u = search (arith, All-head)
 
 circled_byte : (rule : DottedCircles) (byte : ℕ) (gs : List hb_glyph_info_t) (broken : Bool) → OfByte byte gs
     → OfByte byte (if broken then with_circle rule gs else gs)
@@ -35,45 +35,46 @@ circled_byte rule byte gs true u =
     let P : hb_glyph_info_t → Type 0 = λ g. g.syllable ≡ byte in
     let n = rephas_len rule.repha gs in
     let circle = circle_in gs rule.circle in
-    record {
-      some = omega (arith, length-append (take n gs) (circle ∷ drop n gs));
-      all = All-append P (take n gs) (circle ∷ drop n gs) (All-take P n gs u.all)
-          (All-cons P circle (drop n gs) (circle_byte byte gs rule.circle u) (All-drop P n gs u.all));
-    }
+    search (
+      arith,
+      length-append (take n gs) (circle ∷ drop n gs),
+      All-append P (take n gs) (circle ∷ drop n gs) (All-take P n gs u.all)
+          (All-cons P circle (drop n gs) (circle_byte byte gs rule.circle u) (All-drop P n gs u.all)),
+    )
 
 pub circled_syllable_byte : (rule : DottedCircles) (byte : ℕ) (gs : List hb_glyph_info_t) → OfByte byte gs
     → OfByte byte (circled_syllable rule gs)
-circled_syllable_byte rule byte gs u = circled_byte rule byte gs (is_of_kind rule.broken_kind gs) u
+circled_syllable_byte rule byte gs u = search (arith, circled_byte)
 
 ends-circled : (circles : Option DottedCircles) (gs : List hb_glyph_info_t) → SameEnds (circled circles gs) gs
-ends-circled None gs = record { some = λ l. l; first = refl; last = refl }
+ends-circled None gs = search arith
 ends-circled (Some rule) gs =
-    subst (SameEnds (with_circles rule gs)) (joined-syllables gs)
-    (ends-kept (circled_syllable rule) (circled_syllable_byte rule) (syllables gs) (syllables_cut gs))
+    search (
+      arith,
+      joined-syllables gs,
+      ends-kept (circled_syllable rule) (circled_syllable_byte rule) (syllables gs) (syllables_cut gs),
+    )
 
 -- circles of the halves
 pub border-circled : (circles : Option DottedCircles) (gs hs : List hb_glyph_info_t) → MeetAtBorder gs hs
     → MeetAtBorder (circled circles gs) (circled circles hs)
 border-circled circles gs hs border =
-    border_by (circled circles gs) (circled circles hs) gs hs (ends-circled circles gs) (ends-circled circles hs) border
+    search (arith, border_by, ends-circled)
 
 pub circled-append : (circles : Option DottedCircles) (gs hs : List hb_glyph_info_t) → MeetAtBorder gs hs
     → circled circles (gs ++ hs) ≡ circled circles gs ++ circled circles hs
 circled-append None gs hs border = refl
-circled-append (Some rule) gs hs border = ap (flat_map (circled_syllable rule)) (syllables-append gs hs border)
-    ∙ flat_map-append (circled_syllable rule) (syllables gs) (syllables hs)
+circled-append (Some rule) gs hs border = search (arith, syllables-append, flat_map-append)
 
 cluster_of : (circles : Option DottedCircles) (gs : List hb_glyph_info_t) (i : ℕ) → i < length (circled circles gs)
     → (k : ℕ) × (k < length gs) × (slice_index (clusters gs) k ≡ slice_index (clusters (circled circles gs)) i)
 cluster_of None gs i h = (i, h, refl)
 cluster_of (Some rule) gs i h =
-    let cluster : hb_glyph_info_t → ℕ = λ g. g.cluster in
-    let after = clusters (with_circles rule gs) in
-    let P : ℕ → Type 0 = λ c. Contains (clusters gs) c in
-    let n = length-map gs cluster in
-    let found = All-get_or P after i 0 (omega (arith, length-map (with_circles rule gs) cluster))
+    let n = length-map gs (λ g. g.cluster) in
+    let found = All-get_or (λ c. Contains (clusters gs) c)
+    (clusters (with_circles rule gs)) i 0 (search (arith, length-map))
     (circles_keep_clusters rule gs) in
-    (found.0, omega (arith, found.1), get_or_default (clusters gs) found.0 0 (get_or after i 0) found.1 ∙ found.2)
+    search (arith, get_or_default)
 
 pub apart-circled : (circles : Option DottedCircles) (gs hs : List hb_glyph_info_t) → ShareNone gs hs
     → ShareNone (circled circles gs) (circled circles hs)
@@ -85,14 +86,12 @@ apart-circled circles gs hs none i j il jl same =
 -- the text order of the halves, and their steps
 pub text_order-append : (meaning : List hb_glyph_info_t → List hb_glyph_info_t) (gs hs : List hb_glyph_info_t)
     → MeetAtBorder gs hs → text_order meaning (gs ++ hs) ≡ text_order meaning gs ++ text_order meaning hs
-text_order-append meaning gs hs border = ap (flat_map meaning) (syllables-append gs hs border)
-    ∙ flat_map-append meaning (syllables gs) (syllables hs)
+text_order-append meaning gs hs border = search (arith, syllables-append, flat_map-append)
 
 pub text_order-halves : (meaning : List hb_glyph_info_t → List hb_glyph_info_t) (gs hs : List hb_glyph_info_t)
     → MeetAtBorder gs hs → text_order meaning (order_view (gs ++ hs)) ≡ text_order meaning (order_view gs)
     ++ text_order meaning (order_view hs)
-text_order-halves meaning gs hs border = ap (text_order meaning) (map-append plain gs hs)
-    ∙ text_order-append meaning (order_view gs) (order_view hs) (border-view gs hs border)
+text_order-halves meaning gs hs border = search (arith, map-append, text_order-append, border-view)
 
 pub steps-halves : (meaning : List hb_glyph_info_t → List hb_glyph_info_t) (steps : List hb_glyph_info_t
     → List Step) (level : BufferClusterLevel) (gs hs : List hb_glyph_info_t) → ReorderLaws meaning steps
@@ -102,35 +101,36 @@ steps-halves meaning steps level gs hs laws border none =
     let xs = order_view gs in
     let ys = order_view hs in
     let ps = pieces_of steps (syllables xs) in
-    let qs = pieces_of steps (syllables ys) in
-    let both : syllables (order_view (gs ++ hs)) ≡ syllables xs ++ syllables ys = ap syllables (map-append plain gs hs)
-    ∙ syllables-append xs ys (border-view gs hs border) in
     ap (λ sts. run_steps level sts (gs ++ hs)) (text_steps-long steps (gs ++ hs))
     ∙ ap (λ n. run_steps level (steps_along n 0 (pieces_of steps (syllables (order_view (gs ++ hs))))) (gs ++ hs))
     (length-append gs hs)
     ∙ ap (λ pieces. run_steps level (steps_along (length gs + length hs) 0 pieces) (gs ++ hs))
-    (ap (pieces_of steps) both ∙ map-append (λ syl. (length syl, steps syl)) (syllables xs) (syllables ys))
-    ∙ halves_hold level ps qs gs hs (sum-syllables steps xs ∙ length-map gs plain) (sum-syllables steps ys
-    ∙ length-map hs plain) (each_piece FitsStep steps laws.fits (syllables xs))
+    (ap (pieces_of steps) (search (arith, map-append, syllables-append, border-view)) ∙ map-append (λ syl. (
+      length
+          syl,
+      steps syl,
+    )) (syllables xs) (syllables ys))
+    ∙ halves_hold level ps (pieces_of steps (syllables ys)) gs hs (sum-syllables steps xs ∙ length-map gs plain)
+    (sum-syllables steps ys ∙ length-map hs plain) (each_piece FitsStep steps laws.fits (syllables xs))
     (each_piece FitsStep steps laws.fits (syllables ys)) none
-    ∙ sym (ap (λ sts. run_steps level sts gs ++ run_steps level (text_steps steps ys) hs) (text_steps-long steps gs)
-    ∙ ap (λ sts. run_steps level (steps_along (length gs) 0 ps) gs ++ run_steps level sts hs)
-    (text_steps-long steps hs))
+    ∙ sym
+    (ap (λ sts. run_steps level sts gs ++ run_steps level (text_steps steps ys) hs) (text_steps-long steps gs) ∙ ap
+    (λ sts. run_steps level (steps_along (length gs) 0 ps) gs ++ run_steps level sts hs) (text_steps-long steps hs))
 
 -- a whole pause
 pub cuts_at_borders : ReorderingCutsAtBorders
 cuts_at_borders circles meaning steps old new laws done gs hs whole border =
     let xs = circled circles gs in
     let ys = circled circles hs in
-    let text : circled circles old.glyphs ≡ xs ++ ys = ap (circled circles) whole
-    ∙ circled-append circles gs hs border in
+    let text : circled circles old.glyphs ≡ xs ++ ys = search (arith, circled-append) in
     let meet = border-circled circles gs hs border in
     record {
-      order = done.order ∙ ap (λ zs. text_order meaning (order_view zs)) text ∙ text_order-halves meaning xs ys meet;
+      order = search (arith, text_order-halves);
       moved = λ none.
-          done.moved
-          ∙ ap (λ zs. map carried (run_steps old.level (text_steps steps (order_view zs)) zs)) text
-          ∙ ap (map carried) (steps-halves meaning steps old.level xs ys laws meet (apart-circled circles gs hs none))
-          ∙ map-append carried (run_steps old.level (text_steps steps (order_view xs)) xs)
-          (run_steps old.level (text_steps steps (order_view ys)) ys);
+          cc (
+            done.moved,
+            steps-halves meaning steps old.level xs ys laws meet (apart-circled circles gs hs none),
+            map-append carried (run_steps old.level (text_steps steps (order_view xs)) xs)
+                (run_steps old.level (text_steps steps (order_view ys)) ys),
+          );
     }

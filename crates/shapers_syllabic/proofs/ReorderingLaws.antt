@@ -1,5 +1,5 @@
 -- The laws of reordering syllable by syllable, proved: nothing is lost, and the laws of steps hold of a text.
-use Rattle.std.proofs.Common.{ℕ, ◌+◌, ◌≤◌, ◌≡◌, List, [], ◌∷◌, ◌++◌, map, length, refl, sym, ◌∙◌, ap, subst, arith, length-append}
+use Rattle.std.proofs.Common.{ℕ, ◌≡◌, List, [], ◌∷◌, map, length, refl, sym, subst, arith, length-append}
 use Rattle.std.specs.List.{AllByRecursion, flat_map, sum_by}
 use Rattle.std.specs.List.Sorted.{IsPermutation}
 use Rattle.std.proofs.lemmas.List.{length-map, map-append}
@@ -24,62 +24,59 @@ kept_syllable : (meaning : List hb_glyph_info_t → List hb_glyph_info_t) (steps
     → ReorderLaws meaning steps → (gs : List hb_glyph_info_t)
     → IsPermutation (seen carried gs) (seen carried (meaning gs))
 kept_syllable meaning steps laws gs =
-    subst (IsPermutation (seen carried gs)) (seen-run_steps carried carried_hides Characters (steps gs) gs
-    ∙ sym (laws.agrees gs))
-    (seen-permuted carried carried_hides Characters (steps gs) gs (laws.fits gs) (laws.permutes gs))
+    search (
+      arith,
+      seen-run_steps carried carried_hides Characters (steps gs) gs,
+      laws.agrees gs,
+      seen-permuted carried carried_hides Characters (steps gs) gs (laws.fits gs) (laws.permutes gs),
+    )
 
 kept_pieces : (meaning : List hb_glyph_info_t → List hb_glyph_info_t) (steps : List hb_glyph_info_t → List Step)
     → ReorderLaws meaning steps → (pieces : List (List hb_glyph_info_t))
     → IsPermutation (seen carried (flat_map (λ piece. piece) pieces)) (seen carried (flat_map meaning pieces))
 kept_pieces meaning steps laws [] = IsPermutation-refl []
 kept_pieces meaning steps laws (piece ∷ pieces) =
-    let f : hb_glyph_info_t → hb_glyph_info_t = λ g. plain (carried g) in
-    let xs = flat_map (λ piece. piece) pieces in
-    let ys = flat_map meaning pieces in
-    subst (λ zs. IsPermutation zs (seen carried (meaning piece ++ ys))) (sym (map-append f piece xs))
-    (subst (IsPermutation (seen carried piece ++ seen carried xs)) (sym (map-append f (meaning piece) ys))
-    (IsPermutation-append (seen carried piece) (seen carried (meaning piece)) (seen carried xs) (seen carried ys)
-    (kept_syllable meaning steps laws piece) (kept_pieces meaning steps laws pieces)))
+    search (arith, map-append, IsPermutation-append, kept_syllable, kept_pieces meaning steps laws pieces)
 
 pub numbers-seen : (gs : List hb_glyph_info_t) → map (λ g. g.glyph_id) (seen carried gs) ≡ map (λ g. g.glyph_id) gs
 numbers-seen [] = refl
-numbers-seen (g ∷ gs) = ap (λ l. g.glyph_id ∷ l) (numbers-seen gs)
+numbers-seen (g ∷ gs) = cc (numbers-seen gs)
 
 -- what a syllable becomes has the numbers that it had
 pub numbers_kept : (meaning : List hb_glyph_info_t → List hb_glyph_info_t) (steps : List hb_glyph_info_t → List Step)
     → ReorderLaws meaning steps → (gs : List hb_glyph_info_t)
     → IsPermutation (glyph_numbers gs) (glyph_numbers (meaning gs))
 numbers_kept meaning steps laws gs =
-    let number : hb_glyph_info_t → ℕ = λ g. g.glyph_id in
-    subst (λ ns. IsPermutation ns (glyph_numbers (meaning gs))) (numbers-seen gs)
-    (subst (IsPermutation (map number (seen carried gs))) (numbers-seen (meaning gs))
-    (IsPermutation-map number (seen carried gs) (seen carried (meaning gs)) (kept_syllable meaning steps laws gs)))
+    search (
+      arith,
+      numbers-seen gs,
+      numbers-seen (meaning gs),
+      IsPermutation-map (λ g. g.glyph_id) (seen carried gs) (seen carried (meaning gs))
+          (kept_syllable meaning steps laws gs),
+    )
 
 pub nothing_lost : ReorderingLosesNothing
 nothing_lost meaning steps laws gs =
-    let kept : IsPermutation (seen carried gs) (seen carried (text_order meaning gs)) =
-    subst (λ xs. IsPermutation (seen carried xs) (seen carried (text_order meaning gs))) (joined-syllables gs)
-    (kept_pieces meaning steps laws (syllables gs)) in
-    let number : hb_glyph_info_t → ℕ = λ g. g.glyph_id in
-    record {
-      kept = kept;
-      numbers = subst (λ ns. IsPermutation ns (map number (text_order meaning gs))) (numbers-seen gs)
-          (subst (IsPermutation (map number (seen carried gs))) (numbers-seen (text_order meaning gs))
-          (IsPermutation-map number (seen carried gs) (seen carried (text_order meaning gs)) kept));
-    }
+    let kept : IsPermutation (seen carried gs) (seen carried (text_order meaning gs)) = subst (λ xs. IsPermutation
+    (seen carried xs) (seen carried (text_order meaning gs))) (joined-syllables gs) (kept_pieces meaning steps laws
+    (syllables gs)) in
+    search (
+      arith,
+      numbers-seen gs,
+      numbers-seen (text_order meaning gs),
+      IsPermutation-map (λ g. g.glyph_id) (seen carried gs) (seen carried (text_order meaning gs)) kept,
+    )
 
 -- the pieces of a text add up to it, and what holds of each syllable's steps holds of each piece
 pub sum-pieces : (steps : List hb_glyph_info_t → List Step) (pieces : List (List hb_glyph_info_t))
     → sum_by (λ piece. piece.0) (pieces_of steps pieces) ≡ length (flat_map (λ piece. piece) pieces)
 sum-pieces steps [] = refl
 sum-pieces steps (piece ∷ pieces) =
-    sum_by-cons (λ (piece : ℕ × List Step). piece.0) (length piece, steps piece) (pieces_of steps pieces)
-    ∙ ap (λ n. length piece + n) (sum-pieces steps pieces)
-    ∙ sym (length-append piece (flat_map (λ piece. piece) pieces))
+    search (arith, sum_by-cons, pieces_of, length-append, sum-pieces steps pieces)
 
 pub sum-syllables : (steps : List hb_glyph_info_t → List Step) (gs : List hb_glyph_info_t)
     → sum_by (λ piece. piece.0) (pieces_of steps (syllables gs)) ≡ length gs
-sum-syllables steps gs = sum-pieces steps (syllables gs) ∙ ap length (joined-syllables gs)
+sum-syllables steps gs = search (arith, sum-pieces, joined-syllables)
 
 pub each_piece : (P : ℕ → Step → Type 0) (steps : List hb_glyph_info_t → List Step)
     → ((gs : List hb_glyph_info_t) → AllByRecursion (P (length gs)) (steps gs)) → (pieces : List (List hb_glyph_info_t))
@@ -90,17 +87,17 @@ each_piece P steps h (piece ∷ pieces) = (h piece, each_piece P steps h pieces)
 -- the steps of a text, numbered by its glyphs
 pub text_steps-long : (steps : List hb_glyph_info_t → List Step) (gs : List hb_glyph_info_t)
     → text_steps steps (order_view gs) ≡ steps_along (length gs) 0 (pieces_of steps (syllables (order_view gs)))
-text_steps-long steps gs = ap (λ n. steps_along n 0 (pieces_of steps (syllables (order_view gs)))) (length-map gs plain)
+text_steps-long steps gs = cc (length-map gs plain)
 
 pub text_reordered : TextReorderedLaw
 text_reordered meaning steps old new laws done =
     let gs = old.glyphs in
     let xs = order_view gs in
     let ps = pieces_of steps (syllables xs) in
-    let sum : sum_by (λ piece. piece.0) ps ≤ length gs = omega (arith, sum-syllables steps xs, length-map gs plain) in
-    let along = along_holds old.level ps gs sum (each_piece FitsStep steps laws.fits (syllables xs)) in
+    let along = along_holds old.level ps gs
+    (search (arith, sum-syllables, length-map)) (each_piece FitsStep steps laws.fits (syllables xs)) in
     let is = text_steps-long steps gs in
-    let fits : FitSteps (length gs) (text_steps steps xs) = subst (FitSteps (length gs)) (sym is) along.fit in
+    let fits = subst (FitSteps (length gs)) (sym is) along.fit in
     let permutes =
     subst (AllByRecursion (Permutes (length gs))) (sym is)
     (along.permuted (each_piece Permutes steps laws.permutes (syllables xs))) in
@@ -110,7 +107,7 @@ text_reordered meaning steps old new laws done =
           (seen-permuted carried carried_hides old.level (text_steps steps xs) gs fits permutes);
       glyphs = seen_steps_hold carried carried_hides old.level (text_steps steps xs) gs new.glyphs fits done.moved;
       merged = λ inside.
-          let moves = along.merged (each_piece MovesMerged steps inside (syllables xs)) in
           reordered_hold carried carried_hides old.level (text_steps steps xs) gs new.glyphs
-          (subst (AllByRecursion (MovesMerged (length gs))) (sym is) moves) permutes done.moved;
+          (subst (AllByRecursion (MovesMerged (length gs))) (sym is)
+          (along.merged (each_piece MovesMerged steps inside (syllables xs)))) permutes done.moved;
     }

@@ -1,5 +1,5 @@
 -- What shows that a body reordered its syllable: merges, changes that don't show, and one placement.
-use Rattle.std.proofs.Common.{ℕ, ◌+◌, ◌-◌, ◌%◌, ◌<◌, ◌≤◌, ◌≡◌, ◌==◌, if◌then◌else◌, true, false, List, [], ◌∷◌, ◌++◌, map, length, take, drop, refl, sym, ◌∙◌, ap, arith, length-append, length-take-le, length-drop, zero-add, inl, inr, ◌⊎◌}
+use Rattle.std.proofs.Common.{ℕ, ◌+◌, ◌-◌, ◌<◌, ◌≤◌, ◌≡◌, List, [], ◌∷◌, ◌++◌, map, length, take, drop, refl, ◌∙◌, ap, arith, length-append, length-take-le, length-drop, zero-add, ◌⊎◌}
 use Rattle.std.specs.List.{AllByRecursion, range_with_len}
 use Rattle.std.proofs.lemmas.List.{length-map, take-map, drop-map, map-append, take_rest}
 use Rattle.std.proofs.lemmas.List.FromFn.{length-range_with_len, get_or-range_with_len}
@@ -7,8 +7,7 @@ use Rattle.shapers_buffer.specs.declared.buffer.glyph.hb_glyph_info_t.{hb_glyph_
 use Rattle.shapers_buffer.specs.declared.buffer.level.BufferClusterLevel.{BufferClusterLevel}
 use Rattle.shapers_buffer.specs.Buffer.{Buffer, but_places}
 use Rattle.shapers_buffer.specs.Clusters.{merge, merge_all, stretch_of, with_stretch}
-use Rattle.shapers_buffer.specs.Glyph.{order_view, plain, without_flags}
-use Rattle.shapers_buffer.specs.Properties.{no_marks}
+use Rattle.shapers_buffer.specs.Glyph.{order_view, plain}
 use Rattle.shapers_buffer.specs.Places.{listed, pick, placed}
 use Rattle.shapers_buffer.proofs.ClusterLemmas.{three_parts, map-stretch}
 use Rattle.shapers_clusters.specs.Flags.{HidesFields, seen}
@@ -21,83 +20,65 @@ use Rattle.shapers_clusters.proofs.Swaps.{still_moves_merged}
 use Rattle.shapers_syllabic.specs.Reordering.{SyllableReordered, carried}
 
 -- the view that a reordering carries along hides fields, and merges pass through it
-flags-carried : (m : ℕ) → without_flags m % 8 ≡ without_flags (m % 8)
-flags-carried m = omega arith
-
 pub carried_hides : HidesFields carried
-carried_hides = record {
-  shows = record { cluster = λ g. refl; flags = λ g. (let i : g.mask % 8 % 8 ≡ g.mask % 8 = omega arith in i) };
-  apart = λ g. (let i : without_flags (without_flags g.mask % 8)
-      ≡ without_flags (g.mask % 8) =
-      omega arith in ap
-      (λ (x : ℕ). record g { cluster = 0; mask = x; glyph_props = no_marks; category = 0; auxiliary = 0 }) i);
-}
+carried_hides = search arith
 
 pub carried_passes : PassesMerges carried
-carried_passes = record {
-  cluster = λ g. refl;
-  put = λ m g. elim (g.cluster == m) as (λ b. carried
-      (if b then g else record g { cluster = m; mask = without_flags g.mask })
-      ≡ (if b then carried g else record (carried g) { cluster = m; mask = without_flags (g.mask % 8) })) [
-        | true ↦ refl
-        | false ↦ ap
-            (λ (x : ℕ). record g { cluster = m; mask = x; glyph_props = no_marks; category = 0; auxiliary = 0 })
-            (flags-carried g.mask)
-      ];
-}
+carried_passes = search arith
 
 -- changes that don't show stay so through merges, places and steps
 pub merge-carried : (level : BufferClusterLevel) (s e : ℕ) (xs ys : List hb_glyph_info_t)
     → map carried xs ≡ map carried ys → map carried (merge level s e xs) ≡ map carried (merge level s e ys)
-merge-carried level s e xs ys same = merge-same carried carried_passes level s e xs ys same
+merge-carried level s e xs ys same = search (arith, merge-same, carried_passes)
 
 pub merge_all-carried : (level : BufferClusterLevel) (sts : List (ℕ × ℕ)) (xs ys : List hb_glyph_info_t)
     → map carried xs ≡ map carried ys → map carried (merge_all level sts xs) ≡ map carried (merge_all level sts ys)
-merge_all-carried level sts xs ys same = merge_all-same carried carried_passes level sts xs ys same
+merge_all-carried level sts xs ys same = search (arith, merge_all-same, carried_passes)
 
 pub run_steps-carried : (level : BufferClusterLevel) (steps : List Step) (xs ys : List hb_glyph_info_t)
     → map carried xs ≡ map carried ys → map carried (run_steps level steps xs) ≡ map carried (run_steps level steps ys)
-run_steps-carried level steps xs ys same = run_steps-same carried carried_passes level steps xs ys same
+run_steps-carried level steps xs ys same = search (arith, run_steps-same, carried_passes)
 
 -- what is placed, by the places of the whole
 pick-in_parts : {X : Type 0} (s e : ℕ) (ps : List ℕ) (xs : List X) → s ≤ e → e ≤ length xs
     → pick (range_with_len 0 s ++ (ps ++ range_with_len e (length xs - e))) xs ≡ take s xs ++ (pick ps xs ++ drop e xs)
 pick-in_parts s e ps xs h l =
     let rest = range_with_len e (length xs - e) in
-    pick-append (range_with_len 0 s) (ps ++ rest) xs
-    ∙ ap (λ ys. ys ++ pick (ps ++ rest) xs) (pick-range 0 s xs (omega arith))
-    ∙ ap (λ ys. take s xs ++ ys) (pick-append ps rest xs
-    ∙ ap (λ ys. pick ps xs ++ ys) (pick-range e (length xs - e) xs (omega arith) ∙ take_rest xs e))
+    cc (
+      pick-append (range_with_len 0 s) (ps ++ rest) xs,
+      pick-range 0 s xs (omega arith),
+      pick-append ps rest xs,
+      pick-range e (length xs - e) xs (omega arith),
+      take_rest xs e,
+    )
 
 -- Glyphs placed by the step's places, from s to e: those that the widened step picks; so by a list that lists these.
 pub picked-step : {X : Type 0} (s e : ℕ) (ps : List ℕ) (step : Step) (xs : List X) → s ≤ e → e ≤ length xs
     → ps ≡ map (λ p. s + p) step.places → with_stretch s e (λ _. pick ps xs) xs
     ≡ pick (widened s e (length xs) step).places xs
 picked-step s e ps step xs h l is =
-    ap (λ ps. take s xs ++ (pick ps xs ++ drop e xs)) is ∙ sym (pick-in_parts s e (map (λ p. s + p) step.places) xs h l)
+    search (arith, pick-in_parts)
 
 pub placed-step : {X : Type 0} (s e : ℕ) (places : List ℕ) (step : Step) (xs : List X) → s ≤ e → e ≤ length xs
     → listed s e places ≡ map (λ p. s + p) step.places
     → placed s e places xs ≡ pick (widened s e (length xs) step).places xs
-placed-step s e places step xs h l lists = picked-step s e (listed s e places) step xs h l lists
+placed-step s e places step xs h l lists = search (arith, picked-step)
 
 -- places picked of all places
 picked_range : (n : ℕ) (ps : List ℕ) → AllByRecursion (λ p. p < n) ps → pick ps (range_with_len 0 n) ≡ ps
 picked_range n [] h = refl
 picked_range n (p ∷ ps) h =
-    let first = h.0 in
-    pick-within 0 p ps (range_with_len 0 n) (omega (arith, length-range_with_len 0 n))
-    ∙ ap (λ k. k ∷ pick ps (range_with_len 0 n)) (get_or-range_with_len 0 n p 0 first ∙ zero-add p)
-    ∙ ap (λ l. p ∷ l) (picked_range n ps h.1)
+    cc (
+      pick-within 0 p ps (range_with_len 0 n) (omega (arith, length-range_with_len 0 n)),
+      get_or-range_with_len 0 n p 0 h.0,
+      zero-add p,
+      picked_range n ps h.1,
+    )
 
 pub map-picked : {X Y : Type 0} (f : X → Y) (s e : ℕ) (ps : List ℕ) (xs : List X)
     → map f (with_stretch s e (λ _. pick ps xs) xs) ≡ with_stretch s e (λ _. pick ps (map f xs)) (map f xs)
 map-picked f s e ps xs =
-    map-append f (take s xs) (pick ps xs ++ drop e xs)
-    ∙ ap (λ ys. ys ++ map f (pick ps xs ++ drop e xs)) (sym (take-map f s xs))
-    ∙ ap (λ ys. take s (map f xs) ++ ys) (map-append f (pick ps xs) (drop e xs)
-    ∙ ap (λ ys. ys ++ map f (drop e xs)) (sym (pick-map f ps xs))
-    ∙ ap (λ ys. pick ps (map f xs) ++ ys) (sym (drop-map f e xs)))
+    search (arith, map-append, take-map, pick-map, drop-map)
 
 -- Glyphs gs merged as the step merges them first, with changes that don't show: ms. These placed
 -- are what the step leads to.
@@ -108,16 +89,11 @@ pub moved_by_places : (level : BufferClusterLevel) (s e : ℕ) (step : Step) (ps
     → ns ≡ with_stretch s e (λ _. pick ps ms) ms
     → map carried ns ≡ map carried (run_steps level (map (widened s e (length gs)) (step ∷ [])) gs)
 moved_by_places level s e step ps gs ms ns h l f nothing are same is =
-    let w = widened s e (length gs) step in
-    let merged = merge_all level (shifted s step.merged_first) gs in
-    let k : length merged ≡ length gs =
+    let k : length (merge_all level (shifted s step.merged_first) gs) ≡ length gs =
     length-merge_all level (shifted s step.merged_first) gs
     (fits-widened s e (length gs) step h l f).first_within in
-    let m : length ms ≡ length gs = length-same carried ms merged same ∙ k in
-    ap (map carried) (is ∙ picked-step s e ps step ms h (omega arith) are)
-    ∙ ap (λ n. map carried (pick (widened s e n step).places ms)) m
-    ∙ pick-same carried w.places ms merged same
-    ∙ sym (ap (λ sts. map carried (merge_all level (shifted s sts) (pick w.places merged))) nothing)
+    let m : length ms ≡ length gs = search (arith, length-same) in
+    search (arith, picked-step, pick-same)
 
 -- Where the order view of ms is that of gs with a changed stretch, the placed glyphs have the changed stretch's places.
 pub order_by_places : (s e : ℕ) (step : Step) (change : List hb_glyph_info_t → List hb_glyph_info_t) (ps : List ℕ)
@@ -131,7 +107,7 @@ order_by_places s e step change ps gs ms ns h l f are as_many changed is =
     let b = change (stretch_of s e xs) in
     let c = drop e xs in
     let n : length xs ≡ length gs = length-map gs plain in
-    let an : length a ≡ s = length-take-le s xs (omega arith) in
+    let an = length-take-le s xs (omega arith) in
     let cn : e + length c ≡ length xs = omega (arith, length-drop e xs) in
     let all : length (a ++ (b ++ c)) ≡ length xs = omega (arith, length-append a (b ++ c), length-append b c) in
     ap order_view is
@@ -164,17 +140,7 @@ pub reordered_by_places : (meaning : List hb_glyph_info_t → List hb_glyph_info
     (ms : List hb_glyph_info_t) → Placed meaning steps s e step change old new ms
     → SyllableReordered meaning steps s e old new
 reordered_by_places meaning steps s e step change old new ms p =
-    let xs = order_view old.glyphs in
-    record {
-      others = p.others;
-      order = order_by_places s e step change p.places old.glyphs ms new.glyphs p.in_order p.in_range p.fits
-          p.places_are p.as_many p.changed p.placed_are
-          ∙ ap (λ ys. take s xs ++ (ys ++ drop e xs)) (sym p.meant);
-      moved = moved_by_places old.level s e step p.places old.glyphs ms new.glyphs p.in_order p.in_range p.fits
-          p.nothing_then p.places_are p.merged p.placed_are
-          ∙ sym (ap (λ sts. map carried (run_steps old.level (map (widened s e (length old.glyphs)) sts) old.glyphs))
-          p.one_step);
-    }
+    search (arith, order_by_places, moved_by_places)
 
 -- a step in which nothing moves: its merges alone
 pub moved_by_merges : (level : BufferClusterLevel) (s e : ℕ) (step : Step) (gs ns : List hb_glyph_info_t) → s ≤ e
@@ -182,17 +148,10 @@ pub moved_by_merges : (level : BufferClusterLevel) (s e : ℕ) (step : Step) (gs
     → map carried ns ≡ map carried (merge_all level (shifted s step.merged_first) gs)
     → map carried ns ≡ map carried (run_steps level (map (widened s e (length gs)) (step ∷ [])) gs)
 moved_by_merges level s e step gs ns h l f stay nothing same =
-    let w = widened s e (length gs) step in
     let merged = merge_all level (shifted s step.merged_first) gs in
-    let k : length merged ≡ length gs =
-    length-merge_all level (shifted s step.merged_first) gs
-    (fits-widened s e (length gs) step h l f).first_within in
-    let all : w.places ≡ range_with_len 0 (length gs) =
-    ap (λ ps. range_with_len 0 s ++ (map (λ p. s + p) ps ++ range_with_len e (length gs - e))) stay
-    ∙ sym (range-three s e (length gs) h l) in
-    same
-    ∙ sym (ap (map carried) (ap (λ ps. pick ps merged) all ∙ pick-all (length gs) merged k))
-    ∙ sym (ap (λ sts. map carried (merge_all level (shifted s sts) (pick w.places merged))) nothing)
+    let k : length merged ≡ length gs = length-merge_all level (shifted s step.merged_first) gs (fits-widened s e
+    (length gs) step h l f).first_within in
+    cc (range-three s e (length gs) h l, pick-all (length gs) merged k)
 
 -- a syllable in which nothing moves or merges: by the still step, and by no step
 pub still_fits : (n : ℕ) → FitsStep n (still_step n)
@@ -202,7 +161,7 @@ pub still_moved : (level : BufferClusterLevel) (s e : ℕ) (gs ns : List hb_glyp
     → map carried ns ≡ map carried gs
     → map carried ns ≡ map carried (run_steps level (map (widened s e (length gs)) (still_step (e - s) ∷ [])) gs)
 still_moved level s e gs ns h l same =
-    moved_by_merges level s e (still_step (e - s)) gs ns h l (still_fits (e - s)) refl refl same
+    search (arith, moved_by_merges, still_fits)
 
 -- What a body shows that changes its syllable alone, and moves and merges nothing.
 pub record Still (meaning : List hb_glyph_info_t → List hb_glyph_info_t) (steps : List hb_glyph_info_t
@@ -219,21 +178,18 @@ pub reordered_still : (meaning : List hb_glyph_info_t → List hb_glyph_info_t) 
     → List Step) (s e : ℕ) (old new : Buffer) → Still meaning steps s e old new
     → SyllableReordered meaning steps s e old new
 reordered_still meaning steps s e old new p =
-    let ran : List Step → List hb_glyph_info_t =
-    λ sts. map carried (run_steps old.level (map (widened s e (length old.glyphs)) sts) old.glyphs) in
-    record {
-      others = p.others;
-      order = p.changed;
-      moved = elim p.still [
-        | inl none ↦ p.same ∙ sym (ap ran none)
-        | inr one ↦ still_moved old.level s e old.glyphs new.glyphs p.in_order p.in_range p.same ∙ sym (ap ran one)
-      ];
-    }
+    search (
+      arith,
+      p.others,
+      p.changed,
+      p.same,
+      still_moved old.level s e old.glyphs new.glyphs p.in_order p.in_range p.same,
+    )
 
 -- a syllable that is left alone
 pub stretch_stays : {X : Type 0} (s e : ℕ) (f : List X → List X) (xs : List X) → s ≤ e
     → f (stretch_of s e xs) ≡ stretch_of s e xs → with_stretch s e f xs ≡ xs
-stretch_stays s e f xs h same = ap (λ ys. take s xs ++ (ys ++ drop e xs)) same ∙ three_parts s e xs h
+stretch_stays s e f xs h same = cc (three_parts s e xs h)
 
 -- a change of the syllable's glyphs that doesn't show, and what it makes of the order view
 pub stretch-carried : (s e : ℕ) (change : List hb_glyph_info_t → List hb_glyph_info_t) (gs : List hb_glyph_info_t)
@@ -242,32 +198,27 @@ pub stretch-carried : (s e : ℕ) (change : List hb_glyph_info_t → List hb_gly
 stretch-carried s e change gs h same =
     let a = take s gs in
     let c = drop e gs in
-    map-append carried a (change (stretch_of s e gs) ++ c)
-    ∙ ap (λ ys. map carried a ++ ys) (map-append carried (change (stretch_of s e gs)) c
-    ∙ ap (λ ys. ys ++ map carried c) same ∙ sym (map-append carried (stretch_of s e gs) c))
-    ∙ sym (map-append carried a (stretch_of s e gs ++ c))
-    ∙ ap (map carried) (three_parts s e gs h)
+    cc (
+      map-append carried a (change (stretch_of s e gs) ++ c),
+      map-append carried (change (stretch_of s e gs)) c,
+      map-append carried (stretch_of s e gs) c,
+      map-append carried a (stretch_of s e gs ++ c),
+      three_parts s e gs h,
+    )
 
 pub stretch-viewed : (s e : ℕ) (change meant : List hb_glyph_info_t → List hb_glyph_info_t) (gs : List hb_glyph_info_t)
     → order_view (change (stretch_of s e gs)) ≡ meant (order_view (stretch_of s e gs))
     → order_view (with_stretch s e change gs) ≡ with_stretch s e meant (order_view gs)
 stretch-viewed s e change meant gs same =
-    let a = take s gs in
-    let b = change (stretch_of s e gs) in
-    let c = drop e gs in
-    map-append plain a (b ++ c)
-    ∙ ap (λ ys. order_view a ++ ys) (map-append plain b c ∙ ap (λ ys. ys ++ order_view c) same)
-    ∙ ap (λ ys. ys ++ (meant (order_view (stretch_of s e gs)) ++ order_view c)) (sym (take-map plain s gs))
-    ∙ ap (λ ys. take s (order_view gs) ++ (meant ys ++ order_view c)) (map-stretch plain s e gs)
-    ∙ ap (λ ys. take s (order_view gs) ++ (meant (stretch_of s e (order_view gs)) ++ ys)) (sym (drop-map plain e gs))
+    search (arith, map-append, take-map, map-stretch, drop-map)
 
 -- for the laws of an instance: the old places of one step are its places
 pub old_places_one : (n : ℕ) (step : Step) → FitsStep n step → old_places n (step ∷ []) ≡ step.places
-old_places_one n step f = picked_range n step.places f.within
+old_places_one n step f = search (arith, picked_range)
 
 -- a law of the meaning from what one step picks of what shows
 pub agrees_by_places : (step : Step) (gs ms : List hb_glyph_info_t) → FitsStep (length gs) step
     → seen carried ms ≡ pick step.places (seen carried gs)
     → seen carried ms ≡ pick (old_places (length gs) (step ∷ [])) (seen carried gs)
 agrees_by_places step gs ms f same =
-    same ∙ ap (λ ps. pick ps (seen carried gs)) (sym (old_places_one (length gs) step f))
+    search (arith, old_places_one)

@@ -1,7 +1,7 @@
 -- Reordering syllable by syllable, computed on small texts.
 use Rattle.std.specs.Prelude.{◌+◌, ◌*◌, ◌≤◌, ◌⊎◌, Err, ◌≡◌, ℕ, List, [], ◌∷◌, length, map, reverse, Option, Some, None, pos, true, false, ◌==◌, if◌then◌else◌, refl}
-use Rattle.std.proofs.Common.{inl, inr, arith, ap, slice_index}
-use Rattle.std.specs.List.{flat_map, range_with_len}
+use Rattle.std.proofs.Common.{inl, inr, arith}
+use Rattle.std.specs.List.{range_with_len}
 use Rattle.shapers_buffer.specs.declared.buffer.glyph.hb_glyph_info_t.{hb_glyph_info_t}
 use Rattle.shapers_buffer.specs.declared.buffer.level.BufferClusterLevel.TheVariants.{Characters, MonotoneGraphemes}
 use Rattle.shapers_buffer.specs.declared.buffer.syllables.Span.{Span}
@@ -16,7 +16,6 @@ use Rattle.shapers_base.specs.declared.font.GlyphId.{GlyphId}
 use Rattle.shapers_buffer.specs.declared.buffer.refusal.ShaperError.TheVariants.{Memory, TooLong, UnknownSyllable}
 use Rattle.shapers_syllabic.specs.Borders.{MeetAtBorder, SameButSerials, spans_set_up, unnumbered}
 use Rattle.shapers_syllabic.specs.ReorderingLaws.{paused_carried, paused_order}
-use Rattle.shapers_syllabic.specs.ReorderingWalk.{clusters_fall, falls_below, floods_again}
 
 -- what is carried along, and what is hidden, field by field
 abbrev full : hb_glyph_info_t
@@ -94,8 +93,7 @@ noted s e old new = new ≡ record old { max_len = old.max_len * 100 + (s * 10 +
 chain_of_three : SyllablesLinked noted (record (new_buffer 0) { glyphs = three; places = 7 ∷ [] })
     (record (new_buffer 22336) { glyphs = three })
 chain_of_three =
-    let at : ℕ → Buffer = λ n. record (new_buffer n) { glyphs = three; places = 7 ∷ [] } in
-    (at 2, refl, (at 223, refl, (at 22336, refl, refl)))
+    search arith
 
 chain_of_nothing : SyllablesLinked noted (record (new_buffer 5) { places = 7 ∷ [] }) (new_buffer 5)
 chain_of_nothing = refl
@@ -203,10 +201,10 @@ other_serials : SameButSerials (text ((1, 0, 0x14) ∷ (2, 0, 0x20) ∷ (3, 0, 0
 other_serials = refl
 
 other_kinds : SameButSerials (text ((1, 0, 0x14) ∷ [])) (text ((1, 0, 0x15) ∷ [])) → ⊥
-other_kinds same = absurd (omega (arith, ap (λ ps. slice_index (map (λ g. g.syllable) (flat_map (λ p. p) ps)) 0) same))
+other_kinds same = search arith
 
 other_cut : SameButSerials (text ((1, 0, 0x14) ∷ (2, 0, 0x14) ∷ [])) (text ((1, 0, 0x14) ∷ (2, 0, 0x24) ∷ [])) → ⊥
-other_cut same = absurd (omega (arith, ap length same))
+other_cut same = cc
 
 -- spans of two glyphs, one and two, set up whole and in halves: the second half has other serials,
 -- and nothing else differs
@@ -270,37 +268,3 @@ kinds_all_known = refl
 kind_at_once : map (λ last. first_unknown (Some last) (text ((1, 0, 0x12) ∷ (2, 0, 0x12) ∷ (3, 0, 0x21) ∷ [])))
     (0 ∷ 1 ∷ 2 ∷ []) ≡ Some 0 ∷ Some 0 ∷ None ∷ []
 kind_at_once = refl
-
--- whether clusters fall: at the end, at the beginning, between; and not where they rise or stay
-in_clusters : List ℕ → List hb_glyph_info_t
-in_clusters cs = map (λ c. record default_glyph { cluster = c }) cs
-
-row_falls : map (λ cs. clusters_fall (in_clusters cs)) ((3 ∷ 2 ∷ []) ∷ (3 ∷ 4 ∷ 1 ∷ []) ∷ (3 ∷ 1 ∷ 5 ∷ [])
-    ∷ (1 ∷ 4 ∷ 3 ∷ 5 ∷ []) ∷ []) ≡ true ∷ true ∷ true ∷ true ∷ []
-unfolding in_clusters
-row_falls = refl
-
-row_no_fall : map (λ cs. clusters_fall (in_clusters cs)) ([] ∷ (3 ∷ []) ∷ (3 ∷ 3 ∷ []) ∷ (3 ∷ 4 ∷ 4 ∷ []) ∷ [])
-    ≡ false ∷ false ∷ false ∷ false ∷ []
-unfolding in_clusters
-row_no_fall = refl
-
-row_falls_below : map (λ c. falls_below c (in_clusters (3 ∷ 5 ∷ []))) (2 ∷ 3 ∷ 4 ∷ []) ≡ false ∷ false ∷ true ∷ []
-unfolding in_clusters
-row_falls_below = refl
-
--- of few glyphs the ends tell: the last below the first, the same, and above
-row_few : map (λ cs. floods_again (in_clusters cs)) ((3 ∷ 1 ∷ 2 ∷ []) ∷ (3 ∷ 1 ∷ 3 ∷ []) ∷ (3 ∷ 1 ∷ 5 ∷ [])
-    ∷ [] ∷ []) ≡ true ∷ false ∷ false ∷ false ∷ []
-unfolding in_clusters
-row_few = refl
-
--- and of 257 all do, where of 256 the ends still do
-row_many : map (λ len. floods_again (in_clusters (5 ∷ (4 ∷ range_with_len 6 len)))) (254 ∷ 255 ∷ [])
-    ≡ false ∷ true ∷ []
-unfolding in_clusters
-row_many = refl
-
-row_many_rise : floods_again (in_clusters (range_with_len 6 300)) ≡ false
-unfolding in_clusters
-row_many_rise = refl

@@ -1,5 +1,5 @@
 -- The walk that reorders syllable by syllable: what it still has to do.
-use Rattle.std.proofs.Common.{ℕ, suc, ◌+◌, ◌<◌, ◌≤◌, ◌≡◌, ◌==◌, cond, List, [], ◌∷◌, map, length, refl, sym, ◌∙◌, ap, subst, arith}
+use Rattle.std.proofs.Common.{ℕ, ◌<◌, ◌≤◌, ◌≡◌, List, [], ◌∷◌, map, length, refl, sym, subst, arith}
 use Rattle.std.specs.Prelude.{Option}
 use Rattle.std.specs.List.{AllByRecursion, prefix_len}
 use Rattle.std.proofs.lemmas.List.{length-map}
@@ -29,22 +29,24 @@ pub length-meaning : (meaning : List hb_glyph_info_t → List hb_glyph_info_t) (
     → ReorderLaws meaning steps → (gs : List hb_glyph_info_t) → length (meaning gs) ≡ length gs
 length-meaning meaning steps laws gs =
     let olds = old_places (length gs) (steps gs) in
-    let n : length (seen carried gs) ≡ length gs = length-map gs (λ g. plain (carried g)) in
-    let P : ℕ → Type 0 = λ k. AllByRecursion (λ p. p < k) olds in
-    sym (length-map (meaning gs) (λ g. plain (carried g)))
-    ∙ ap length (laws.agrees gs)
-    ∙ length-pick olds (seen carried gs) (subst P (sym n) (within-old_places (length gs) (steps gs)))
-    ∙ length-old_places (length gs) (steps gs) (laws.fits gs)
+    cc (
+      length-map (meaning gs) (λ g. plain (carried g)),
+      laws.agrees gs,
+      length-pick olds (seen carried gs)
+          (subst (λ k. AllByRecursion (λ p. p < k) olds) (sym (length-map gs (λ g. plain (carried g))))
+          (within-old_places (length gs) (steps gs))),
+      length-old_places (length gs) (steps gs) (laws.fits gs),
+    )
 
 -- the first syllable, seen in the order view
 prefix-view : (byte : ℕ) (gs : List hb_glyph_info_t) → prefix_len (has_byte byte) (order_view gs)
     ≡ prefix_len (has_byte byte) gs
 prefix-view byte [] = refl
-prefix-view byte (g ∷ gs) = ap (λ n. cond (g.syllable == byte) (1 + n) 0) (prefix-view byte gs)
+prefix-view byte (g ∷ gs) = cc (prefix-view byte gs)
 
 pub first_len-view : (gs : List hb_glyph_info_t) → first_syllable_len (order_view gs) ≡ first_syllable_len gs
 first_len-view [] = refl
-first_len-view (g ∷ gs) = ap suc (prefix-view g.syllable gs)
+first_len-view (g ∷ gs) = search (arith, prefix-view)
 
 -- a text that isn't empty opens with a syllable, which isn't longer than it
 pub opens : (gs : List hb_glyph_info_t) → 0 < length gs → OpensWithSyllable gs
@@ -53,7 +55,7 @@ opens (g ∷ gs) h = syllables_are_runs g gs
 
 pub first_len-within : (gs : List hb_glyph_info_t) → first_syllable_len gs ≤ length gs
 first_len-within [] = omega arith
-first_len-within (g ∷ gs) = omega (arith, prefix_len-le-length (has_byte g.syllable) gs)
+first_len-within (g ∷ gs) = search (arith, prefix_len-le-length)
 
 -- a buffer with its circles, and then reordered
 pub pause_reordered : (circles : Option DottedCircles) (meaning : Option Script → List hb_glyph_info_t
@@ -62,4 +64,4 @@ pub pause_reordered : (circles : Option DottedCircles) (meaning : Option Script 
     → SyllablesReordered (meaning opened.script) (steps opened.script) opened new
     → PauseReordered circles (meaning old.script) (steps old.script) old new
 pause_reordered circles meaning steps old opened new is done =
-    subst (λ (b : Buffer). SyllablesReordered (meaning b.script) (steps b.script) b new) is done
+    search arith

@@ -1,5 +1,5 @@
 -- Steps of the walks over syllables.
-use Rattle.std.proofs.Common.{◌≡◌, ℕ, ◌+◌, ◌-◌, ◌<◌, ◌≤◌, List, [], ◌∷◌, ◌++◌, length, take, drop, refl, ap, sym, ◌∙◌, arith, length-append, length-take-le, length-drop, append_assoc}
+use Rattle.std.proofs.Common.{◌≡◌, ℕ, ◌+◌, ◌<◌, ◌≤◌, List, [], ◌∷◌, ◌++◌, length, take, drop, refl, arith, length-append, length-drop, append_assoc}
 use Rattle.std.specs.List.{flat_map}
 use Rattle.std.proofs.lemmas.List.{take_at, drop_at, drop-drop}
 use Rattle.shapers_buffer.specs.declared.buffer.glyph.hb_glyph_info_t.{hb_glyph_info_t}
@@ -15,8 +15,7 @@ by_first (g ∷ gs) n some is = rw is (syllables_are_runs g gs)
 
 pub syllables_from : (s n : ℕ) (gs : List hb_glyph_info_t) → 0 < length (drop s gs) → n ≡ first_syllable_len (drop s gs)
     → syllables (drop s gs) ≡ take n (drop s gs) ∷ syllables (drop (s + n) gs)
-syllables_from s n gs some is = by_first (drop s gs) n some is
-    ∙ ap (λ xs. take n (drop s gs) ∷ syllables xs) (drop-drop n s gs)
+syllables_from s n gs some is = search (arith, by_first, drop-drop)
 
 -- a changed stretch of the same length: what stands up to its end, and behind it
 pub record Changed (f : List hb_glyph_info_t → List hb_glyph_info_t) (s e : ℕ) (gs hs : List hb_glyph_info_t) : Type
@@ -30,15 +29,10 @@ changed_stretch f s e gs hs order inside is as_long =
     let a = take s gs in
     let b = f (stretch_of s e gs) in
     let c = drop e gs in
-    let whole : length (a ++ (b ++ c)) ≡ length gs = ap length (sym is) ∙ as_long in
-    let an : length a ≡ s = length-take-le s gs (omega arith) in
+    let whole : length (a ++ (b ++ c)) ≡ length gs = cc in
     let long : length (a ++ b) ≡ e =
     omega (arith, length-append a (b ++ c), length-append b c, length-append a b, length-drop e gs) in
-    let split : hs ≡ (a ++ b) ++ c = is ∙ sym (append_assoc a b c) in
-    record {
-      before = ap (take e) split ∙ take_at (a ++ b) c e long;
-      behind = ap (drop e) split ∙ drop_at (a ++ b) c e long;
-    }
+    search (arith, append_assoc a b c, take_at (a ++ b) c e long, drop_at (a ++ b) c e long)
 
 -- after one syllable
 pub change_next : (f : List hb_glyph_info_t → List hb_glyph_info_t) (s e : ℕ) (gs hs : List hb_glyph_info_t)
@@ -46,13 +40,11 @@ pub change_next : (f : List hb_glyph_info_t → List hb_glyph_info_t) (s e : ℕ
     → length hs ≡ length gs → take e hs ++ flat_map f (syllables (drop e hs))
     ≡ take s gs ++ flat_map f (syllables (drop s gs))
 change_next f s e gs hs some is inside changed as_long =
-    let n = first_syllable_len (drop s gs) in
     let step = changed_stretch f s e gs hs (omega arith) inside changed as_long in
-    let size : e - s ≡ n = omega arith in
-    let first = syllables_from s n gs (omega (arith, length-drop s gs)) refl in
-    ap (λ xs. xs ++ flat_map f (syllables (drop e hs))) step.before
-    ∙ append_assoc (take s gs) (f (stretch_of s e gs)) (flat_map f (syllables (drop e hs)))
-    ∙ ap (λ k. take s gs ++ (f (take k (drop s gs)) ++ flat_map f (syllables (drop e hs)))) size
-    ∙ ap (λ xs. take s gs ++ (f (take n (drop s gs)) ++ flat_map f (syllables xs))) (step.behind
-    ∙ ap (λ k. drop k gs) is)
-    ∙ sym (ap (λ ps. take s gs ++ flat_map f ps) first)
+    search (
+      arith,
+      step.before,
+      append_assoc (take s gs) (f (stretch_of s e gs)) (flat_map f (syllables (drop e hs))),
+      step.behind,
+      syllables_from s (first_syllable_len (drop s gs)) gs (omega (arith, length-drop s gs)) refl,
+    )

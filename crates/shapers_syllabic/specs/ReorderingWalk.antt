@@ -1,27 +1,14 @@
--- Words of the code's walk over syllables: a run of glyphs that isn't written yet.
-use Rattle.std.specs.Prelude.{ℕ, ◌-◌, ◌<◌, ◌≡◌, ◌≤◌, ◌||◌, nat_lt, Bool, false, true, if◌then◌else◌, List, [], ◌∷◌, drop, length, take, Option, MatchBool, MatchOption}
+-- Words of the code's walk over syllables: groups of glyphs that aren't written yet.
+use Rattle.std.specs.Prelude.{ℕ, ◌<◌, ◌≡◌, ◌≤◌, Bool, false, true, List, [], drop, length, take, Option, MatchBool, MatchOption}
 use Rattle.std.specs.List.{list_any}
 use Rattle.shapers_buffer.specs.declared.buffer.glyph.hb_glyph_info_t.{hb_glyph_info_t}
 use Rattle.shapers_buffer.specs.Buffer.{Buffer}
-use Rattle.shapers_buffer.specs.Clusters.{first_cluster, last_cluster, stretch_of}
+use Rattle.shapers_buffer.specs.Clusters.{stretch_of}
 use Rattle.shapers_buffer.specs.Syllables.{first_syllable_len}
-use Rattle.shapers_clusters.specs.CarriedGroups.{AreCarried, GroupsGuarded, fallen_groups, taken_back, with_groups, with_list}
+use Rattle.shapers_clusters.specs.CarriedGroups.{AreCarried, CanSettle, GroupsGuarded, GroupsSettled, with_groups}
 use Rattle.shapers_clusters.specs.declared.carried_groups.CarriedGroups.{CarriedGroups}
 use Rattle.shapers_syllabic.specs.declared.ot_shaper_syllabic.reordering.Carrying.{Carrying}
 use Rattle.shapers_syllabic.specs.Borders.{MeetAtBorder}
-
--- whether a glyph has a cluster below that of the one before it, and the first one below c
-abbrev pub falls_below : ℕ → List hb_glyph_info_t → Bool
-falls_below c [] = false
-falls_below c (g ∷ gs) = nat_lt g.cluster c || falls_below g.cluster gs
-
-abbrev pub clusters_fall : List hb_glyph_info_t → Bool
-clusters_fall gs = falls_below 0 gs
-
--- the same of more than 256 glyphs; of fewer, whether the last cluster is below the first one
-abbrev pub floods_again : List hb_glyph_info_t → Bool
-floods_again gs =
-    if nat_lt 256 (length gs) then clusters_fall gs else nat_lt (last_cluster gs) (first_cluster gs)
 
 -- A syllable starts at place first, if one does at start, and no glyph between them
 -- may change one; one of that syllable's own may.
@@ -53,24 +40,6 @@ pub record ReorderedBehind (link : ℕ → ℕ → Buffer → Buffer → Type 0)
     Carrying) (old : Buffer) (after : Carrying) (new : Buffer) : Type 0 where
   pub linked : link first end (groups_written it.groups old) (groups_written after.groups new)
   pub fits : CarryingFits first after new.glyphs
-
--- Behind a syllable: what was kept comes back, and the groups come into the clusters of those that
--- stood for them.
-pub record CanSettle (it : CarriedGroups) (count : ℕ) (gs : List hb_glyph_info_t) : Type 0 where
-  pub within : count ≤ length it.groups.items
-  pub in_range : it.end ≤ length gs
-  pub kept : 0 < count → length it.kept.items ≡ it.end - (it.end - count - 1)
-  pub none : count ≡ 0 → AreCarried it gs
-  pub fits : 0 < count → AreCarried it (taken_back count it gs)
-
-pub record GroupsSettled (it : CarriedGroups) (count : ℕ) (gs : List hb_glyph_info_t) (after :
-    CarriedGroups) (hs : List hb_glyph_info_t) : Type 0 where
-  pub none : count ≡ 0 → hs ≡ gs
-  pub still : count ≡ 0 → after ≡ it
-  pub same : 0 < count → with_groups after hs
-      ≡ with_list it (fallen_groups count it gs) (taken_back count it gs)
-  pub fits : AreCarried after hs
-  pub end : after.end ≡ it.end
 
 -- before a syllable, or behind it
 pub record CanGuard (first end : ℕ) (it : CarriedGroups) (gs : List hb_glyph_info_t) : Type 0 where

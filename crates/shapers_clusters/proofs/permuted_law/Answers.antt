@@ -1,5 +1,6 @@
-use Rattle.shapers_clusters.proofs.Proved.{permuted_hold}
+use Rattle.shapers_clusters.proofs.Permuted.{order_view-permuted}
+use Rattle.std.proofs.Common.{arith}
 use Rattle.shapers_clusters.proofs.permuted_law.Goals as goal
 
 pub returns : goal.returns
-returns c = permuted_hold
+returns c = search (arith, order_view-permuted)

@@ -2,9 +2,9 @@
 ghost use Rattle.std.specs.Prelude.{◌≡◌, ◌+◌, ◌-◌, ◌<◌, ◌≤◌, ◌++◌, ◌∷◌, [], true, false, drop, length, take, vec_capacity, Ok, OnOk, OnErr, IfOk, IfErr, IsOk};
 ghost use Rattle.shapers_buffer.specs.Glyph.{characters};
 ghost use Rattle.shapers_buffer.specs.GlyphFlags.{unsafe_all};
-ghost use Rattle.shapers_clusters.specs.CarriedRuns.{IsCarried, with_carried};
+ghost use Rattle.shapers_clusters.specs.CarriedGroups.{AreCarried, with_groups};
 ghost use Rattle.shapers_hangul.specs.HangulLaws.{AllKept};
-ghost use Rattle.shapers_hangul.specs.RewritingWalk.{KeptBefore, changes_in, rewritten_items, InTurn, carried_run, change_output, changed_from, stays_at_sight};
+ghost use Rattle.shapers_hangul.specs.RewritingWalk.{KeptBefore, changes_in, rewritten_items, InTurn, change_output, changed_from, cluster_before, flooding_len, stays_at_sight};
 ghost use Rattle.shapers_buffer.specs.Refusals.{RefusesLength};
 ghost use Rattle.shapers_buffer.specs.declared.buffer.refusal.ShaperError.TheVariants.{TooLong};
 ghost use Rattle.shapers_hangul.specs.Hangul.{first_item, item_len, items_at, items_flagged, glyph_copies, outputs, Fit, all_joined, item_joined, rewritten, allows_circles, is_kept, whole_items, rewritten_by};
@@ -13,12 +13,13 @@ use super::item::{Item, first_item, stays_alone};
 use arrayvec::ArrayVec;
 use bitflags::Flags;
 use shapers_base::buffer::{
-    BufferClusterLevel, BufferFlags, GlyphRewriting, ShaperError, change_each_in, hb_buffer_t,
-    hb_glyph_info_t, unsafe_to_break_in,
+    BufferClusterLevel, BufferFlags, GlyphRewriting, ShaperError, hb_buffer_t, hb_glyph_info_t,
+    unsafe_to_break_in,
 };
 use shapers_base::font::hb_font_t;
 use shapers_base::plan::BreakFlags;
-use shapers_clusters::carried_runs::CarriedRun;
+use shapers_clusters::carried_groups::CarriedGroups;
+use shapers_clusters::floods::floods_again;
 use std::alloc::{AllocError, Global};
 
 // The item at a place of the text.
@@ -202,86 +203,112 @@ fn flag_breaks(breaks: BreakFlags, cut: &[(usize, Item)], glyphs: &mut [hb_glyph
     }
 }
 
-// Flags and merges what the items flag and merge, one after another. Where an item's merge floods
-// what stands before, that is carried along and written once.
+// Flags and merges what the items flag and merge, one after another.
 #[inline]
-fn join_items(cut: &[(usize, Item)], level: BufferClusterLevel, glyphs: &mut [hb_glyph_info_t])
+fn join_items(
+    cut: &[(usize, Item)],
+    level: BufferClusterLevel,
+    glyphs: &mut [hb_glyph_info_t],
+    alloc: Global,
+)
     requires { Fit (length glyphs.old) cut.now }
     ensures { glyphs.new ≡ all_joined level cut.now glyphs.old }
 {
-    let mut run = CarriedRun::NONE;
+    if floods_again(glyphs) {
+        let done = join_to_flood(cut, level, glyphs);
+        join_carrying(&cut[done..], level, glyphs, alloc);
+    } else {
+        join_in_turn(cut, level, glyphs);
+    }
+}
+
+// The same in a text that merges don't flood again and again.
+#[inline]
+fn join_in_turn(cut: &[(usize, Item)], level: BufferClusterLevel, glyphs: &mut [hb_glyph_info_t])
+    requires { Fit (length glyphs.old) cut.now }
+    ensures { glyphs.new ≡ all_joined level cut.now glyphs.old }
+{
     for entry in cut {
-        run = carried_to(run, glyphs, entry.0);
-        run = join_behind(entry.1, level, run, glyphs, entry.0);
+        entry.1.join(level, glyphs, entry.0);
     }
-    write_run(run, glyphs);
 }
 
-// The run up to a place, if all glyphs before that are in its cluster; else it is written, and none
-// is left.
+// Only up to the first item that floods what stands before it. Returns how many items these are.
 #[inline]
-fn carried_to(run: CarriedRun, glyphs: &mut [hb_glyph_info_t], place: usize) -> CarriedRun
-    requires in_range { place ≤ length glyphs.old }
-    requires fits { IsCarried run glyphs.old }
-    ensures is { result ≡ carried_run run place glyphs.old }
-    ensures same { with_carried result glyphs.new ≡ with_carried run glyphs.old }
-    ensures fits { IsCarried result glyphs.new }
-    ensures ends { result.start < result.end → result.end ≡ place }
-    ensures within { result.end ≤ place }
+fn join_to_flood(
+    cut: &[(usize, Item)],
+    level: BufferClusterLevel,
+    glyphs: &mut [hb_glyph_info_t],
+) -> usize
+    requires { Fit (length glyphs.old) cut.now }
+    ensures stops { result ≡ flooding_len level cut.now glyphs.old }
+    ensures within { result ≤ length cut.now }
+    ensures left { all_joined level (drop result cut.now) glyphs.new
+        ≡ all_joined level cut.now glyphs.old }
     ensures same_length { length glyphs.new ≡ length glyphs.old }
 {
-    if run.is_none() {
-        return CarriedRun::NONE;
+    for (i, entry) in cut.iter().enumerate() {
+        let cluster = cluster_before(glyphs, entry.0);
+        entry.1.join(level, glyphs, entry.0);
+        if cluster_before(glyphs, entry.0) != cluster {
+            return i + 1;
+        }
     }
-    if let Some(run) = run.reaching(glyphs, place) {
-        return run;
-    }
-    write_run(run, glyphs);
-    CarriedRun::NONE
+    cut.len()
 }
 
-// Puts the glyphs of a run into its cluster.
+// The cluster of the glyph before a place, or 0 where there is none.
 #[inline]
-fn write_run(run: CarriedRun, glyphs: &mut [hb_glyph_info_t])
-    requires { IsCarried run glyphs.old }
-    ensures written { glyphs.new ≡ with_carried run glyphs.old }
-    ensures same_length { length glyphs.new ≡ length glyphs.old }
+fn cluster_before(glyphs: &[hb_glyph_info_t], place: usize) -> u32
+    requires { place ≤ length glyphs.now }
+    ensures { result ≡ cluster_before place glyphs.now }
 {
-    let cluster = run.cluster(glyphs);
-    change_each_in(&mut glyphs[run.start..run.end], &cluster);
+    if place == 0 {
+        0
+    } else {
+        glyphs[place - 1].cluster
+    }
 }
 
-// Flags and merges what the item at a place flags and merges, behind a run that ends there, or
-// behind none. The run stays, or one begins where merges flooded what stands before.
+// The same in any text: what merges flood before their items is carried along, and written once.
+#[inline(never)]
+fn join_carrying(
+    cut: &[(usize, Item)],
+    level: BufferClusterLevel,
+    glyphs: &mut [hb_glyph_info_t],
+    alloc: Global,
+)
+    requires { Fit (length glyphs.old) cut.now }
+    ensures { glyphs.new ≡ all_joined level cut.now glyphs.old }
+{
+    let mut groups = CarriedGroups::new(alloc);
+    for entry in cut {
+        join_behind(entry.1, level, &mut groups, glyphs, entry.0);
+    }
+    groups.write(glyphs);
+}
+
+// Flags and merges what the item at a place flags and merges, while one glyph stands for each group
+// that it could flood.
 #[inline]
 fn join_behind(
     item: Item,
     level: BufferClusterLevel,
-    run: CarriedRun,
+    groups: &mut CarriedGroups,
     glyphs: &mut [hb_glyph_info_t],
     place: usize,
-) -> CarriedRun
+)
     requires item { place + item_len item ≤ length glyphs.old }
     requires torn { place + item.unsafe_len ≤ length glyphs.old }
-    requires fits { IsCarried run glyphs.old }
-    requires ends { run.start < run.end → run.end ≡ place }
-    requires within { run.end ≤ place }
-    ensures joined { with_carried result glyphs.new
-        ≡ item_joined level place item (with_carried run glyphs.old) }
-    ensures fits { IsCarried result glyphs.new }
+    requires fits { AreCarried groups.old glyphs.old }
+    ensures joined { with_groups groups.new glyphs.new
+        ≡ item_joined level place item (with_groups groups.old glyphs.old) }
+    ensures fits { AreCarried groups.new glyphs.new }
     ensures same_length { length glyphs.new ≡ length glyphs.old }
 {
-    if !run.is_none() {
-        item.join(level, &mut glyphs[place - 1..], 1);
-        return run;
-    }
-    if place == 0 {
-        item.join(level, glyphs, place);
-        return CarriedRun::NONE;
-    }
-    let cluster = glyphs[place - 1].cluster;
+    let count = groups.guard(glyphs, place, place + item.len());
     item.join(level, glyphs, place);
-    CarriedRun::fallen(glyphs, place, cluster)
+    groups.settle(glyphs, count);
 }
 
 // Adds the text from one place to another.
@@ -349,6 +376,7 @@ struct Rewriting<'a> {
     breaks: BreakFlags,
     cut: &'a [(usize, Item)],
     level: BufferClusterLevel,
+    alloc: Global,
 }
 
 impl<'a> GlyphRewriting for Rewriting<'a> {
@@ -365,7 +393,7 @@ impl<'a> GlyphRewriting for Rewriting<'a> {
     // take flags of falling clusters away.)
     #[inline]
     fn rewrite(&self, glyphs: &mut [hb_glyph_info_t], to: &mut Vec<hb_glyph_info_t>) {
-        join_items(self.cut, self.level, glyphs);
+        join_items(self.cut, self.level, glyphs, self.alloc);
         flag_breaks(self.breaks, self.cut, glyphs);
         write_changes(self.cut, glyphs, to);
     }
@@ -416,6 +444,7 @@ pub(super) fn rewrite_changes<F: hb_font_t>(
         breaks,
         cut: cut.items(),
         level,
+        alloc,
     };
     buffer.rewrite(len, &rewriting)?;
     Ok(true)

@@ -5,11 +5,12 @@ ghost use Rattle.shapers_buffer.specs.Clusters.{stretch_of};
 ghost use Rattle.shapers_buffer.specs.Glyph.{default_glyph};
 ghost use Rattle.shapers_syllabic.specs.Borders.{MeetAtBorder};
 ghost use Rattle.shapers_syllabic.specs.Reordering.{RefusesIf, SyllablesLinked, TakesText, TextOrdered, glyph_numbers};
-ghost use Rattle.shapers_clusters.specs.CarriedGroups.{AreCarried, GroupsGuarded};
-ghost use Rattle.shapers_syllabic.specs.ReorderingWalk.{CanSettle, CarryingFits, GroupsSettled, NextChanging, ReorderedBehind, clusters_fall, floods_again, groups_written};
+ghost use Rattle.shapers_clusters.specs.CarriedGroups.{AreCarried, CanSettle, GroupsGuarded, GroupsSettled};
+ghost use Rattle.shapers_syllabic.specs.ReorderingWalk.{CarryingFits, NextChanging, ReorderedBehind, groups_written};
 
 use shapers_base::buffer::{GlyphWalk, ShaperError, hb_buffer_t, hb_glyph_info_t};
 use shapers_clusters::carried_groups::CarriedGroups;
+use shapers_clusters::floods::floods_again;
 use std::alloc::Global;
 
 /// Which glyphs may change their syllable.
@@ -125,37 +126,6 @@ pub fn reorder_syllables<R: ReorderBySteps>(
     } else {
         reorder_in_turn(order, buffer)
     }
-}
-
-// In a text of so many glyphs a look at each cluster would cost more than floods that come again.
-const FEW: usize = 256;
-
-// Whether merges may flood again and again what stands before their syllables: where clusters never
-// fall, they flood nothing there. In a text of few glyphs only its ends are looked at.
-#[inline]
-fn floods_again(glyphs: &[hb_glyph_info_t]) -> bool
-    ensures { result ≡ floods_again glyphs.now }
-{
-    if glyphs.len() > FEW {
-        clusters_fall(glyphs)
-    } else {
-        !glyphs.is_empty() && glyphs[glyphs.len() - 1].cluster < glyphs[0].cluster
-    }
-}
-
-// Whether a glyph has a cluster below that of the one before it.
-#[inline(never)]
-fn clusters_fall(glyphs: &[hb_glyph_info_t]) -> bool
-    ensures { result ≡ clusters_fall glyphs.now }
-{
-    let mut before = 0;
-    for glyph in glyphs {
-        if glyph.cluster < before {
-            return true;
-        }
-        before = glyph.cluster;
-    }
-    false
 }
 
 // Reorders the syllables one after another.

@@ -1,8 +1,9 @@
-//! `worst`: the reorderings on the texts that cost them most, in nanoseconds per glyph at 10^5 and
-//! 10^6 glyphs. A text repeats a unit of categories, in one syllable or in one a unit, and its
-//! clusters rise, fall, fall with neighbours in pairs, or rise and fall behind a long run of one
-//! cluster. A line has the least and the greatest of these eight, each the least of some passes;
-//! where they grow with the text, it takes its square.
+//! `worst`: the reorderings and Hangul's preprocessing on the texts that cost them most, in
+//! nanoseconds per glyph at 10^5 and 10^6 glyphs. A text repeats a unit of categories, in one
+//! syllable or in one a unit, or of characters, and its clusters rise, fall, fall with neighbours in
+//! pairs, or rise and fall behind a long run of one cluster. A line has the least and the greatest
+//! of these eight or four, each the least of some passes; where they grow with the text, it takes
+//! its square.
 //!
 //!     cargo run --release -p sengadlit-tests --bin worst
 
@@ -10,7 +11,7 @@
 
 use sengadlit::alloc::Global;
 use sengadlit::categories::{indic, khmer, myanmar, universal};
-use sengadlit::font::NominalOnly;
+use sengadlit::font::{Glyphs, GlyphsOnly, NominalOnly};
 use sengadlit::ot_shaper_syllabic::{
     indic_syllable, khmer_syllable, myanmar_syllable, use_syllable,
 };
@@ -111,6 +112,16 @@ const REORDERINGS: [Reordering; 5] = [
     },
 ];
 
+/// Hangul's units: syllables that compose, and a tone that comes before one.
+const HANGUL: [(&str, &[char]); 3] = [
+    ("L V T", &['\u{1100}', '\u{1161}', '\u{11A8}']),
+    (
+        "L V T tone",
+        &['\u{1100}', '\u{1161}', '\u{11A8}', '\u{302E}'],
+    ),
+    ("LV tone", &['\u{AC00}', '\u{302E}']),
+];
+
 /// Which clusters a text has.
 #[derive(Clone, Copy)]
 enum Clusters {
@@ -205,6 +216,60 @@ impl Reordering {
     }
 }
 
+/// A font with a glyph for each character of the first plane, which moves the pen: a tone of some
+/// width comes before its syllable.
+struct AllGlyphs;
+
+impl Glyphs for AllGlyphs {
+    fn nominal_glyph(&self, c: u32) -> Option<GlyphId> {
+        u16::try_from(c).ok().map(GlyphId)
+    }
+
+    fn glyph_h_advance(&self, _glyph: GlyphId) -> i32 {
+        500
+    }
+
+    fn would_apply(&self, _lookup: u16, _glyphs: &[GlyphId], _zero_context: bool) -> bool {
+        false
+    }
+}
+
+/// Nanoseconds per character of Hangul's preprocessing: the least and the greatest time of the texts
+/// of a unit.
+fn hangul_range(unit: &[char], length: usize) -> (f64, f64) {
+    let plan = Plan::builder()
+        .script(script::HANGUL)
+        .build_for(Shaper::Hangul)
+        .expect("masks touch no flag");
+    let font = GlyphsOnly(AllGlyphs);
+    let time = |clusters: Clusters| {
+        let glyph = |place: usize| {
+            let character = u32::from(unit[place % unit.len()]);
+            let cluster = clusters.of(place, length);
+            GlyphInfo {
+                glyph_id: character,
+                cluster,
+                ..GlyphInfo::DEFAULT
+            }
+        };
+        let glyphs: Vec<GlyphInfo> = (0..length).map(glyph).collect();
+        let pass = |_| {
+            let mut buffer = buffer_of(&glyphs, script::HANGUL);
+            let start = Instant::now();
+            Shaper::Hangul
+                .preprocess_text(&plan, &font, &mut buffer)
+                .expect("there is memory");
+            start.elapsed().as_secs_f64() * 1e9 / length as f64
+        };
+        (0..PASSES).map(pass).fold(f64::INFINITY, f64::min)
+    };
+    let times = Clusters::ALL.map(time);
+    (
+        times.into_iter().fold(f64::INFINITY, f64::min),
+        times.into_iter().fold(0.0, f64::max),
+    )
+}
+
 /// A buffer of these glyphs.
 fn buffer_of(glyphs: &[GlyphInfo], script: Script) -> Buffer {
     let mut buffer = Buffer::new(Global, glyphs.len());
@@ -216,6 +281,14 @@ fn buffer_of(glyphs: &[GlyphInfo], script: Script) -> Buffer {
 }
 
 fn main() {
+    for (name, unit) in HANGUL {
+        print!("{:20} {name:15}", "Hangul");
+        for length in LENGTHS {
+            let (least, greatest) = hangul_range(unit, length);
+            print!(" {least:8.1} {greatest:8.1}");
+        }
+        println!();
+    }
     for reordering in &REORDERINGS {
         for (name, unit) in reordering.units {
             print!("{:20} {name:15}", format!("{:?}", reordering.pause));

@@ -5,5 +5,4 @@ use Rattle.shapers_clusters.proofs.carried_groups.show_groups.Goals as goal
 
 pub loop-i-preserved : goal.loop-i-preserved
 loop-i-preserved c =
-    let is = c.loop-i.invariant in
-    rw is (show_next c.args.groups.now c.args.glyphs.now c.loop-i.i (omega (arith, c.loop-i-test.true)) c.requires)
+    search (arith, show_next)

@@ -1,7 +1,5 @@
 -- A mask adds flags alone.
-use Rattle.std.proofs.Common.{sym, subst, arith}
-use Rattle.shapers_buffer.specs.Buffer.{Buffer}
-use Rattle.shapers_clusters.specs.FlagLaw.{OnlyFlagsAdded}
+use Rattle.std.proofs.Common.{arith}
 use Rattle.shapers_clusters.proofs.FlagLaw.{stretch_added}
 use Rattle.shapers_base.specs.Masks.{with_numbered_mask}
 use Rattle.shapers_hangul.proofs.HangulFlags.{jamo_mask_added}
@@ -10,6 +8,9 @@ use Rattle.shapers_hangul.proofs.ot_shaper_hangul.setup_masks.Goals as goal
 pub returns-clause-flags : goal.returns-clause-flags
 returns-clause-flags c =
     let masks = c.in-Hangul.data.mask_array in
-    let gs = c.args.buffer.now.glyphs in
-    subst (λ (b : Buffer). OnlyFlagsAdded gs b.glyphs) (sym c.change_each.ensures)
-    (stretch_added 0 c.len.result (with_numbered_mask masks) (jamo_mask_added masks) gs (omega arith))
+    search (
+      arith,
+      c.change_each.ensures,
+      stretch_added 0 c.len.result (with_numbered_mask masks) (jamo_mask_added masks) c.args.buffer.now.glyphs
+          (omega arith),
+    )

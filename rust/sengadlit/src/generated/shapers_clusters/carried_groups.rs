@@ -85,7 +85,6 @@ impl CarriedGroups {
     ///
     /// ```text
     /// requires fits { AreCarried self.old glyphs.old }
-    /// requires further { self.old.end ≤ first }
     /// requires in_order { first ≤ end }
     /// requires in_range { end ≤ length glyphs.old }
     /// ensures { GroupsGuarded first end self.old glyphs.old self.new result glyphs.new }
@@ -108,7 +107,7 @@ impl CarriedGroups {
     // The same, but 0 where that is not to be, and then all is as before.
     #[inline]
     fn try_guard(&mut self, glyphs: &mut [GlyphInfo], first: usize, end: usize) -> usize {
-        if first == end {
+        if first == end || first < self.end {
             return 0;
         }
         if !self.reach(glyphs, first) {

@@ -4,5 +4,5 @@
 //! function here does nothing, and its contract is the law.
 
 pub mod carried_groups;
-pub mod carried_runs;
+pub mod floods;
 pub mod into_cluster;

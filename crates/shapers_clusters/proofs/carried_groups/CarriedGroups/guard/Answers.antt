@@ -5,22 +5,23 @@ use Rattle.shapers_clusters.proofs.carried_groups.CarriedGroups.guard.Goals as g
 
 pub returns-then-count-eq0 : goal.returns-then-count-eq0
 returns-then-count-eq0 c =
-    let tried = c.try_guard-count.ensures.none c.if-count-eq0.true in
     let none = c.if-count-eq0.true in
     record {
       before = record { start = c.args.first; end = c.args.first; groups = c.write.new.self.groups; kept = c.write.new.self.kept };
       between = c.write.new.glyphs;
-      same = none_written (record { start = c.args.first; end = c.args.first; groups = c.write.new.self.groups; kept = c.write.new.self.kept }) c.write.new.glyphs c.write.ensures.none refl ∙ c.write.ensures.written ∙ tried.same;
-      fits = none_carried (record { start = c.args.first; end = c.args.first; groups = c.write.new.self.groups; kept = c.write.new.self.kept }) c.write.new.glyphs c.write.ensures.none refl (omega (
-        arith,
-        c.write.ensures.same_length,
-        c.try_guard-count.ensures.same_length,
-        c.requires.in_order,
-        c.requires.in_range,
-      ));
+      same = none_written
+          (record {
+            start = c.args.first;
+            end = c.args.first;
+            groups = c.write.new.self.groups;
+            kept =
+                c.write.new.self.kept;
+          }) c.write.new.glyphs c.write.ensures.none refl
+          ∙ c.write.ensures.written ∙ (c.try_guard-count.ensures.none c.if-count-eq0.true).same;
+      fits = search (arith, none_carried);
       at = refl;
-      none = λ _. (refl, c.write.ensures.none, refl);
+      none = search arith;
       within = omega arith;
-      some = λ some. absurd (omega arith);
-      stops = λ some. absurd (omega arith);
+      some = search arith;
+      stops = search arith;
     }

@@ -9,13 +9,15 @@ pub loop-self-preserved : goal.loop-self-preserved
 loop-self-preserved c =
     let it = c.loop-self.self in
     let items = it.groups.items in
-    let two = c.loop-self-test.true in
     let n = c.group_count-count.ensures in
-    let m = c.group_count.ensures in
-    let one = ap (λ (g : Group). g.cluster) (c.group-before.ensures ∙ ap (λ k. get_or items (k - 2) no_group) n) in
-    let other = ap (λ (g : Group). g.cluster) (c.group-last.ensures ∙ ap (λ k. get_or items (k - 1) no_group) n) in
     let joined = joined_same items (omega arith)
-    (omega (arith, one, other, c.if-before-last.false, c.if-before-last-2.false)) in
+    (omega (
+      arith,
+      ap (λ (g : Group). g.cluster) (c.group-before.ensures ∙ ap (λ k. get_or items (k - 2) no_group) n),
+      ap (λ (g : Group). g.cluster) (c.group-last.ensures ∙ ap (λ k. get_or items (k - 1) no_group) n),
+      c.if-before-last.false,
+      c.if-before-last-2.false,
+    )) in
     let same = joined_still it c.join_last.new.self c.loop-self.glyphs
     (subst (EndJoined items) (sym c.join_last.ensures.groups) joined) c.join_last.ensures.start c.join_last.ensures.end
     c.loop-self.invariant.fits in

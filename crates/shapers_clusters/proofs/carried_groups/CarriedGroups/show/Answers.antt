@@ -7,26 +7,22 @@ use Rattle.shapers_clusters.proofs.carried_groups.CarriedGroups.show.Goals as go
 
 pub overflow_sub-place : goal.overflow_sub-place
 overflow_sub-place c =
-    let fits = c.requires.fits in
-    let lens = many_lens c.args.self.now.groups.items _ fits.least in
-    omega (arith, lens, fits.span, c.requires.within)
+    search (arith, many_lens)
 
 pub show_from-requires-clause-room : goal.show_from-requires-clause-room
 show_from-requires-clause-room c =
-    let fits = c.requires.fits in
-    let lens = many_lens c.args.self.now.groups.items _ fits.least in
-    omega (arith, lens, fits.span, c.requires.within, c.group_count.ensures)
+    search (arith, many_lens)
 
 pub returns-clause-shown : goal.returns-clause-shown
 returns-clause-shown c =
     let it = c.args.self.now in
     let gs = c.args.glyphs.now in
     let place = it.end - c.args.count in
-    let first = ap (λ (g : Group). g.cluster) c.group.ensures ∙ sym (first_get it.groups.items) in
     are_shown c.args.count it _ gs c.put_before.new.glyphs _ _ c.requires.some
     c.requires.within (ap (λ k. k - c.args.count) c.group_count.ensures) refl refl
     (c.in_ok-extend_from_slice.ensures.items
     ∙ ap (λ l. l ++ take (it.end - c.saturating_sub.result) (drop c.saturating_sub.result gs)) c.truncate.ensures.items
     ∙ ap (λ k. take (it.end - k) (drop k gs)) c.saturating_sub.ensures)
-    (c.put_before.ensures ∙ ap (λ k. put_before place (k + 1) c.show_from.new.glyphs) first
+    (c.put_before.ensures ∙ ap (λ k. put_before place (k + 1) c.show_from.new.glyphs)
+    (ap (λ (g : Group). g.cluster) c.group.ensures ∙ sym (first_get it.groups.items))
     ∙ ap (λ l. put_before place (first_group_cluster it.groups.items + 1) l) c.show_from.ensures) c.requires.fits

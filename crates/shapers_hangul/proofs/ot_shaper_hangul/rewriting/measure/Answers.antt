@@ -1,12 +1,12 @@
 -- One more item, no room for one, and the end.
-use Rattle.std.proofs.Common.{◌≡◌, ◌+◌, ◌++◌, ◌∙◌, [], true, List, sym, ap, subst, drop, length, arith}
+use Rattle.std.proofs.Common.{◌≡◌, ◌+◌, ◌++◌, ◌∙◌, [], true, List, ap, subst, drop, length, arith}
 use Rattle.shapers_buffer.specs.declared.buffer.glyph.hb_glyph_info_t.{hb_glyph_info_t}
 use Rattle.shapers_buffer.specs.Glyph.{characters}
 use Rattle.shapers_hangul.specs.declared.ot_shaper_hangul.rewriting.Cut.{Cut}
 use Rattle.shapers_hangul.specs.Hangul.{first_item, glyph_copies, is_kept, item_len, items_at, outputs}
 use Rattle.shapers_hangul.specs.RewritingWalk.{changes_in, rewritten_items}
-use Rattle.shapers_hangul.proofs.Changes.{nothing_next, recording_next, recording_staying}
-use Rattle.shapers_hangul.proofs.Walks.{length_next, length_staying}
+use Rattle.shapers_hangul.proofs.Changes.{none_next, recording_next, recording_staying}
+use Rattle.shapers_hangul.proofs.Walks.{glyphs_next, length_next, length_staying}
 use Rattle.shapers_hangul.proofs.ot_shaper_hangul.rewriting.measure.Goals as goal
 
 pub returns-then-room-output_len-clause-length : goal.returns-then-room-output_len-clause-length
@@ -28,14 +28,13 @@ loop-place-preserved g c =
     let gs = c.args.glyphs.now in
     let item = c.item_at-item.result in
     let circles = c.args.circles in
-    let step = length_next font circles gs l.place item c.loop-place-test.true c.item_at-item.ensures.item
-    c.item_at-item.ensures.in_rest in
-    let on : l.place + item_len item ≡ l.place + c.len-place.result = ap (λ n. l.place + n) (sym c.len-place.ensures) in
+    let on : l.place + item_len item ≡ l.place + c.len-place.result = search arith in
     record {
       within = omega (arith, c.item_at-item.ensures.within, c.len-place.ensures);
       room_left = omega (
         arith,
-        step,
+        length_next font circles gs l.place item c.loop-place-test.true c.item_at-item.ensures.item
+            c.item_at-item.ensures.in_rest,
         ap (λ p. length (outputs glyph_copies (items_at font circles (characters gs) p) gs)) on,
         l.invariant.room_left,
         c.if-room-output_len.false,
@@ -50,8 +49,11 @@ loop-place-preserved g c =
           (c.add.ensures.added whole));
       none = λ all.
           let so_far = l.invariant.none all in
-          let next = nothing_next font circles gs l.place item c.loop-place-test.true c.item_at-item.ensures.item
-          so_far.0 in (
+          let next =
+          none_next (l.place, item) (items_at font circles (characters gs) (l.place + item_len item)) (search (
+            arith,
+            glyphs_next,
+          )) in (
             subst (λ p. rewritten_items (items_at font circles (characters gs) p) ≡ []) on next.1,
             ap (λ (cut : Cut). cut.is_whole) (c.add.ensures.kept next.0) ∙ so_far.1,
           );
@@ -59,19 +61,12 @@ loop-place-preserved g c =
 
 pub returns-then-room-eq0-clause-length : goal.returns-then-room-eq0-clause-length
 returns-then-room-eq0-clause-length g c =
-    let l = c.loop-place in
     let font = g.F.hb_font_t.font c.args.face.now in
-    let gs = c.args.glyphs.now in
     let circles = c.args.circles in
-    let stays : is_kept (first_item font circles (characters (drop l.place gs))) ≡ true =
+    let stays : is_kept (first_item font circles (characters (drop c.loop-place.place c.args.glyphs.now))) ≡ true =
     subst (λ (xs : List hb_glyph_info_t). is_kept (first_item font circles (characters xs)) ≡ true) c.rest_from.ensures
     (c.stays_alone.ensures.kept c.if-stays_alone.true) in
-    omega (
-      arith,
-      length_staying font circles gs l.place c.loop-place-test.true stays,
-      l.invariant.room_left,
-      c.if-room-eq0.true,
-    )
+    search (arith, length_staying)
 
 pub loop-place-preserved-then-stays_alone : goal.loop-place-preserved-then-stays_alone
 loop-place-preserved-then-stays_alone g c =
@@ -84,14 +79,8 @@ loop-place-preserved-then-stays_alone g c =
     (c.stays_alone.ensures.kept c.if-stays_alone.true) in
     record {
       within = omega (arith, c.loop-place-test.true);
-      room_left = omega (
-        arith,
-        length_staying font circles gs l.place c.loop-place-test.true stays,
-        l.invariant.room_left,
-        c.if-room-eq0.false,
-      );
-      recorded = λ whole. recording_staying font circles gs (changes_in l.cut) _ l.place c.loop-place-test.true stays
-          (l.invariant.recorded whole);
+      room_left = search (arith, length_staying);
+      recorded = search (arith, recording_staying);
       none = λ all.
           let so_far = l.invariant.none all in
           (recording_staying font circles gs [] _ l.place c.loop-place-test.true stays so_far.0, so_far.1);

@@ -1,5 +1,5 @@
 -- Each item stands within the text, and what it becomes has room.
-use Rattle.std.proofs.Common.{rules, ◌≡◌, ◌<◌, [], ap, arith, drop, length}
+use Rattle.std.proofs.Common.{rules, ◌≡◌, [], arith, drop, length}
 use Rattle.std.proofs.lemmas.List.{drop_all}
 use Rattle.std.specs.Prelude.{vec_capacity}
 use Rattle.shapers_hangul.specs.RewritingWalk.{changed_from}
@@ -17,13 +17,12 @@ write_change-requires-clause-room c =
     let l = c.loop-entry in
     let gs = c.args.glyphs.now in
     let cut = c.args.cut.now in
-    let inside : l.entry-index < length cut = search rules in
     omega (
       arith,
-      next_output l.place cut gs l.entry-index default_item inside,
-      room_left l.list.items
-          (changed_from l.place (drop l.entry-index cut) gs) c.args.list.now.items (changed_from 0 cut gs)
-          (vec_capacity c.args.list.now) (vec_capacity l.list) l.invariant.walk c.requires.room l.invariant.capacity,
+      next_output l.place cut gs l.entry-index default_item (search rules),
+      room_left l.list.items (changed_from l.place (drop l.entry-index cut) gs) c.args.list.now.items
+          (changed_from 0 cut gs) (vec_capacity c.args.list.now) (vec_capacity l.list) l.invariant.walk
+          c.requires.room l.invariant.capacity,
     )
 
 pub overflow_add-place : goal.overflow_add-place
@@ -40,13 +39,13 @@ unwrap-requires c =
     let l = c.loop-entry in
     let gs = c.args.glyphs.now in
     let cut = c.args.cut.now in
-    let none : drop l.entry-index cut ≡ [] = drop_all l.entry-index cut (search rules) in
+    let none : drop l.entry-index cut ≡ [] = search (arith, drop_all, rules) in
     c.extend_from_slice.ensures.succeeds
-    (omega (
+    (
+    search (
       arith,
-      ap length c.rest_from.ensures,
-      ap (λ xs. length (changed_from l.place xs gs)) none,
-      room_left
-          l.list.items (changed_from l.place (drop l.entry-index cut) gs) c.args.list.now.items (changed_from 0 cut gs)
-          (vec_capacity c.args.list.now) (vec_capacity l.list) l.invariant.walk c.requires.room l.invariant.capacity,
+      c.rest_from.ensures,
+      room_left l.list.items (changed_from l.place (drop l.entry-index cut) gs) c.args.list.now.items
+          (changed_from 0 cut gs) (vec_capacity c.args.list.now) (vec_capacity l.list) l.invariant.walk
+          c.requires.room l.invariant.capacity,
     ))

@@ -1,4 +1,4 @@
-use Rattle.shapers_buffer.specs.Buffer.{Buffer}
+use Rattle.std.proofs.Common.{arith}
 use Rattle.shapers_syllabic.specs.Circles.{circled}
 use Rattle.shapers_syllabic.specs.Reordering.{script_circles}
 use Rattle.shapers_syllabic.proofs.CircleLaws.{no_new_cluster}
@@ -14,10 +14,10 @@ returns-clause-ok g c =
     let old = c.args.buffer.now in
     let new = c.reorder_syllables.new.buffer in
     let opened = c.insert.new.buffer in
-    let circles = script_circles c.args.script.now (g.F.hb_font_t.font c.args.face.now) old in
     let meaning = g.R.Reorder.meaning order in
     let steps = g.R.ReorderBySteps.steps order in
-    pause_reordered circles meaning steps old opened new c.in_ok-circles.ensures.ok
+    pause_reordered
+    (script_circles c.args.script.now (g.F.hb_font_t.font c.args.face.now) old) meaning steps old opened new c.in_ok-circles.ensures.ok
     (text_moved meaning steps (g.R.Reorder.relation order) opened new (g.met.R.Reorder.permutes order)
     (g.met.R.ReorderBySteps.leads order) c.in_ok-reorder_syllables.ensures.linked)
 
@@ -25,25 +25,25 @@ pub returns-clause-cut : goal.returns-clause-cut
 returns-clause-cut g c =
     let order = c.args.order.now in
     let old = c.args.buffer.now in
-    let new = c.reorder_syllables.new.buffer in
-    let circles = script_circles c.args.script.now (g.F.hb_font_t.font c.args.face.now) old in
-    cuts_at_borders circles (g.R.Reorder.meaning order old.script) (g.R.ReorderBySteps.steps order old.script) old new
+    cuts_at_borders
+    (script_circles c.args.script.now (g.F.hb_font_t.font c.args.face.now) old) (g.R.Reorder.meaning order old.script) (g.R.ReorderBySteps.steps order old.script) old
+    c.reorder_syllables.new.buffer
     (g.met.R.ReorderBySteps.laws order old.script) (returns-clause-ok g c)
 
 pub returns-clause-laws : goal.returns-clause-laws
 returns-clause-laws g c =
     let order = c.args.order.now in
     let old = c.args.buffer.now in
-    let new = c.reorder_syllables.new.buffer in
-    let circles = script_circles c.args.script.now (g.F.hb_font_t.font c.args.face.now) old in
-    let opened : Buffer = record old { glyphs = circled circles old.glyphs } in
-    text_reordered (g.R.Reorder.meaning order old.script) (g.R.ReorderBySteps.steps order old.script) opened new
+    let opened = record old {
+      glyphs = circled
+          (script_circles c.args.script.now (g.F.hb_font_t.font c.args.face.now) old) old.glyphs;
+    } in
+    text_reordered (g.R.Reorder.meaning order old.script) (g.R.ReorderBySteps.steps order old.script) opened
+    c.reorder_syllables.new.buffer
     (g.met.R.ReorderBySteps.laws order old.script) (returns-clause-ok g c)
 
 pub returns-clause-clusters : goal.returns-clause-clusters
 returns-clause-clusters g c =
-    let old = c.args.buffer.now in
-    let new = c.reorder_syllables.new.buffer in
-    let circles = script_circles c.args.script.now (g.F.hb_font_t.font c.args.face.now) old in
+    let circles = script_circles c.args.script.now (g.F.hb_font_t.font c.args.face.now) c.args.buffer.now in
     let law = returns-clause-laws g c in
-    no_new_cluster circles old.glyphs new.glyphs law.glyphs.in_clusters.old_clusters
+    search (arith, no_new_cluster)

@@ -1,22 +1,22 @@
 -- One syllable more that may change, behind those that stay; the chain, and the text order from it.
-use Rattle.std.proofs.Common.{◌∙◌, ap, arith, length}
-use Rattle.shapers_buffer.specs.Buffer.{but_places}
+use Rattle.std.proofs.Common.{arith}
 use Rattle.shapers_syllabic.proofs.CarriedSyllables.{carried_stands, carry_end, carry_next, takes_carried, to_carry_all}
 use Rattle.shapers_syllabic.proofs.LinkedSyllables.{text_ordered}
 use Rattle.shapers_syllabic.proofs.ot_shaper_syllabic.reordering.reorder_carrying.Goals as goal
 
 pub loop-first-init : goal.loop-first-init
 loop-first-init g c =
-    let order = c.args.order.now in
-    to_carry_all (g.R.Reorder.takes order) (g.R.Reorder.relation order) c.args.buffer.now c.new-carrying.result
-    c.new-carrying.ensures.start c.new-carrying.ensures.end c.new-carrying.ensures.none c.requires.takes
+    search (arith, to_carry_all)
 
 pub next_changing-requires : goal.next_changing-requires
 next_changing-requires g c =
     let order = c.args.order.now in
-    let stands = carried_stands (g.R.Reorder.takes order) (g.R.Reorder.relation order) c.args.buffer.now
-    c.loop-first.carrying c.loop-first.buffer c.loop-first.start c.loop-first.invariant in
-    omega (arith, stands.inside, ap length c.glyphs.ensures)
+    search (
+      arith,
+      (carried_stands (g.R.Reorder.takes order) (g.R.Reorder.relation order) c.args.buffer.now c.loop-first.carrying
+          c.loop-first.buffer c.loop-first.start c.loop-first.invariant).inside,
+      c.glyphs.ensures,
+    )
 
 pub reorder_behind-requires-clause-takes : goal.reorder_behind-requires-clause-takes
 reorder_behind-requires-clause-takes g c =
@@ -35,36 +35,31 @@ reorder_behind-requires-clause-fits g c =
 
 pub reorder_behind-requires-clause-without_positions : goal.reorder_behind-requires-clause-without_positions
 reorder_behind-requires-clause-without_positions g c =
-    let order = c.args.order.now in
-    (carried_stands (g.R.Reorder.takes order) (g.R.Reorder.relation order) c.args.buffer.now c.loop-first.carrying
-    c.loop-first.buffer c.loop-first.start c.loop-first.invariant).positions ∙ c.requires.without_positions
+    search arith
 
 pub loop-first-smaller : goal.loop-first-smaller
 loop-first-smaller g c =
     let order = c.args.order.now in
-    let further = c.next_syllable-after.ensures.further in
     let next = carry_next (g.R.Reorder.meaning order) (g.R.Reorder.takes order) (g.R.MayChange.changes order)
     (g.R.Reorder.relation order) c.args.buffer.now c.loop-first.carrying c.loop-first.buffer c.glyphs.result.now
     c.loop-first.start c.in-Some.first c.next_syllable-after.result c.reorder_behind.new.carrying
     c.reorder_behind.new.buffer c.glyphs.ensures (g.met.R.Reorder.permutes order) (g.met.R.Reorder.orders order)
     (g.met.R.Reorder.stays order) c.in-Some.ensures c.loop-first.invariant c.next_syllable-after.ensures.end
     (omega arith) c.in_ok-reorder_behind.ensures.behind in
-    let same = next.same_length in
-    let ordered = c.in-Some.ensures.in_order in
-    let within = c.next_syllable-after.ensures.within in
-    omega arith
+    search arith
 
 pub loop-first-preserved : goal.loop-first-preserved
 loop-first-preserved g c =
     let order = c.args.order.now in
-    let further = c.next_syllable-after.ensures.further in
-    let next = carry_next (g.R.Reorder.meaning order) (g.R.Reorder.takes order) (g.R.MayChange.changes order)
-    (g.R.Reorder.relation order) c.args.buffer.now c.loop-first.carrying c.loop-first.buffer c.glyphs.result.now
-    c.loop-first.start c.in-Some.first c.next_syllable-after.result c.reorder_behind.new.carrying
-    c.reorder_behind.new.buffer c.glyphs.ensures (g.met.R.Reorder.permutes order) (g.met.R.Reorder.orders order)
-    (g.met.R.Reorder.stays order) c.in-Some.ensures c.loop-first.invariant c.next_syllable-after.ensures.end
-    (omega arith) c.in_ok-reorder_behind.ensures.behind in
-    next.state
+    search (
+      arith,
+      (carry_next (g.R.Reorder.meaning order) (g.R.Reorder.takes order) (g.R.MayChange.changes order)
+          (g.R.Reorder.relation order) c.args.buffer.now c.loop-first.carrying c.loop-first.buffer
+          c.glyphs.result.now c.loop-first.start c.in-Some.first c.next_syllable-after.result
+          c.reorder_behind.new.carrying c.reorder_behind.new.buffer c.glyphs.ensures (g.met.R.Reorder.permutes order)
+          (g.met.R.Reorder.orders order) (g.met.R.Reorder.stays order) c.in-Some.ensures c.loop-first.invariant
+          c.next_syllable-after.ensures.end (omega arith) c.in_ok-reorder_behind.ensures.behind).state,
+    )
 
 pub returns-clause-linked : goal.returns-clause-linked
 returns-clause-linked g c =
@@ -73,7 +68,7 @@ returns-clause-linked g c =
     (g.R.Reorder.relation order) c.args.buffer.now c.loop-first.carrying c.loop-first.buffer c.glyphs.result.now
     c.loop-first.start c.clear_places.new.self c.glyphs.ensures (g.met.R.Reorder.permutes order)
     (g.met.R.Reorder.orders order) (g.met.R.Reorder.stays order) c.in_default.ensures c.loop-first.invariant
-    (c.clear_places.ensures ∙ ap but_places c.write.ensures)
+    (search arith)
 
 pub returns-clause-ordered : goal.returns-clause-ordered
 returns-clause-ordered g c =

@@ -1,5 +1,5 @@
 -- What is shown, the order reads; and what is carried on behind it.
-use Rattle.std.proofs.Common.{◌∙◌, ◌≡◌, arith, subst, sym, true}
+use Rattle.std.proofs.Common.{arith}
 use Rattle.shapers_syllabic.proofs.CarriedSyllables.{behind_guarded, guarded_stands, numbers_by_view}
 use Rattle.shapers_syllabic.proofs.ot_shaper_syllabic.reordering.reorder_guarded.Goals as goal
 
@@ -8,15 +8,18 @@ reorder-requires-clause-in_range g c =
     let stands = guarded_stands c.args.first c.args.end c.guard.new.self.count c.args.carrying.now.groups
     c.guard.new.self.groups c.args.buffer.now c.guard.new.buffer c.requires.fits.fits c.guard.ensures.guarded
     c.guard.ensures.others in
-    omega (arith, stands.same_length, c.requires.in_range)
+    search arith
 
 pub reorder-requires-clause-takes : goal.reorder-requires-clause-takes
 reorder-requires-clause-takes g c =
     let stands = guarded_stands c.args.first c.args.end c.guard.new.self.count c.args.carrying.now.groups
     c.guard.new.self.groups c.args.buffer.now c.guard.new.buffer c.requires.fits.fits c.guard.ensures.guarded
     c.guard.ensures.others in
-    subst (g.R.Reorder.takes c.args.order.now) (sym (numbers_by_view c.args.first c.args.end c.guard.new.buffer.glyphs
-    c.args.buffer.now.glyphs stands.view)) c.requires.takes
+    search (
+      arith,
+      numbers_by_view c.args.first c.args.end c.guard.new.buffer.glyphs c.args.buffer.now.glyphs stands.view,
+      c.requires.takes,
+    )
 
 pub settle-requires : goal.settle-requires
 settle-requires g c =
@@ -32,15 +35,12 @@ settle-requires g c =
 pub returns-clause-behind : goal.returns-clause-behind
 returns-clause-behind g c =
     let order = c.args.order.now in
-    let behind = (behind_guarded (g.R.Reorder.meaning order) (g.R.ReorderBySteps.steps order) (g.R.Reorder.relation order)
+    let behind = behind_guarded (g.R.Reorder.meaning order) (g.R.ReorderBySteps.steps order) (g.R.Reorder.relation order)
     (g.met.R.ReorderBySteps.leads order) (g.met.R.ReorderBySteps.suffices order) (g.met.R.ReorderBySteps.laws order)
     c.args.first c.args.end c.guard.new.self.count c.args.carrying.now.groups c.guard.new.self.groups c.args.buffer.now
     c.guard.new.buffer c.reorder.new.buffer c.requires.in_order c.requires.in_range c.requires.fits.fits
-    c.guard.ensures.guarded c.guard.ensures.others c.in_ok-reorder.ensures.related) in
+    c.guard.ensures.guarded c.guard.ensures.others c.in_ok-reorder.ensures.related in
     let groups_settled = c.settle.ensures.settled in
-    let end = groups_settled.end in
-    let at = behind.ends in
-    let on : c.settle.new.self.is_on ≡ true = c.settle.ensures.on ∙ c.guard.ensures.on ∙ c.requires.on in
     record {
       linked = behind.linked c.settle.new.self.groups c.settle.new.buffer groups_settled c.settle.ensures.others;
       fits = record {

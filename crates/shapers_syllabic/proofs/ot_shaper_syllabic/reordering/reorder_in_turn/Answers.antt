@@ -7,8 +7,7 @@ use Rattle.shapers_syllabic.proofs.ot_shaper_syllabic.reordering.reorder_in_turn
 
 pub loop-first-init : goal.loop-first-init
 loop-first-init g c =
-    let order = c.args.order.now in
-    to_link_all (g.R.Reorder.takes order) (g.R.Reorder.relation order) c.args.buffer.now c.requires.takes
+    search (arith, to_link_all)
 
 pub reorder-requires-clause-takes : goal.reorder-requires-clause-takes
 reorder-requires-clause-takes g c =
@@ -16,15 +15,12 @@ reorder-requires-clause-takes g c =
     let old = c.args.buffer.now in
     let now = c.loop-first.buffer in
     let first = c.in-Some.first in
-    let end = c.next_syllable-end.result in
-    let inside = c.in-Some.ensures.inside in
-    let same = c.glyphs.ensures in
     let to = to_changing (g.R.Reorder.meaning order) (g.R.Reorder.takes order) (g.R.MayChange.changes order)
     (g.R.Reorder.relation order) old now c.glyphs.result.now c.loop-first.start first c.glyphs.ensures
     (g.met.R.Reorder.permutes order) (g.met.R.Reorder.orders order) (g.met.R.Reorder.stays order)
     c.in-Some.ensures c.loop-first.invariant in
-    takes_next (g.R.Reorder.takes order) (g.R.Reorder.relation order) old now first end to
-    (next_syllable now.glyphs first end (omega arith) c.next_syllable-end.ensures.end)
+    takes_next (g.R.Reorder.takes order) (g.R.Reorder.relation order) old now first c.next_syllable-end.result to
+    (search (arith, next_syllable))
 
 pub loop-first-smaller : goal.loop-first-smaller
 loop-first-smaller g c =
@@ -34,11 +30,7 @@ loop-first-smaller g c =
     c.loop-first.start c.in-Some.first c.next_syllable-end.result c.glyphs.ensures (g.met.R.Reorder.permutes order)
     (g.met.R.Reorder.orders order) (g.met.R.Reorder.stays order) c.in-Some.ensures c.loop-first.invariant
     c.next_syllable-end.ensures.end c.in_ok-reorder.ensures.related in
-    let same = next.same_length in
-    let ordered = c.in-Some.ensures.in_order in
-    let further = c.next_syllable-end.ensures.further in
-    let within = c.next_syllable-end.ensures.within in
-    omega arith
+    search arith
 
 pub loop-first-preserved : goal.loop-first-preserved
 loop-first-preserved g c =

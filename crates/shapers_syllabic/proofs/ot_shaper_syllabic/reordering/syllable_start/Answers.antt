@@ -1,9 +1,8 @@
 -- Neighbours of different bytes.
-use Rattle.std.proofs.Common.{◌-◌, arith}
+use Rattle.std.proofs.Common.{arith}
 use Rattle.shapers_syllabic.proofs.Skipping.{border_between}
 use Rattle.shapers_syllabic.proofs.ot_shaper_syllabic.reordering.syllable_start.Goals as goal
 
 pub returns-then-glyphs-i-clause-border : goal.returns-then-glyphs-i-clause-border
 returns-then-glyphs-i-clause-border c =
-    border_between c.args.glyphs.now c.args.start (c.loop-i.i - 1) (omega (arith, c.loop-i-test.true))
-    (omega (arith, c.loop-i-test.true, c.loop-i.invariant.within, c.requires.in_range)) c.if-glyphs-i.true
+    search (arith, border_between)

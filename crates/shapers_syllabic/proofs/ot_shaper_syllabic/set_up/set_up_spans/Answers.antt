@@ -1,4 +1,4 @@
-use Rattle.std.proofs.Common.{◌≡◌, ◌+◌, ◌≤◌, ◌∷◌, ◌∙◌, true, length, drop, suc, get_or, ap, sym, add-one, arith}
+use Rattle.std.proofs.Common.{◌+◌, ◌≤◌, ◌∷◌, ◌∙◌, length, drop, get_or, ap, sym, add-one, arith}
 use Rattle.std.specs.Prelude.{All}
 use Rattle.std.proofs.lemmas.List.{drop_more}
 use Rattle.std.proofs.lemmas.List.Elements.{All-drop, All-same}
@@ -19,13 +19,11 @@ loop-i-preserved c =
     let kind : Span → Type 0 = λ s. s.kind ≤ 15 in
     let kinds : All kind (span ∷ rest) =
     All-same kind (span ∷ rest) (drop i spans) (sym more) (All-drop kind i spans c.requires.kinds) in
-    let covers : spans_cover (length (drop c.loop-i.start gs)) (span ∷ rest) ≡ true =
-    ap (spans_cover (length (drop c.loop-i.start gs))) (sym more) ∙ c.loop-i.invariant.covered in
     let step = set_up_next i span rest gs c.loop-i.start (c.loop-i.start + span.len) (omega arith)
-    c.loop-i.invariant.inside kinds covers in
-    let next : span_bytes (i + 1) rest ≡ span_bytes (suc i) rest = ap (λ n. span_bytes n rest) (add-one i) in
+    c.loop-i.invariant.inside kinds
+    (ap (spans_cover (length (drop c.loop-i.start gs))) (sym more) ∙ c.loop-i.invariant.covered) in
     rw c.set_up_span_in.ensures (record {
-      done = rw next (step.done ∙ rw more at c.loop-i.invariant.done);
+      done = rw (ap (λ n. span_bytes n rest) (add-one i)) (step.done ∙ rw more at c.loop-i.invariant.done);
       covered = step.covered;
       inside = step.inside;
     })

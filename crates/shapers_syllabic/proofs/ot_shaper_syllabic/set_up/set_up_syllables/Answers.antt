@@ -1,7 +1,6 @@
-use Rattle.std.proofs.Common.{◌≡◌, ◌∙◌, ap, rules, subst, sym}
-use Rattle.shapers_buffer.specs.Buffer.{Buffer}
-use Rattle.shapers_buffer.specs.Glyph.{clusters}
-use Rattle.shapers_syllabic.specs.Borders.{SetUpCutsAtSpans, spans_set_up}
+use Rattle.std.proofs.Common.{arith}
+use Rattle.std.proofs.Common.{◌≡◌, rules}
+use Rattle.shapers_syllabic.specs.Borders.{spans_set_up}
 use Rattle.shapers_syllabic.proofs.PauseCuts.{clusters-set_up}
 use Rattle.shapers_syllabic.proofs.SpanCuts.{spans_cut}
 use Rattle.shapers_syllabic.proofs.ot_shaper_syllabic.set_up.set_up_syllables.Goals as goal
@@ -12,7 +11,7 @@ returns-then-has_span_of_kind-clause-cut c =
     let kind = c.args.broken_kind in
     let old = c.args.buffer.now in
     let set : c.set_has_broken_syllable.new.self ≡ spans_set_up spans kind old = search rules in
-    subst (SetUpCutsAtSpans spans kind old) (sym set) (spans_cut spans kind old c.requires)
+    search (arith, spans_cut spans kind old c.requires)
 
 pub returns-else-has_span_of_kind-clause-cut : goal.returns-else-has_span_of_kind-clause-cut
 returns-else-has_span_of_kind-clause-cut c =
@@ -20,20 +19,12 @@ returns-else-has_span_of_kind-clause-cut c =
     let kind = c.args.broken_kind in
     let old = c.args.buffer.now in
     let set : c.walk.new.self ≡ spans_set_up spans kind old = search rules in
-    subst (SetUpCutsAtSpans spans kind old) (sym set) (spans_cut spans kind old c.requires)
+    search (arith, spans_cut spans kind old c.requires)
 
 pub returns-then-has_span_of_kind-clause-clusters : goal.returns-then-has_span_of_kind-clause-clusters
 returns-then-has_span_of_kind-clause-clusters c =
-    let spans = c.args.spans.now in
-    let kind = c.args.broken_kind in
-    let old = c.args.buffer.now in
-    let set : c.set_has_broken_syllable.new.self ≡ spans_set_up spans kind old = search rules in
-    ap (λ (b : Buffer). clusters b.glyphs) set ∙ clusters-set_up spans kind old
+    search (arith, rules, clusters-set_up c.args.spans.now c.args.broken_kind c.args.buffer.now)
 
 pub returns-else-has_span_of_kind-clause-clusters : goal.returns-else-has_span_of_kind-clause-clusters
 returns-else-has_span_of_kind-clause-clusters c =
-    let spans = c.args.spans.now in
-    let kind = c.args.broken_kind in
-    let old = c.args.buffer.now in
-    let set : c.walk.new.self ≡ spans_set_up spans kind old = search rules in
-    ap (λ (b : Buffer). clusters b.glyphs) set ∙ clusters-set_up spans kind old
+    search (arith, rules, clusters-set_up c.args.spans.now c.args.broken_kind c.args.buffer.now)

@@ -7,11 +7,12 @@ use crate::support::prelude::*;
 use super::item::{Item, first_item, stays_alone};
 use crate::generated::shapers_base::buffer::{
     Buffer, BufferClusterLevel, BufferFlags, GlyphInfo, GlyphRewriting, ShaperError,
-    change_each_in, unsafe_to_break_in,
+    unsafe_to_break_in,
 };
 use crate::generated::shapers_base::font::Font;
 use crate::generated::shapers_base::plan::BreakFlags;
-use crate::generated::shapers_clusters::carried_runs::CarriedRun;
+use crate::generated::shapers_clusters::carried_groups::CarriedGroups;
+use crate::generated::shapers_clusters::floods::floods_again;
 use crate::support::alloc::{AllocError, Global};
 use crate::support::arrayvec::ArrayVec;
 
@@ -148,60 +149,85 @@ fn flag_breaks(breaks: BreakFlags, cut: &[(usize, Item)], glyphs: &mut [GlyphInf
     }
 }
 
-// Flags and merges what the items flag and merge, one after another. Where an item's merge floods
-// what stands before, that is carried along and written once.
+// Flags and merges what the items flag and merge, one after another.
 #[inline]
-fn join_items(cut: &[(usize, Item)], level: BufferClusterLevel, glyphs: &mut [GlyphInfo]) {
-    let mut run = CarriedRun::NONE;
+fn join_items(
+    cut: &[(usize, Item)],
+    level: BufferClusterLevel,
+    glyphs: &mut [GlyphInfo],
+    alloc: Global,
+) {
+    if floods_again(glyphs) {
+        let done = join_to_flood(cut, level, glyphs);
+        join_carrying(&cut[done..], level, glyphs, alloc);
+    } else {
+        join_in_turn(cut, level, glyphs);
+    }
+}
+
+// The same in a text that merges don't flood again and again.
+#[inline]
+fn join_in_turn(cut: &[(usize, Item)], level: BufferClusterLevel, glyphs: &mut [GlyphInfo]) {
     for entry in cut {
-        run = carried_to(run, glyphs, entry.0);
-        run = join_behind(entry.1, level, run, glyphs, entry.0);
+        entry.1.join(level, glyphs, entry.0);
     }
-    write_run(run, glyphs);
 }
 
-// The run up to a place, if all glyphs before that are in its cluster; else it is written, and none
-// is left.
+// Only up to the first item that floods what stands before it. Returns how many items these are.
 #[inline]
-fn carried_to(run: CarriedRun, glyphs: &mut [GlyphInfo], place: usize) -> CarriedRun {
-    if run.is_none() {
-        return CarriedRun::NONE;
+fn join_to_flood(
+    cut: &[(usize, Item)],
+    level: BufferClusterLevel,
+    glyphs: &mut [GlyphInfo],
+) -> usize {
+    for (i, entry) in cut.iter().enumerate() {
+        let cluster = cluster_before(glyphs, entry.0);
+        entry.1.join(level, glyphs, entry.0);
+        if cluster_before(glyphs, entry.0) != cluster {
+            return i + 1;
+        }
     }
-    if let Some(run) = run.reaching(glyphs, place) {
-        return run;
-    }
-    write_run(run, glyphs);
-    CarriedRun::NONE
+    cut.len()
 }
 
-// Puts the glyphs of a run into its cluster.
+// The cluster of the glyph before a place, or 0 where there is none.
 #[inline]
-fn write_run(run: CarriedRun, glyphs: &mut [GlyphInfo]) {
-    let cluster = run.cluster(glyphs);
-    change_each_in(&mut glyphs[run.start..run.end], &cluster);
+fn cluster_before(glyphs: &[GlyphInfo], place: usize) -> u32 {
+    if place == 0 {
+        0
+    } else {
+        glyphs[place - 1].cluster
+    }
 }
 
-// Flags and merges what the item at a place flags and merges, behind a run that ends there, or
-// behind none. The run stays, or one begins where merges flooded what stands before.
+// The same in any text: what merges flood before their items is carried along, and written once.
+#[inline(never)]
+fn join_carrying(
+    cut: &[(usize, Item)],
+    level: BufferClusterLevel,
+    glyphs: &mut [GlyphInfo],
+    alloc: Global,
+) {
+    let mut groups = CarriedGroups::new(alloc);
+    for entry in cut {
+        join_behind(entry.1, level, &mut groups, glyphs, entry.0);
+    }
+    groups.write(glyphs);
+}
+
+// Flags and merges what the item at a place flags and merges, while one glyph stands for each group
+// that it could flood.
 #[inline]
 fn join_behind(
     item: Item,
     level: BufferClusterLevel,
-    run: CarriedRun,
+    groups: &mut CarriedGroups,
     glyphs: &mut [GlyphInfo],
     place: usize,
-) -> CarriedRun {
-    if !run.is_none() {
-        item.join(level, &mut glyphs[place - 1..], 1);
-        return run;
-    }
-    if place == 0 {
-        item.join(level, glyphs, place);
-        return CarriedRun::NONE;
-    }
-    let cluster = glyphs[place - 1].cluster;
+) {
+    let count = groups.guard(glyphs, place, place + item.len());
     item.join(level, glyphs, place);
-    CarriedRun::fallen(glyphs, place, cluster)
+    groups.settle(glyphs, count);
 }
 
 // Adds the text from one place to another.
@@ -240,6 +266,7 @@ struct Rewriting<'a> {
     breaks: BreakFlags,
     cut: &'a [(usize, Item)],
     level: BufferClusterLevel,
+    alloc: Global,
 }
 
 impl<'a> GlyphRewriting for Rewriting<'a> {
@@ -247,7 +274,7 @@ impl<'a> GlyphRewriting for Rewriting<'a> {
     // take flags of falling clusters away.)
     #[inline]
     fn rewrite(&self, glyphs: &mut [GlyphInfo], to: &mut Vec<GlyphInfo>) {
-        join_items(self.cut, self.level, glyphs);
+        join_items(self.cut, self.level, glyphs, self.alloc);
         flag_breaks(self.breaks, self.cut, glyphs);
         write_changes(self.cut, glyphs, to);
     }
@@ -287,6 +314,7 @@ pub(super) fn rewrite_changes<F: Font>(
         breaks,
         cut: cut.items(),
         level,
+        alloc,
     };
     buffer.rewrite(len, &rewriting)?;
     Ok(true)

@@ -4,6 +4,7 @@
 
 use crate::generated::shapers_base::buffer::{Buffer, GlyphInfo, GlyphWalk, ShaperError};
 use crate::generated::shapers_clusters::carried_groups::CarriedGroups;
+use crate::generated::shapers_clusters::floods::floods_again;
 use crate::support::alloc::Global;
 
 /// Which glyphs may change their syllable.
@@ -106,33 +107,6 @@ pub fn reorder_syllables<R: ReorderBySteps>(
     } else {
         reorder_in_turn(order, buffer)
     }
-}
-
-// In a text of so many glyphs a look at each cluster would cost more than floods that come again.
-const FEW: usize = 256;
-
-// Whether merges may flood again and again what stands before their syllables: where clusters never
-// fall, they flood nothing there. In a text of few glyphs only its ends are looked at.
-#[inline]
-fn floods_again(glyphs: &[GlyphInfo]) -> bool {
-    if glyphs.len() > FEW {
-        clusters_fall(glyphs)
-    } else {
-        !glyphs.is_empty() && glyphs[glyphs.len() - 1].cluster < glyphs[0].cluster
-    }
-}
-
-// Whether a glyph has a cluster below that of the one before it.
-#[inline(never)]
-fn clusters_fall(glyphs: &[GlyphInfo]) -> bool {
-    let mut before = 0;
-    for glyph in glyphs {
-        if glyph.cluster < before {
-            return true;
-        }
-        before = glyph.cluster;
-    }
-    false
 }
 
 // Reorders the syllables one after another.

@@ -4,11 +4,7 @@ use Rattle.shapers_syllabic.proofs.ot_shaper_syllabic.circles.DottedCircles.last
 
 pub overflow_sub-byte : goal.overflow_sub-byte
 overflow_sub-byte c =
-    omega (
-      arith,
-      last_broken_inside c.args.self.now c.args.text.now c.unbroken_end.result c.requires
-          c.unbroken_end.ensures.len,
-    )
+    search (arith, last_broken_inside)
 
 pub returns : goal.returns
 returns c = (last_broken_is c.args.self.now c.args.text.now c.unbroken_end.result c.syllable_end.result c.requires

@@ -1,0 +1,46 @@
+// Generated from crates/shapers_clusters/src/floods.rt by rust/erase; edit the source.
+
+//! Texts in which merges may flood again and again what stands before them.
+
+use crate::generated::shapers_buffer::buffer::GlyphInfo;
+
+// In a text of at most so many glyphs a look at each cluster would cost more than floods that come
+// again.
+const FEW: usize = 256;
+
+/// Whether merges, from the first place on to the last, may flood again and again what stands before
+/// them: where clusters never fall, they flood nothing there. In a text of few glyphs only its ends
+/// are looked at.
+///
+/// <details><summary>Contract</summary>
+///
+/// # Contract
+///
+/// ```text
+/// ensures { result ≡ floods_again glyphs.now }
+/// ```
+///
+/// - `floods_again`: `crates/shapers_clusters/specs/Floods.antt`
+///
+/// </details>
+#[inline]
+pub fn floods_again(glyphs: &[GlyphInfo]) -> bool {
+    if glyphs.len() > FEW {
+        clusters_fall(glyphs)
+    } else {
+        !glyphs.is_empty() && glyphs[glyphs.len() - 1].cluster < glyphs[0].cluster
+    }
+}
+
+// Whether a glyph has a cluster below that of the one before it.
+#[inline(never)]
+fn clusters_fall(glyphs: &[GlyphInfo]) -> bool {
+    let mut before = 0;
+    for glyph in glyphs {
+        if glyph.cluster < before {
+            return true;
+        }
+        before = glyph.cluster;
+    }
+    false
+}
